@@ -1,0 +1,10 @@
+pub mod ByteLemmas
+pub mod DivideLemmas
+pub mod GetLemmas
+pub mod InsertLemmas
+pub mod KeyLemmas
+pub mod ListLemmas
+pub mod OrderLemmas
+pub mod RowLemmas
+pub mod TreeLemmas
+pub mod UniqueLemmas

@@ -1,0 +1,10 @@
+//! The heart of a Patricia tree: key kinds, and a tree of nodes that stands for a finite map.
+//!
+//! `patricia_tree` is the library to use. This crate is what it stands on.
+#![tactic(auto)]
+
+pub mod keys;
+pub mod laws;
+mod meeting;
+mod node;
+pub mod tree;

@@ -1,0 +1,108 @@
+//! A tree of keys, seen as a finite map.
+ghost use Rattle.std.specs.Prelude.{◌≡◌, ◌≢◌, ◌↔◌, [], None, IsTrue, IfOk, OnOk, IfErr, OnErr};
+ghost use Rattle.std.specs.Option.{option_copied};
+ghost use Rattle.std.specs.FinMap as map;
+
+use crate::keys::{BorrowedBytes, Bytes};
+pub use crate::node::Refused;
+use crate::node::{self, Row};
+use std::alloc::Global;
+use std::marker::{Model, PhantomData};
+
+/// A finite map from keys of one kind.
+#[derive(Drop)]
+pub struct Tree<K: Bytes, V> {
+    alloc: Global,
+    // the value of the empty key
+    value: Option<V>,
+    // the nodes of the other keys
+    first: Row<V>,
+    // how many they are
+    count: usize,
+    kind: PhantomData<K>,
+}
+
+impl<K: Bytes, V> Model for Tree<K, V> {
+    ghost use Rattle.std.specs.FinMap as map;
+    ghost use Rattle.std.specs.Coded.{coded_ℕ, coded_list};
+    ghost use Rattle.patricia_core.specs.Keys.{key_cmp};
+
+    ghost Value = { map.FinMap key_cmp V };
+
+    ghost coded = { map.code (coded_list coded_ℕ) V.code };
+
+    ghost use Rattle.patricia_core.specs.Trees.{map_of, IsTree};
+    ghost use Rattle.patricia_core.specs.Nodes.{row_of};
+
+    ghost view = { λ t. map_of t.value (row_of t.first) };
+
+    ghost invariant = { λ t. IsTree K.item (row_of t.first) t.count };
+}
+
+impl<K: Bytes, V: Drop> Tree<K, V> {
+    pub fn new(alloc: Global) -> Self
+        ensures { result ≡ map.empty }
+    {
+        Tree {
+            alloc,
+            value: None,
+            first: Row::End,
+            count: 0,
+            kind: PhantomData,
+        }
+    }
+
+    pub fn len(&self) -> usize
+        ensures { result ≡ map.len self.now }
+    {
+        if self.value.is_some() {
+            self.count + 1
+        } else {
+            self.count
+        }
+    }
+
+    pub fn is_empty(&self) -> bool
+        ensures { IsTrue result ↔ (map.len self.now ≡ 0) }
+    {
+        self.len() == 0
+    }
+
+    pub fn get<Q: BorrowedBytes<Owned = K>>(&self, key: Q) -> Option<&V>
+        ensures { option_copied result ≡ map.get self.now (Q.key key) }
+    {
+        if key.is_empty() {
+            self.value.as_ref()
+        } else {
+            node::get(&self.first, key)
+        }
+    }
+
+    pub fn insert<Q: BorrowedBytes<Owned = K>>(
+        &mut self,
+        key: Q,
+        value: V,
+    ) -> Result<Option<V>, Refused<V>>
+        ensures old { IfOk result (λ old. old ≡ map.get self.old (Q.key key)) }
+        ensures ok { OnOk result (self.new ≡ map.insert self.old (Q.key key) value) }
+        ensures refused { IfErr result (λ r. r.value ≡ value) }
+        ensures unchanged { OnErr result (self.new ≡ self.old) }
+        ensures only_filled { OnErr result (Q.key key ≢ []) }
+        ensures only_new { OnErr result (map.get self.old (Q.key key) ≡ None) }
+    {
+        if key.is_empty() {
+            return Ok(self.value.replace(value));
+        }
+        if self.count == usize::MAX - 1 && node::get(&self.first, key).is_none() {
+            return Err(Refused { value });
+        }
+        match node::insert(self.alloc, &mut self.first, key, value) {
+            Ok(None) => {
+                self.count += 1;
+                Ok(None)
+            }
+            Ok(Some(old)) => Ok(Some(old)),
+            Err(refused) => Err(refused),
+        }
+    }
+}

@@ -1,0 +1,7 @@
+//! A map whose keys are byte strings and share their common prefixes.
+#![tactic(auto)]
+
+pub mod map;
+
+pub use map::{GenericPatriciaMap, PatriciaMap};
+pub use patricia_core::keys::{BorrowedBytes, Bytes};
