@@ -13,13 +13,10 @@ use Rattle.patricia_core.proofs.RowLemmas.{AllKeys, AllKeys-append, AllKeys-pref
 use Rattle.patricia_core.proofs.ListLemmas.{IsBelow, key_cmp-equal, find_absent, find-append_left, find-append_right, find-prefixed}
 use Rattle.patricia_core.proofs.OrderLemmas.{IsBefore-less, below_row}
 
--- a key that is below each key is not found
-pub find_below : {V : Type 0} (q : List ℕ) (es : List (List ℕ × V)) → IsBelow q es → find key_cmp q es ≡ None
-find_below {V} q es below = find_absent q es (absent es below)
-  where
-    absent : (es : List (List ℕ × V)) → IsBelow q es → AllKeys (λ k. q ≡ k → ⊥) es
-    absent [] h = tt
-    absent (e ∷ es) h = (λ same. key_cmp-irreflexive q e.0 same h.0, absent es h.1)
+-- a key that is below each key is none of them
+not_below : {V : Type 0} (q : List ℕ) (es : List (List ℕ × V)) → IsBelow q es → AllKeys (λ k. q ≡ k → ⊥) es
+not_below q [] h = tt
+not_below q (e ∷ es) h = (λ same. key_cmp-irreflexive q e.0 same h.0, not_below q es h.1)
 
 module _ (item : List ℕ → Type 0) where
   pub compared_less : (a b : List ℕ) → a ≢ [] → b ≢ [] → ComparesFirst item a b Less → IsBefore item a b
@@ -92,31 +89,39 @@ module _ (item : List ℕ → Type 0) (kind : IsKeyKind item) {V : Type 0} where
       none (Some x) = find_absent t (own (Some x)) (filled, tt)
 
 module _ (item : List ℕ → Type 0) (kind : IsKeyKind item) {V : Type 0} (l : List ℕ) (v : Option V) (c s : Row V) (ok : IsRow item (node l v c s)) where
-  pub find_past : (q : List ℕ) → IsBefore item l q → find key_cmp q (entries (node l v c s)) ≡ find key_cmp q (entries s)
-  find_past q before =
-      find-append_left q (prefixed l (own v ++ entries c)) (entries s)
-      (find_absent q _ (AllKeys-prefixed _ l (λ t same. key_cmp-irreflexive (l ++ t) (q ++ []) (sym same ∙ sym (append-nil q)) (IsBefore-less item kind l q t [] before)) _))
+  -- the key is not among the entries of a node before it, of a row behind it, of a row whose first label it ends within, and of the nodes past a label that begins it
+  pub lacks_past : (q : List ℕ) → IsBefore item l q → AllKeys (λ k. q ≡ k → ⊥) (prefixed l (own v ++ entries c))
+  lacks_past q before = AllKeys-prefixed _ l (λ t same. key_cmp-irreflexive (l ++ t) (q ++ []) (sym same ∙ sym (append-nil q)) (IsBefore-less item kind l q t [] before)) _
 
-  pub find_before : (q : List ℕ) → IsBefore item q l → find key_cmp q (entries (node l v c s)) ≡ None
-  find_before q before = find_below q _ (subst (λ k. IsBelow k (entries (node l v c s))) (append-nil q) (below_row item kind q [] (node l v c s) ok before))
+  pub lacks_before : (q : List ℕ) → IsBefore item q l → AllKeys (λ k. q ≡ k → ⊥) (entries (node l v c s))
+  lacks_before q before = not_below q _ (subst (λ k. IsBelow k (entries (node l v c s))) (append-nil q) (below_row item kind q [] (node l v c s) ok before))
 
-  later_lacks : (q : List ℕ) → SharesItem item q l → find key_cmp q (entries s) ≡ None
+  pub later_lacks : (q : List ℕ) → SharesItem item q l → AllKeys (λ k. q ≡ k → ⊥) (entries s)
   later_lacks q share =
-      find_absent q (entries s) (turn (entries s) (lacks_item item kind None share.shared l share.is_item share.begins_second s ok.sibling ok.rises))
+      turn (entries s) (lacks_item item kind None share.shared l share.is_item share.begins_second s ok.sibling ok.rises)
     where
       turn : (es : List (List ℕ × V)) → AllKeys (λ k. Begins share.shared k → ⊥) es → AllKeys (λ k. q ≡ k → ⊥) es
       turn [] h = tt
       turn (e ∷ es) h = (λ same. h.0 (subst (Begins share.shared) same share.begins_first), turn es h.1)
 
+  pub lacks_within : (q : List ℕ) (n : ℕ) → EndsWithin item q l n → AllKeys (λ k. q ≡ k → ⊥) (entries (node l v c s))
+  lacks_within q n ends =
+      AllKeys-append _ (prefixed l (own v ++ entries c)) (entries s)
+      (AllKeys-prefixed _ l (λ t same. let long = common_whole item q l n ok.valid ends.common (t, sym same) in let short = ends.short in omega arith) _)
+      (later_lacks q ends.shares)
+
+  pub find_past : (q : List ℕ) → IsBefore item l q → find key_cmp q (entries (node l v c s)) ≡ find key_cmp q (entries s)
+  find_past q before = find-append_left q (prefixed l (own v ++ entries c)) (entries s) (find_absent q _ (lacks_past q before))
+
+  pub find_before : (q : List ℕ) → IsBefore item q l → find key_cmp q (entries (node l v c s)) ≡ None
+  find_before q before = find_absent q _ (lacks_before q before)
+
   pub find_within : (q : List ℕ) (n : ℕ) → EndsWithin item q l n → find key_cmp q (entries (node l v c s)) ≡ None
-  find_within q n ends =
-      find-append_left q (prefixed l (own v ++ entries c)) (entries s)
-      (find_absent q _ (AllKeys-prefixed _ l (λ t same. let long = common_whole item q l n ok.valid ends.common (t, sym same) in let short = ends.short in omega arith) _))
-      ∙ later_lacks q ends.shares
+  find_within q n ends = find_absent q _ (lacks_within q n ends)
 
   find_through : (q t : List ℕ) → Passes item q l t → find key_cmp q (entries (node l v c s)) ≡ find key_cmp t (own v ++ entries c)
   find_through q t passes =
-      find-append_right q (prefixed l (own v ++ entries c)) (entries s) (later_lacks q passes.shares)
+      find-append_right q (prefixed l (own v ++ entries c)) (entries s) (find_absent q _ (later_lacks q passes.shares))
       ∙ ap (λ k. find key_cmp k (prefixed l (own v ++ entries c))) (sym passes.splits)
       ∙ find-prefixed l t (own v ++ entries c)
 

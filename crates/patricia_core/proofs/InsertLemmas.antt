@@ -21,7 +21,7 @@ module _ (item : List ℕ → Type 0) (kind : IsKeyKind item) where
   IsBefore-longer : (l m t : List ℕ) → IsBefore item l m → IsBefore item l (m ++ t)
   IsBefore-longer l m t b = record { first = b.first; second = b.second; first_item = b.first_item; second_item = b.second_item; first_begins = b.first_begins; second_begins = begins_longer b.second m t b.second_begins; less = b.less }
 
-  IsBefore-longer_left : (l m t : List ℕ) → IsBefore item l m → IsBefore item (l ++ t) m
+  pub IsBefore-longer_left : (l m t : List ℕ) → IsBefore item l m → IsBefore item (l ++ t) m
   IsBefore-longer_left l m t b = record { first = b.first; second = b.second; first_item = b.first_item; second_item = b.second_item; first_begins = begins_longer b.first l t b.first_begins; second_begins = b.second_begins; less = b.less }
 
   IsBefore-shorter : (l m t : List ℕ) → IsValid item m → m ≢ [] → IsBefore item l (m ++ t) → IsBefore item l m
@@ -38,14 +38,14 @@ module _ (item : List ℕ → Type 0) (kind : IsKeyKind item) where
 
 -- what is said of a row by its entries alone
 module _ (item : List ℕ → Type 0) (kind : IsKeyKind item) {V : Type 0} where
-  keys_rise : (l : List ℕ) (s : Row V) → IsRow item s → IsBeforeRow item l s → AllKeys (λ k. IsBefore item l k) (entries s)
+  pub keys_rise : (l : List ℕ) (s : Row V) → IsRow item s → IsBeforeRow item l s → AllKeys (λ k. IsBefore item l k) (entries s)
   keys_rise l end ok before = tt
   keys_rise l (node m v c s) ok before =
       AllKeys-append _ (prefixed m (own v ++ entries c)) (entries s)
       (AllKeys-prefixed _ m (λ t. IsBefore-longer item kind l m t before) (own v ++ entries c))
       (keys_rise l s ok.sibling (rises_on item kind l m s before ok.rises))
 
-  rises_by_keys : (l : List ℕ) (s : Row V) → IsRow item s → AllKeys (λ k. IsBefore item l k) (entries s) → IsBeforeRow item l s
+  pub rises_by_keys : (l : List ℕ) (s : Row V) → IsRow item s → AllKeys (λ k. IsBefore item l k) (entries s) → IsBeforeRow item l s
   rises_by_keys l end ok all = tt
   rises_by_keys l (node m v c s) ok all =
       let some = has_entry item kind None m v c s ok in

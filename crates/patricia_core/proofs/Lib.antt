@@ -2,9 +2,11 @@ pub mod ByteLemmas
 pub mod DivideLemmas
 pub mod GetLemmas
 pub mod InsertLemmas
+pub mod JoinLemmas
 pub mod KeyLemmas
 pub mod ListLemmas
 pub mod OrderLemmas
+pub mod RemovalLemmas
 pub mod RowLemmas
 pub mod TreeLemmas
 pub mod UniqueLemmas

@@ -3,5 +3,6 @@ pub mod Keys
 pub mod Meeting
 pub mod Nodes
 pub mod Points
+pub mod Removals
 pub mod Rows
 pub mod Trees

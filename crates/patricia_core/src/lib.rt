@@ -7,4 +7,5 @@ pub mod keys;
 pub mod laws;
 mod meeting;
 mod node;
+mod removal;
 pub mod tree;
