@@ -304,3 +304,25 @@ module _ (item : List ℕ → Type 0) (kind : IsKeyKind item) {V : Type 0} where
       joins_here item kind l (Some x) (node m w d end) s ok q m w d ok.child (record { filled = ok.filled; valid = ok.valid; stands = inl (inl (append-nil l)) })
       (λ r h other. elim (own_key item kind l (Some x) (node m w d end) s ok r h) [ inl e ↦ absurd (other (sym passes.splits ∙ ap (λ k. l ++ k) (none ∙ e))) | inr g ↦ g ])
       (λ r h. (h, λ e. AllKeys-at _ (entries (node m w d end)) r (lacks_empty item kind None (node m w d end) ok.child) h (sym (append_cancel_left l t r (passes.splits ∙ e)) ∙ none)))
+
+-- the empty key is no point, and begins with none
+module _ (item : List ℕ → Type 0) {V : Type 0} where
+  pub joins_root : (v : Option V) (es : List (List ℕ × V)) (q : List ℕ) → Joins item (keys_of es) q → Joins item (keys_of (own v ++ es)) q
+  joins_root v es q j =
+      let left = has-without (keys_of es) q j.key j.has in
+      let there : (k : List ℕ) → Has (keys_of es) k → Has (keys_of (own v ++ es)) k = key-append_right (own v) es in
+      record {
+        point = j.point;
+        is_point = point_within item (keys_of es) (keys_of (own v ++ es)) j.point (λ k h _. there k h) j.is_point;
+        no_point = λ point. j.no_point (point_within item (without (keys_of (own v ++ es)) q) (without (keys_of es) q) j.point
+        (λ k h begun. let both = has-without (keys_of (own v ++ es)) q k h in without-has (keys_of es) q k (below v k (λ none. j.is_point.filled (front_empty j.point begun.0 (begun.1 ∙ none))) both.0) both.1)
+        point);
+        key = j.key;
+        has = without-has (keys_of (own v ++ es)) q j.key (there j.key left.0) left.1;
+        begins = j.begins;
+      }
+    where
+      below : (v : Option V) (k : List ℕ) → k ≢ [] → Has (keys_of (own v ++ es)) k → Has (keys_of es) k
+      below None k filled h = h
+      below (Some x) k filled (inl none) = absurd (filled (sym none))
+      below (Some x) k filled (inr h) = h

@@ -82,7 +82,7 @@ module _ {V : Type 0} where
 
 module _ (item : List ℕ → Type 0) (kind : IsKeyKind item) {V : Type 0} where
   -- without the empty key a node has the entries of its children left
-  others_own : (v : Option V) (c : Row V) → IsRow item c → others [] (own v ++ entries c) ≡ entries c
+  pub others_own : (v : Option V) (c : Row V) → IsRow item c → others [] (own v ++ entries c) ≡ entries c
   others_own v c ok = by v (others_absent [] (entries c) (turn (entries c) (lacks_empty item kind None c ok)))
     where
       turn : (es : List (List ℕ × V)) → AllKeys (λ k. k ≡ [] → ⊥) es → AllKeys (λ k. [] ≡ k → ⊥) es
@@ -94,7 +94,7 @@ module _ (item : List ℕ → Type 0) (kind : IsKeyKind item) {V : Type 0} where
       by (Some x) h = h
 
   -- another key is left out of the children
-  others_below : (t : List ℕ) (v : Option V) (c : Row V) → t ≢ [] → others t (own v ++ entries c) ≡ own v ++ others t (entries c)
+  pub others_below : (t : List ℕ) (v : Option V) (c : Row V) → t ≢ [] → others t (own v ++ entries c) ≡ own v ++ others t (entries c)
   others_below t None c filled = refl
   others_below [] (Some x) c filled = absurd (filled refl)
   others_below (b ∷ t) (Some x) c filled = refl

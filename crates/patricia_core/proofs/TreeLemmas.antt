@@ -1,10 +1,15 @@
 -- A tree's entries as a finite map.
-use Rattle.std.proofs.Common.{◌≡◌, ℕ, suc, zero, ◌+◌, ◌<◌, ◌≤◌, ◌≢◌, Bool, true, false, T, cond, List, [], ◌∷◌, ◌++◌, Option, Some, None, length, refl, sym, ap, subst, ◌∙◌, arith, length-append}
+use Rattle.std.proofs.Common.{◌≡◌, ℕ, suc, zero, ◌+◌, ◌<◌, ◌≤◌, ◌≢◌, Bool, true, false, T, cond, not, List, [], ◌∷◌, ◌++◌, Option, Some, None, length, refl, sym, ap, subst, ◌∙◌, arith, length-append}
 use Rattle.std.specs.Option.{is_some, option_map}
-use Rattle.std.specs.FinMap.{FinMap, find, put, is_sorted, from_sorted, insert, get, len, empty, entries-from_sorted, get-from_sorted, entries-insert, same_entries_map, len-entries, len-empty}
+use Rattle.std.specs.FinMap.{FinMap, find, put, is_sorted, from_sorted, insert, remove, get, len, empty, entries-from_sorted, get-from_sorted, get-remove, entries-insert, same_entries_map, same_map, slice_cmp-IsAntisymmetric, nat_cmp-IsAntisymmetric, len-entries, len-empty}
 use Rattle.std.proofs.lemmas.List.{nil_from_length}
 use Rattle.std.specs.FinMap as map
-use Rattle.std.specs.FinMap.Entries.{is_sorted-put, length-put}
+use Rattle.std.specs.FinMap.Entries.{is_sorted-put, length-put, is_sorted-where_key, find-where_key, length_without}
+use Rattle.std.specs.declared.cmp.Ordering.TheVariants.{Less, Equal, Greater}
+use Rattle.std.specs.Ordering.{eq_by_cmp, is_eq, ordering_reverse}
+use Rattle.patricia_core.specs.Removals.{others, keys_of}
+use Rattle.patricia_core.proofs.ListLemmas.{key_cmp-equal}
+use Rattle.patricia_core.proofs.RemovalLemmas.{others_own, others_below}
 use Rattle.std.specs.Cmp.Lexicographic.{nat_list_cmp_total}
 use Rattle.patricia_core.specs.Keys.{IsKeyKind, key_cmp}
 use Rattle.patricia_core.specs.Rows.{Row, end, node, prefixed, own, entries, IsRow}
@@ -76,3 +81,42 @@ option_map_none f (Some x) e = absurd (cc)
 pub option_map_not_none : {A B : Type 0} (f : A → B) (o : Option A) → option_map f o ≡ None → is_some o ≡ true → ⊥
 option_map_not_none f None e g = absurd (cc)
 option_map_not_none f (Some x) e g = absurd (cc)
+
+-- a removal from a finite map that is made of sorted entries
+module _ {V : Type 0} where
+  from_sorted-others : (es : List (List ℕ × V)) (q : List ℕ) → T (is_sorted key_cmp es) → from_sorted {R = key_cmp} (others q es) ≡ remove (from_sorted es) q
+  from_sorted-others es q sorted =
+      same_map nat_list_cmp_total (slice_cmp-IsAntisymmetric nat_cmp-IsAntisymmetric) _ _ (λ x.
+      get-from_sorted key_cmp (others q es) x (is_sorted-where_key key_cmp _ es sorted)
+      ∙ find-where_key key_cmp (λ k. not (eq_by_cmp key_cmp q k)) x (λ k tie. ap (λ y. not (eq_by_cmp key_cmp q y)) (sym (key_cmp-equal x k tie))) es
+      ∙ turned x (find key_cmp x es)
+      ∙ ap (cond (eq_by_cmp key_cmp x q) None) (sym (get-from_sorted key_cmp es x sorted))
+      ∙ sym (get-remove nat_list_cmp_total (from_sorted es) q x))
+    where
+      turned : (x : List ℕ) (o : Option V) → cond (not (eq_by_cmp key_cmp q x)) o None ≡ cond (eq_by_cmp key_cmp x q) None o
+      turned x o =
+          elim (key_cmp q x) as (λ r. cond (not (is_eq r)) o None ≡ cond (is_eq (ordering_reverse r)) None o) [ Less ↦ refl | Equal ↦ refl | Greater ↦ refl ]
+          ∙ ap (λ r. cond (is_eq r) None o) (sym (nat_list_cmp_total.antisymm x q))
+
+module _ (item : List ℕ → Type 0) (kind : IsKeyKind item) {V : Type 0} where
+  pub remove_empty : (v : Option V) (r : Row V) → IsRow item r → map_of None r ≡ remove (map_of v r) []
+  remove_empty v r ok = ap from_sorted (sym (others_own item kind v r ok)) ∙ from_sorted-others (own v ++ entries r) [] (tree_sorted item kind v r ok)
+
+  pub remove_filled : (v : Option V) (r r' : Row V) (q : List ℕ) → IsRow item r → q ≢ [] → entries r' ≡ others q (entries r) → map_of v r' ≡ remove (map_of v r) q
+  remove_filled v r r' q ok filled e =
+      ap (λ es. from_sorted (own v ++ es)) e ∙ ap from_sorted (sym (others_below item kind q v r filled)) ∙ from_sorted-others (own v ++ entries r) q (tree_sorted item kind v r ok)
+
+  pub remove_absent : (v : Option V) (r r' : Row V) (q : List ℕ) → IsRow item r → entries r' ≡ others q (entries r) → find key_cmp q (entries r) ≡ None → length (entries r') ≡ length (entries r)
+  remove_absent v r r' q ok e none =
+      let whole = length_without key_cmp nat_list_cmp_total q (entries r) (entries_sorted item kind r ok) in
+      let whole' = subst (λ o. cond (is_some o) 1 0 + length (others q (entries r)) ≡ length (entries r)) none whole in
+      let same = ap length e in omega arith
+
+  pub remove_present : (v : Option V) (r r' : Row V) (q : List ℕ) (x : V) → IsRow item r → entries r' ≡ others q (entries r) → find key_cmp q (entries r) ≡ Some x → length (entries r') + 1 ≡ length (entries r)
+  remove_present v r r' q x ok e some =
+      let whole = length_without key_cmp nat_list_cmp_total q (entries r) (entries_sorted item kind r ok) in
+      let whole' = subst (λ o. cond (is_some o) 1 0 + length (others q (entries r)) ≡ length (entries r)) some whole in
+      let same = ap length e in omega arith
+
+  pub keys_map : (v : Option V) (r : Row V) → IsRow item r → map.keys (map_of v r) ≡ keys_of (own v ++ entries r)
+  keys_map v r ok = ap keys_of (entries-from_sorted key_cmp (own v ++ entries r) (tree_sorted item kind v r ok))

@@ -2,11 +2,13 @@
 ghost use Rattle.std.specs.Prelude.{◌≡◌, ◌≢◌, ◌↔◌, [], None, IsTrue, IfOk, OnOk, IfErr, OnErr};
 ghost use Rattle.std.specs.Option.{option_copied};
 ghost use Rattle.std.specs.FinMap as map;
+ghost use Rattle.patricia_core.specs.Points.{Joins};
 
 use crate::keys::{BorrowedBytes, Bytes};
 pub use crate::node::Refused;
 use crate::node::{self, Row};
-use std::alloc::Global;
+use crate::removal;
+use std::alloc::{AllocError, Global};
 use std::marker::{Model, PhantomData};
 
 /// A finite map from keys of one kind.
@@ -103,6 +105,30 @@ impl<K: Bytes, V: Drop> Tree<K, V> {
             }
             Ok(Some(old)) => Ok(Some(old)),
             Err(refused) => Err(refused),
+        }
+    }
+
+    /// Takes a value out, or answers `None` where there is none. The error is want of memory for
+    /// a joined label.
+    pub fn remove<Q: BorrowedBytes<Owned = K>>(
+        &mut self,
+        key: Q,
+    ) -> Result<Option<V>, AllocError>
+        ensures old { IfOk result (λ old. old ≡ map.get self.old (Q.key key)) }
+        ensures ok { OnOk result (self.new ≡ map.remove self.old (Q.key key)) }
+        ensures unchanged { OnErr result (self.new ≡ self.old) }
+        ensures joins { OnErr result (Joins K.item (map.keys self.old) (Q.key key)) }
+    {
+        if key.is_empty() {
+            return Ok(self.value.take());
+        }
+        match removal::remove(self.alloc, &mut self.first, key) {
+            Ok(Some(old)) => {
+                self.count -= 1;
+                Ok(Some(old))
+            }
+            Ok(None) => Ok(None),
+            Err(error) => Err(error),
         }
     }
 }
