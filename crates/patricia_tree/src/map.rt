@@ -1,10 +1,11 @@
 ghost use Rattle.std.specs.Prelude.{◌≡◌, ◌≢◌, ◌↔◌, [], None, IsTrue, IfOk, OnOk, IfErr, OnErr};
 ghost use Rattle.std.specs.Option.{option_copied};
 ghost use Rattle.std.specs.FinMap as map;
+ghost use Rattle.patricia_core.specs.Points.{Joins};
 
 use patricia_core::keys::{BorrowedBytes, Bytes};
 use patricia_core::tree::Tree;
-use std::alloc::Global;
+use std::alloc::{AllocError, Global};
 use std::marker::Model;
 
 pub use patricia_core::tree::Refused;
@@ -105,5 +106,22 @@ mod tests {
         assert!(rt; put(&mut map, b"foo".as_slice(), 5)? == Some(1));
         assert!(rt; map.get(b"foo".as_slice()) == Some(&5));
         Ok(())
+    }
+
+    /// Takes a value out, or answers `None` for a key that is not there.
+    ///
+    /// The error is want of memory for a joined label. It comes only where a removal leaves a
+    /// place in the tree that no key or branching needs any more: never for a key that is not
+    /// there, nor for the empty key.
+    pub fn remove<Q: BorrowedBytes<Owned = K>>(
+        &mut self,
+        key: Q,
+    ) -> Result<Option<V>, AllocError>
+        ensures old { IfOk result (λ old. old ≡ map.get self.old (Q.key key)) }
+        ensures ok { OnOk result (self.new ≡ map.remove self.old (Q.key key)) }
+        ensures unchanged { OnErr result (self.new ≡ self.old) }
+        ensures joins { OnErr result (Joins K.item (map.keys self.old) (Q.key key)) }
+    {
+        self.tree.remove(key)
     }
 }
