@@ -1,3 +1,4 @@
+//! A map whose keys share their common prefixes.
 ghost use Rattle.std.specs.Prelude.{◌≡◌, ◌≢◌, ◌↔◌, [], None, IsTrue, IfOk, OnOk, IfErr, OnErr};
 ghost use Rattle.std.specs.Option.{option_copied};
 ghost use Rattle.std.specs.FinMap as map;
@@ -10,10 +11,16 @@ use std::marker::Model;
 
 pub use patricia_core::tree::Refused;
 
+#[cfg(test)]
+mod tests;
+
 /// A map whose keys are byte strings.
 pub type PatriciaMap<V> = GenericPatriciaMap<Vec<u8>, V>;
 
-/// A map from keys of one kind, walked in byte order.
+/// A map from keys of one kind to values, in the order of the keys' bytes.
+///
+/// A map keeps the allocator that it was made with. A call that takes memory asks for it before
+/// it changes anything, so that a refusal leaves the map as it was.
 #[derive(Drop)]
 pub struct GenericPatriciaMap<K: Bytes, V> {
     tree: Tree<K, V>,
@@ -32,6 +39,7 @@ impl<K: Bytes, V> Model for GenericPatriciaMap<K, V> {
 }
 
 impl<K: Bytes, V: Drop> GenericPatriciaMap<K, V> {
+    /// The empty map. It takes no memory.
     pub fn new(alloc: Global) -> Self
         ensures { result ≡ map.empty }
     {
@@ -40,6 +48,7 @@ impl<K: Bytes, V: Drop> GenericPatriciaMap<K, V> {
         }
     }
 
+    /// The number of entries, that of the empty key included.
     pub fn len(&self) -> usize
         ensures { result ≡ map.len self.now }
     {
@@ -64,6 +73,11 @@ impl<K: Bytes, V: Drop> GenericPatriciaMap<K, V> {
         self.tree.get(key)
     }
 
+    /// Puts a value in and answers the old one, or `None` for a new key.
+    ///
+    /// The error is want of memory, which only a key can meet that is new and not empty. It hands
+    /// the value back. A new key that would be one more than `usize::MAX - 1` keys that are not
+    /// empty is refused in the same way, so that `len` never overflows.
     pub fn insert<Q: BorrowedBytes<Owned = K>>(
         &mut self,
         key: Q,
@@ -77,35 +91,6 @@ impl<K: Bytes, V: Drop> GenericPatriciaMap<K, V> {
         ensures only_new { OnErr result (map.get self.old (Q.key key) ≡ None) }
     {
         self.tree.insert(key, value)
-    }
-}
-
-#[cfg(test)]
-mod tests {
-    use super::*;
-    use std::alloc::AllocError;
-    use std::test::Fail;
-
-    fn put(map: &mut PatriciaMap<u32>, key: &[u8], value: u32) -> Result<Option<u32>, AllocError> {
-        match map.insert(key, value) {
-            Ok(old) => Ok(old),
-            Err(_) => Err(AllocError),
-        }
-    }
-
-    #[test]
-    fn keeps_three(rt: HostRuntime) -> Result<(), Fail> {
-        let mut map: PatriciaMap<u32> = PatriciaMap::new(rt.alloc());
-        for (key, value) in [(b"foo".as_slice(), 1), (b"bar".as_slice(), 2), (b"baz".as_slice(), 3), (b"".as_slice(), 9), (b"fo".as_slice(), 4)] {
-            assert!(rt; put(&mut map, key, value)?.is_none());
-        }
-        assert_eq!(rt; map.len(), 5);
-        assert!(rt; map.get(b"bar".as_slice()) == Some(&2));
-        assert!(rt; map.get(b"fo".as_slice()) == Some(&4));
-        assert!(rt; map.get(b"ba".as_slice()).is_none());
-        assert!(rt; put(&mut map, b"foo".as_slice(), 5)? == Some(1));
-        assert!(rt; map.get(b"foo".as_slice()) == Some(&5));
-        Ok(())
     }
 
     /// Takes a value out, or answers `None` for a key that is not there.
