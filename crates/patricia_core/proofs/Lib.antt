@@ -4,7 +4,9 @@ pub mod GetLemmas
 pub mod InsertLemmas
 pub mod KeyLemmas
 pub mod ListLemmas
+pub mod MemberLemmas
 pub mod OrderLemmas
+pub mod PointLemmas
 pub mod RowLemmas
 pub mod TreeLemmas
 pub mod UniqueLemmas
