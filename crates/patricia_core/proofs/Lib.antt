@@ -10,3 +10,5 @@ pub mod PointLemmas
 pub mod RowLemmas
 pub mod TreeLemmas
 pub mod UniqueLemmas
+pub mod VisitLemmas
+pub mod WalkLemmas

@@ -192,7 +192,7 @@ module _ (item : List ℕ → Type 0) (kind : IsKeyKind item) (S G T : List (Lis
   point_beside p pt = IsPoint-within item kind T S within_beside p pt
 
   -- a point that begins a key of T is a point of T
-  point_beside_of : (p k : List ℕ) → Has T k → Begins p k → IsPoint item S p → IsPoint item T p
+  pub point_beside_of : (p k : List ℕ) → Has T k → Begins p k → IsPoint item S p → IsPoint item T p
   point_beside_of p k h b pt =
       let first = first_of item p pt.valid pt.filled in
       let elsewhere : (q : List ℕ) → Begins p q → (t : List ℕ) → l ++ t ≡ q → ⊥ = λ q begun t e.

@@ -5,3 +5,4 @@ pub mod Nodes
 pub mod Points
 pub mod Rows
 pub mod Trees
+pub mod Walks

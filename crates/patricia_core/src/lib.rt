@@ -7,4 +7,7 @@ pub mod keys;
 pub mod laws;
 mod meeting;
 mod node;
+pub mod steps;
 pub mod tree;
+
+pub use steps::Steps;
