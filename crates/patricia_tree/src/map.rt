@@ -1,13 +1,15 @@
-ghost use Rattle.std.specs.Prelude.{◌≡◌, ◌≢◌, ◌↔◌, [], None, IsTrue, IfOk, OnOk, IfErr, OnErr};
+ghost use Rattle.std.specs.Prelude.{◌≡◌, ◌≢◌, ◌↔◌, ◌+◌, ◌*◌, ◌≤◌, ℕ, List, [], length, None, IsTrue, IfOk, OnOk, IfErr, OnErr};
 ghost use Rattle.std.specs.Option.{option_copied};
 ghost use Rattle.std.specs.FinMap as map;
+ghost use Rattle.patricia_core.specs.Points.{IsVisitCount};
 
+use patricia_core::Steps;
 use patricia_core::keys::{BorrowedBytes, Bytes};
+pub use patricia_core::tree::Refused;
 use patricia_core::tree::Tree;
 use std::alloc::Global;
 use std::marker::Model;
-
-pub use patricia_core::tree::Refused;
+use std::sync::ledger::Ledger;
 
 /// A map whose keys are byte strings.
 pub type PatriciaMap<V> = GenericPatriciaMap<Vec<u8>, V>;
@@ -63,6 +65,19 @@ impl<K: Bytes, V: Drop> GenericPatriciaMap<K, V> {
         self.tree.get(key)
     }
 
+    /// It takes a step for the root, and one for each node whose label is compared with the key.
+    pub fn get_counted<Q: BorrowedBytes<Owned = K>, L: Ledger>(
+        &self,
+        key: Q,
+        steps: &mut Steps<L>,
+    ) -> Option<&V>
+        ensures value { option_copied result ≡ map.get self.now (Q.key key) }
+        ensures counted { (n : ℕ) × IsVisitCount K.item (map.keys self.now) (Q.key key) n × (steps.new ≡ steps.old + n) }
+        ensures bounded { ((i : List ℕ) → K.item i → length i ≡ 1) → steps.new ≤ steps.old + 1 + 256 * length (Q.key key) }
+    {
+        self.tree.get_counted(key, steps)
+    }
+
     pub fn insert<Q: BorrowedBytes<Owned = K>>(
         &mut self,
         key: Q,
@@ -95,7 +110,13 @@ mod tests {
     #[test]
     fn keeps_three(rt: HostRuntime) -> Result<(), Fail> {
         let mut map: PatriciaMap<u32> = PatriciaMap::new(rt.alloc());
-        for (key, value) in [(b"foo".as_slice(), 1), (b"bar".as_slice(), 2), (b"baz".as_slice(), 3), (b"".as_slice(), 9), (b"fo".as_slice(), 4)] {
+        for (key, value) in [
+            (b"foo".as_slice(), 1),
+            (b"bar".as_slice(), 2),
+            (b"baz".as_slice(), 3),
+            (b"".as_slice(), 9),
+            (b"fo".as_slice(), 4),
+        ] {
             assert!(rt; put(&mut map, key, value)?.is_none());
         }
         assert_eq!(rt; map.len(), 5);
