@@ -5,8 +5,12 @@ pub mod InsertLemmas
 pub mod JoinLemmas
 pub mod KeyLemmas
 pub mod ListLemmas
+pub mod MemberLemmas
 pub mod OrderLemmas
 pub mod RemovalLemmas
+pub mod PointLemmas
 pub mod RowLemmas
 pub mod TreeLemmas
 pub mod UniqueLemmas
+pub mod VisitLemmas
+pub mod WalkLemmas

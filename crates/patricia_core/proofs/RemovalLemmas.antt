@@ -12,8 +12,8 @@ use Rattle.std.proofs.lemmas.List.Elements.{filter-append}
 use Rattle.std.proofs.lemmas.Bool.{cases_lt}
 use Rattle.patricia_core.specs.Keys.{Begins, IsKeyKind, IsValid, key_cmp}
 use Rattle.patricia_core.specs.Meeting.{SharesItem, EndsWithin, Passes}
-use Rattle.patricia_core.specs.Rows.{Row, end, node, prefixed, own, entries, IsBefore, IsBeforeRow, EarnsWithin, IsRow}
-use Rattle.patricia_core.specs.Removals.{others, keys_of, width, HasLeaf, first_value, IsLoneParent, taking_in, without_first, LeavesAlone, KeepsPlace, LosesPlace, settled}
+use Rattle.patricia_core.specs.Rows.{Row, end, node, prefixed, own, entries, IsBefore, IsBeforeRow, EarnsWithin, IsRow, keys_of}
+use Rattle.patricia_core.specs.Removals.{others, width, HasLeaf, first_value, IsLoneParent, taking_in, without_first, LeavesAlone, KeepsPlace, LosesPlace, settled}
 use Rattle.patricia_core.proofs.KeyLemmas.{first_of, IsValid-append}
 use Rattle.patricia_core.proofs.RowLemmas.{AllKeys, AllKeys-append, AllKeys-prefixed, prefixed-prefixed, lacks_empty}
 use Rattle.patricia_core.proofs.ListLemmas.{key_cmp-equal, key_cmp-front}

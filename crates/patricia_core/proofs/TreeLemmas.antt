@@ -7,12 +7,12 @@ use Rattle.std.specs.FinMap as map
 use Rattle.std.specs.FinMap.Entries.{is_sorted-put, length-put, is_sorted-where_key, find-where_key, length_without}
 use Rattle.std.specs.declared.cmp.Ordering.TheVariants.{Less, Equal, Greater}
 use Rattle.std.specs.Ordering.{eq_by_cmp, is_eq, ordering_reverse}
-use Rattle.patricia_core.specs.Removals.{others, keys_of}
+use Rattle.patricia_core.specs.Removals.{others}
 use Rattle.patricia_core.proofs.ListLemmas.{key_cmp-equal}
 use Rattle.patricia_core.proofs.RemovalLemmas.{others_own, others_below}
 use Rattle.std.specs.Cmp.Lexicographic.{nat_list_cmp_total}
 use Rattle.patricia_core.specs.Keys.{IsKeyKind, key_cmp}
-use Rattle.patricia_core.specs.Rows.{Row, end, node, prefixed, own, entries, IsRow}
+use Rattle.patricia_core.specs.Rows.{Row, end, node, prefixed, own, entries, IsRow, keys_of}
 use Rattle.patricia_core.specs.Trees.{map_of, IsTree}
 use Rattle.patricia_core.proofs.OrderLemmas.{entries_sorted, sorted_own, sorted-append, below_own}
 use Rattle.patricia_core.proofs.GetLemmas.{find_own, find_child}

@@ -6,3 +6,4 @@ pub mod Points
 pub mod Removals
 pub mod Rows
 pub mod Trees
+pub mod Walks

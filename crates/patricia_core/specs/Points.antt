@@ -72,6 +72,11 @@ module _ (item : List ℕ → Type 0) where
     pub begins : BeginsProperly parent k
     pub reached : IsCutOff S k parent p → ⊥
 
+  -- these are the points that a look-up of k visits
+  pub record AreVisits (S : List (List ℕ)) (k : List ℕ) (visited : List (List ℕ)) : Type 0 where
+    pub once : AreApart visited
+    pub exactly : (p : List ℕ) → Has visited p ↔ IsVisited S k p
+
   -- a look-up of k makes n visits: one for the root, and one for each point that it visits
   pub record IsVisitCount (S : List (List ℕ)) (k : List ℕ) (n : ℕ) : Type 0 where
     pub visited : List (List ℕ)

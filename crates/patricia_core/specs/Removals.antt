@@ -1,5 +1,5 @@
 -- What a removal leaves of a row.
-use Rattle.std.specs.Prelude.{◌≡◌, ℕ, suc, ◌≤◌, ◌⊎◌, List, [], ◌∷◌, ◌++◌, map, not, Option, Some, None, IsSome, Vec}
+use Rattle.std.specs.Prelude.{◌≡◌, ℕ, suc, ◌≤◌, ◌⊎◌, List, [], ◌∷◌, ◌++◌, not, Option, Some, None, IsSome, Vec}
 use Rattle.std.specs.Global.{Global}
 use Rattle.std.specs.FinMap.Entries.{where_key}
 use Rattle.std.specs.Ordering.{eq_by_cmp}
@@ -10,10 +10,6 @@ module _ {V : Type 0} where
   -- the entries of the other keys
   abbrev pub others : List ℕ → List (List ℕ × V) → List (List ℕ × V)
   others q es = where_key key_cmp (λ k. not (eq_by_cmp key_cmp q k)) es
-
-  -- the keys of entries
-  abbrev pub keys_of : List (List ℕ × V) → List (List ℕ)
-  keys_of es = map (λ e. e.0) es
 
   -- how many nodes stand beside one another
   abbrev pub width : Row V → ℕ

@@ -1,5 +1,5 @@
 -- A row of sibling nodes as a tree, and the entries that it stands for.
-use Rattle.std.specs.Prelude.{◌≡◌, ℕ, ◌≤◌, ◌≢◌, List, [], ◌∷◌, ◌++◌, length, Option, Some, None}
+use Rattle.std.specs.Prelude.{◌≡◌, ℕ, ◌≤◌, ◌≢◌, List, [], ◌∷◌, ◌++◌, length, map, Option, Some, None}
 use Rattle.std.specs.declared.cmp.Ordering.TheVariants.{Less}
 use Rattle.patricia_core.specs.Keys.{Begins, IsValid, key_cmp}
 
@@ -23,6 +23,15 @@ module _ {V : Type 0} where
   abbrev pub entries : Row V → List (List ℕ × V)
   entries end = []
   entries (node label value child sibling) = prefixed label (own value ++ entries child) ++ entries sibling
+
+  -- the keys of the entries
+  abbrev pub keys_of : List (List ℕ × V) → List (List ℕ)
+  keys_of es = map (λ e. e.0) es
+
+  -- the path of each node from the top of its row
+  abbrev pub paths : Row V → List (List ℕ)
+  paths end = []
+  paths (node label value child sibling) = label ∷ (map (λ p. label ++ p) (paths child) ++ paths sibling)
 
 -- a length keeps to a limit: none in memory, 255 bytes where labels are written
 abbrev pub Fits : Option ℕ → ℕ → Type 0

@@ -1,5 +1,5 @@
 -- The finite map that a tree stands for.
-use Rattle.std.specs.Prelude.{◌≡◌, ℕ, ◌<◌, ◌^◌, ◌-◌, Bool, List, ◌++◌, Option, length}
+use Rattle.std.specs.Prelude.{◌≡◌, ℕ, ◌<◌, ◌^◌, ◌-◌, List, ◌++◌, Option, length}
 use Rattle.std.specs.FinMap.{FinMap, from_sorted}
 use Rattle.patricia_core.specs.Keys.{key_cmp}
 use Rattle.patricia_core.specs.Rows.{Row, own, entries, IsRow}

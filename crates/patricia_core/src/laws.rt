@@ -1,7 +1,8 @@
 //! Laws that hold for every key kind, as contracts of functions that do nothing.
-ghost use Rattle.std.specs.Prelude.{◌≡◌, ℕ, List, Option, take};
+ghost use Rattle.std.specs.Prelude.{◌≡◌, ◌↔◌, ℕ, List, Option, take};
 ghost use Rattle.patricia_core.specs.Keys.{IsCommon, IsFloor, IsSharedLen};
-ghost use Rattle.patricia_core.specs.Rows.{Row, IsRowWithin, entries};
+ghost use Rattle.patricia_core.specs.Rows.{Row, IsRow, IsRowWithin, entries, keys_of, paths};
+ghost use Rattle.patricia_core.specs.Points.{Has, AreApart, IsPoint, IsParent, IsVisitCount};
 
 use crate::keys::Bytes;
 
@@ -13,4 +14,20 @@ pub fn common_is_floor<K: Bytes>()
 /// Two rows that keep the invariant under one limit and have the same entries are the same row.
 pub fn one_shape<K: Bytes, V>()
     ensures { (limit : Option ℕ) (r s : Row V) → IsRowWithin K.item limit r → IsRowWithin K.item limit s → entries r ≡ entries s → r ≡ s }
+{}
+
+/// The nodes of a row stand at the points of its keys, one node at each.
+pub fn points_of_row<K: Bytes, V>()
+    ensures once { (row : Row V) → IsRow K.item row → AreApart (paths row) }
+    ensures exactly { (row : Row V) (p : List ℕ) → IsRow K.item row → (Has (paths row) p ↔ IsPoint K.item (keys_of (entries row)) p) }
+{}
+
+/// There is one number of visits for a set of keys and a key.
+pub fn one_visit_count<K: Bytes>()
+    ensures { (S : List (List ℕ)) (k : List ℕ) (n m : ℕ) → IsVisitCount K.item S k n → IsVisitCount K.item S k m → n ≡ m }
+{}
+
+/// A point has one parent.
+pub fn one_parent<K: Bytes>()
+    ensures { (S : List (List ℕ)) (p q r : List ℕ) → IsParent K.item S p q → IsParent K.item S p r → q ≡ r }
 {}

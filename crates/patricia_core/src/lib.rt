@@ -8,4 +8,7 @@ pub mod laws;
 mod meeting;
 mod node;
 mod removal;
+pub mod steps;
 pub mod tree;
+
+pub use steps::Steps;

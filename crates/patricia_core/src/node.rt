@@ -6,12 +6,15 @@ ghost use Rattle.patricia_core.specs.Keys.{key_cmp, IsValid};
 ghost use Rattle.patricia_core.specs.Meeting.{EndsWithin};
 ghost use Rattle.patricia_core.specs.Rows.{IsRow, entries, node, end};
 ghost use Rattle.patricia_core.specs.Nodes.{row_of, row_from};
+ghost use Rattle.patricia_core.specs.Walks.{IsCounted};
 
 use crate::keys::{BorrowedBytes, Bytes};
 use crate::meeting::{Meeting, meet};
+use crate::steps::Steps;
 use std::alloc::{AllocError, Global};
 use std::cmp::Ordering;
 use std::mem;
+use std::sync::ledger::Ledger;
 use thiserror::Error;
 
 /// Memory ran out before anything was changed. The value is handed back.
@@ -39,25 +42,31 @@ pub struct Node<V> {
     pub sibling: Row<V>,
 }
 
-/// The value at a nonempty key.
-pub fn get<V, Q: BorrowedBytes>(row: &Row<V>, key: Q) -> Option<&V>
+/// The value at a nonempty key. It takes a step where a label is compared with the key.
+pub fn get_counted<'a, V, Q: BorrowedBytes, L: Ledger>(
+    row: &'a Row<V>,
+    key: Q,
+    steps: &mut Steps<L>,
+) -> Option<&'a V>
     requires row { IsRow Q.Owned.item (row_of row.now) }
     requires filled { Q.key key ≢ [] }
-    ensures { option_copied result ≡ find key_cmp (Q.key key) (entries (row_of row.now)) }
+    ensures value { option_copied result ≡ find key_cmp (Q.key key) (entries (row_of row.now)) }
+    ensures counted { IsCounted Q.Owned.item (row_of row.now) (Q.key key) steps.old steps.new }
 {
     let Row::More(node) = row else {
         return None;
     };
     let node: &Node<V> = node;
+    steps.tick();
     match meet(key, &node.label) {
         Meeting::Before => None,
-        Meeting::After => get(&node.sibling, key),
+        Meeting::After => get_counted(&node.sibling, key, steps),
         Meeting::Into(_) => None,
         Meeting::Through(rest) => {
             if rest.is_empty() {
                 node.value.as_ref()
             } else {
-                get(&node.child, rest)
+                get_counted(&node.child, rest, steps)
             }
         }
     }

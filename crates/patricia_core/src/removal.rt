@@ -2,10 +2,10 @@
 ghost use Rattle.std.specs.Prelude.{◌≡◌, ℕ, List, ◌≢◌, ◌+◌, ◌≤◌, ◌++◌, [], Some, None, IfOk, OnOk, OnErr, MatchOption, ◌⊎◌};
 ghost use Rattle.std.specs.FinMap.{find};
 ghost use Rattle.patricia_core.specs.Keys.{key_cmp};
-ghost use Rattle.patricia_core.specs.Rows.{IsRow, entries};
+ghost use Rattle.patricia_core.specs.Rows.{IsRow, entries, keys_of};
 ghost use Rattle.patricia_core.specs.Nodes.{row_of, row_from};
 ghost use Rattle.patricia_core.specs.Points.{Joins};
-ghost use Rattle.patricia_core.specs.Removals.{others, keys_of, width, HasLeaf, first_value, IsLoneParent, taking_in, without_first, LeavesAlone, KeepsPlace, LosesPlace, settled};
+ghost use Rattle.patricia_core.specs.Removals.{others, width, HasLeaf, first_value, IsLoneParent, taking_in, without_first, LeavesAlone, KeepsPlace, LosesPlace, settled};
 
 use crate::keys::{BorrowedBytes, Bytes};
 use crate::meeting::{Meeting, meet};

@@ -1,15 +1,17 @@
 //! A tree of keys, seen as a finite map.
-ghost use Rattle.std.specs.Prelude.{◌≡◌, ◌≢◌, ◌↔◌, [], None, IsTrue, IfOk, OnOk, IfErr, OnErr};
+ghost use Rattle.std.specs.Prelude.{◌≡◌, ◌≢◌, ◌↔◌, ◌+◌, ◌*◌, ◌<◌, ◌≤◌, ℕ, List, [], length, None, IsTrue, IfOk, OnOk, IfErr, OnErr};
 ghost use Rattle.std.specs.Option.{option_copied};
 ghost use Rattle.std.specs.FinMap as map;
-ghost use Rattle.patricia_core.specs.Points.{Joins};
+ghost use Rattle.patricia_core.specs.Points.{IsVisitCount, Joins};
 
 use crate::keys::{BorrowedBytes, Bytes};
 pub use crate::node::Refused;
 use crate::node::{self, Row};
 use crate::removal;
+use crate::steps::Steps;
 use std::alloc::{AllocError, Global};
-use std::marker::{Model, PhantomData};
+use std::marker::{Brand, Model, PhantomData};
+use std::sync::ledger::{Blank, Ledger};
 
 /// A finite map from keys of one kind.
 #[derive(Drop)]
@@ -70,14 +72,39 @@ impl<K: Bytes, V: Drop> Tree<K, V> {
         self.len() == 0
     }
 
-    pub fn get<Q: BorrowedBytes<Owned = K>>(&self, key: Q) -> Option<&V>
-        ensures { option_copied result ≡ map.get self.now (Q.key key) }
+    /// It takes a step for the root, and one for each node whose label is compared with the key.
+    pub fn get_counted<Q: BorrowedBytes<Owned = K>, L: Ledger>(
+        &self,
+        key: Q,
+        steps: &mut Steps<L>,
+    ) -> Option<&V>
+        ensures value { option_copied result ≡ map.get self.now (Q.key key) }
+        ensures counted { (n : ℕ) × IsVisitCount K.item (map.keys self.now) (Q.key key) n × (steps.new ≡ steps.old + n) }
+        ensures bounded { ((i : List ℕ) → K.item i → length i ≡ 1) → steps.new ≤ steps.old + 1 + 256 * length (Q.key key) }
     {
+        steps.tick();
         if key.is_empty() {
             self.value.as_ref()
         } else {
-            node::get(&self.first, key)
+            node::get_counted(&self.first, key, steps)
         }
+    }
+
+    // The same, counted in a ledger that nobody reads.
+    fn get_from<Q: BorrowedBytes<Owned = K>, L: Ledger>(&self, key: Q, blank: Blank) -> Option<&V>
+        requires name { blank.name ≡ L.name }
+        requires parts { blank.parts ≡ L.parts }
+        requires some { 0 < L.parts }
+        ensures { option_copied result ≡ map.get self.now (Q.key key) }
+    {
+        let mut steps: Steps<L> = Steps::new(blank);
+        self.get_counted(key, &mut steps)
+    }
+
+    pub fn get<Q: BorrowedBytes<Owned = K>>(&self, key: Q) -> Option<&V>
+        ensures { option_copied result ≡ map.get self.now (Q.key key) }
+    {
+        self.get_from::<Q, Brand>(key, Blank::new(1))
     }
 
     pub fn insert<Q: BorrowedBytes<Owned = K>>(
@@ -95,7 +122,7 @@ impl<K: Bytes, V: Drop> Tree<K, V> {
         if key.is_empty() {
             return Ok(self.value.replace(value));
         }
-        if self.count == usize::MAX - 1 && node::get(&self.first, key).is_none() {
+        if self.count == usize::MAX - 1 && self.get(key).is_none() {
             return Err(Refused { value });
         }
         match node::insert(self.alloc, &mut self.first, key, value) {

@@ -4,4 +4,5 @@
 pub mod map;
 
 pub use map::{GenericPatriciaMap, PatriciaMap};
+pub use patricia_core::Steps;
 pub use patricia_core::keys::{BorrowedBytes, Bytes};

@@ -1,15 +1,16 @@
 //! A map whose keys share their common prefixes.
-ghost use Rattle.std.specs.Prelude.{◌≡◌, ◌≢◌, ◌↔◌, [], None, IsTrue, IfOk, OnOk, IfErr, OnErr};
+ghost use Rattle.std.specs.Prelude.{◌≡◌, ◌≢◌, ◌↔◌, ◌+◌, ◌*◌, ◌≤◌, ℕ, List, [], length, None, IsTrue, IfOk, OnOk, IfErr, OnErr};
 ghost use Rattle.std.specs.Option.{option_copied};
 ghost use Rattle.std.specs.FinMap as map;
-ghost use Rattle.patricia_core.specs.Points.{Joins};
+ghost use Rattle.patricia_core.specs.Points.{IsVisitCount, Joins};
 
+use patricia_core::Steps;
 use patricia_core::keys::{BorrowedBytes, Bytes};
+pub use patricia_core::tree::Refused;
 use patricia_core::tree::Tree;
 use std::alloc::{AllocError, Global};
 use std::marker::Model;
-
-pub use patricia_core::tree::Refused;
+use std::sync::ledger::Ledger;
 
 #[cfg(test)]
 mod tests;
@@ -71,6 +72,23 @@ impl<K: Bytes, V: Drop> GenericPatriciaMap<K, V> {
         ensures { option_copied result ≡ map.get self.now (Q.key key) }
     {
         self.tree.get(key)
+    }
+
+    /// Looks a key up and adds the number of nodes that it visits.
+    ///
+    /// It takes a step for the root, and one for each node whose label is compared with the key.
+    /// Siblings are compared in their order, up to and with the first whose first item is not
+    /// less than the key's. A `Steps` takes no bytes at run time, and contracts alone see it.
+    pub fn get_counted<Q: BorrowedBytes<Owned = K>, L: Ledger>(
+        &self,
+        key: Q,
+        steps: &mut Steps<L>,
+    ) -> Option<&V>
+        ensures value { option_copied result ≡ map.get self.now (Q.key key) }
+        ensures counted { (n : ℕ) × IsVisitCount K.item (map.keys self.now) (Q.key key) n × (steps.new ≡ steps.old + n) }
+        ensures bounded { ((i : List ℕ) → K.item i → length i ≡ 1) → steps.new ≤ steps.old + 1 + 256 * length (Q.key key) }
+    {
+        self.tree.get_counted(key, steps)
     }
 
     /// Puts a value in and answers the old one, or `None` for a new key.

@@ -1,9 +1,6 @@
-use Rattle.std.proofs.Common.{◌≡◌, ◌≢◌, ◌+◌, ◌<◌, ◌-◌, ◌^◌, [], Some, None, sym, ap, subst, ◌∙◌, refl, arith, length}
-use mathlib.Core.Bool.{false≢true, true≢false}
-use Rattle.std.specs.Option.{is_none, is_some}
-use Rattle.std.specs.FinMap as map
+use Rattle.std.proofs.Common.{sym, ◌∙◌, refl, arith}
+use mathlib.Core.Bool.{false≢true}
 use Rattle.patricia_core.specs.Nodes.{row_of}
-use Rattle.patricia_core.specs.Rows.{entries}
 use Rattle.patricia_core.proofs.TreeLemmas.{get_empty, get_filled, insert_empty, insert_filled, length_new, length_old, option_map_none, option_map_not_none}
 use Rattle.patricia_core.proofs.tree.Tree.insert.Goals as goal
 use Rattle.patricia_core.proofs.tree.Tree.insert.Goals.{else-self-via-then-self+else-is_none, else-self-via-else-self}
@@ -16,15 +13,16 @@ returns-then-is_empty-clause-ok g c = rw (← c.self.view_is, c.if-is_empty.ensu
 
 pub returns-then-is_none-clause-only_new : goal.returns-then-is_none-clause-only_new
 returns-then-is_none-clause-only_new g c =
-    rw (← c.self.view_is) (get_filled g.K.Bytes.item g.met.K.Bytes.lawful _ _ _ c.self.invariant.row_ok (λ none. absurd (false≢true (c.if-is_empty.ensures.1 none))) ∙ sym c.get.ensures ∙ option_map_none (λ x. x.now) c.get.result c.if-is_none.ensures)
+    sym c.get.ensures ∙ option_map_none (λ x. x.now) c.get.result c.if-is_none.ensures
 
 pub invariant_of-self-in-Ok-None : goal.invariant_of-self-in-Ok-None
 invariant_of-self-in-Ok-None g c =
     let new = sym c.in-Ok-None.ensures.old ∙ c.in-Ok-None.field-0-is in
+    let none = get_filled g.K.Bytes.item g.met.K.Bytes.lawful _ _ _ c.self.invariant.row_ok (λ none. absurd (false≢true (c.if-is_empty.ensures.1 none))) ∙ new in
     record {
       row_ok = c.in-Ok-None.ensures.row;
       counted = rw c.self.invariant.counted (sym (length_new g.K.Bytes.item g.met.K.Bytes.lawful (row_of c.self.inside.first) (row_of c.insert.new.row) _ c.args.value c.self.invariant.row_ok c.in-Ok-None.ensures.ok new));
-      fits = elim c.else-self.branch [ else-self-via-then-self+else-is_none w ↦ absurd (option_map_not_none (λ x. x.now) w.get.result (w.get.ensures ∙ new) w.if-is_none.ensures) | else-self-via-else-self w ↦ omega (arith, c.self.invariant.fits) ];
+      fits = elim c.else-self.branch [ else-self-via-then-self+else-is_none w ↦ absurd (option_map_not_none (λ x. x.now) w.get.result (rw (← c.self.view_is) at w.get.ensures ∙ none) w.if-is_none.ensures) | else-self-via-else-self w ↦ omega (arith, c.self.invariant.fits) ];
     }
 
 pub invariant_of-self-in-Ok-Some : goal.invariant_of-self-in-Ok-Some
