@@ -10,6 +10,7 @@ pub mod OrderLemmas
 pub mod RemovalLemmas
 pub mod PointLemmas
 pub mod RowLemmas
+pub mod TextLemmas
 pub mod TreeLemmas
 pub mod UniqueLemmas
 pub mod VisitLemmas

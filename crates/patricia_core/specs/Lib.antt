@@ -5,5 +5,6 @@ pub mod Nodes
 pub mod Points
 pub mod Removals
 pub mod Rows
+pub mod TextKind
 pub mod Trees
 pub mod Walks

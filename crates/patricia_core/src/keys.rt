@@ -6,6 +6,7 @@ ghost use Rattle.std.specs.Prelude.{◌≡◌, ℕ, ◌≤◌, List, [], length,
 ghost use Rattle.patricia_core.specs.Keys.{IsKeyKind, IsValid, IsCommon, DropsCommon, IsFloor, ComparesFirst};
 
 mod byte;
+mod text;
 
 use std::alloc::{AllocError, Global};
 use std::cmp::Ordering;
