@@ -1,4 +1,5 @@
 pub mod ByteLemmas
+pub mod CountLemmas
 pub mod DivideLemmas
 pub mod GetLemmas
 pub mod InsertLemmas
@@ -7,11 +8,10 @@ pub mod KeyLemmas
 pub mod ListLemmas
 pub mod MemberLemmas
 pub mod OrderLemmas
-pub mod RemovalLemmas
 pub mod PointLemmas
+pub mod RemovalLemmas
 pub mod RowLemmas
 pub mod TextLemmas
 pub mod TreeLemmas
 pub mod UniqueLemmas
 pub mod VisitLemmas
-pub mod WalkLemmas

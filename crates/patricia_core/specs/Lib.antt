@@ -1,4 +1,5 @@
 pub mod ByteKind
+pub mod Counts
 pub mod Keys
 pub mod Meeting
 pub mod Nodes
@@ -7,4 +8,3 @@ pub mod Removals
 pub mod Rows
 pub mod TextKind
 pub mod Trees
-pub mod Walks

@@ -6,7 +6,7 @@ ghost use Rattle.patricia_core.specs.Keys.{key_cmp, IsValid};
 ghost use Rattle.patricia_core.specs.Meeting.{EndsWithin};
 ghost use Rattle.patricia_core.specs.Rows.{IsRow, entries, node, end};
 ghost use Rattle.patricia_core.specs.Nodes.{row_of, row_from};
-ghost use Rattle.patricia_core.specs.Walks.{IsCounted};
+ghost use Rattle.patricia_core.specs.Counts.{IsCounted};
 
 use crate::keys::{BorrowedBytes, Bytes};
 use crate::meeting::{Meeting, meet};

@@ -11,7 +11,7 @@ use Rattle.patricia_core.specs.Meeting.{SharesItem, EndsWithin, Passes}
 use Rattle.patricia_core.specs.Rows.{Row, end, node, own, entries, keys_of, IsBefore, IsBeforeRow, IsRow}
 use Rattle.patricia_core.specs.Points.{AreVisits, IsVisitCount}
 use Rattle.patricia_core.specs.Trees.{map_of}
-use Rattle.patricia_core.specs.Walks.{AreSingle, first_byte, IsCounted}
+use Rattle.patricia_core.specs.Counts.{AreSingle, first_byte, IsCounted}
 use Rattle.patricia_core.proofs.KeyLemmas.{Begins-trans, begins_same, first_of, key_cmp-irreflexive}
 use Rattle.patricia_core.proofs.GetLemmas.{common_whole}
 use Rattle.patricia_core.proofs.PointLemmas.{splits, own_within, within_own}
