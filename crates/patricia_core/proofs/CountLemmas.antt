@@ -66,8 +66,8 @@ module _ (item : List ℕ → Type 0) (kind : IsKeyKind item) {V : Type 0} where
     bounded = λ single. let some = filled_length k filled in omega arith;
   }
 
-module _ (item : List ℕ → Type 0) (kind : IsKeyKind item) {V : Type 0} (l : List ℕ) (v : Option V) (c s : Row V) (ok : IsRow item (node l v c s)) (k : List ℕ) (filled : k ≢ []) (n : ℕ) where
-  counted_stop : Stops item l k → ((t : List ℕ) → t ≢ [] → l ++ t ≡ k → ⊥) → IsCounted item (node l v c s) k n (n + 1)
+module _ (item : List ℕ → Type 0) (kind : IsKeyKind item) {V : Type 0} (l : List ℕ) (v : Option V) (c s : Row V) (ok : IsRow item (node l v c s)) (k : List ℕ) (filled : k ≢ []) (n b : ℕ) (ticked : b ≡ n + 1) where
+  counted_stop : Stops item l k → ((t : List ℕ) → t ≢ [] → l ++ t ≡ k → ⊥) → IsCounted item (node l v c s) k n b
   counted_stop stop short = record {
     visited = l ∷ [];
     visits = visits_stop item kind _ _ _ l (splits item kind l v c s ok) k filled stop short;
@@ -75,18 +75,18 @@ module _ (item : List ℕ → Type 0) (kind : IsKeyKind item) {V : Type 0} (l : 
     bounded = λ single. let below = byte_below item kind single l ok.valid ok.filled in let some = filled_length k filled in omega arith;
   }
 
-  pub counted_before : IsBefore item k l → IsCounted item (node l v c s) k n (n + 1)
+  pub counted_before : IsBefore item k l → IsCounted item (node l v c s) k n b
   counted_before before = counted_stop (stops_before item kind l k before) (λ t some e.
       let same = begins_same item kind before.first before.second k before.first_item before.second_item before.first_begins (Begins-trans before.second l k before.second_begins (t, e)) in
       key_cmp-irreflexive before.first before.second same before.less)
 
-  pub counted_within : (m : ℕ) → EndsWithin item k l m → IsCounted item (node l v c s) k n (n + 1)
+  pub counted_within : (m : ℕ) → EndsWithin item k l m → IsCounted item (node l v c s) k n b
   counted_within m ends = counted_stop (stops_shared item kind l k ends.shares) (λ t some e. let long = common_whole item k l m ok.valid ends.common (t, e) in let short = ends.short in omega arith)
 
-  pub counted_here : (t : List ℕ) → Passes item k l t → t ≡ [] → IsCounted item (node l v c s) k n (n + 1)
+  pub counted_here : (t : List ℕ) → Passes item k l t → t ≡ [] → IsCounted item (node l v c s) k n b
   counted_here t passes none = counted_stop (stops_shared item kind l k passes.shares) (λ u some e. some (append_cancel_left l u t (e ∙ sym passes.splits) ∙ none))
 
-  pub counted_past : (m : ℕ) → IsBefore item l k → IsCounted item s k (n + 1) m → IsCounted item (node l v c s) k n m
+  pub counted_past : (m : ℕ) → IsBefore item l k → IsCounted item s k b m → IsCounted item (node l v c s) k n m
   counted_past m before later = record {
     visited = l ∷ later.visited;
     visits = visits_past item kind _ _ _ l (splits item kind l v c s ok) k later.visited filled before later.visits;
@@ -98,7 +98,7 @@ module _ (item : List ℕ → Type 0) (kind : IsKeyKind item) {V : Type 0} (l : 
       rises_next single end rises = byte_below item kind single l ok.valid ok.filled
       rises_next single (node m v' c' s') rises = bytes_rise item kind single l m rises
 
-  pub counted_through : (m : ℕ) (t : List ℕ) → Passes item k l t → t ≢ [] → IsCounted item c t (n + 1) m → IsCounted item (node l v c s) k n m
+  pub counted_through : (m : ℕ) (t : List ℕ) → Passes item k l t → t ≢ [] → IsCounted item c t b m → IsCounted item (node l v c s) k n m
   counted_through m t passes some deeper = record {
     visited = l ∷ map (λ p. l ++ p) deeper.visited;
     visits = visits_through item kind _ _ _ l (splits item kind l v c s ok) k t deeper.visited some passes.splits (stops_shared item kind l k passes.shares) (AreVisits-same item kind _ _ (own_within v (entries c)) (within_own v (entries c)) t deeper.visited deeper.visits);
@@ -109,24 +109,20 @@ module _ (item : List ℕ → Type 0) (kind : IsKeyKind item) {V : Type 0} (l : 
         omega (arith, deeper.bounded single, length-map deeper.visited (λ p. l ++ p), length-append l t, ap length passes.splits);
   }
 
-module _ (item : List ℕ → Type 0) (kind : IsKeyKind item) {V : Type 0} (v : Option V) (r : Row V) (ok : IsRow item r) (n : ℕ) where
+module _ (item : List ℕ → Type 0) (kind : IsKeyKind item) {V : Type 0} (v : Option V) (r : Row V) (ok : IsRow item r) where
   -- the keys of the map are those of the entries
   root_keys : keys (map_of v r) ≡ keys_of (own v ++ entries r)
   root_keys = ap keys_of (entries-from_sorted key_cmp (own v ++ entries r) (tree_sorted item kind v r ok))
 
   -- at the empty key the root is all
-  pub counted_root : (k : List ℕ) → k ≡ [] → (count : ℕ) × IsVisitCount item (keys (map_of v r)) k count × (n + 1 ≡ n + count)
+  pub counted_root : (k : List ℕ) → k ≡ [] → IsVisitCount item (keys (map_of v r)) k 1
   counted_root k none =
       let visits : AreVisits item (keys (map_of v r)) k [] = rw none (empty_visits item kind (keys (map_of v r))) in
-      (1, record { visited = []; once = visits.once; exactly = visits.exactly; is = refl }, refl)
+      record { visited = []; once = visits.once; exactly = visits.exactly; is = refl }
 
   -- and at others the row counts
-  pub counted_row : (m : ℕ) (k : List ℕ) → IsCounted item r k (n + 1) m → (count : ℕ) × IsVisitCount item (keys (map_of v r)) k count × (m ≡ n + count)
-  counted_row m k row =
+  pub counted_row : (k : List ℕ) (n m : ℕ) (row : IsCounted item r k n m) → IsVisitCount item (keys (map_of v r)) k (1 + length row.visited)
+  counted_row k n m row =
       let visits = AreVisits-same item kind (keys_of (entries r)) (keys_of (own v ++ entries r)) (own_within v (entries r)) (within_own v (entries r)) k row.visited row.visits in
       let whole = subst (λ S. AreVisits item S k row.visited) (sym root_keys) visits in
-      (1 + length row.visited, record { visited = row.visited; once = whole.once; exactly = whole.exactly; is = refl }, omega (arith, row.is))
-
--- where items are bytes, a row of a map counts at most 256 for each byte of the key
-pub bounded_row : (item : List ℕ → Type 0) {V : Type 0} (r : Row V) (k : List ℕ) (n m : ℕ) → IsCounted item r k (n + 1) m → AreSingle item → m ≤ n + 1 + 256 * length k
-bounded_row item r k n m row single = omega (arith, row.is, row.bounded single)
+      record { visited = row.visited; once = whole.once; exactly = whole.exactly; is = refl }
