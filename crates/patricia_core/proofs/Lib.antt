@@ -8,3 +8,4 @@ pub mod OrderLemmas
 pub mod RowLemmas
 pub mod TreeLemmas
 pub mod UniqueLemmas
+pub mod WalkLemmas

@@ -1,7 +1,10 @@
 pub mod ByteKind
 pub mod Keys
+pub mod Lent
 pub mod Meeting
 pub mod Nodes
+pub mod Owned
 pub mod Points
 pub mod Rows
 pub mod Trees
+pub mod Walks

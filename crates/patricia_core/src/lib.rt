@@ -3,8 +3,10 @@
 //! `patricia_tree` is the library to use. This crate is what it stands on.
 #![tactic(auto)]
 
+pub mod into_walk;
 pub mod keys;
 pub mod laws;
 mod meeting;
 mod node;
 pub mod tree;
+pub mod walk;

@@ -3,9 +3,11 @@ ghost use Rattle.std.specs.Prelude.{◌≡◌, ◌≢◌, ◌↔◌, [], None, I
 ghost use Rattle.std.specs.Option.{option_copied};
 ghost use Rattle.std.specs.FinMap as map;
 
+use crate::into_walk::IntoWalk;
 use crate::keys::{BorrowedBytes, Bytes};
 pub use crate::node::Refused;
 use crate::node::{self, Row};
+use crate::walk::Walk;
 use std::alloc::Global;
 use std::marker::{Model, PhantomData};
 
@@ -68,6 +70,14 @@ impl<K: Bytes, V: Drop> Tree<K, V> {
         self.len() == 0
     }
 
+    pub fn clear(&mut self)
+        ensures { self.new ≡ map.empty }
+    {
+        self.value = None;
+        self.first = Row::End;
+        self.count = 0;
+    }
+
     pub fn get<Q: BorrowedBytes<Owned = K>>(&self, key: Q) -> Option<&V>
         ensures { option_copied result ≡ map.get self.now (Q.key key) }
     {
@@ -104,5 +114,25 @@ impl<K: Bytes, V: Drop> Tree<K, V> {
             Ok(Some(old)) => Ok(Some(old)),
             Err(refused) => Err(refused),
         }
+    }
+
+    /// A walk over the entries in key order. Making it takes no memory.
+    pub fn walk(&self) -> Walk<'_, K, V>
+        ensures { result ≡ map.entries self.now }
+    {
+        Walk::new(self.alloc, self.value.as_ref(), &self.first)
+    }
+
+    /// A walk that takes the entries out, in key order. Making it takes no memory.
+    pub fn into_walk(self) -> IntoWalk<K, V>
+        ensures { result ≡ map.entries self }
+    {
+        let Tree {
+            alloc,
+            value,
+            first,
+            ..
+        } = self;
+        IntoWalk::new(alloc, value, first)
     }
 }
