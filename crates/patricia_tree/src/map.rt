@@ -2,12 +2,15 @@ ghost use Rattle.std.specs.Prelude.{◌≡◌, ◌≢◌, ◌↔◌, [], None, I
 ghost use Rattle.std.specs.Option.{option_copied};
 ghost use Rattle.std.specs.FinMap as map;
 
-use patricia_core::keys::{BorrowedBytes, Bytes};
-use patricia_core::tree::Tree;
-use std::alloc::Global;
-use std::marker::Model;
+mod iter;
 
+pub use iter::{IntoIter, Iter, Keys, Values};
+use patricia_core::keys::{BorrowedBytes, Bytes};
 pub use patricia_core::tree::Refused;
+use patricia_core::tree::Tree;
+use std::alloc::{AllocError, Global};
+use std::iter::IntoIterator;
+use std::marker::Model;
 
 /// A map whose keys are byte strings.
 pub type PatriciaMap<V> = GenericPatriciaMap<Vec<u8>, V>;
@@ -51,6 +54,12 @@ impl<K: Bytes, V: Drop> GenericPatriciaMap<K, V> {
         self.tree.is_empty()
     }
 
+    pub fn clear(&mut self)
+        ensures { self.new ≡ map.empty }
+    {
+        self.tree.clear();
+    }
+
     pub fn contains_key<Q: BorrowedBytes<Owned = K>>(&self, key: Q) -> bool
         ensures { result ≡ map.contains_key self.now (Q.key key) }
     {
@@ -77,12 +86,64 @@ impl<K: Bytes, V: Drop> GenericPatriciaMap<K, V> {
     {
         self.tree.insert(key, value)
     }
+
+    /// The entries in key order.
+    pub fn iter(&self) -> Iter<'_, K, V>
+        ensures { result ≡ map.entries self.now }
+    {
+        Iter {
+            walk: self.tree.walk(),
+        }
+    }
+
+    /// The keys in order.
+    pub fn keys(&self) -> Keys<'_, K, V>
+        ensures { result ≡ map.keys self.now }
+    {
+        Keys {
+            walk: self.tree.walk(),
+        }
+    }
+
+    /// The values in the order of their keys.
+    pub fn values(&self) -> Values<'_, K, V>
+        ensures { result ≡ map.values self.now }
+    {
+        Values {
+            walk: self.tree.walk(),
+        }
+    }
+}
+
+impl<K: Bytes, V: Drop> IntoIterator for GenericPatriciaMap<K, V> {
+    type Item = Result<(K, V), AllocError>;
+
+    type IntoIter = IntoIter<K, V>;
+
+    ghost into_iter_gives = { λ m rows. rows ≡ map.entries m };
+
+    fn into_iter(self) -> IntoIter<K, V> {
+        IntoIter {
+            walk: self.tree.into_walk(),
+        }
+    }
+}
+
+impl<'a, K: Bytes, V: Drop> IntoIterator for &'a GenericPatriciaMap<K, V> {
+    type Item = Result<(K, &'a V), AllocError>;
+
+    type IntoIter = Iter<'a, K, V>;
+
+    ghost into_iter_gives = { λ m rows. rows ≡ map.entries m.now };
+
+    fn into_iter(self) -> Iter<'a, K, V> {
+        self.iter()
+    }
 }
 
 #[cfg(test)]
 mod tests {
     use super::*;
-    use std::alloc::AllocError;
     use std::test::Fail;
 
     fn put(map: &mut PatriciaMap<u32>, key: &[u8], value: u32) -> Result<Option<u32>, AllocError> {
@@ -95,7 +156,13 @@ mod tests {
     #[test]
     fn keeps_three(rt: HostRuntime) -> Result<(), Fail> {
         let mut map: PatriciaMap<u32> = PatriciaMap::new(rt.alloc());
-        for (key, value) in [(b"foo".as_slice(), 1), (b"bar".as_slice(), 2), (b"baz".as_slice(), 3), (b"".as_slice(), 9), (b"fo".as_slice(), 4)] {
+        for (key, value) in [
+            (b"foo".as_slice(), 1),
+            (b"bar".as_slice(), 2),
+            (b"baz".as_slice(), 3),
+            (b"".as_slice(), 9),
+            (b"fo".as_slice(), 4),
+        ] {
             assert!(rt; put(&mut map, key, value)?.is_none());
         }
         assert_eq!(rt; map.len(), 5);
