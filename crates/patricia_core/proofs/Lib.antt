@@ -15,3 +15,4 @@ pub mod TextLemmas
 pub mod TreeLemmas
 pub mod UniqueLemmas
 pub mod VisitLemmas
+pub mod WalkLemmas

@@ -33,6 +33,10 @@ module _ (item : List ℕ → Type 0) (kind : IsKeyKind item) {V : Type 0} where
   pub tree_sorted : (v : Option V) (r : Row V) → IsRow item r → T (is_sorted key_cmp (own v ++ entries r))
   tree_sorted v r ok = sorted-append (own v) (entries r) (sorted_own item kind v) (entries_sorted item kind r ok) (below_own item kind v r ok)
 
+  -- the rows of the map are the entries of the tree
+  pub entries_map : (v : Option V) (r : Row V) → IsRow item r → map.entries (map_of v r) ≡ own v ++ entries r
+  entries_map v r ok = entries-from_sorted key_cmp (own v ++ entries r) (tree_sorted v r ok)
+
   pub get_empty : (v : Option V) (r : Row V) → IsRow item r → get (map_of v r) [] ≡ v
   get_empty v r ok = get-from_sorted key_cmp (own v ++ entries r) [] (tree_sorted v r ok) ∙ find_own item kind v r ok
 

@@ -1,10 +1,14 @@
 pub mod ByteKind
 pub mod Counts
 pub mod Keys
+pub mod Lent
 pub mod Meeting
 pub mod Nodes
+pub mod Owned
 pub mod Points
 pub mod Removals
 pub mod Rows
+pub mod Spots
 pub mod TextKind
 pub mod Trees
+pub mod Walks

@@ -3,6 +3,7 @@
 //! `patricia_tree` is the library to use. This crate is what it stands on.
 #![tactic(auto)]
 
+pub mod into_walk;
 pub mod keys;
 pub mod laws;
 mod meeting;
@@ -10,5 +11,6 @@ mod node;
 mod removal;
 pub mod steps;
 pub mod tree;
+pub mod walk;
 
 pub use steps::Steps;

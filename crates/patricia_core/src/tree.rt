@@ -4,11 +4,13 @@ ghost use Rattle.std.specs.Option.{option_copied};
 ghost use Rattle.std.specs.FinMap as map;
 ghost use Rattle.patricia_core.specs.Points.{IsVisitCount, Joins};
 
+use crate::into_walk::IntoWalk;
 use crate::keys::{BorrowedBytes, Bytes};
 pub use crate::node::Refused;
 use crate::node::{self, Row};
 use crate::removal;
 use crate::steps::Steps;
+use crate::walk::Walk;
 use std::alloc::{AllocError, Global};
 use std::marker::{Brand, Model, PhantomData};
 use std::sync::ledger::{Blank, Ledger};
@@ -70,6 +72,14 @@ impl<K: Bytes, V: Drop> Tree<K, V> {
         ensures { IsTrue result ↔ (map.len self.now ≡ 0) }
     {
         self.len() == 0
+    }
+
+    pub fn clear(&mut self)
+        ensures { self.new ≡ map.empty }
+    {
+        self.value = None;
+        self.first = Row::End;
+        self.count = 0;
     }
 
     /// It takes a step for the root, and one for each node whose label is compared with the key.
@@ -157,5 +167,25 @@ impl<K: Bytes, V: Drop> Tree<K, V> {
             Ok(None) => Ok(None),
             Err(error) => Err(error),
         }
+    }
+
+    /// A walk over the entries in key order. Making it takes no memory.
+    pub fn walk(&self) -> Walk<'_, K, V>
+        ensures { result ≡ map.entries self.now }
+    {
+        Walk::new(self.alloc, self.value.as_ref(), &self.first)
+    }
+
+    /// A walk that takes the entries out, in key order. Making it takes no memory.
+    pub fn into_walk(self) -> IntoWalk<K, V>
+        ensures { result ≡ map.entries self }
+    {
+        let Tree {
+            alloc,
+            value,
+            first,
+            ..
+        } = self;
+        IntoWalk::new(alloc, value, first)
     }
 }

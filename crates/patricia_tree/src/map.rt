@@ -4,16 +4,20 @@ ghost use Rattle.std.specs.Option.{option_copied};
 ghost use Rattle.std.specs.FinMap as map;
 ghost use Rattle.patricia_core.specs.Points.{IsVisitCount, Joins};
 
+mod iter;
+
+#[cfg(test)]
+mod tests;
+
+pub use iter::{IntoIter, Iter, Keys, Values};
 use patricia_core::Steps;
 use patricia_core::keys::{BorrowedBytes, Bytes};
 pub use patricia_core::tree::Refused;
 use patricia_core::tree::Tree;
 use std::alloc::{AllocError, Global};
+use std::iter::IntoIterator;
 use std::marker::Model;
 use std::sync::ledger::Ledger;
-
-#[cfg(test)]
-mod tests;
 
 /// A map whose keys are byte strings.
 pub type PatriciaMap<V> = GenericPatriciaMap<Vec<u8>, V>;
@@ -60,6 +64,12 @@ impl<K: Bytes, V: Drop> GenericPatriciaMap<K, V> {
         ensures { IsTrue result ↔ (map.len self.now ≡ 0) }
     {
         self.tree.is_empty()
+    }
+
+    pub fn clear(&mut self)
+        ensures { self.new ≡ map.empty }
+    {
+        self.tree.clear();
     }
 
     pub fn contains_key<Q: BorrowedBytes<Owned = K>>(&self, key: Q) -> bool
@@ -126,5 +136,58 @@ impl<K: Bytes, V: Drop> GenericPatriciaMap<K, V> {
         ensures joins { OnErr result (Joins K.item (map.keys self.old) (Q.key key)) }
     {
         self.tree.remove(key)
+    }
+
+    /// The entries in key order.
+    pub fn iter(&self) -> Iter<'_, K, V>
+        ensures { result ≡ map.entries self.now }
+    {
+        Iter {
+            walk: self.tree.walk(),
+        }
+    }
+
+    /// The keys in order.
+    pub fn keys(&self) -> Keys<'_, K, V>
+        ensures { result ≡ map.keys self.now }
+    {
+        Keys {
+            walk: self.tree.walk(),
+        }
+    }
+
+    /// The values in the order of their keys.
+    pub fn values(&self) -> Values<'_, K, V>
+        ensures { result ≡ map.values self.now }
+    {
+        Values {
+            walk: self.tree.walk(),
+        }
+    }
+}
+
+impl<K: Bytes, V: Drop> IntoIterator for GenericPatriciaMap<K, V> {
+    type Item = Result<(K, V), AllocError>;
+
+    type IntoIter = IntoIter<K, V>;
+
+    ghost into_iter_gives = { λ m rows. rows ≡ map.entries m };
+
+    fn into_iter(self) -> IntoIter<K, V> {
+        IntoIter {
+            walk: self.tree.into_walk(),
+        }
+    }
+}
+
+impl<'a, K: Bytes, V: Drop> IntoIterator for &'a GenericPatriciaMap<K, V> {
+    type Item = Result<(K, &'a V), AllocError>;
+
+    type IntoIter = Iter<'a, K, V>;
+
+    ghost into_iter_gives = { λ m rows. rows ≡ map.entries m.now };
+
+    fn into_iter(self) -> Iter<'a, K, V> {
+        self.iter()
     }
 }

@@ -1,0 +1,5 @@
+use Rattle.patricia_core.proofs.TreeLemmas.{map_of_none}
+use Rattle.patricia_core.proofs.tree.Tree.clear.Goals as goal
+
+pub returns : goal.returns
+returns g c = map_of_none
