@@ -1,0 +1,18 @@
+-- Which output answers an input.
+use Rattle.std.specs.Prelude.{◌≡◌, ℕ, List, [], ◌∷◌, Ok, Err}
+use Rattle.patricia_run.specs.declared.command.Command.{Command}
+use Rattle.patricia_run.specs.declared.command.Reply.{Reply}
+use Rattle.patricia_run.specs.Machine.{State, empty_state, Run}
+use Rattle.patricia_run.specs.Spellings.{Spelling}
+use Rattle.patricia_run.specs.Text.{Said, all_said}
+use Rattle.patricia_run.specs.Writing.{output_of}
+
+-- the commands of the lines that are not faulty
+abbrev pub commands_of : List Said → List (Command (List ℕ) ℕ)
+commands_of [] = []
+commands_of (Ok command ∷ said) = command ∷ commands_of said
+commands_of (Err fault ∷ said) = commands_of said
+
+-- some run from the empty state takes the commands of the lines that are not faulty, and the output has, line after line, the fault or the reply
+abbrev pub Answers : {K : Type 0} → Spelling → (K → List ℕ) → List ℕ → List ℕ → Type 0
+Answers {K} spelling key_of input output = (replies : List (Reply K ℕ)) × (new : State ℕ) × Run key_of empty_state (commands_of (all_said spelling input)) replies new × (output ≡ output_of spelling key_of (all_said spelling input) replies)

@@ -1,0 +1,11 @@
+-- How the key of a line is spelled.
+use Rattle.std.specs.Prelude.{ℕ, List, Option, Some}
+
+-- how a field is read to the bytes of a key, if it can be, and how the bytes of a key are printed
+pub record Spelling : Type 0 where
+  pub read : List ℕ → Option (List ℕ)
+  pub print : List ℕ → List ℕ
+
+-- every field is a key as it stands
+abbrev pub as_bytes : Spelling
+as_bytes = record { read = λ field. Some field; print = λ key. key }

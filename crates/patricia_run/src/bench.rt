@@ -1,0 +1,117 @@
+ghost use Rattle.std.specs.Prelude.{◌≡◌, length, IfOk, OnErr, map};
+ghost use Rattle.patricia_run.specs.Machine.{Step, Run, empty_state, with_key};
+
+use crate::command::{Command, Reply};
+use patricia_tree::{BorrowedBytes, Bytes, GenericPatriciaMap};
+use std::alloc::{AllocError, Global};
+use std::marker::Model;
+
+/// A map that commands work on.
+#[derive(Drop)]
+pub struct Bench<K: Bytes, V> {
+    alloc: Global,
+    main: GenericPatriciaMap<K, V>,
+}
+
+impl<K: Bytes, V> Model for Bench<K, V> {
+    ghost use Rattle.patricia_run.specs.Machine.{State, state_code};
+
+    ghost Value = { State V };
+
+    ghost coded = { state_code V.code };
+
+    ghost view = { λ b. record { main = b.main } };
+}
+
+impl<K: Bytes, V: Copy> Bench<K, V> {
+    /// A bench whose map is empty.
+    pub fn new(alloc: Global) -> Self
+        ensures { result ≡ empty_state }
+    {
+        Bench {
+            alloc,
+            main: GenericPatriciaMap::new(alloc),
+        }
+    }
+
+    /// Does one command.
+    pub fn step<Q: BorrowedBytes<Owned = K>>(&mut self, command: Command<Q, V>) -> Reply<K, V>
+        ensures { Step K.key self.old (with_key Q.key command) result self.new }
+    {
+        match command {
+            Command::Insert(key, value) => match self.main.insert(key, value) {
+                Ok(None) => Reply::None,
+                Ok(Some(before)) => Reply::Some(before),
+                Err(_) => Reply::NoMemory,
+            },
+            Command::Get(key) => match self.main.get(key) {
+                None => Reply::None,
+                Some(value) => Reply::Some(*value),
+            },
+            Command::Len => Reply::Count(self.main.len()),
+        }
+    }
+}
+
+/// Does the commands in order. The list of replies is reserved before the first of them, so its
+/// refusal is the only error.
+pub fn run<K: Bytes, V: Copy, Q: BorrowedBytes<Owned = K>>(
+    bench: &mut Bench<K, V>,
+    commands: &[Command<Q, V>],
+) -> Result<Vec<Reply<K, V>>, AllocError>
+    ensures ok { IfOk result (λ replies.
+        Run K.key bench.old (map (with_key Q.key) commands.now) replies.items bench.new) }
+    ensures unchanged { OnErr result (bench.new ≡ bench.old) }
+{
+    let mut replies = Vec::with_capacity(bench.alloc, commands.len())?;
+    for command in commands {
+        replies.push(bench.step(*command)).unwrap();
+    }
+    Ok(replies)
+}
+
+#[cfg(test)]
+mod tests {
+    use super::*;
+    use std::test::Fail;
+
+    // The numbers that a run replies with, over keys of any kind.
+    fn numbers<K: Bytes, Q: BorrowedBytes<Owned = K>>(
+        alloc: Global,
+        commands: &[Command<Q, u32>],
+    ) -> Result<Vec<Option<u32>>, AllocError> {
+        let mut bench: Bench<K, u32> = Bench::new(alloc);
+        let mut numbers = Vec::new(alloc);
+        for reply in run(&mut bench, commands)? {
+            numbers.push(match reply {
+                Reply::Some(value) => Some(value),
+                Reply::Count(count) => u32::try_from(count).ok(),
+                _ => None,
+            })?;
+        }
+        Ok(numbers)
+    }
+
+    #[test]
+    fn runs_over_each_kind(rt: HostRuntime) -> Result<(), Fail> {
+        let alloc = rt.alloc();
+        let wanted = [None, Some(1), Some(2), None, Some(1)];
+        let commands = [
+            Command::Insert("foo", 1),
+            Command::Insert("foo", 2),
+            Command::Get("foo"),
+            Command::Get("fo"),
+            Command::Len,
+        ];
+        assert_eq!(rt; numbers(alloc, &commands)?.as_slice(), wanted.as_slice());
+        let commands = [
+            Command::Insert(b"foo".as_slice(), 1),
+            Command::Insert(b"foo".as_slice(), 2),
+            Command::Get(b"foo".as_slice()),
+            Command::Get(b"fo".as_slice()),
+            Command::Len,
+        ];
+        assert_eq!(rt; numbers(alloc, &commands)?.as_slice(), wanted.as_slice());
+        Ok(())
+    }
+}

@@ -1,0 +1,17 @@
+/// What a bench is told to do.
+#[derive(Clone, Copy, Debug)]
+pub enum Command<Q, V> {
+    Insert(Q, V),
+    Get(Q),
+    Len,
+}
+
+/// What a bench replies.
+#[derive(Drop)]
+pub enum Reply<K, V> {
+    None,
+    Some(V),
+    Count(usize),
+    Rows(Vec<(K, V)>),
+    NoMemory,
+}

@@ -1,0 +1,34 @@
+ghost use Rattle.std.specs.Prelude.{◌≡◌, ◌++◌, OnOk};
+ghost use Rattle.std.specs.Option.{option_map};
+ghost use Rattle.patricia_run.specs.Spellings.{Spelling, as_bytes};
+
+use patricia_tree::BorrowedBytes;
+use std::alloc::AllocError;
+
+/// A key that a field of a line spells.
+pub trait Spelled<'a>: BorrowedBytes {
+    // how such keys are read and printed
+    ghost spelling: { Spelling };
+
+    /// The key that a field spells, or `None` where it spells none.
+    fn read(field: &'a [u8]) -> Option<Self>
+        ensures { option_map Self.key result ≡ spelling.read field.now };
+
+    /// Writes a key, given by its bytes, at the end of a text.
+    fn print(key: &[u8], out: &mut Vec<u8>) -> Result<(), AllocError>
+        ensures { OnOk result (out.new.items ≡ out.old.items ++ spelling.print key.now) };
+}
+
+impl<'a> Spelled<'a> for &'a [u8] {
+    ghost spelling = { as_bytes };
+
+    fn read(field: &'a [u8]) -> Option<&'a [u8]> {
+        Some(field)
+    }
+
+    fn print(key: &[u8], out: &mut Vec<u8>) -> Result<(), AllocError>
+        ensures { OnOk result (out.new.items ≡ out.old.items ++ key.now) }
+    {
+        out.extend_from_slice(key)
+    }
+}
