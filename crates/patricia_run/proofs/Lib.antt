@@ -1,3 +1,5 @@
 pub mod Lines
 pub mod MachineLemmas
 pub mod Numbers
+pub mod RowLemmas
+pub mod TextLemmas

@@ -5,7 +5,7 @@ use Rattle.std.specs.Char.{is_ascii_digit}
 use Rattle.std.specs.Str.{bytes_eq}
 use Rattle.std.specs.Str.Parse.{digits_value}
 use Rattle.patricia_run.specs.declared.command.Command.{Command}
-use Rattle.patricia_run.specs.declared.command.Command.TheVariants.{Insert, Get, Len}
+use Rattle.patricia_run.specs.declared.command.Command.TheVariants.{Insert, Get, Remove, Len, List as ListAll, Clear}
 use Rattle.patricia_run.specs.declared.reading.Fault.{Fault}
 use Rattle.patricia_run.specs.declared.reading.Fault.TheVariants.{UnknownWord, FieldCount, BadNumber, BadKey}
 use Rattle.patricia_run.specs.declared.reading.Word as word
@@ -24,7 +24,14 @@ number_of (b ∷ bs) = if list_all is_ascii_digit (b ∷ bs) && nat_lt (digits_v
 
 -- the word that a field is
 abbrev pub word_of : List ℕ → Option word.Word
-word_of field = if bytes_eq field (codes "insert") then Some words.Insert else (if bytes_eq field (codes "get") then Some words.Get else (if bytes_eq field (codes "len") then Some words.Len else None))
+word_of field =
+    if bytes_eq field (codes "insert") then Some words.Insert
+    else (if bytes_eq field (codes "get") then Some words.Get
+    else (if bytes_eq field (codes "remove") then Some words.Remove
+    else (if bytes_eq field (codes "len") then Some words.Len
+    else (if bytes_eq field (codes "list") then Some words.List
+    else (if bytes_eq field (codes "clear") then Some words.Clear
+    else None)))))
 
 -- a key, or the fault of a field that spells none
 abbrev pub readable : Option (List ℕ) → Result (List ℕ) Fault
@@ -57,7 +64,10 @@ abbrev pub said_after : Spelling → word.Word → List (List ℕ) → Said
 said_after spelling words.Insert (key ∷ value ∷ []) = insert_of (readable (spelling.read key)) (number_of value)
 said_after spelling words.Insert _ = Err FieldCount
 said_after spelling words.Get fields = keyed (λ key. Get key) (key_alone spelling fields)
+said_after spelling words.Remove fields = keyed (λ key. Remove key) (key_alone spelling fields)
 said_after spelling words.Len fields = alone Len fields
+said_after spelling words.List fields = alone ListAll fields
+said_after spelling words.Clear fields = alone Clear fields
 
 -- what the fields of a line say, the first of which is its word
 abbrev pub said_by : Spelling → List (List ℕ) → Said

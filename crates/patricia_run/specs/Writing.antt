@@ -3,7 +3,7 @@ use Rattle.std.specs.Prelude.{ℕ, List, [], ◌∷◌, ◌++◌, length, map, c
 use Rattle.std.specs.Fmt.{decimal}
 use Rattle.std.specs.List.{concat}
 use Rattle.patricia_run.specs.declared.command.Reply.{Reply}
-use Rattle.patricia_run.specs.declared.command.Reply.TheVariants.{None as NoValue, Some as Value, Count, Rows, NoMemory}
+use Rattle.patricia_run.specs.declared.command.Reply.TheVariants.{None as NoValue, Some as Value, Count, Rows, Done, NoMemory}
 use Rattle.patricia_run.specs.declared.reading.Fault.{Fault}
 use Rattle.patricia_run.specs.declared.reading.Fault.TheVariants.{UnknownWord, FieldCount, BadNumber, BadKey}
 use Rattle.patricia_run.specs.Spellings.{Spelling}
@@ -38,6 +38,7 @@ reply_lines spelling key_of NoValue = codes "none\n"
 reply_lines spelling key_of (Value n) = number_line (codes "some") n
 reply_lines spelling key_of (Count n) = number_line (codes "count") n
 reply_lines spelling key_of (Rows rows) = number_line (codes "rows") (length rows.items) ++ row_lines spelling key_of rows.items
+reply_lines spelling key_of Done = codes "ok\n"
 reply_lines spelling key_of NoMemory = codes "no memory\n"
 
 -- for each line that was read, in turn, the line of its fault, or the lines of the next reply

@@ -1,7 +1,9 @@
-ghost use Rattle.std.specs.Prelude.{◌≡◌, ℕ, List, ◌∷◌, ◌++◌, IfOk, OnOk, map, Vec};
+ghost use Rattle.std.specs.Prelude.{◌≡◌, ℕ, List, ◌∷◌, ◌++◌, IfOk, OnOk, map, Vec, string_bytes};
 ghost use Rattle.std.specs.Global.{Global};
+ghost use Rattle.patricia_tree.specs.ByteKind.{IsByteItem};
+ghost use Rattle.patricia_tree.specs.TextKind.{IsTextItem};
 ghost use Rattle.patricia_run.specs.Machine.{State, Run, empty_state, with_key};
-ghost use Rattle.patricia_run.specs.Spellings.{as_bytes};
+ghost use Rattle.patricia_run.specs.Spellings.{as_bytes, as_text};
 ghost use Rattle.patricia_run.specs.Text.{Said, said_with};
 ghost use Rattle.patricia_run.specs.Answers.{Answers, commands_of};
 
@@ -35,7 +37,7 @@ fn replies<'a, Q: Spelled<'a>>(
     readings: &[Reading<Q>],
 ) -> Result<Vec<Reply<Q::Owned, u64>>, AllocError>
     ensures { IfOk result (λ v. (new : State ℕ) ×
-        Run Q.Owned.key empty_state (commands_of (map (said_with Q.key) readings.now)) v.items new) }
+        Run Q.Owned.item Q.Owned.key empty_state (commands_of (map (said_with Q.key) readings.now)) v.items new) }
 {
     let commands = commands(alloc, readings)?;
     let mut bench: Bench<Q::Owned, u64> = Bench::new(alloc);
@@ -44,7 +46,7 @@ fn replies<'a, Q: Spelled<'a>>(
 
 // The answer to an input, over keys of one kind.
 fn answer<'a, Q: Spelled<'a>>(alloc: Global, input: &'a [u8]) -> Result<Vec<u8>, AllocError>
-    ensures { IfOk result (λ output. Answers Q.spelling Q.Owned.key input.now output.items) }
+    ensures { IfOk result (λ output. Answers Q.Owned.item Q.spelling Q.Owned.key input.now output.items) }
 {
     let readings: Vec<Reading<Q>> = read_lines(alloc, input)?;
     let replies = replies(alloc, &readings)?;
@@ -54,9 +56,17 @@ fn answer<'a, Q: Spelled<'a>>(alloc: Global, input: &'a [u8]) -> Result<Vec<u8>,
 /// The answer to an input, over byte keys.
 pub fn answer_bytes(alloc: Global, input: &[u8]) -> Result<Vec<u8>, AllocError>
     ensures { IfOk result (λ output.
-        Answers as_bytes (λ (k : Vec ℕ Global). k.items) input.now output.items) }
+        Answers IsByteItem as_bytes (λ (k : Vec ℕ Global). k.items) input.now output.items) }
 {
     answer::<&[u8]>(alloc, input)
+}
+
+/// The answer to an input, over text keys.
+pub fn answer_text(alloc: Global, input: &[u8]) -> Result<Vec<u8>, AllocError>
+    ensures { IfOk result (λ output.
+        Answers IsTextItem as_text (string_bytes {Z = Global}) input.now output.items) }
+{
+    answer::<&str>(alloc, input)
 }
 
 #[cfg(test)]

@@ -1,5 +1,6 @@
-ghost use Rattle.std.specs.Prelude.{◌≡◌, length, IfOk, OnErr, map};
-ghost use Rattle.patricia_run.specs.Machine.{Step, Run, empty_state, with_key};
+ghost use Rattle.std.specs.Prelude.{◌≡◌, ◌≢◌, [], length, IfOk, OnErr, map as list_map};
+ghost use Rattle.std.specs.FinMap as map;
+ghost use Rattle.patricia_run.specs.Machine.{Step, Run, empty_state, rows_of, with_key};
 
 use crate::command::{Command, Reply};
 use patricia_tree::{BorrowedBytes, Bytes, GenericPatriciaMap};
@@ -23,6 +24,22 @@ impl<K: Bytes, V> Model for Bench<K, V> {
     ghost view = { λ b. record { main = b.main } };
 }
 
+// The rows of a map, in key order.
+fn rows<K: Bytes, V: Copy>(
+    alloc: Global,
+    entries: &GenericPatriciaMap<K, V>,
+) -> Result<Vec<(K, V)>, AllocError>
+    ensures ok { IfOk result (λ rows. rows_of K.key rows.items ≡ map.entries entries.now) }
+    ensures err { OnErr result (map.entries entries.now ≢ []) }
+{
+    let mut rows = Vec::new(alloc);
+    for entry in entries.iter() {
+        let (key, value) = entry?;
+        rows.push((key, *value))?;
+    }
+    Ok(rows)
+}
+
 impl<K: Bytes, V: Copy> Bench<K, V> {
     /// A bench whose map is empty.
     pub fn new(alloc: Global) -> Self
@@ -36,7 +53,7 @@ impl<K: Bytes, V: Copy> Bench<K, V> {
 
     /// Does one command.
     pub fn step<Q: BorrowedBytes<Owned = K>>(&mut self, command: Command<Q, V>) -> Reply<K, V>
-        ensures { Step K.key self.old (with_key Q.key command) result self.new }
+        ensures { Step K.item K.key self.old (with_key Q.key command) result self.new }
     {
         match command {
             Command::Insert(key, value) => match self.main.insert(key, value) {
@@ -48,7 +65,20 @@ impl<K: Bytes, V: Copy> Bench<K, V> {
                 None => Reply::None,
                 Some(value) => Reply::Some(*value),
             },
+            Command::Remove(key) => match self.main.remove(key) {
+                Ok(None) => Reply::None,
+                Ok(Some(before)) => Reply::Some(before),
+                Err(_) => Reply::NoMemory,
+            },
             Command::Len => Reply::Count(self.main.len()),
+            Command::List => match rows(self.alloc, &self.main) {
+                Ok(rows) => Reply::Rows(rows),
+                Err(_) => Reply::NoMemory,
+            },
+            Command::Clear => {
+                self.main.clear();
+                Reply::Done
+            }
         }
     }
 }
@@ -60,7 +90,7 @@ pub fn run<K: Bytes, V: Copy, Q: BorrowedBytes<Owned = K>>(
     commands: &[Command<Q, V>],
 ) -> Result<Vec<Reply<K, V>>, AllocError>
     ensures ok { IfOk result (λ replies.
-        Run K.key bench.old (map (with_key Q.key) commands.now) replies.items bench.new) }
+        Run K.item K.key bench.old (list_map (with_key Q.key) commands.now) replies.items bench.new) }
     ensures unchanged { OnErr result (bench.new ≡ bench.old) }
 {
     let mut replies = Vec::with_capacity(bench.alloc, commands.len())?;

@@ -3,7 +3,10 @@
 pub enum Command<Q, V> {
     Insert(Q, V),
     Get(Q),
+    Remove(Q),
     Len,
+    List,
+    Clear,
 }
 
 /// What a bench replies.
@@ -13,5 +16,6 @@ pub enum Reply<K, V> {
     Some(V),
     Count(usize),
     Rows(Vec<(K, V)>),
+    Done,
     NoMemory,
 }

@@ -25,7 +25,10 @@ pub type Reading<Q> = Result<Command<Q, u64>, Fault>;
 enum Word {
     Insert,
     Get,
+    Remove,
     Len,
+    List,
+    Clear,
 }
 
 // The number that a field writes.
@@ -53,8 +56,14 @@ fn first_word(field: &[u8]) -> Option<Word>
         Some(Word::Insert)
     } else if field == b"get".as_slice() {
         Some(Word::Get)
+    } else if field == b"remove".as_slice() {
+        Some(Word::Remove)
     } else if field == b"len".as_slice() {
         Some(Word::Len)
+    } else if field == b"list".as_slice() {
+        Some(Word::List)
+    } else if field == b"clear".as_slice() {
+        Some(Word::Clear)
     } else {
         None
     }
@@ -98,7 +107,10 @@ fn command<'a, Q: Spelled<'a>>(word: Word, fields: &[&'a [u8]]) -> Reading<Q>
             _ => Err(Fault::FieldCount),
         },
         Word::Get => Ok(Command::Get(only_key(fields)?)),
+        Word::Remove => Ok(Command::Remove(only_key(fields)?)),
         Word::Len => alone(Command::Len, fields),
+        Word::List => alone(Command::List, fields),
+        Word::Clear => alone(Command::Clear, fields),
     }
 }
 

@@ -1,9 +1,10 @@
 ghost use Rattle.std.specs.Prelude.{◌≡◌, ◌++◌, OnOk};
 ghost use Rattle.std.specs.Option.{option_map};
-ghost use Rattle.patricia_run.specs.Spellings.{Spelling, as_bytes};
+ghost use Rattle.patricia_run.specs.Spellings.{Spelling, as_bytes, as_text};
 
 use patricia_tree::BorrowedBytes;
 use std::alloc::AllocError;
+use std::str;
 
 /// A key that a field of a line spells.
 pub trait Spelled<'a>: BorrowedBytes {
@@ -24,6 +25,20 @@ impl<'a> Spelled<'a> for &'a [u8] {
 
     fn read(field: &'a [u8]) -> Option<&'a [u8]> {
         Some(field)
+    }
+
+    fn print(key: &[u8], out: &mut Vec<u8>) -> Result<(), AllocError>
+        ensures { OnOk result (out.new.items ≡ out.old.items ++ key.now) }
+    {
+        out.extend_from_slice(key)
+    }
+}
+
+impl<'a> Spelled<'a> for &'a str {
+    ghost spelling = { as_text };
+
+    fn read(field: &'a [u8]) -> Option<&'a str> {
+        str::from_utf8(field).ok()
     }
 
     fn print(key: &[u8], out: &mut Vec<u8>) -> Result<(), AllocError>

@@ -81,6 +81,7 @@ fn write_reply<'a, Q: Spelled<'a>>(
             write_line(alloc, out, b"rows", rows.len() as u64)?;
             write_rows::<Q>(alloc, out, rows)
         }
+        Reply::Done => out.extend_from_slice(b"ok\n"),
         Reply::NoMemory => out.extend_from_slice(b"no memory\n"),
     }
 }
