@@ -4,5 +4,6 @@ pub mod Meeting
 pub mod Nodes
 pub mod Points
 pub mod Rows
+pub mod ThreeKeys
 pub mod Trees
 pub mod Walks
