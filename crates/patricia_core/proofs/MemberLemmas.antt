@@ -5,6 +5,7 @@ use Rattle.std.proofs.lemmas.List.{append_cancel_left}
 use Rattle.patricia_core.specs.Points.{Has, AreApart}
 
 module _ {A : Type 0} where
+  -- a member of a part is a member of the whole
   pub Has-left : (xs ys : List A) (x : A) → Has xs x → Has (xs ++ ys) x
   Has-left [] ys x h = absurd h
   Has-left (y ∷ xs) ys x (inl e) = inl e
@@ -14,6 +15,7 @@ module _ {A : Type 0} where
   Has-right [] ys x h = h
   Has-right (y ∷ xs) ys x h = inr (Has-right xs ys x h)
 
+  -- and a member of the whole is one of a part
   pub Has-either : (xs ys : List A) (x : A) → Has (xs ++ ys) x → Has xs x ⊎ Has ys x
   Has-either [] ys x h = inr h
   Has-either (y ∷ xs) ys x (inl e) = inl (inl e)
@@ -22,6 +24,7 @@ module _ {A : Type 0} where
     | inr r ↦ inr r
   ]
 
+  -- parts without a common member stay apart when joined
   pub AreApart-append : (xs ys : List A) → AreApart xs → AreApart ys → ((x : A) → Has xs x → Has ys x → ⊥) → AreApart (xs ++ ys)
   AreApart-append [] ys a b c = b
   AreApart-append (x ∷ xs) ys a b c = (
@@ -56,6 +59,7 @@ module _ {A : Type 0} where
         ],
       )
 
+  -- with fewer members, each once, a list is no longer
   no_longer : (xs ys : List A) → AreApart xs → ((x : A) → Has xs x → Has ys x) → length xs ≤ length ys
   no_longer [] ys a f = omega arith
   no_longer (x ∷ xs) ys a f =
@@ -76,11 +80,13 @@ Has-behind p [] q h = absurd h
 Has-behind p (x ∷ qs) q (inl e) = inl (ap (λ t. p ++ t) e)
 Has-behind p (x ∷ qs) q (inr h) = inr (Has-behind p qs q h)
 
+-- each of them has the front
 pub Has-behind_of : (p : List ℕ) (qs : List (List ℕ)) (x : List ℕ) → Has (map (λ t. p ++ t) qs) x → (q : List ℕ) × (p ++ q ≡ x) × Has qs q
 Has-behind_of p [] x h = absurd h
 Has-behind_of p (y ∷ qs) x (inl e) = (y, e, inl refl)
 Has-behind_of p (y ∷ qs) x (inr h) = let r = Has-behind_of p qs x h in (r.0, r.1, inr r.2)
 
+-- a common front leaves them apart
 pub AreApart-behind : (p : List ℕ) (qs : List (List ℕ)) → AreApart qs → AreApart (map (λ t. p ++ t) qs)
 AreApart-behind p [] a = tt
 AreApart-behind p (q ∷ qs) a =

@@ -11,6 +11,7 @@ use Rattle.patricia_core.proofs.RowLemmas.{rises_on}
 use Rattle.patricia_core.proofs.UniqueLemmas.{has_entry}
 use Rattle.patricia_core.proofs.MemberLemmas.{Has-left, Has-right, Has-either, AreApart-append, Has-behind, Has-behind_of, AreApart-behind}
 
+-- parts of an empty list are empty
 pub nil_first : (a b : List ℕ) → a ++ b ≡ [] → a ≡ []
 nil_first [] b e = refl
 nil_first (x ∷ a) b e = absurd (cc)
@@ -23,13 +24,15 @@ nil_second (x ∷ a) b e = absurd (cc)
 abbrev pub Within : List (List ℕ) → List (List ℕ) → Type 0
 Within S T = (q : List ℕ) → q ≢ [] → Has S q → Has T q
 
--- what two lists have before one another, behind a common front
+-- where a list begins another, it does so behind a common front
 pub Begins-behind : (l a b : List ℕ) → Begins a b → Begins (l ++ a) (l ++ b)
 Begins-behind l a b (x, e) = (x, append_assoc l a x ∙ ap (λ k. l ++ k) e)
 
+-- and without it again
 pub Begins-behind_of : (l a b : List ℕ) → Begins (l ++ a) (l ++ b) → Begins a b
 Begins-behind_of l a b (x, e) = (x, append_cancel_left l (a ++ x) b (sym (append_assoc l a x) ∙ e))
 
+-- the same, properly
 pub BeginsProperly-behind : (l a b : List ℕ) → BeginsProperly a b → BeginsProperly (l ++ a) (l ++ b)
 BeginsProperly-behind l a b (x, filled, e) = (x, filled, append_assoc l a x ∙ ap (λ k. l ++ k) e)
 
@@ -63,6 +66,7 @@ module _ (item : List ℕ → Type 0) where
       none a b (y ∷ x, e) le = absurd (omega (arith, length-append a (y ∷ x), ap length e))
 
   module _ (kind : IsKeyKind item) where
+    -- what follows in S follows in T
     Follows-within : (S T : List (List ℕ)) → Within S T → (p i : List ℕ) → Follows item S p i → Follows item T p i
     Follows-within S T w p i f = record {
       is_item = f.is_item;
@@ -82,6 +86,7 @@ module _ (item : List ℕ → Type 0) where
       ];
     }
 
+    -- with the same filled keys a point has the same parent
     pub IsParent-same : (S T : List (List ℕ)) → Within S T → Within T S → (p q : List ℕ) → IsParent item S p q → IsParent item T p q
     IsParent-same S T w w' p q a = record {
       begins = a.begins;
@@ -124,6 +129,7 @@ module _ (item : List ℕ → Type 0) (kind : IsKeyKind item) (S G T : List (Lis
       let same = begins_same item kind front.0 first.0 (l ++ y) front.1 first.1 (Begins-trans front.0 l (l ++ y) front.2 (y, refl)) (Begins-trans first.0 p (l ++ y) first.2 (x, e)) in
       lacks first.0 key.0 first.1 (subst (λ i. Begins i l) same front.2) (Begins-trans first.0 p key.0 first.2 key.2) key.1
 
+  -- a point of T comes after the label
   pub point_rises : (p : List ℕ) → IsPoint item T p → IsBefore item l p
   point_rises p pt =
       let first = first_of item p pt.valid pt.filled in
@@ -132,10 +138,11 @@ module _ (item : List ℕ → Type 0) (kind : IsKeyKind item) (S G T : List (Lis
       let same = begins_same item kind before.second first.0 key.0 before.second_item first.1 before.second_begins (Begins-trans first.0 p key.0 first.2 key.2) in
       record { first = before.first; second = first.0; first_item = before.first_item; second_item = first.1; first_begins = before.first_begins; second_begins = first.2; less = subst (λ i. key_cmp before.first i ≡ Less) same before.less }
 
-  -- behind the label
+  -- what follows in G follows behind the label in S
   follows_below : (r i : List ℕ) → Follows item G r i → Follows item S (l ++ r) i
   follows_below r i f = record { is_item = f.is_item; key = l ++ f.key; has = split.below f.key f.has; begins = rw append_assoc (Begins-behind l (r ++ i) f.key f.begins) }
 
+  -- and only there does anything follow
   follows_below_of : (r i : List ℕ) → Follows item S (l ++ r) i → Follows item G r i
   follows_below_of r i f =
       let begun : Begins (l ++ (r ++ i)) f.key = rw append_assoc at f.begins in
@@ -144,10 +151,12 @@ module _ (item : List ℕ → Type 0) (kind : IsKeyKind item) (S G T : List (Lis
         | inr h ↦ absurd (lacks_behind f.key (Begins-trans l (l ++ (r ++ i)) f.key (r ++ i, refl) begun) h)
       ]
 
+  -- what stands in G stands behind the label in S
   stands_below : (r : List ℕ) → Has G r ⊎ Branches item G r → Has S (l ++ r) ⊎ Branches item S (l ++ r)
   stands_below r (inl h) = inl (split.below r h)
   stands_below r (inr b) = inr (record { first = b.first; second = b.second; first_follows = follows_below r b.first b.first_follows; second_follows = follows_below r b.second b.second_follows; apart = b.apart })
 
+  -- and back
   stands_below_of : (r : List ℕ) → Has S (l ++ r) ⊎ Branches item S (l ++ r) → Has G r ⊎ Branches item G r
   stands_below_of r (inl h) = elim (split.either (l ++ r) h) [
     | inl t ↦ inl (subst (Has G) (append_cancel_left l t.0 r t.1) t.2)
@@ -155,12 +164,15 @@ module _ (item : List ℕ → Type 0) (kind : IsKeyKind item) (S G T : List (Lis
   ]
   stands_below_of r (inr b) = inr (record { first = b.first; second = b.second; first_follows = follows_below_of r b.first b.first_follows; second_follows = follows_below_of r b.second b.second_follows; apart = b.apart })
 
+  -- the label is a point
   pub point_label : IsPoint item S l
   point_label = record { filled = split.filled; valid = split.valid; stands = subst (λ k. Has S k ⊎ Branches item S k) (append-nil l) (stands_below [] split.stands) }
 
+  -- a point of G is one behind the label
   pub point_below : (r : List ℕ) → IsPoint item G r → IsPoint item S (l ++ r)
   point_below r pt = record { filled = λ none. pt.filled (nil_second l r none); valid = IsValid-append item l r split.valid pt.valid; stands = stands_below r pt.stands }
 
+  -- and back, for what is filled
   point_below_of : (r : List ℕ) → r ≢ [] → IsPoint item S (l ++ r) → IsPoint item G r
   point_below_of r filled pt = record { filled = filled; valid = valid_rest item kind l r split.valid pt.valid; stands = stands_below_of r pt.stands }
 
@@ -184,10 +196,11 @@ module _ (item : List ℕ → Type 0) (kind : IsKeyKind item) (S G T : List (Lis
         | inr b ↦ b.apart (only b.first b.first_follows ∙ sym (only b.second b.second_follows))
       ]
 
-  -- beside it
+  -- the keys of T are in S
   within_beside : Within T S
   within_beside q filled h = split.beside q h
 
+  -- a point of T is one of S
   pub point_beside : (p : List ℕ) → IsPoint item T p → IsPoint item S p
   point_beside p pt = IsPoint-within item kind T S within_beside p pt
 
@@ -235,17 +248,19 @@ module _ (item : List ℕ → Type 0) (kind : IsKeyKind item) (S G T : List (Lis
       around [] e = inl (sym e ∙ append-nil p)
       around (x ∷ d) e = absurd (none_within p (x ∷ d, (λ none. cc), e) pt)
 
--- the keys of a row
 module _ {V : Type 0} where
+  -- keys behind a label are there
   has_prefixed : (l : List ℕ) (es rs : List (List ℕ × V)) (t : List ℕ) → Has (keys_of es) t → Has (keys_of (prefixed l es ++ rs)) (l ++ t)
   has_prefixed l [] rs t h = absurd h
   has_prefixed l (e ∷ es) rs t (inl same) = inl (ap (λ k. l ++ k) same)
   has_prefixed l (e ∷ es) rs t (inr h) = inr (has_prefixed l es rs t h)
 
+  -- and so are those of later entries
   has_after : (xs ys : List (List ℕ × V)) (q : List ℕ) → Has (keys_of ys) q → Has (keys_of (xs ++ ys)) q
   has_after [] ys q h = h
   has_after (x ∷ xs) ys q h = inr (has_after xs ys q h)
 
+  -- a key is behind the label, or one of the later entries
   has_one : (l : List ℕ) (es rs : List (List ℕ × V)) (q : List ℕ) → Has (keys_of (prefixed l es ++ rs)) q → ((t : List ℕ) × (l ++ t ≡ q) × Has (keys_of es) t) ⊎ Has (keys_of rs) q
   has_one l [] rs q h = inr h
   has_one l (e ∷ es) rs q (inl same) = inl (e.0, same, inl refl)
@@ -259,12 +274,14 @@ module _ {V : Type 0} where
   own_within None es q filled h = h
   own_within (Some x) es q filled h = inr h
 
+  -- and back
   pub within_own : (v : Option V) (es : List (List ℕ × V)) → Within (keys_of (own v ++ es)) (keys_of es)
   within_own None es q filled h = h
   within_own (Some x) es q filled (inl e) = absurd (filled (sym e))
   within_own (Some x) es q filled (inr h) = h
 
 module _ (item : List ℕ → Type 0) (kind : IsKeyKind item) {V : Type 0} where
+  -- the keys of a row come after a label before it
   rises_keys : (l : List ℕ) (s : Row V) → IsRow item s → IsBeforeRow item l s → (q : List ℕ) → Has (keys_of (entries s)) q → IsBefore item l q
   rises_keys l end ok before q h = absurd h
   rises_keys l (node m v c s) ok before q h = elim (has_one m (own v ++ entries c) (entries s) q h) [
@@ -279,6 +296,7 @@ module _ (item : List ℕ → Type 0) (kind : IsKeyKind item) {V : Type 0} where
       let has : Has (keys_of (own v ++ entries c)) some.0.0 = rw some.2 (inl refl) in
       record { is_item = p; key = l ++ some.0.0; has = has_after rs (entries (node l v c s)) _ (has_prefixed l (own v ++ entries c) (entries s) some.0.0 has); begins = Begins-trans i l (l ++ some.0.0) b (some.0.0, refl) }
 
+  -- a node has a value, or two items follow its label
   stands_here : (l : List ℕ) (v : Option V) (c s : Row V) → IsRow item (node l v c s) → Has (keys_of (own v ++ entries c)) [] ⊎ Branches item (keys_of (own v ++ entries c)) []
   stands_here l (Some x) c s ok = inl (inl refl)
   stands_here l None end s ok = absurd ok.earns
@@ -308,6 +326,7 @@ module _ (item : List ℕ → Type 0) (kind : IsKeyKind item) {V : Type 0} where
   }
 
   module _ (l : List ℕ) (v : Option V) (c s : Row V) (ok : IsRow item (node l v c s)) (below : (p : List ℕ) → Has (paths c) p ↔ IsPoint item (keys_of (entries c)) p) (beside : (p : List ℕ) → Has (paths s) p ↔ IsPoint item (keys_of (entries s)) p) (p : List ℕ) where
+    -- a path is a point, where those below and beside are
     path_point : Has (paths (node l v c s)) p → IsPoint item (keys_of (entries (node l v c s))) p
     path_point (inl e) = subst (IsPoint item _) e (point_label item kind _ _ _ l (splits l v c s ok))
     path_point (inr h) = elim (Has-either (map (λ t. l ++ t) (paths c)) (paths s) p h) [
@@ -317,6 +336,7 @@ module _ (item : List ℕ → Type 0) (kind : IsKeyKind item) {V : Type 0} where
       | inr b ↦ point_beside item kind _ _ _ l (splits l v c s ok) p ((beside p).0 b)
     ]
 
+    -- and a point is a path
     point_path : IsPoint item (keys_of (entries (node l v c s))) p → Has (paths (node l v c s)) p
     point_path pt = elim (point_cases item kind _ _ _ l (splits l v c s ok) p pt) [
       | inl e ↦ inl e

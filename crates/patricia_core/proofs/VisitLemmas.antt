@@ -30,6 +30,7 @@ module _ (item : List ℕ → Type 0) (kind : IsKeyKind item) where
   moved : (S T : List (List ℕ)) (k q p : List ℕ) (cut : IsCutOff item S k q p) → IsPoint item T cut.earlier → IsParent item T cut.earlier q → IsCutOff item T k q p
   moved S T k q p cut point parent = record { earlier = cut.earlier; point = point; parent = parent; before = cut.before; first = cut.first; second = cut.second; first_item = cut.first_item; second_item = cut.second_item; first_begins = cut.first_begins; second_begins = cut.second_begins; not_less = cut.not_less }
 
+  -- with the same filled keys the same is cut off
   IsCutOff-same : (S T : List (List ℕ)) → Within S T → Within T S → (k q p : List ℕ) → IsCutOff item S k q p → IsCutOff item T k q p
   IsCutOff-same S T w w' k q p cut = moved S T k q p cut (IsPoint-within item kind S T w cut.earlier cut.point) (IsParent-same item kind S T w w' cut.earlier q cut.parent)
 
@@ -43,27 +44,31 @@ module _ (item : List ℕ → Type 0) (kind : IsKeyKind item) where
     reached = λ cut. v.reached (IsCutOff-same T S w' w k v.parent p cut);
   }
 
+  -- and the same is visited
   pub AreVisits-same : (S T : List (List ℕ)) → Within S T → Within T S → (k : List ℕ) (ps : List (List ℕ)) → AreVisits item S k ps → AreVisits item T k ps
   AreVisits-same S T w w' k ps a = record {
     once = a.once;
     exactly = λ p. ((λ h. IsVisited-same S T w w' k p ((a.exactly p).0 h)), λ v. (a.exactly p).1 (IsVisited-same T S w' w k p v));
   }
 
-  -- with no point, or an empty key, there is nothing to visit
+  -- a row without keys has nothing to visit
   pub no_visits : (k : List ℕ) → AreVisits item [] k []
   no_visits k = record { once = tt; exactly = λ p. ((λ h. absurd h), λ v. (reaches item [] p v.point).1) }
 
+  -- and a look-up of the empty key visits nothing
   pub empty_visits : (S : List (List ℕ)) → AreVisits item S [] []
   empty_visits S = record { once = tt; exactly = λ p. ((λ h. absurd h), λ v. v.begins.1 (nil_second v.parent v.begins.0 v.begins.2)) }
 
 module _ (item : List ℕ → Type 0) (kind : IsKeyKind item) (S G T : List (List ℕ)) (l : List ℕ) (split : Splits item S G T l) where
-  -- parents
+  -- the label's parent is empty
   parent_label : IsParent item S l []
   parent_label = record { begins = (l, split.filled, refl); stands = inl refl; longest = λ r pt b. absurd (none_within item kind S G T l split r b pt) }
 
+  -- the label has no point before it
   parent_label_of : (q : List ℕ) → IsParent item S l q → q ≡ []
   parent_label_of q a = one_parent item S l q [] a parent_label
 
+  -- behind the label, parents are those of G
   parent_below : (p q : List ℕ) → IsParent item G p q → IsParent item S (l ++ p) (l ++ q)
   parent_below p q a = record {
     begins = BeginsProperly-behind l q p a.begins;
@@ -80,6 +85,7 @@ module _ (item : List ℕ → Type 0) (kind : IsKeyKind item) (S G T : List (Lis
     ];
   }
 
+  -- and no others
   parent_below_of : (p q : List ℕ) → p ≢ [] → IsParent item S (l ++ p) q → (r : List ℕ) × (l ++ r ≡ q) × IsParent item G p r
   parent_below_of p q filled a =
       elim (begins_either l q p a.begins.0 (sym a.begins.2)) [
@@ -108,6 +114,7 @@ module _ (item : List ℕ → Type 0) (kind : IsKeyKind item) (S G T : List (Lis
       whole [] e = let same = append-nil l ∙ sym e ∙ append-nil q in ([], same, below [] same)
       whole (x ∷ d) e = absurd (let le = longest in omega (arith, ap length e, length-append q (x ∷ d)))
 
+  -- beside it, they are those of T
   parent_beside : (p q : List ℕ) → IsPoint item T p → IsParent item T p q → IsParent item S p q
   parent_beside p q pt a = record {
     begins = a.begins;
@@ -118,6 +125,7 @@ module _ (item : List ℕ → Type 0) (kind : IsKeyKind item) (S G T : List (Lis
     longest = λ r pt' b. let key = reaches item T p pt in a.longest r (point_beside_of item kind S G T l split r key.0 key.1 (Begins-trans r p key.0 (b.0, b.2) key.2) pt') b;
   }
 
+  -- and no others
   parent_beside_of : (p q : List ℕ) → IsPoint item T p → IsParent item S p q → IsParent item T p q
   parent_beside_of p q pt a = record {
     begins = a.begins;
@@ -127,6 +135,10 @@ module _ (item : List ℕ → Type 0) (kind : IsKeyKind item) (S G T : List (Lis
     ];
     longest = λ r pt' b. a.longest r (point_beside item kind S G T l split r pt') b;
   }
+
+  -- the label comes before each point of T
+  label_less : (p : List ℕ) → IsPoint item T p → key_cmp l p ≡ Less
+  label_less p pt = ap (key_cmp l) (sym (append-nil p)) ∙ ap (λ x. key_cmp x (p ++ [])) (sym (append-nil l)) ∙ IsBefore-less item kind l p [] [] (point_rises item kind S G T l split p pt)
 
   -- the label is always visited
   pub visit_label : (k : List ℕ) → k ≢ [] → IsVisited item S k l
@@ -138,7 +150,7 @@ module _ (item : List ℕ → Type 0) (kind : IsKeyKind item) (S G T : List (Lis
     reached = λ cut. elim (point_cases item kind S G T l split cut.earlier cut.point) [
       | inl e ↦ key_cmp-irreflexive cut.earlier l (sym e) cut.before
       | inr (inl t) ↦ longer t.0 (sym (key_cmp-front l t.0 []) ∙ ap (λ x. key_cmp x (l ++ [])) t.1 ∙ ap (key_cmp cut.earlier) (append-nil l) ∙ cut.before)
-      | inr (inr pt) ↦ less_once item kind cut.earlier l cut.before (rises cut.earlier pt)
+      | inr (inr pt) ↦ less_once item kind cut.earlier l cut.before (label_less cut.earlier pt)
     ];
   }
     where
@@ -146,10 +158,7 @@ module _ (item : List ℕ → Type 0) (kind : IsKeyKind item) (S G T : List (Lis
       longer [] e = cc
       longer (x ∷ t) e = cc
 
-      rises : (p : List ℕ) → IsPoint item T p → key_cmp l p ≡ Less
-      rises p pt = ap (key_cmp l) (sym (append-nil p)) ∙ ap (λ x. key_cmp x (p ++ [])) (sym (append-nil l)) ∙ IsBefore-less item kind l p [] [] (point_rises item kind S G T l split p pt)
-
-  -- behind the label
+  -- what is cut off in G is so behind the label
   cut_below : (k q p : List ℕ) → IsCutOff item G k q p → IsCutOff item S (l ++ k) (l ++ q) (l ++ p)
   cut_below k q p cut = record {
     earlier = l ++ cut.earlier;
@@ -165,6 +174,7 @@ module _ (item : List ℕ → Type 0) (kind : IsKeyKind item) (S G T : List (Lis
     not_less = cut.not_less;
   }
 
+  -- and only what is cut off in G
   cut_below_of : (k q p : List ℕ) → IsCutOff item S (l ++ k) (l ++ q) (l ++ p) → IsCutOff item G k q p
   cut_below_of k q p cut = elim (point_cases item kind S G T l split cut.earlier cut.point) [
     | inl e ↦ absurd (split.filled (nil_first l q (parent_label_of (l ++ q) (subst (λ r. IsParent item S r (l ++ q)) (sym e) cut.parent))))
@@ -188,6 +198,7 @@ module _ (item : List ℕ → Type 0) (kind : IsKeyKind item) (S G T : List (Lis
     | inr (inr pt) ↦ absurd (beside_apart item kind S G T l split cut.earlier [] (q ++ cut.parent.begins.0) pt (append-nil cut.earlier ∙ sym cut.parent.begins.2 ∙ append_assoc l q cut.parent.begins.0))
   ]
 
+  -- a visit in G is one behind the label
   pub visit_below : (k p : List ℕ) → IsVisited item G k p → IsVisited item S (l ++ k) (l ++ p)
   visit_below k p v = record {
     point = point_below item kind S G T l split p v.point;
@@ -215,10 +226,11 @@ module _ (item : List ℕ → Type 0) (kind : IsKeyKind item) (S G T : List (Lis
         },
       )
 
-  -- beside it
+  -- what is cut off in T is so in S
   cut_beside : (k q p : List ℕ) → IsCutOff item T k q p → IsCutOff item S k q p
   cut_beside k q p cut = moved item kind T S k q p cut (point_beside item kind S G T l split cut.earlier cut.point) (parent_beside cut.earlier q cut.point cut.parent)
 
+  -- where the search goes past the label, only what is cut off in T
   cut_beside_of : (k q p : List ℕ) → IsBefore item l k → IsPoint item T p → Begins q p → IsCutOff item S k q p → IsCutOff item T k q p
   cut_beside_of k q p before pt b cut = elim (point_cases item kind S G T l split cut.earlier cut.point) [
     | inl e ↦
@@ -234,6 +246,7 @@ module _ (item : List ℕ → Type 0) (kind : IsKeyKind item) (S G T : List (Lis
     | inr (inr pt') ↦ moved item kind S T k q p cut pt' (parent_beside_of cut.earlier q pt' cut.parent)
   ]
 
+  -- a visit in T is then one in S
   pub visit_beside : (k p : List ℕ) → IsBefore item l k → IsVisited item T k p → IsVisited item S k p
   visit_beside k p before v = record {
     point = point_beside item kind S G T l split p v.point;
@@ -243,6 +256,7 @@ module _ (item : List ℕ → Type 0) (kind : IsKeyKind item) (S G T : List (Lis
     reached = λ cut. v.reached (cut_beside_of k v.parent p before v.point (v.parent_of.begins.0, v.parent_of.begins.2) cut);
   }
 
+  -- and back, for points of T
   visit_beside_of : (k p : List ℕ) → IsPoint item T p → IsVisited item S k p → IsVisited item T k p
   visit_beside_of k p pt v = record {
     point = pt;
@@ -266,15 +280,12 @@ module _ (item : List ℕ → Type 0) (kind : IsKeyKind item) (S G T : List (Lis
         stop.not_less (ap (key_cmp stop.first) (sym same') ∙ ap (λ x. key_cmp x before.second) (sym same) ∙ before.less)
   ]
     where
-      less : key_cmp l p ≡ Less
-      less = ap (key_cmp l) (sym (append-nil p)) ∙ ap (λ x. key_cmp x (p ++ [])) (sym (append-nil l)) ∙ IsBefore-less item kind l p [] [] (point_rises item kind S G T l split p pt)
-
       at_label : IsCutOff item S k [] p
       at_label = record {
         earlier = l;
         point = point_label item kind S G T l split;
         parent = parent_label;
-        before = less;
+        before = label_less p pt;
         first = stop.first;
         second = stop.second;
         first_item = stop.first_item;

@@ -10,5 +10,6 @@ pub mod Removals
 pub mod Rows
 pub mod Spots
 pub mod TextKind
+pub mod ThreeKeys
 pub mod Trees
 pub mod Walks

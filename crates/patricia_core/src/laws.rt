@@ -1,8 +1,10 @@
 //! Laws that hold for every key kind, as contracts of functions that do nothing.
-ghost use Rattle.std.specs.Prelude.{◌≡◌, ◌↔◌, ℕ, List, Option, take};
+ghost use Rattle.std.specs.Prelude.{◌≡◌, ◌↔◌, ℕ, List, [], Option, take};
 ghost use Rattle.patricia_core.specs.Keys.{IsCommon, IsFloor, IsSharedLen};
 ghost use Rattle.patricia_core.specs.Rows.{Row, IsRow, IsRowWithin, entries, keys_of, paths};
 ghost use Rattle.patricia_core.specs.Points.{Has, AreApart, IsPoint, IsParent, IsVisitCount};
+ghost use Rattle.patricia_core.specs.ByteKind.{IsByteItem};
+ghost use Rattle.patricia_core.specs.ThreeKeys.{three_keys, baz, foo, aaa};
 
 use crate::keys::Bytes;
 
@@ -30,4 +32,12 @@ pub fn one_visit_count<K: Bytes>()
 /// A point has one parent.
 pub fn one_parent<K: Bytes>()
     ensures { (S : List (List ℕ)) (p q r : List ℕ) → IsParent K.item S p q → IsParent K.item S p r → q ≡ r }
+{}
+
+/// How many visits look-ups make with the keys bar, baz and foo.
+pub fn three_keys_visits()
+    ensures through { IsVisitCount IsByteItem three_keys baz 4 }
+    ensures beside { IsVisitCount IsByteItem three_keys foo 3 }
+    ensures before { IsVisitCount IsByteItem three_keys aaa 2 }
+    ensures root { IsVisitCount IsByteItem three_keys [] 1 }
 {}

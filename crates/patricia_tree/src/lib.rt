@@ -1,6 +1,8 @@
 //! A map whose keys are byte strings and share their common prefixes.
 #![tactic(auto)]
 
+#[cfg(test)]
+mod counts;
 pub mod map;
 
 pub use map::{GenericPatriciaMap, PatriciaMap};
