@@ -1,4 +1,4 @@
-use crate::answer::answer_bytes;
+use crate::answer::{answer_bytes, answer_text};
 use std::alloc::{AllocError, Global};
 use std::io::{Read, Write};
 
@@ -6,6 +6,7 @@ use std::io::{Read, Write};
 #[derive(Clone, Copy)]
 enum Kind {
     Bytes,
+    Text,
 }
 
 // What may keep the program from its answer.
@@ -20,6 +21,7 @@ enum Failure {
 fn kind_named(words: &[String]) -> Option<Kind> {
     match words {
         [word] if word.as_str() == "bytes" => Some(Kind::Bytes),
+        [word] if word.as_str() == "text" => Some(Kind::Text),
         _ => None,
     }
 }
@@ -35,6 +37,7 @@ fn message(failure: Failure) -> &'static str {
 fn answer_for(kind: Kind, alloc: Global, input: &[u8]) -> Result<Vec<u8>, AllocError> {
     match kind {
         Kind::Bytes => answer_bytes(alloc, input),
+        Kind::Text => answer_text(alloc, input),
     }
 }
 

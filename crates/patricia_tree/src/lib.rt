@@ -5,6 +5,6 @@
 mod counts;
 pub mod map;
 
-pub use map::{GenericPatriciaMap, PatriciaMap};
+pub use map::{GenericPatriciaMap, PatriciaMap, StringPatriciaMap};
 pub use patricia_core::Steps;
 pub use patricia_core::keys::{BorrowedBytes, Bytes};

@@ -22,6 +22,9 @@ use std::sync::ledger::Ledger;
 /// A map whose keys are byte strings.
 pub type PatriciaMap<V> = GenericPatriciaMap<Vec<u8>, V>;
 
+/// A map whose keys are texts.
+pub type StringPatriciaMap<V> = GenericPatriciaMap<String, V>;
+
 /// A map from keys of one kind to values, in the order of the keys' bytes.
 ///
 /// A map keeps the allocator that it was made with. A call that takes memory asks for it before
