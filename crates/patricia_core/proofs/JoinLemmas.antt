@@ -245,8 +245,8 @@ module _ (item : List ℕ → Type 0) (kind : IsKeyKind item) {V : Type 0} (l : 
         point = l ++ j.point;
         is_point = point_behind item (keys_of (entries c)) S l j.point ok.valid key_of_child j.is_point;
         no_point = λ point. j.no_point (point_ahead item (without (keys_of (entries c)) t) (without S q) l j.point j.is_point.valid j.is_point.filled
-        (λ k h begun. let both = has-without S q (l ++ k) h in without-has (keys_of (entries c)) t k (child_key k (λ none. j.is_point.filled (front_empty j.point begun.0 (begun.1 ∙ none))) both.0) (λ e. both.1 (sym splits ∙ ap (λ r. l ++ r) e)))
-        point);
+            (λ k h begun. let both = has-without S q (l ++ k) h in without-has (keys_of (entries c)) t k (child_key k (λ none. j.is_point.filled (front_empty j.point begun.0 (begun.1 ∙ none))) both.0) (λ e. both.1 (sym splits ∙ ap (λ r. l ++ r) e)))
+            point);
         key = l ++ j.key;
         has = without-has S q (l ++ j.key) (key_of_child j.key left.0) (λ e. left.1 (append_cancel_left l t j.key (splits ∙ e)));
         begins = (j.begins.0, append_assoc l j.point j.begins.0 ∙ ap (λ k. l ++ k) j.begins.1);
@@ -315,8 +315,8 @@ module _ (item : List ℕ → Type 0) {V : Type 0} where
         point = j.point;
         is_point = point_within item (keys_of es) (keys_of (own v ++ es)) j.point (λ k h _. there k h) j.is_point;
         no_point = λ point. j.no_point (point_within item (without (keys_of (own v ++ es)) q) (without (keys_of es) q) j.point
-        (λ k h begun. let both = has-without (keys_of (own v ++ es)) q k h in without-has (keys_of es) q k (below v k (λ none. j.is_point.filled (front_empty j.point begun.0 (begun.1 ∙ none))) both.0) both.1)
-        point);
+            (λ k h begun. let both = has-without (keys_of (own v ++ es)) q k h in without-has (keys_of es) q k (below v k (λ none. j.is_point.filled (front_empty j.point begun.0 (begun.1 ∙ none))) both.0) both.1)
+            point);
         key = j.key;
         has = without-has (keys_of (own v ++ es)) q j.key (there j.key left.0) left.1;
         begins = j.begins;

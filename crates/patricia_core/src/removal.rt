@@ -17,7 +17,8 @@ use std::mem;
 fn joined(alloc: Global, upper: &[u8], lower: &[u8]) -> Result<Vec<u8>, AllocError>
     ensures { IfOk result (λ v. v.items ≡ upper.now ++ lower.now) }
 {
-    let mut label = Vec::from_slice(alloc, upper)?;
+    let mut label = Vec::with_capacity(alloc, upper.len() + lower.len())?;
+    label.extend_from_slice(upper)?;
     label.extend_from_slice(lower)?;
     Ok(label)
 }
@@ -79,10 +80,14 @@ fn left_alone<'a, V>(row: &'a Row<V>, key: &[u8]) -> Option<&'a [u8]>
     if let Row::More(_) = &second.sibling {
         return None;
     }
-    if let Row::End = &first.child && first.label.as_slice() == key {
+    if let Row::End = &first.child
+        && first.label.as_slice() == key
+    {
         return Some(&second.label);
     }
-    if let Row::End = &second.child && second.label.as_slice() == key {
+    if let Row::End = &second.child
+        && second.label.as_slice() == key
+    {
         return Some(&first.label);
     }
     None

@@ -147,10 +147,7 @@ impl<K: Bytes, V: Drop> Tree<K, V> {
 
     /// Takes a value out, or answers `None` where there is none. The error is want of memory for
     /// a joined label.
-    pub fn remove<Q: BorrowedBytes<Owned = K>>(
-        &mut self,
-        key: Q,
-    ) -> Result<Option<V>, AllocError>
+    pub fn remove<Q: BorrowedBytes<Owned = K>>(&mut self, key: Q) -> Result<Option<V>, AllocError>
         ensures old { IfOk result (λ old. old ≡ map.get self.old (Q.key key)) }
         ensures ok { OnOk result (self.new ≡ map.remove self.old (Q.key key)) }
         ensures unchanged { OnErr result (self.new ≡ self.old) }

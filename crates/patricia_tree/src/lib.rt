@@ -3,6 +3,8 @@
 
 #[cfg(test)]
 mod counts;
+#[cfg(test)]
+mod key_tests;
 pub mod map;
 
 pub use map::{GenericPatriciaMap, PatriciaMap, StringPatriciaMap};

@@ -5,7 +5,8 @@ ghost use Rattle.std.specs.FinMap as map;
 ghost use Rattle.patricia_core.specs.Points.{IsVisitCount, Joins};
 
 mod iter;
-
+#[cfg(test)]
+mod removal_tests;
 #[cfg(test)]
 mod tests;
 
@@ -129,10 +130,7 @@ impl<K: Bytes, V: Drop> GenericPatriciaMap<K, V> {
     /// The error is want of memory for a joined label. It comes only where a removal leaves a
     /// place in the tree that no key or branching needs any more: never for a key that is not
     /// there, nor for the empty key.
-    pub fn remove<Q: BorrowedBytes<Owned = K>>(
-        &mut self,
-        key: Q,
-    ) -> Result<Option<V>, AllocError>
+    pub fn remove<Q: BorrowedBytes<Owned = K>>(&mut self, key: Q) -> Result<Option<V>, AllocError>
         ensures old { IfOk result (λ old. old ≡ map.get self.old (Q.key key)) }
         ensures ok { OnOk result (self.new ≡ map.remove self.old (Q.key key)) }
         ensures unchanged { OnErr result (self.new ≡ self.old) }
