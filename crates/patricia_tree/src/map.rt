@@ -9,6 +9,8 @@ mod iter;
 mod removal_tests;
 #[cfg(test)]
 mod tests;
+#[cfg(test)]
+mod text_tests;
 
 pub use iter::{IntoIter, Iter, Keys, Values};
 use patricia_core::Steps;

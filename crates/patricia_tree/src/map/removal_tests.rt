@@ -1,5 +1,4 @@
 use super::*;
-use std::collections::BTreeMap;
 use std::process::Abort;
 use std::test::Fail;
 
@@ -123,27 +122,5 @@ fn removals_refused_in_turn(rt: HostRuntime) -> Result<(), Fail> {
     }
     assert!(rt; refusals <= 1);
     assert!(rt; map.is_empty());
-    Ok(())
-}
-
-#[test]
-fn half_of_many_numbers(rt: HostRuntime) -> Result<(), Fail> {
-    let alloc = rt.alloc();
-    let mut map = PatriciaMap::new(alloc);
-    let mut model: BTreeMap<u64, u64> = BTreeMap::new(alloc);
-    for number in 0..2_000u64 {
-        let text = number.to_string(alloc)?;
-        put(&mut map, text.as_bytes())?;
-        model.insert(number, text.len() as u64)?;
-    }
-    for number in 0..1_000u64 {
-        let text = (2 * number).to_string(alloc)?;
-        assert_eq!(rt; map.remove(text.as_bytes())?, model.remove(&(2 * number)));
-    }
-    assert_eq!(rt; map.len(), model.len());
-    for number in 0..2_000u64 {
-        let text = number.to_string(alloc)?;
-        assert_eq!(rt; map.get(text.as_bytes()), model.get(&number));
-    }
     Ok(())
 }

@@ -151,7 +151,8 @@ fn drops_walks(rt: HostRuntime) -> Result<(), Fail> {
     Ok(())
 }
 
-// A map and a sorted map of the decimal texts below ten thousand.
+// A map and a sorted map of the decimal texts below ten thousand, half of which were taken out and
+// put in again.
 fn decimals(alloc: Global) -> Result<(PatriciaMap<u32>, BTreeMap<Vec<u8>, u32>), AllocError> {
     let mut tree: PatriciaMap<u32> = PatriciaMap::new(alloc);
     let mut sorted: BTreeMap<Vec<u8>, u32> = BTreeMap::new(alloc);
@@ -159,6 +160,14 @@ fn decimals(alloc: Global) -> Result<(PatriciaMap<u32>, BTreeMap<Vec<u8>, u32>),
         let text = format!(in alloc; "{n}")?;
         put(&mut tree, text.as_bytes(), n)?;
         sorted.insert(Vec::from_slice(alloc, text.as_bytes())?, n)?;
+    }
+    for n in 0..5_000u32 {
+        let text = format!(in alloc; "{}", 2 * n)?;
+        tree.remove(text.as_bytes())?;
+    }
+    for n in 0..5_000u32 {
+        let text = format!(in alloc; "{}", 2 * n)?;
+        put(&mut tree, text.as_bytes(), 2 * n)?;
     }
     Ok((tree, sorted))
 }
