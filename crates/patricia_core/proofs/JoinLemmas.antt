@@ -13,6 +13,7 @@ use Rattle.patricia_core.proofs.KeyLemmas.{Begins-trans, key_cmp-irreflexive, ke
 use Rattle.patricia_core.proofs.RowLemmas.{AllKeys, lacks_item, lacks_empty}
 use Rattle.patricia_core.proofs.ListLemmas.{key_cmp-equal}
 use Rattle.patricia_core.proofs.RemovalLemmas.{survivor}
+use Rattle.patricia_core.proofs.PointLemmas.{nil_first, nil_second, has_prefixed, has_after, has_one, within_own}
 use Rattle.patricia_core.proofs.UniqueLemmas.{has_entry}
 
 -- the keys other than one
@@ -37,32 +38,8 @@ has-without (x ∷ S) q k h = by (key_cmp q x) refl (has-without S q k)
     by Equal f rest = let g = rest (rw f at h) in (inr g.0, g.1)
     by Greater f rest = elim (rw f at h) [ inl same ↦ (inl same, λ e. let tie = key_cmp-same q in let no = subst (λ y. key_cmp q y ≡ Greater) (sym (e ∙ sym same)) f in absurd (cc)) | inr g ↦ (inr (rest g).0, (rest g).1) ]
 
--- where a key of entries that are made of others stands
+-- the keys of entries
 module _ {V : Type 0} where
-  key-append : (xs ys : List (List ℕ × V)) (k : List ℕ) → Has (keys_of (xs ++ ys)) k → Has (keys_of xs) k ⊎ Has (keys_of ys) k
-  key-append [] ys k h = inr h
-  key-append (x ∷ xs) ys k (inl e) = inl (inl e)
-  key-append (x ∷ xs) ys k (inr h) = elim (key-append xs ys k h) [ inl a ↦ inl (inr a) | inr b ↦ inr b ]
-
-  key-append_left : (xs ys : List (List ℕ × V)) (k : List ℕ) → Has (keys_of xs) k → Has (keys_of (xs ++ ys)) k
-  key-append_left [] ys k h = absurd h
-  key-append_left (x ∷ xs) ys k (inl e) = inl e
-  key-append_left (x ∷ xs) ys k (inr h) = inr (key-append_left xs ys k h)
-
-  key-append_right : (xs ys : List (List ℕ × V)) (k : List ℕ) → Has (keys_of ys) k → Has (keys_of (xs ++ ys)) k
-  key-append_right [] ys k h = h
-  key-append_right (x ∷ xs) ys k h = inr (key-append_right xs ys k h)
-
-  key-prefixed : (l : List ℕ) (es : List (List ℕ × V)) (k : List ℕ) → Has (keys_of (prefixed l es)) k → (t : List ℕ) × (l ++ t ≡ k) × Has (keys_of es) t
-  key-prefixed l [] k h = absurd h
-  key-prefixed l (e ∷ es) k (inl same) = (e.0, same, inl refl)
-  key-prefixed l (e ∷ es) k (inr h) = let deeper = key-prefixed l es k h in (deeper.0, deeper.1, inr deeper.2)
-
-  key_behind : (l : List ℕ) (es : List (List ℕ × V)) (t : List ℕ) → Has (keys_of es) t → Has (keys_of (prefixed l es)) (l ++ t)
-  key_behind l [] t h = absurd h
-  key_behind l (e ∷ es) t (inl same) = inl (ap (λ k. l ++ k) same)
-  key_behind l (e ∷ es) t (inr h) = inr (key_behind l es t h)
-
   AllKeys-at : (P : List ℕ → Type 0) (es : List (List ℕ × V)) (k : List ℕ) → AllKeys P es → Has (keys_of es) k → P k
   AllKeys-at P [] k all h = absurd h
   AllKeys-at P (e ∷ es) k all (inl same) = subst P same all.0
@@ -80,10 +57,6 @@ module _ {V : Type 0} where
 
   others-key : (q : List ℕ) (es : List (List ℕ × V)) (k : List ℕ) → Has (keys_of (others q es)) k → Has (keys_of es) k × (q ≡ k → ⊥)
   others-key q es k h = has-without (keys_of es) q k (subst (λ S. Has S k) (keys-others q es) h)
-
-front_empty : (a b : List ℕ) → a ++ b ≡ [] → a ≡ []
-front_empty [] b e = refl
-front_empty (x ∷ a) b e = absurd (cc)
 
 shorter_front : (p i k : List ℕ) → Begins (p ++ i) k → Begins p k
 shorter_front p i k b = (i ++ b.0, sym (append_assoc p i b.0) ∙ b.1)
@@ -106,7 +79,7 @@ module _ (item : List ℕ → Type 0) where
   -- a point behind a label
   point_behind : (S T : List (List ℕ)) (l p : List ℕ) → IsValid item l → ((k : List ℕ) → Has S k → Has T (l ++ k)) → IsPoint item S p → IsPoint item T (l ++ p)
   point_behind S T l p valid there point = record {
-    filled = λ none. point.filled (rest_empty l p none);
+    filled = λ none. point.filled (nil_second l p none);
     valid = IsValid-append item l p valid point.valid;
     stands = elim point.stands [
       | inl h ↦ inl (there p h)
@@ -114,10 +87,6 @@ module _ (item : List ℕ → Type 0) where
     ];
   }
     where
-      rest_empty : (a b : List ℕ) → a ++ b ≡ [] → b ≡ []
-      rest_empty [] b e = e
-      rest_empty (x ∷ a) b e = absurd (cc)
-
       follows : (i : List ℕ) → Follows item S p i → Follows item T (l ++ p) i
       follows i f = record { is_item = f.is_item; key = l ++ f.key; has = there f.key f.has; begins = (f.begins.0, ap (λ k. k ++ f.begins.0) (append_assoc l p i) ∙ append_assoc l (p ++ i) f.begins.0 ∙ ap (λ k. l ++ k) f.begins.1) }
 
@@ -148,7 +117,7 @@ module _ (item : List ℕ → Type 0) where
             let j = first_of item m valid filled in
             let rest = f.begins.0 in
             let behind : l ++ (i ++ rest) ≡ f.key = sym (append_assoc l i rest) ∙ f.begins.1 in
-            let begun = goes_on (i ++ rest) (λ none. item_filled i f.is_item (front_empty i rest none)) (subst (Has T) (sym behind) f.has) in
+            let begun = goes_on (i ++ rest) (λ none. item_filled i f.is_item (nil_first i rest none)) (subst (Has T) (sym behind) f.has) in
             begins_same item kind i j.0 (i ++ rest) f.is_item j.1 (rest, refl) (Begins-trans j.0 m (i ++ rest) j.2 begun)
           where
             item_filled : (i : List ℕ) → item i → i ≢ []
@@ -159,7 +128,7 @@ module _ (item : List ℕ → Type 0) (kind : IsKeyKind item) {V : Type 0} where
   some_key : (m : List ℕ) (w : Option V) (d t : Row V) → IsRow item (node m w d t) → (e : List ℕ) × Has (keys_of (entries (node m w d t))) (m ++ e)
   some_key m w d t ok =
       let some = has_entry item kind None m w d t ok in
-      (some.0.0, key-append_left (prefixed m (own w ++ entries d)) (entries t) (m ++ some.0.0) (key_behind m (own w ++ entries d) some.0.0 (subst (λ es. Has (keys_of es) some.0.0) (sym some.2) (inl refl))))
+      (some.0.0, has_prefixed m (own w ++ entries d) (entries t) some.0.0 (subst (λ es. Has (keys_of es) some.0.0) (sym some.2) (inl refl)))
 
   -- a row of two nodes branches where it stands
   two_children : (l : List ℕ) (c : Row V) → IsRow item c → EarnsWithin item {V = V} None l None c → (S : List (List ℕ)) → ((r : List ℕ) → Has (keys_of (entries c)) r → Has S (l ++ r)) → Branches item S l
@@ -170,7 +139,7 @@ module _ (item : List ℕ → Type 0) (kind : IsKeyKind item) {V : Type 0} where
       let j = first_of item b ok.sibling.valid ok.sibling.filled in
       let first = some_key a v ca (node b w cb t) ok in
       let second = some_key b w cb t ok.sibling in
-      let later = key-append_right (prefixed a (own v ++ entries ca)) (entries (node b w cb t)) (b ++ second.0) second.1 in
+      let later = has_after (prefixed a (own v ++ entries ca)) (entries (node b w cb t)) (b ++ second.0) second.1 in
       record {
         first = i.0;
         second = j.0;
@@ -195,8 +164,8 @@ module _ (item : List ℕ → Type 0) (kind : IsKeyKind item) {V : Type 0} (l : 
 
   -- the keys that begin with the label are those of the node
   pub own_key : (r : List ℕ) → Has (keys_of (entries (node l v c s))) (l ++ r) → Has (keys_of (own v ++ entries c)) r
-  own_key r h = elim (key-append (prefixed l (own v ++ entries c)) (entries s) (l ++ r) h) [
-    | inl g ↦ let deeper = key-prefixed l (own v ++ entries c) (l ++ r) g in subst (Has (keys_of (own v ++ entries c))) (append_cancel_left l deeper.0 r deeper.1) deeper.2
+  own_key r h = elim (has_one l (own v ++ entries c) (entries s) (l ++ r) h) [
+    | inl t ↦ subst (Has (keys_of (own v ++ entries c))) (append_cancel_left l t.0 r t.1) t.2
     | inr g ↦ absurd (later_apart (l ++ r) r g refl)
   ]
 
@@ -210,13 +179,13 @@ module _ (item : List ℕ → Type 0) (kind : IsKeyKind item) {V : Type 0} (l : 
       below (Some x) (inr g) = g
 
   key_of_child : (r : List ℕ) → Has (keys_of (entries c)) r → Has (keys_of (entries (node l v c s))) (l ++ r)
-  key_of_child r h = key-append_left (prefixed l (own v ++ entries c)) (entries s) (l ++ r) (key_behind l (own v ++ entries c) r (key-append_right (own v) (entries c) r h))
+  key_of_child r h = has_prefixed l (own v ++ entries c) (entries s) r (has_after (own v) (entries c) r h)
 
   pub joins_past : (q : List ℕ) → Joins item (keys_of (entries s)) q → Joins item (keys_of (entries (node l v c s))) q
   joins_past q j =
       let S = keys_of (entries (node l v c s)) in
       let left = has-without (keys_of (entries s)) q j.key j.has in
-      let later : (k : List ℕ) → Has (keys_of (entries s)) k → Has S k = key-append_right (prefixed l (own v ++ entries c)) (entries s) in
+      let later : (k : List ℕ) → Has (keys_of (entries s)) k → Has S k = has_after (prefixed l (own v ++ entries c)) (entries s) in
       record {
         point = j.point;
         is_point = point_within item (keys_of (entries s)) S j.point (λ k h _. later k h) j.is_point;
@@ -227,9 +196,8 @@ module _ (item : List ℕ → Type 0) (kind : IsKeyKind item) {V : Type 0} (l : 
       }
     where
       stays : (k : List ℕ) → Has (keys_of (entries (node l v c s))) k → Begins j.point k → IsPoint item (keys_of (entries s)) j.point → Has (keys_of (entries s)) j.key → Has (keys_of (entries s)) k
-      stays k h begun point there = elim (key-append (prefixed l (own v ++ entries c)) (entries s) k h) [
-        | inl g ↦
-            let deeper = key-prefixed l (own v ++ entries c) k g in
+      stays k h begun point there = elim (has_one l (own v ++ entries c) (entries s) k h) [
+        | inl deeper ↦
             let i = first_of item j.point point.valid point.filled in
             let f = first_of item l ok.valid ok.filled in
             let same = begins_same item kind i.0 f.0 k i.1 f.1 (Begins-trans i.0 j.point k i.2 begun) (Begins-trans f.0 l k f.2 (deeper.0, deeper.1)) in
@@ -245,7 +213,7 @@ module _ (item : List ℕ → Type 0) (kind : IsKeyKind item) {V : Type 0} (l : 
         point = l ++ j.point;
         is_point = point_behind item (keys_of (entries c)) S l j.point ok.valid key_of_child j.is_point;
         no_point = λ point. j.no_point (point_ahead item (without (keys_of (entries c)) t) (without S q) l j.point j.is_point.valid j.is_point.filled
-            (λ k h begun. let both = has-without S q (l ++ k) h in without-has (keys_of (entries c)) t k (child_key k (λ none. j.is_point.filled (front_empty j.point begun.0 (begun.1 ∙ none))) both.0) (λ e. both.1 (sym splits ∙ ap (λ r. l ++ r) e)))
+            (λ k h begun. let both = has-without S q (l ++ k) h in without-has (keys_of (entries c)) t k (child_key k (λ none. j.is_point.filled (nil_first j.point begun.0 (begun.1 ∙ none))) both.0) (λ e. both.1 (sym splits ∙ ap (λ r. l ++ r) e)))
             point);
         key = l ++ j.key;
         has = without-has S q (l ++ j.key) (key_of_child j.key left.0) (λ e. left.1 (append_cancel_left l t j.key (splits ∙ e)));
@@ -274,8 +242,8 @@ module _ (item : List ℕ → Type 0) (kind : IsKeyKind item) {V : Type 0} (l : 
       }
     where
       goes_on : (r : List ℕ) → Has (keys_of (entries (node m w d end))) r → Begins m r
-      goes_on r h = elim (key-append (prefixed m (own w ++ entries d)) [] r h) [
-        | inl g ↦ let deeper = key-prefixed m (own w ++ entries d) r g in (deeper.0, deeper.1)
+      goes_on r h = elim (has_one m (own w ++ entries d) [] r h) [
+        | inl t ↦ (t.0, t.1)
         | inr g ↦ absurd g
       ]
 
@@ -310,19 +278,14 @@ module _ (item : List ℕ → Type 0) {V : Type 0} where
   pub joins_root : (v : Option V) (es : List (List ℕ × V)) (q : List ℕ) → Joins item (keys_of es) q → Joins item (keys_of (own v ++ es)) q
   joins_root v es q j =
       let left = has-without (keys_of es) q j.key j.has in
-      let there : (k : List ℕ) → Has (keys_of es) k → Has (keys_of (own v ++ es)) k = key-append_right (own v) es in
+      let there : (k : List ℕ) → Has (keys_of es) k → Has (keys_of (own v ++ es)) k = has_after (own v) es in
       record {
         point = j.point;
         is_point = point_within item (keys_of es) (keys_of (own v ++ es)) j.point (λ k h _. there k h) j.is_point;
         no_point = λ point. j.no_point (point_within item (without (keys_of (own v ++ es)) q) (without (keys_of es) q) j.point
-            (λ k h begun. let both = has-without (keys_of (own v ++ es)) q k h in without-has (keys_of es) q k (below v k (λ none. j.is_point.filled (front_empty j.point begun.0 (begun.1 ∙ none))) both.0) both.1)
+            (λ k h begun. let both = has-without (keys_of (own v ++ es)) q k h in without-has (keys_of es) q k (within_own v es k (λ none. j.is_point.filled (nil_first j.point begun.0 (begun.1 ∙ none))) both.0) both.1)
             point);
         key = j.key;
         has = without-has (keys_of (own v ++ es)) q j.key (there j.key left.0) left.1;
         begins = j.begins;
       }
-    where
-      below : (v : Option V) (k : List ℕ) → k ≢ [] → Has (keys_of (own v ++ es)) k → Has (keys_of es) k
-      below None k filled h = h
-      below (Some x) k filled (inl none) = absurd (filled (sym none))
-      below (Some x) k filled (inr h) = h

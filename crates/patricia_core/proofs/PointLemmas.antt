@@ -250,18 +250,18 @@ module _ (item : List ℕ → Type 0) (kind : IsKeyKind item) (S G T : List (Lis
 
 module _ {V : Type 0} where
   -- keys behind a label are there
-  has_prefixed : (l : List ℕ) (es rs : List (List ℕ × V)) (t : List ℕ) → Has (keys_of es) t → Has (keys_of (prefixed l es ++ rs)) (l ++ t)
+  pub has_prefixed : (l : List ℕ) (es rs : List (List ℕ × V)) (t : List ℕ) → Has (keys_of es) t → Has (keys_of (prefixed l es ++ rs)) (l ++ t)
   has_prefixed l [] rs t h = absurd h
   has_prefixed l (e ∷ es) rs t (inl same) = inl (ap (λ k. l ++ k) same)
   has_prefixed l (e ∷ es) rs t (inr h) = inr (has_prefixed l es rs t h)
 
   -- and so are those of later entries
-  has_after : (xs ys : List (List ℕ × V)) (q : List ℕ) → Has (keys_of ys) q → Has (keys_of (xs ++ ys)) q
+  pub has_after : (xs ys : List (List ℕ × V)) (q : List ℕ) → Has (keys_of ys) q → Has (keys_of (xs ++ ys)) q
   has_after [] ys q h = h
   has_after (x ∷ xs) ys q h = inr (has_after xs ys q h)
 
   -- a key is behind the label, or one of the later entries
-  has_one : (l : List ℕ) (es rs : List (List ℕ × V)) (q : List ℕ) → Has (keys_of (prefixed l es ++ rs)) q → ((t : List ℕ) × (l ++ t ≡ q) × Has (keys_of es) t) ⊎ Has (keys_of rs) q
+  pub has_one : (l : List ℕ) (es rs : List (List ℕ × V)) (q : List ℕ) → Has (keys_of (prefixed l es ++ rs)) q → ((t : List ℕ) × (l ++ t ≡ q) × Has (keys_of es) t) ⊎ Has (keys_of rs) q
   has_one l [] rs q h = inr h
   has_one l (e ∷ es) rs q (inl same) = inl (e.0, same, inl refl)
   has_one l (e ∷ es) rs q (inr h) = elim (has_one l es rs q h) [

@@ -19,6 +19,7 @@ use Rattle.patricia_core.proofs.RowLemmas.{AllKeys, AllKeys-append, AllKeys-pref
 use Rattle.patricia_core.proofs.ListLemmas.{key_cmp-equal, key_cmp-front}
 use Rattle.patricia_core.proofs.GetLemmas.{lacks_past, lacks_before, lacks_within, later_lacks}
 use Rattle.patricia_core.proofs.InsertLemmas.{IsBefore-longer_left, keys_rise, rises_by_keys, earns_elsewhere}
+use Rattle.patricia_core.proofs.PointLemmas.{nil_first}
 use Rattle.patricia_core.proofs.UniqueLemmas.{same_row}
 
 module _ {V : Type 0} where
@@ -115,7 +116,7 @@ module _ (item : List ℕ → Type 0) (kind : IsKeyKind item) {V : Type 0} where
   taken_in_row : (l : List ℕ) (v : Option V) (m : List ℕ) (w : Option V) (d s : Row V) → IsValid item l → l ≢ [] → IsBeforeRow item l s → IsRow item s → IsRow item (node m w d end) → IsRow item (node (l ++ m) w d s)
   taken_in_row l v m w d s valid filled rises ok child = record {
     valid = IsValid-append item l m valid child.valid;
-    filled = λ none. filled (front l m none);
+    filled = λ none. filled (nil_first l m none);
     fits = tt;
     earns = earns_elsewhere item kind m (l ++ m) w d child.earns;
     rises = longer s rises;
@@ -123,10 +124,6 @@ module _ (item : List ℕ → Type 0) (kind : IsKeyKind item) {V : Type 0} where
     sibling = ok;
   }
     where
-      front : (a b : List ℕ) → a ++ b ≡ [] → a ≡ []
-      front [] b e = refl
-      front (x ∷ a) b e = absurd (cc)
-
       longer : (s : Row V) → IsBeforeRow item l s → IsBeforeRow item (l ++ m) s
       longer end h = tt
       longer (node k u c t) h = IsBefore-longer_left item kind l k m h

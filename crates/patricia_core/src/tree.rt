@@ -46,6 +46,7 @@ impl<K: Bytes, V> Model for Tree<K, V> {
 }
 
 impl<K: Bytes, V: Drop> Tree<K, V> {
+    /// The empty tree. It takes no memory.
     pub fn new(alloc: Global) -> Self
         ensures { result ≡ map.empty }
     {
@@ -58,6 +59,7 @@ impl<K: Bytes, V: Drop> Tree<K, V> {
         }
     }
 
+    /// The number of entries, that of the empty key included.
     pub fn len(&self) -> usize
         ensures { result ≡ map.len self.now }
     {
@@ -74,6 +76,7 @@ impl<K: Bytes, V: Drop> Tree<K, V> {
         self.len() == 0
     }
 
+    /// Drops all entries. The allocator is kept.
     pub fn clear(&mut self)
         ensures { self.new ≡ map.empty }
     {
@@ -82,7 +85,7 @@ impl<K: Bytes, V: Drop> Tree<K, V> {
         self.count = 0;
     }
 
-    /// It takes a step for the root, and one for each node whose label is compared with the key.
+    /// Looks a key up. It takes a step for the root, and one for each node whose label is compared with the key.
     pub fn get_counted<Q: BorrowedBytes<Owned = K>, L: Ledger>(
         &self,
         key: Q,
@@ -117,6 +120,8 @@ impl<K: Bytes, V: Drop> Tree<K, V> {
         self.get_from::<Q, Brand>(key, Blank::new(1))
     }
 
+    /// Puts a value in and answers the old one. The error is want of memory, and hands the value
+    /// back.
     pub fn insert<Q: BorrowedBytes<Owned = K>>(
         &mut self,
         key: Q,
