@@ -1,19 +1,15 @@
 -- The rows that a walk has left, and how its steps change them.
 use Rattle.std.proofs.Common.{◌≡◌, ℕ, ◌+◌, ◌≤◌, ◌≢◌, List, [], ◌∷◌, ◌++◌, Option, Some, None, length, take, map, refl, sym, ap, subst, ◌∙◌, arith, length-append}
 use Rattle.std.specs.Prelude.{Result, Ok, Err, OnErr}
-use Rattle.std.specs.Borrow.{Bor}
 use Rattle.std.proofs.lemmas.List.{append_assoc, append-nil, take-take, take-append-le, take_all, take_at, length-take}
 use Rattle.patricia_core.specs.Keys.{IsValid}
 use Rattle.patricia_core.specs.Rows.{Row, end, node, prefixed, own, entries, IsRow}
-use Rattle.patricia_core.specs.Nodes.{row_of}
-use Rattle.patricia_core.specs.declared.node.Row.{Row as Boxes}
-use Rattle.patricia_core.specs.Lent.{rows_at}
-use Rattle.patricia_core.specs.Owned.{rows_in}
 use Rattle.patricia_core.specs.Spots.{Spot, waiting, left, steps_in, steps_waiting, IsWithinAll, Waits, IsSpot, IsStep}
 use Rattle.patricia_core.proofs.KeyLemmas.{IsValid-append}
 use Rattle.patricia_core.proofs.RowLemmas.{prefixed-prefixed, prefixed-append}
 
 module _ {V : Type 0} where
+  -- no bytes in front change nothing
   pub prefixed-nil : (es : List (List ℕ × V)) → prefixed [] es ≡ es
   prefixed-nil [] = refl
   prefixed-nil (e ∷ es) = ap (λ r. e ∷ r) (prefixed-nil es)
@@ -27,32 +23,29 @@ module _ {V : Type 0} where
       both : {p : List ℕ} {q : List (ℕ × Row V)} → p ≡ [] → q ≡ [] → ◌≡◌ {A = List ℕ × List (ℕ × Row V)} (p, q) ([], [])
       both a b = cc
 
+  -- the row that waits last is walked first
   waiting-snoc : (path : List ℕ) (fs : List (ℕ × Row V)) (n : ℕ) (r : Row V) → waiting path (fs ++ (n, r) ∷ []) ≡ prefixed (take n path) (entries r) ++ waiting path fs
   waiting-snoc path [] n r = sym (append-nil (prefixed (take n path) (entries r)))
   waiting-snoc path (f ∷ fs) n r =
       ap (λ l. l ++ prefixed (take f.0 path) (entries f.1)) (waiting-snoc path fs n r)
       ∙ append_assoc (prefixed (take n path) (entries r)) (waiting path fs) (prefixed (take f.0 path) (entries f.1))
 
+  -- a bound of all numbers, and of one more at the end
   within_all-snoc : (m : ℕ) (fs : List (ℕ × Row V)) (n : ℕ) (r : Row V) → IsWithinAll m fs → m ≤ n → IsWithinAll m (fs ++ (n, r) ∷ [])
   within_all-snoc m [] n r h le = (le, tt)
   within_all-snoc m (f ∷ fs) n r h le = (h.0, within_all-snoc m fs n r h.1 le)
 
+  -- a bound of the last number, and of those before it
   within_all-last : (m : ℕ) (fs : List (ℕ × Row V)) (n : ℕ) (r : Row V) → IsWithinAll m (fs ++ (n, r) ∷ []) → (m ≤ n) × IsWithinAll m fs
   within_all-last m [] n r h = (h.0, tt)
   within_all-last m (f ∷ fs) n r h = let later = within_all-last m fs n r h.1 in (later.0, (h.0, later.1))
 
+  -- one more row that waits adds its steps
   steps_waiting-snoc : (fs : List (ℕ × Row V)) (n : ℕ) (r : Row V) → steps_waiting (fs ++ (n, r) ∷ []) ≡ steps_in r + steps_waiting fs
   steps_waiting-snoc [] n r = omega arith
   steps_waiting-snoc (f ∷ fs) n r = omega (arith, steps_waiting-snoc fs n r)
 
-  pub rows_at-snoc : (fs : List (ℕ × Bor (Boxes V))) (n : ℕ) (r : Bor (Boxes V)) → rows_at (fs ++ (n, r) ∷ []) ≡ rows_at fs ++ (n, row_of r.now) ∷ []
-  rows_at-snoc [] n r = refl
-  rows_at-snoc (f ∷ fs) n r = ap (λ l. (f.0, row_of f.1.now) ∷ l) (rows_at-snoc fs n r)
-
-  pub rows_in-snoc : (fs : List (ℕ × Boxes V)) (n : ℕ) (r : Boxes V) → rows_in (fs ++ (n, r) ∷ []) ≡ rows_in fs ++ (n, row_of r) ∷ []
-  rows_in-snoc [] n r = refl
-  rows_in-snoc (f ∷ fs) n r = ap (λ l. (f.0, row_of f.1) ∷ l) (rows_in-snoc fs n r)
-
+  -- a spot is made of its parts
   spot_is : (s : Spot V) (path : List ℕ) (due : Option V) (row : Row V) (stack : List (ℕ × Row V)) → s.path ≡ path → s.due ≡ due → s.row ≡ row → s.stack ≡ stack
       → s ≡ record { path = path; due = due; row = row; stack = stack }
   spot_is s path due row stack a b c e =
@@ -62,6 +55,7 @@ module _ {V : Type 0} where
       ∙ ap (λ (x : List (ℕ × Row V)). record { path = path; due = due; row = row; stack = x }) e
 
 module _ (item : List ℕ → Type 0) {V : Type 0} where
+  -- a longer path leaves the entries of the rows that wait
   waiting-longer : (path l : List ℕ) (fs : List (ℕ × Row V)) → Waits item path fs → waiting (path ++ l) fs ≡ waiting path fs
   waiting-longer path l [] w = refl
   waiting-longer path l (f ∷ fs) w =
@@ -69,6 +63,7 @@ module _ (item : List ℕ → Type 0) {V : Type 0} where
       let later = waiting-longer path l fs w.rest in
       cc
 
+  -- a longer path keeps them waiting
   Waits-longer : (path l : List ℕ) (fs : List (ℕ × Row V)) → Waits item path fs → Waits item (path ++ l) fs
   Waits-longer path l [] w = tt
   Waits-longer path l (f ∷ fs) w =
@@ -81,6 +76,7 @@ module _ (item : List ℕ → Type 0) {V : Type 0} where
         rest = Waits-longer path l fs w.rest;
       }
 
+  -- a row behind the whole path may wait too
   Waits-push : (path : List ℕ) (fs : List (ℕ × Row V)) (r : Row V) → Waits item path fs → IsValid item path → IsRow item r → Waits item path (fs ++ (length path, r) ∷ [])
   Waits-push path [] r w valid ok =
       record { within = omega arith; below = tt; valid = subst (IsValid item) (sym (take_all (length path) path (omega arith))) valid; row_ok = ok; rest = tt }
@@ -94,6 +90,7 @@ module _ (item : List ℕ → Type 0) {V : Type 0} where
     waits : Waits item (take n path) fs
     same : waiting (take n path) fs ≡ waiting path fs
 
+  -- each last row is such
   last_of : (path : List ℕ) (fs : List (ℕ × Row V)) (n : ℕ) (r : Row V) → Waits item path (fs ++ (n, r) ∷ []) → Last path fs n r
   last_of path [] n r w = record { valid = w.valid; row_ok = w.row_ok; waits = tt; same = refl }
   last_of path (f ∷ fs) n r w =
@@ -109,6 +106,7 @@ module _ (item : List ℕ → Type 0) {V : Type 0} where
         same = cc;
       }
 
+  -- the entries that are left, before and after the step to the children
   left-down : (path l : List ℕ) (v : Option V) (c s : Row V) (fs : List (ℕ × Row V)) → Waits item path fs → prefixed path (entries (node l v c s)) ++ waiting path fs ≡ prefixed (path ++ l) (own v ++ entries c) ++ waiting (path ++ l) (fs ++ (length path, s) ∷ [])
   left-down path l v c s fs w =
       let es = own v ++ entries c in
@@ -163,23 +161,23 @@ module _ (item : List ℕ → Type 0) {V : Type 0} where
       subst (λ q. IsStep item q t) (sym from) (subst (IsStep item _) (sym to) (back s.path t.stack n r (subst (IsSpot item) from w)))
 
   -- a row that is not empty has an entry
-  entries_filled : (l : List ℕ) (v : Option V) (c s : Row V) → IsRow item (node l v c s) → (es : List (List ℕ × V)) → entries (node l v c s) ++ es ≢ []
-  entries_filled l (Some x) c s ok es = λ e. absurd (cc)
-  entries_filled l None end s ok es = absurd (ok.earns)
-  entries_filled l None (node m v c t) s ok es =
-      λ e. child (entries (node m v c t)) (λ none. entries_filled m v c t ok.child [] (append-nil _ ∙ none)) e
+  entries_filled : (l : List ℕ) (v : Option V) (c s : Row V) → IsRow item (node l v c s) → entries (node l v c s) ≢ []
+  entries_filled l (Some x) c s ok = λ e. absurd (cc)
+  entries_filled l None end s ok = absurd (ok.earns)
+  entries_filled l None (node m v c t) s ok = child (entries (node m v c t)) (entries_filled m v c t ok.child)
     where
-      child : (cs : List (List ℕ × V)) → cs ≢ [] → (prefixed l cs ++ entries s) ++ es ≢ []
-      child [] filled = λ e. filled refl
+      child : (cs : List (List ℕ × V)) → cs ≢ [] → prefixed l cs ++ entries s ≢ []
+      child [] filled = absurd (filled refl)
       child (x ∷ cs) filled = λ e. absurd (cc)
 
+  -- where a node is next, an entry is left
   pub left_filled : (s : Spot V) (l : List ℕ) (v : Option V) (c r : Row V) → IsSpot item s → s.row ≡ node l v c r → left s ≢ []
   left_filled s l v c r w row =
       subst (λ q. prefixed s.path (own s.due ++ entries q) ++ waiting s.path s.stack ≢ []) (sym row)
-      (by s.due (entries (node l v c r)) (λ none. entries_filled l v c r (subst (IsRow item) row w.row_ok) [] (append-nil _ ∙ none)))
+      (by s.due (entries (node l v c r)) (entries_filled l v c r (subst (IsRow item) row w.row_ok)))
     where
       by : (due : Option V) (es : List (List ℕ × V)) → es ≢ [] → prefixed s.path (own due ++ es) ++ waiting s.path s.stack ≢ []
-      by None [] filled = λ e. filled refl
+      by None [] filled = absurd (filled refl)
       by None (x ∷ es) filled = λ e. absurd (cc)
       by (Some y) es filled = λ e. absurd (cc)
 
