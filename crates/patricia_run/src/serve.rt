@@ -144,6 +144,27 @@ mod tests {
     }
 
     #[test]
+    fn answers_for_each_kind(rt: HostRuntime) -> Result<(), Fail> {
+        let alloc = rt.alloc();
+        let input = b"get\t\xe3\x81\ninsert\t\xe3\x81\x82\t7\nlist".as_slice();
+        for (word, wanted) in [
+            ("bytes", b"none\nnone\nrows 1\n\xe3\x81\x82 7\n".as_slice()),
+            (
+                "text",
+                b"fault 4\nnone\nrows 1\n\xe3\x81\x82 7\n".as_slice(),
+            ),
+        ] {
+            let words = list_of(alloc, &[word])?;
+            let mut output: Vec<u8> = Vec::new(alloc);
+            let mut errors: Vec<u8> = Vec::new(alloc);
+            assert_eq!(rt; serve(alloc, &words, input, &mut output, &mut errors), 0);
+            assert_eq!(rt; output.as_slice(), wanted);
+            assert!(rt; errors.is_empty());
+        }
+        Ok(())
+    }
+
+    #[test]
     fn statuses(rt: HostRuntime) -> Result<(), Fail> {
         let alloc = rt.alloc();
         let words = list_of(alloc, &["bytes"])?;
@@ -184,6 +205,13 @@ mod tests {
         for (words, error_room, said) in [
             ([].as_slice(), 100, "usage: ptree bytes|text\n"),
             (["Bytes"].as_slice(), 100, "usage: ptree bytes|text\n"),
+            (["texts"].as_slice(), 100, "usage: ptree bytes|text\n"),
+            ([""].as_slice(), 100, "usage: ptree bytes|text\n"),
+            (
+                ["text", "bytes"].as_slice(),
+                100,
+                "usage: ptree bytes|text\n",
+            ),
             (["bytes", "bytes"].as_slice(), 0, ""),
         ] {
             let words = list_of(alloc, words)?;
@@ -202,28 +230,30 @@ mod tests {
     }
 
     // With one memory request refused, the output is whole or the status is 1 with its line.
+    // `.ci/run` runs this with the Nth request refused, for each N.
     #[test]
     fn refused_in_turn(rt: HostRuntime) {
         let alloc = rt.alloc();
-        let Ok(words) = list_of(alloc, &["bytes"]) else {
-            return;
-        };
-        let (Ok(mut output), Ok(mut errors)) = (
+        let (Ok(words), Ok(mut output), Ok(mut errors)) = (
+            list_of(alloc, &["text"]),
             Vec::with_capacity(alloc, 100),
             Vec::with_capacity(alloc, 100),
         ) else {
             return;
         };
         let input = Pieces {
-            text: b"insert\ta\t7\nget\ta\n".as_slice(),
+            text: b"insert\tab\t1\ninsert\tac\t2\nremove\tab\nlist\nclear\nlen\n".as_slice(),
             at: 0,
             piece: 5,
             fails: false,
         };
         let status = serve(alloc, &words, input, &mut output, &mut errors);
         let whole = [
-            b"none\nsome 7\n".as_slice(),
-            b"no memory\nnone\n".as_slice(),
+            b"none\nnone\nsome 1\nrows 1\nac 2\nok\ncount 0\n".as_slice(),
+            b"no memory\nnone\nnone\nrows 1\nac 2\nok\ncount 0\n".as_slice(),
+            b"none\nno memory\nsome 1\nrows 0\nok\ncount 0\n".as_slice(),
+            b"none\nnone\nno memory\nrows 2\nab 1\nac 2\nok\ncount 0\n".as_slice(),
+            b"none\nnone\nsome 1\nno memory\nok\ncount 0\n".as_slice(),
         ];
         let lines = [
             b"ptree: read failed\n".as_slice(),
