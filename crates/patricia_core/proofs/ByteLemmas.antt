@@ -1,10 +1,9 @@
 -- The byte kind: each byte list is valid, and the common length is the number of shared bytes.
-use Rattle.std.proofs.Common.{◌≡◌, ℕ, suc, zero, ◌+◌, ◌<◌, ◌≤◌, ◌==◌, ◌⊎◌, inl, inr, Bool, true, false, List, [], ◌∷◌, ◌++◌, length, take, drop, get_or, refl, sym, ap, subst, ◌∙◌, arith, lt-ltb}
+use Rattle.std.proofs.Common.{◌≡◌, ℕ, suc, ◌<◌, ◌==◌, inl, inr, true, false, List, [], ◌∷◌, length, take, get_or, refl, ap, subst, arith}
 use Rattle.std.specs.List.{concat}
 use Rattle.std.proofs.lemmas.List.{get_or-take, length-take}
 use Rattle.std.proofs.lemmas.Bool.Decides.{nat_tests}
-use Rattle.std.proofs.lemmas.Grind.{common_steps}
-use Rattle.patricia_core.specs.Keys.{Begins, AreItems, IsValid, IsCommon, IsFloor, IsSharedLen, IsFirstItem}
+use Rattle.patricia_core.specs.Keys.{AreItems, IsValid, IsCommon, IsFloor, IsSharedLen, IsFirstItem}
 use Rattle.patricia_core.proofs.KeyLemmas.{common_by_floor}
 use Rattle.patricia_core.specs.ByteKind.{IsByteItem, one_byte}
 

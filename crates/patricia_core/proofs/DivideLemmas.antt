@@ -1,16 +1,16 @@
 -- A write of a key that ends within a label, or leaves it there.
-use Rattle.std.proofs.Common.{◌≡◌, ℕ, suc, zero, ◌+◌, ◌<◌, ◌≤◌, ◌≢◌, ◌⊎◌, inl, inr, Bool, true, false, List, [], ◌∷◌, ◌++◌, Option, Some, None, length, take, drop, refl, sym, ap, subst, ◌∙◌, arith}
-use Rattle.std.specs.FinMap.{find, put}
-use Rattle.std.proofs.lemmas.List.{append_assoc, append-nil, append_cancel_left, take-append-drop, length-take-le, length-append, length-drop, take_at, drop_at}
+use Rattle.std.proofs.Common.{◌≡◌, ℕ, ◌+◌, ◌≢◌, List, [], ◌++◌, Option, Some, None, length, take, drop, refl, sym, ap, subst, ◌∙◌, arith}
+use Rattle.std.specs.FinMap.{put}
+use Rattle.std.proofs.lemmas.List.{append_assoc, append-nil, take-append-drop, length-take-le, length-append, length-drop, take_at}
 use Rattle.patricia_core.specs.Keys.{Begins, IsKeyKind, IsValid, IsCommon, ComparesFirst, key_cmp}
-use Rattle.patricia_core.specs.Meeting.{SharesItem, EndsWithin, Passes}
+use Rattle.patricia_core.specs.Meeting.{SharesItem, EndsWithin}
 use Rattle.patricia_core.specs.Rows.{Row, end, node, prefixed, own, entries, IsBefore, IsBeforeRow, IsRow}
-use Rattle.patricia_core.proofs.KeyLemmas.{Begins-trans, item-filled, valid_rest, IsValid-append, IsValid-item}
+use Rattle.patricia_core.proofs.KeyLemmas.{valid_rest, IsValid-append, IsValid-item}
 use Rattle.std.specs.declared.cmp.Ordering.{Ordering}
 use Rattle.std.specs.declared.cmp.Ordering.TheVariants.{Less, Equal, Greater}
 use Rattle.patricia_core.proofs.RowLemmas.{prefixed-prefixed, with_value, with_child, with_sibling, child_of}
 use Rattle.patricia_core.proofs.GetLemmas.{compared_greater, compared_equal}
-use Rattle.patricia_core.proofs.InsertLemmas.{IsBefore-shorter_left, single, put_own, put_child, put_before, put_past, put_front, earns_elsewhere}
+use Rattle.patricia_core.proofs.InsertLemmas.{IsBefore-shorter_left, single, put_own, put_before, put_past, put_front, earns_elsewhere}
 
 -- a key and a label fall into a common front and two rests with different first items
 pub record Divides (item : List ℕ → Type 0) (q l p t d : List ℕ) : Type 0 where

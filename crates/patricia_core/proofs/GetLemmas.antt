@@ -1,15 +1,15 @@
 -- What a look-up finds at a node, by how the key compares with its label.
-use Rattle.std.proofs.Common.{◌≡◌, ℕ, suc, zero, ◌+◌, ◌<◌, ◌≤◌, ◌≢◌, ◌⊎◌, inl, inr, Bool, true, false, List, [], ◌∷◌, ◌++◌, Option, Some, None, length, take, drop, refl, sym, ap, subst, ◌∙◌, arith}
+use Rattle.std.proofs.Common.{◌≡◌, ℕ, ◌≤◌, ◌≢◌, inl, inr, List, [], ◌∷◌, ◌++◌, Option, Some, None, length, take, drop, refl, sym, ap, subst, ◌∙◌, arith}
 use Rattle.std.specs.declared.cmp.Ordering.TheVariants.{Less, Equal, Greater}
 use Rattle.std.specs.Ordering.{ordering_reverse}
 use Rattle.std.specs.Cmp.Lexicographic.{nat_list_cmp_total}
 use Rattle.std.specs.FinMap.{find}
-use Rattle.std.proofs.lemmas.List.{append_assoc, append-nil, append_cancel_left, take-append-drop, length-take-le, length-append, take_at, nil_from_length}
-use Rattle.patricia_core.specs.Keys.{Begins, IsKeyKind, IsValid, IsCommon, IsFirstItem, ComparesFirst, key_cmp}
+use Rattle.std.proofs.lemmas.List.{append-nil, take-append-drop, length-take-le, length-append, take_at, nil_from_length}
+use Rattle.patricia_core.specs.Keys.{Begins, IsKeyKind, IsValid, IsCommon, ComparesFirst, key_cmp}
 use Rattle.patricia_core.specs.Meeting.{SharesItem, EndsWithin, Passes}
-use Rattle.patricia_core.specs.Rows.{Row, end, node, prefixed, own, entries, IsBefore, IsBeforeRow, IsRow}
-use Rattle.patricia_core.proofs.KeyLemmas.{Begins-trans, key_cmp-irreflexive, key_cmp-same, begins_same, item-filled, IsValid-nil}
-use Rattle.patricia_core.proofs.RowLemmas.{AllKeys, AllKeys-append, AllKeys-prefixed, lacks_item, lacks_empty, rises_on}
+use Rattle.patricia_core.specs.Rows.{Row, node, prefixed, own, entries, IsBefore, IsRow}
+use Rattle.patricia_core.proofs.KeyLemmas.{key_cmp-irreflexive}
+use Rattle.patricia_core.proofs.RowLemmas.{AllKeys, AllKeys-append, AllKeys-prefixed, lacks_item, lacks_empty}
 use Rattle.patricia_core.proofs.ListLemmas.{IsBelow, key_cmp-equal, find_absent, find-append_left, find-append_right, find-prefixed}
 use Rattle.patricia_core.proofs.OrderLemmas.{IsBefore-less, below_row}
 

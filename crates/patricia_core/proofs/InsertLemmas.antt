@@ -1,14 +1,14 @@
 -- What a write leaves at a node, by how the key compares with its label.
-use Rattle.std.proofs.Common.{◌≡◌, ℕ, suc, zero, ◌+◌, ◌<◌, ◌≤◌, ◌≢◌, ◌⊎◌, inl, inr, Bool, true, false, List, [], ◌∷◌, ◌++◌, Option, Some, None, length, take, drop, refl, sym, ap, subst, ◌∙◌, arith}
-use Rattle.std.specs.declared.cmp.Ordering.TheVariants.{Less, Equal, Greater}
-use Rattle.std.specs.FinMap.{find, put}
+use Rattle.std.proofs.Common.{◌≡◌, ℕ, ◌≢◌, ◌⊎◌, inl, inr, List, [], ◌∷◌, ◌++◌, Option, Some, None, refl, sym, ap, subst, ◌∙◌}
+use Rattle.std.specs.declared.cmp.Ordering.TheVariants.{Less}
+use Rattle.std.specs.FinMap.{put}
 use Rattle.std.specs.Prelude.{Result, Ok, Err, OnOk, OnErr}
-use Rattle.std.proofs.lemmas.List.{append_assoc, append-nil, append_cancel_left}
+use Rattle.std.proofs.lemmas.List.{append-nil}
 use Rattle.patricia_core.specs.Keys.{Begins, IsKeyKind, IsValid, key_cmp}
-use Rattle.patricia_core.specs.Meeting.{SharesItem, EndsWithin, Passes}
+use Rattle.patricia_core.specs.Meeting.{Passes}
 use Rattle.patricia_core.specs.Rows.{Row, end, node, prefixed, own, entries, IsBefore, IsBeforeRow, EarnsWithin, IsRow}
-use Rattle.patricia_core.proofs.KeyLemmas.{Begins-trans, key_cmp-irreflexive, key_cmp-same, begins_same, item-filled, first_of, valid_rest}
-use Rattle.patricia_core.proofs.RowLemmas.{AllKeys, AllKeys-append, AllKeys-left, AllKeys-prefixed, rises_on}
+use Rattle.patricia_core.proofs.KeyLemmas.{Begins-trans, begins_same, first_of}
+use Rattle.patricia_core.proofs.RowLemmas.{AllKeys, AllKeys-append, AllKeys-prefixed, rises_on}
 use Rattle.patricia_core.proofs.ListLemmas.{IsBelow, IsAbove, put_below, put-append_left, put-append_right, put-prefixed, AllKeys-put, put-AllKeys}
 use Rattle.patricia_core.proofs.OrderLemmas.{IsBefore-less, below_row, below_own}
 use Rattle.patricia_core.proofs.UniqueLemmas.{branches, has_entry}

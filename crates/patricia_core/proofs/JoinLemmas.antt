@@ -1,5 +1,5 @@
 -- Where a removal joins labels, a point of the keys goes though keys that it begins stay.
-use Rattle.std.proofs.Common.{◌≡◌, ℕ, ◌≢◌, ◌⊎◌, inl, inr, cond, not, List, [], ◌∷◌, ◌++◌, Option, Some, None, length, refl, sym, ap, subst, ◌∙◌, arith}
+use Rattle.std.proofs.Common.{◌≡◌, ℕ, ◌≢◌, inl, inr, cond, not, List, [], ◌∷◌, ◌++◌, Option, Some, None, length, refl, sym, ap, subst, ◌∙◌, arith}
 use Rattle.std.specs.declared.cmp.Ordering.{Ordering}
 use Rattle.std.specs.declared.cmp.Ordering.TheVariants.{Less, Equal, Greater}
 use Rattle.std.specs.Ordering.{is_eq}
@@ -7,9 +7,9 @@ use Rattle.std.proofs.lemmas.List.{append_assoc, append-nil, append_cancel_left}
 use Rattle.patricia_core.specs.Keys.{Begins, IsKeyKind, IsValid, key_cmp}
 use Rattle.patricia_core.specs.Meeting.{Passes}
 use Rattle.patricia_core.specs.Points.{Has, without, Follows, Branches, IsPoint, Joins}
-use Rattle.patricia_core.specs.Rows.{Row, end, node, prefixed, own, entries, IsBefore, EarnsWithin, IsRow, keys_of}
+use Rattle.patricia_core.specs.Rows.{Row, end, node, prefixed, own, entries, EarnsWithin, IsRow, keys_of}
 use Rattle.patricia_core.specs.Removals.{others, IsLoneParent, LeavesAlone}
-use Rattle.patricia_core.proofs.KeyLemmas.{Begins-trans, key_cmp-irreflexive, key_cmp-same, items_same, begins_same, first_of, IsValid-append, valid_rest}
+use Rattle.patricia_core.proofs.KeyLemmas.{Begins-trans, key_cmp-irreflexive, key_cmp-same, begins_same, first_of, IsValid-append}
 use Rattle.patricia_core.proofs.RowLemmas.{AllKeys, lacks_item, lacks_empty}
 use Rattle.patricia_core.proofs.ListLemmas.{key_cmp-equal}
 use Rattle.patricia_core.proofs.RemovalLemmas.{survivor}

@@ -1,15 +1,15 @@
 -- Look-ups and writes in a list of entries that is made of others.
-use Rattle.std.proofs.Common.{◌≡◌, ℕ, suc, zero, ◌+◌, ◌<◌, ◌≤◌, ◌≢◌, ◌⊎◌, inl, inr, Bool, true, false, T, cond, ◌&&◌, List, [], ◌∷◌, ◌++◌, Option, Some, None, length, refl, sym, ap, subst, ◌∙◌, arith}
+use Rattle.std.proofs.Common.{◌≡◌, ℕ, ◌⊎◌, inl, inr, Bool, true, false, T, cond, ◌&&◌, List, [], ◌∷◌, ◌++◌, Some, None, refl, sym, ap, subst, ◌∙◌}
 use Rattle.std.specs.declared.cmp.Ordering.{Ordering}
 use Rattle.std.specs.declared.cmp.Ordering.TheVariants.{Less, Equal, Greater}
 use Rattle.std.specs.Ordering.{nat_cmp, ordering_then, ordering_reverse, is_lt, is_eq, eq_by_cmp}
 use Rattle.std.specs.Cmp.{tied_itself, nat_cmp_total}
 use Rattle.std.specs.Cmp.Lexicographic.{nat_list_cmp_total}
-use Rattle.std.specs.FinMap.{find, put, is_sorted, slice_cmp-IsAntisymmetric, nat_cmp-IsAntisymmetric}
+use Rattle.std.specs.FinMap.{find, put, slice_cmp-IsAntisymmetric, nat_cmp-IsAntisymmetric}
 use Rattle.std.specs.FinMap.Entries.{below_all, by_order}
 use Rattle.patricia_core.specs.Keys.{Begins, key_cmp}
-use Rattle.patricia_core.specs.Rows.{prefixed, own}
-use Rattle.patricia_core.proofs.RowLemmas.{AllKeys, AllKeys-append}
+use Rattle.patricia_core.specs.Rows.{prefixed}
+use Rattle.patricia_core.proofs.RowLemmas.{AllKeys}
 
 pub key_cmp-equal : (a b : List ℕ) → key_cmp a b ≡ Equal → a ≡ b
 key_cmp-equal a b e = slice_cmp-IsAntisymmetric nat_cmp-IsAntisymmetric a b e

@@ -1,13 +1,12 @@
 -- The entries of a row strictly rise.
-use Rattle.std.proofs.Common.{◌≡◌, ℕ, suc, zero, ◌≢◌, ◌⊎◌, inl, inr, Bool, true, false, T, ◌&&◌, List, [], ◌∷◌, ◌++◌, Option, Some, None, length, refl, sym, ap, subst, ◌∙◌, arith}
-use Rattle.std.specs.declared.cmp.Ordering.{Ordering}
-use Rattle.std.specs.declared.cmp.Ordering.TheVariants.{Less, Equal, Greater}
-use Rattle.std.specs.FinMap.{find, put, is_sorted}
-use Rattle.std.specs.FinMap.Entries.{below_all, by_order}
+use Rattle.std.proofs.Common.{◌≡◌, ℕ, inl, inr, Bool, true, false, T, ◌&&◌, List, [], ◌∷◌, ◌++◌, Option, Some, None, refl, sym, ap, ◌∙◌}
+use Rattle.std.specs.declared.cmp.Ordering.TheVariants.{Less}
+use Rattle.std.specs.FinMap.{is_sorted}
+use Rattle.std.specs.FinMap.Entries.{below_all}
 use Rattle.std.proofs.lemmas.List.{append_assoc, append-nil}
-use Rattle.patricia_core.specs.Keys.{Begins, IsKeyKind, key_cmp}
+use Rattle.patricia_core.specs.Keys.{IsKeyKind, key_cmp}
 use Rattle.patricia_core.specs.Rows.{Row, end, node, prefixed, own, entries, IsBefore, IsBeforeRow, IsRow}
-use Rattle.patricia_core.proofs.KeyLemmas.{Begins-trans, key_cmp-irreflexive}
+use Rattle.patricia_core.proofs.KeyLemmas.{key_cmp-irreflexive}
 use Rattle.patricia_core.proofs.RowLemmas.{AllKeys, AllKeys-append, AllKeys-prefixed, rises_on, lacks_empty}
 use Rattle.patricia_core.proofs.ListLemmas.{IsBelow, key_cmp-extends, key_cmp-front, below_all-from}
 

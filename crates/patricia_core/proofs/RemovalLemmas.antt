@@ -1,21 +1,20 @@
 -- What a removal leaves of a row, by how the key compares with the first label.
-use Rattle.std.proofs.Common.{◌≡◌, ℕ, suc, zero, ◌+◌, ◌<◌, ◌≤◌, ◌≢◌, ◌⊎◌, inl, inr, Bool, true, false, cond, not, List, [], ◌∷◌, ◌++◌, Option, Some, None, refl, sym, ap, subst, ◌∙◌, arith}
+use Rattle.std.proofs.Common.{◌≡◌, ℕ, suc, ◌+◌, ◌≤◌, ◌≢◌, inl, inr, cond, not, List, [], ◌∷◌, ◌++◌, Option, Some, None, refl, sym, ap, subst, ◌∙◌, arith}
 use mathlib.Core.Bool.{false≢true}
 use Rattle.std.specs.Prelude.{Vec, MatchOption, IsSome}
 use Rattle.std.specs.Global.{Global}
 use Rattle.std.specs.declared.cmp.Ordering.{Ordering}
 use Rattle.std.specs.declared.cmp.Ordering.TheVariants.{Less, Equal, Greater}
 use Rattle.std.specs.Ordering.{is_eq}
-use Rattle.std.specs.FinMap.{find}
 use Rattle.std.proofs.lemmas.List.{append-nil}
 use Rattle.std.proofs.lemmas.List.Elements.{filter-append}
 use Rattle.std.proofs.lemmas.Bool.{cases_lt}
 use Rattle.patricia_core.specs.Keys.{Begins, IsKeyKind, IsValid, key_cmp}
-use Rattle.patricia_core.specs.Meeting.{SharesItem, EndsWithin, Passes}
-use Rattle.patricia_core.specs.Rows.{Row, end, node, prefixed, own, entries, IsBefore, IsBeforeRow, EarnsWithin, IsRow, keys_of}
-use Rattle.patricia_core.specs.Removals.{others, width, HasLeaf, first_value, IsLoneParent, taking_in, without_first, LeavesAlone, KeepsPlace, LosesPlace, settled}
+use Rattle.patricia_core.specs.Meeting.{EndsWithin, Passes}
+use Rattle.patricia_core.specs.Rows.{Row, end, node, prefixed, own, entries, IsBefore, IsBeforeRow, EarnsWithin, IsRow}
+use Rattle.patricia_core.specs.Removals.{others, width, HasLeaf, taking_in, without_first, LeavesAlone, KeepsPlace, LosesPlace, settled}
 use Rattle.patricia_core.proofs.KeyLemmas.{first_of, IsValid-append}
-use Rattle.patricia_core.proofs.RowLemmas.{AllKeys, AllKeys-append, AllKeys-prefixed, prefixed-prefixed, lacks_empty}
+use Rattle.patricia_core.proofs.RowLemmas.{AllKeys, prefixed-prefixed, lacks_empty}
 use Rattle.patricia_core.proofs.ListLemmas.{key_cmp-equal, key_cmp-front}
 use Rattle.patricia_core.proofs.GetLemmas.{lacks_past, lacks_before, lacks_within, later_lacks}
 use Rattle.patricia_core.proofs.InsertLemmas.{IsBefore-longer_left, keys_rise, rises_by_keys, earns_elsewhere}

@@ -1,9 +1,8 @@
 -- The entries of a row: where they begin, and which are in it.
-use Rattle.std.proofs.Common.{◌≡◌, ℕ, suc, zero, ◌+◌, ◌<◌, ◌≤◌, ◌≢◌, ◌⊎◌, inl, inr, Bool, true, false, List, [], ◌∷◌, ◌++◌, Option, Some, None, length, refl, sym, ap, subst, ◌∙◌, arith}
-use Rattle.std.specs.declared.cmp.Ordering.TheVariants.{Less, Equal, Greater}
+use Rattle.std.proofs.Common.{◌≡◌, ℕ, List, [], ◌∷◌, ◌++◌, Option, refl, sym, ap, ◌∙◌}
 use Rattle.std.specs.Cmp.Lexicographic.{nat_list_cmp_total}
-use Rattle.std.proofs.lemmas.List.{append_assoc, append-nil, append_cancel_left}
-use Rattle.patricia_core.specs.Keys.{Begins, IsKeyKind, IsValid, key_cmp}
+use Rattle.std.proofs.lemmas.List.{append_assoc}
+use Rattle.patricia_core.specs.Keys.{Begins, IsKeyKind}
 use Rattle.patricia_core.specs.Rows.{Row, end, node, prefixed, own, entries, IsBefore, IsBeforeRow, IsRowWithin}
 use Rattle.patricia_core.proofs.KeyLemmas.{Begins-trans, key_cmp-irreflexive, begins_same}
 

@@ -1,14 +1,14 @@
 -- The text kind: the valid keys are the texts.
-use Rattle.std.proofs.Common.{◌≡◌, ℕ, ◌+◌, ◌<◌, ◌≤◌, ◌&&◌, Bool, true, false, List, [], ◌∷◌, ◌++◌, length, take, drop, inl, inr, refl, sym, ap, subst, ◌∙◌, arith}
+use Rattle.std.proofs.Common.{◌≡◌, ℕ, true, List, [], ◌∷◌, ◌++◌, length, take, drop, inl, inr, refl, sym, ap, subst, ◌∙◌, arith}
 use Rattle.std.specs.List.{concat}
 use Rattle.std.specs.Str.{IsUtf8, IsValidUpTo}
 use Rattle.std.specs.Prelude.{Result, Ok, Err, MatchResult, IsTrue, is_ok}
-use Rattle.std.proofs.lemmas.List.{take_all, length-take, length-append, take-take, take-append-drop, take_at}
+use Rattle.std.proofs.lemmas.List.{take_all, take-append-drop, take_at}
 use Rattle.std.proofs.lemmas.Bool.{cases_lt}
 use Rattle.std.proofs.Math.Utf8.{encode, encodes, scalar, scalars}
 use Rattle.std.specs.Cmp.{first_so, second_so}
 use Rattle.std.proofs.lemmas.Str.{IsUtf8-append, IsUtf8-encode, IsUtf8-nil, cons_from_encodes}
-use Rattle.patricia_core.specs.Keys.{AreItems, IsValid, IsFloor, IsCommon, IsFirstItem, Begins}
+use Rattle.patricia_core.specs.Keys.{AreItems, IsValid, IsFloor, IsFirstItem}
 use Rattle.patricia_core.specs.TextKind.{IsTextItem, one_char}
 
 valid_chars : (cs : List ℕ) → scalars cs ≡ true → IsValid IsTextItem (encodes cs)

@@ -1,5 +1,5 @@
 -- A tree's entries as a finite map.
-use Rattle.std.proofs.Common.{◌≡◌, ℕ, suc, zero, ◌+◌, ◌<◌, ◌≤◌, ◌≢◌, Bool, true, false, T, cond, not, List, [], ◌∷◌, ◌++◌, Option, Some, None, length, refl, sym, ap, subst, ◌∙◌, arith, length-append}
+use Rattle.std.proofs.Common.{◌≡◌, ℕ, ◌+◌, ◌≢◌, true, false, T, cond, not, List, [], ◌++◌, Option, Some, None, length, refl, sym, ap, subst, ◌∙◌, arith, length-append}
 use Rattle.std.specs.Option.{is_some, option_map}
 use Rattle.std.specs.FinMap.{FinMap, find, put, is_sorted, from_sorted, insert, remove, get, len, empty, entries-from_sorted, get-from_sorted, get-remove, entries-insert, same_entries_map, same_map, slice_cmp-IsAntisymmetric, nat_cmp-IsAntisymmetric, len-entries, len-empty}
 use Rattle.std.proofs.lemmas.List.{nil_from_length}
@@ -12,8 +12,8 @@ use Rattle.patricia_core.proofs.ListLemmas.{key_cmp-equal}
 use Rattle.patricia_core.proofs.RemovalLemmas.{others_own, others_below}
 use Rattle.std.specs.Cmp.Lexicographic.{nat_list_cmp_total}
 use Rattle.patricia_core.specs.Keys.{IsKeyKind, key_cmp}
-use Rattle.patricia_core.specs.Rows.{Row, end, node, prefixed, own, entries, IsRow, keys_of}
-use Rattle.patricia_core.specs.Trees.{map_of, IsTree}
+use Rattle.patricia_core.specs.Rows.{Row, end, own, entries, IsRow, keys_of}
+use Rattle.patricia_core.specs.Trees.{map_of}
 use Rattle.patricia_core.proofs.OrderLemmas.{entries_sorted, sorted_own, sorted-append, below_own}
 use Rattle.patricia_core.proofs.GetLemmas.{find_own, find_child}
 use Rattle.patricia_core.proofs.InsertLemmas.{put_own, put_child}

@@ -1,5 +1,5 @@
 -- How a key meets a label.
-use Rattle.std.specs.Prelude.{◌≡◌, ℕ, ◌<◌, Bool, true, List, ◌++◌, length}
+use Rattle.std.specs.Prelude.{◌≡◌, ℕ, ◌<◌, List, ◌++◌, length}
 use Rattle.patricia_core.specs.declared.meeting.Meeting.{Meeting}
 use Rattle.patricia_core.specs.declared.meeting.Meeting.TheVariants.{Before, After, Into, Through}
 use Rattle.patricia_core.specs.Keys.{Begins, IsCommon}

@@ -1,5 +1,4 @@
 -- The row that boxed nodes stand for.
-use Rattle.std.specs.Prelude.{List, ℕ, Option, Some, None, ◌≡◌}
 use Rattle.patricia_core.specs.declared.node.Row.{Row as Boxes, End, More'}
 use Rattle.patricia_core.specs.declared.node.Node.{Node}
 use Rattle.patricia_core.specs.Rows.{Row, end, node}

@@ -1,5 +1,5 @@
 -- What a removal leaves of a row.
-use Rattle.std.specs.Prelude.{◌≡◌, ℕ, suc, ◌≤◌, ◌⊎◌, List, [], ◌∷◌, ◌++◌, not, Option, Some, None, IsSome, Vec}
+use Rattle.std.specs.Prelude.{◌≡◌, ℕ, suc, ◌⊎◌, List, ◌++◌, not, Option, Some, None, IsSome, Vec}
 use Rattle.std.specs.Global.{Global}
 use Rattle.std.specs.FinMap.Entries.{where_key}
 use Rattle.std.specs.Ordering.{eq_by_cmp}

@@ -1,5 +1,5 @@
 -- How far a walk has come, and what it has left.
-use Rattle.std.specs.Prelude.{◌≡◌, ◌≢◌, ℕ, ◌+◌, ◌<◌, ◌≤◌, List, [], ◌∷◌, ◌++◌, length, take, Option, Some, None}
+use Rattle.std.specs.Prelude.{◌≡◌, ℕ, ◌+◌, ◌<◌, ◌≤◌, List, [], ◌∷◌, ◌++◌, length, take, Option, Some, None}
 use Rattle.patricia_core.specs.Keys.{IsValid}
 use Rattle.patricia_core.specs.Rows.{Row, end, node, prefixed, own, entries, IsRow}
 

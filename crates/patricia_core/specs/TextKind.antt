@@ -6,7 +6,7 @@ use Rattle.std.proofs.lemmas.Bool.Decides.{nat_tests}
 use Rattle.std.specs.Char.{IsScalar}
 use Rattle.std.proofs.Common.{arith, ltb, refl, inl, inr, sym, ap, ◌∙◌, subst}
 use Rattle.std.proofs.Math.Utf8.{encode, scalar_cases, next}
-use Rattle.std.proofs.lemmas.List.{append-nil, append_cancel_left}
+use Rattle.std.proofs.lemmas.List.{append-nil}
 use Rattle.std.proofs.lemmas.Str.{length-encode, len_utf8_bounds, encode_same}
 use Rattle.patricia_core.specs.Keys.{IsKeyKind}
 

@@ -1,4 +1,3 @@
-use Rattle.std.proofs.Common.{rules, arith}
 use Rattle.patricia_core.proofs.GetLemmas.{compared_less, compared_greater, compared_equal, common_splits}
 use Rattle.patricia_core.proofs.meeting.meet.Goals as goal
 

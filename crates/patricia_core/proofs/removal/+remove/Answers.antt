@@ -7,7 +7,7 @@ use Rattle.patricia_core.specs.Keys.{key_cmp}
 use Rattle.patricia_core.specs.Rows.{IsRow, entries, node, keys_of}
 use Rattle.patricia_core.specs.Nodes.{row_of, row_from}
 use Rattle.patricia_core.specs.Points.{Joins}
-use Rattle.patricia_core.specs.Removals.{others, without_first}
+use Rattle.patricia_core.specs.Removals.{others}
 use Rattle.patricia_core.proofs.GetLemmas.{find_past, find_before, find_within, find_here, find_deeper}
 use Rattle.patricia_core.proofs.InsertLemmas.{ok_or_err}
 use Rattle.patricia_core.proofs.JoinLemmas.{joins_past, joins_deeper, joins_lone, joins_alone}

@@ -1,5 +1,4 @@
-use Rattle.std.proofs.Common.{◌≡◌, sym, ap, ◌∙◌}
-use Rattle.std.specs.FinMap as map
+use Rattle.std.proofs.Common.{sym}
 use Rattle.patricia_core.proofs.TreeLemmas.{len_some, len_none}
 use Rattle.patricia_core.proofs.tree.Tree.len.Goals as goal
 

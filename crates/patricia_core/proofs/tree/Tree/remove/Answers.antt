@@ -1,6 +1,5 @@
-use Rattle.std.proofs.Common.{◌≡◌, ◌≢◌, ◌+◌, ◌<◌, ◌-◌, ◌^◌, [], Some, None, sym, ap, subst, ◌∙◌, refl, arith, length}
+use Rattle.std.proofs.Common.{sym, subst, ◌∙◌, refl, arith}
 use mathlib.Core.Bool.{false≢true}
-use Rattle.std.specs.FinMap as map
 use Rattle.patricia_core.specs.Nodes.{row_of}
 use Rattle.patricia_core.specs.Points.{Joins}
 use Rattle.patricia_core.specs.Rows.{entries}

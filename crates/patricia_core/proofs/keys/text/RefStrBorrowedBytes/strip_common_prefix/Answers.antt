@@ -1,4 +1,3 @@
-use Rattle.std.proofs.lemmas.List.{take_rest}
 use Rattle.std.proofs.lemmas.Str.{IsCharBoundary-from_take}
 use Rattle.patricia_core.specs.TextKind.{IsTextItem}
 use Rattle.patricia_core.proofs.KeyLemmas.{common_by_floor}
