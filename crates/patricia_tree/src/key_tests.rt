@@ -114,8 +114,21 @@ fn first_items_in_order(rt: HostRuntime) {
     assert!(rt; first_items("い".as_bytes(), "う".as_bytes()) == Some(Ordering::Equal));
 }
 
+// The first bytes of a key and the others, where the first are whole items.
+fn halves<Q: BorrowedBytes>(key: Q, n: usize) -> Option<(Q, Q)> {
+    let front = key.as_bytes().get(..n)?;
+    if !Q::Owned::is_valid_bytes(front) {
+        return None;
+    }
+    Some((key.keep_n_prefix(n), key.strip_n_prefix(n)))
+}
+
 #[test]
-fn ends_of_a_key(rt: HostRuntime) {
-    assert_eq!(rt; b"foobar".as_slice().strip_n_prefix(3), b"bar".as_slice());
-    assert_eq!(rt; b"foobar".as_slice().keep_n_prefix(3), b"foo".as_slice());
+fn halves_of_a_key(rt: HostRuntime) {
+    assert_eq!(rt; halves("🌏🗻", 4), Some(("🌏", "🗻")));
+    assert_eq!(rt; halves("🌏🗻", 5), None);
+    assert_eq!(rt; halves("🌏🗻", 9), None);
+    let (front, rest) = halves(b"foobar".as_slice(), 3).unwrap_or_default();
+    assert_eq!(rt; front, b"foo".as_slice());
+    assert_eq!(rt; rest, b"bar".as_slice());
 }

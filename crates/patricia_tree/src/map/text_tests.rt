@@ -1,4 +1,5 @@
 use super::*;
+use std::process::Abort;
 use std::test::Fail;
 
 fn put(map: &mut StringPatriciaMap<u64>, key: &str, value: u64) -> Result<Option<u64>, AllocError> {
@@ -8,66 +9,87 @@ fn put(map: &mut StringPatriciaMap<u64>, key: &str, value: u64) -> Result<Option
     }
 }
 
-// The values of a map in the order of their keys.
-fn values_of(alloc: Global, map: &StringPatriciaMap<u64>) -> Result<Vec<u64>, AllocError> {
-    let mut values = Vec::new(alloc);
-    for value in map.values() {
-        values.push(*value?)?;
+// The map of some entries with different keys.
+fn map_of(
+    rt: &impl Abort,
+    alloc: Global,
+    entries: &[(&str, u64)],
+) -> Result<StringPatriciaMap<u64>, AllocError> {
+    let mut map = StringPatriciaMap::new(alloc);
+    for (key, value) in entries {
+        assert_eq!(rt; put(&mut map, key, *value)?, None);
     }
-    Ok(values)
+    for (key, value) in entries {
+        assert_eq!(rt; map.get(*key).copied(), Some(*value));
+    }
+    Ok(map)
+}
+
+// Compares the values in the order of their keys.
+fn check_values(
+    rt: &impl Abort,
+    map: &StringPatriciaMap<u64>,
+    wanted: &[u64],
+) -> Result<(), AllocError> {
+    let mut left = wanted;
+    for value in map.values() {
+        let value = value?;
+        assert_eq!(rt; left.first(), Some(value));
+        left = left.get(1..).unwrap_or(&[]);
+    }
+    assert!(rt; left.is_empty());
+    Ok(())
 }
 
 #[test]
 fn words_of_one_beginning(rt: HostRuntime) -> Result<(), Fail> {
-    let mut map = StringPatriciaMap::new(rt.alloc());
-    for (key, value) in [("インターポール", 1), ("インターポル", 2), ("インターリーブ", 3), ("インターン", 4)] {
-        assert_eq!(rt; put(&mut map, key, value)?, None);
-    }
-    assert_eq!(rt; map.get("インターポール"), Some(&1));
-    assert_eq!(rt; map.get("インターポル"), Some(&2));
-    assert_eq!(rt; map.get("インター"), None);
-    let values = values_of(rt.alloc(), &map)?;
-    assert_eq!(rt; values.as_slice(), [2, 1, 3, 4].as_slice());
+    let entries = [("インターポール", 1), ("インターポル", 2), ("インターリーブ", 3), ("インターン", 4)];
+    let map = map_of(&rt, rt.alloc(), &entries)?;
+    assert!(rt; !map.contains_key("インター"));
+    check_values(&rt, &map, &[2, 1, 3, 4])?;
     Ok(())
 }
 
 #[test]
 fn characters_that_begin_alike(rt: HostRuntime) -> Result<(), Fail> {
-    let mut map = StringPatriciaMap::new(rt.alloc());
-    assert_eq!(rt; put(&mut map, "🌏🗻", 1)?, None);
-    assert_eq!(rt; put(&mut map, "🌏🍔", 2)?, None);
-    assert_eq!(rt; map.get("🌏"), None);
+    let mut map = map_of(&rt, rt.alloc(), &[("🌏🗻", 1), ("🌏🍔", 2)])?;
+    assert!(rt; !map.contains_key("🌏"));
     assert_eq!(rt; put(&mut map, "🌏", 3)?, None);
-    let values = values_of(rt.alloc(), &map)?;
-    assert_eq!(rt; values.as_slice(), [3, 2, 1].as_slice());
+    check_values(&rt, &map, &[3, 2, 1])?;
     assert_eq!(rt; map.remove("🌏🗻")?, Some(1));
     assert_eq!(rt; map.remove("🌏")?, Some(3));
-    assert_eq!(rt; map.get("🌏🍔"), Some(&2));
+    check_values(&rt, &map, &[2])?;
     Ok(())
 }
 
-// Keys of characters of each width, of so many bytes or a little less.
+// Puts in keys of one character, each of so many bytes or a little less.
+fn put_long_keys(
+    rt: &impl Abort,
+    alloc: Global,
+    map: &mut StringPatriciaMap<u64>,
+    character: &str,
+) -> Result<(), AllocError> {
+    for bytes in 252..514usize {
+        let times = bytes.checked_div(character.len()).unwrap_or(0);
+        let key = character.repeat(alloc, times)?;
+        put(map, key.as_str(), bytes as u64)?;
+        assert_eq!(rt; map.get(key.as_str()).copied(), Some(bytes as u64));
+        let longer = format!(in alloc; "{key}ん")?;
+        assert!(rt; !map.contains_key(longer.as_str()));
+    }
+    Ok(())
+}
+
 #[test]
 fn long_keys_of_each_width(rt: HostRuntime) -> Result<(), Fail> {
-    let alloc = rt.alloc();
-    let mut map = StringPatriciaMap::new(alloc);
-    let mut count: u64 = 0;
-    for character in ["a", "ß", "あ", "🌏"] {
-        for bytes in [
-            252, 253, 254, 255, 256, 257, 508, 509, 510, 511, 512, 513usize,
-        ] {
-            let times = bytes.checked_div(character.len()).ok_or("no byte")?;
-            let key = character.repeat(alloc, times)?;
-            let old = put(&mut map, key.as_str(), count)?;
-            assert!(rt; old.is_none() || character.len() > 1);
-            assert_eq!(rt; map.get(key.as_str()), Some(&count));
-            let longer = format!(in alloc; "{key}ん")?;
-            assert_eq!(rt; map.get(longer.as_str()), None);
-            count = count.saturating_add(1);
-        }
-    }
-    let values = values_of(alloc, &map)?;
-    assert_eq!(rt; values.len(), map.len());
-    assert_eq!(rt; map.len(), 12 + 6 + 5 + 4);
+    let mut map = StringPatriciaMap::new(rt.alloc());
+    put_long_keys(&rt, rt.alloc(), &mut map, "a")?;
+    assert_eq!(rt; map.len(), 262);
+    put_long_keys(&rt, rt.alloc(), &mut map, "ß")?;
+    assert_eq!(rt; map.len(), 393);
+    put_long_keys(&rt, rt.alloc(), &mut map, "あ")?;
+    assert_eq!(rt; map.len(), 481);
+    put_long_keys(&rt, rt.alloc(), &mut map, "🌏")?;
+    assert_eq!(rt; map.len(), 547);
     Ok(())
 }
