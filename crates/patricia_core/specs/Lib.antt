@@ -2,6 +2,7 @@ pub mod ByteKind
 pub mod Counts
 pub mod Keys
 pub mod Lent
+pub mod Links
 pub mod Meeting
 pub mod Nodes
 pub mod Owned

@@ -5,7 +5,9 @@
 
 pub mod into_walk;
 pub mod keys;
+mod label;
 pub mod laws;
+mod link;
 mod meeting;
 mod node;
 mod removal;
