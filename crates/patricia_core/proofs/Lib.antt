@@ -1,6 +1,7 @@
 pub mod ByteLemmas
 pub mod CountLemmas
 pub mod DivideLemmas
+pub mod FillLemmas
 pub mod GetLemmas
 pub mod InsertLemmas
 pub mod JoinLemmas
@@ -8,9 +9,11 @@ pub mod KeyLemmas
 pub mod ListLemmas
 pub mod MemberLemmas
 pub mod OrderLemmas
+pub mod PlanLemmas
 pub mod PointLemmas
 pub mod RemovalLemmas
 pub mod RowLemmas
+pub mod SeekLemmas
 pub mod TextLemmas
 pub mod TreeLemmas
 pub mod UniqueLemmas

@@ -6,6 +6,8 @@ pub mod Links
 pub mod Meeting
 pub mod Nodes
 pub mod Owned
+pub mod Places
+pub mod Plans
 pub mod Points
 pub mod Removals
 pub mod Rows

@@ -11,6 +11,7 @@ mod link;
 mod meeting;
 mod node;
 mod removal;
+mod slots;
 pub mod steps;
 pub mod tree;
 pub mod walk;
