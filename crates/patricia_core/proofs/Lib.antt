@@ -1,3 +1,4 @@
+pub mod AddLemmas
 pub mod ByteLemmas
 pub mod CountLemmas
 pub mod DivideLemmas
@@ -7,6 +8,7 @@ pub mod InsertLemmas
 pub mod JoinLemmas
 pub mod KeyLemmas
 pub mod ListLemmas
+pub mod MakeLemmas
 pub mod MemberLemmas
 pub mod OrderLemmas
 pub mod PlanLemmas
@@ -19,3 +21,4 @@ pub mod TreeLemmas
 pub mod UniqueLemmas
 pub mod VisitLemmas
 pub mod WalkLemmas
+pub mod WriteLemmas

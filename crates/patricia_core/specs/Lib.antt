@@ -16,3 +16,4 @@ pub mod TextKind
 pub mod ThreeKeys
 pub mod Trees
 pub mod Walks
+pub mod Writes

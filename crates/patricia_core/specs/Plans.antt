@@ -95,6 +95,10 @@ module _ {V : Type 0} where
   abbrev pub row_of : Slots V → Row V
   row_of s = row (plan_at s.nodes.items s.root)
 
-  -- they stand for one, and no node is lost
+  -- they are this plan, and no node is lost
+  abbrev pub Holds : Slots V → Plan V → Type 0
+  Holds s plan = (spare : List ℕ) × IsSound s.nodes.items s.root s.free plan spare
+
+  -- they are some plan
   abbrev pub IsWhole : Slots V → Type 0
-  IsWhole s = (plan : Plan V) × (spare : List ℕ) × IsSound s.nodes.items s.root s.free plan spare
+  IsWhole s = (plan : Plan V) × Holds s plan

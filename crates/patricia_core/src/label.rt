@@ -1,5 +1,5 @@
 //! The label of a node.
-ghost use Rattle.std.specs.Prelude.{◌≡◌, [], ◌++◌, take, length, ◌≤◌, IfOk};
+ghost use Rattle.std.specs.Prelude.{◌≡◌, [], ◌++◌, take, IfOk};
 
 use std::alloc::{AllocError, Global};
 use std::marker::Model;
@@ -52,9 +52,8 @@ impl Label {
         self.bytes.as_slice()
     }
 
-    /// Keeps the first `n` bytes. It takes no memory.
+    /// Keeps the first `n` bytes, or all where there are fewer. It takes no memory.
     pub fn truncate(&mut self, n: usize)
-        requires { n ≤ length self.old }
         ensures { self.new ≡ take n self.old }
     {
         self.bytes.truncate(n);

@@ -1,0 +1,63 @@
+-- A node in a free slot, or behind the last, and its link.
+use Rattle.std.proofs.Common.{◌≡◌, ◌≢◌, ◌⊎◌, inl, inr, ℕ, zero, suc, ◌+◌, ◌<◌, ◌≤◌, List, [], ◌∷◌, ◌++◌, length, set, Option, Some, None, slice_get, get_or, refl, sym, ap, subst, ◌∙◌, arith, length-set, length-append}
+use Rattle.std.proofs.lemmas.Bool.Decides.{nat_tests}
+use Rattle.std.proofs.lemmas.Option.{slice_get_within}
+use Rattle.patricia_core.specs.declared.slots.Node.{Node}
+use Rattle.patricia_core.specs.declared.slots.Slots.{Slots}
+use Rattle.patricia_core.specs.Plans.{one, below, times, first, IsChain}
+use Rattle.patricia_core.specs.Writes.{Makes}
+use Rattle.patricia_core.proofs.PlanLemmas.{one-same, node_is}
+use Rattle.patricia_core.proofs.WriteLemmas.{get-set_same, get-set_other, get-push_same, get-push_other}
+
+-- one number more is below
+below-suc : (n at : ℕ) → below (suc n) at ≡ one n at + below n at
+below-suc n at = grind (arith, nat_tests)
+
+module _ {V : Type 0} (old new : Slots V) (spare : List ℕ) (n : Node V) (id : ℕ) (chain : IsChain old.nodes.items spare) (free_is : old.free ≡ first spare) (root_is : new.root ≡ old.root) where
+  -- the first free number is that of a node
+  pub free_within : old.free ≡ Some id → id < length old.nodes.items
+  free_within e = by spare chain free_is
+    where
+      by : (spare : List ℕ) → IsChain old.nodes.items spare → old.free ≡ first spare → id < length old.nodes.items
+      by [] c f = absurd (cc)
+      by (i ∷ ids) c f = let same : id ≡ i = cc in rw same (slice_get_within old.nodes.items i c.0.0 c.0.1)
+
+  -- the first free node is taken
+  pub makes_free : (m : Node V) → old.free ≡ Some id → m ≡ get_or old.nodes.items id m → new.nodes.items ≡ set old.nodes.items id n → new.free ≡ m.sibling → Makes old new spare n id
+  makes_free m e reads is after = by spare chain free_is
+    where
+      by : (spare : List ℕ) → IsChain old.nodes.items spare → old.free ≡ first spare → Makes old new spare n id
+      by [] c f = absurd (cc)
+      by (i ∷ ids) c f =
+          let same : i ≡ id = cc in
+          let there : slice_get old.nodes.items id ≡ Some c.0.0 = rw (← same) c.0.1 in
+          let long : length new.nodes.items ≡ length old.nodes.items = ap length is ∙ length-set old.nodes.items id n in
+          record {
+            left = ids;
+            there = rw is (get-set_same old.nodes.items id n (slice_get_within old.nodes.items id _ there));
+            others = λ at k. rw is (get-set_other old.nodes.items id at n k);
+            root_is = root_is;
+            free_is = after ∙ ap (λ (x : Node V). x.sibling) (node_is old.nodes.items id m c.0.0 there reads) ∙ c.0.2;
+            chain = c.1;
+            counted = λ at. rw (long, same) refl;
+            longer = omega arith;
+          }
+
+  -- or the vector grows
+  pub makes_push : old.free ≡ None → new.nodes.items ≡ old.nodes.items ++ n ∷ [] → id ≡ length old.nodes.items → new.free ≡ old.free → Makes old new spare n id
+  makes_push e is at_end after = by spare chain free_is
+    where
+      by : (spare : List ℕ) → IsChain old.nodes.items spare → old.free ≡ first spare → Makes old new spare n id
+      by (i ∷ ids) c f = absurd (cc)
+      by [] c f =
+          let long : length new.nodes.items ≡ suc (length old.nodes.items) = omega (arith, ap length is, length-append old.nodes.items (n ∷ [])) in
+          record {
+            left = [];
+            there = rw (is, at_end) (get-push_same old.nodes.items n);
+            others = λ at k. rw is (get-push_other old.nodes.items at n (λ z. k (z ∙ sym at_end)));
+            root_is = root_is;
+            free_is = after ∙ e;
+            chain = tt;
+            counted = λ at. rw (long, at_end) (omega (arith, below-suc (length old.nodes.items) at));
+            longer = omega arith;
+          }

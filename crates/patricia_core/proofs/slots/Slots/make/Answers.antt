@@ -1,0 +1,12 @@
+use Rattle.std.proofs.Common.{refl, sym, ◌∙◌, arith}
+use Rattle.patricia_core.proofs.MakeLemmas.{free_within, makes_free, makes_push}
+use Rattle.patricia_core.proofs.slots.Slots.make.Goals as goal
+
+pub returns-in-Some-clause-makes : goal.returns-in-Some-clause-makes
+returns-in-Some-clause-makes g c = λ spare chain free_is.
+    makes_free _ _ spare c.args.node c.in-Some.id chain free_is refl c.replace-old.result (sym c.get.ensures ∙ c.in-Some.is) (rw (c.replace-old.ensures.value, ← c.index.ensures) c.index_mut.ensures.value) (rw (c.replace-old.ensures.after, c.index.ensures) refl) refl
+
+pub returns-in-Some-clause-within : goal.returns-in-Some-clause-within
+returns-in-Some-clause-within g c =
+    let within = free_within c.args.self.now c.args.self.now _ c.args.node c.in-Some.id c.requires.free.1 c.requires.free.2 refl (sym c.get.ensures ∙ c.in-Some.is) in
+    omega arith

@@ -1,0 +1,73 @@
+-- What writes leave of nodes in one vector.
+use Rattle.std.specs.Prelude.{◌≡◌, ◌≢◌, ◌⊎◌, ℕ, ◌+◌, ◌<◌, ◌≤◌, suc, List, length, take, Option, Some, None, slice_get, slice_set, vec_len}
+use Rattle.std.specs.FinMap.{put}
+use Rattle.patricia_core.specs.declared.slots.Node.{Node}
+use Rattle.patricia_core.specs.declared.slots.Slots.{Slots}
+use Rattle.patricia_core.specs.declared.slots.seek.Spot.{Spot}
+use Rattle.patricia_core.specs.declared.slots.seek.Spot.TheVariants.{Root, Child, Sibling}
+use Rattle.patricia_core.specs.Keys.{key_cmp}
+use Rattle.patricia_core.specs.Rows.{entries, IsRow}
+use Rattle.patricia_core.specs.Plans.{Plan, Nil, Cell, one, below, times, first, head, IsChain, Holds, IsWhole, row_of}
+use Rattle.patricia_core.specs.Places.{Frame, fill, spot_of}
+
+-- the node of the spot is in the vector
+abbrev pub SpotWithin : Spot → ℕ → Type 0
+SpotWithin Root n = Unit {0}
+SpotWithin (Child id) n = id < n
+SpotWithin (Sibling id) n = id < n
+
+module _ {V : Type 0} where
+  -- the vector has grown only where no node was free, and none is free then
+  pub record Reuses (old new : Slots V) : Type 0 where
+    pub grown : vec_len old.nodes < vec_len new.nodes → new.free ≡ None
+    pub none : old.free ≡ None → new.free ≡ None
+
+  -- a node was made of a free one, or behind the last
+  pub record Makes (old new : Slots V) (spare : List ℕ) (n : Node V) (id : ℕ) : Type 0 where
+    pub left : List ℕ
+    pub there : slice_get new.nodes.items id ≡ Some n
+    pub others : (at : ℕ) → at ≢ id → slice_get new.nodes.items at ≡ slice_get old.nodes.items at
+    pub root_is : new.root ≡ old.root
+    pub free_is : new.free ≡ first left
+    pub chain : IsChain old.nodes.items left
+    pub counted : (at : ℕ) → one id at + times left at + below (length old.nodes.items) at ≡ times spare at + below (length new.nodes.items) at
+    pub longer : length spare + length new.nodes.items ≡ suc (length left + length old.nodes.items)
+
+  -- the number at the spot is another
+  abbrev pub Relinks : Slots V → Slots V → Spot → Option ℕ → Type 0
+  Relinks old new Root to = (new.nodes.items ≡ old.nodes.items) × (new.root ≡ to)
+  Relinks old new (Child id) to =
+      ((n : Node V) → slice_get old.nodes.items id ≡ Some n → new.nodes.items ≡ slice_set old.nodes.items id (record n { child = to })) × (new.root ≡ old.root)
+  Relinks old new (Sibling id) to =
+      ((n : Node V) → slice_get old.nodes.items id ≡ Some n → new.nodes.items ≡ slice_set old.nodes.items id (record n { sibling = to })) × (new.root ≡ old.root)
+
+  -- the plan is all below a node, or all beside it
+  abbrev pub Takes : Plan V → Plan V → Plan V → Type 0
+  Takes child sibling q = ((child ≡ q) × (sibling ≡ Nil)) ⊎ ((child ≡ Nil) × (sibling ≡ q))
+
+  -- the spot is that of some place
+  abbrev pub HasSpot : Slots V → Spot → Type 0
+  HasSpot s spot = (frames : List (Frame V)) × (q : Plan V) × (spot ≡ spot_of frames) × Holds s (fill frames q)
+
+  -- a new node stands in the place at the spot, with what was there below or beside it
+  abbrev pub Adds : Slots V → Slots V → Spot → Node V → ℕ → Type 0
+  Adds old new spot n id =
+      (frames : List (Frame V)) (child sibling q : Plan V) → spot ≡ spot_of frames → Takes child sibling q → n.child ≡ head child → n.sibling ≡ head sibling
+      → Holds old (fill frames q) → Holds new (fill frames (Cell id n.label n.value child sibling))
+
+  -- the number is that of a node of the plan
+  abbrev pub HasCell : Slots V → ℕ → Type 0
+  HasCell s id =
+      (frames : List (Frame V)) × (label : List ℕ) × (value : Option V) × (child : Plan V) × (sibling : Plan V) × Holds s (fill frames (Cell id label value child sibling))
+
+  -- the node keeps n bytes and takes this value; its own value and children are in a new node below it, with this label
+  abbrev pub Splits : Slots V → Slots V → ℕ → ℕ → List ℕ → Option V → ℕ → Type 0
+  Splits old new id n lower w k =
+      (frames : List (Frame V)) (label : List ℕ) (value : Option V) (child sibling : Plan V) → Holds old (fill frames (Cell id label value child sibling))
+      → Holds new (fill frames (Cell id (take n label) w (Cell k lower value child Nil) sibling))
+
+-- the value was put in at the key
+pub record Puts (item : List ℕ → Type 0) {V : Type 0} (old new : Slots V) (key : List ℕ) (x : V) : Type 0 where
+  pub whole : IsWhole new
+  pub row_ok : IsRow item (row_of new)
+  pub put_is : entries (row_of new) ≡ put key_cmp key x (entries (row_of old))
