@@ -2,15 +2,15 @@
 ghost use Rattle.std.specs.Prelude.{◌≡◌, ◌≢◌, ◌↔◌, ◌+◌, ◌*◌, ◌<◌, ◌≤◌, ℕ, List, [], length, None, IsTrue, IfOk, OnOk, IfErr, OnErr};
 ghost use Rattle.std.specs.Option.{option_copied};
 ghost use Rattle.std.specs.FinMap as map;
-ghost use Rattle.patricia_core.specs.Points.{IsVisitCount, Joins};
+ghost use Rattle.patricia_rows.specs.Points.{IsVisitCount, Joins};
 
 use crate::into_walk::IntoWalk;
-use crate::keys::{BorrowedBytes, Bytes};
 pub use crate::node::Refused;
 use crate::node::{self, Row};
 use crate::removal;
 use crate::steps::Steps;
 use crate::walk::Walk;
+use patricia_keys::{BorrowedBytes, Bytes};
 use std::alloc::{AllocError, Global};
 use std::marker::{Brand, Model, PhantomData};
 use std::sync::ledger::{Blank, Ledger};
@@ -31,14 +31,14 @@ pub struct Tree<K: Bytes, V> {
 impl<K: Bytes, V> Model for Tree<K, V> {
     ghost use Rattle.std.specs.FinMap as map;
     ghost use Rattle.std.specs.Coded.{coded_ℕ, coded_list};
-    ghost use Rattle.patricia_core.specs.Keys.{key_cmp};
+    ghost use Rattle.patricia_keys.specs.Keys.{key_cmp};
 
     ghost Value = { map.FinMap key_cmp V };
 
     ghost coded = { map.code (coded_list coded_ℕ) V.code };
 
-    ghost use Rattle.patricia_core.specs.Trees.{map_of, IsTree};
-    ghost use Rattle.patricia_core.specs.Nodes.{row_of};
+    ghost use Rattle.patricia_rows.specs.Trees.{map_of, IsTree};
+    ghost use Rattle.patricia_core.specs.Private.Nodes.{row_of};
 
     ghost view = { λ t. map_of t.value (row_of t.first) };
 
