@@ -1,6 +1,7 @@
 -- What follows from the definitions of `Keys`, for any item test.
-use Rattle.std.proofs.Common.{◌≡◌, ℕ, ◌-◌, ◌<◌, ◌≤◌, ◌≢◌, ◌⊎◌, inl, inr, List, [], ◌∷◌, ◌++◌, length, take, drop, get_or, refl, sym, ap, ◌∙◌, arith, length-append}
-use Rattle.std.specs.List.{concat}
+use Rattle.std.proofs.Common.{◌≡◌, ℕ, ◌-◌, ◌<◌, ◌≤◌, ◌≢◌, ◌⊎◌, inl, inr, List, [], ◌∷◌, ◌++◌, length, take, drop, get_or, refl, sym, ap, subst, ◌∙◌, arith, length-append}
+use Rattle.std.specs.List.{All, concat}
+use Rattle.std.proofs.lemmas.List.Elements.{All-nil, All-append}
 use Rattle.std.specs.declared.cmp.Ordering.TheVariants.{Less, Equal}
 use Rattle.std.specs.Cmp.{tied_itself}
 use Rattle.std.specs.Cmp.Lexicographic.{nat_list_cmp_total}
@@ -84,6 +85,14 @@ module _ (item : List ℕ → Type 0) where
         let e' : j ++ concat js ≡ i ++ (concat is ++ b) = e ∙ append_assoc i (concat is) b in
         let same = items_same j i _ _ q.0 p.0 e' in
         valid_rest_of is js b p.1 q.1 (append_cancel_left i _ _ (ap (λ l. l ++ concat js) (sym same) ∙ e'))
+
+    items_bytes : (is : List (List ℕ)) → AreItems item is → All (λ b. b < 256) (concat is)
+    items_bytes [] ok = All-nil (λ b. b < 256)
+    items_bytes (i ∷ is) ok = All-append (λ b. b < 256) i (concat is) (kind.bytes i ok.0) (items_bytes is ok.1)
+
+    -- the bytes of a valid key are bytes
+    pub valid_bytes : (k : List ℕ) → IsValid item k → All (λ b. b < 256) k
+    valid_bytes k v = subst (All (λ b. b < 256)) v.2 (items_bytes v.0 v.1)
 
     -- where a valid key begins another, the rest is valid
     pub valid_rest : (a b : List ℕ) → IsValid item a → IsValid item (a ++ b) → IsValid item b

@@ -15,6 +15,10 @@ pub record IsKeyKind (item : List ℕ → Type 0) : Type 0 where
   pub bytes : (i : List ℕ) → item i → All (λ b. b < 256) i
   pub apart : (i rest : List ℕ) → item i → item (i ++ rest) → rest ≡ []
 
+-- each item is one byte
+abbrev pub AreSingle : (List ℕ → Type 0) → Type 0
+AreSingle item = (i : List ℕ) → item i → length i ≡ 1
+
 -- each member is an item
 abbrev pub AreItems : (List ℕ → Type 0) → List (List ℕ) → Type 0
 AreItems item [] = Unit {0}
@@ -29,7 +33,8 @@ pub record IsCommon (item : List ℕ → Type 0) (q b : List ℕ) (n : ℕ) : Ty
   pub within : n ≤ length q
   pub valid : IsValid item (take n q)
   pub begins : Begins (take n q) b
-  pub greatest : (m : ℕ) → m ≤ length q → IsValid item (take m q) → Begins (take m q) b → m ≤ n
+  pub greatest :
+      (m : ℕ) → m ≤ length q → IsValid item (take m q) → Begins (take m q) b → m ≤ n
 
 -- rest is the key q without the bytes that are common to q and b
 pub record DropsCommon (item : List ℕ → Type 0) (q b rest : List ℕ) : Type 0 where
@@ -59,7 +64,8 @@ abbrev pub key_cmp : List ℕ → List ℕ → Ordering
 key_cmp = slice_cmp nat_cmp
 
 -- the answer is the order of the two first items, where no item comes before any item
-pub record ComparesFirst (item : List ℕ → Type 0) (a b : List ℕ) (answer : Ordering) : Type 0 where
+pub record ComparesFirst (item : List ℕ → Type 0) (a b : List ℕ) (answer : Ordering)
+    : Type 0 where
   pub first : List ℕ
   pub second : List ℕ
   pub first_of : IsFirstItem item a first

@@ -1,6 +1,6 @@
 //! Key kinds: what an owned and a borrowed key can do.
 //!
-//! A key is a byte string that is made of items: single bytes for byte strings. Labels and
+//! A key is a list of items: single bytes in byte strings, characters in texts. Labels and
 //! prefixes are cut between items only. Each length is a number of bytes.
 ghost use Rattle.std.specs.Prelude.{◌≡◌, ℕ, ◌≤◌, List, [], length, take, drop, IsTrue, ◌↔◌, IfOk};
 ghost use Rattle.patricia_keys.specs.Keys.{IsKeyKind, IsValid, IsCommon, DropsCommon, IsFloor, ComparesFirst};

@@ -6,12 +6,12 @@ use Rattle.std.specs.declared.cmp.Ordering.{Ordering}
 use Rattle.std.specs.declared.cmp.Ordering.TheVariants.{Less, Equal, Greater}
 use Rattle.std.proofs.lemmas.List.{append_cancel_left, length-append, length-map}
 use Rattle.std.proofs.lemmas.Bool.Decides.{nat_tests}
-use Rattle.patricia_keys.specs.Keys.{Begins, IsKeyKind, IsValid, key_cmp}
+use Rattle.patricia_keys.specs.Keys.{AreSingle, Begins, IsKeyKind, IsValid, key_cmp}
 use Rattle.patricia_rows.specs.Private.Meeting.{SharesItem, EndsWithin, Passes}
 use Rattle.patricia_rows.specs.Rows.{Row, end, node, own, entries, keys_of, IsBefore, IsBeforeRow, IsRow}
 use Rattle.patricia_rows.specs.Points.{AreVisits, IsVisitCount}
 use Rattle.patricia_rows.specs.Trees.{map_of}
-use Rattle.patricia_rows.specs.Private.Counts.{AreSingle, first_byte, IsCounted}
+use Rattle.patricia_rows.specs.Private.Counts.{first_byte, IsCounted}
 use Rattle.patricia_keys.proofs.KeyLemmas.{Begins-trans, begins_same, first_of, key_cmp-irreflexive}
 use Rattle.patricia_rows.proofs.GetLemmas.{common_whole}
 use Rattle.patricia_rows.proofs.PointLemmas.{splits, own_within, within_own}

@@ -11,5 +11,6 @@ pub mod RemovalLemmas
 pub mod RowLemmas
 pub mod TreeLemmas
 pub mod UniqueLemmas
+pub mod ValidLemmas
 pub mod VisitLemmas
 pub mod WalkLemmas

@@ -1,5 +1,5 @@
 -- A tree's entries as a finite map.
-use Rattle.std.proofs.Common.{◌≡◌, ℕ, ◌+◌, ◌≢◌, true, false, T, cond, not, List, [], ◌++◌, Option, Some, None, length, refl, sym, ap, subst, ◌∙◌, arith, length-append}
+use Rattle.std.proofs.Common.{◌≡◌, ◌↔◌, ℕ, ◌+◌, ◌≢◌, true, false, T, cond, not, List, [], ◌++◌, Option, Some, None, length, refl, sym, ap, subst, ◌∙◌, arith, length-append}
 use Rattle.std.specs.Option.{is_some, option_map}
 use Rattle.std.specs.FinMap.{FinMap, find, put, is_sorted, from_sorted, insert, remove, get, len, empty, entries-from_sorted, get-from_sorted, get-remove, entries-insert, same_entries_map, same_map, slice_cmp-IsAntisymmetric, nat_cmp-IsAntisymmetric, len-entries, len-empty}
 use Rattle.std.proofs.lemmas.List.{nil_from_length}
@@ -12,7 +12,10 @@ use Rattle.patricia_rows.proofs.ListLemmas.{key_cmp-equal}
 use Rattle.patricia_rows.proofs.RemovalLemmas.{others_own, others_below}
 use Rattle.std.specs.Cmp.Lexicographic.{nat_list_cmp_total}
 use Rattle.patricia_keys.specs.Keys.{IsKeyKind, key_cmp}
-use Rattle.patricia_rows.specs.Rows.{Row, end, own, entries, IsRow, keys_of}
+use Rattle.patricia_rows.specs.Rows.{Row, end, own, entries, paths, IsRow, keys_of}
+use Rattle.patricia_rows.specs.Points.{Has, IsPoint}
+use Rattle.patricia_rows.proofs.PointLemmas.{IsPoint-within, own_within, within_own, paths_points}
+use Rattle.patricia_rows.proofs.UniqueLemmas.{insides, same_row}
 use Rattle.patricia_rows.specs.Trees.{map_of}
 use Rattle.patricia_rows.proofs.OrderLemmas.{entries_sorted, sorted_own, sorted-append, below_own}
 use Rattle.patricia_rows.proofs.GetLemmas.{find_own, find_child}
@@ -124,3 +127,18 @@ module _ (item : List ℕ → Type 0) (kind : IsKeyKind item) {V : Type 0} where
 
   pub keys_map : (v : Option V) (r : Row V) → IsRow item r → map.keys (map_of v r) ≡ keys_of (own v ++ entries r)
   keys_map v r ok = ap keys_of (entries-from_sorted key_cmp (own v ++ entries r) (tree_sorted item kind v r ok))
+
+  -- trees of one finite map are the same tree
+  pub same_tree : (v w : Option V) (r s : Row V) → IsRow item r → IsRow item s → map_of v r ≡ map_of w s → (v ≡ w) × (r ≡ s)
+  same_tree v w r s ok ok' same =
+      let es = sym (entries_map item kind v r ok) ∙ ap map.entries same ∙ entries_map item kind w s ok' in
+      let parts = insides item kind None v w r s ok ok' es in
+      (parts.0, same_row item kind None r s ok ok' parts.1)
+
+  -- the nodes of a tree stand at the points of its keys
+  pub tree_points : (v : Option V) (r : Row V) → IsRow item r → (p : List ℕ) → Has (paths r) p ↔ IsPoint item (map.keys (map_of v r)) p
+  tree_points v r ok p =
+      let row = paths_points item kind r ok p in
+      let whole = subst (λ S. IsPoint item S p ↔ IsPoint item (keys_of (entries r)) p) (sym (keys_map v r ok))
+      (IsPoint-within item kind _ _ (within_own v (entries r)) p, IsPoint-within item kind _ _ (own_within v (entries r)) p) in
+      (λ h. whole.1 (row.0 h), λ h. row.1 (whole.0 h))

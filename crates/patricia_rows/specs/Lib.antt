@@ -1,3 +1,4 @@
+pub mod Laws
 pub mod Points
 pub mod Private
 pub mod Rows

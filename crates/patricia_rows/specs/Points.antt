@@ -44,7 +44,8 @@ module _ (item : List ℕ → Type 0) where
     pub valid : IsValid item p
     pub stands : Has S p ⊎ Branches S p
 
-  -- q is the parent of p: the longest point that is a proper beginning of p, or empty where there is none
+  -- q is the parent of p: the longest point that is a proper beginning of p,
+  -- or empty where there is none
   pub record IsParent (S : List (List ℕ)) (p q : List ℕ) : Type 0 where
     pub begins : BeginsProperly q p
     pub stands : (q ≡ []) ⊎ IsPoint S q
@@ -64,7 +65,8 @@ module _ (item : List ℕ → Type 0) where
     pub second_begins : Begins (q ++ second) k
     pub not_less : key_cmp first second ≢ Less
 
-  -- a look-up of k visits the point p: its parent is a proper beginning of k, and no earlier sibling ends the search
+  -- a look-up of k visits the point p: its parent is a proper beginning of k,
+  -- and no earlier sibling ends the search
   pub record IsVisited (S : List (List ℕ)) (k p : List ℕ) : Type 0 where
     pub point : IsPoint S p
     pub parent : List ℕ
@@ -73,7 +75,8 @@ module _ (item : List ℕ → Type 0) where
     pub reached : IsCutOff S k parent p → ⊥
 
   -- these are the points that a look-up of k visits
-  pub record AreVisits (S : List (List ℕ)) (k : List ℕ) (visited : List (List ℕ)) : Type 0 where
+  pub record AreVisits (S : List (List ℕ)) (k : List ℕ) (visited : List (List ℕ))
+      : Type 0 where
     pub once : AreApart visited
     pub exactly : (p : List ℕ) → Has visited p ↔ IsVisited S k p
 
@@ -92,3 +95,7 @@ module _ (item : List ℕ → Type 0) where
     pub key : List ℕ
     pub has : Has (without S k) key
     pub begins : Begins point key
+
+  -- the steps grew by exactly the number of visits of a look-up of k
+  abbrev pub CountsVisits : List (List ℕ) → List ℕ → ℕ → ℕ → Type 0
+  CountsVisits S k before after = (n : ℕ) × IsVisitCount S k n × (after ≡ before + n)

@@ -22,7 +22,8 @@ module _ {V : Type 0} where
   -- the entries in key order: the node's own, those below it and those beside it
   abbrev pub entries : Row V → List (List ℕ × V)
   entries end = []
-  entries (node label value child sibling) = prefixed label (own value ++ entries child) ++ entries sibling
+  entries (node label value child sibling) =
+      prefixed label (own value ++ entries child) ++ entries sibling
 
   -- the keys of the entries
   abbrev pub keys_of : List (List ℕ × V) → List (List ℕ)
@@ -31,7 +32,8 @@ module _ {V : Type 0} where
   -- the path of each node from the top of its row
   abbrev pub paths : Row V → List (List ℕ)
   paths end = []
-  paths (node label value child sibling) = label ∷ (map (λ p. label ++ p) (paths child) ++ paths sibling)
+  paths (node label value child sibling) =
+      label ∷ (map (λ p. label ++ p) (paths child) ++ paths sibling)
 
 -- a length keeps to a limit: none in memory, 255 bytes where labels are written
 abbrev pub Fits : Option ℕ → ℕ → Type 0
@@ -54,14 +56,18 @@ module _ (item : List ℕ → Type 0) where
   IsBeforeRow k end = Unit {0}
   IsBeforeRow k (node label value child sibling) = IsBefore k label
 
-  -- a node earns its place: it has a value, or two children, or a lone child whose first item has no room in its label
-  abbrev pub EarnsWithin : {V : Type 0} → Option ℕ → List ℕ → Option V → Row V → Type 0
+  -- a node earns its place: it has a value, or two children,
+  -- or a lone child whose first item has no room in its label
+  abbrev pub EarnsWithin :
+      {V : Type 0} → Option ℕ → List ℕ → Option V → Row V → Type 0
   EarnsWithin limit label (Some v) child = Unit {0}
   EarnsWithin limit label None end = ⊥
-  EarnsWithin limit label None (node l v c end) = (i : List ℕ) → item i → Begins i l → Fits limit (length (label ++ i)) → ⊥
+  EarnsWithin limit label None (node l v c end) =
+      (i : List ℕ) → item i → Begins i l → Fits limit (length (label ++ i)) → ⊥
   EarnsWithin limit label None (node l v c (node l' v' c' s')) = Unit {0}
 
-  -- each label is a valid key that is not empty and fits, first items rise along a row, and each node earns its place
+  -- each label is a valid key that is not empty and fits, first items rise along a row,
+  -- and each node earns its place
   abbrev pub IsRowWithin : {V : Type 0} → Option ℕ → Row V → Type 0
   IsRowWithin limit end = Unit {0}
   IsRowWithin limit (node label value child sibling) = record {

@@ -8,8 +8,9 @@ use Rattle.patricia_rows.specs.Rows.{Row, own, entries, IsRow}
 abbrev pub map_of : {V : Type 0} → Option V → Row V → FinMap key_cmp V
 map_of value row = from_sorted (own value ++ entries row)
 
--- the row is canonical, and its entries are counted
-pub record IsTree {V : Type 0} (item : List ℕ → Type 0) (row : Row V) (count : ℕ) : Type 0 where
+-- the row keeps the invariant, and its entries are counted
+pub record IsTree {V : Type 0} (item : List ℕ → Type 0) (row : Row V) (count : ℕ)
+    : Type 0 where
   pub row_ok : IsRow item row
   pub counted : count ≡ length (entries row)
   pub fits : count < 2 ^ 64 - 1

@@ -2,8 +2,10 @@
 use Rattle.std.specs.Prelude.{◌≡◌, ◌≢◌, ℕ, List, [], ◌∷◌, Option, Some, None, Result, Ok, Err, map}
 
 -- a call of a walk with these rows left gave the answer, and left the later rows:
--- None where nothing was left, the first row as `shows` reads it, or an error where a row was left, and then nothing is left
-abbrev pub Gives : {A B E : Type 0} → (A → B) → List B → Option (Result A E) → List B → Type 0
+-- None where nothing was left, the first row as `shows` reads it,
+-- or an error where a row was left, and then nothing is left
+abbrev pub Gives :
+    {A B E : Type 0} → (A → B) → List B → Option (Result A E) → List B → Type 0
 Gives shows rows None later = (rows ≡ []) × (later ≡ [])
 Gives shows rows (Some (Ok x)) later = rows ≡ shows x ∷ later
 Gives shows rows (Some (Err e)) later = (rows ≢ []) × (later ≡ [])

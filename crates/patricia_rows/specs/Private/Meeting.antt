@@ -24,7 +24,8 @@ pub record Passes (item : List ℕ → Type 0) (key label rest : List ℕ) : Typ
   pub splits : label ++ rest ≡ key
 
 -- the meeting of a key and a label
-abbrev pub Meets : {Q : Type 0} → (List ℕ → Type 0) → (Q → List ℕ) → List ℕ → List ℕ → Meeting Q → Type 0
+abbrev pub Meets :
+    {Q : Type 0} → (List ℕ → Type 0) → (Q → List ℕ) → List ℕ → List ℕ → Meeting Q → Type 0
 Meets item key_of key label Before = IsBefore item key label
 Meets item key_of key label After = IsBefore item label key
 Meets item key_of key label (Into n) = EndsWithin item key label n
