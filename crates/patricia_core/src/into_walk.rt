@@ -1,13 +1,13 @@
 //! Walks that take a tree apart, in key order.
 ghost use Rattle.std.specs.Prelude.{◌≡◌, ◌≢◌, ◌++◌, [], None, true, false, IfOk, OnOk, OnErr, IsTrue};
-ghost use Rattle.patricia_core.specs.Rows.{end, own, entries, IsRow};
-ghost use Rattle.patricia_core.specs.Nodes.{row_of, row_from};
-ghost use Rattle.patricia_core.specs.Spots.{left, Takes, IsSpot, IsStep};
-ghost use Rattle.patricia_core.specs.Walks.{Gives};
-ghost use Rattle.patricia_core.specs.Owned.{spot_in};
+ghost use Rattle.patricia_rows.specs.Rows.{end, own, entries, IsRow};
+ghost use Rattle.patricia_core.specs.Private.Nodes.{row_of, row_from};
+ghost use Rattle.patricia_rows.specs.Private.Spots.{left, Takes, IsSpot, IsStep};
+ghost use Rattle.patricia_rows.specs.Walks.{Gives};
+ghost use Rattle.patricia_core.specs.Private.Owned.{spot_in};
 
-use crate::keys::Bytes;
 use crate::node::{Node, Row};
+use patricia_keys::Bytes;
 use std::alloc::{AllocError, Global};
 use std::marker::{Model, PhantomData};
 use std::mem;
@@ -110,8 +110,8 @@ impl<K: Bytes, V> Model for IntoWalk<K, V> {
 
     ghost Value = { List (List ℕ × V) };
 
-    ghost use Rattle.patricia_core.specs.Spots.{left, IsSpot};
-    ghost use Rattle.patricia_core.specs.Owned.{spot_in};
+    ghost use Rattle.patricia_rows.specs.Private.Spots.{left, IsSpot};
+    ghost use Rattle.patricia_core.specs.Private.Owned.{spot_in};
 
     ghost view = { λ w. left (spot_in w.place) };
 

@@ -1,14 +1,11 @@
-//! The heart of a Patricia tree: key kinds, and a tree of nodes that stands for a finite map.
+//! A tree of nodes that stands for a finite map, its walks, and a count of steps.
 //!
 //! `patricia_tree` is the library to use. This crate is what it stands on.
 #![tactic(auto)]
 
 pub mod into_walk;
-pub mod keys;
 mod label;
-pub mod laws;
 mod link;
-mod meeting;
 mod node;
 mod removal;
 mod slots;
@@ -16,4 +13,7 @@ pub mod steps;
 pub mod tree;
 pub mod walk;
 
+pub use patricia_keys::keys;
+pub use patricia_rows::laws;
+use patricia_rows::meeting;
 pub use steps::Steps;

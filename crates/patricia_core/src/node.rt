@@ -2,15 +2,15 @@
 ghost use Rattle.std.specs.Prelude.{◌≡◌, ◌≢◌, ◌≤◌, [], Some, None, IfOk, OnOk, IfErr, OnErr, take, drop, length};
 ghost use Rattle.std.specs.Option.{option_copied};
 ghost use Rattle.std.specs.FinMap.{find, put};
-ghost use Rattle.patricia_core.specs.Keys.{key_cmp, IsValid};
-ghost use Rattle.patricia_core.specs.Meeting.{EndsWithin};
-ghost use Rattle.patricia_core.specs.Rows.{IsRow, entries, node, end};
-ghost use Rattle.patricia_core.specs.Nodes.{row_of, row_from};
-ghost use Rattle.patricia_core.specs.Counts.{IsCounted};
+ghost use Rattle.patricia_keys.specs.Keys.{key_cmp, IsValid};
+ghost use Rattle.patricia_rows.specs.Private.Meeting.{EndsWithin};
+ghost use Rattle.patricia_rows.specs.Rows.{IsRow, entries, node, end};
+ghost use Rattle.patricia_core.specs.Private.Nodes.{row_of, row_from};
+ghost use Rattle.patricia_rows.specs.Private.Counts.{IsCounted};
 
-use crate::keys::{BorrowedBytes, Bytes};
-use crate::meeting::{Meeting, meet};
 use crate::steps::Steps;
+use patricia_keys::{BorrowedBytes, Bytes};
+use patricia_rows::meeting::{Meeting, meet};
 use std::alloc::{AllocError, Global};
 use std::cmp::Ordering;
 use std::mem;

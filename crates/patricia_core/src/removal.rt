@@ -1,15 +1,15 @@
 //! Taking a key out of a row of sibling nodes.
 ghost use Rattle.std.specs.Prelude.{◌≡◌, ℕ, List, ◌≢◌, ◌+◌, ◌≤◌, ◌++◌, [], Some, None, IfOk, OnOk, OnErr, MatchOption, ◌⊎◌};
 ghost use Rattle.std.specs.FinMap.{find};
-ghost use Rattle.patricia_core.specs.Keys.{key_cmp};
-ghost use Rattle.patricia_core.specs.Rows.{IsRow, entries, keys_of};
-ghost use Rattle.patricia_core.specs.Nodes.{row_of, row_from};
-ghost use Rattle.patricia_core.specs.Points.{Joins};
-ghost use Rattle.patricia_core.specs.Removals.{others, width, HasLeaf, first_value, IsLoneParent, taking_in, without_first, LeavesAlone, KeepsPlace, LosesPlace, settled};
+ghost use Rattle.patricia_keys.specs.Keys.{key_cmp};
+ghost use Rattle.patricia_rows.specs.Rows.{IsRow, entries, keys_of};
+ghost use Rattle.patricia_core.specs.Private.Nodes.{row_of, row_from};
+ghost use Rattle.patricia_rows.specs.Points.{Joins};
+ghost use Rattle.patricia_rows.specs.Private.Removals.{others, width, HasLeaf, first_value, IsLoneParent, taking_in, without_first, LeavesAlone, KeepsPlace, LosesPlace, settled};
 
-use crate::keys::{BorrowedBytes, Bytes};
-use crate::meeting::{Meeting, meet};
 use crate::node::{Node, Row};
+use patricia_keys::{BorrowedBytes, Bytes};
+use patricia_rows::meeting::{Meeting, meet};
 use std::alloc::{AllocError, Global};
 use std::mem;
 

@@ -5,6 +5,19 @@ use std::marker::Model;
 use std::sync::ledger::{Blank, Book, Ledger, Share};
 
 /// How many steps were taken. It takes no bytes at run time, and only `tick` changes it.
+///
+/// A caller names the ledger by a type parameter of its own, and calls that function with a brand
+/// and a blank, which asks for nothing and takes no memory:
+///
+/// ```
+/// fn visits<L: Ledger>(map: &PatriciaMap<u32>, key: &[u8], blank: Blank) {
+///     let mut steps: Steps<L> = Steps::new(blank);
+///     let _ = map.get_counted(key, &mut steps);
+/// }
+/// visits::<Brand>(&map, b"foo", Blank::new(1));
+/// ```
+///
+/// `visits` has the three conditions of `new`.
 #[derive(Drop)]
 pub struct Steps<L: Ledger> {
     book: Book<L>,
@@ -22,7 +35,7 @@ impl<L: Ledger> Model for Steps<L> {
 }
 
 impl<L: Ledger> Steps<L> {
-    /// No step yet.
+    /// No step yet. The blank is one of the ledger's, and nobody else has opened it.
     pub fn new(blank: Blank) -> Steps<L>
         requires name { blank.name ≡ L.name }
         requires parts { blank.parts ≡ L.parts }

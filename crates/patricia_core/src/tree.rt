@@ -2,15 +2,17 @@
 ghost use Rattle.std.specs.Prelude.{◌≡◌, ◌≢◌, ◌↔◌, ◌+◌, ◌*◌, ◌<◌, ◌≤◌, ℕ, List, [], length, None, IsTrue, IfOk, OnOk, IfErr, OnErr};
 ghost use Rattle.std.specs.Option.{option_copied};
 ghost use Rattle.std.specs.FinMap as map;
-ghost use Rattle.patricia_core.specs.Points.{IsVisitCount, Joins};
+ghost use Rattle.std.specs.List.{All};
+ghost use Rattle.patricia_keys.specs.Keys.{AreSingle, IsValid};
+ghost use Rattle.patricia_rows.specs.Points.{CountsVisits, Joins};
 
 use crate::into_walk::IntoWalk;
-use crate::keys::{BorrowedBytes, Bytes};
 pub use crate::node::Refused;
 use crate::node::{self, Row};
 use crate::removal;
 use crate::steps::Steps;
 use crate::walk::Walk;
+use patricia_keys::{BorrowedBytes, Bytes};
 use std::alloc::{AllocError, Global};
 use std::marker::{Brand, Model, PhantomData};
 use std::sync::ledger::{Blank, Ledger};
@@ -31,14 +33,14 @@ pub struct Tree<K: Bytes, V> {
 impl<K: Bytes, V> Model for Tree<K, V> {
     ghost use Rattle.std.specs.FinMap as map;
     ghost use Rattle.std.specs.Coded.{coded_ℕ, coded_list};
-    ghost use Rattle.patricia_core.specs.Keys.{key_cmp};
+    ghost use Rattle.patricia_keys.specs.Keys.{key_cmp};
 
     ghost Value = { map.FinMap key_cmp V };
 
     ghost coded = { map.code (coded_list coded_ℕ) V.code };
 
-    ghost use Rattle.patricia_core.specs.Trees.{map_of, IsTree};
-    ghost use Rattle.patricia_core.specs.Nodes.{row_of};
+    ghost use Rattle.patricia_rows.specs.Trees.{map_of, IsTree};
+    ghost use Rattle.patricia_core.specs.Private.Nodes.{row_of};
 
     ghost view = { λ t. map_of t.value (row_of t.first) };
 
@@ -70,6 +72,7 @@ impl<K: Bytes, V: Drop> Tree<K, V> {
         }
     }
 
+    /// Whether there is no entry.
     pub fn is_empty(&self) -> bool
         ensures { IsTrue result ↔ (map.len self.now ≡ 0) }
     {
@@ -85,15 +88,16 @@ impl<K: Bytes, V: Drop> Tree<K, V> {
         self.count = 0;
     }
 
-    /// Looks a key up. It takes a step for the root, and one for each node whose label is compared with the key.
+    /// Looks a key up. It takes a step for the root, and one for each node whose label is compared
+    /// with the key.
     pub fn get_counted<Q: BorrowedBytes<Owned = K>, L: Ledger>(
         &self,
         key: Q,
         steps: &mut Steps<L>,
     ) -> Option<&V>
         ensures value { option_copied result ≡ map.get self.now (Q.key key) }
-        ensures counted { (n : ℕ) × IsVisitCount K.item (map.keys self.now) (Q.key key) n × (steps.new ≡ steps.old + n) }
-        ensures bounded { ((i : List ℕ) → K.item i → length i ≡ 1) → steps.new ≤ steps.old + 1 + 256 * length (Q.key key) }
+        ensures counted { CountsVisits K.item (map.keys self.now) (Q.key key) steps.old steps.new }
+        ensures bounded { AreSingle K.item → steps.new ≤ steps.old + 1 + 256 * length (Q.key key) }
     {
         steps.tick();
         if key.is_empty() {
@@ -114,6 +118,7 @@ impl<K: Bytes, V: Drop> Tree<K, V> {
         self.get_counted(key, &mut steps)
     }
 
+    /// The value at a key, or `None` where there is none.
     pub fn get<Q: BorrowedBytes<Owned = K>>(&self, key: Q) -> Option<&V>
         ensures { option_copied result ≡ map.get self.now (Q.key key) }
     {
@@ -169,6 +174,14 @@ impl<K: Bytes, V: Drop> Tree<K, V> {
             Ok(None) => Ok(None),
             Err(error) => Err(error),
         }
+    }
+
+    /// Each key is a valid key of its kind, so its bytes are bytes. This says so, and does nothing.
+    pub fn keys_are_valid(&self)
+        ensures valid { All (IsValid K.item) (map.keys self.now) }
+        ensures bytes { All (All (λ b. b < 256)) (map.keys self.now) }
+    {
+        let _count = self.count;
     }
 
     /// A walk over the entries in key order. Making it takes no memory.

@@ -1,15 +1,15 @@
 //! Walks over a tree in key order.
 ghost use Rattle.std.specs.Prelude.{◌≡◌, ◌≢◌, ◌++◌, [], None, true, false, IfOk, OnOk, OnErr, IsTrue};
 ghost use Rattle.std.specs.Option.{option_copied};
-ghost use Rattle.patricia_core.specs.Rows.{end, own, entries, IsRow};
-ghost use Rattle.patricia_core.specs.Nodes.{row_of, row_from};
-ghost use Rattle.patricia_core.specs.Rows.{keys_of};
-ghost use Rattle.patricia_core.specs.Spots.{left, Takes, IsSpot, IsStep};
-ghost use Rattle.patricia_core.specs.Walks.{Gives, values_of};
-ghost use Rattle.patricia_core.specs.Lent.{row_at, row_with, spot_of};
+ghost use Rattle.patricia_rows.specs.Rows.{end, own, entries, IsRow};
+ghost use Rattle.patricia_core.specs.Private.Nodes.{row_of, row_from};
+ghost use Rattle.patricia_rows.specs.Rows.{keys_of};
+ghost use Rattle.patricia_rows.specs.Private.Spots.{left, Takes, IsSpot, IsStep};
+ghost use Rattle.patricia_rows.specs.Walks.{Gives, values_of};
+ghost use Rattle.patricia_core.specs.Private.Lent.{row_at, row_with, spot_of};
 
-use crate::keys::Bytes;
 use crate::node::{Node, Row};
+use patricia_keys::Bytes;
 use std::alloc::{AllocError, Global};
 use std::marker::{Model, PhantomData};
 
@@ -117,8 +117,8 @@ impl<'a, K: Bytes, V> Model for Walk<'a, K, V> {
 
     ghost Value = { List (List ℕ × V) };
 
-    ghost use Rattle.patricia_core.specs.Spots.{left, IsSpot};
-    ghost use Rattle.patricia_core.specs.Lent.{spot_of};
+    ghost use Rattle.patricia_rows.specs.Private.Spots.{left, IsSpot};
+    ghost use Rattle.patricia_core.specs.Private.Lent.{spot_of};
 
     ghost view = { λ w. left (spot_of w.place) };
 

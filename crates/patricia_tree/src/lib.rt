@@ -1,4 +1,4 @@
-//! A map whose keys are byte strings and share their common prefixes.
+//! A map whose keys are byte strings or texts and share their common prefixes.
 #![tactic(auto)]
 
 #[cfg(test)]

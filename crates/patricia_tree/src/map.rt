@@ -1,8 +1,10 @@
-//! A map whose keys share their common prefixes.
-ghost use Rattle.std.specs.Prelude.{◌≡◌, ◌≢◌, ◌↔◌, ◌+◌, ◌*◌, ◌≤◌, ℕ, List, [], length, None, IsTrue, IfOk, OnOk, IfErr, OnErr};
+//! A map whose keys, byte strings or texts, share their common prefixes.
+ghost use Rattle.std.specs.Prelude.{◌≡◌, ◌≢◌, ◌↔◌, ◌+◌, ◌*◌, ◌<◌, ◌≤◌, ℕ, List, [], length, None, IsTrue, IfOk, OnOk, IfErr, OnErr};
 ghost use Rattle.std.specs.Option.{option_copied};
 ghost use Rattle.std.specs.FinMap as map;
-ghost use Rattle.patricia_core.specs.Points.{IsVisitCount, Joins};
+ghost use Rattle.std.specs.List.{All};
+ghost use Rattle.patricia_core.specs.Keys.{AreSingle, IsValid};
+ghost use Rattle.patricia_core.specs.Points.{CountsVisits, Joins};
 
 mod iter;
 #[cfg(test)]
@@ -66,24 +68,28 @@ impl<K: Bytes, V: Drop> GenericPatriciaMap<K, V> {
         self.tree.len()
     }
 
+    /// Whether there is no entry.
     pub fn is_empty(&self) -> bool
         ensures { IsTrue result ↔ (map.len self.now ≡ 0) }
     {
         self.tree.is_empty()
     }
 
+    /// Drops all entries. It takes no memory, and the allocator is kept.
     pub fn clear(&mut self)
         ensures { self.new ≡ map.empty }
     {
         self.tree.clear();
     }
 
+    /// Whether the key is there.
     pub fn contains_key<Q: BorrowedBytes<Owned = K>>(&self, key: Q) -> bool
         ensures { result ≡ map.contains_key self.now (Q.key key) }
     {
         self.get(key).is_some()
     }
 
+    /// The value at a key, or `None` where there is none.
     pub fn get<Q: BorrowedBytes<Owned = K>>(&self, key: Q) -> Option<&V>
         ensures { option_copied result ≡ map.get self.now (Q.key key) }
     {
@@ -101,8 +107,8 @@ impl<K: Bytes, V: Drop> GenericPatriciaMap<K, V> {
         steps: &mut Steps<L>,
     ) -> Option<&V>
         ensures value { option_copied result ≡ map.get self.now (Q.key key) }
-        ensures counted { (n : ℕ) × IsVisitCount K.item (map.keys self.now) (Q.key key) n × (steps.new ≡ steps.old + n) }
-        ensures bounded { ((i : List ℕ) → K.item i → length i ≡ 1) → steps.new ≤ steps.old + 1 + 256 * length (Q.key key) }
+        ensures counted { CountsVisits K.item (map.keys self.now) (Q.key key) steps.old steps.new }
+        ensures bounded { AreSingle K.item → steps.new ≤ steps.old + 1 + 256 * length (Q.key key) }
     {
         self.tree.get_counted(key, steps)
     }
@@ -139,6 +145,14 @@ impl<K: Bytes, V: Drop> GenericPatriciaMap<K, V> {
         ensures joins { OnErr result (Joins K.item (map.keys self.old) (Q.key key)) }
     {
         self.tree.remove(key)
+    }
+
+    /// Each key is a valid key of its kind, so its bytes are bytes. This says so, and does nothing.
+    pub fn keys_are_valid(&self)
+        ensures valid { All (IsValid K.item) (map.keys self.now) }
+        ensures bytes { All (All (λ b. b < 256)) (map.keys self.now) }
+    {
+        self.tree.keys_are_valid();
     }
 
     /// The entries in key order.

@@ -1,7 +1,7 @@
 use Rattle.std.proofs.Common.{refl, sym, ◌∙◌, arith}
 use mathlib.Core.Bool.{false≢true}
-use Rattle.patricia_core.proofs.GetLemmas.{find_past, find_before, find_within, find_here, find_deeper}
-use Rattle.patricia_core.proofs.CountLemmas.{counted_end, counted_before, counted_within, counted_here, counted_past, counted_through}
+use Rattle.patricia_rows.proofs.GetLemmas.{find_past, find_before, find_within, find_here, find_deeper}
+use Rattle.patricia_rows.proofs.CountLemmas.{counted_end, counted_before, counted_within, counted_here, counted_past, counted_through}
 use Rattle.patricia_core.proofs.node.+get_counted.Goals as goal
 
 pub returns-in_default-clause-counted : goal.returns-in_default-clause-counted

@@ -2,11 +2,11 @@ use Rattle.std.proofs.Common.{◌++◌, Some, inl, inr, refl, sym, ap, subst, �
 use mathlib.Core.Bool.{false≢true}
 use Rattle.std.specs.FinMap.{find, put}
 use Rattle.std.proofs.lemmas.Result.{IfOk-weaker, on_ok_weaker, on_err_weaker}
-use Rattle.patricia_core.specs.Keys.{key_cmp}
-use Rattle.patricia_core.specs.Rows.{own, entries, IsRow, node, end}
-use Rattle.patricia_core.specs.Nodes.{row_from, row_of}
-use Rattle.patricia_core.proofs.GetLemmas.{find_past, find_before, find_within, find_here, find_deeper}
-use Rattle.patricia_core.proofs.InsertLemmas.{put_before, put_past, put_own, put_child, put_through, row_past, row_child, ok_or_err}
+use Rattle.patricia_keys.specs.Keys.{key_cmp}
+use Rattle.patricia_rows.specs.Rows.{own, entries, IsRow, node, end}
+use Rattle.patricia_core.specs.Private.Nodes.{row_from, row_of}
+use Rattle.patricia_rows.proofs.GetLemmas.{find_past, find_before, find_within, find_here, find_deeper}
+use Rattle.patricia_rows.proofs.InsertLemmas.{put_before, put_past, put_own, put_child, put_through, row_past, row_child, ok_or_err}
 use Rattle.patricia_core.proofs.node.+insert.Goals as goal
 
 pub returns-in-Ok-clause-old : goal.returns-in-Ok-clause-old

@@ -1,11 +1,11 @@
 use Rattle.std.proofs.Common.{◌≢◌, [], drop, Some, None, refl, sym, ap, subst, ◌∙◌}
 use mathlib.Core.Bool.{false≢true}
 use Rattle.std.proofs.lemmas.List.{take_rest}
-use Rattle.patricia_core.specs.Rows.{entries, IsRow, node, end}
-use Rattle.patricia_core.specs.Nodes.{row_from, row_of}
-use Rattle.patricia_core.proofs.RowLemmas.{with_value}
-use Rattle.patricia_core.proofs.GetLemmas.{compared_less}
-use Rattle.patricia_core.proofs.DivideLemmas.{divides_label, ends_at_cut, put_at_cut, row_before_cut, put_before_cut, row_after_cut, put_after_cut, shape_before, shape_after, past_cut}
+use Rattle.patricia_rows.specs.Rows.{entries, IsRow, node, end}
+use Rattle.patricia_core.specs.Private.Nodes.{row_from, row_of}
+use Rattle.patricia_rows.proofs.RowLemmas.{with_value}
+use Rattle.patricia_rows.proofs.GetLemmas.{compared_less}
+use Rattle.patricia_rows.proofs.DivideLemmas.{divides_label, ends_at_cut, put_at_cut, row_before_cut, put_before_cut, row_after_cut, put_after_cut, shape_before, shape_after, past_cut}
 use Rattle.patricia_core.proofs.node.insert_within.Goals as goal
 
 pub returns-then-is_empty-clause-row : goal.returns-then-is_empty-clause-row

@@ -3,15 +3,15 @@ use mathlib.Core.Bool.{false≢true}
 use Rattle.std.proofs.lemmas.Result.{IfOk-weaker, on_ok_weaker, on_err_weaker}
 use Rattle.std.specs.Prelude.{[], Result, Ok, Err, OnErr}
 use Rattle.std.specs.FinMap.{find}
-use Rattle.patricia_core.specs.Keys.{key_cmp}
-use Rattle.patricia_core.specs.Rows.{IsRow, entries, node, keys_of}
-use Rattle.patricia_core.specs.Nodes.{row_of, row_from}
-use Rattle.patricia_core.specs.Points.{Joins}
-use Rattle.patricia_core.specs.Removals.{others}
-use Rattle.patricia_core.proofs.GetLemmas.{find_past, find_before, find_within, find_here, find_deeper}
-use Rattle.patricia_core.proofs.InsertLemmas.{ok_or_err}
-use Rattle.patricia_core.proofs.JoinLemmas.{joins_past, joins_deeper, joins_lone, joins_alone}
-use Rattle.patricia_core.proofs.RemovalLemmas.{others_before, others_within, row_past_removed, entries_past_removed, row_first_removed, entries_first_removed, row_deeper_removed, entries_deeper_removed}
+use Rattle.patricia_keys.specs.Keys.{key_cmp}
+use Rattle.patricia_rows.specs.Rows.{IsRow, entries, node, keys_of}
+use Rattle.patricia_core.specs.Private.Nodes.{row_of, row_from}
+use Rattle.patricia_rows.specs.Points.{Joins}
+use Rattle.patricia_rows.specs.Private.Removals.{others}
+use Rattle.patricia_rows.proofs.GetLemmas.{find_past, find_before, find_within, find_here, find_deeper}
+use Rattle.patricia_rows.proofs.InsertLemmas.{ok_or_err}
+use Rattle.patricia_rows.proofs.JoinLemmas.{joins_past, joins_deeper, joins_lone, joins_alone}
+use Rattle.patricia_rows.proofs.RemovalLemmas.{others_before, others_within, row_past_removed, entries_past_removed, row_first_removed, entries_first_removed, row_deeper_removed, entries_deeper_removed}
 use Rattle.patricia_core.proofs.removal.+remove.Goals as goal
 
 -- what holds holds on an error

@@ -1,7 +1,7 @@
 use Rattle.std.proofs.Common.{ap}
-use Rattle.patricia_core.specs.Nodes.{row_of}
-use Rattle.patricia_core.specs.Owned.{rows_in}
-use Rattle.patricia_core.proofs.WalkLemmas.{left_start}
+use Rattle.patricia_core.specs.Private.Nodes.{row_of}
+use Rattle.patricia_core.specs.Private.Owned.{rows_in}
+use Rattle.patricia_rows.proofs.WalkLemmas.{left_start}
 use Rattle.patricia_core.proofs.into_walk.IntoWalk.new.Goals as goal
 
 pub returns : goal.returns

@@ -1,7 +1,7 @@
 use Rattle.std.proofs.Common.{refl, ap, ◌∙◌}
 use Rattle.std.proofs.lemmas.List.{map-append}
-use Rattle.patricia_core.specs.Owned.{rows_in}
-use Rattle.patricia_core.proofs.WalkLemmas.{step_back}
+use Rattle.patricia_core.specs.Private.Owned.{rows_in}
+use Rattle.patricia_rows.proofs.WalkLemmas.{step_back}
 use Rattle.patricia_core.proofs.into_walk.OwnedPlace.back.Goals as goal
 
 pub returns-clause-step : goal.returns-clause-step

@@ -1,8 +1,8 @@
 use Rattle.std.proofs.Common.{refl, ap, ◌∙◌, ◌++◌, ◌∷◌, []}
 use Rattle.std.proofs.lemmas.List.{map-append}
-use Rattle.patricia_core.specs.Nodes.{row_of}
-use Rattle.patricia_core.specs.Owned.{rows_in}
-use Rattle.patricia_core.proofs.WalkLemmas.{step_down}
+use Rattle.patricia_core.specs.Private.Nodes.{row_of}
+use Rattle.patricia_core.specs.Private.Owned.{rows_in}
+use Rattle.patricia_rows.proofs.WalkLemmas.{step_down}
 use Rattle.patricia_core.proofs.into_walk.OwnedPlace.descend.Goals as goal
 
 pub returns : goal.returns

@@ -1,6 +1,6 @@
 use Rattle.std.proofs.Common.{◌≢◌, [], sym, ap, subst}
-use Rattle.patricia_core.specs.Nodes.{row_of}
-use Rattle.patricia_core.proofs.WalkLemmas.{left_filled, on_err}
+use Rattle.patricia_core.specs.Private.Nodes.{row_of}
+use Rattle.patricia_rows.proofs.WalkLemmas.{left_filled, on_err}
 use Rattle.patricia_core.proofs.into_walk.OwnedPlace.seek.Goals as goal
 
 pub returns-in_err-descend-in-More-clause-err : goal.returns-in_err-descend-in-More-clause-err

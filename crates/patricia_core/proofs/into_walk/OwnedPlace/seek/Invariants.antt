@@ -1,6 +1,6 @@
 use Rattle.std.proofs.Common.{◌≡◌}
-use Rattle.patricia_core.specs.Owned.{spot_in}
-use Rattle.patricia_core.specs.Spots.{left, steps_left, IsSpot}
+use Rattle.patricia_core.specs.Private.Owned.{spot_in}
+use Rattle.patricia_rows.specs.Private.Spots.{left, steps_left, IsSpot}
 use Rattle.patricia_core.proofs.into_walk.OwnedPlace.seek.Given as goal
 
 abbrev pub invariant-loop-value : goal.invariant-loop-value

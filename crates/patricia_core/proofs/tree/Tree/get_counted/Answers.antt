@@ -1,7 +1,7 @@
 use Rattle.std.proofs.Common.{◌+◌, length, sym, ◌∙◌, refl, arith}
 use mathlib.Core.Bool.{false≢true}
-use Rattle.patricia_core.proofs.TreeLemmas.{get_empty, get_filled}
-use Rattle.patricia_core.proofs.CountLemmas.{counted_root, counted_row}
+use Rattle.patricia_rows.proofs.TreeLemmas.{get_empty, get_filled}
+use Rattle.patricia_rows.proofs.CountLemmas.{counted_root, counted_row}
 use Rattle.patricia_core.proofs.tree.Tree.get_counted.Goals as goal
 
 pub returns-then-is_empty-clause-value : goal.returns-then-is_empty-clause-value

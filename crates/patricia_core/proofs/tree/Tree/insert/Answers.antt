@@ -1,7 +1,7 @@
 use Rattle.std.proofs.Common.{sym, ◌∙◌, refl, arith}
 use mathlib.Core.Bool.{false≢true}
-use Rattle.patricia_core.specs.Nodes.{row_of}
-use Rattle.patricia_core.proofs.TreeLemmas.{get_empty, get_filled, insert_empty, insert_filled, length_new, length_old, option_map_none, option_map_not_none}
+use Rattle.patricia_core.specs.Private.Nodes.{row_of}
+use Rattle.patricia_rows.proofs.TreeLemmas.{get_empty, get_filled, insert_empty, insert_filled, length_new, length_old, option_map_none, option_map_not_none}
 use Rattle.patricia_core.proofs.tree.Tree.insert.Goals as goal
 use Rattle.patricia_core.proofs.tree.Tree.insert.Goals.{else-self-via-then-self+else-is_none, else-self-via-else-self}
 

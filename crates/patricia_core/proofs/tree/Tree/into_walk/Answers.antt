@@ -1,6 +1,6 @@
 use Rattle.std.proofs.Common.{sym, ap, ◌∙◌}
 use Rattle.std.specs.FinMap as map
-use Rattle.patricia_core.proofs.TreeLemmas.{entries_map}
+use Rattle.patricia_rows.proofs.TreeLemmas.{entries_map}
 use Rattle.patricia_core.proofs.tree.Tree.into_walk.Goals as goal
 
 pub returns : goal.returns

@@ -1,5 +1,5 @@
 use Rattle.std.proofs.Common.{sym}
-use Rattle.patricia_core.proofs.TreeLemmas.{len_some, len_none}
+use Rattle.patricia_rows.proofs.TreeLemmas.{len_some, len_none}
 use Rattle.patricia_core.proofs.tree.Tree.len.Goals as goal
 
 pub returns-then-is_some : goal.returns-then-is_some

@@ -1,10 +1,10 @@
 use Rattle.std.proofs.Common.{sym, subst, ◌∙◌, refl, arith}
 use mathlib.Core.Bool.{false≢true}
-use Rattle.patricia_core.specs.Nodes.{row_of}
-use Rattle.patricia_core.specs.Points.{Joins}
-use Rattle.patricia_core.specs.Rows.{entries}
-use Rattle.patricia_core.proofs.JoinLemmas.{joins_root}
-use Rattle.patricia_core.proofs.TreeLemmas.{get_empty, get_filled, remove_empty, remove_filled, remove_absent, remove_present, keys_map}
+use Rattle.patricia_core.specs.Private.Nodes.{row_of}
+use Rattle.patricia_rows.specs.Points.{Joins}
+use Rattle.patricia_rows.specs.Rows.{entries}
+use Rattle.patricia_rows.proofs.JoinLemmas.{joins_root}
+use Rattle.patricia_rows.proofs.TreeLemmas.{get_empty, get_filled, remove_empty, remove_filled, remove_absent, remove_present, keys_map}
 use Rattle.patricia_core.proofs.tree.Tree.remove.Goals as goal
 
 pub returns-then-is_empty-clause-old : goal.returns-then-is_empty-clause-old

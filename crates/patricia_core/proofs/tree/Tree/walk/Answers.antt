@@ -1,8 +1,8 @@
 use Rattle.std.proofs.Common.{◌++◌, sym, ap, ◌∙◌}
 use Rattle.std.specs.FinMap as map
-use Rattle.patricia_core.specs.Rows.{own, entries}
-use Rattle.patricia_core.specs.Nodes.{row_of}
-use Rattle.patricia_core.proofs.TreeLemmas.{entries_map}
+use Rattle.patricia_rows.specs.Rows.{own, entries}
+use Rattle.patricia_core.specs.Private.Nodes.{row_of}
+use Rattle.patricia_rows.proofs.TreeLemmas.{entries_map}
 use Rattle.patricia_core.proofs.tree.Tree.walk.Goals as goal
 
 pub returns : goal.returns

@@ -1,8 +1,8 @@
 use Rattle.std.proofs.Common.{refl, ap, ◌∙◌}
 use Rattle.std.specs.Option.{option_copied}
 use Rattle.std.proofs.lemmas.List.{map-append}
-use Rattle.patricia_core.specs.Lent.{rows_at}
-use Rattle.patricia_core.proofs.WalkLemmas.{step_back}
+use Rattle.patricia_core.specs.Private.Lent.{rows_at}
+use Rattle.patricia_rows.proofs.WalkLemmas.{step_back}
 use Rattle.patricia_core.proofs.walk.Place.back.Goals as goal
 
 pub returns-clause-step : goal.returns-clause-step

@@ -1,9 +1,9 @@
 use Rattle.std.proofs.Common.{refl, ap, ◌∙◌, ◌++◌, ◌∷◌, []}
 use Rattle.std.specs.Option.{option_copied}
 use Rattle.std.proofs.lemmas.List.{map-append}
-use Rattle.patricia_core.specs.Nodes.{row_of}
-use Rattle.patricia_core.specs.Lent.{rows_at}
-use Rattle.patricia_core.proofs.WalkLemmas.{step_down}
+use Rattle.patricia_core.specs.Private.Nodes.{row_of}
+use Rattle.patricia_core.specs.Private.Lent.{rows_at}
+use Rattle.patricia_rows.proofs.WalkLemmas.{step_down}
 use Rattle.patricia_core.proofs.walk.Place.descend.Goals as goal
 
 pub returns : goal.returns

@@ -1,5 +1,5 @@
 use Rattle.std.proofs.Common.{◌≢◌, [], sym, subst}
-use Rattle.patricia_core.proofs.WalkLemmas.{left_filled, on_err}
+use Rattle.patricia_rows.proofs.WalkLemmas.{left_filled, on_err}
 use Rattle.patricia_core.proofs.walk.Place.seek.Goals as goal
 
 pub returns-in_err-descend-in-Some-first-clause-err : goal.returns-in_err-descend-in-Some-first-clause-err

@@ -1,6 +1,6 @@
 use Rattle.std.proofs.Common.{◌≡◌}
-use Rattle.patricia_core.specs.Lent.{spot_of}
-use Rattle.patricia_core.specs.Spots.{left, steps_left, IsSpot}
+use Rattle.patricia_core.specs.Private.Lent.{spot_of}
+use Rattle.patricia_rows.specs.Private.Spots.{left, steps_left, IsSpot}
 use Rattle.patricia_core.proofs.walk.Place.seek.Given as goal
 
 abbrev pub invariant-loop-value : goal.invariant-loop-value

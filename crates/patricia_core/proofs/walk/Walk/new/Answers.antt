@@ -1,8 +1,8 @@
 use Rattle.std.proofs.Common.{ap}
 use Rattle.std.specs.Option.{option_copied}
-use Rattle.patricia_core.specs.Nodes.{row_of}
-use Rattle.patricia_core.specs.Lent.{rows_at}
-use Rattle.patricia_core.proofs.WalkLemmas.{left_start}
+use Rattle.patricia_core.specs.Private.Nodes.{row_of}
+use Rattle.patricia_core.specs.Private.Lent.{rows_at}
+use Rattle.patricia_rows.proofs.WalkLemmas.{left_start}
 use Rattle.patricia_core.proofs.walk.Walk.new.Goals as goal
 
 pub returns : goal.returns

@@ -1,6 +1,6 @@
 use Rattle.std.proofs.Common.{ap}
-use Rattle.patricia_core.specs.Rows.{keys_of}
-use Rattle.patricia_core.proofs.WalkLemmas.{map_filled}
+use Rattle.patricia_rows.specs.Rows.{keys_of}
+use Rattle.patricia_rows.proofs.WalkLemmas.{map_filled}
 use Rattle.patricia_core.proofs.walk.Walk.next_key.Goals as goal
 
 pub returns-in-Err : goal.returns-in-Err

@@ -1,6 +1,6 @@
 use Rattle.std.proofs.Common.{ap, subst, ◌≢◌, []}
-use Rattle.patricia_core.specs.Walks.{values_of}
-use Rattle.patricia_core.proofs.WalkLemmas.{map_filled}
+use Rattle.patricia_rows.specs.Walks.{values_of}
+use Rattle.patricia_rows.proofs.WalkLemmas.{map_filled}
 use Rattle.patricia_core.proofs.walk.Walk.next_value.Goals as goal
 
 pub returns-in-Err : goal.returns-in-Err

@@ -1,5 +1,0 @@
-use Rattle.patricia_core.proofs.ByteLemmas.{byte_valid}
-use Rattle.patricia_core.proofs.keys.byte.VecU8Bytes.as_bytes.Goals as goal
-
-pub returns-clause-valid : goal.returns-clause-valid
-returns-clause-valid c = byte_valid _ (λ i l. c.type_inv.self i 0 l)

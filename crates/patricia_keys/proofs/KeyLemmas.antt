@@ -1,0 +1,122 @@
+-- What follows from the definitions of `Keys`, for any item test.
+use Rattle.std.proofs.Common.{◌≡◌, ℕ, ◌-◌, ◌<◌, ◌≤◌, ◌≢◌, ◌⊎◌, inl, inr, List, [], ◌∷◌, ◌++◌, length, take, drop, get_or, refl, sym, ap, subst, ◌∙◌, arith, length-append}
+use Rattle.std.specs.List.{All, concat}
+use Rattle.std.proofs.lemmas.List.Elements.{All-nil, All-append}
+use Rattle.std.specs.declared.cmp.Ordering.TheVariants.{Less, Equal}
+use Rattle.std.specs.Cmp.{tied_itself}
+use Rattle.std.specs.Cmp.Lexicographic.{nat_list_cmp_total}
+use Rattle.std.proofs.lemmas.List.{append_assoc, append-nil, append_cancel_left, length-drop, length-take, take-take, take-append-drop, get_or-take, get_or_append_left}
+use Rattle.std.proofs.lemmas.Bool.{cases_lt}
+use Rattle.patricia_keys.specs.Keys.{Begins, IsKeyKind, AreItems, IsValid, IsCommon, DropsCommon, IsFloor, IsSharedLen, key_cmp}
+
+-- of two lists with a common extension one begins the other
+pub begins_either : (a b x y : List ℕ) → a ++ x ≡ b ++ y → Begins a b ⊎ Begins b a
+begins_either [] b x y e = inl (b, refl)
+begins_either (c ∷ a) [] x y e = inr (c ∷ a, refl)
+begins_either (c ∷ a) (d ∷ b) x y e =
+    let same : c ≡ d = cc in
+    let tails : a ++ x ≡ b ++ y = cc in
+    elim (begins_either a b x y tails) [
+      | inl r ↦ inl (r.0, cc (r.1))
+      | inr r ↦ inr (r.0, cc (r.1))
+    ]
+
+pub Begins-trans : (a b c : List ℕ) → Begins a b → Begins b c → Begins a c
+Begins-trans a b c (x, e) (y, f) = (x ++ y, sym (append_assoc a x y) ∙ ap (λ l. l ++ y) e ∙ f)
+
+-- where two lists still agree one place on
+agrees : (a b : List ℕ) (n m : ℕ) → m ≤ length a → n < m → Begins (take m a) b → get_or a n 0 ≡ get_or b n 0
+agrees a b n m within below (rest, e) =
+    let short = length-take m a in
+    sym (get_or-take m a n 0 below) ∙ sym (get_or_append_left (take m a) rest 0 n (omega arith)) ∙ ap (λ l. get_or l n 0) e
+
+pub key_cmp-same : (a : List ℕ) → key_cmp a a ≡ Equal
+key_cmp-same a = tied_itself nat_list_cmp_total a
+
+pub key_cmp-irreflexive : (a b : List ℕ) → a ≡ b → key_cmp a b ≡ Less → ⊥
+key_cmp-irreflexive a b same less = let tie = key_cmp-same a in let less' : key_cmp a a ≡ Less = rw (← same) at less in cc
+
+concat-append : (is js : List (List ℕ)) → concat (is ++ js) ≡ concat is ++ concat js
+concat-append [] js = refl
+concat-append (i ∷ is) js = ap (λ r. i ++ r) (concat-append is js) ∙ sym (append_assoc i (concat is) (concat js))
+
+module _ (item : List ℕ → Type 0) where
+  -- there is one common length
+  pub IsCommon-unique : (q b : List ℕ) (n m : ℕ) → IsCommon item q b n → IsCommon item q b m → n ≡ m
+  IsCommon-unique q b n m x y = omega (arith, x.greatest m y.within y.valid y.begins, y.greatest n x.within x.valid x.begins)
+
+  AreItems-append : (is js : List (List ℕ)) → AreItems item is → AreItems item js → AreItems item (is ++ js)
+  AreItems-append [] js a b = b
+  AreItems-append (i ∷ is) js a b = (a.0, AreItems-append is js a.1 b)
+
+  pub IsValid-nil : IsValid item []
+  IsValid-nil = ([], tt, refl)
+
+  pub IsValid-append : (a b : List ℕ) → IsValid item a → IsValid item b → IsValid item (a ++ b)
+  IsValid-append a b v w = (v.0 ++ w.0, AreItems-append v.0 w.0 v.1 w.1, concat-append v.0 w.0 ∙ ap (λ l. l ++ concat w.0) v.2 ∙ ap (λ l. a ++ l) w.2)
+
+  pub IsValid-item : (i : List ℕ) → item i → IsValid item i
+  IsValid-item i p = (i ∷ [], (p, tt), append-nil i)
+
+  -- the first item of a key, and the key that is left
+  pub first_of : (k : List ℕ) → IsValid item k → k ≢ [] → (i : List ℕ) × (item i) × Begins i k
+  first_of k ([], ok, e) filled = absurd (filled (sym e))
+  first_of k (i ∷ is, ok, e) filled = (i, ok.0, (concat is, e))
+
+  module _ (kind : IsKeyKind item) where
+    pub item-filled : (i : List ℕ) → item i → i ≢ []
+    item-filled i ok e = let sized = kind.sized i ok in let none = ap length e in omega arith
+
+    -- two items that begin one list are one
+    pub items_same : (i j x y : List ℕ) → item i → item j → i ++ x ≡ j ++ y → i ≡ j
+    items_same i j x y p q e = elim (begins_either i j x y e) [
+      | inl r ↦ let none = kind.apart i r.0 p (rw r.1 q) in sym (append-nil i) ∙ ap (λ l. i ++ l) (sym none) ∙ r.1
+      | inr r ↦ let none = kind.apart j r.0 q (rw r.1 p) in sym r.1 ∙ ap (λ l. j ++ l) none ∙ append-nil j
+    ]
+
+    pub begins_same : (i j k : List ℕ) → item i → item j → Begins i k → Begins j k → i ≡ j
+    begins_same i j k p q a b = items_same i j a.0 b.0 p q (a.1 ∙ sym b.1)
+
+    valid_rest_of : (is js : List (List ℕ)) (b : List ℕ) → AreItems item is → AreItems item js → concat js ≡ concat is ++ b → IsValid item b
+    valid_rest_of [] js b p q e = (js, q, e)
+    valid_rest_of (i ∷ is) [] b p q e =
+        absurd (item-filled i p.0 (let sized = kind.sized i p.0 in let whole = ap length e in let cut = length-append (i ++ concat is) b in let cut' = length-append i (concat is) in absurd (omega arith)))
+    valid_rest_of (i ∷ is) (j ∷ js) b p q e =
+        let e' : j ++ concat js ≡ i ++ (concat is ++ b) = e ∙ append_assoc i (concat is) b in
+        let same = items_same j i _ _ q.0 p.0 e' in
+        valid_rest_of is js b p.1 q.1 (append_cancel_left i _ _ (ap (λ l. l ++ concat js) (sym same) ∙ e'))
+
+    items_bytes : (is : List (List ℕ)) → AreItems item is → All (λ b. b < 256) (concat is)
+    items_bytes [] ok = All-nil (λ b. b < 256)
+    items_bytes (i ∷ is) ok = All-append (λ b. b < 256) i (concat is) (kind.bytes i ok.0) (items_bytes is ok.1)
+
+    -- the bytes of a valid key are bytes
+    pub valid_bytes : (k : List ℕ) → IsValid item k → All (λ b. b < 256) k
+    valid_bytes k v = subst (All (λ b. b < 256)) v.2 (items_bytes v.0 v.1)
+
+    -- where a valid key begins another, the rest is valid
+    pub valid_rest : (a b : List ℕ) → IsValid item a → IsValid item (a ++ b) → IsValid item b
+    valid_rest a b v w = valid_rest_of v.0 w.0 b v.1 w.1 (w.2 ∙ ap (λ l. l ++ b) (sym v.2))
+
+module _ (item : List ℕ → Type 0) where
+  -- how many bytes were dropped is how much shorter the rest is
+  pub dropped_len : (q b rest : List ℕ) (drops : DropsCommon item q b rest) → drops.count ≡ length q - length rest
+  dropped_len q b rest drops = omega (arith, drops.common.within, ap length drops.is, length-drop drops.count q)
+
+  -- the common length is the whole items of the bytes that are shared
+  pub common_by_floor : (q b : List ℕ) (shared n : ℕ) → IsSharedLen q b shared → IsFloor item (take shared q) n → IsCommon item q b n
+  common_by_floor q b shared n s f =
+      let short = length-take shared q in
+      let le : n ≤ shared = omega (arith, f.within, s.within_first) in
+      let front = take-take n shared q le in
+      let front' = take-take n shared b le in
+      let same : take n q ≡ take n b = sym front ∙ ap (take n) s.same ∙ front' in
+      record {
+        within = omega (arith, f.within);
+        valid = rw front at f.valid;
+        begins = (drop n b, rw same (take-append-drop n b));
+        greatest = λ m within v begins. elim (cases_lt shared m) [
+          | inl below ↦ absurd (s.greatest (omega arith) (let short' = length-take m q in let joined = length-append (take m q) begins.0 in omega (arith, ap length begins.1)) (agrees q b shared m within below begins))
+          | inr le' ↦ f.greatest m (omega arith) (rw (take-take m shared q le') v)
+        ];
+      }

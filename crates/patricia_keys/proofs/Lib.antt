@@ -1,0 +1,3 @@
+pub mod ByteLemmas
+pub mod KeyLemmas
+pub mod TextLemmas

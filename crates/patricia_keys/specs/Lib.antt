@@ -1,0 +1,4 @@
+pub mod ByteKind
+pub mod Keys
+pub mod Private
+pub mod TextKind

@@ -1,0 +1,97 @@
+//! Key kinds: what an owned and a borrowed key can do.
+//!
+//! A key is a list of items: single bytes in byte strings, characters in texts. Labels and
+//! prefixes are cut between items only. Each length is a number of bytes.
+ghost use Rattle.std.specs.Prelude.{◌≡◌, ℕ, ◌≤◌, List, [], length, take, drop, IsTrue, ◌↔◌, IfOk};
+ghost use Rattle.patricia_keys.specs.Keys.{IsKeyKind, IsValid, IsCommon, DropsCommon, IsFloor, ComparesFirst};
+
+mod byte;
+mod text;
+
+use std::alloc::{AllocError, Global};
+use std::cmp::Ordering;
+
+/// An owned key.
+///
+/// An implementation gives its items and proves that they are a key kind. Everything else that is
+/// said of keys is said for every such kind.
+pub trait Bytes: Drop {
+    // whether a byte list is an item of this kind
+    ghost item: { List ℕ → Type 0 };
+
+    // the bytes of a key
+    ghost key: { Self → List ℕ };
+
+    /// Whether the bytes are a list of whole items.
+    fn is_valid_bytes(bytes: &[u8]) -> bool
+        ensures { IsTrue result ↔ IsValid item bytes.now };
+
+    /// Makes a key of bytes that are valid. The error is want of memory.
+    fn from_bytes(alloc: Global, bytes: &[u8]) -> Result<Self, AllocError>
+        requires { IsValid item bytes.now }
+        ensures { IfOk result (λ k. key k ≡ bytes.now) };
+
+    /// The bytes of the key, which are always valid.
+    fn as_bytes(&self) -> &[u8]
+        ensures value { result.now ≡ key self.now }
+        ensures valid { IsValid item (key self.now) };
+
+    /// How many bytes at the front are whole items, for any bytes.
+    ///
+    /// The bytes may end inside an item, or hold bytes that no key has.
+    fn floor_boundary(bytes: &[u8]) -> usize
+        ensures { IsFloor item bytes.now result };
+
+    ghost lawful: { IsKeyKind item };
+}
+
+/// A borrowed key, which is passed by value.
+pub trait BorrowedBytes: Copy {
+    type Owned: Bytes;
+
+    // the bytes of a key
+    ghost key: { Self → List ℕ };
+
+    /// The bytes of the key, which are always valid.
+    fn as_bytes(&self) -> &[u8]
+        ensures value { result.now ≡ key self.now }
+        ensures valid { IsValid Self.Owned.item (key self.now) };
+
+    /// Whether the key has no byte.
+    fn is_empty(&self) -> bool
+        ensures { IsTrue result ↔ (key self.now ≡ []) }
+    {
+        self.as_bytes().is_empty()
+    }
+
+    /// The key without the whole items that it has in common with the front of the bytes.
+    fn strip_common_prefix(self, bytes: &[u8]) -> Self
+        ensures { DropsCommon Self.Owned.item (key self) bytes.now (key result) };
+
+    /// The same, and how many bytes were taken off.
+    fn strip_common_prefix_and_len(self, bytes: &[u8]) -> (Self, usize)
+        ensures common { IsCommon Self.Owned.item (key self) bytes.now result.1 }
+        ensures rest { key result.0 ≡ drop result.1 (key self) }
+    {
+        let rest = self.strip_common_prefix(bytes);
+        let len = self.as_bytes().len() - rest.as_bytes().len();
+        (rest, len)
+    }
+
+    /// Compares the first items. No item comes before any item.
+    fn cmp_first_item(self, bytes: &[u8]) -> Ordering
+        requires { IsValid Self.Owned.item bytes.now }
+        ensures { ComparesFirst Self.Owned.item (key self) bytes.now result };
+
+    /// The key without its first `n` bytes, which are whole items.
+    fn strip_n_prefix(self, n: usize) -> Self
+        requires within { n ≤ length (key self) }
+        requires valid { IsValid Self.Owned.item (take n (key self)) }
+        ensures { key result ≡ drop n (key self) };
+
+    /// The first `n` bytes of the key, which are whole items.
+    fn keep_n_prefix(self, n: usize) -> Self
+        requires within { n ≤ length (key self) }
+        requires valid { IsValid Self.Owned.item (take n (key self)) }
+        ensures { key result ≡ take n (key self) };
+}

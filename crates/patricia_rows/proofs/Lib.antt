@@ -1,0 +1,16 @@
+pub mod CountLemmas
+pub mod DivideLemmas
+pub mod GetLemmas
+pub mod InsertLemmas
+pub mod JoinLemmas
+pub mod ListLemmas
+pub mod MemberLemmas
+pub mod OrderLemmas
+pub mod PointLemmas
+pub mod RemovalLemmas
+pub mod RowLemmas
+pub mod TreeLemmas
+pub mod UniqueLemmas
+pub mod ValidLemmas
+pub mod VisitLemmas
+pub mod WalkLemmas

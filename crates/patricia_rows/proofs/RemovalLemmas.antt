@@ -1,0 +1,246 @@
+-- What a removal leaves of a row, by how the key compares with the first label.
+use Rattle.std.proofs.Common.{◌≡◌, ℕ, suc, ◌+◌, ◌≤◌, ◌≢◌, inl, inr, cond, not, List, [], ◌∷◌, ◌++◌, Option, Some, None, refl, sym, ap, subst, ◌∙◌, arith}
+use mathlib.Core.Bool.{false≢true}
+use Rattle.std.specs.Prelude.{Vec, MatchOption, IsSome}
+use Rattle.std.specs.Global.{Global}
+use Rattle.std.specs.declared.cmp.Ordering.{Ordering}
+use Rattle.std.specs.declared.cmp.Ordering.TheVariants.{Less, Equal, Greater}
+use Rattle.std.specs.Ordering.{is_eq}
+use Rattle.std.proofs.lemmas.List.{append-nil}
+use Rattle.std.proofs.lemmas.List.Elements.{filter-append}
+use Rattle.std.proofs.lemmas.Bool.{cases_lt}
+use Rattle.patricia_keys.specs.Keys.{Begins, IsKeyKind, IsValid, key_cmp}
+use Rattle.patricia_rows.specs.Private.Meeting.{EndsWithin, Passes}
+use Rattle.patricia_rows.specs.Rows.{Row, end, node, prefixed, own, entries, IsBefore, IsBeforeRow, EarnsWithin, IsRow}
+use Rattle.patricia_rows.specs.Private.Removals.{others, width, HasLeaf, taking_in, without_first, LeavesAlone, KeepsPlace, LosesPlace, settled}
+use Rattle.patricia_keys.proofs.KeyLemmas.{first_of, IsValid-append}
+use Rattle.patricia_rows.proofs.RowLemmas.{AllKeys, prefixed-prefixed, lacks_empty}
+use Rattle.patricia_rows.proofs.ListLemmas.{key_cmp-equal, key_cmp-front}
+use Rattle.patricia_rows.proofs.GetLemmas.{lacks_past, lacks_before, lacks_within, later_lacks}
+use Rattle.patricia_rows.proofs.InsertLemmas.{IsBefore-longer_left, keys_rise, rises_by_keys, earns_elsewhere}
+use Rattle.patricia_rows.proofs.PointLemmas.{nil_first}
+use Rattle.patricia_rows.proofs.UniqueLemmas.{same_row}
+
+module _ {V : Type 0} where
+  -- a key that is not there leaves nothing out
+  pub others_absent : (q : List ℕ) (es : List (List ℕ × V)) → AllKeys (λ k. q ≡ k → ⊥) es → others q es ≡ es
+  others_absent q [] h = refl
+  others_absent q (e ∷ es) h = by (key_cmp q e.0) refl (others_absent q es h.1)
+    where
+      by : (r : Ordering) → key_cmp q e.0 ≡ r → others q es ≡ es → others q (e ∷ es) ≡ e ∷ es
+      by Less f rest = rw f (ap (λ l. e ∷ l) rest)
+      by Equal f rest = absurd (h.0 (key_cmp-equal q e.0 f))
+      by Greater f rest = rw f (ap (λ l. e ∷ l) rest)
+
+  -- behind a common front
+  pub others-prefixed : (p q : List ℕ) (es : List (List ℕ × V)) → others (p ++ q) (prefixed p es) ≡ prefixed p (others q es)
+  others-prefixed p q [] = refl
+  others-prefixed p q (e ∷ es) =
+      ap (λ r. cond (not (is_eq r)) ((p ++ e.0, e.1) ∷ others (p ++ q) (prefixed p es)) (others (p ++ q) (prefixed p es))) (key_cmp-front p q e.0)
+      ∙ ap (λ l. cond (not (is_eq (key_cmp q e.0))) ((p ++ e.0, e.1) ∷ l) l) (others-prefixed p q es)
+      ∙ elim (key_cmp q e.0) as (λ r. cond (not (is_eq r)) ((p ++ e.0, e.1) ∷ prefixed p (others q es)) (prefixed p (others q es)) ≡ prefixed p (cond (not (is_eq r)) (e ∷ others q es) (others q es))) [
+        | Less ↦ refl
+        | Equal ↦ refl
+        | Greater ↦ refl
+      ]
+
+  -- what holds of each key holds of the others
+  pub AllKeys-others : (P : List ℕ → Type 0) (q : List ℕ) (es : List (List ℕ × V)) → AllKeys P es → AllKeys P (others q es)
+  AllKeys-others P q [] h = tt
+  AllKeys-others P q (e ∷ es) h = by (key_cmp q e.0) refl (AllKeys-others P q es h.1)
+    where
+      by : (r : Ordering) → key_cmp q e.0 ≡ r → AllKeys P (others q es) → AllKeys P (others q (e ∷ es))
+      by Less f rest = rw f (h.0, rest)
+      by Equal f rest = rw f rest
+      by Greater f rest = rw f (h.0, rest)
+
+  -- a node that is still there
+  leaf_later : (q l : List ℕ) (v : Option V) (c s : Row V) → HasLeaf q s → HasLeaf q (node l v c s)
+  leaf_later q l v end s h = inr h
+  leaf_later q l v (node m w d t) s h = h
+
+  pub as_many_past : (q l : List ℕ) (v : Option V) (c s s' : Row V) → ((HasLeaf q s → ⊥) → width s ≤ width s') → (HasLeaf q (node l v c s) → ⊥) → width (node l v c s) ≤ width (node l v c s')
+  as_many_past q l v c s s' h none = let rest = h (λ leaf. none (leaf_later q l v c s leaf)) in omega arith
+
+  pub one_less_first : (r : Row V) → width r ≤ width (without_first r) + 1
+  one_less_first end = omega arith
+  one_less_first (node l None c s) = omega arith
+  one_less_first (node l (Some x) end s) = omega arith
+  one_less_first (node l (Some x) (node m w d end) s) = omega arith
+  one_less_first (node l (Some x) (node m w d (node m' w' d' t')) s) = omega arith
+
+  pub as_many_first : (q l : List ℕ) (v : Option V) (c s : Row V) → l ≡ q → (HasLeaf q (node l v c s) → ⊥) → width (node l v c s) ≤ width (without_first (node l v c s))
+  as_many_first q l None c s e none = omega arith
+  as_many_first q l (Some x) end s e none = absurd (none (inl e))
+  as_many_first q l (Some x) (node m w d end) s e none = omega arith
+  as_many_first q l (Some x) (node m w d (node m' w' d' t')) s e none = omega arith
+
+  pub width-settled : (o : Option (Vec ℕ Global)) (l : List ℕ) (v : Option V) (c s : Row V) → width (settled o (node l v c s)) ≡ suc (width s)
+  width-settled None l v c s = refl
+  width-settled (Some label) l v end s = refl
+  width-settled (Some label) l v (node m w d t) s = refl
+
+module _ (item : List ℕ → Type 0) (kind : IsKeyKind item) {V : Type 0} where
+  -- without the empty key a node has the entries of its children left
+  pub others_own : (v : Option V) (c : Row V) → IsRow item c → others [] (own v ++ entries c) ≡ entries c
+  others_own v c ok = by v (others_absent [] (entries c) (turn (entries c) (lacks_empty item kind None c ok)))
+    where
+      turn : (es : List (List ℕ × V)) → AllKeys (λ k. k ≡ [] → ⊥) es → AllKeys (λ k. [] ≡ k → ⊥) es
+      turn [] h = tt
+      turn (e ∷ es) h = (λ same. h.0 (sym same), turn es h.1)
+
+      by : (v : Option V) → others [] (entries c) ≡ entries c → others [] (own v ++ entries c) ≡ entries c
+      by None h = h
+      by (Some x) h = h
+
+  -- another key is left out of the children
+  pub others_below : (t : List ℕ) (v : Option V) (c : Row V) → t ≢ [] → others t (own v ++ entries c) ≡ own v ++ others t (entries c)
+  others_below t None c filled = refl
+  others_below [] (Some x) c filled = absurd (filled refl)
+  others_below (b ∷ t) (Some x) c filled = refl
+
+  -- a node without value earns its place by two children
+  earns_by_width : (l : List ℕ) (v : Option V) (c : Row V) → (v ≡ None → 2 ≤ width c) → EarnsWithin item None l v c
+  earns_by_width l (Some x) c two = tt
+  earns_by_width l None end two = absurd (let h = two refl in omega arith)
+  earns_by_width l None (node m w d end) two = absurd (let h = two refl in omega arith)
+  earns_by_width l None (node m w d (node m' w' d' t')) two = tt
+
+  width_of_earned : (l : List ℕ) (c s : Row V) → IsRow item (node l None c s) → 2 ≤ width c
+  width_of_earned l end s ok = absurd ok.earns
+  width_of_earned l (node m w d end) s ok = let first = first_of item m ok.child.valid ok.child.filled in absurd (ok.earns first.0 first.1 first.2 tt)
+  width_of_earned l (node m w d (node m' w' d' t')) s ok = omega arith
+
+  -- a lone child that is taken in
+  taken_in_row : (l : List ℕ) (v : Option V) (m : List ℕ) (w : Option V) (d s : Row V) → IsValid item l → l ≢ [] → IsBeforeRow item l s → IsRow item s → IsRow item (node m w d end) → IsRow item (node (l ++ m) w d s)
+  taken_in_row l v m w d s valid filled rises ok child = record {
+    valid = IsValid-append item l m valid child.valid;
+    filled = λ none. filled (nil_first l m none);
+    fits = tt;
+    earns = earns_elsewhere item kind m (l ++ m) w d child.earns;
+    rises = longer s rises;
+    child = child.child;
+    sibling = ok;
+  }
+    where
+      longer : (s : Row V) → IsBeforeRow item l s → IsBeforeRow item (l ++ m) s
+      longer end h = tt
+      longer (node k u c t) h = IsBefore-longer_left item kind l k m h
+
+  taken_in_entries : (l m : List ℕ) (w : Option V) (d s : Row V) → entries (node (l ++ m) w d s) ≡ prefixed l (entries (node m w d end)) ++ entries s
+  taken_in_entries l m w d s =
+      ap (λ es. es ++ entries s) (sym (prefixed-prefixed l m (own w ++ entries d)) ∙ ap (prefixed l) (sym (append-nil (prefixed m (own w ++ entries d)))))
+
+module _ (item : List ℕ → Type 0) (kind : IsKeyKind item) {V : Type 0} (l : List ℕ) (v : Option V) (c s : Row V) (ok : IsRow item (node l v c s)) where
+  pub others_past : (q : List ℕ) → IsBefore item l q → others q (entries (node l v c s)) ≡ prefixed l (own v ++ entries c) ++ others q (entries s)
+  others_past q before = filter-append _ (prefixed l (own v ++ entries c)) (entries s) ∙ ap (λ es. es ++ others q (entries s)) (others_absent q _ (lacks_past item kind l v c s ok q before))
+
+  pub others_before : (q : List ℕ) → IsBefore item q l → others q (entries (node l v c s)) ≡ entries (node l v c s)
+  others_before q before = others_absent q _ (lacks_before item kind l v c s ok q before)
+
+  pub others_within : (q : List ℕ) (n : ℕ) → EndsWithin item q l n → others q (entries (node l v c s)) ≡ entries (node l v c s)
+  others_within q n ends = others_absent q _ (lacks_within item kind l v c s ok q n ends)
+
+  others_through : (q t : List ℕ) → Passes item q l t → others q (entries (node l v c s)) ≡ prefixed l (others t (own v ++ entries c)) ++ entries s
+  others_through q t passes =
+      filter-append _ (prefixed l (own v ++ entries c)) (entries s)
+      ∙ ap (λ es. others q (prefixed l (own v ++ entries c)) ++ es) (others_absent q _ (later_lacks item kind l v c s ok q passes.shares))
+      ∙ ap (λ k. others k (prefixed l (own v ++ entries c)) ++ entries s) (sym passes.splits)
+      ∙ ap (λ es. es ++ entries s) (others-prefixed l t (own v ++ entries c))
+
+  pub others_here : (q t : List ℕ) → Passes item q l t → t ≡ [] → others q (entries (node l v c s)) ≡ prefixed l (entries c) ++ entries s
+  others_here q t passes none = others_through q t passes ∙ ap (λ es. prefixed l es ++ entries s) (ap (λ k. others k (own v ++ entries c)) none ∙ others_own item kind v c ok.child)
+
+  others_deeper : (q t : List ℕ) → Passes item q l t → t ≢ [] → others q (entries (node l v c s)) ≡ prefixed l (own v ++ others t (entries c)) ++ entries s
+  others_deeper q t passes filled = others_through q t passes ∙ ap (λ es. prefixed l es ++ entries s) (others_below item kind t v c filled)
+
+  -- the key was in the rest of the row
+  pub row_past_removed : (q : List ℕ) (s' : Row V) → IsRow item s' → entries s' ≡ others q (entries s) → IsRow item (node l v c s')
+  row_past_removed q s' ok' e = record {
+    valid = ok.valid;
+    filled = ok.filled;
+    fits = tt;
+    earns = ok.earns;
+    rises = rises_by_keys item kind l s' ok' (subst (AllKeys (λ k. IsBefore item l k)) (sym e) (AllKeys-others _ q (entries s) (keys_rise item kind l s ok.sibling ok.rises)));
+    child = ok.child;
+    sibling = ok';
+  }
+
+  pub entries_past_removed : (q : List ℕ) (s' : Row V) → IsBefore item l q → entries s' ≡ others q (entries s) → entries (node l v c s') ≡ others q (entries (node l v c s))
+  entries_past_removed q s' before e = ap (λ es. prefixed l (own v ++ entries c) ++ es) e ∙ sym (others_past q before)
+
+module _ (item : List ℕ → Type 0) (kind : IsKeyKind item) where
+  -- the label of the first node is the whole key
+  passes_whole : (l q : List ℕ) → IsValid item l → l ≢ [] → l ≡ q → Passes item q l []
+  passes_whole l q valid filled e =
+      let first = first_of item l valid filled in
+      record { shares = record { shared = first.0; is_item = first.1; begins_first = subst (Begins first.0) e first.2; begins_second = first.2 }; splits = append-nil l ∙ e }
+
+-- the key was that of the first node
+module _ (item : List ℕ → Type 0) (kind : IsKeyKind item) {V : Type 0} where
+  pub row_first_removed : (r : Row V) → IsRow item r → IsRow item (without_first r)
+  row_first_removed end ok = ok
+  row_first_removed (node l None c s) ok = ok
+  row_first_removed (node l (Some x) end s) ok = ok.sibling
+  row_first_removed (node l (Some x) (node m w d end) s) ok = taken_in_row item kind l (Some x) m w d s ok.valid ok.filled ok.rises ok.sibling ok.child
+  row_first_removed (node l (Some x) (node m w d (node m' w' d' t')) s) ok = record { valid = ok.valid; filled = ok.filled; fits = tt; earns = tt; rises = ok.rises; child = ok.child; sibling = ok.sibling }
+
+  left_first : (l : List ℕ) (v : Option V) (c s : Row V) → IsRow item (node l v c s) → entries (without_first (node l v c s)) ≡ prefixed l (entries c) ++ entries s
+  left_first l None c s ok = refl
+  left_first l (Some x) end s ok = refl
+  left_first l (Some x) (node m w d end) s ok = taken_in_entries item kind l m w d s
+  left_first l (Some x) (node m w d (node m' w' d' t')) s ok = refl
+
+  pub entries_first_removed : (l : List ℕ) (v : Option V) (c s : Row V) (ok : IsRow item (node l v c s)) (q t : List ℕ) → Passes item q l t → t ≡ [] → entries (without_first (node l v c s)) ≡ others q (entries (node l v c s))
+  entries_first_removed l v c s ok q t passes none = left_first l v c s ok ∙ sym (others_here item kind l v c s ok q t passes none)
+
+  -- what is left of two children, where one was the leaf at the key
+  pub survivor : (t : List ℕ) (c : Row V) (m : List ℕ) → IsRow item c → LeavesAlone t c m → (w : Option V) × (d : Row V) × IsRow item (node m w d end) × (entries (node m w d end) ≡ others t (entries c))
+  survivor t end m ok alone = absurd alone
+  survivor t (node a v ca end) m ok alone = absurd alone
+  survivor t (node a v ca (node b w cb (node b' w' cb' s'))) m ok alone = absurd alone
+  survivor t (node a v ca (node b w cb end)) m ok alone = elim alone [
+    | inl h ↦
+        let left = others_here item kind a v ca (node b w cb end) ok t [] (passes_whole item kind a t ok.valid ok.filled h.0) refl in
+        let gone = ap (λ (r : Row V). prefixed a (entries r) ++ entries (node b w cb end)) h.1 in
+        (w, cb, subst (λ k. IsRow item (node k w cb end)) (sym h.2) ok.sibling, ap (λ k. entries (node k w cb end)) h.2 ∙ sym (left ∙ gone))
+    | inr h ↦
+        let left = others_past item kind a v ca (node b w cb end) ok t (subst (IsBefore item a) h.0 ok.rises) in
+        let here = others_here item kind b w cb end ok.sibling t [] (passes_whole item kind b t ok.sibling.valid ok.sibling.filled h.0) refl in
+        let gone = ap (λ (r : Row V). prefixed b (entries r) ++ []) h.1 in
+        let first : IsRow item (node a v ca end) = record { valid = ok.valid; filled = ok.filled; fits = tt; earns = ok.earns; rises = tt; child = ok.child; sibling = tt } in
+        (v, ca, subst (λ k. IsRow item (node k v ca end)) (sym h.2) first, ap (λ k. entries (node k v ca end)) h.2 ∙ sym (left ∙ ap (λ es. prefixed a (own v ++ entries ca) ++ es) (here ∙ gone)))
+  ]
+
+-- the key was below the first node
+module _ (item : List ℕ → Type 0) (kind : IsKeyKind item) {V : Type 0} (l : List ℕ) (v : Option V) (c s : Row V) (ok : IsRow item (node l v c s)) (q t : List ℕ) (passes : Passes item q l t) (filled : t ≢ []) (c' : Row V) (ok' : IsRow item c') (e : entries c' ≡ others t (entries c)) where
+  two_left : width c ≤ width c' + 1 → ((HasLeaf t c → ⊥) → width c ≤ width c') → KeepsPlace t v c → v ≡ None → 2 ≤ width c'
+  two_left one_less as_many keeps none =
+      let two = width_of_earned item kind l c s (subst (λ w. IsRow item (node l w c s)) none ok) in
+      elim keeps [
+        | inl some ↦ absurd (false≢true (subst (IsSome {T = V}) none some))
+        | inr more ↦ elim more [ inl not_two ↦ three (width c) two not_two one_less | inr no_leaf ↦ let all = as_many no_leaf in omega arith ]
+      ]
+    where
+      three : (n : ℕ) → 2 ≤ n → (n ≡ 2 → ⊥) → n ≤ width c' + 1 → 2 ≤ width c'
+      three n two not_two le = elim (cases_lt 2 n) [ inl lt ↦ omega arith | inr le' ↦ absurd (not_two (omega arith)) ]
+
+  pub row_deeper_removed : (o : Option (Vec ℕ Global)) → width c ≤ width c' + 1 → ((HasLeaf t c → ⊥) → width c ≤ width c') → MatchOption o (KeepsPlace t v c) (λ label. (m : List ℕ) × LosesPlace t v c m × (label.items ≡ l ++ m)) → IsRow item (settled o (node l v c' s))
+  row_deeper_removed None one_less as_many keeps = record { valid = ok.valid; filled = ok.filled; fits = tt; earns = earns_by_width item kind l v c' (two_left one_less as_many keeps); rises = ok.rises; child = ok'; sibling = ok.sibling }
+  row_deeper_removed (Some label) one_less as_many (m, loses, is) =
+      let left = survivor item kind t c m ok.child loses.1 in
+      let same = same_row item kind None c' (node m left.0 left.1 end) ok' left.2 (e ∙ sym left.3) in
+      subst (λ (r : Row V). IsRow item (taking_in label.items (node l v r s))) (sym same)
+      (subst (λ k. IsRow item (node k left.0 left.1 s)) (sym is) (taken_in_row item kind l v m left.0 left.1 s ok.valid ok.filled ok.rises ok.sibling left.2))
+
+  pub entries_deeper_removed : (o : Option (Vec ℕ Global)) → MatchOption o (KeepsPlace t v c) (λ label. (m : List ℕ) × LosesPlace t v c m × (label.items ≡ l ++ m)) → entries (settled o (node l v c' s)) ≡ others q (entries (node l v c s))
+  entries_deeper_removed None keeps = ap (λ es. prefixed l (own v ++ es) ++ entries s) e ∙ sym (others_deeper item kind l v c s ok q t passes filled)
+  entries_deeper_removed (Some label) (m, loses, is) =
+      let left = survivor item kind t c m ok.child loses.1 in
+      let same = same_row item kind None c' (node m left.0 left.1 end) ok' left.2 (e ∙ sym left.3) in
+      ap (λ (r : Row V). entries (taking_in label.items (node l v r s))) same
+      ∙ ap (λ k. entries (node k left.0 left.1 s)) is
+      ∙ taken_in_entries item kind l m left.0 left.1 s
+      ∙ ap (λ es. prefixed l es ++ entries s) left.3
+      ∙ ap (λ (w : Option V). prefixed l (own w ++ others t (entries c)) ++ entries s) (sym loses.0)
+      ∙ sym (others_deeper item kind l v c s ok q t passes filled)

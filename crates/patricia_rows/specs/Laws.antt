@@ -1,0 +1,50 @@
+-- What the laws say, each in one sentence.
+use Rattle.std.specs.Prelude.{◌≡◌, ◌↔◌, ℕ, List, Option, take}
+use Rattle.std.specs.FinMap as map
+use Rattle.patricia_keys.specs.Keys.{IsCommon, IsFloor, IsSharedLen}
+use Rattle.patricia_rows.specs.Points.{Has, AreApart, IsPoint, IsParent, IsVisitCount}
+use Rattle.patricia_rows.specs.Rows.{Row, entries, keys_of, paths, IsRow, IsRowWithin}
+use Rattle.patricia_rows.specs.Trees.{map_of, IsTree}
+
+module _ (item : List ℕ → Type 0) where
+  -- the common length of a key and any bytes is the floor of the bytes that they share
+  abbrev pub CommonIsFloor : Type 0
+  CommonIsFloor =
+      (q b : List ℕ) (shared n : ℕ) → IsSharedLen q b shared → IsFloor item (take shared q) n
+      → IsCommon item q b n
+
+  -- a point has one parent
+  abbrev pub HasOneParent : Type 0
+  HasOneParent =
+      (S : List (List ℕ)) (p q r : List ℕ) → IsParent item S p q → IsParent item S p r → q ≡ r
+
+  -- there is one number of visits for a set of keys and a key
+  abbrev pub HasOneVisitCount : Type 0
+  HasOneVisitCount =
+      (S : List (List ℕ)) (k : List ℕ) (n m : ℕ) → IsVisitCount item S k n
+      → IsVisitCount item S k m → n ≡ m
+
+  -- trees that keep the invariant and stand for one finite map have the same value
+  -- of the empty key and the same row
+  abbrev pub HasOneTree : Type 0 → Type 0
+  HasOneTree V =
+      (v w : Option V) (r s : Row V) (m n : ℕ) → IsTree item r m → IsTree item s n
+      → map_of v r ≡ map_of w s → (v ≡ w) × (r ≡ s)
+
+  -- the nodes of a tree stand at the points of the keys of its map, one node at each
+  abbrev pub TreeStandsAtPoints : Type 0 → Type 0
+  TreeStandsAtPoints V =
+      (v : Option V) (r : Row V) (n : ℕ) → IsTree item r n
+      → AreApart (paths r) × ((p : List ℕ) → Has (paths r) p ↔ IsPoint item (map.keys (map_of v r)) p)
+
+  -- rows that keep the invariant under one limit and have the same entries are the same row
+  abbrev pub HasOneShape : Type 0 → Type 0
+  HasOneShape V =
+      (limit : Option ℕ) (r s : Row V) → IsRowWithin item limit r → IsRowWithin item limit s
+      → entries r ≡ entries s → r ≡ s
+
+  -- the nodes of a row stand at the points of its keys, one node at each
+  abbrev pub RowStandsAtPoints : Type 0 → Type 0
+  RowStandsAtPoints V =
+      (row : Row V) → IsRow item row
+      → AreApart (paths row) × ((p : List ℕ) → Has (paths row) p ↔ IsPoint item (keys_of (entries row)) p)

@@ -1,0 +1,7 @@
+pub mod Laws
+pub mod Points
+pub mod Private
+pub mod Rows
+pub mod ThreeKeys
+pub mod Trees
+pub mod Walks
