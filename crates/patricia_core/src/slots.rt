@@ -3,6 +3,7 @@ ghost use Rattle.std.specs.Prelude.{◌≡◌, vec_len};
 ghost use Rattle.patricia_core.specs.Plans.{IsWhole, row_of};
 ghost use Rattle.patricia_core.specs.Rows.{end};
 
+mod growth;
 mod insertion;
 mod seek;
 
