@@ -67,7 +67,7 @@ module _ {V : Type 0} where
       })
 
   pub whole_plan : (s : Slots V) → IsWhole s → IsPlan s.nodes.items s.root (plan_at s.nodes.items s.root)
-  whole_plan s w = plan_read s.nodes.items s.root s.free w.0 w.1 w.2
+  whole_plan s w = plan_read s.nodes.items s.root s.free w.0 w.1.0 w.1.1
 
 module _ (item : List ℕ → Type 0) (kind : IsKeyKind item) {V : Type 0} where
   -- how a look-up ends decides what is found
