@@ -13,6 +13,7 @@ pub mod MemberLemmas
 pub mod OrderLemmas
 pub mod PlanLemmas
 pub mod PointLemmas
+pub mod PutLemmas
 pub mod RemovalLemmas
 pub mod RowLemmas
 pub mod SeekLemmas

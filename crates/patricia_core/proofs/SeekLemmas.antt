@@ -200,7 +200,7 @@ module _ (item : List ℕ → Type 0) (kind : IsKeyKind item) {V : Type 0} (s : 
   stop_at (Cell i l v c d) id (Within k n) h e = absurd (cc)
   stop_at (Cell i l v c d) id (Here k) h e = let f = h.0 in cc
 
-  here_passes : (i : ℕ) (l : List ℕ) (id : ℕ) (stop : Stop) → StopsAt item i l rest stop → node_of stop ≡ Some id → Passes item rest l []
+  pub here_passes : (i : ℕ) (l : List ℕ) (id : ℕ) (stop : Stop) → StopsAt item i l rest stop → node_of stop ≡ Some id → Passes item rest l []
   here_passes i l id Gap h e = absurd (cc)
   here_passes i l id (Within k n) h e = absurd (cc)
   here_passes i l id (Here k) h e = h.1
