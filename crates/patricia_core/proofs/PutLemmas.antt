@@ -1,6 +1,8 @@
 -- A value put in at the place of a key.
 use Rattle.std.proofs.Common.{◌≡◌, ◌≢◌, ◌⊎◌, inl, inr, ℕ, ◌+◌, ◌<◌, ◌≤◌, List, [], ◌∷◌, ◌++◌, length, set, take, drop, Option, Some, None, get_or, refl, sym, ap, subst, ◌∙◌, arith}
 use Rattle.std.specs.FinMap.{find, put}
+use Rattle.std.specs.Prelude.{Result, Ok, Err, OnOk, OnErr, false, is_some}
+use mathlib.Core.Bool.{false≢true}
 use Rattle.std.specs.declared.cmp.Ordering.{Ordering}
 use Rattle.std.specs.declared.cmp.Ordering.TheVariants.{Less}
 use Rattle.std.proofs.lemmas.Bool.{cases_lt}
@@ -169,3 +171,13 @@ module _ (item : List ℕ → Type 0) (kind : IsKeyKind item) {V : Type 0} (s : 
         (row_valued item kind x r.label r.value (row o.child) (row o.sibling) inner)
         (put_through item kind x r.label r.value (row o.child) (row o.sibling) inner rest [] (Some x) (row o.child) (here_passes item kind s key whole ok spot at rest id r.label id stop stops is) (put_own item kind x r.value (row o.child) inner.child)
         ∙ ap (λ (q : Plan V). put key_cmp rest x (entries (row q))) (sym o.is))
+
+-- what holds after a value was put in, or refused
+pub put_or_same : (item : List ℕ → Type 0) {T E : Type 0} (r : Result T E) {V : Type 0} (old new : Slots V) (key : List ℕ) (x : V) → OnOk r (Puts item old new key x) → OnErr r (new ≡ old) → IsWhole old → IsRow item (row_of old) → IsWhole new × IsRow item (row_of new)
+put_or_same item (Ok y) old new key x ok err whole row_ok = (ok.whole, ok.row_ok)
+put_or_same item (Err e) old new key x ok err whole row_ok = rw err (whole, row_ok)
+
+-- a test that found nothing
+pub not_some : (o : Option ℕ) → false ≡ is_some o → o ≡ None
+not_some None e = refl
+not_some (Some n) e = absurd (false≢true e)

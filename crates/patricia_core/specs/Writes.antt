@@ -27,6 +27,12 @@ module _ {V : Type 0} where
     pub grown : vec_len old.nodes < vec_len new.nodes → new.free ≡ None
     pub none : old.free ≡ None → new.free ≡ None
 
+  -- nothing was changed
+  pub record Stays (old new : Slots V) : Type 0 where
+    pub nodes_is : new.nodes.items ≡ old.nodes.items
+    pub root_is : new.root ≡ old.root
+    pub free_is : new.free ≡ old.free
+
   -- a node was made of a free one, or behind the last
   pub record Makes (old new : Slots V) (spare : List ℕ) (n : Node V) (id : ℕ) : Type 0 where
     pub left : List ℕ

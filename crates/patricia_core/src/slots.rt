@@ -4,6 +4,7 @@ ghost use Rattle.patricia_core.specs.Plans.{IsWhole, row_of};
 ghost use Rattle.patricia_core.specs.Rows.{end};
 
 mod insertion;
+mod room;
 mod seek;
 
 use crate::label::Label;

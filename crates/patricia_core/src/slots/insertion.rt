@@ -210,4 +210,34 @@ impl<V: Drop> Slots<V> {
             Err(refused) => Err(refused),
         }
     }
+
+    /// Puts the value in at a nonempty key, and gives the old one. Free nodes are used first.
+    pub fn insert<Q: BorrowedBytes>(
+        &mut self,
+        alloc: Global,
+        key: Q,
+        value: V,
+    ) -> Result<Option<V>, Refused<V>>
+        requires whole { IsWhole self.old }
+        requires row { IsRow Q.Owned.item (row_of self.old) }
+        requires filled { Q.key key ≢ [] }
+        ensures whole { IsWhole self.new }
+        ensures row { IsRow Q.Owned.item (row_of self.new) }
+        ensures old { IfOk result (λ old. old ≡ find key_cmp (Q.key key) (entries (row_of self.old))) }
+        ensures ok { OnOk result (entries (row_of self.new) ≡ put key_cmp (Q.key key) value (entries (row_of self.old))) }
+        ensures refused { IfErr result (λ r. r.value ≡ value) }
+        ensures unchanged { OnErr result (row_of self.new ≡ row_of self.old) }
+        ensures only_new { OnErr result (find key_cmp (Q.key key) (entries (row_of self.old)) ≡ None) }
+        ensures reuses { Reuses self.old self.new }
+    {
+        let place = self.seek(key);
+        if place.here().is_some() || self.has_room() {
+            return self.insert_at(alloc, &place, value);
+        }
+        if self.ensure_room().is_err() {
+            return Err(Refused { value });
+        }
+        let place = self.seek(key);
+        self.insert_at(alloc, &place, value)
+    }
 }

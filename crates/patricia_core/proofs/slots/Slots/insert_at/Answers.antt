@@ -1,4 +1,4 @@
-use Rattle.std.proofs.Common.{Some, refl, sym, ap, ◌∙◌, arith}
+use Rattle.std.proofs.Common.{refl, sym, ap, ◌∙◌, arith}
 use Rattle.patricia_core.specs.Places.{node_of}
 use Rattle.patricia_core.proofs.SeekLemmas.{find_none, find_some, here_within}
 use Rattle.patricia_core.proofs.PutLemmas.{puts_here}
@@ -35,9 +35,9 @@ returns-in-Ok-clause-ok g c =
     λ key p.
     elim c.match-place.branch [
       | in-Gap w ↦
-        let puts = rw (← w.put-is, c.in-Ok.is) at w.insert_first-put.ensures.ok in
-        rw w.self-is (puts key p)
+          let puts = rw (← w.put-is, c.in-Ok.is) at w.insert_first-put.ensures.ok in
+          rw w.self-is (puts key p)
       | in-Within w ↦
-        let puts = rw (← w.put-is, c.in-Ok.is) at w.insert_within-put.ensures.ok in
-        rw w.self-is (puts key p)
+          let puts = rw (← w.put-is, c.in-Ok.is) at w.insert_within-put.ensures.ok in
+          rw w.self-is (puts key p)
     ]

@@ -1,4 +1,4 @@
-use Rattle.std.proofs.Common.{◌≢◌, [], drop, Some, None, refl, sym, ap, ◌∙◌, arith}
+use Rattle.std.proofs.Common.{◌≢◌, [], drop, Some, refl, sym, ap, ◌∙◌, arith}
 use mathlib.Core.Bool.{false≢true}
 use Rattle.patricia_core.specs.declared.slots.Node.{Node}
 use Rattle.patricia_core.specs.Plans.{linked}
@@ -74,11 +74,11 @@ returns-clause-ok g c =
     let label_is = c.in-Ok-from_slice.ensures ∙ c.as_bytes.ensures.value ∙ c.strip_n_prefix-tail.ensures in
     elim c.match-order.branch [
       | in-Less w ↦
-        let leaf : Node g.row.V.Denot = linked c.in-Ok-from_slice.label (Some c.args.value) c.none.result w.some-leaf.result in
-        let met = rw (c.strip_n_prefix-tail.ensures, cut_is) at w.in-Less.ensures in
-        rw w.self-is (puts_before _ g.met.Q.Owned.Bytes.lawful c.args.self.now key c.requires.ready.whole c.requires.ready.row_ok _ _ _ _ p c.args.id c.args.n c.requires.within r reads c.as_bytes-valid.ensures.valid c.split-below.new.self c.in-Ok.lower c.split-below.result lower_is c.split-below.ensures.splits w.add.new.self c.args.value leaf w.add.result filled label_is refl c.none.ensures met w.some-leaf.ensures w.add.ensures.adds)
+          let leaf : Node g.row.V.Denot = linked c.in-Ok-from_slice.label (Some c.args.value) c.none.result w.some-leaf.result in
+          let met = rw (c.strip_n_prefix-tail.ensures, cut_is) at w.in-Less.ensures in
+          rw w.self-is (puts_before _ g.met.Q.Owned.Bytes.lawful c.args.self.now key c.requires.ready.whole c.requires.ready.row_ok _ _ _ _ p c.args.id c.args.n c.requires.within r reads c.as_bytes-valid.ensures.valid c.split-below.new.self c.in-Ok.lower c.split-below.result lower_is c.split-below.ensures.splits w.add.new.self c.args.value leaf w.add.result filled label_is refl c.none.ensures met w.some-leaf.ensures w.add.ensures.adds)
       | in_default-order w ↦
-        let leaf : Node g.row.V.Denot = linked c.in-Ok-from_slice.label (Some c.args.value) c.none.result c.none-2.result in
-        let met = rw (c.strip_n_prefix-tail.ensures, cut_is) at c.cmp_first_item-order.ensures in
-        rw w.self-is (puts_after _ g.met.Q.Owned.Bytes.lawful c.args.self.now key c.requires.ready.whole c.requires.ready.row_ok _ _ _ _ p c.args.id c.args.n c.requires.within r reads c.as_bytes-valid.ensures.valid c.split-below.new.self c.in-Ok.lower c.split-below.result lower_is c.split-below.ensures.splits w.add-in_default-order.new.self c.args.value leaf w.add-in_default-order.result filled label_is refl c.none.ensures _ met w.in_default-order.not-Less c.none-2.ensures w.add-in_default-order.ensures.adds)
+          let leaf : Node g.row.V.Denot = linked c.in-Ok-from_slice.label (Some c.args.value) c.none.result c.none-2.result in
+          let met = rw (c.strip_n_prefix-tail.ensures, cut_is) at c.cmp_first_item-order.ensures in
+          rw w.self-is (puts_after _ g.met.Q.Owned.Bytes.lawful c.args.self.now key c.requires.ready.whole c.requires.ready.row_ok _ _ _ _ p c.args.id c.args.n c.requires.within r reads c.as_bytes-valid.ensures.valid c.split-below.new.self c.in-Ok.lower c.split-below.result lower_is c.split-below.ensures.splits w.add-in_default-order.new.self c.args.value leaf w.add-in_default-order.result filled label_is refl c.none.ensures _ met w.in_default-order.not-Less c.none-2.ensures w.add-in_default-order.ensures.adds)
     ]
