@@ -19,5 +19,7 @@ pub mod FillLemmas
 pub mod GrowthLemmas
 pub mod MakeLemmas
 pub mod PlanLemmas
+pub mod PutLemmas
+pub mod RelayLemmas
 pub mod SeekLemmas
 pub mod WriteLemmas

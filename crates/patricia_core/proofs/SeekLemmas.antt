@@ -67,7 +67,7 @@ module _ {V : Type 0} where
       })
 
   pub whole_plan : (s : Slots V) → IsWhole s → IsPlan s.nodes.items s.root (plan_at s.nodes.items s.root)
-  whole_plan s w = plan_read s.nodes.items s.root s.free w.0 w.1 w.2
+  whole_plan s w = plan_read s.nodes.items s.root s.free w.0 w.1.0 w.1.1
 
 module _ (item : List ℕ → Type 0) (kind : IsKeyKind item) {V : Type 0} where
   -- how a look-up ends decides what is found
@@ -200,7 +200,7 @@ module _ (item : List ℕ → Type 0) (kind : IsKeyKind item) {V : Type 0} (s : 
   stop_at (Cell i l v c d) id (Within k n) h e = absurd (cc)
   stop_at (Cell i l v c d) id (Here k) h e = let f = h.0 in cc
 
-  here_passes : (i : ℕ) (l : List ℕ) (id : ℕ) (stop : Stop) → StopsAt item i l rest stop → node_of stop ≡ Some id → Passes item rest l []
+  pub here_passes : (i : ℕ) (l : List ℕ) (id : ℕ) (stop : Stop) → StopsAt item i l rest stop → node_of stop ≡ Some id → Passes item rest l []
   here_passes i l id Gap h e = absurd (cc)
   here_passes i l id (Within k n) h e = absurd (cc)
   here_passes i l id (Here k) h e = h.1

@@ -1,14 +1,15 @@
 -- What writes leave of nodes in one vector.
-use Rattle.std.specs.Prelude.{◌≡◌, ◌≢◌, ◌⊎◌, ℕ, ◌+◌, ◌<◌, ◌≤◌, suc, List, length, take, Option, Some, None, slice_get, slice_set, vec_len}
+use Rattle.std.specs.Prelude.{◌≡◌, ◌≢◌, ◌⊎◌, ℕ, ◌+◌, ◌<◌, ◌≤◌, suc, List, length, take, Option, Some, None, slice_get, slice_set, vec_len, vec_capacity}
 use Rattle.std.specs.FinMap.{put}
 use Rattle.patricia_core.specs.declared.slots.Node.{Node}
 use Rattle.patricia_core.specs.declared.slots.Slots.{Slots}
+use Rattle.patricia_core.specs.declared.slots.seek.Place.{Place}
 use Rattle.patricia_core.specs.declared.slots.seek.Spot.{Spot}
 use Rattle.patricia_core.specs.declared.slots.seek.Spot.TheVariants.{Root, Child, Sibling}
 use Rattle.patricia_core.specs.Keys.{key_cmp}
 use Rattle.patricia_core.specs.Rows.{entries, IsRow}
 use Rattle.patricia_core.specs.Plans.{Plan, Nil, Cell, one, below, times, first, head, IsChain, Holds, IsWhole, row_of}
-use Rattle.patricia_core.specs.Places.{Frame, fill, spot_of}
+use Rattle.patricia_core.specs.Places.{Frame, fill, spot_of, IsPlace}
 
 -- the node of the spot is in the vector
 abbrev pub SpotWithin : Spot → ℕ → Type 0
@@ -17,10 +18,20 @@ SpotWithin (Child id) n = id < n
 SpotWithin (Sibling id) n = id < n
 
 module _ {V : Type 0} where
+  -- the vector has room for so many nodes more
+  abbrev pub HasRoom : Slots V → ℕ → Type 0
+  HasRoom s n = vec_len s.nodes + n ≤ vec_capacity s.nodes
+
   -- the vector has grown only where no node was free, and none is free then
   pub record Reuses (old new : Slots V) : Type 0 where
     pub grown : vec_len old.nodes < vec_len new.nodes → new.free ≡ None
     pub none : old.free ≡ None → new.free ≡ None
+
+  -- nothing was changed
+  pub record Stays (old new : Slots V) : Type 0 where
+    pub nodes_is : new.nodes.items ≡ old.nodes.items
+    pub root_is : new.root ≡ old.root
+    pub free_is : new.free ≡ old.free
 
   -- a node was made of a free one, or behind the last
   pub record Makes (old new : Slots V) (spare : List ℕ) (n : Node V) (id : ℕ) : Type 0 where
@@ -71,3 +82,14 @@ pub record Puts (item : List ℕ → Type 0) {V : Type 0} (old new : Slots V) (k
   pub whole : IsWhole new
   pub row_ok : IsRow item (row_of new)
   pub put_is : entries (row_of new) ≡ put key_cmp key x (entries (row_of old))
+
+-- nodes of a key kind, and the place of some key among them
+pub record Ready (item : List ℕ → Type 0) {V Q : Type 0} (key_of : Q → List ℕ) (s : Slots V) (place : Place Q) : Type 0 where
+  pub whole : IsWhole s
+  pub row_ok : IsRow item (row_of s)
+  pub key : List ℕ
+  pub is_place : IsPlace item key_of s key place
+
+-- the value was put in at each key whose place this is
+abbrev pub PutsAt : (List ℕ → Type 0) → {V Q : Type 0} → (Q → List ℕ) → Slots V → Slots V → Place Q → V → Type 0
+PutsAt item key_of old new place x = (key : List ℕ) → IsPlace item key_of old key place → Puts item old new key x

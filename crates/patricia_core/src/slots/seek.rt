@@ -1,5 +1,5 @@
 //! The place of a key among the nodes.
-ghost use Rattle.std.specs.Prelude.{◌≡◌, ◌≢◌, [], MatchOption};
+ghost use Rattle.std.specs.Prelude.{◌≡◌, ◌≢◌, ◌<◌, []};
 ghost use Rattle.std.specs.Option.{option_copied};
 ghost use Rattle.std.specs.FinMap.{find};
 ghost use Rattle.patricia_core.specs.Keys.{key_cmp};
@@ -13,7 +13,8 @@ use crate::link::{Link, NodeId};
 use crate::meeting::{Meeting, meet};
 use crate::slots::Slots;
 use crate::steps::Steps;
-use std::sync::ledger::Ledger;
+use std::marker::Brand;
+use std::sync::ledger::{Blank, Ledger};
 
 /// Where the number of a node stands: at the top, or in a node.
 #[derive(Clone, Copy)]
@@ -44,8 +45,8 @@ pub struct Place<Q> {
 }
 
 impl<Q> Place<Q> {
-    // The node of the key, where there is one.
-    fn here(&self) -> Option<NodeId>
+    /// The node of the key, where there is one.
+    pub fn here(&self) -> Option<NodeId>
         ensures { result ≡ node_of self.now.stop }
     {
         match self.stop {
@@ -120,6 +121,30 @@ impl<V> Slots<V> {
             rest,
             stop,
         }
+    }
+
+    // The same, counted in a ledger that nobody reads.
+    fn seek_from<Q: BorrowedBytes, L: Ledger>(&self, key: Q, blank: Blank) -> Place<Q>
+        requires name { blank.name ≡ L.name }
+        requires parts { blank.parts ≡ L.parts }
+        requires some { 0 < L.parts }
+        requires whole { IsWhole self.now }
+        requires row { IsRow Q.Owned.item (row_of self.now) }
+        requires filled { Q.key key ≢ [] }
+        ensures { IsPlace Q.Owned.item Q.key self.now (Q.key key) result }
+    {
+        let mut steps: Steps<L> = Steps::new(blank);
+        self.seek_counted(key, &mut steps)
+    }
+
+    /// The place of a nonempty key.
+    pub fn seek<Q: BorrowedBytes>(&self, key: Q) -> Place<Q>
+        requires whole { IsWhole self.now }
+        requires row { IsRow Q.Owned.item (row_of self.now) }
+        requires filled { Q.key key ≢ [] }
+        ensures { IsPlace Q.Owned.item Q.key self.now (Q.key key) result }
+    {
+        self.seek_from::<Q, Brand>(key, Blank::new(1))
     }
 
     /// The value at a nonempty key. It takes a step where a label is compared with the key.

@@ -1,5 +1,5 @@
 use Rattle.std.proofs.Common.{refl, sym, ◌∙◌, arith}
-use Rattle.patricia_core.proofs.MakeLemmas.{free_within, makes_free, makes_push}
+use Rattle.patricia_core.proofs.MakeLemmas.{free_within, makes_free}
 use Rattle.patricia_core.proofs.slots.Slots.make.Goals as goal
 
 pub returns-in-Some-clause-makes : goal.returns-in-Some-clause-makes
