@@ -1,5 +1,5 @@
 -- Nodes that are laid anew.
-use Rattle.std.proofs.Common.{◌≡◌, ◌≢◌, ℕ, suc, ◌+◌, ◌<◌, ◌≤◌, List, [], ◌∷◌, ◌++◌, length, Option, Some, None, slice_get, refl, sym, ap, subst, ◌∙◌, arith, length-append}
+use Rattle.std.proofs.Common.{◌≡◌, ◌≢◌, ℕ, suc, ◌+◌, ◌<◌, ◌≤◌, List, [], ◌∷◌, ◌++◌, length, Option, Some, None, slice_get, refl, sym, ap, ◌∙◌, arith, length-append}
 use Rattle.std.proofs.lemmas.List.{append_assoc, append-nil}
 use Rattle.std.proofs.lemmas.Option.{slice_get_within}
 use Rattle.patricia_core.specs.declared.slots.Node.{Node}
@@ -53,8 +53,8 @@ module _ {V : Type 0} where
   number_some (Cell id l v c d) n k e = refl
 
   module _ (from0 to0 : List (Node V)) (w : Plan V) (from later : List (Node V)) (id : ℕ) (to to' : List (Node V)) (m : Moving from0 to0 w from (Some id) to)
-    (n : Node V) (here : slice_get from id ≡ Some n) (others : (i : ℕ) → i ≢ id → slice_get later i ≡ slice_get from i) (long : length later ≡ length from)
-    (number : Option ℕ) (numbers : (d : Plan V) → n.sibling ≡ head d → number ≡ head (numbered (suc (length to)) d)) (pushed : to' ≡ to ++ linked n.label n.value n.child number ∷ []) where
+      (n : Node V) (here : slice_get from id ≡ Some n) (others : (i : ℕ) → i ≢ id → slice_get later i ≡ slice_get from i) (long : length later ≡ length from)
+      (number : Option ℕ) (numbers : (d : Plan V) → n.sibling ≡ head d → number ≡ head (numbered (suc (length to)) d)) (pushed : to' ≡ to ++ linked n.label n.value n.child number ∷ []) where
     pub moving_next : Moving from0 to0 w later n.sibling to'
     moving_next = by m.rest m.row m.moved m.others m.counted
       where
@@ -74,9 +74,9 @@ module _ {V : Type 0} where
                 once = λ k. omega (arith, row.once k);
               };
               moved =
-                ap (λ x. x ++ laid (length to') d) pushed ∙ append_assoc to (linked n.label n.value n.child number ∷ []) (laid (length to') d)
-                ∙ ap (λ k. to ++ linked n.label n.value n.child number ∷ laid k d) longer
-                ∙ ap (λ x. to ++ x ∷ laid (suc (length to)) d) node ∙ moved;
+                  ap (λ x. x ++ laid (length to') d) pushed ∙ append_assoc to (linked n.label n.value n.child number ∷ []) (laid (length to') d)
+                  ∙ ap (λ k. to ++ linked n.label n.value n.child number ∷ laid k d) longer
+                  ∙ ap (λ x. to ++ x ∷ laid (suc (length to)) d) node ∙ moved;
               others = λ k none.
                   let kept = rest k none in
                   (others k (λ e. omega (arith, kept.1, ap (λ x. one x k) (sym same), ap (λ x. one x k) e, one-same k)) ∙ kept.0, omega (arith, kept.1));

@@ -17,6 +17,7 @@ pub use Rattle.patricia_rows.proofs.WalkLemmas
 pub mod AddLemmas
 pub mod FillLemmas
 pub mod GrowthLemmas
+pub mod LayLemmas
 pub mod MakeLemmas
 pub mod PlanLemmas
 pub mod PutLemmas

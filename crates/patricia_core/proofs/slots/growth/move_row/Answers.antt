@@ -1,7 +1,5 @@
-use Rattle.std.proofs.Common.{◌≡◌, ℕ, suc, ◌+◌, Option, None, Some, length, sym, ap, ◌∙◌, arith}
-use Rattle.patricia_core.specs.Plans.{Plan, head}
-use Rattle.patricia_core.specs.Growth.{numbered}
-use Rattle.patricia_core.proofs.GrowthLemmas.{moving_none, moving_next, moving_done, room_for_next, next_within, number_none, number_some}
+use Rattle.std.proofs.Common.{suc, Some, length, sym, ap, ◌∙◌, arith}
+use Rattle.patricia_core.proofs.GrowthLemmas.{moving_next, moving_done, number_none, number_some}
 use Rattle.patricia_core.proofs.slots.growth.move_row.Goals as goal
 use Rattle.patricia_core.proofs.slots.growth.move_row.Goals.{in-None, in-Some-get}
 
@@ -12,7 +10,7 @@ loop-id-preserved g c = record {
       let found = sym c.get.ensures ∙ c.in-Some.is in
       let m = rw found at c.loop-id.invariant.moving w row in
       let node = c.take_node-node in
-      moving_next c.args.from.now c.args.to.now.items w c.loop-id.from node.new.nodes c.in-Some.id c.loop-id.to.items c.push_reserved.new.self.items m
+      moving_next c.args.from.now.items c.args.to.now.items w c.loop-id.from.items node.new.nodes.items c.in-Some.id c.loop-id.to.items c.push_reserved.new.self.items m
       node.result node.ensures.taken node.ensures.others node.ensures.len
       c.match-get-2.sibling
       (λ d e. elim c.match-get-2.branch [
@@ -24,8 +22,8 @@ loop-id-preserved g c = record {
 
 pub returns-in-None-get-clause-taken : goal.returns-in-None-get-clause-taken
 returns-in-None-get-clause-taken g c w row =
-    (moving_done c.args.from.now c.args.to.now.items w c.loop-id.from c.loop-id.to.items (rw (sym c.get.ensures ∙ c.in_default.is) at c.loop-id.invariant.moving w row)).1
+    (moving_done c.args.from.now.items c.args.to.now.items w c.loop-id.from.items c.loop-id.to.items (rw (sym c.get.ensures ∙ c.in_default.is) at c.loop-id.invariant.moving w row)).1
 
 pub returns-in-Some-get-2-clause-taken : goal.returns-in-Some-get-2-clause-taken
 returns-in-Some-get-2-clause-taken g c w row =
-    (moving_done c.args.from.now c.args.to.now.items w c.loop-id.from c.loop-id.to.items (rw (sym c.get.ensures ∙ c.in_default.is) at c.loop-id.invariant.moving w row)).1
+    (moving_done c.args.from.now.items c.args.to.now.items w c.loop-id.from.items c.loop-id.to.items (rw (sym c.get.ensures ∙ c.in_default.is) at c.loop-id.invariant.moving w row)).1

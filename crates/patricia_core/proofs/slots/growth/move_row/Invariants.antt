@@ -9,7 +9,7 @@ use Rattle.patricia_core.proofs.slots.growth.move_row.Given as goal
 abbrev pub invariant-loop-id : goal.invariant-loop-id
 invariant-loop-id g l = record {
   capacity : vec_capacity l.to ≡ vec_capacity l.fn.to;
-  moving : (w : Plan g.row.V.Denot) → IsTopRow l.fn.from l.fn.first w → Moving l.fn.from l.fn.to.items w l.from l.at l.to.items;
+  moving : (w : Plan g.row.V.Denot) → IsTopRow l.fn.from.items l.fn.first w → Moving l.fn.from.items l.fn.to.items w l.from.items l.at l.to.items;
 }
 
 abbrev pub decreases-loop-id : goal.decreases-loop-id
