@@ -1,5 +1,5 @@
 -- A new node in a place.
-use Rattle.std.proofs.Common.{◌≡◌, ◌≢◌, ◌⊎◌, inl, inr, ℕ, suc, ◌+◌, ◌<◌, ◌≤◌, List, [], ◌∷◌, length, set, take, Option, Some, None, slice_get, get_or, refl, sym, ap, subst, ◌∙◌, arith, length-set}
+use Rattle.std.proofs.Common.{◌≡◌, ◌≢◌, inl, inr, ℕ, ◌+◌, ◌<◌, ◌≤◌, List, [], ◌∷◌, length, set, take, Option, Some, None, slice_get, get_or, refl, sym, ap, ◌∙◌, arith, length-set}
 use Rattle.std.proofs.lemmas.Option.{slice_get_within}
 use Rattle.patricia_core.specs.declared.slots.Node.{Node}
 use Rattle.patricia_core.specs.declared.slots.Slots.{Slots}

@@ -1,12 +1,12 @@
 -- A node in a free slot, or behind the last, and its link.
-use Rattle.std.proofs.Common.{◌≡◌, ◌≢◌, ◌⊎◌, inl, inr, ℕ, zero, suc, ◌+◌, ◌<◌, ◌≤◌, List, [], ◌∷◌, ◌++◌, length, set, Option, Some, None, slice_get, get_or, refl, sym, ap, subst, ◌∙◌, arith, length-set, length-append}
+use Rattle.std.proofs.Common.{◌≡◌, ℕ, suc, ◌+◌, ◌<◌, List, [], ◌∷◌, ◌++◌, length, set, Some, None, slice_get, get_or, refl, sym, ap, ◌∙◌, arith, length-set, length-append}
 use Rattle.std.proofs.lemmas.Bool.Decides.{nat_tests}
 use Rattle.std.proofs.lemmas.Option.{slice_get_within}
 use Rattle.patricia_core.specs.declared.slots.Node.{Node}
 use Rattle.patricia_core.specs.declared.slots.Slots.{Slots}
-use Rattle.patricia_core.specs.Plans.{one, below, times, first, IsChain}
+use Rattle.patricia_core.specs.Plans.{one, below, first, IsChain}
 use Rattle.patricia_core.specs.Writes.{Makes}
-use Rattle.patricia_core.proofs.PlanLemmas.{one-same, node_is}
+use Rattle.patricia_core.proofs.PlanLemmas.{node_is}
 use Rattle.patricia_core.proofs.WriteLemmas.{get-set_same, get-set_other, get-push_same, get-push_other}
 
 -- one number more is below

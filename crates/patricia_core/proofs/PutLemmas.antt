@@ -1,21 +1,20 @@
 -- A value put in at the place of a key.
-use Rattle.std.proofs.Common.{◌≡◌, ◌≢◌, ◌⊎◌, inl, inr, ℕ, ◌+◌, ◌<◌, ◌≤◌, List, [], ◌∷◌, ◌++◌, length, set, take, drop, Option, Some, None, get_or, refl, sym, ap, subst, ◌∙◌, arith}
-use Rattle.std.specs.FinMap.{find, put}
+use Rattle.std.proofs.Common.{◌≡◌, ◌≢◌, inr, ℕ, ◌<◌, List, [], ◌∷◌, length, set, take, drop, Option, Some, None, get_or, refl, sym, ap, subst, ◌∙◌}
+use Rattle.std.specs.FinMap.{put}
 use Rattle.std.specs.Prelude.{Result, Ok, Err, OnOk, OnErr, false, is_some}
 use mathlib.Core.Bool.{false≢true}
 use Rattle.std.specs.declared.cmp.Ordering.{Ordering}
 use Rattle.std.specs.declared.cmp.Ordering.TheVariants.{Less}
-use Rattle.std.proofs.lemmas.Bool.{cases_lt}
 use Rattle.patricia_core.specs.declared.slots.Node.{Node}
 use Rattle.patricia_core.specs.declared.slots.Slots.{Slots}
 use Rattle.patricia_core.specs.declared.slots.seek.Spot.{Spot}
-use Rattle.patricia_core.specs.declared.slots.seek.Spot.TheVariants.{Root, Child, Sibling}
+use Rattle.patricia_core.specs.declared.slots.seek.Spot.TheVariants.{Child, Sibling}
 use Rattle.patricia_core.specs.declared.slots.seek.Stop.{Stop}
-use Rattle.patricia_core.specs.declared.slots.seek.Stop.TheVariants.{Gap, Within, Here}
+use Rattle.patricia_core.specs.declared.slots.seek.Stop.TheVariants.{Gap, Within}
 use Rattle.patricia_core.specs.Keys.{IsKeyKind, IsValid, ComparesFirst, key_cmp}
-use Rattle.patricia_core.specs.Rows.{Row, end, node, own, entries, IsRow}
-use Rattle.patricia_core.specs.Meeting.{EndsWithin, Passes}
-use Rattle.patricia_core.specs.Plans.{Plan, Nil, Cell, linked, head, row, IsPlan, Holds, IsWhole, plan_at, row_of}
+use Rattle.patricia_core.specs.Rows.{node, entries, IsRow}
+use Rattle.patricia_core.specs.Meeting.{EndsWithin}
+use Rattle.patricia_core.specs.Plans.{Plan, Nil, Cell, linked, head, row, Holds, IsWhole, plan_at, row_of}
 use Rattle.patricia_core.specs.Places.{Frame, InChild, InSibling, fill, node_of, Stops, Placed}
 use Rattle.patricia_core.specs.Writes.{HasSpot, Adds, HasCell, Splits, Puts}
 use Rattle.patricia_core.proofs.PlanLemmas.{plan_is}

@@ -1,16 +1,10 @@
 -- What a write leaves of nodes that are a plan.
-use Rattle.std.proofs.Common.{◌≡◌, ◌≢◌, ◌⊎◌, inl, inr, ℕ, zero, suc, ◌+◌, ◌<◌, ◌≤◌, List, [], ◌∷◌, ◌++◌, length, set, Option, Some, None, slice_get, get_or, refl, sym, ap, subst, ◌∙◌, arith, length-set, length-append}
-use Rattle.std.proofs.lemmas.Bool.{cases_lt, cases_eq}
-use Rattle.std.proofs.lemmas.Bool.Decides.{nat_tests}
-use Rattle.std.proofs.lemmas.Option.{slice_get_within, get_or_from_slice_get}
+use Rattle.std.proofs.Common.{◌≡◌, ◌≢◌, ℕ, zero, suc, ◌+◌, ◌<◌, List, [], ◌∷◌, ◌++◌, length, set, Option, Some, slice_get, refl, sym, ap, ◌∙◌, arith, length-set}
+use Rattle.std.proofs.lemmas.Option.{slice_get_within}
 use Rattle.patricia_core.specs.declared.slots.Node.{Node}
-use Rattle.patricia_core.specs.declared.slots.Slots.{Slots}
-use Rattle.patricia_core.specs.declared.slots.seek.Spot.{Spot}
-use Rattle.patricia_core.specs.declared.slots.seek.Spot.TheVariants.{Root, Child, Sibling}
-use Rattle.patricia_core.specs.Plans.{Plan, Nil, Cell, linked, head, row, size, count, one, below, times, first, Stands, IsChain, IsPlan, IsSound, Holds}
-use Rattle.patricia_core.specs.Places.{Frame, InChild, InSibling, fill, count_frames, size_frames, spot_of}
-use Rattle.patricia_core.specs.Writes.{Makes, Relinks, SpotWithin, Takes}
-use Rattle.patricia_core.proofs.PlanLemmas.{one-same, below_le, node_is}
+use Rattle.patricia_core.specs.Plans.{Plan, Nil, Cell, linked, head, size, count, below, times, first, Stands, IsChain, IsSound}
+use Rattle.patricia_core.specs.Places.{Frame, InChild, InSibling, fill, count_frames}
+use Rattle.patricia_core.proofs.PlanLemmas.{one-same, below_le}
 use Rattle.patricia_core.proofs.FillLemmas.{stands-within, size-fill, count-fill}
 
 -- a list after a write, and after a push
