@@ -18,9 +18,20 @@ SpotWithin (Child id) n = id < n
 SpotWithin (Sibling id) n = id < n
 
 module _ {V : Type 0} where
-  -- the vector has room for so many nodes more
+  -- these are the free nodes
+  abbrev pub IsFree : List (Node V) → Option ℕ → List ℕ → Type 0
+  IsFree nodes free spare = IsChain nodes spare × (free ≡ first spare)
+
+  -- at least so many nodes are free
+  abbrev pub FreeAtLeast : Slots V → ℕ → Type 0
+  FreeAtLeast s n = (spare : List ℕ) × IsFree s.nodes.items s.free spare × (n ≤ length spare)
+
+  -- there is room for so many nodes more, in free ones or behind the last
+  abbrev pub RoomFor : List (Node V) → Option ℕ → ℕ → ℕ → Type 0
+  RoomFor nodes free capacity n = (spare : List ℕ) × IsFree nodes free spare × (n + length nodes ≤ length spare + capacity)
+
   abbrev pub HasRoom : Slots V → ℕ → Type 0
-  HasRoom s n = vec_len s.nodes + n ≤ vec_capacity s.nodes
+  HasRoom s n = RoomFor s.nodes.items s.free (vec_capacity s.nodes) n
 
   -- the vector has grown only where no node was free, and none is free then
   pub record Reuses (old new : Slots V) : Type 0 where
@@ -44,6 +55,9 @@ module _ {V : Type 0} where
     pub counted : (at : ℕ) → one id at + times left at + below (length old.nodes.items) at ≡ times spare at + below (length new.nodes.items) at
     pub longer : length spare + length new.nodes.items ≡ suc (length left + length old.nodes.items)
 
+  abbrev pub MakesNode : Slots V → Slots V → Node V → ℕ → Type 0
+  MakesNode old new n id = (spare : List ℕ) → IsFree old.nodes.items old.free spare → Makes old new spare n id
+
   -- the number at the spot is another
   abbrev pub Relinks : Slots V → Slots V → Spot → Option ℕ → Type 0
   Relinks old new Root to = (new.nodes.items ≡ old.nodes.items) × (new.root ≡ to)
@@ -60,11 +74,15 @@ module _ {V : Type 0} where
   abbrev pub HasSpot : Slots V → Spot → Type 0
   HasSpot s spot = (frames : List (Frame V)) × (q : Plan V) × (spot ≡ spot_of frames) × Holds s (fill frames q)
 
+  -- the nodes are this plan, with room for one less
+  abbrev pub Grows : Slots V → Slots V → Plan V → Type 0
+  Grows old new plan = Holds new plan × ((n : ℕ) → HasRoom old (suc n) → HasRoom new n)
+
   -- a new node stands in the place at the spot, with what was there below or beside it
   abbrev pub Adds : Slots V → Slots V → Spot → Node V → ℕ → Type 0
   Adds old new spot n id =
       (frames : List (Frame V)) (child sibling q : Plan V) → spot ≡ spot_of frames → Takes child sibling q → n.child ≡ head child → n.sibling ≡ head sibling
-      → Holds old (fill frames q) → Holds new (fill frames (Cell id n.label n.value child sibling))
+      → Holds old (fill frames q) → Grows old new (fill frames (Cell id n.label n.value child sibling))
 
   -- the number is that of a node of the plan
   abbrev pub HasCell : Slots V → ℕ → Type 0
@@ -75,7 +93,7 @@ module _ {V : Type 0} where
   abbrev pub Splits : Slots V → Slots V → ℕ → ℕ → List ℕ → Option V → ℕ → Type 0
   Splits old new id n lower w k =
       (frames : List (Frame V)) (label : List ℕ) (value : Option V) (child sibling : Plan V) → Holds old (fill frames (Cell id label value child sibling))
-      → Holds new (fill frames (Cell id (take n label) w (Cell k lower value child Nil) sibling))
+      → Grows old new (fill frames (Cell id (take n label) w (Cell k lower value child Nil) sibling))
 
 -- the value was put in at the key
 pub record Puts (item : List ℕ → Type 0) {V : Type 0} (old new : Slots V) (key : List ℕ) (x : V) : Type 0 where

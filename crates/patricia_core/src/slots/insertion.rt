@@ -4,9 +4,9 @@ ghost use Rattle.std.specs.FinMap.{find, put};
 ghost use Rattle.patricia_core.specs.Keys.{key_cmp};
 ghost use Rattle.patricia_core.specs.Rows.{IsRow, entries};
 ghost use Rattle.patricia_core.specs.declared.slots.seek.Stop.TheVariants.{Gap, Within};
-ghost use Rattle.patricia_core.specs.Plans.{first, IsChain, IsWhole, row_of};
+ghost use Rattle.patricia_core.specs.Plans.{IsWhole, row_of};
 ghost use Rattle.patricia_core.specs.Places.{IsPlace, node_of};
-ghost use Rattle.patricia_core.specs.Writes.{HasRoom, Reuses, Makes, Relinks, SpotWithin, HasSpot, Adds, HasCell, Splits, Ready, PutsAt};
+ghost use Rattle.patricia_core.specs.Writes.{HasRoom, Reuses, MakesNode, Relinks, SpotWithin, HasSpot, Adds, HasCell, Splits, Ready, PutsAt};
 
 use crate::keys::{BorrowedBytes, Bytes};
 use crate::label::Label;
@@ -30,12 +30,10 @@ impl<V: Drop> Slots<V> {
     // Puts a node into a free slot, or behind the last.
     fn make(&mut self, node: Node<V>) -> NodeId
         requires room { HasRoom self.old 1 }
-        requires free { (spare : List ℕ) × IsChain self.old.nodes.items spare × (self.old.free ≡ first spare) }
-        ensures makes { (spare : List ℕ) → IsChain self.old.nodes.items spare → self.old.free ≡ first spare → Makes self.old self.new spare node result }
+        ensures makes { MakesNode self.old self.new node result }
         ensures reuses { Reuses self.old self.new }
         ensures within { result < vec_len self.new.nodes }
         ensures keeps { vec_len self.old.nodes ≤ vec_len self.new.nodes }
-        ensures grows { vec_len self.new.nodes ≤ vec_len self.old.nodes + 1 }
         ensures capacity { vec_capacity self.new.nodes ≡ vec_capacity self.old.nodes }
     {
         match self.free.get() {
@@ -74,8 +72,6 @@ impl<V: Drop> Slots<V> {
         ensures adds { Adds self.old self.new spot node result }
         ensures reuses { Reuses self.old self.new }
         ensures within { result < vec_len self.new.nodes }
-        ensures grows { vec_len self.new.nodes ≤ vec_len self.old.nodes + 1 }
-        ensures capacity { vec_capacity self.new.nodes ≡ vec_capacity self.old.nodes }
     {
         let id = self.make(node);
         self.relink(spot, Link::some(id));
@@ -89,8 +85,6 @@ impl<V: Drop> Slots<V> {
         ensures splits { Splits self.old self.new id n lower value result }
         ensures reuses { Reuses self.old self.new }
         ensures within { result < vec_len self.new.nodes }
-        ensures grows { vec_len self.new.nodes ≤ vec_len self.old.nodes + 1 }
-        ensures capacity { vec_capacity self.new.nodes ≡ vec_capacity self.old.nodes }
     {
         let node = &mut self.nodes[id.index()];
         node.label.truncate(n);
