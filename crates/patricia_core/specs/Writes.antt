@@ -1,14 +1,14 @@
 -- What writes leave of nodes in one vector.
 use Rattle.std.specs.Prelude.{◌≡◌, ◌≢◌, ◌⊎◌, ℕ, ◌+◌, ◌<◌, ◌≤◌, suc, List, length, take, Option, Some, None, slice_get, slice_set, vec_len, vec_capacity}
-use Rattle.std.specs.FinMap.{put}
+use Rattle.std.specs.FinMap.{find, put}
 use Rattle.patricia_core.specs.declared.slots.Node.{Node}
 use Rattle.patricia_core.specs.declared.slots.Slots.{Slots}
 use Rattle.patricia_core.specs.declared.slots.seek.Place.{Place}
 use Rattle.patricia_core.specs.declared.slots.seek.Spot.{Spot}
 use Rattle.patricia_core.specs.declared.slots.seek.Spot.TheVariants.{Root, Child, Sibling}
 use Rattle.patricia_core.specs.Keys.{key_cmp}
-use Rattle.patricia_core.specs.Rows.{entries, IsRow}
-use Rattle.patricia_core.specs.Plans.{Plan, Nil, Cell, one, below, times, first, head, IsChain, Holds, IsWhole, row_of}
+use Rattle.patricia_core.specs.Rows.{IsRow}
+use Rattle.patricia_core.specs.Plans.{Plan, Nil, Cell, one, below, times, first, head, IsChain, Holds, IsWhole, row_of, entries_of}
 use Rattle.patricia_core.specs.Places.{Frame, fill, spot_of, IsPlace}
 
 -- the node of the spot is in the vector
@@ -95,11 +95,19 @@ module _ {V : Type 0} where
       (frames : List (Frame V)) (label : List ℕ) (value : Option V) (child sibling : Plan V) → Holds old (fill frames (Cell id label value child sibling))
       → Grows old new (fill frames (Cell id (take n label) w (Cell k lower value child Nil) sibling))
 
+-- the entries are those before, with this value at the key
+abbrev pub IsPut : {V : Type 0} → Slots V → Slots V → List ℕ → V → Type 0
+IsPut old new key x = entries_of new ≡ put key_cmp key x (entries_of old)
+
 -- the value was put in at the key
 pub record Puts (item : List ℕ → Type 0) {V : Type 0} (old new : Slots V) (key : List ℕ) (x : V) : Type 0 where
   pub whole : IsWhole new
   pub row_ok : IsRow item (row_of new)
-  pub put_is : entries (row_of new) ≡ put key_cmp key x (entries (row_of old))
+  pub put_is : IsPut old new key x
+
+-- the value that is found at each key whose place this is
+abbrev pub FindsAt : (List ℕ → Type 0) → {V Q : Type 0} → (Q → List ℕ) → Slots V → Place Q → Option V → Type 0
+FindsAt item key_of s place found = (key : List ℕ) → IsPlace item key_of s key place → found ≡ find key_cmp key (entries_of s)
 
 -- nodes of a key kind, and the place of some key among them
 pub record Ready (item : List ℕ → Type 0) {V Q : Type 0} (key_of : Q → List ℕ) (s : Slots V) (place : Place Q) : Type 0 where
