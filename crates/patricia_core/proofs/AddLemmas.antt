@@ -1,16 +1,17 @@
 -- A new node in a place.
-use Rattle.std.proofs.Common.{◌≡◌, ◌≢◌, ◌⊎◌, inl, inr, ℕ, suc, ◌+◌, ◌<◌, ◌≤◌, List, [], ◌∷◌, length, set, take, Option, Some, None, slice_get, get_or, refl, sym, ap, subst, ◌∙◌, arith, length-set}
+use Rattle.std.proofs.Common.{◌≡◌, ◌≢◌, inl, inr, ℕ, suc, ◌+◌, ◌<◌, ◌≤◌, List, [], ◌∷◌, length, set, take, Option, Some, None, slice_get, get_or, refl, sym, ap, ◌∙◌, arith, length-set}
+use Rattle.std.specs.Prelude.{vec_capacity}
 use Rattle.std.proofs.lemmas.Option.{slice_get_within}
 use Rattle.patricia_core.specs.declared.slots.Node.{Node}
 use Rattle.patricia_core.specs.declared.slots.Slots.{Slots}
 use Rattle.patricia_core.specs.declared.slots.seek.Spot.{Spot}
 use Rattle.patricia_core.specs.declared.slots.seek.Spot.TheVariants.{Root, Child, Sibling}
-use Rattle.patricia_core.specs.Plans.{Plan, Nil, Cell, linked, head, size, count, one, below, times, first, Stands, IsChain, IsSound, Holds}
+use Rattle.patricia_core.specs.Plans.{Plan, Nil, Cell, linked, head, size, count, one, below, times, Stands, IsChain, IsSound, Holds}
 use Rattle.patricia_core.specs.Places.{Frame, InChild, InSibling, fill, count_frames, spot_of}
-use Rattle.patricia_core.specs.Writes.{Makes, Relinks, SpotWithin, Takes, HasSpot, Adds, HasCell, Splits}
+use Rattle.patricia_core.specs.Writes.{RoomFor, HasRoom, Makes, MakesNode, Relinks, SpotWithin, Takes, HasSpot, Adds, HasCell, Splits}
 use Rattle.patricia_core.proofs.PlanLemmas.{one-same, below_le, node_is}
-use Rattle.patricia_core.proofs.FillLemmas.{stands-within, count-fill}
-use Rattle.patricia_core.proofs.WriteLemmas.{get-set_same, get-set_other, stands-keep, chain-keep, stands-refill, head-refill, sound-swap, sound-write}
+use Rattle.patricia_core.proofs.FillLemmas.{stands-within, size-fill, count-fill}
+use Rattle.patricia_core.proofs.WriteLemmas.{get-set_same, get-set_other, stands-keep, chain-keep, stands-refill, head-refill, sound-swap, sound-write, one_chain}
 
 module _ {V : Type 0} where
   -- a plan that is taken below or beside a node keeps its numbers
@@ -140,12 +141,16 @@ module _ {V : Type 0} (old made new : Slots V) (c d q : Plan V) (takes : Takes c
 
 module _ {V : Type 0} where
   -- a node that was made and linked stands in the place
-  pub adds : (old made new : Slots V) (spot : Spot) (n : Node V) (id : ℕ) → new.free ≡ made.free
-      → ((spare : List ℕ) → IsChain old.nodes.items spare → old.free ≡ first spare → Makes old made spare n id)
-      → Relinks made new spot (Some id) → Adds old new spot n id
-  adds old made new spot n id free_is makes links fs c d q at takes child_is sibling_is h =
-      let m = makes h.0 h.1.chain h.1.free_is in
-      (m.left, sound-add old made new c d q takes n id child_is sibling_is free_is h.0 m fs h.1 (rw at at links))
+  pub adds : (old made new : Slots V) (spot : Spot) (n : Node V) (id : ℕ) → new.free ≡ made.free → length new.nodes.items ≡ length made.nodes.items → vec_capacity new.nodes ≡ vec_capacity old.nodes
+      → MakesNode old made n id → Relinks made new spot (Some id) → Adds old new spot n id
+  adds old made new spot n id free_is long capacity makes links fs c d q at takes child_is sibling_is h =
+      let m = makes h.0 (h.1.chain, h.1.free_is) in
+      let sound = sound-add old made new c d q takes n id child_is sibling_is free_is h.0 m fs h.1 (rw at at links) in (
+        (m.left, sound),
+        λ k room.
+            let same = one_chain old.nodes.items room.0 h.0 room.1.0 h.1.chain (sym room.1.1 ∙ h.1.free_is) in
+            (m.left, (sound.chain, sound.free_is), omega (arith, room.2, m.longer, ap length same)),
+      )
 
 module _ {V : Type 0} (s : Slots V) (id : ℕ) (r : Node V) (reads : r ≡ get_or s.nodes.items id r) where
   -- a node of the plan, as it is read
@@ -159,17 +164,31 @@ module _ {V : Type 0} (s : Slots V) (id : ℕ) (r : Node V) (reads : r ≡ get_o
       let is = read_at fs l v c d h in
       rw is (h.0, sound-write s.nodes.items s.root s.free fs id l l' v v' c d h.0 h.1)
 
+  -- the room stays
+  pub room_write : (fs : List (Frame V)) (l l' : List ℕ) (v v' : Option V) (c d : Plan V) → Holds s (fill fs (Cell id l v c d)) → (n : ℕ) → HasRoom s n → RoomFor (set s.nodes.items id (linked l' v' r.child r.sibling)) s.free (vec_capacity s.nodes) n
+  room_write fs l l' v v' c d h n room =
+      let mid = holds_write fs l l' v v' c d h in
+      let same = one_chain s.nodes.items room.0 h.0 room.1.0 h.1.chain (sym room.1.1 ∙ h.1.free_is) in
+      let long = length-set s.nodes.items id (linked l' v' r.child r.sibling) in (
+        mid.0,
+        (mid.1.chain, mid.1.free_is),
+        omega (arith, room.2, long, mid.1.total, h.1.total, size-fill fs (Cell id l v c d), size-fill fs (Cell id l' v' c d), ap length same),
+      )
+
   -- a node in two: the upper one is written, and the lower one added below it
   module _ (new : Slots V) (n k : ℕ) (lower : Node V) (ul : List ℕ) (w uv : Option V) (label_is : ul ≡ take n r.label) (value_is : uv ≡ w) (moved : lower.value ≡ r.value) (child_is : lower.child ≡ r.child) (sibling_is : lower.sibling ≡ None) where
     pub splits : ((fs : List (Frame V)) (c d q : Plan V) → Child id ≡ spot_of fs → Takes c d q → lower.child ≡ head c → lower.sibling ≡ head d
         → (spare : List ℕ) × IsSound (set s.nodes.items id (linked ul uv r.child r.sibling)) s.root s.free (fill fs q) spare
-        → Holds new (fill fs (Cell k lower.label lower.value c d)))
+        → Holds new (fill fs (Cell k lower.label lower.value c d))
+        × ((j : ℕ) → RoomFor (set s.nodes.items id (linked ul uv r.child r.sibling)) s.free (vec_capacity s.nodes) (suc j) → HasRoom new j))
         → Splits s new id n lower.label w k
     splits adds fs l v c d h =
         let is = read_at fs l v c d h in
         let label : ul ≡ take n l = label_is ∙ ap (λ (x : Node V). take n x.label) is in
         let value : lower.value ≡ v = moved ∙ ap (λ (x : Node V). x.value) is in
-        rw (← label, ← value_is, ← value) (adds (InChild id ul uv d ∷ fs) c Nil c refl (inl (refl, refl)) (child_is ∙ ap (λ (x : Node V). x.child) is) sibling_is (holds_write fs l ul v uv c d h))
+        let mid = holds_write fs l ul v uv c d h in
+        let grown = adds (InChild id ul uv d ∷ fs) c Nil c refl (inl (refl, refl)) (child_is ∙ ap (λ (x : Node V). x.child) is) sibling_is mid in
+        (rw (← label, ← value_is, ← value) grown.0, λ j room. grown.1 j (room_write fs l ul v uv c d h (suc j) room))
 
   -- the place below it
   pub spot_below : (ul : List ℕ) (uv : Option V) → HasCell s id → (fs : List (Frame V)) × (q : Plan V) × (Child id ≡ spot_of fs) × ((spare : List ℕ) × IsSound (set s.nodes.items id (linked ul uv r.child r.sibling)) s.root s.free (fill fs q) spare)

@@ -1,22 +1,28 @@
 -- A node in a free slot, or behind the last, and its link.
-use Rattle.std.proofs.Common.{◌≡◌, ◌≢◌, ◌⊎◌, inl, inr, ℕ, zero, suc, ◌+◌, ◌<◌, ◌≤◌, List, [], ◌∷◌, ◌++◌, length, set, Option, Some, None, slice_get, get_or, refl, sym, ap, subst, ◌∙◌, arith, length-set, length-append}
+use Rattle.std.proofs.Common.{◌≡◌, ℕ, suc, ◌+◌, ◌<◌, ◌≤◌, List, [], ◌∷◌, ◌++◌, length, set, Some, None, slice_get, get_or, refl, sym, ap, ◌∙◌, arith, length-set, length-append}
+use Rattle.std.specs.Prelude.{vec_capacity}
 use Rattle.std.proofs.lemmas.Bool.Decides.{nat_tests}
 use Rattle.std.proofs.lemmas.Option.{slice_get_within}
 use Rattle.patricia_core.specs.declared.slots.Node.{Node}
 use Rattle.patricia_core.specs.declared.slots.Slots.{Slots}
-use Rattle.patricia_core.specs.Plans.{one, below, times, first, IsChain}
-use Rattle.patricia_core.specs.Writes.{Makes}
-use Rattle.patricia_core.proofs.PlanLemmas.{one-same, node_is}
+use Rattle.patricia_core.specs.Plans.{one, below, first, IsChain}
+use Rattle.patricia_core.specs.Writes.{IsFree, HasRoom, Makes}
+use Rattle.patricia_core.proofs.PlanLemmas.{node_is}
 use Rattle.patricia_core.proofs.WriteLemmas.{get-set_same, get-set_other, get-push_same, get-push_other}
 
 -- one number more is below
 below-suc : (n at : ℕ) → below (suc n) at ≡ one n at + below n at
 below-suc n at = grind (arith, nat_tests)
 
-module _ {V : Type 0} (old new : Slots V) (spare : List ℕ) (n : Node V) (id : ℕ) (chain : IsChain old.nodes.items spare) (free_is : old.free ≡ first spare) (root_is : new.root ≡ old.root) where
+-- where no node is free, room is behind the last
+pub room_behind : {V : Type 0} (s : Slots V) (n : ℕ) → HasRoom s n → s.free ≡ None → n + length s.nodes.items ≤ vec_capacity s.nodes
+room_behind s n ([], free, fits) none = omega arith
+room_behind s n (i ∷ ids, free, fits) none = absurd (let e = free.1 in cc)
+
+module _ {V : Type 0} (old new : Slots V) (spare : List ℕ) (n : Node V) (id : ℕ) (free : IsFree old.nodes.items old.free spare) (root_is : new.root ≡ old.root) where
   -- the first free number is that of a node
   pub free_within : old.free ≡ Some id → id < length old.nodes.items
-  free_within e = by spare chain free_is
+  free_within e = by spare free.0 free.1
     where
       by : (spare : List ℕ) → IsChain old.nodes.items spare → old.free ≡ first spare → id < length old.nodes.items
       by [] c f = absurd (cc)
@@ -24,7 +30,7 @@ module _ {V : Type 0} (old new : Slots V) (spare : List ℕ) (n : Node V) (id : 
 
   -- the first free node is taken
   pub makes_free : (m : Node V) → old.free ≡ Some id → m ≡ get_or old.nodes.items id m → new.nodes.items ≡ set old.nodes.items id n → new.free ≡ m.sibling → Makes old new spare n id
-  makes_free m e reads is after = by spare chain free_is
+  makes_free m e reads is after = by spare free.0 free.1
     where
       by : (spare : List ℕ) → IsChain old.nodes.items spare → old.free ≡ first spare → Makes old new spare n id
       by [] c f = absurd (cc)
@@ -45,7 +51,7 @@ module _ {V : Type 0} (old new : Slots V) (spare : List ℕ) (n : Node V) (id : 
 
   -- or the vector grows
   pub makes_push : old.free ≡ None → new.nodes.items ≡ old.nodes.items ++ n ∷ [] → id ≡ length old.nodes.items → new.free ≡ old.free → Makes old new spare n id
-  makes_push e is at_end after = by spare chain free_is
+  makes_push e is at_end after = by spare free.0 free.1
     where
       by : (spare : List ℕ) → IsChain old.nodes.items spare → old.free ≡ first spare → Makes old new spare n id
       by (i ∷ ids) c f = absurd (cc)

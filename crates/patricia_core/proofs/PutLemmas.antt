@@ -1,23 +1,22 @@
 -- A value put in at the place of a key.
-use Rattle.std.proofs.Common.{◌≡◌, ◌≢◌, ◌⊎◌, inl, inr, ℕ, ◌+◌, ◌<◌, ◌≤◌, List, [], ◌∷◌, ◌++◌, length, set, take, drop, Option, Some, None, get_or, refl, sym, ap, subst, ◌∙◌, arith}
-use Rattle.std.specs.FinMap.{find, put}
+use Rattle.std.proofs.Common.{◌≡◌, ◌≢◌, inr, ℕ, suc, ◌<◌, List, [], ◌∷◌, length, set, take, drop, Option, Some, None, get_or, refl, sym, ap, subst, ◌∙◌}
+use Rattle.std.specs.FinMap.{put}
 use Rattle.std.specs.Prelude.{Result, Ok, Err, OnOk, OnErr, false, is_some}
 use mathlib.Core.Bool.{false≢true}
 use Rattle.std.specs.declared.cmp.Ordering.{Ordering}
 use Rattle.std.specs.declared.cmp.Ordering.TheVariants.{Less}
-use Rattle.std.proofs.lemmas.Bool.{cases_lt}
 use Rattle.patricia_core.specs.declared.slots.Node.{Node}
 use Rattle.patricia_core.specs.declared.slots.Slots.{Slots}
 use Rattle.patricia_core.specs.declared.slots.seek.Spot.{Spot}
-use Rattle.patricia_core.specs.declared.slots.seek.Spot.TheVariants.{Root, Child, Sibling}
+use Rattle.patricia_core.specs.declared.slots.seek.Spot.TheVariants.{Child, Sibling}
 use Rattle.patricia_core.specs.declared.slots.seek.Stop.{Stop}
-use Rattle.patricia_core.specs.declared.slots.seek.Stop.TheVariants.{Gap, Within, Here}
+use Rattle.patricia_core.specs.declared.slots.seek.Stop.TheVariants.{Gap, Within}
 use Rattle.patricia_core.specs.Keys.{IsKeyKind, IsValid, ComparesFirst, key_cmp}
-use Rattle.patricia_core.specs.Rows.{Row, end, node, own, entries, IsRow}
-use Rattle.patricia_core.specs.Meeting.{EndsWithin, Passes}
-use Rattle.patricia_core.specs.Plans.{Plan, Nil, Cell, linked, head, row, IsPlan, Holds, IsWhole, plan_at, row_of}
+use Rattle.patricia_core.specs.Rows.{node, entries, IsRow}
+use Rattle.patricia_core.specs.Meeting.{EndsWithin}
+use Rattle.patricia_core.specs.Plans.{Plan, Nil, Cell, linked, head, row, Holds, IsWhole, plan_at, row_of}
 use Rattle.patricia_core.specs.Places.{Frame, InChild, InSibling, fill, node_of, Stops, Placed}
-use Rattle.patricia_core.specs.Writes.{HasSpot, Adds, HasCell, Splits, Puts}
+use Rattle.patricia_core.specs.Writes.{HasRoom, HasSpot, Adds, HasCell, Splits, Puts}
 use Rattle.patricia_core.proofs.PlanLemmas.{plan_is}
 use Rattle.patricia_core.proofs.FillLemmas.{put-fill, row-within}
 use Rattle.patricia_core.proofs.SeekLemmas.{Opened, opened, head_within, place_row, focus_plan_at, stop_at, here_passes}
@@ -64,7 +63,7 @@ module _ (item : List ℕ → Type 0) (kind : IsKeyKind item) {V : Type 0} (s : 
   pub puts_first : (new : Slots V) (x : V) (leaf : Node V) (k : ℕ) → stop ≡ Gap → IsValid item rest → leaf.label ≡ rest → leaf.value ≡ Some x → leaf.child ≡ None → leaf.sibling ≡ at → Adds s new spot leaf k → Puts item s new key x
   puts_first new x leaf k is valid label value child sibling adds =
       let stops = subst (λ k. Stops item p.focus rest k) is p.stops in
-      let holds = adds p.frames Nil p.focus p.focus p.spot_is (inr (refl, refl)) child (sibling ∙ p.at_is) place_holds in
+      let holds = (adds p.frames Nil p.focus p.focus p.spot_is (inr (refl, refl)) child (sibling ∙ p.at_is) place_holds).0 in
       puts new x (Cell k rest (Some x) Nil p.focus) (rw (← label, ← value) holds)
       (row_first item kind x k p.focus focus_ok rest stops valid p.rest_filled)
       (put_first item kind x k p.focus focus_ok rest stops)
@@ -114,7 +113,7 @@ module _ (item : List ℕ → Type 0) (kind : IsKeyKind item) {V : Type 0} (s : 
         pub puts_cut : (new : Slots V) (x : V) (lower : List ℕ) (k : ℕ) → lower ≡ drop n r.label → drop n rest ≡ [] → Splits s new id n lower (Some x) k → Puts item s new key x
         puts_cut new x lower k label none splits =
             puts_there new x (Cell id (take n r.label) (Some x) (Cell k (drop n r.label) r.value there.child Nil) there.sibling)
-            (rw (← label) (splits p.frames r.label r.value there.child there.sibling there_holds))
+            (rw (← label) (splits p.frames r.label r.value there.child there.sibling there_holds).0)
             (ends_at_cut item kind x r.label r.value (row there.child) (row there.sibling) there_ok rest (take n r.label) (drop n rest) (drop n r.label) div none)
             (put_at_cut item kind x r.label r.value (row there.child) (row there.sibling) there_ok rest (take n r.label) (drop n rest) (drop n r.label) div none)
 
@@ -130,7 +129,10 @@ module _ (item : List ℕ → Type 0) (kind : IsKeyKind item) {V : Type 0} (s : 
           beside = InSibling k (drop n r.label) r.value there.child ∷ above
 
           cut_holds : Holds mid (fill above low)
-          cut_holds = rw (← label) (splits p.frames r.label r.value there.child there.sibling there_holds)
+          cut_holds = rw (← label) (splits p.frames r.label r.value there.child there.sibling there_holds).0
+
+          pub cut_room : (j : ℕ) → HasRoom s (suc j) → HasRoom mid j
+          cut_room = (splits p.frames r.label r.value there.child there.sibling there_holds).1
 
           pub spot_before : HasSpot mid (Child id)
           spot_before = (above, low, refl, cut_holds)
@@ -143,7 +145,7 @@ module _ (item : List ℕ → Type 0) (kind : IsKeyKind item) {V : Type 0} (s : 
             puts_before compared sibling adds =
                 let before = compared_less item (drop n rest) (drop n r.label) filled div.label_filled compared in
                 puts_there new x (Cell id (take n r.label) None (Cell j (drop n rest) (Some x) Nil low) there.sibling)
-                (rw (← leaf_label, ← leaf_value) (adds above Nil low low refl (inr (refl, refl)) leaf_child sibling cut_holds))
+                (rw (← leaf_label, ← leaf_value) (adds above Nil low low refl (inr (refl, refl)) leaf_child sibling cut_holds).0)
                 (row_before_cut item kind x r.label r.value (row there.child) (row there.sibling) there_ok rest (take n r.label) (drop n rest) (drop n r.label) div filled before)
                 (put_before_cut item kind x r.label r.value (row there.child) (row there.sibling) there_ok rest (take n r.label) (drop n rest) (drop n r.label) div before)
 
@@ -151,7 +153,7 @@ module _ (item : List ℕ → Type 0) (kind : IsKeyKind item) {V : Type 0} (s : 
             puts_after o compared not_less sibling adds =
                 let after = past_cut item kind x r.label r.value (row there.child) (row there.sibling) there_ok rest (take n r.label) (drop n rest) (drop n r.label) div filled o compared not_less in
                 puts_there new x (Cell id (take n r.label) None (Cell k (drop n r.label) r.value there.child (Cell j (drop n rest) (Some x) Nil Nil)) there.sibling)
-                (rw (← leaf_label, ← leaf_value) (adds beside Nil Nil Nil refl (inr (refl, refl)) leaf_child sibling cut_holds))
+                (rw (← leaf_label, ← leaf_value) (adds beside Nil Nil Nil refl (inr (refl, refl)) leaf_child sibling cut_holds).0)
                 (row_after_cut item kind x r.label r.value (row there.child) (row there.sibling) there_ok rest (take n r.label) (drop n rest) (drop n r.label) div filled after)
                 (put_after_cut item kind x r.label r.value (row there.child) (row there.sibling) there_ok rest (take n r.label) (drop n rest) (drop n r.label) div after)
 

@@ -102,3 +102,16 @@ module _ {V : Type 0} where
       sound.free_is
       (λ i. rw length-set refl)
       (rw length-set refl)
+
+module _ {V : Type 0} where
+  -- there is one list of free nodes
+  pub one_chain : (nodes : List (Node V)) (a b : List ℕ) → IsChain nodes a → IsChain nodes b → first a ≡ first b → a ≡ b
+  one_chain nodes [] [] c d e = refl
+  one_chain nodes [] (j ∷ b) c d e = absurd (cc)
+  one_chain nodes (i ∷ a) [] c d e = absurd (cc)
+  one_chain nodes (i ∷ a) (j ∷ b) c d e =
+      let same : i ≡ j = cc in
+      let there : slice_get nodes i ≡ Some d.0.0 = rw same d.0.1 in
+      let node : c.0.0 ≡ d.0.0 = let here = c.0.1 in cc in
+      let rest = one_chain nodes a b c.1 d.1 (sym c.0.2 ∙ ap (λ (n : Node V). n.sibling) node ∙ d.0.2) in
+      cc

@@ -2,7 +2,7 @@
 use Rattle.std.specs.Prelude.{◌≡◌, ℕ, zero, suc, ◌+◌, ◌≤◌, List, [], ◌∷◌, length, Option, Some, None, nat_lt, nat_eq, if◌then◌else◌, slice_get}
 use Rattle.patricia_core.specs.declared.slots.Node.{Node}
 use Rattle.patricia_core.specs.declared.slots.Slots.{Slots}
-use Rattle.patricia_core.specs.Rows.{Row, end, node}
+use Rattle.patricia_core.specs.Rows.{Row, end, node, entries}
 
 -- a row with the number of each node
 pub data Plan (V : Type 0) : Type 0 where
@@ -94,6 +94,10 @@ module _ {V : Type 0} where
   -- the row that the nodes stand for
   abbrev pub row_of : Slots V → Row V
   row_of s = row (plan_at s.nodes.items s.root)
+
+  -- and its entries
+  abbrev pub entries_of : Slots V → List (List ℕ × V)
+  entries_of s = entries (row_of s)
 
   -- they are this plan, and no node is lost
   abbrev pub Holds : Slots V → Plan V → Type 0

@@ -7,6 +7,8 @@ mod growth;
 mod insertion;
 mod room;
 mod seek;
+#[cfg(test)]
+mod tests;
 
 use crate::label::Label;
 use crate::link::Link;

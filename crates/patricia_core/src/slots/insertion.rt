@@ -1,12 +1,12 @@
 //! Putting a value in at a key.
-ghost use Rattle.std.specs.Prelude.{◌≡◌, ◌≢◌, ◌≤◌, ◌<◌, ◌+◌, ℕ, List, [], None, drop, length, IfOk, OnOk, IfErr, OnErr, vec_len, vec_capacity};
-ghost use Rattle.std.specs.FinMap.{find, put};
+ghost use Rattle.std.specs.Prelude.{◌≡◌, ◌≢◌, ◌≤◌, ◌<◌, [], None, drop, length, IfOk, OnOk, IfErr, OnErr, vec_len, vec_capacity};
+ghost use Rattle.std.specs.FinMap.{find};
 ghost use Rattle.patricia_core.specs.Keys.{key_cmp};
-ghost use Rattle.patricia_core.specs.Rows.{IsRow, entries};
+ghost use Rattle.patricia_core.specs.Rows.{IsRow};
 ghost use Rattle.patricia_core.specs.declared.slots.seek.Stop.TheVariants.{Gap, Within};
-ghost use Rattle.patricia_core.specs.Plans.{first, IsChain, IsWhole, row_of};
-ghost use Rattle.patricia_core.specs.Places.{IsPlace, node_of};
-ghost use Rattle.patricia_core.specs.Writes.{HasRoom, Reuses, Makes, Relinks, SpotWithin, HasSpot, Adds, HasCell, Splits, Ready, PutsAt};
+ghost use Rattle.patricia_core.specs.Plans.{IsWhole, row_of, entries_of};
+ghost use Rattle.patricia_core.specs.Places.{node_of};
+ghost use Rattle.patricia_core.specs.Writes.{HasRoom, Reuses, MakesNode, Relinks, SpotWithin, HasSpot, Adds, HasCell, Splits, FindsAt, Ready, IsPut, PutsAt};
 
 use crate::keys::{BorrowedBytes, Bytes};
 use crate::label::Label;
@@ -14,7 +14,7 @@ use crate::link::{Link, NodeId};
 use crate::node::Refused;
 use crate::slots::seek::{Place, Spot, Stop};
 use crate::slots::{Node, Slots};
-use std::alloc::{AllocError, Global};
+use std::alloc::Global;
 use std::cmp::Ordering;
 use std::mem;
 
@@ -30,12 +30,10 @@ impl<V: Drop> Slots<V> {
     // Puts a node into a free slot, or behind the last.
     fn make(&mut self, node: Node<V>) -> NodeId
         requires room { HasRoom self.old 1 }
-        requires free { (spare : List ℕ) × IsChain self.old.nodes.items spare × (self.old.free ≡ first spare) }
-        ensures makes { (spare : List ℕ) → IsChain self.old.nodes.items spare → self.old.free ≡ first spare → Makes self.old self.new spare node result }
+        ensures makes { MakesNode self.old self.new node result }
         ensures reuses { Reuses self.old self.new }
         ensures within { result < vec_len self.new.nodes }
         ensures keeps { vec_len self.old.nodes ≤ vec_len self.new.nodes }
-        ensures grows { vec_len self.new.nodes ≤ vec_len self.old.nodes + 1 }
         ensures capacity { vec_capacity self.new.nodes ≡ vec_capacity self.old.nodes }
     {
         match self.free.get() {
@@ -74,8 +72,6 @@ impl<V: Drop> Slots<V> {
         ensures adds { Adds self.old self.new spot node result }
         ensures reuses { Reuses self.old self.new }
         ensures within { result < vec_len self.new.nodes }
-        ensures grows { vec_len self.new.nodes ≤ vec_len self.old.nodes + 1 }
-        ensures capacity { vec_capacity self.new.nodes ≡ vec_capacity self.old.nodes }
     {
         let id = self.make(node);
         self.relink(spot, Link::some(id));
@@ -89,8 +85,6 @@ impl<V: Drop> Slots<V> {
         ensures splits { Splits self.old self.new id n lower value result }
         ensures reuses { Reuses self.old self.new }
         ensures within { result < vec_len self.new.nodes }
-        ensures grows { vec_len self.new.nodes ≤ vec_len self.old.nodes + 1 }
-        ensures capacity { vec_capacity self.new.nodes ≡ vec_capacity self.old.nodes }
     {
         let node = &mut self.nodes[id.index()];
         node.label.truncate(n);
@@ -190,7 +184,7 @@ impl<V: Drop> Slots<V> {
     ) -> Result<Option<V>, Refused<V>>
         requires ready { Ready Q.Owned.item Q.key self.old place.now }
         requires room { node_of place.now.stop ≡ None → HasRoom self.old 2 }
-        ensures old { IfOk result (λ old. (key : List ℕ) → IsPlace Q.Owned.item Q.key self.old key place.now → old ≡ find key_cmp key (entries (row_of self.old))) }
+        ensures old { IfOk result (λ old. FindsAt Q.Owned.item Q.key self.old place.now old) }
         ensures ok { OnOk result (PutsAt Q.Owned.item Q.key self.old self.new place.now value) }
         ensures refused { IfErr result (λ r. r.value ≡ value) }
         ensures unchanged { OnErr result (self.new ≡ self.old) }
@@ -223,11 +217,11 @@ impl<V: Drop> Slots<V> {
         requires filled { Q.key key ≢ [] }
         ensures whole { IsWhole self.new }
         ensures row { IsRow Q.Owned.item (row_of self.new) }
-        ensures old { IfOk result (λ old. old ≡ find key_cmp (Q.key key) (entries (row_of self.old))) }
-        ensures ok { OnOk result (entries (row_of self.new) ≡ put key_cmp (Q.key key) value (entries (row_of self.old))) }
+        ensures old { IfOk result (λ old. old ≡ find key_cmp (Q.key key) (entries_of self.old)) }
+        ensures ok { OnOk result (IsPut self.old self.new (Q.key key) value) }
         ensures refused { IfErr result (λ r. r.value ≡ value) }
         ensures unchanged { OnErr result (row_of self.new ≡ row_of self.old) }
-        ensures only_new { OnErr result (find key_cmp (Q.key key) (entries (row_of self.old)) ≡ None) }
+        ensures only_new { OnErr result (find key_cmp (Q.key key) (entries_of self.old) ≡ None) }
         ensures reuses { Reuses self.old self.new }
     {
         let place = self.seek(key);

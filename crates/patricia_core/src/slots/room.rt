@@ -1,17 +1,33 @@
 //! Room for new nodes.
-ghost use Rattle.std.specs.Prelude.{◌≡◌, IsTrue, ◌↔◌, OnOk, OnErr};
+ghost use Rattle.std.specs.Prelude.{◌≡◌, ◌≤◌, IsTrue, OnOk, OnErr};
 ghost use Rattle.patricia_core.specs.Plans.{IsWhole, row_of};
-ghost use Rattle.patricia_core.specs.Writes.{HasRoom, Reuses, Stays};
+ghost use Rattle.patricia_core.specs.Writes.{FreeAtLeast, HasRoom, Reuses, Stays};
 
 use crate::slots::Slots;
 use std::alloc::AllocError;
 
 impl<V: Drop> Slots<V> {
+    // How many nodes are free, where two are enough.
+    fn free_nodes(&self) -> usize
+        requires { IsWhole self.now }
+        ensures few { result ≤ 2 }
+        ensures free { FreeAtLeast self.now result }
+    {
+        match self.free.get() {
+            None => 0,
+            Some(id) => match self.nodes[id.index()].sibling.get() {
+                None => 1,
+                Some(_) => 2,
+            },
+        }
+    }
+
     /// Whether there is room for two more nodes.
     pub fn has_room(&self) -> bool
-        ensures { IsTrue result ↔ HasRoom self.now 2 }
+        requires { IsWhole self.now }
+        ensures { IsTrue result → HasRoom self.now 2 }
     {
-        self.nodes.capacity() - self.nodes.len() >= 2
+        self.nodes.capacity() - self.nodes.len() + self.free_nodes() >= 2
     }
 
     /// Makes room for two more nodes. The nodes may have other numbers then.

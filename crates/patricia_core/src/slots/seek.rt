@@ -3,9 +3,9 @@ ghost use Rattle.std.specs.Prelude.{◌≡◌, ◌≢◌, ◌<◌, []};
 ghost use Rattle.std.specs.Option.{option_copied};
 ghost use Rattle.std.specs.FinMap.{find};
 ghost use Rattle.patricia_core.specs.Keys.{key_cmp};
-ghost use Rattle.patricia_core.specs.Rows.{IsRow, entries};
+ghost use Rattle.patricia_core.specs.Rows.{IsRow};
 ghost use Rattle.patricia_core.specs.Counts.{IsCounted};
-ghost use Rattle.patricia_core.specs.Plans.{IsWhole, row_of};
+ghost use Rattle.patricia_core.specs.Plans.{IsWhole, row_of, entries_of};
 ghost use Rattle.patricia_core.specs.Places.{IsPlace, node_of};
 
 use crate::keys::{BorrowedBytes, Bytes};
@@ -156,7 +156,7 @@ impl<V> Slots<V> {
         requires whole { IsWhole self.now }
         requires row { IsRow Q.Owned.item (row_of self.now) }
         requires filled { Q.key key ≢ [] }
-        ensures value { option_copied result ≡ find key_cmp (Q.key key) (entries (row_of self.now)) }
+        ensures value { option_copied result ≡ find key_cmp (Q.key key) (entries_of self.now) }
         ensures counted { IsCounted Q.Owned.item (row_of self.now) (Q.key key) steps.old steps.new }
     {
         let place = self.seek_counted(key, steps);

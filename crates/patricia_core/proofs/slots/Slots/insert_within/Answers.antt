@@ -2,7 +2,7 @@ use Rattle.std.proofs.Common.{◌≢◌, [], drop, Some, refl, sym, ap, ◌∙�
 use mathlib.Core.Bool.{false≢true}
 use Rattle.patricia_core.specs.declared.slots.Node.{Node}
 use Rattle.patricia_core.specs.Plans.{linked}
-use Rattle.patricia_core.proofs.PutLemmas.{within_nodes, there_cell, ends_short, div, puts_cut, spot_before, spot_after, puts_before, puts_after}
+use Rattle.patricia_core.proofs.PutLemmas.{within_nodes, there_cell, ends_short, div, puts_cut, cut_room, spot_before, spot_after, puts_before, puts_after}
 use Rattle.patricia_core.proofs.slots.Slots.insert_within.Goals as goal
 use Rattle.patricia_core.proofs.slots.Slots.insert_within.Goals.{in-Less, in_default-order}
 
@@ -47,6 +47,14 @@ cmp_first_item-order-requires g c =
     let cut_is = c.behind-cut.ensures ∙ ap (drop c.args.n) c.as_slice.ensures in
     rw cut_is (div _ g.met.Q.Owned.Bytes.lawful c.args.self.now c.requires.ready.key c.requires.ready.whole c.requires.ready.row_ok _ _ _ _ c.requires.ready.is_place c.args.id c.args.n c.requires.within r reads c.as_bytes-valid.ensures.valid).label_valid
 
+pub add-requires-clause-room : goal.add-requires-clause-room
+add-requires-clause-room g c =
+    let r = c.index-2.result.now in
+    let reads = rw c.index.ensures at c.index-2.ensures in
+    let cut_is = c.behind-cut.ensures ∙ ap (drop c.args.n) c.as_slice.ensures in
+    let lower_is = c.in-Ok.ensures ∙ cut_is in
+    cut_room _ g.met.Q.Owned.Bytes.lawful c.args.self.now c.requires.ready.key c.requires.ready.whole c.requires.ready.row_ok _ _ _ _ c.requires.ready.is_place c.args.id c.args.n c.requires.within r reads c.as_bytes-valid.ensures.valid c.split-below.new.self c.in-Ok.lower c.split-below.result lower_is c.split-below.ensures.splits 1 c.requires.room
+
 pub add-requires-clause-spot : goal.add-requires-clause-spot
 add-requires-clause-spot g c =
     let r = c.index-2.result.now in
@@ -61,7 +69,7 @@ add-requires-in_default-order g c =
     let reads = rw c.index.ensures at c.index-2.ensures in
     let cut_is = c.behind-cut.ensures ∙ ap (drop c.args.n) c.as_slice.ensures in
     let lower_is = c.in-Ok.ensures ∙ cut_is in
-    record { room = omega (arith, c.split-below.ensures.grows, c.split-below.ensures.capacity, c.requires.room); spot = spot_after _ g.met.Q.Owned.Bytes.lawful c.args.self.now c.requires.ready.key c.requires.ready.whole c.requires.ready.row_ok _ _ _ _ c.requires.ready.is_place c.args.id c.args.n c.requires.within r reads c.as_bytes-valid.ensures.valid c.split-below.new.self c.in-Ok.lower c.split-below.result lower_is c.split-below.ensures.splits }
+    record { room = cut_room _ g.met.Q.Owned.Bytes.lawful c.args.self.now c.requires.ready.key c.requires.ready.whole c.requires.ready.row_ok _ _ _ _ c.requires.ready.is_place c.args.id c.args.n c.requires.within r reads c.as_bytes-valid.ensures.valid c.split-below.new.self c.in-Ok.lower c.split-below.result lower_is c.split-below.ensures.splits 1 c.requires.room; spot = spot_after _ g.met.Q.Owned.Bytes.lawful c.args.self.now c.requires.ready.key c.requires.ready.whole c.requires.ready.row_ok _ _ _ _ c.requires.ready.is_place c.args.id c.args.n c.requires.within r reads c.as_bytes-valid.ensures.valid c.split-below.new.self c.in-Ok.lower c.split-below.result lower_is c.split-below.ensures.splits }
 
 pub returns-clause-ok : goal.returns-clause-ok
 returns-clause-ok g c =

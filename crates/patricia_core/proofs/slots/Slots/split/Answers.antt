@@ -1,7 +1,7 @@
 use Rattle.std.proofs.Common.{refl, arith}
 use Rattle.patricia_core.specs.declared.slots.Node.{Node}
 use Rattle.patricia_core.specs.Plans.{linked}
-use Rattle.patricia_core.proofs.AddLemmas.{splits, cell_within, spot_below}
+use Rattle.patricia_core.proofs.AddLemmas.{splits, cell_within, spot_below, room_write}
 use Rattle.patricia_core.proofs.slots.Slots.split.Goals as goal
 
 pub index_mut-node-requires : goal.index_mut-node-requires
@@ -14,6 +14,13 @@ add-requires-clause-spot g c =
     let r = c.index_mut-node.result.now in
     let reads = rw c.index.ensures at c.index_mut-node.ensures.value in
     rw c.index.ensures (spot_below c.args.self.now c.args.id r reads c.truncate.new.self c.replace.new.dest c.requires.cell)
+
+pub add-requires-clause-room : goal.add-requires-clause-room
+add-requires-clause-room g c =
+    let r = c.index_mut-node.result.now in
+    let reads = rw c.index.ensures at c.index_mut-node.ensures.value in
+    let h = c.requires.cell in
+    rw c.index.ensures (room_write c.args.self.now c.args.id r reads h.0 h.1 c.truncate.new.self h.2 c.replace.new.dest h.3 h.4 h.5 1 c.requires.room)
 
 pub returns-clause-splits : goal.returns-clause-splits
 returns-clause-splits g c =
