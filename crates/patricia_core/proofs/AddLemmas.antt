@@ -202,4 +202,4 @@ cell_within s id h = slice_get_within s.nodes.items id _ (stands-within s.nodes.
 pub spot_longer : (spot : Spot) (m n : ℕ) → m ≤ n → SpotWithin spot m → SpotWithin spot n
 spot_longer Root m n h w = tt
 spot_longer (Child id) m n h w = omega arith
-spot_longer (Sibling id) m n h w = omega arith
+spot_longer (Sibling id above) m n h w = omega arith

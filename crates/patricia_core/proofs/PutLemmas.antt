@@ -137,7 +137,7 @@ module _ (item : List ℕ → Type 0) (kind : IsKeyKind item) {V : Type 0} (s : 
           pub spot_before : HasSpot mid (Child id)
           spot_before = (above, low, refl, cut_holds)
 
-          pub spot_after : HasSpot mid (Sibling k)
+          pub spot_after : HasSpot mid (Sibling k (Some id))
           spot_after = (beside, Nil, refl, cut_holds)
 
           module _ (new : Slots V) (x : V) (leaf : Node V) (j : ℕ) (filled : drop n rest ≢ []) (leaf_label : leaf.label ≡ drop n rest) (leaf_value : leaf.value ≡ Some x) (leaf_child : leaf.child ≡ None) where
@@ -149,7 +149,7 @@ module _ (item : List ℕ → Type 0) (kind : IsKeyKind item) {V : Type 0} (s : 
                 (row_before_cut item kind x r.label r.value (row there.child) (row there.sibling) there_ok rest (take n r.label) (drop n rest) (drop n r.label) div filled before)
                 (put_before_cut item kind x r.label r.value (row there.child) (row there.sibling) there_ok rest (take n r.label) (drop n rest) (drop n r.label) div before)
 
-            pub puts_after : (o : Ordering) → ComparesFirst item (drop n rest) (drop n r.label) o → (o ≡ Less → ⊥) → leaf.sibling ≡ None → Adds mid new (Sibling k) leaf j → Puts item s new key x
+            pub puts_after : (o : Ordering) → ComparesFirst item (drop n rest) (drop n r.label) o → (o ≡ Less → ⊥) → leaf.sibling ≡ None → Adds mid new (Sibling k (Some id)) leaf j → Puts item s new key x
             puts_after o compared not_less sibling adds =
                 let after = past_cut item kind x r.label r.value (row there.child) (row there.sibling) there_ok rest (take n r.label) (drop n rest) (drop n r.label) div filled o compared not_less in
                 puts_there new x (Cell id (take n r.label) None (Cell k (drop n r.label) r.value there.child (Cell j (drop n rest) (Some x) Nil Nil)) there.sibling)

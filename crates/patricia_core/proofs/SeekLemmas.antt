@@ -13,7 +13,7 @@ use Rattle.patricia_core.specs.Rows.{end, node, entries, IsBefore, IsRow}
 use Rattle.patricia_core.specs.Meeting.{Passes}
 use Rattle.patricia_core.specs.Counts.{IsCounted}
 use Rattle.patricia_core.specs.Plans.{Plan, Nil, Cell, head, row, size, IsPlan, IsWhole, plan_at, row_of}
-use Rattle.patricia_core.specs.Places.{Frame, InChild, InSibling, fill, spot_of, node_of, Leads, Stops, StopsAt, Placed}
+use Rattle.patricia_core.specs.Places.{Frame, InChild, InSibling, fill, above_of, spot_of, node_above, node_of, Leads, Stops, StopsAt, Placed}
 use Rattle.patricia_core.proofs.PlanLemmas.{plan_is, plan_read, node_is}
 use Rattle.patricia_core.proofs.FillLemmas.{plan_within, row-within, find-fill, counted-fill}
 use Rattle.patricia_core.proofs.GetLemmas.{find_before, find_within, find_here}
@@ -68,6 +68,12 @@ module _ {V : Type 0} where
 
   pub whole_plan : (s : Slots V) → IsWhole s → IsPlan s.nodes.items s.root (plan_at s.nodes.items s.root)
   whole_plan s w = plan_read s.nodes.items s.root s.free w.0 w.1.0 w.1.1
+
+-- the node above a spot is that above the place
+pub node_above-spot_of : {V : Type 0} (fs : List (Frame V)) → node_above (spot_of fs) ≡ above_of fs
+node_above-spot_of [] = refl
+node_above-spot_of (InChild id l v d ∷ fs) = refl
+node_above-spot_of (InSibling id l v c ∷ fs) = refl
 
 module _ (item : List ℕ → Type 0) (kind : IsKeyKind item) {V : Type 0} where
   -- how a look-up ends decides what is found
@@ -139,12 +145,12 @@ module _ (item : List ℕ → Type 0) (kind : IsKeyKind item) {V : Type 0} (s : 
         stops_counted stop h m e = counted stop (rw opens.is h) m (rw opens.is e)
 
         -- on to the sibling
-        pub walks_next : (m : ℕ) → m ≡ now + 1 → IsBefore item n.label rest → Walks item s key (Sibling id) n.sibling rest start m
-        walks_next m e h = record {
+        pub walks_next : (m : ℕ) → m ≡ now + 1 → (above : Option ℕ) → above ≡ node_above spot → IsBefore item n.label rest → Walks item s key (Sibling id above) n.sibling rest start m
+        walks_next m e above a h = record {
           frames = InSibling id n.label n.value opens.child ∷ w.frames;
           focus = opens.sibling;
           filled = ap (fill w.frames) (sym opens.is) ∙ w.filled;
-          spot_is = refl;
+          spot_is = ap (Sibling id) (a ∙ ap node_above w.spot_is ∙ node_above-spot_of w.frames);
           at_is = opens.sibling_plan.at_is;
           leads = (h, w.leads);
           rest_filled = w.rest_filled;

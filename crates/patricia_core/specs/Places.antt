@@ -34,11 +34,23 @@ module _ {V : Type 0} where
   size_frames (InChild id label value sibling ∷ fs) = suc (size sibling + size_frames fs)
   size_frames (InSibling id label value child ∷ fs) = suc (size child + size_frames fs)
 
+  -- the node above the place, where there is one
+  abbrev pub above_of : List (Frame V) → Option ℕ
+  above_of [] = None
+  above_of (InChild id label value sibling ∷ fs) = Some id
+  above_of (InSibling id label value child ∷ fs) = above_of fs
+
   -- where the number of what is in the place stands
   abbrev pub spot_of : List (Frame V) → Spot
   spot_of [] = Root
   spot_of (InChild id label value sibling ∷ fs) = Child id
-  spot_of (InSibling id label value child ∷ fs) = Sibling id
+  spot_of (InSibling id label value child ∷ fs) = Sibling id (above_of fs)
+
+-- the node above a spot
+abbrev pub node_above : Spot → Option ℕ
+node_above Root = None
+node_above (Child id) = Some id
+node_above (Sibling id above) = above
 
 -- the node at which a look-up ends
 abbrev pub node_of : Stop → Option ℕ

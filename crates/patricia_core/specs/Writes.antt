@@ -15,7 +15,7 @@ use Rattle.patricia_core.specs.Places.{Frame, fill, spot_of, IsPlace}
 abbrev pub SpotWithin : Spot → ℕ → Type 0
 SpotWithin Root n = Unit {0}
 SpotWithin (Child id) n = id < n
-SpotWithin (Sibling id) n = id < n
+SpotWithin (Sibling id above) n = id < n
 
 module _ {V : Type 0} where
   -- these are the free nodes
@@ -63,7 +63,7 @@ module _ {V : Type 0} where
   Relinks old new Root to = (new.nodes.items ≡ old.nodes.items) × (new.root ≡ to)
   Relinks old new (Child id) to =
       ((n : Node V) → slice_get old.nodes.items id ≡ Some n → new.nodes.items ≡ slice_set old.nodes.items id (record n { child = to })) × (new.root ≡ old.root)
-  Relinks old new (Sibling id) to =
+  Relinks old new (Sibling id above) to =
       ((n : Node V) → slice_get old.nodes.items id ≡ Some n → new.nodes.items ≡ slice_set old.nodes.items id (record n { sibling = to })) × (new.root ≡ old.root)
 
   -- the plan is all below a node, or all beside it

@@ -61,7 +61,7 @@ impl<V: Drop> Slots<V> {
         match spot {
             Spot::Root => self.root = to,
             Spot::Child(id) => self.nodes[id.index()].child = to,
-            Spot::Sibling(id) => self.nodes[id.index()].sibling = to,
+            Spot::Sibling(id, _) => self.nodes[id.index()].sibling = to,
         }
     }
 
@@ -169,7 +169,7 @@ impl<V: Drop> Slots<V> {
                 self.add(Spot::Child(id), leaf);
             }
             _ => {
-                self.add(Spot::Sibling(below), leaf);
+                self.add(Spot::Sibling(below, Some(id)), leaf);
             }
         }
         Ok(())

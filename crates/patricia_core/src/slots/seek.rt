@@ -6,7 +6,7 @@ ghost use Rattle.patricia_core.specs.Keys.{key_cmp};
 ghost use Rattle.patricia_core.specs.Rows.{IsRow};
 ghost use Rattle.patricia_core.specs.Counts.{IsCounted};
 ghost use Rattle.patricia_core.specs.Plans.{IsWhole, row_of, entries_of};
-ghost use Rattle.patricia_core.specs.Places.{IsPlace, node_of};
+ghost use Rattle.patricia_core.specs.Places.{IsPlace, node_of, node_above};
 
 use crate::keys::{BorrowedBytes, Bytes};
 use crate::link::{Link, NodeId};
@@ -16,12 +16,26 @@ use crate::steps::Steps;
 use std::marker::Brand;
 use std::sync::ledger::{Blank, Ledger};
 
-/// Where the number of a node stands: at the top, or in a node.
+/// Where the number of a node stands: at the top, or in a node as its child or its sibling. A
+/// sibling comes with the node above the row.
 #[derive(Clone, Copy)]
 pub enum Spot {
     Root,
     Child(NodeId),
-    Sibling(NodeId),
+    Sibling(NodeId, Option<NodeId>),
+}
+
+impl Spot {
+    // The node above the row, where there is one.
+    fn above(self) -> Option<NodeId>
+        ensures { result ≡ node_above self }
+    {
+        match self {
+            Spot::Root => None,
+            Spot::Child(id) => Some(id),
+            Spot::Sibling(_, above) => above,
+        }
+    }
 }
 
 /// How a look-up ends.
@@ -86,7 +100,7 @@ impl<V> Slots<V> {
                     };
                 }
                 Meeting::After => {
-                    spot = Spot::Sibling(id);
+                    spot = Spot::Sibling(id, spot.above());
                     at = node.sibling;
                 }
                 Meeting::Into(n) => {

@@ -50,7 +50,7 @@ loop-id-preserved-in-After g c =
     let is = sym c.get.ensures ∙ c.in-Some.is in
     let reads = rw c.index.ensures at c.index-node.ensures in
     let met = rw c.as_slice.ensures at c.in-After.ensures in
-    walks_next _ g.met.Q.Owned.Bytes.lawful _ (g.Q.BorrowedBytes.key c.args.key) c.requires.whole c.requires.row _ _ _ _ _ c.loop-id.invariant c.in-Some.id is c.index-node.result.now reads _ c.tick.ensures met
+    walks_next _ g.met.Q.Owned.Bytes.lawful _ (g.Q.BorrowedBytes.key c.args.key) c.requires.whole c.requires.row _ _ _ _ _ c.loop-id.invariant c.in-Some.id is c.index-node.result.now reads _ c.tick.ensures _ c.above.ensures met
 
 pub returns-in-Into-clause-place : goal.returns-in-Into-clause-place
 returns-in-Into-clause-place g c =
