@@ -16,6 +16,7 @@ pub use Rattle.patricia_rows.proofs.VisitLemmas
 pub use Rattle.patricia_rows.proofs.WalkLemmas
 pub mod AddLemmas
 pub mod FillLemmas
+pub mod FreeLemmas
 pub mod GrowthLemmas
 pub mod LayLemmas
 pub mod MakeLemmas

@@ -11,6 +11,7 @@ pub use Rattle.patricia_rows.specs.Private.Counts
 pub use Rattle.patricia_rows.specs.Private.Meeting
 pub use Rattle.patricia_rows.specs.Private.Removals
 pub use Rattle.patricia_rows.specs.Private.Spots
+pub mod Frees
 pub mod Growth
 pub mod Links
 pub mod Places

@@ -5,6 +5,7 @@ ghost use Rattle.patricia_core.specs.Rows.{end};
 
 mod growth;
 mod insertion;
+mod removal;
 mod room;
 mod seek;
 #[cfg(test)]

@@ -51,7 +51,7 @@ impl<V: Drop> Slots<V> {
     }
 
     // Writes a number at a spot.
-    fn relink(&mut self, spot: Spot, to: Link)
+    pub(super) fn relink(&mut self, spot: Spot, to: Link)
         requires { SpotWithin spot (vec_len self.old.nodes) }
         ensures relinks { Relinks self.old self.new spot to }
         ensures free { self.new.free ≡ self.old.free }
@@ -228,7 +228,7 @@ impl<V: Drop> Slots<V> {
         if place.here().is_some() || self.has_room() {
             return self.insert_at(alloc, &place, value);
         }
-        if self.ensure_room().is_err() {
+        if self.ensure_room(alloc).is_err() {
             return Err(Refused { value });
         }
         let place = self.seek(key);

@@ -4,7 +4,7 @@ ghost use Rattle.patricia_core.specs.Plans.{IsWhole, row_of};
 ghost use Rattle.patricia_core.specs.Writes.{FreeAtLeast, HasRoom, Reuses, Stays};
 
 use crate::slots::Slots;
-use std::alloc::AllocError;
+use std::alloc::{AllocError, Global};
 
 impl<V: Drop> Slots<V> {
     // How many nodes are free, where two are enough.
@@ -31,7 +31,7 @@ impl<V: Drop> Slots<V> {
     }
 
     /// Makes room for two more nodes. The nodes may have other numbers then.
-    pub fn ensure_room(&mut self) -> Result<(), AllocError>
+    pub fn ensure_room(&mut self, alloc: Global) -> Result<(), AllocError>
         requires whole { IsWhole self.old }
         ensures whole { IsWhole self.new }
         ensures row { row_of self.new ≡ row_of self.old }
@@ -39,6 +39,6 @@ impl<V: Drop> Slots<V> {
         ensures reuses { Reuses self.old self.new }
         ensures unchanged { OnErr result (Stays self.old self.new) }
     {
-        self.nodes.reserve(2)
+        self.lay_anew(alloc)
     }
 }
