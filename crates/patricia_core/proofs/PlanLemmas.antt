@@ -1,5 +1,5 @@
 -- What nodes that stand for a plan give.
-use Rattle.std.proofs.Common.{◌≡◌, ℕ, zero, suc, ◌<◌, ◌≤◌, List, [], length, Option, Some, None, get_or, slice_get, refl, ◌∙◌, arith}
+use Rattle.std.proofs.Common.{◌≡◌, ℕ, zero, suc, ◌≤◌, List, [], length, Option, Some, None, get_or, slice_get, refl, ◌∙◌, arith}
 use Rattle.std.proofs.lemmas.Option.{get_or_from_slice_get}
 use Rattle.std.proofs.lemmas.Bool.Decides.{nat_tests}
 use Rattle.patricia_core.specs.declared.slots.Node.{Node}
@@ -11,9 +11,6 @@ one-same id = grind (arith, nat_tests)
 
 pub below_le : (n at : ℕ) → below n at ≤ 1
 below_le n at = grind (arith, nat_tests)
-
-pub below_in : (n at : ℕ) → at < n → below n at ≡ 1
-below_in n at h = grind (arith, nat_tests)
 
 module _ {V : Type 0} where
   -- nodes that stand for a plan are read as that plan

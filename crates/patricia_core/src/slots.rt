@@ -6,8 +6,6 @@ ghost use Rattle.patricia_core.specs.Rows.{end};
 mod insertion;
 mod room;
 mod seek;
-#[cfg(test)]
-mod tests;
 
 use crate::label::Label;
 use crate::link::Link;
