@@ -12,6 +12,9 @@ one-same id = grind (arith, nat_tests)
 pub below_le : (n at : ℕ) → below n at ≤ 1
 below_le n at = grind (arith, nat_tests)
 
+pub below_in : (n at : ℕ) → at < n → below n at ≡ 1
+below_in n at h = grind (arith, nat_tests)
+
 module _ {V : Type 0} where
   -- nodes that stand for a plan are read as that plan
   read-stands : (nodes : List (Node V)) (p : Plan V) (n : ℕ) → Stands nodes p → size p ≤ n → read n nodes (head p) ≡ p
