@@ -1,18 +1,14 @@
--- A node in a free slot, or behind the last, and its link.
+-- A node in a free slot, or behind the last.
 use Rattle.std.proofs.Common.{◌≡◌, ℕ, suc, ◌+◌, ◌<◌, ◌≤◌, List, [], ◌∷◌, ◌++◌, length, set, Some, None, slice_get, get_or, refl, sym, ap, ◌∙◌, arith, length-set, length-append}
 use Rattle.std.specs.Prelude.{vec_capacity}
 use Rattle.std.proofs.lemmas.Bool.Decides.{nat_tests}
 use Rattle.std.proofs.lemmas.Option.{slice_get_within}
 use Rattle.patricia_core.specs.declared.slots.Node.{Node}
 use Rattle.patricia_core.specs.declared.slots.Slots.{Slots}
-use Rattle.patricia_core.specs.Plans.{one, below, first, IsChain}
+use Rattle.patricia_core.specs.Plans.{first, IsChain}
 use Rattle.patricia_core.specs.Writes.{IsFree, HasRoom, Makes}
 use Rattle.patricia_core.proofs.PlanLemmas.{node_is}
 use Rattle.patricia_core.proofs.WriteLemmas.{get-set_same, get-set_other, get-push_same, get-push_other}
-
--- one number more is below
-below-suc : (n at : ℕ) → below (suc n) at ≡ one n at + below n at
-below-suc n at = grind (arith, nat_tests)
 
 -- where no node is free, room is behind the last
 pub room_behind : {V : Type 0} (s : Slots V) (n : ℕ) → HasRoom s n → s.free ≡ None → n + length s.nodes.items ≤ vec_capacity s.nodes
@@ -50,20 +46,16 @@ module _ {V : Type 0} (old new : Slots V) (spare : List ℕ) (n : Node V) (id : 
           }
 
   -- or the vector grows
-  pub makes_push : old.free ≡ None → new.nodes.items ≡ old.nodes.items ++ n ∷ [] → id ≡ length old.nodes.items → new.free ≡ old.free → Makes old new spare n id
-  makes_push e is at_end after = by spare free.0 free.1
-    where
-      by : (spare : List ℕ) → IsChain old.nodes.items spare → old.free ≡ first spare → Makes old new spare n id
-      by (i ∷ ids) c f = absurd (cc)
-      by [] c f =
-          let long : length new.nodes.items ≡ suc (length old.nodes.items) = omega (arith, ap length is, length-append old.nodes.items (n ∷ [])) in
-          record {
-            left = [];
-            there = rw (is, at_end) (get-push_same old.nodes.items n);
-            others = λ at k. rw is (get-push_other old.nodes.items at n (λ z. k (z ∙ sym at_end)));
-            root_is = root_is;
-            free_is = after ∙ e;
-            chain = tt;
-            counted = λ at. rw (long, at_end) (omega (arith, below-suc (length old.nodes.items) at));
-            longer = omega arith;
-          }
+  pub makes_push : new.nodes.items ≡ old.nodes.items ++ n ∷ [] → id ≡ length old.nodes.items → new.free ≡ old.free → Makes old new spare n id
+  makes_push is at_end after =
+      let long : length new.nodes.items ≡ suc (length old.nodes.items) = omega (arith, ap length is, length-append old.nodes.items (n ∷ [])) in
+      record {
+        left = spare;
+        there = rw (is, at_end) (get-push_same old.nodes.items n);
+        others = λ at k. rw is (get-push_other old.nodes.items at n (λ z. k (z ∙ sym at_end)));
+        root_is = root_is;
+        free_is = after ∙ free.1;
+        chain = free.0;
+        counted = λ at. rw (long, at_end) (grind (arith, nat_tests));
+        longer = omega arith;
+      }

@@ -119,9 +119,6 @@ module _ (item : List ℕ → Type 0) (kind : IsKeyKind item) {V : Type 0} (s : 
     nothing (Cell id l v c d) q e = let h = q.at_is in absurd (cc)
 
     -- past the last node
-    pub ends_placed : at ≡ None → Placed item s key spot at rest Gap
-    ends_placed e = placed Gap (rw (nothing w.focus focus_plan e) refl)
-
     pub ends_counted : at ≡ None → IsCounted item (row_of s) key start now
     ends_counted e = let nil = nothing w.focus focus_plan e in counted Gap (rw nil refl) now (rw nil (omega arith))
 

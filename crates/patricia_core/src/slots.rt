@@ -8,8 +8,6 @@ mod insertion;
 mod removal;
 mod room;
 mod seek;
-#[cfg(test)]
-mod tests;
 
 use crate::label::Label;
 use crate::link::Link;

@@ -1,11 +1,16 @@
 use Rattle.std.proofs.Common.{refl, sym, ◌∙◌, arith}
-use Rattle.patricia_core.proofs.MakeLemmas.{room_behind, free_within, makes_free}
+use Rattle.patricia_core.proofs.MakeLemmas.{room_behind, free_within, makes_free, makes_push}
 use Rattle.patricia_core.proofs.slots.Slots.make.Goals as goal
 
 pub push_reserved-requires : goal.push_reserved-requires
 push_reserved-requires g c =
     let room = room_behind c.args.self.now 1 c.requires.room (sym c.get.ensures ∙ c.in-None.is) in
     omega arith
+
+pub returns-in-None-clause-makes : goal.returns-in-None-clause-makes
+returns-in-None-clause-makes g c = λ spare free.
+    let at_end = c.new-id.ensures ∙ c.len.ensures in
+    makes_push _ _ spare c.args.node c.new-id.result free refl c.push_reserved.ensures.items (omega arith) refl
 
 pub returns-in-Some-clause-makes : goal.returns-in-Some-clause-makes
 returns-in-Some-clause-makes g c = λ spare free.
