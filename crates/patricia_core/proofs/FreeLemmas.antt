@@ -171,3 +171,22 @@ module _ {V : Type 0} where
       let is = taken_is s freed id n f fs l v Nil d h.1.plan_ok.stands in
       let links' : Relinks freed new (spot_of fs) (head d) = subst (λ (x : Node V). Relinks freed new (spot_of fs) x.sibling) is (subst (λ k. Relinks freed new k n.sibling) at links) in
       ((id ∷ h.0, sound-unlink s freed id n f h.0 l v d new free_is fs h.1 links'), ap (λ (x : Node V). x.value) is)
+
+  -- both nodes are in the vector
+  pub lone_within : (s : Slots V) (u k : ℕ) → HasLone s u k → (u < length s.nodes.items) × (k < length s.nodes.items)
+  lone_within s u k h =
+      let at = stands-within s.nodes.items h.0 (Cell u h.1 h.2 (Cell k h.3 h.4 h.5 Nil) h.6) h.7.1.plan_ok.stands in
+      (slice_get_within s.nodes.items u _ at.0, slice_get_within s.nodes.items k _ at.1.0)
+
+  pub absorbs : (s freed : Slots V) (u k : ℕ) (n r : Node V) (joined : List ℕ) (taken : Option V) → Frees s freed k n → r ≡ get_or freed.nodes.items u r → taken ≡ r.value
+      → (fs : List (Frame V)) (l : List ℕ) (v : Option V) (m : List ℕ) (w : Option V) (e d : Plan V) → Holds s (fill fs (Cell u l v (Cell k m w e Nil) d))
+      → ((spare : List ℕ) × IsSound (set freed.nodes.items u (linked joined n.value n.child r.sibling)) freed.root freed.free (fill fs (Cell u joined w e d)) spare) × (taken ≡ v)
+  absorbs s freed u k n r joined taken f reads is fs l v m w e d h =
+      let q = Cell u l v (Cell k m w e Nil) d in
+      let at = stands-within s.nodes.items fs q h.1.plan_ok.stands in
+      let lower : n ≡ linked m w (head e) None = let t = f.taken in let there = at.1.0 in cc in
+      let apart : u ≢ k = λ same. omega (arith, h.1.once u, below_le (length s.nodes.items) u, count-fill fs q u, one-same u, ap (λ j. one j u) same) in
+      let there : slice_get freed.nodes.items u ≡ Some (linked l v (Some k) (head d)) = ap (λ xs. slice_get xs u) f.nodes_is ∙ get-set_other s.nodes.items k u (linked [] None None s.free) apart ∙ at.0 in
+      let upper : r ≡ linked l v (Some k) (head d) = node_is freed.nodes.items u r _ there reads in
+      let node : linked joined n.value n.child r.sibling ≡ linked joined w (head e) (head d) = rw (lower, upper) refl in
+      ((k ∷ h.0, rw (f.nodes_is, node, f.root_is, f.free_is) (sound-absorb s freed k n f h.0 u l joined v m w e d fs h.1)), is ∙ ap (λ (x : Node V). x.value) upper)
