@@ -15,6 +15,7 @@ pub use Rattle.patricia_rows.proofs.UniqueLemmas
 pub use Rattle.patricia_rows.proofs.VisitLemmas
 pub use Rattle.patricia_rows.proofs.WalkLemmas
 pub mod AddLemmas
+pub mod AloneLemmas
 pub mod FillLemmas
 pub mod FreeLemmas
 pub mod GrowthLemmas

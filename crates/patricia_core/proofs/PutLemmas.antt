@@ -180,6 +180,6 @@ put_or_same item (Ok y) old new key x ok err whole row_ok = (ok.whole, ok.row_ok
 put_or_same item (Err e) old new key x ok err whole row_ok = rw err (whole, row_ok)
 
 -- a test that found nothing
-pub not_some : (o : Option ℕ) → false ≡ is_some o → o ≡ None
+pub not_some : {A : Type 0} (o : Option A) → false ≡ is_some o → o ≡ None
 not_some None e = refl
 not_some (Some n) e = absurd (false≢true e)

@@ -40,3 +40,44 @@ module _ {V : Type 0} where
       (frames : List (Frame V)) (label : List ℕ) (value : Option V) (inner : List ℕ) (own : Option V) (below sibling : Plan V)
       → Holds old (fill frames (Cell upper label value (Cell lower inner own below Nil) sibling))
       → Holds new (fill frames (Cell upper joined own below sibling)) × (taken ≡ value)
+
+  -- the row has two nodes, and these are their numbers
+  abbrev pub IsPair : Plan V → ℕ → ℕ → Type 0
+  IsPair p first second =
+      (l : List ℕ) × (v : Option V) × (c : Plan V) × (m : List ℕ) × (w : Option V) × (d : Plan V)
+      × (p ≡ Cell first l v c (Cell second m w d Nil))
+
+  -- the node above the place has a value, or two children where this is what is left in the place
+  abbrev pub Spares : List (Frame V) → Plan V → Type 0
+  Spares [] p = Unit {0}
+  Spares (InSibling id label value child ∷ fs) p = Spares fs (Cell id label value child p)
+  Spares (InChild id label value sibling ∷ fs) p = value ≡ None → 2 ≤ width (row p)
+
+  -- it has no value and one other child, where this is what is left in the place
+  pub record LeavesOther (frames : List (Frame V)) (p : Plan V) (upper other : ℕ) : Type 0 where
+    pub outer : List (Frame V)
+    pub label : List ℕ
+    pub beside : Plan V
+    pub inner : List ℕ
+    pub own : Option V
+    pub below : Plan V
+    pub stands :
+        ((frames ≡ InChild upper label None beside ∷ outer) × (p ≡ Cell other inner own below Nil))
+        ⊎ ((frames ≡ InSibling other inner own below ∷ InChild upper label None beside ∷ outer) × (p ≡ Nil))
+
+  -- the number is that of a node at the spot, in a row that keeps the invariant
+  pub record StandsAt (item : List ℕ → Type 0) (s : Slots V) (spot : Spot) (id : ℕ) (frames : List (Frame V)) (label : List ℕ) (value : Option V) (child sibling : Plan V) : Type 0 where
+    pub spot_is : spot ≡ spot_of frames
+    pub holds : Holds s (fill frames (Cell id label value child sibling))
+    pub row_ok : IsRow item (row (fill frames (Cell id label value child sibling)))
+
+  abbrev pub HasNodeAt : (List ℕ → Type 0) → Slots V → Spot → ℕ → Type 0
+  HasNodeAt item s spot id =
+      (frames : List (Frame V)) × (label : List ℕ) × (value : Option V) × (child : Plan V) × (sibling : Plan V)
+      × StandsAt item s spot id frames label value child sibling
+
+  -- what is left above the node without it
+  abbrev pub LeftAlone : (List ℕ → Type 0) → Slots V → Spot → ℕ → Option (ℕ × ℕ) → Type 0
+  LeftAlone item s spot id found =
+      (frames : List (Frame V)) (label : List ℕ) (value : Option V) (child sibling : Plan V) → StandsAt item s spot id frames label value child sibling
+      → MatchOption found (Spares frames sibling) (λ p. LeavesOther frames sibling p.0 p.1)

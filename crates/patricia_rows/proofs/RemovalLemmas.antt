@@ -100,19 +100,19 @@ module _ (item : List ℕ → Type 0) (kind : IsKeyKind item) {V : Type 0} where
   others_below (b ∷ t) (Some x) c filled = refl
 
   -- a node without value earns its place by two children
-  earns_by_width : (l : List ℕ) (v : Option V) (c : Row V) → (v ≡ None → 2 ≤ width c) → EarnsWithin item None l v c
+  pub earns_by_width : (l : List ℕ) (v : Option V) (c : Row V) → (v ≡ None → 2 ≤ width c) → EarnsWithin item None l v c
   earns_by_width l (Some x) c two = tt
   earns_by_width l None end two = absurd (let h = two refl in omega arith)
   earns_by_width l None (node m w d end) two = absurd (let h = two refl in omega arith)
   earns_by_width l None (node m w d (node m' w' d' t')) two = tt
 
-  width_of_earned : (l : List ℕ) (c s : Row V) → IsRow item (node l None c s) → 2 ≤ width c
+  pub width_of_earned : (l : List ℕ) (c s : Row V) → IsRow item (node l None c s) → 2 ≤ width c
   width_of_earned l end s ok = absurd ok.earns
   width_of_earned l (node m w d end) s ok = let first = first_of item m ok.child.valid ok.child.filled in absurd (ok.earns first.0 first.1 first.2 tt)
   width_of_earned l (node m w d (node m' w' d' t')) s ok = omega arith
 
   -- a lone child that is taken in
-  taken_in_row : (l : List ℕ) (v : Option V) (m : List ℕ) (w : Option V) (d s : Row V) → IsValid item l → l ≢ [] → IsBeforeRow item l s → IsRow item s → IsRow item (node m w d end) → IsRow item (node (l ++ m) w d s)
+  pub taken_in_row : (l : List ℕ) (v : Option V) (m : List ℕ) (w : Option V) (d s : Row V) → IsValid item l → l ≢ [] → IsBeforeRow item l s → IsRow item s → IsRow item (node m w d end) → IsRow item (node (l ++ m) w d s)
   taken_in_row l v m w d s valid filled rises ok child = record {
     valid = IsValid-append item l m valid child.valid;
     filled = λ none. filled (nil_first l m none);
@@ -127,7 +127,7 @@ module _ (item : List ℕ → Type 0) (kind : IsKeyKind item) {V : Type 0} where
       longer end h = tt
       longer (node k u c t) h = IsBefore-longer_left item kind l k m h
 
-  taken_in_entries : (l m : List ℕ) (w : Option V) (d s : Row V) → entries (node (l ++ m) w d s) ≡ prefixed l (entries (node m w d end)) ++ entries s
+  pub taken_in_entries : (l m : List ℕ) (w : Option V) (d s : Row V) → entries (node (l ++ m) w d s) ≡ prefixed l (entries (node m w d end)) ++ entries s
   taken_in_entries l m w d s =
       ap (λ es. es ++ entries s) (sym (prefixed-prefixed l m (own w ++ entries d)) ∙ ap (prefixed l) (sym (append-nil (prefixed m (own w ++ entries d)))))
 
@@ -151,7 +151,7 @@ module _ (item : List ℕ → Type 0) (kind : IsKeyKind item) {V : Type 0} (l : 
   pub others_here : (q t : List ℕ) → Passes item q l t → t ≡ [] → others q (entries (node l v c s)) ≡ prefixed l (entries c) ++ entries s
   others_here q t passes none = others_through q t passes ∙ ap (λ es. prefixed l es ++ entries s) (ap (λ k. others k (own v ++ entries c)) none ∙ others_own item kind v c ok.child)
 
-  others_deeper : (q t : List ℕ) → Passes item q l t → t ≢ [] → others q (entries (node l v c s)) ≡ prefixed l (own v ++ others t (entries c)) ++ entries s
+  pub others_deeper : (q t : List ℕ) → Passes item q l t → t ≢ [] → others q (entries (node l v c s)) ≡ prefixed l (own v ++ others t (entries c)) ++ entries s
   others_deeper q t passes filled = others_through q t passes ∙ ap (λ es. prefixed l es ++ entries s) (others_below item kind t v c filled)
 
   -- the key was in the rest of the row

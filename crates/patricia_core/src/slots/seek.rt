@@ -27,7 +27,7 @@ pub enum Spot {
 
 impl Spot {
     // The node above the row, where there is one.
-    fn above(self) -> Option<NodeId>
+    pub fn above(self) -> Option<NodeId>
         ensures { result ≡ node_above self }
     {
         match self {
