@@ -25,4 +25,5 @@ pub mod PlanLemmas
 pub mod PutLemmas
 pub mod RelayLemmas
 pub mod SeekLemmas
+pub mod TakeLemmas
 pub mod WriteLemmas

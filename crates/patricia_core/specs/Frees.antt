@@ -1,12 +1,14 @@
 -- What is left of nodes in one vector where a node is freed.
-use Rattle.std.specs.Prelude.{◌≡◌, ◌⊎◌, ℕ, ◌<◌, ◌≤◌, List, [], ◌∷◌, ◌++◌, length, Option, Some, None, MatchOption, slice_get, slice_set, vec_len}
+use Rattle.std.specs.Prelude.{◌≡◌, ◌⊎◌, ℕ, ◌≤◌, List, [], ◌∷◌, ◌++◌, Option, Some, None, MatchOption, slice_get, slice_set}
 use Rattle.patricia_core.specs.declared.slots.Node.{Node}
 use Rattle.patricia_core.specs.declared.slots.Slots.{Slots}
 use Rattle.patricia_core.specs.declared.slots.seek.Spot.{Spot}
-use Rattle.patricia_core.specs.Rows.{Row, IsRow}
-use Rattle.patricia_core.specs.Removals.{width}
-use Rattle.patricia_core.specs.Plans.{Plan, Nil, Cell, linked, row, Holds}
-use Rattle.patricia_core.specs.Places.{Frame, InChild, InSibling, fill, above_of, spot_of}
+use Rattle.patricia_core.specs.declared.slots.seek.Place.{Place}
+use Rattle.patricia_core.specs.Rows.{IsRow, keys_of}
+use Rattle.patricia_core.specs.Points.{Joins}
+use Rattle.patricia_core.specs.Removals.{others, width}
+use Rattle.patricia_core.specs.Plans.{Plan, Nil, Cell, linked, row, Holds, IsWhole, row_of, entries_of}
+use Rattle.patricia_core.specs.Places.{Frame, InChild, InSibling, fill, spot_of, IsPlace}
 
 module _ {V : Type 0} where
   -- the node was taken out, and its number is the first that is free
@@ -40,6 +42,20 @@ module _ {V : Type 0} where
       (frames : List (Frame V)) (label : List ℕ) (value : Option V) (inner : List ℕ) (own : Option V) (below sibling : Plan V)
       → Holds old (fill frames (Cell upper label value (Cell lower inner own below Nil) sibling))
       → Holds new (fill frames (Cell upper joined own below sibling)) × (taken ≡ value)
+
+  -- the label is those of these two nodes, one after the other
+  abbrev pub IsJoined : Slots V → ℕ → ℕ → List ℕ → Type 0
+  IsJoined s upper lower joined =
+      (n m : Node V) → slice_get s.nodes.items upper ≡ Some n → slice_get s.nodes.items lower ≡ Some m
+      → joined ≡ n.label ++ m.label
+
+  -- the node has no children
+  abbrev pub IsLeaf : Slots V → ℕ → Type 0
+  IsLeaf s id = (n : Node V) → slice_get s.nodes.items id ≡ Some n → n.child ≡ None
+
+  -- this is its value
+  abbrev pub HasValue : Slots V → ℕ → Option V → Type 0
+  HasValue s id value = (n : Node V) → slice_get s.nodes.items id ≡ Some n → value ≡ n.value
 
   -- the row has two nodes, and these are their numbers
   abbrev pub IsPair : Plan V → ℕ → ℕ → Type 0
@@ -81,3 +97,17 @@ module _ {V : Type 0} where
   LeftAlone item s spot id found =
       (frames : List (Frame V)) (label : List ℕ) (value : Option V) (child sibling : Plan V) → StandsAt item s spot id frames label value child sibling
       → MatchOption found (Spares frames sibling) (λ p. LeavesOther frames sibling p.0 p.1)
+
+-- the key is gone: the entries are the others
+pub record Removes (item : List ℕ → Type 0) {V : Type 0} (old new : Slots V) (key : List ℕ) : Type 0 where
+  pub whole : IsWhole new
+  pub row_ok : IsRow item (row_of new)
+  pub left_is : entries_of new ≡ others key (entries_of old)
+
+-- so it is at each key whose place this is
+abbrev pub RemovesAt : (List ℕ → Type 0) → {V Q : Type 0} → (Q → List ℕ) → Slots V → Slots V → Place Q → Type 0
+RemovesAt item key_of old new place = (key : List ℕ) → IsPlace item key_of old key place → Removes item old new key
+
+-- without such a key labels are joined
+abbrev pub JoinsAt : (List ℕ → Type 0) → {V Q : Type 0} → (Q → List ℕ) → Slots V → Place Q → Type 0
+JoinsAt item key_of s place = (key : List ℕ) → IsPlace item key_of s key place → Joins item (keys_of (entries_of s)) key
