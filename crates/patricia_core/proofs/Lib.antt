@@ -24,6 +24,7 @@ pub mod MakeLemmas
 pub mod PlanLemmas
 pub mod PutLemmas
 pub mod RelayLemmas
+pub mod RemoveLemmas
 pub mod SeekLemmas
 pub mod TakeLemmas
 pub mod WriteLemmas

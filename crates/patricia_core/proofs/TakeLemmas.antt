@@ -21,7 +21,7 @@ pub record Gone (item : List ℕ → Type 0) {V : Type 0} (old new : Row V) (key
 
 module _ (item : List ℕ → Type 0) (kind : IsKeyKind item) {V : Type 0} where
   -- past a node
-  gone_past : (l : List ℕ) (v : Option V) (c s s' : Row V) → IsRow item (node l v c s) → (q : List ℕ) → IsBefore item l q → Gone item s s' q → Gone item (node l v c s) (node l v c s') q
+  pub gone_past : (l : List ℕ) (v : Option V) (c s s' : Row V) → IsRow item (node l v c s) → (q : List ℕ) → IsBefore item l q → Gone item s s' q → Gone item (node l v c s) (node l v c s') q
   gone_past l v c s s' ok q before gone = record {
     row_ok = row_past_removed item kind l v c s ok q s' gone.row_ok gone.left_is;
     left_is = entries_past_removed item kind l v c s ok q s' before gone.left_is;

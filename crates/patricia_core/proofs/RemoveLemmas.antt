@@ -1,0 +1,264 @@
+-- What a removal leaves at the place of its key.
+use Rattle.std.proofs.Common.{◌≡◌, ◌≢◌, ◌⊎◌, inl, inr, ℕ, suc, ◌+◌, ◌<◌, ◌≤◌, List, [], ◌∷◌, ◌++◌, length, set, Option, Some, None, get_or, slice_get, refl, sym, ap, subst, ◌∙◌, arith}
+use Rattle.std.proofs.lemmas.List.{append-nil}
+use Rattle.std.proofs.lemmas.Option.{slice_get_within, get_or_from_slice_get}
+use Rattle.std.specs.FinMap.{find}
+use Rattle.patricia_core.specs.declared.slots.Node.{Node}
+use Rattle.patricia_core.specs.declared.slots.Slots.{Slots}
+use Rattle.patricia_core.specs.declared.slots.seek.Spot.{Spot}
+use Rattle.patricia_core.specs.declared.slots.seek.Stop.{Stop}
+use Rattle.patricia_core.specs.declared.slots.seek.Stop.TheVariants.{Here}
+use Rattle.patricia_core.specs.Keys.{IsKeyKind, key_cmp}
+use Rattle.patricia_core.specs.Rows.{Row, end, node, entries, keys_of, IsRow}
+use Rattle.patricia_core.specs.Points.{Joins}
+use Rattle.patricia_core.specs.Meeting.{Passes}
+use Rattle.patricia_core.specs.Removals.{others, width, without_first, IsLoneParent}
+use Rattle.patricia_core.specs.Plans.{Plan, Nil, Cell, linked, head, row, Stands, Holds, IsWhole, plan_at, row_of, entries_of}
+use Rattle.patricia_core.specs.Places.{Frame, InChild, InSibling, fill, spot_of, node_of, Leads, Stops, Placed}
+use Rattle.patricia_core.specs.Frees.{Unlinks, Absorbs, HasLeafAt, HasLone, Spares, LeavesOther, StandsAt, Removes}
+use Rattle.patricia_core.proofs.PlanLemmas.{plan_is, node_is}
+use Rattle.patricia_core.proofs.FillLemmas.{row-within, stands-within}
+use Rattle.patricia_core.proofs.AddLemmas.{holds_write}
+use Rattle.patricia_core.proofs.SeekLemmas.{Opened, opened, place_row, focus_plan_at, stop_at, here_passes, find_some}
+use Rattle.patricia_core.proofs.TakeLemmas.{Gone, gone_past, gone_joined, gone-fill, spared-fill, joins-fill}
+use Rattle.patricia_rows.proofs.RemovalLemmas.{row_first_removed, entries_first_removed}
+use Rattle.patricia_rows.proofs.JoinLemmas.{joins_lone, joins_alone}
+
+-- the label of the first node is the key
+label_is : (item : List ℕ → Type 0) (q l : List ℕ) → Passes item q l [] → l ≡ q
+label_is item q l passes = sym (append-nil l) ∙ passes.splits
+
+module _ {V : Type 0} where
+  -- what is left of a first node, by what stands below it
+  first_none : (l : List ℕ) (v : Option V) (c s : Row V) → v ≡ None → without_first (node l v c s) ≡ node l v c s
+  first_none l None c s e = refl
+  first_none l (Some x) c s e = absurd (cc)
+
+  first_leaf : (l : List ℕ) (v : Option V) (s : Row V) → (v ≡ None → ⊥) → without_first (node l v end s) ≡ s
+  first_leaf l None s e = absurd (e refl)
+  first_leaf l (Some x) s e = refl
+
+  first_lone : (l : List ℕ) (v : Option V) (m : List ℕ) (w : Option V) (d s : Row V) → (v ≡ None → ⊥) → without_first (node l v (node m w d end) s) ≡ node (l ++ m) w d s
+  first_lone l None m w d s e = absurd (e refl)
+  first_lone l (Some x) m w d s e = refl
+
+  first_more : (l : List ℕ) (v : Option V) (m : List ℕ) (w : Option V) (d : Row V) (m' : List ℕ) (w' : Option V) (d' t s : Row V) → without_first (node l v (node m w d (node m' w' d' t)) s) ≡ node l None (node m w d (node m' w' d' t)) s
+  first_more l None m w d m' w' d' t s = refl
+  first_more l (Some x) m w d m' w' d' t s = refl
+
+  lone_parent : (l : List ℕ) (v : Option V) (m : List ℕ) (w : Option V) (d s : Row V) → (v ≡ None → ⊥) → IsLoneParent (node l v (node m w d end) s)
+  lone_parent l None m w d s e = absurd (e refl)
+  lone_parent l (Some x) m w d s e = tt
+
+module _ (item : List ℕ → Type 0) (kind : IsKeyKind item) {V : Type 0} where
+  -- the first node goes, or its value does
+  first_gone : (l : List ℕ) (v : Option V) (c s : Row V) → IsRow item (node l v c s) → (q : List ℕ) → Passes item q l [] → Gone item (node l v c s) (without_first (node l v c s)) q
+  first_gone l v c s ok q passes = record { row_ok = row_first_removed item kind (node l v c s) ok; left_is = entries_first_removed item kind l v c s ok q [] passes refl }
+
+  -- a leaf and one other node stand below a node without value
+  module _ (id u o : ℕ) (l : List ℕ) (x : Option V) (key rest : List ℕ) (passes : Passes item rest l []) (fs : List (Frame V)) (d : Plan V) (leads : Leads item fs key rest) (ok : IsRow item (row (fill fs (Cell id l x Nil d)))) (gone_leaf : without_first (node l x end (row d)) ≡ row d) (left : LeavesOther fs d u o) where
+    abbrev after : Plan V
+    after = Cell u (left.label ++ left.inner) left.own left.below left.beside
+
+    abbrev lone : Plan V
+    lone = Cell o left.inner left.own left.below Nil
+
+    pub left_plan : fill fs d ≡ fill left.outer (Cell u left.label None lone left.beside)
+    left_plan = elim left.stands [ inl e ↦ rw (e.0, e.1) refl | inr e ↦ rw (e.0, e.1) refl ]
+
+    -- the two of them, and what is left of them
+    record Inside : Type 0 where
+      pub old : Plan V
+      pub was : fill fs (Cell id l x Nil d) ≡ fill left.outer (Cell u left.label None old left.beside)
+      pub before : List ℕ
+      pub through : Passes item before left.label rest
+      pub filled : rest ≢ []
+      pub outer_leads : Leads item left.outer key before
+      pub gone : IsRow item (row old) → Gone item (row old) (row lone) rest
+      pub joins : IsRow item (node left.label None (row old) (row left.beside)) → Joins item (keys_of (entries (node left.label None (row old) (row left.beside)))) before
+
+    inside : Inside
+    inside = elim left.stands [
+      | inl e ↦
+          let way : Leads item (InChild u left.label None left.beside ∷ left.outer) key rest = rw e.0 at leads in
+          record {
+            old = Cell id l x Nil lone;
+            was = rw (e.0, e.1) refl;
+            before = way.0;
+            through = way.1;
+            filled = way.2;
+            outer_leads = way.3;
+            gone = λ inner. subst (λ (r : Row V). Gone item (node l x end (row lone)) r rest) (subst (λ (q : Plan V). without_first (node l x end (row q)) ≡ row q) e.1 gone_leaf) (first_gone l x end (row lone) inner rest passes);
+            joins = λ inner. joins_alone item kind left.label None (row (Cell id l x Nil lone)) (row left.beside) inner way.0 rest left.inner way.1 way.2 refl (inl (label_is item rest l passes, refl, refl));
+          }
+      | inr e ↦
+          let way : Leads item (InSibling o left.inner left.own left.below ∷ InChild u left.label None left.beside ∷ left.outer) key rest = rw e.0 at leads in
+          let none : without_first (node l x end (row {V = V} Nil)) ≡ row {V = V} Nil = subst (λ (q : Plan V). without_first (node l x end (row q)) ≡ row q) e.1 gone_leaf in
+          record {
+            old = Cell o left.inner left.own left.below (Cell id l x Nil Nil);
+            was = rw (e.0, e.1) refl;
+            before = way.1.0;
+            through = way.1.1;
+            filled = way.1.2;
+            outer_leads = way.1.3;
+            gone = λ inner. gone_past item kind left.inner left.own (row left.below) (node l x end end) end inner rest way.0 (subst (λ (r : Row V). Gone item (node l x end end) r rest) none (first_gone l x end end inner.sibling rest passes));
+            joins = λ inner. joins_alone item kind left.label None (row (Cell o left.inner left.own left.below (Cell id l x Nil Nil))) (row left.beside) inner way.1.0 rest left.inner way.1.1 way.1.2 refl (inr (label_is item rest l passes, refl, refl));
+          }
+    ]
+
+    -- the node above takes in the other
+    whole_ok : IsRow item (row (fill left.outer (Cell u left.label None inside.old left.beside)))
+    whole_ok = subst (λ (q : Plan V). IsRow item (row q)) inside.was ok
+
+    upper_ok : IsRow item (node left.label None (row inside.old) (row left.beside))
+    upper_ok = row-within item left.outer (Cell u left.label None inside.old left.beside) whole_ok
+
+    pub alone_gone : Gone item (row (fill fs (Cell id l x Nil d))) (row (fill left.outer after)) key
+    alone_gone =
+        subst (λ (q : Plan V). Gone item (row q) (row (fill left.outer after)) key) (sym inside.was)
+        (gone-fill item kind left.outer (Cell u left.label None inside.old left.beside) after whole_ok key inside.before inside.outer_leads (omega arith)
+        (gone_joined item kind left.label (row inside.old) (row left.beside) left.inner left.own (row left.below) upper_ok inside.before rest inside.through inside.filled (inside.gone upper_ok.child)))
+
+    pub alone_joins : Joins item (keys_of (entries (row (fill fs (Cell id l x Nil d))))) key
+    alone_joins =
+        subst (λ (q : Plan V). Joins item (keys_of (entries (row q))) key) (sym inside.was)
+        (joins-fill item kind left.outer (Cell u left.label None inside.old left.beside) whole_ok key inside.before inside.outer_leads (inside.joins upper_ok))
+
+module _ (item : List ℕ → Type 0) (kind : IsKeyKind item) {V : Type 0} (s : Slots V) (key : List ℕ) (whole : IsWhole s) (ok : IsRow item (row_of s)) (spot : Spot) (at : Option ℕ) (rest : List ℕ) (stop : Stop) (p : Placed item s key spot at rest stop) (id : ℕ) (is : stop ≡ Here id) (r : Node V) (reads : r ≡ get_or s.nodes.items id r) where
+  pub there : Opened s.nodes.items p.focus id r
+  there = opened s.nodes.items at p.focus id r (focus_plan_at item kind s key whole ok spot at rest stop p) (p.at_is ∙ stop_at item kind s key whole ok spot at rest p.focus id stop p.stops (ap node_of is)) reads
+
+  passes : Passes item rest r.label []
+  passes = here_passes item kind s key whole ok spot at rest id r.label id stop (subst (λ (q : Plan V). Stops item q rest stop) there.is p.stops) (ap node_of is)
+
+  abbrev pub cell : Plan V
+  cell = Cell id r.label r.value there.child there.sibling
+
+  filled : fill p.frames cell ≡ plan_at s.nodes.items s.root
+  filled = ap (fill p.frames) (sym there.is) ∙ p.filled
+
+  holds : Holds s (fill p.frames cell)
+  holds =
+      let same : whole.0 ≡ fill p.frames cell = sym (filled ∙ plan_is s.nodes.items s.root whole.0 whole.1.1.plan_ok) in
+      subst (λ (q : Plan V). Holds s q) same whole.1
+
+  whole_ok' : IsRow item (row (fill p.frames cell))
+  whole_ok' = rw filled ok
+
+  inner_ok : IsRow item (row cell)
+  inner_ok = row-within item p.frames cell whole_ok'
+
+  -- the node stands at its spot
+  pub stands_at : StandsAt item s spot id p.frames r.label r.value there.child there.sibling
+  stands_at = record { spot_is = p.spot_is; holds = holds; row_ok = whole_ok' }
+
+  pub here_is : slice_get s.nodes.items id ≡ Some r
+  here_is = (stands-within s.nodes.items p.frames cell holds.1.plan_ok.stands).0 ∙ ap Some (sym (node_is s.nodes.items id r _ (stands-within s.nodes.items p.frames cell holds.1.plan_ok.stands).0 reads))
+
+  removes : (new : Slots V) (plan : Plan V) → Holds new plan → Gone item (row (fill p.frames cell)) (row plan) key → Removes item s new key
+  removes new plan h gone =
+      let same : plan_at new.nodes.items new.root ≡ plan = plan_is new.nodes.items new.root plan h.1.plan_ok in
+      record {
+        whole = (plan, h);
+        row_ok = rw same gone.row_ok;
+        left_is = ap (λ (q : Plan V). entries (row q)) same ∙ gone.left_is ∙ ap (λ (q : Plan V). others key (entries (row q))) filled;
+      }
+
+  gone_cell : Gone item (row cell) (without_first (row cell)) rest
+  gone_cell = first_gone item kind r.label r.value (row there.child) (row there.sibling) inner_ok rest passes
+
+  -- a node stays in the place
+  removes_in : (new : Slots V) (q : Plan V) → Holds new (fill p.frames q) → without_first (row cell) ≡ row q → 1 + width (row there.sibling) ≤ width (row q) → Removes item s new key
+  removes_in new q h same wide =
+      removes new (fill p.frames q) h (gone-fill item kind p.frames cell q whole_ok' key rest p.leads (omega arith) (subst (λ (x : Row V). Gone item (row cell) x rest) same gone_cell))
+
+  -- a node without value stays as it is
+  pub removes_none : r.value ≡ None → Removes item s s key
+  removes_none none = removes_in s cell holds (first_none r.label r.value (row there.child) (row there.sibling) none) (omega arith)
+
+  -- one with two children loses its value
+  pub removes_value : (new : Slots V) (v : Option V) → v ≡ None → 2 ≤ width (row there.child) → new.nodes.items ≡ set s.nodes.items id (linked r.label v r.child r.sibling) → new.root ≡ s.root → new.free ≡ s.free → Removes item s new key
+  removes_value new v none two nodes_is root_is free_is =
+      let held = holds_write s id r reads p.frames r.label r.label r.value v there.child there.sibling holds in
+      removes_in new (Cell id r.label None there.child there.sibling) (rw (nodes_is, root_is, free_is, ← none) held) (more (row there.child) two) (omega arith)
+    where
+      more : (c : Row V) → 2 ≤ width c → without_first (node r.label r.value c (row there.sibling)) ≡ node r.label None c (row there.sibling)
+      more end two = absurd (omega arith)
+      more (node m w d end) two = absurd (omega arith)
+      more (node m w d (node m' w' d' t)) two = first_more r.label r.value m w d m' w' d' t (row there.sibling)
+
+  module _ (valued : r.value ≡ None → ⊥) where
+    -- one with one child takes it in
+    module _ (k : ℕ) (m : List ℕ) (w : Option V) (e : Plan V) (child_is : there.child ≡ Cell k m w e Nil) where
+      abbrev lone_cell : Plan V
+      lone_cell = Cell id r.label r.value (Cell k m w e Nil) there.sibling
+
+      cell_is : cell ≡ lone_cell
+      cell_is = ap (λ c. Cell id r.label r.value c there.sibling) child_is
+
+      pub has_lone : HasLone s id k
+      has_lone = (p.frames, r.label, r.value, m, w, e, there.sibling, subst (λ (q : Plan V). Holds s (fill p.frames q)) cell_is holds)
+
+      pub removes_lone : (new : Slots V) (joined : List ℕ) (taken : Option V) → joined ≡ r.label ++ m → Absorbs s new id k joined taken → Removes item s new key
+      removes_lone new joined taken is absorbs =
+          removes_in new (Cell id (r.label ++ m) w e there.sibling)
+          (rw (← is) (absorbs p.frames r.label r.value m w e there.sibling (subst (λ (q : Plan V). Holds s (fill p.frames q)) cell_is holds)).0)
+          (ap (λ (q : Plan V). without_first (row q)) cell_is ∙ first_lone r.label r.value m w (row e) (row there.sibling) valued)
+          (omega arith)
+
+      pub joins_here : Joins item (keys_of (entries_of s)) key
+      joins_here =
+          subst (λ (q : Plan V). Joins item (keys_of (entries (row q))) key) filled
+          (joins-fill item kind p.frames cell whole_ok' key rest p.leads
+          (subst (λ (q : Plan V). Joins item (keys_of (entries (row q))) rest) (sym cell_is)
+          (joins_lone item kind r.label r.value (node m w (row e) end) (row there.sibling) (subst (λ (q : Plan V). IsRow item (row q)) cell_is inner_ok) rest [] passes refl (lone_parent r.label r.value m w (row e) (row there.sibling) valued))))
+
+    -- a leaf goes
+    module _ (child_is : there.child ≡ Nil) where
+      abbrev leaf_cell : Plan V
+      leaf_cell = Cell id r.label r.value Nil there.sibling
+
+      leaf_is : cell ≡ leaf_cell
+      leaf_is = ap (λ c. Cell id r.label r.value c there.sibling) child_is
+
+      leaf_holds : Holds s (fill p.frames leaf_cell)
+      leaf_holds = subst (λ (q : Plan V). Holds s (fill p.frames q)) leaf_is holds
+
+      leaf_ok : IsRow item (row (fill p.frames leaf_cell))
+      leaf_ok = subst (λ (q : Plan V). IsRow item (row (fill p.frames q))) leaf_is whole_ok'
+
+      gone_leaf : without_first (node r.label r.value end (row there.sibling)) ≡ row there.sibling
+      gone_leaf = first_leaf r.label r.value (row there.sibling) valued
+
+      pub has_leaf : HasLeafAt s spot id
+      has_leaf = (p.frames, r.label, r.value, there.sibling, p.spot_is, leaf_holds)
+
+      pub removes_leaf : (new : Slots V) (taken : Option V) → Unlinks s new spot id taken → Spares p.frames there.sibling → Removes item s new key
+      removes_leaf new taken unlinks spares =
+          removes new (fill p.frames there.sibling) (unlinks p.frames r.label r.value there.sibling p.spot_is leaf_holds).0
+          (spared-fill item kind p.frames cell there.sibling whole_ok' key rest p.leads spares
+          (subst (λ (x : Row V). Gone item (row cell) x rest) (ap (λ (q : Plan V). without_first (row q)) leaf_is ∙ gone_leaf) gone_cell))
+
+      -- and the node above takes in the other child
+      module _ (u o : ℕ) (left : LeavesOther p.frames there.sibling u o) where
+        left_is : fill p.frames there.sibling ≡ fill left.outer (Cell u left.label None (Cell o left.inner left.own left.below Nil) left.beside)
+        left_is = left_plan item kind id u o r.label r.value key rest passes p.frames there.sibling p.leads leaf_ok gone_leaf left
+
+        pub joins_left : Joins item (keys_of (entries_of s)) key
+        joins_left =
+            subst (λ (q : Plan V). Joins item (keys_of (entries (row q))) key) (ap (fill p.frames) (sym leaf_is) ∙ filled)
+            (alone_joins item kind id u o r.label r.value key rest passes p.frames there.sibling p.leads leaf_ok gone_leaf left)
+
+        module _ (mid : Slots V) (taken : Option V) (unlinks : Unlinks s mid spot id taken) where
+          mid_holds : Holds mid (fill left.outer (Cell u left.label None (Cell o left.inner left.own left.below Nil) left.beside))
+          mid_holds = subst (λ (q : Plan V). Holds mid q) left_is (unlinks p.frames r.label r.value there.sibling p.spot_is leaf_holds).0
+
+          pub mid_lone : HasLone mid u o
+          mid_lone = (left.outer, left.label, None, left.inner, left.own, left.below, left.beside, mid_holds)
+
+          pub removes_left : (new : Slots V) (joined : List ℕ) (none : Option V) → joined ≡ left.label ++ left.inner → Absorbs mid new u o joined none → Removes item s new key
+          removes_left new joined none is absorbs =
+              removes new (fill left.outer (Cell u (left.label ++ left.inner) left.own left.below left.beside))
+              (rw (← is) (absorbs left.outer left.label None left.inner left.own left.below left.beside mid_holds).0)
+              (subst (λ (q : Plan V). Gone item (row (fill p.frames q)) (row (fill left.outer (Cell u (left.label ++ left.inner) left.own left.below left.beside))) key) (sym leaf_is)
+              (alone_gone item kind id u o r.label r.value key rest passes p.frames there.sibling p.leads leaf_ok gone_leaf left))
