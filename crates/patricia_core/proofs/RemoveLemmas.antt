@@ -2,7 +2,7 @@
 use Rattle.std.proofs.Common.{◌≡◌, ◌≢◌, ◌⊎◌, inl, inr, ℕ, suc, ◌+◌, ◌<◌, ◌≤◌, List, [], ◌∷◌, ◌++◌, length, set, Option, Some, None, get_or, slice_get, refl, sym, ap, subst, ◌∙◌, arith}
 use Rattle.std.proofs.lemmas.List.{append-nil}
 use Rattle.std.proofs.lemmas.Option.{slice_get_within, get_or_from_slice_get}
-use Rattle.std.specs.FinMap.{find}
+use Rattle.std.specs.Prelude.{Result, Ok, Err, OnErr}
 use Rattle.patricia_core.specs.declared.slots.Node.{Node}
 use Rattle.patricia_core.specs.declared.slots.Slots.{Slots}
 use Rattle.patricia_core.specs.declared.slots.seek.Spot.{Spot}
@@ -13,9 +13,10 @@ use Rattle.patricia_core.specs.Rows.{Row, end, node, entries, keys_of, IsRow}
 use Rattle.patricia_core.specs.Points.{Joins}
 use Rattle.patricia_core.specs.Meeting.{Passes}
 use Rattle.patricia_core.specs.Removals.{others, width, without_first, IsLoneParent}
-use Rattle.patricia_core.specs.Plans.{Plan, Nil, Cell, linked, head, row, Stands, Holds, IsWhole, plan_at, row_of, entries_of}
+use Rattle.patricia_core.specs.Plans.{Plan, Nil, Cell, linked, head, row, Stands, IsPlan, Holds, IsWhole, plan_at, row_of, entries_of}
 use Rattle.patricia_core.specs.Places.{Frame, InChild, InSibling, fill, spot_of, node_of, Leads, Stops, Placed}
-use Rattle.patricia_core.specs.Frees.{Unlinks, Absorbs, HasLeafAt, HasLone, Spares, LeavesOther, StandsAt, Removes}
+use Rattle.patricia_core.specs.Frees.{Unlinks, Absorbs, HasLeafAt, HasLone, Spares, LeavesOther, LeftAlone, StandsAt, HasNodeAt, IsLeaf, IsValued, HasValue, IsJoined, Removes}
+use Rattle.patricia_core.proofs.AloneLemmas.{plan_end}
 use Rattle.patricia_core.proofs.PlanLemmas.{plan_is, node_is}
 use Rattle.patricia_core.proofs.FillLemmas.{row-within, stands-within}
 use Rattle.patricia_core.proofs.AddLemmas.{holds_write}
@@ -112,6 +113,19 @@ module _ (item : List ℕ → Type 0) (kind : IsKeyKind item) {V : Type 0} where
 
     upper_ok : IsRow item (node left.label None (row inside.old) (row left.beside))
     upper_ok = row-within item left.outer (Cell u left.label None inside.old left.beside) whole_ok
+
+    -- both are in the vector, with their labels
+    pub labels_are : (nodes : List (Node V)) → Stands nodes (fill fs (Cell id l x Nil d)) → ((n : Node V) × (slice_get nodes u ≡ Some n) × (n.label ≡ left.label)) × ((m : Node V) × (slice_get nodes o ≡ Some m) × (m.label ≡ left.inner))
+    labels_are nodes stands = elim left.stands [
+      | inl e ↦
+          let all : Stands nodes (fill left.outer (Cell u left.label None (Cell id l x Nil lone) left.beside)) = rw (e.0, e.1) at stands in
+          let at = stands-within nodes left.outer (Cell u left.label None (Cell id l x Nil lone) left.beside) all in
+          ((linked left.label None (Some id) (head left.beside), at.0, refl), (linked left.inner left.own (head left.below) None, at.1.2.0, refl))
+      | inr e ↦
+          let all : Stands nodes (fill left.outer (Cell u left.label None (Cell o left.inner left.own left.below (Cell id l x Nil Nil)) left.beside)) = rw (e.0, e.1) at stands in
+          let at = stands-within nodes left.outer (Cell u left.label None (Cell o left.inner left.own left.below (Cell id l x Nil Nil)) left.beside) all in
+          ((linked left.label None (Some o) (head left.beside), at.0, refl), (linked left.inner left.own (head left.below) (Some id), at.1.0, refl))
+    ]
 
     pub alone_gone : Gone item (row (fill fs (Cell id l x Nil d))) (row (fill left.outer after)) key
     alone_gone =
@@ -244,6 +258,9 @@ module _ (item : List ℕ → Type 0) (kind : IsKeyKind item) {V : Type 0} (s : 
         left_is : fill p.frames there.sibling ≡ fill left.outer (Cell u left.label None (Cell o left.inner left.own left.below Nil) left.beside)
         left_is = left_plan item kind id u o r.label r.value key rest passes p.frames there.sibling p.leads leaf_ok gone_leaf left
 
+        pub labels_left : ((n : Node V) × (slice_get s.nodes.items u ≡ Some n) × (n.label ≡ left.label)) × ((m : Node V) × (slice_get s.nodes.items o ≡ Some m) × (m.label ≡ left.inner))
+        labels_left = labels_are item kind id u o r.label r.value key rest passes p.frames there.sibling p.leads leaf_ok gone_leaf left s.nodes.items leaf_holds.1.plan_ok.stands
+
         pub joins_left : Joins item (keys_of (entries_of s)) key
         joins_left =
             subst (λ (q : Plan V). Joins item (keys_of (entries (row q))) key) (ap (fill p.frames) (sym leaf_is) ∙ filled)
@@ -262,3 +279,85 @@ module _ (item : List ℕ → Type 0) (kind : IsKeyKind item) {V : Type 0} (s : 
               (rw (← is) (absorbs left.outer left.label None left.inner left.own left.below left.beside mid_holds).0)
               (subst (λ (q : Plan V). Gone item (row (fill p.frames q)) (row (fill left.outer (Cell u (left.label ++ left.inner) left.own left.below left.beside))) key) (sym leaf_is)
               (alone_gone item kind id u o r.label r.value key rest passes p.frames there.sibling p.leads leaf_ok gone_leaf left))
+
+module _ (item : List ℕ → Type 0) (kind : IsKeyKind item) {V : Type 0} (s : Slots V) (key : List ℕ) (whole : IsWhole s) (ok : IsRow item (row_of s)) (spot : Spot) (at : Option ℕ) (rest : List ℕ) (stop : Stop) (p : Placed item s key spot at rest stop) (id : ℕ) (is : stop ≡ Here id) where
+  -- the node of the key can be read
+  pub node_here : (r : Node V) × (r ≡ get_or s.nodes.items id r)
+  node_here = by p.focus (focus_plan_at item kind s key whole ok spot at rest stop p) (p.at_is ∙ stop_at item kind s key whole ok spot at rest p.focus id stop p.stops (ap node_of is))
+    where
+      by : (q : Plan V) → IsPlan s.nodes.items at q → at ≡ Some id → (r : Node V) × (r ≡ get_or s.nodes.items id r)
+      by Nil w e = let h = w.at_is in absurd (cc)
+      by (Cell i l v c d) w e =
+          let same : i ≡ id = let h = w.at_is in cc in
+          let n = linked l v (head c) (head d) in
+          (n, sym (get_or_from_slice_get s.nodes.items id n n (ap (slice_get s.nodes.items) (sym same) ∙ w.stands.0)))
+
+-- the value of a node that is there
+value_is : {V : Type 0} (nodes : List (Node V)) (id : ℕ) (n : Node V) (l : List ℕ) (v : Option V) (c d : Option ℕ) → slice_get nodes id ≡ Some n → slice_get nodes id ≡ Some (linked l v c d) → v ≡ n.value
+value_is nodes id n l v c d there is = let same : linked l v c d ≡ n = cc in ap (λ (m : Node _). m.value) same
+
+-- a leaf with a value at the place of a key
+module _ (item : List ℕ → Type 0) (kind : IsKeyKind item) {V : Type 0} (s : Slots V) (key : List ℕ) (whole : IsWhole s) (ok : IsRow item (row_of s)) (spot : Spot) (at : Option ℕ) (rest : List ℕ) (stop : Stop) (p : Placed item s key spot at rest stop) (id : ℕ) (is : stop ≡ Here id) (leaf : IsLeaf s id) (valued : IsValued s id) where
+  abbrev pub r : Node V
+  r = (node_here item kind s key whole ok spot at rest stop p id is).0
+
+  abbrev pub reads : r ≡ get_or s.nodes.items id r
+  reads = (node_here item kind s key whole ok spot at rest stop p id is).1
+
+  abbrev pub around : Opened s.nodes.items p.focus id r
+  around = there item kind s key whole ok spot at rest stop p id is r reads
+
+  pub at_id : slice_get s.nodes.items id ≡ Some r
+  at_id = here_is item kind s key whole ok spot at rest stop p id is r reads
+
+  pub no_child : around.child ≡ Nil
+  no_child = plan_end s.nodes.items r.child around.child around.child_plan (leaf r at_id)
+
+  pub has_value : r.value ≡ None → ⊥
+  has_value = valued r at_id
+
+  pub leaf_stands : HasNodeAt item s spot id
+  leaf_stands = (p.frames, r.label, r.value, around.child, around.sibling, stands_at item kind s key whole ok spot at rest stop p id is r reads)
+
+  pub leaf_at : HasLeafAt s spot id
+  leaf_at = has_leaf item kind s key whole ok spot at rest stop p id is r reads has_value no_child
+
+  -- its value is what is taken
+  pub leaf_value : (new : Slots V) (taken : Option V) → Unlinks s new spot id taken → HasValue s id taken
+  leaf_value new taken unlinks n there =
+      (unlinks leaf_at.0 leaf_at.1 leaf_at.2 leaf_at.3 leaf_at.4 leaf_at.5).1
+      ∙ value_is s.nodes.items id n leaf_at.1 leaf_at.2 None (head leaf_at.3) there (stands-within s.nodes.items leaf_at.0 (Cell id leaf_at.1 leaf_at.2 Nil leaf_at.3) leaf_at.5.1.plan_ok.stands).0
+
+  -- the node above keeps its place
+  pub leaf_spared : (new : Slots V) (taken : Option V) → LeftAlone item s spot id None → Unlinks s new spot id taken → Removes item s new key
+  leaf_spared new taken alone unlinks =
+      removes_leaf item kind s key whole ok spot at rest stop p id is r reads has_value no_child new taken unlinks
+      (alone p.frames r.label r.value around.child around.sibling (stands_at item kind s key whole ok spot at rest stop p id is r reads))
+
+  -- or takes in the other child
+  module _ (u o : ℕ) (alone : LeftAlone item s spot id (Some (u, o))) where
+    abbrev pub left : LeavesOther p.frames around.sibling u o
+    left = alone p.frames r.label r.value around.child around.sibling (stands_at item kind s key whole ok spot at rest stop p id is r reads)
+
+    abbrev labels : ((n : Node V) × (slice_get s.nodes.items u ≡ Some n) × (n.label ≡ left.label)) × ((m : Node V) × (slice_get s.nodes.items o ≡ Some m) × (m.label ≡ left.inner))
+    labels = labels_left item kind s key whole ok spot at rest stop p id is r reads has_value no_child u o left
+
+    pub both_within : (u < length s.nodes.items) × (o < length s.nodes.items)
+    both_within = (slice_get_within s.nodes.items u _ labels.0.1, slice_get_within s.nodes.items o _ labels.1.1)
+
+    pub leaf_joins : Joins item (keys_of (entries_of s)) key
+    leaf_joins = joins_left item kind s key whole ok spot at rest stop p id is r reads has_value no_child u o left
+
+    module _ (mid : Slots V) (taken : Option V) (unlinks : Unlinks s mid spot id taken) where
+      pub leaf_lone : HasLone mid u o
+      leaf_lone = mid_lone item kind s key whole ok spot at rest stop p id is r reads has_value no_child u o left mid taken unlinks
+
+      pub leaf_left : (new : Slots V) (joined : List ℕ) (none : Option V) → IsJoined s u o joined → Absorbs mid new u o joined none → Removes item s new key
+      leaf_left new joined none is_joined absorbs =
+          removes_left item kind s key whole ok spot at rest stop p id is r reads has_value no_child u o left mid taken unlinks new joined none
+          (is_joined labels.0.0 labels.1.0 labels.0.1 labels.1.1 ∙ ap (λ k. k ++ labels.1.0.label) labels.0.2 ∙ ap (λ k. left.label ++ k) labels.1.2) absorbs
+
+-- what holds in any case, holds on an error
+pub on_err_from : {T E P : Type 0} (r : Result T E) → P → OnErr r P
+on_err_from (Ok x) p = tt
+on_err_from (Err e) p = p

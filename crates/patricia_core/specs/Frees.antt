@@ -1,5 +1,5 @@
 -- What is left of nodes in one vector where a node is freed.
-use Rattle.std.specs.Prelude.{◌≡◌, ◌⊎◌, ℕ, ◌≤◌, List, [], ◌∷◌, ◌++◌, Option, Some, None, MatchOption, slice_get, slice_set}
+use Rattle.std.specs.Prelude.{◌≡◌, ◌≢◌, ◌⊎◌, ℕ, ◌≤◌, List, [], ◌∷◌, ◌++◌, Option, Some, None, MatchOption, slice_get, slice_set}
 use Rattle.patricia_core.specs.declared.slots.Node.{Node}
 use Rattle.patricia_core.specs.declared.slots.Slots.{Slots}
 use Rattle.patricia_core.specs.declared.slots.seek.Spot.{Spot}
@@ -52,6 +52,10 @@ module _ {V : Type 0} where
   -- the node has no children
   abbrev pub IsLeaf : Slots V → ℕ → Type 0
   IsLeaf s id = (n : Node V) → slice_get s.nodes.items id ≡ Some n → n.child ≡ None
+
+  -- it has a value
+  abbrev pub IsValued : Slots V → ℕ → Type 0
+  IsValued s id = (n : Node V) → slice_get s.nodes.items id ≡ Some n → n.value ≢ None
 
   -- this is its value
   abbrev pub HasValue : Slots V → ℕ → Option V → Type 0

@@ -8,7 +8,7 @@ ghost use Rattle.patricia_core.specs.Rows.{IsRow, keys_of};
 ghost use Rattle.patricia_core.specs.declared.slots.seek.Stop.TheVariants.{Here};
 ghost use Rattle.patricia_core.specs.Plans.{Plan, IsPlan, IsWhole, row, row_of, entries_of};
 ghost use Rattle.patricia_core.specs.Writes.{Ready};
-ghost use Rattle.patricia_core.specs.Frees.{Frees, HasLeafAt, Unlinks, HasLone, Absorbs, IsJoined, IsPair, HasNodeAt, LeftAlone, IsLeaf, HasValue, RemovesAt, JoinsAt};
+ghost use Rattle.patricia_core.specs.Frees.{Frees, HasLeafAt, Unlinks, HasLone, Absorbs, IsJoined, IsPair, HasNodeAt, LeftAlone, IsLeaf, IsValued, HasValue, RemovesAt, JoinsAt};
 
 use crate::keys::{BorrowedBytes, Bytes};
 use crate::label::Label;
@@ -120,6 +120,7 @@ impl<V: Drop> Slots<V> {
         requires ready { Ready Q.Owned.item Q.key self.old place.now }
         requires here { place.now.stop ≡ Here id }
         requires leaf { IsLeaf self.old id }
+        requires valued { IsValued self.old id }
         ensures ok { OnOk result (RemovesAt Q.Owned.item Q.key self.old self.new place.now) }
         ensures value { IfOk result (λ taken. HasValue self.old id taken) }
         ensures unchanged { OnErr result (self.new ≡ self.old) }

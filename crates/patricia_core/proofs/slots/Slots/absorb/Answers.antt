@@ -1,4 +1,4 @@
-use Rattle.std.proofs.Common.{length, ap, ◌∙◌, refl, arith, length-set}
+use Rattle.std.proofs.Common.{length, ap, ◌∙◌, arith, length-set}
 use Rattle.patricia_core.proofs.FreeLemmas.{lone_within, absorbs}
 use Rattle.patricia_core.proofs.slots.Slots.absorb.Goals as goal
 

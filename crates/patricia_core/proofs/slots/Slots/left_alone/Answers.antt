@@ -1,4 +1,4 @@
-use Rattle.std.proofs.Common.{refl, sym, ap, ◌∙◌, arith}
+use Rattle.std.proofs.Common.{sym, ◌∙◌, arith}
 use Rattle.patricia_core.proofs.PutLemmas.{not_some}
 use Rattle.patricia_core.proofs.AloneLemmas.{some_not_none, alone_top, upper_within, inside, inside_plan, alone_valued, alone_more, alone_first, alone_second}
 use Rattle.patricia_core.proofs.slots.Slots.left_alone.Goals as goal

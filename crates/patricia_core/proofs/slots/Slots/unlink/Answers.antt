@@ -1,4 +1,4 @@
-use Rattle.std.proofs.Common.{refl, sym, ap, ◌∙◌, arith}
+use Rattle.std.proofs.Common.{arith}
 use Rattle.patricia_core.proofs.AddLemmas.{spot_longer}
 use Rattle.patricia_core.proofs.FreeLemmas.{leaf_within, spot_of_leaf, unlinks}
 use Rattle.patricia_core.proofs.slots.Slots.unlink.Goals as goal
