@@ -2,7 +2,8 @@
 use Rattle.std.proofs.Common.{◌≡◌, ◌≢◌, ◌⊎◌, inl, inr, ℕ, suc, ◌+◌, ◌<◌, ◌≤◌, List, [], ◌∷◌, ◌++◌, length, set, Option, Some, None, get_or, slice_get, refl, sym, ap, subst, ◌∙◌, arith}
 use Rattle.std.proofs.lemmas.List.{append-nil}
 use Rattle.std.proofs.lemmas.Option.{slice_get_within, get_or_from_slice_get}
-use Rattle.std.specs.Prelude.{Result, Ok, Err, OnErr}
+use Rattle.std.specs.Prelude.{Result, Ok, Err, OnErr, true, is_some}
+use mathlib.Core.Bool.{false≢true}
 use Rattle.patricia_core.specs.declared.slots.Node.{Node}
 use Rattle.patricia_core.specs.declared.slots.Slots.{Slots}
 use Rattle.patricia_core.specs.declared.slots.seek.Spot.{Spot}
@@ -16,11 +17,11 @@ use Rattle.patricia_core.specs.Removals.{others, width, without_first, IsLonePar
 use Rattle.patricia_core.specs.Plans.{Plan, Nil, Cell, linked, head, row, Stands, IsPlan, Holds, IsWhole, plan_at, row_of, entries_of}
 use Rattle.patricia_core.specs.Places.{Frame, InChild, InSibling, fill, spot_of, node_of, Leads, Stops, Placed}
 use Rattle.patricia_core.specs.Frees.{Unlinks, Absorbs, HasLeafAt, HasLone, Spares, LeavesOther, LeftAlone, StandsAt, HasNodeAt, IsLeaf, IsValued, HasValue, IsJoined, Removes}
-use Rattle.patricia_core.proofs.AloneLemmas.{plan_end}
+use Rattle.patricia_core.proofs.AloneLemmas.{plan_end, plan_more}
 use Rattle.patricia_core.proofs.PlanLemmas.{plan_is, node_is}
 use Rattle.patricia_core.proofs.FillLemmas.{row-within, stands-within}
 use Rattle.patricia_core.proofs.AddLemmas.{holds_write}
-use Rattle.patricia_core.proofs.SeekLemmas.{Opened, opened, place_row, focus_plan_at, stop_at, here_passes, find_some}
+use Rattle.patricia_core.proofs.SeekLemmas.{Opened, opened, head_within, place_row, focus_plan_at, stop_at, here_passes, find_some}
 use Rattle.patricia_core.proofs.TakeLemmas.{Gone, gone_past, gone_joined, gone-fill, spared-fill, joins-fill}
 use Rattle.patricia_rows.proofs.RemovalLemmas.{row_first_removed, entries_first_removed}
 use Rattle.patricia_rows.proofs.JoinLemmas.{joins_lone, joins_alone}
@@ -178,6 +179,30 @@ module _ (item : List ℕ → Type 0) (kind : IsKeyKind item) {V : Type 0} (s : 
         left_is = ap (λ (q : Plan V). entries (row q)) same ∙ gone.left_is ∙ ap (λ (q : Plan V). others key (entries (row q))) filled;
       }
 
+  -- whatever is read there is this node
+  pub read_is : (n : Node V) → slice_get s.nodes.items id ≡ Some n → r ≡ n
+  read_is n at = let here = here_is in cc
+
+  -- its children, as the first of them is read
+  module _ (k : ℕ) (child_is : r.child ≡ Some k) where
+    pub child_within : k < length s.nodes.items
+    child_within = head_within s.nodes.items r.child there.child k there.child_plan child_is
+
+    module _ (m : Node V) (reads_child : m ≡ get_or s.nodes.items k m) where
+      pub first_child : Opened s.nodes.items there.child k m
+      first_child = opened s.nodes.items r.child there.child k m there.child_plan child_is reads_child
+
+      pub child_there : slice_get s.nodes.items k ≡ Some m
+      child_there =
+          let at = (subst (λ (q : Plan V). Stands s.nodes.items q) first_child.is there.child_plan.stands).0 in
+          at ∙ ap Some (sym (node_is s.nodes.items k m _ at reads_child))
+
+      pub two_children : (j : ℕ) → m.sibling ≡ Some j → 2 ≤ width (row there.child)
+      two_children j next = let more = plan_more s.nodes.items m.sibling first_child.sibling j first_child.sibling_plan next in omega (arith, ap (λ (q : Plan V). width (row q)) first_child.is)
+
+      pub lone_child : m.sibling ≡ None → there.child ≡ Cell k m.label m.value first_child.child Nil
+      lone_child last = first_child.is ∙ ap (Cell k m.label m.value first_child.child) (plan_end s.nodes.items m.sibling first_child.sibling first_child.sibling_plan last)
+
   gone_cell : Gone item (row cell) (without_first (row cell)) rest
   gone_cell = first_gone item kind r.label r.value (row there.child) (row there.sibling) inner_ok rest passes
 
@@ -191,8 +216,9 @@ module _ (item : List ℕ → Type 0) (kind : IsKeyKind item) {V : Type 0} (s : 
   removes_none none = removes_in s cell holds (first_none r.label r.value (row there.child) (row there.sibling) none) (omega arith)
 
   -- one with two children loses its value
-  pub removes_value : (new : Slots V) (v : Option V) → v ≡ None → 2 ≤ width (row there.child) → new.nodes.items ≡ set s.nodes.items id (linked r.label v r.child r.sibling) → new.root ≡ s.root → new.free ≡ s.free → Removes item s new key
-  removes_value new v none two nodes_is root_is free_is =
+  pub removes_value : (new : Slots V) (v : Option V) → v ≡ None → 2 ≤ width (row there.child) → (n : Node V) → n ≡ get_or s.nodes.items id n → new.nodes.items ≡ set s.nodes.items id (linked n.label v n.child n.sibling) → new.root ≡ s.root → new.free ≡ s.free → Removes item s new key
+  removes_value new v none two n reads_n written root_is free_is =
+      let nodes_is : new.nodes.items ≡ set s.nodes.items id (linked r.label v r.child r.sibling) = rw (← node_is s.nodes.items id n r here_is reads_n) written in
       let held = holds_write s id r reads p.frames r.label r.label r.value v there.child there.sibling holds in
       removes_in new (Cell id r.label None there.child there.sibling) (rw (nodes_is, root_is, free_is, ← none) held) (more (row there.child) two) (omega arith)
     where
@@ -219,6 +245,10 @@ module _ (item : List ℕ → Type 0) (kind : IsKeyKind item) {V : Type 0} (s : 
           (rw (← is) (absorbs p.frames r.label r.value m w e there.sibling (subst (λ (q : Plan V). Holds s (fill p.frames q)) cell_is holds)).0)
           (ap (λ (q : Plan V). without_first (row q)) cell_is ∙ first_lone r.label r.value m w (row e) (row there.sibling) valued)
           (omega arith)
+
+      pub lone_value : (new : Slots V) (joined : List ℕ) (taken : Option V) → Absorbs s new id k joined taken → HasValue s id taken
+      lone_value new joined taken absorbs n at_n =
+          (absorbs p.frames r.label r.value m w e there.sibling (subst (λ (q : Plan V). Holds s (fill p.frames q)) cell_is holds)).1 ∙ ap (λ (x : Node V). x.value) (read_is n at_n)
 
       pub joins_here : Joins item (keys_of (entries_of s)) key
       joins_here =
@@ -361,3 +391,8 @@ module _ (item : List ℕ → Type 0) (kind : IsKeyKind item) {V : Type 0} (s : 
 pub on_err_from : {T E P : Type 0} (r : Result T E) → P → OnErr r P
 on_err_from (Ok x) p = tt
 on_err_from (Err e) p = p
+
+-- a link that is there is some number
+pub some_number : {A : Type 0} (o : Option A) → is_some o ≡ true → (x : A) × (o ≡ Some x)
+some_number None e = absurd (false≢true e)
+some_number (Some x) e = (x, refl)
