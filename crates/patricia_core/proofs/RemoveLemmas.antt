@@ -2,13 +2,13 @@
 use Rattle.std.proofs.Common.{◌≡◌, ◌≢◌, ◌⊎◌, inl, inr, ℕ, suc, ◌+◌, ◌<◌, ◌≤◌, List, [], ◌∷◌, ◌++◌, length, set, Option, Some, None, get_or, slice_get, refl, sym, ap, subst, ◌∙◌, arith}
 use Rattle.std.proofs.lemmas.List.{append-nil}
 use Rattle.std.proofs.lemmas.Option.{slice_get_within, get_or_from_slice_get}
-use Rattle.std.specs.Prelude.{Result, Ok, Err, OnErr, true, is_some}
+use Rattle.std.specs.Prelude.{Result, Ok, Err, OnOk, OnErr, true, is_some}
 use mathlib.Core.Bool.{false≢true}
 use Rattle.patricia_core.specs.declared.slots.Node.{Node}
 use Rattle.patricia_core.specs.declared.slots.Slots.{Slots}
 use Rattle.patricia_core.specs.declared.slots.seek.Spot.{Spot}
 use Rattle.patricia_core.specs.declared.slots.seek.Stop.{Stop}
-use Rattle.patricia_core.specs.declared.slots.seek.Stop.TheVariants.{Here}
+use Rattle.patricia_core.specs.declared.slots.seek.Stop.TheVariants.{Gap, Within, Here}
 use Rattle.patricia_core.specs.Keys.{IsKeyKind, key_cmp}
 use Rattle.patricia_core.specs.Rows.{Row, end, node, entries, keys_of, IsRow}
 use Rattle.patricia_core.specs.Points.{Joins}
@@ -23,7 +23,7 @@ use Rattle.patricia_core.proofs.FillLemmas.{row-within, stands-within}
 use Rattle.patricia_core.proofs.AddLemmas.{holds_write}
 use Rattle.patricia_core.proofs.SeekLemmas.{Opened, opened, head_within, place_row, focus_plan_at, stop_at, here_passes, find_some}
 use Rattle.patricia_core.proofs.TakeLemmas.{Gone, gone_past, gone_joined, gone-fill, spared-fill, joins-fill}
-use Rattle.patricia_rows.proofs.RemovalLemmas.{row_first_removed, entries_first_removed}
+use Rattle.patricia_rows.proofs.RemovalLemmas.{others_before, others_within, row_first_removed, entries_first_removed}
 use Rattle.patricia_rows.proofs.JoinLemmas.{joins_lone, joins_alone}
 
 -- the label of the first node is the key
@@ -396,3 +396,29 @@ on_err_from (Err e) p = p
 pub some_number : {A : Type 0} (o : Option A) → is_some o ≡ true → (x : A) × (o ≡ Some x)
 some_number None e = absurd (false≢true e)
 some_number (Some x) e = (x, refl)
+
+-- a key that is not there
+module _ (item : List ℕ → Type 0) (kind : IsKeyKind item) {V : Type 0} where
+  absent : (focus : Plan V) → IsRow item (row focus) → (rest : List ℕ) (stop : Stop) → Stops item focus rest stop → node_of stop ≡ None → others rest (entries (row focus)) ≡ entries (row focus)
+  absent Nil ok rest stop h none = refl
+  absent (Cell id l v c d) ok rest Gap h none = others_before item kind l v (row c) (row d) ok rest h
+  absent (Cell id l v c d) ok rest (Within i n) h none = others_within item kind l v (row c) (row d) ok rest n h.1
+  absent (Cell id l v c d) ok rest (Here i) h none = absurd (cc)
+
+  pub others_none : (s : Slots V) (key : List ℕ) (whole : IsWhole s) (ok : IsRow item (row_of s)) (spot : Spot) (at : Option ℕ) (rest : List ℕ) (stop : Stop) → (p : Placed item s key spot at rest stop) → node_of stop ≡ None → entries_of s ≡ others key (entries_of s)
+  others_none s key whole ok spot at rest stop p none =
+      let around = place_row item kind s key whole ok spot at rest stop p in
+      let inner = row-within item p.frames p.focus around in
+      let gone = gone-fill item kind p.frames p.focus p.focus around key rest p.leads (omega arith) (record { row_ok = inner; left_is = sym (absent p.focus inner rest stop p.stops none) }) in
+      subst (λ (q : Plan V). entries (row q) ≡ others key (entries (row q))) p.filled gone.left_is
+
+-- what holds after a value was taken out, or not
+pub removed_or_same : (item : List ℕ → Type 0) {T E : Type 0} (r : Result T E) {V : Type 0} (old new : Slots V) (key : List ℕ) → OnOk r (Removes item old new key) → OnErr r (new ≡ old) → IsWhole old → IsRow item (row_of old) → IsWhole new × IsRow item (row_of new)
+removed_or_same item (Ok y) old new key ok err whole row_ok = (ok.whole, ok.row_ok)
+removed_or_same item (Err e) old new key ok err whole row_ok = rw err (whole, row_ok)
+
+-- a look-up that ends at a node ends at that node
+pub here_stop : (stop : Stop) (id : ℕ) → node_of stop ≡ Some id → stop ≡ Here id
+here_stop Gap id e = absurd (cc)
+here_stop (Within i n) id e = absurd (cc)
+here_stop (Here i) id e = let same : i ≡ id = cc in ap (λ k. Here k) same
