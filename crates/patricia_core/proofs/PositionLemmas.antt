@@ -1,5 +1,5 @@
 -- How the steps of a walk change what it has left of nodes in one vector.
-use Rattle.std.proofs.Common.{◌≡◌, ◌≢◌, ℕ, ◌+◌, ◌<◌, List, [], ◌∷◌, ◌++◌, length, get_or, take, Option, Some, None, slice_get, refl, ap, ◌∙◌, arith}
+use Rattle.std.proofs.Common.{◌≡◌, ◌≢◌, ℕ, ◌+◌, ◌<◌, List, [], ◌∷◌, ◌++◌, length, get_or, take, Option, Some, None, slice_get, refl, sym, ap, ◌∙◌, arith}
 use Rattle.std.proofs.lemmas.List.{map-append}
 use Rattle.patricia_keys.proofs.KeyLemmas.{IsValid-nil}
 use Rattle.patricia_rows.specs.Rows.{node, end, IsRow}
@@ -84,13 +84,14 @@ module _ {V : Type 0} (p q : Position V) (id : ℕ) (n : Node V) (stands : Stand
 
 module _ (item : List ℕ → Type 0) {V : Type 0} where
   -- the step to a node's value and its children, where only that node is written to
-  pub goes_down : (p q : Position V) (id : ℕ) (n : Node V) → IsPosition item p → p.due ≡ None → p.next ≡ Some id → n ≡ get_or p.nodes id n
+  pub goes_down : (p q : Position V) (id : ℕ) (n : Node V) (l : List ℕ) (front : ℕ) → IsPosition item p → p.due ≡ None → p.next ≡ Some id → n ≡ get_or p.nodes id n
       → length q.nodes ≡ length p.nodes → ((i : ℕ) → i ≢ id → slice_get q.nodes i ≡ slice_get p.nodes i)
-      → q.path ≡ p.path ++ n.label → q.due ≡ n.value → q.next ≡ n.child → q.stack ≡ p.stack ++ (length p.path, n.sibling) ∷ []
+      → l ≡ n.label → front ≡ length p.path
+      → q.path ≡ p.path ++ l → q.due ≡ n.value → q.next ≡ n.child → q.stack ≡ p.stack ++ (front, n.sibling) ∷ []
       → Goes item p q
-  goes_down p q id n w due next reads long others path due' child stack =
-      let d = down p q id n w.stand next reads long others (length p.path) child stack in
-      record { stand = d.stand; step = step_down item (spot_of p) (spot_of q) n.label n.value _ _ w.spot due d.row_is path due' refl d.stack_is }
+  goes_down p q id n l front w due next reads long others label_is front_is path due' child stack =
+      let d = down p q id n w.stand next reads long others (length p.path) child (rw (sym front_is) stack) in
+      record { stand = d.stand; step = step_down item (spot_of p) (spot_of q) n.label n.value _ _ w.spot due d.row_is (rw (sym label_is) path) due' refl d.stack_is }
 
   -- the step back to the row that waits last
   pub goes_back : (p q : Position V) (n : ℕ) (at : Option ℕ) → IsPosition item p → p.due ≡ None → p.next ≡ None → p.stack ≡ q.stack ++ (n, at) ∷ []

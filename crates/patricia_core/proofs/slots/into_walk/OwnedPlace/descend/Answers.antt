@@ -1,4 +1,4 @@
-use Rattle.std.proofs.Common.{Some, refl, sym, ap, ◌∙◌, ◌++◌, ◌∷◌, [], arith, length-set}
+use Rattle.std.proofs.Common.{refl, arith, length-set, ◌∙◌}
 use Rattle.patricia_core.proofs.PositionLemmas.{goes_down, position_within}
 use Rattle.patricia_core.proofs.WriteLemmas.{get-set_other}
 use Rattle.patricia_core.proofs.slots.into_walk.OwnedPlace.descend.Goals as goal
@@ -10,5 +10,5 @@ index_mut-node-requires g c =
 
 pub returns : goal.returns
 returns g c =
-    let n = c.index_mut-node.result.now in
-    goes_down g.K.Bytes.item _ _ c.index.result n c.requires.position c.requires.taken (c.requires.next ∙ ap Some (sym c.index.ensures)) c.index_mut-node.ensures.value (length-set _ _ _) (λ i k. get-set_other _ c.index.result i _ k) (c.in_ok-extend_from_slice.ensures.items ∙ ap (λ l. c.args.self.now.path.items ++ l) c.as_slice.ensures) c.take.ensures.value refl (c.in_ok-push.ensures.items ∙ ap (λ k. c.args.self.now.stack.items ++ (k, n.sibling) ∷ []) (c.len-front.ensures ∙ c.args.self.now.path.ok.0))
+    let id_is = c.index.ensures in
+    goes_down g.K.Bytes.item _ _ c.index.result c.index_mut-node.result.now _ _ c.requires.position c.requires.taken (rw id_is c.requires.next) c.index_mut-node.ensures.value (length-set _ _ _) (λ i k. get-set_other _ c.index.result i _ k) c.as_slice.ensures (c.len-front.ensures ∙ c.args.self.now.path.ok.0) c.in_ok-extend_from_slice.ensures.items c.take.ensures.value refl c.in_ok-push.ensures.items
