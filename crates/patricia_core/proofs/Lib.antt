@@ -22,6 +22,7 @@ pub mod GrowthLemmas
 pub mod LayLemmas
 pub mod MakeLemmas
 pub mod PlanLemmas
+pub mod PositionLemmas
 pub mod PutLemmas
 pub mod RelayLemmas
 pub mod RemoveLemmas

@@ -2,3 +2,4 @@
 pub mod Lent
 pub mod Nodes
 pub mod Owned
+pub mod Positions

@@ -5,9 +5,13 @@ ghost use Rattle.patricia_core.specs.Rows.{end};
 
 mod growth;
 mod insertion;
+pub mod into_walk;
 mod removal;
 mod room;
 mod seek;
+#[cfg(test)]
+mod tests;
+pub mod walk;
 
 use crate::label::Label;
 use crate::link::Link;
