@@ -3,7 +3,8 @@ use Rattle.std.proofs.Common.{◌≡◌, ℕ, ◌-◌, ◌<◌, ◌≤◌, ◌�
 use Rattle.std.specs.List.{All, concat}
 use Rattle.std.proofs.lemmas.List.Elements.{All-nil, All-append}
 use Rattle.std.specs.declared.cmp.Ordering.TheVariants.{Less, Equal}
-use Rattle.std.specs.Cmp.{tied_itself}
+use Rattle.std.specs.Cmp.{nat_cmp_is, tied_itself}
+use Rattle.std.specs.Ordering.{ordering_then}
 use Rattle.std.specs.Cmp.Lexicographic.{nat_list_cmp_total}
 use Rattle.std.proofs.lemmas.List.{append_assoc, append-nil, append_cancel_left, length-drop, length-take, take-take, take-append-drop, get_or-take, get_or_append_left}
 use Rattle.std.proofs.lemmas.Bool.{cases_lt}
@@ -35,6 +36,12 @@ key_cmp-same a = tied_itself nat_list_cmp_total a
 
 pub key_cmp-irreflexive : (a b : List ℕ) → a ≡ b → key_cmp a b ≡ Less → ⊥
 key_cmp-irreflexive a b same less = let tie = key_cmp-same a in let less' : key_cmp a a ≡ Less = rw (← same) at less in cc
+
+-- lists that differ in their first bytes are ordered by them
+key_cmp-by_first : (i j : List ℕ) → 0 < length i → 0 < length j → get_or i 0 0 < get_or j 0 0 → key_cmp i j ≡ Less
+key_cmp-by_first [] j some other less = absurd (omega arith)
+key_cmp-by_first (x ∷ i) [] some other less = absurd (omega arith)
+key_cmp-by_first (x ∷ i) (y ∷ j) some other less = ap (λ o. ordering_then o (key_cmp i j)) (sym (nat_cmp_is x y Less less))
 
 concat-append : (is js : List (List ℕ)) → concat (is ++ js) ≡ concat is ++ concat js
 concat-append [] js = refl
@@ -76,6 +83,15 @@ module _ (item : List ℕ → Type 0) where
 
     pub begins_same : (i j k : List ℕ) → item i → item j → Begins i k → Begins j k → i ≡ j
     begins_same i j k p q a b = items_same i j a.0 b.0 p q (a.1 ∙ sym b.1)
+
+    -- where the first bytes of two keys differ, they order the first items
+    pub first_bytes_decide : (a b i j : List ℕ) → item i → item j → Begins i a → Begins j b → get_or a 0 0 < get_or b 0 0 → key_cmp i j ≡ Less
+    first_bytes_decide a b i j p q x y less =
+        let some = kind.sized i p in
+        let other = kind.sized j q in
+        let same : get_or a 0 0 ≡ get_or i 0 0 = rw (← x.1) (get_or_append_left i x.0 0 0 (omega arith)) in
+        let same' : get_or b 0 0 ≡ get_or j 0 0 = rw (← y.1) (get_or_append_left j y.0 0 0 (omega arith)) in
+        key_cmp-by_first i j (omega arith) (omega arith) (omega arith)
 
     valid_rest_of : (is js : List (List ℕ)) (b : List ℕ) → AreItems item is → AreItems item js → concat js ≡ concat is ++ b → IsValid item b
     valid_rest_of [] js b p q e = (js, q, e)

@@ -4,6 +4,7 @@ pub mod GetLemmas
 pub mod InsertLemmas
 pub mod JoinLemmas
 pub mod ListLemmas
+pub mod MeetingLemmas
 pub mod MemberLemmas
 pub mod OrderLemmas
 pub mod PointLemmas

@@ -25,16 +25,24 @@ pub fn meet<Q: BorrowedBytes>(key: Q, label: &[u8]) -> Meeting<Q>
     requires key_filled { Q.key key ≢ [] }
     ensures { Meets Q.Owned.item Q.key (Q.key key) label.now result }
 {
+    let first = key.as_bytes()[0];
+    if first < label[0] {
+        return Meeting::Before;
+    }
+    if label[0] < first {
+        return Meeting::After;
+    }
+    let (rest, n) = key.strip_common_prefix_and_len(label);
+    if n == label.len() {
+        return Meeting::Through(rest);
+    }
+    if n > 0 {
+        return Meeting::Into(n);
+    }
+    // two items may begin with the same byte
     match key.cmp_first_item(label) {
         Ordering::Less => Meeting::Before,
         Ordering::Greater => Meeting::After,
-        Ordering::Equal => {
-            let (rest, n) = key.strip_common_prefix_and_len(label);
-            if n < label.len() {
-                Meeting::Into(n)
-            } else {
-                Meeting::Through(rest)
-            }
-        }
+        Ordering::Equal => Meeting::Into(n),
     }
 }

@@ -1,5 +1,6 @@
 //! The text kind: the UTF-8 (RFC 3629) of each character is an item, of 1 to 4 bytes.
-ghost use Rattle.std.specs.Prelude.{◌≡◌, ◌≤◌, length, string_bytes};
+ghost use Rattle.std.specs.Prelude.{◌≡◌, ℕ, ◌≤◌, encode_utf8, length, slice_index, string_bytes};
+ghost use Rattle.std.specs.Char.{IsScalar, len_utf8};
 ghost use Rattle.patricia_keys.specs.Keys.{IsValid, IsFloor, IsFirstItem};
 ghost use Rattle.patricia_keys.specs.TextKind.{IsTextItem};
 ghost use Rattle.patricia_keys.specs.Private.TextLaw.{text_lawful};
@@ -55,15 +56,30 @@ impl Bytes for String {
     ghost lawful = { text_lawful };
 }
 
+// How many bytes a character has whose UTF-8 begins with this byte.
+fn char_len(first: u8) -> usize
+    ensures { (c : ℕ) → IsScalar c → slice_index (encode_utf8 c) 0 ≡ first → result ≡ len_utf8 c }
+{
+    if first < 0xc0 {
+        1
+    } else if first < 0xe0 {
+        2
+    } else if first < 0xf0 {
+        3
+    } else {
+        4
+    }
+}
+
 // The first character, as bytes, or the empty list.
 fn first_item(bytes: &[u8]) -> &[u8]
     requires { IsValid IsTextItem bytes.now }
     ensures { IsFirstItem IsTextItem bytes.now result.now }
 {
-    match text_of(bytes).chars().next() {
-        None => bytes,
-        Some(c) => &bytes[..c.len_utf8()],
+    if bytes.is_empty() {
+        return bytes;
     }
+    &bytes[..char_len(bytes[0])]
 }
 
 impl<'a> BorrowedBytes for &'a str {
@@ -77,8 +93,7 @@ impl<'a> BorrowedBytes for &'a str {
     }
 
     fn strip_common_prefix(self, bytes: &[u8]) -> &'a str {
-        let own = self.as_bytes();
-        let n = text_len(&own[..shared_len(own, bytes)]);
+        let n = self.floor_char_boundary(shared_len(self.as_bytes(), bytes));
         &self[n..]
     }
 

@@ -1,21 +1,40 @@
-use Rattle.patricia_rows.proofs.GetLemmas.{compared_less, compared_greater, compared_equal, common_splits}
+use Rattle.std.proofs.Common.{inl, inr, arith}
+use Rattle.std.proofs.lemmas.Bool.{cases_lt}
+use Rattle.std.proofs.lemmas.List.{nil_from_length}
+use Rattle.patricia_rows.proofs.GetLemmas.{compared_greater, compared_equal, common_splits}
+use Rattle.patricia_rows.proofs.MeetingLemmas.{before_by_first_byte, common-within, shares_common}
 use Rattle.patricia_rows.proofs.meeting.meet.Goals as goal
 
-pub returns-in-Less : goal.returns-in-Less
-returns-in-Less g c = compared_less _ _ _ c.requires.key_filled c.requires.filled c.in-Less.ensures
+pub returns-then-first-label : goal.returns-then-first-label
+returns-then-first-label g c =
+    before_by_first_byte _ g.met.Q.Owned.Bytes.lawful _ _ c.as_bytes.ensures.valid c.requires.valid c.requires.key_filled c.requires.filled (rw c.as_bytes.ensures.value at c.if-first-label.true)
+
+pub returns-then-label-first : goal.returns-then-label-first
+returns-then-label-first g c =
+    before_by_first_byte _ g.met.Q.Owned.Bytes.lawful _ _ c.requires.valid c.as_bytes.ensures.valid c.requires.filled c.requires.key_filled (rw c.as_bytes.ensures.value at c.if-label-first.true)
+
+pub returns-then-n-label : goal.returns-then-n-label
+returns-then-n-label g c =
+    let common = c.strip_common_prefix_and_len-rest.ensures.common in
+    record {
+      shares = elim (cases_lt 0 c.strip_common_prefix_and_len-rest.result.1) [
+        | inl some ↦ shares_common _ _ _ _ common some
+        | inr none ↦ absurd (c.requires.filled (nil_from_length _ (omega arith)))
+      ];
+      splits = rw c.strip_common_prefix_and_len-rest.ensures.rest (common_splits _ _ _ _ common (omega arith));
+    }
+
+pub returns-then-n-gt0 : goal.returns-then-n-gt0
+returns-then-n-gt0 g c =
+    let common = c.strip_common_prefix_and_len-rest.ensures.common in
+    let within = common-within _ _ _ _ common in
+    record { shares = shares_common _ _ _ _ common (omega arith); common = common; short = omega arith }
 
 pub returns-in-Greater : goal.returns-in-Greater
 returns-in-Greater g c = compared_greater _ _ _ c.requires.key_filled c.requires.filled c.in-Greater.ensures
 
-pub returns-then-n-label : goal.returns-then-n-label
-returns-then-n-label g c = record {
-  shares = compared_equal _ _ _ c.requires.key_filled c.requires.filled c.in-Equal.ensures;
-  common = c.strip_common_prefix_and_len-rest.ensures.common;
-  short = c.if-n-label.true;
-}
-
-pub returns-else-n-label : goal.returns-else-n-label
-returns-else-n-label g c = record {
-  shares = compared_equal _ _ _ c.requires.key_filled c.requires.filled c.in-Equal.ensures;
-  splits = rw c.strip_common_prefix_and_len-rest.ensures.rest (common_splits _ _ _ _ c.strip_common_prefix_and_len-rest.ensures.common c.if-n-label.false);
-}
+pub returns-in-Equal : goal.returns-in-Equal
+returns-in-Equal g c =
+    let common = c.strip_common_prefix_and_len-rest.ensures.common in
+    let within = common-within _ _ _ _ common in
+    record { shares = compared_equal _ _ _ c.requires.key_filled c.requires.filled c.in-Equal.ensures; common = common; short = omega arith }

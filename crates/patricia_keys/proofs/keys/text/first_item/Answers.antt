@@ -1,8 +1,15 @@
-use Rattle.std.proofs.Common.{sym, ◌∙◌}
-use Rattle.patricia_keys.proofs.TextLemmas.{valid_text, text_first}
+use Rattle.std.proofs.Common.{◌<◌, length, sym, arith}
+use Rattle.std.proofs.lemmas.Bool.Decides.{nat_tests}
+use Rattle.std.proofs.lemmas.List.{length-take-le}
+use Rattle.patricia_keys.proofs.TextLemmas.{text_first}
 use Rattle.patricia_keys.proofs.keys.text.first_item.Goals as goal
 
-pub returns-in-Some : goal.returns-in-Some
-returns-in-Some c =
-    text_first c.args.bytes.now c.next.new.self.rest.now c.in-Some.c c.len_utf8.result (valid_text _ c.requires)
-    (sym c.text_of.ensures ∙ sym c.chars.ensures.rest ∙ c.in-Some.ensures.steps.0) c.len_utf8.ensures.len
+pub slice_bounds-result-end : goal.slice_bounds-result-end
+slice_bounds-result-end c =
+    let filled : 0 < length c.args.bytes.now = let test = c.if-is_empty.ensures in grind (arith, nat_tests) in
+    sym (length-take-le _ _ (text_first c.args.bytes.now c.char_len.result c.requires filled c.char_len.ensures).0)
+
+pub returns : goal.returns
+returns c =
+    let filled : 0 < length c.args.bytes.now = let test = c.if-is_empty.ensures in grind (arith, nat_tests) in
+    (text_first c.args.bytes.now c.char_len.result c.requires filled c.char_len.ensures).1
