@@ -3,13 +3,19 @@
 
 use std::alloc::Global;
 use std::env;
-use std::io::{self, Write};
+use std::io::{self, ErrorKind, Write};
 use std::process::ExitCode;
 
-// The words after the program's name.
+// The words after the program's name. Where one is not UTF-8 there are none, and these name no
+// kind of keys either.
 fn words(rt: &HostRuntime) -> io::Result<Vec<String>> {
     let mut words = Vec::new(rt.alloc());
-    for word in env::args(rt)?.skip(1) {
+    let arguments = match env::args(rt) {
+        Ok(arguments) => arguments,
+        Err(error) if error.kind() == ErrorKind::InvalidData => return Ok(words),
+        Err(error) => return Err(error),
+    };
+    for word in arguments.skip(1) {
         words.push(word)?;
     }
     Ok(words)
@@ -21,5 +27,5 @@ fn main(rt: HostRuntime) -> ExitCode {
         return ExitCode::from(1);
     };
     let alloc: Global = rt.alloc();
-    ExitCode::from(patricia_run::serve::serve(alloc, &words, rt.stdin(), rt.stdout(), rt.stderr()))
+    ExitCode::from(patricia_run::serve(alloc, &words, rt.stdin(), rt.stdout(), rt.stderr()))
 }
