@@ -2,23 +2,36 @@
 #![tactic(auto)]
 
 use std::alloc::Global;
-use std::env;
+use std::env::{self, Env, FillError};
 use std::io::{self, ErrorKind, Write};
 use std::process::ExitCode;
+
+/// The arguments after the program's name, which need not be UTF-8.
+#[derive(Drop)]
+struct AfterName<'a>(&'a HostRuntime);
+
+impl<'a> Env for AfterName<'a> {
+    fn arg(&self, i: usize, buf: &mut [u8]) -> Result<usize, FillError> {
+        self.0.arg(i.saturating_add(1), buf)
+    }
+
+    fn var(&self, name: &str, buf: &mut [u8]) -> Result<usize, FillError> {
+        self.0.var(name, buf)
+    }
+
+    fn var_at(&self, i: usize, buf: &mut [u8]) -> Result<usize, FillError> {
+        self.0.var_at(i, buf)
+    }
+}
 
 // The words after the program's name. Where one is not UTF-8 there are none, and these name no
 // kind of keys either.
 fn words(rt: &HostRuntime) -> io::Result<Vec<String>> {
-    let mut words = Vec::new(rt.alloc());
-    let arguments = match env::args(rt) {
-        Ok(arguments) => arguments,
-        Err(error) if error.kind() == ErrorKind::InvalidData => return Ok(words),
-        Err(error) => return Err(error),
-    };
-    for word in arguments.skip(1) {
-        words.push(word)?;
+    match env::args(&(AfterName(rt), rt.alloc())) {
+        Ok(words) => Ok(words.collect(rt.alloc())?),
+        Err(error) if error.kind() == ErrorKind::InvalidData => Ok(Vec::new(rt.alloc())),
+        Err(error) => Err(error),
     }
-    Ok(words)
 }
 
 fn main(rt: HostRuntime) -> ExitCode {
