@@ -2,10 +2,9 @@
 
 use super::helpers::{Pieces, Progress, Takes, add_numbers, add_times, list_of};
 use crate::serve;
-use std::alloc::Global;
+use std::alloc::{AllocError, Global};
 use std::io::ErrorKind;
 use std::process::Abort;
-use std::test::Fail;
 
 const USAGE: &str = "usage: ptree bytes|text\n";
 
@@ -40,6 +39,36 @@ struct End<'a> {
     errors: &'a str,
 }
 
+// Runs the program over such streams. It gives the status, and how far the input was read.
+fn run_over(
+    alloc: Global,
+    words: &[String],
+    text: &[u8],
+    streams: Streams,
+    output: &mut Vec<u8>,
+    errors: &mut Vec<u8>,
+) -> (u8, Progress) {
+    let mut progress = Progress::Unasked;
+    let input = Pieces {
+        text,
+        piece: 5,
+        failure: streams.read_failure,
+        progress: &mut progress,
+    };
+    let output = Takes {
+        taken: output,
+        room: streams.room,
+        fails_to_flush: streams.fails_to_flush,
+    };
+    let errors = Takes {
+        taken: errors,
+        room: streams.error_room,
+        fails_to_flush: false,
+    };
+    let status = serve(alloc, words, input, output, errors);
+    (status, progress)
+}
+
 // Asserts what a run over such streams comes to, and how far its input was read.
 fn check_run(
     rt: &impl Abort,
@@ -49,30 +78,14 @@ fn check_run(
     streams: Streams,
     end: End,
     read: Progress,
-) -> Result<(), Fail> {
+) -> Result<(), AllocError> {
     let words = list_of(alloc, words)?;
-    let mut progress = Progress::Unasked;
     let mut output = Vec::new(alloc);
     let mut errors = Vec::new(alloc);
-    let input = Pieces {
-        text,
-        piece: 5,
-        failure: streams.read_failure,
-        progress: &mut progress,
-    };
-    let takes = Takes {
-        taken: &mut output,
-        room: streams.room,
-        fails_to_flush: streams.fails_to_flush,
-    };
-    let reports = Takes {
-        taken: &mut errors,
-        room: streams.error_room,
-        fails_to_flush: false,
-    };
-    let status = serve(alloc, &words, input, takes, reports);
+    let (status, progress) = run_over(alloc, &words, text, streams, &mut output, &mut errors);
     assert_eq!(rt; status, end.status);
-    assert_eq!(rt; output.as_slice(), end.output);
+    assert_eq!(rt; output.len(), end.output.len());
+    assert!(rt; output.as_slice() == end.output);
     assert_eq!(rt; errors.as_slice(), end.errors.as_bytes());
     assert_eq!(rt; progress, read);
     Ok(())
@@ -85,7 +98,7 @@ fn check_answer(
     word: &str,
     text: &[u8],
     output: &[u8],
-) -> Result<(), Fail> {
+) -> Result<(), AllocError> {
     let end = End {
         status: 0,
         output,
@@ -95,7 +108,7 @@ fn check_answer(
 }
 
 #[test]
-fn answers_for_each_kind(rt: HostRuntime) -> Result<(), Fail> {
+fn answers_for_each_kind(rt: HostRuntime) -> Result<(), AllocError> {
     let alloc = rt.alloc();
     let text = b"get\t\xe3\x81\ninsert\t\xe3\x81\x82\t7\nlist".as_slice();
     let output = b"none\nnone\nrows 1\n\xe3\x81\x82 7\n".as_slice();
@@ -111,7 +124,7 @@ fn check_failure(
     streams: Streams,
     output: &str,
     errors: &str,
-) -> Result<(), Fail> {
+) -> Result<(), AllocError> {
     let text = b"insert\ta\t7\nget\ta".as_slice();
     let end = End {
         status: 1,
@@ -127,7 +140,7 @@ fn check_failure(
 
 // Want of memory while the input is read counts as a failure to read.
 #[test]
-fn failures_to_read(rt: HostRuntime) -> Result<(), Fail> {
+fn failures_to_read(rt: HostRuntime) -> Result<(), AllocError> {
     let alloc = rt.alloc();
     let fails = Streams {
         read_failure: Some(ErrorKind::Other),
@@ -148,7 +161,7 @@ fn failures_to_read(rt: HostRuntime) -> Result<(), Fail> {
 
 // An answer that was not taken whole, or not flushed, is a failure to write.
 #[test]
-fn failures_to_write(rt: HostRuntime) -> Result<(), Fail> {
+fn failures_to_write(rt: HostRuntime) -> Result<(), AllocError> {
     let alloc = rt.alloc();
     let full = Streams { room: 0, ..SOUND };
     check_failure(&rt, alloc, full, "", WRITE_FAILED)?;
@@ -173,7 +186,7 @@ fn check_usage(
     words: &[&str],
     error_room: usize,
     errors: &str,
-) -> Result<(), Fail> {
+) -> Result<(), AllocError> {
     let streams = Streams {
         read_failure: Some(ErrorKind::Other),
         error_room,
@@ -196,7 +209,7 @@ fn check_usage(
 }
 
 #[test]
-fn usage(rt: HostRuntime) -> Result<(), Fail> {
+fn usage(rt: HostRuntime) -> Result<(), AllocError> {
     let alloc = rt.alloc();
     check_usage(&rt, alloc, &[], 100, USAGE)?;
     check_usage(&rt, alloc, &["Bytes"], 100, USAGE)?;
@@ -206,23 +219,26 @@ fn usage(rt: HostRuntime) -> Result<(), Fail> {
     check_usage(&rt, alloc, &["bytes", "bytes"], 0, "")
 }
 
-// More than 65,535 commands, a key of 2,000 bytes and more than 20,000 entries: of input and
-// answer, each near half a million bytes, nothing is cut.
-#[test]
-fn large_input_and_answer(rt: HostRuntime) -> Result<(), Fail> {
-    let alloc = rt.alloc();
-    let numbers = (10_000, 30_100);
-    let long = "k".repeat(alloc, 2_000)?;
+// More than 65,535 commands: more than 20,000 entries, many looks at no key, and a long key.
+fn large_input(alloc: Global, long: &[u8]) -> Result<Vec<u8>, AllocError> {
     let mut input = Vec::new(alloc);
+    let insert = b"insert\t".as_slice();
     add_numbers(
         alloc,
         &mut input,
-        b"insert\t".as_slice(),
-        numbers,
+        insert,
+        (10_000, 30_100),
         b"\t7\n".as_slice(),
     )?;
     add_times(&mut input, b"get\t\n".as_slice(), 45_500)?;
-    input.extend_from_slice(format!(in alloc; "insert\t{long}\t8\nlist\n")?.as_bytes())?;
+    input.extend_from_slice(insert)?;
+    input.extend_from_slice(long)?;
+    input.extend_from_slice(b"\t8\nlist\n".as_slice())?;
+    Ok(input)
+}
+
+// What the large input is answered. The numbers are in key order, since they are of one length.
+fn large_output(alloc: Global, long: &[u8]) -> Result<Vec<u8>, AllocError> {
     let mut output = Vec::new(alloc);
     add_times(&mut output, b"none\n".as_slice(), 20_100 + 45_500 + 1)?;
     output.extend_from_slice(b"rows 20101\n".as_slice())?;
@@ -230,10 +246,22 @@ fn large_input_and_answer(rt: HostRuntime) -> Result<(), Fail> {
         alloc,
         &mut output,
         b"".as_slice(),
-        numbers,
+        (10_000, 30_100),
         b" 7\n".as_slice(),
     )?;
-    output.extend_from_slice(format!(in alloc; "{long} 8\n")?.as_bytes())?;
+    output.extend_from_slice(long)?;
+    output.extend_from_slice(b" 8\n".as_slice())?;
+    Ok(output)
+}
+
+// Of an input and an answer of near half a million bytes each, nothing is cut.
+#[test]
+fn large_input_and_answer(rt: HostRuntime) -> Result<(), AllocError> {
+    let alloc = rt.alloc();
+    let mut long = Vec::new(alloc);
+    add_times(&mut long, b"k".as_slice(), 2_000)?;
+    let input = large_input(alloc, &long)?;
+    let output = large_output(alloc, &long)?;
     check_answer(&rt, alloc, "bytes", &input, &output)?;
     check_answer(&rt, alloc, "text", &input, &output)
 }
