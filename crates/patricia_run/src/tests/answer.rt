@@ -1,10 +1,27 @@
-use super::*;
+//! Lines and their answers, with values from outside, and answers where memory is refused.
+
+use crate::{Command, answer_bytes, answer_text};
+use std::alloc::{AllocError, Global};
 use std::collections::BTreeMap;
-use std::test::Fail;
+use std::process::Abort;
+use std::str;
+
+// Compares an answer with what it must be.
+fn check(rt: &impl Abort, answer: &[u8], output: &str) {
+    assert_eq!(rt; answer, output.as_bytes());
+}
+
+// Asserts the answers to inputs over byte keys.
+fn check_all(rt: &impl Abort, alloc: Global, cases: &[(&str, &str)]) -> Result<(), AllocError> {
+    for (input, output) in cases {
+        check(rt, &answer_bytes(alloc, input.as_bytes())?, output);
+    }
+    Ok(())
+}
 
 #[test]
-fn inputs_and_outputs(rt: HostRuntime) -> Result<(), Fail> {
-    for (input, output) in [
+fn inputs_and_outputs(rt: HostRuntime) -> Result<(), AllocError> {
+    let cases = [
         ("", ""),
         (
             "insert\tfoo\t1\ninsert\tfoobar\t2\ninsert\tfo\t3\nget\tfoo\nget\tfooba\nlen\n",
@@ -34,16 +51,13 @@ fn inputs_and_outputs(rt: HostRuntime) -> Result<(), Fail> {
             "insert\tb\t00018446744073709551615\nget\tb",
             "none\nsome 18446744073709551615\n",
         ),
-    ] {
-        let answer = answer_bytes(rt.alloc(), input.as_bytes())?;
-        assert_eq!(rt; answer.as_slice(), output.as_bytes(), "{input}");
-    }
-    Ok(())
+    ];
+    check_all(&rt, rt.alloc(), &cases)
 }
 
 #[test]
-fn removes_lists_and_clears(rt: HostRuntime) -> Result<(), Fail> {
-    for (input, output) in [
+fn removes_lists_and_clears(rt: HostRuntime) -> Result<(), AllocError> {
+    let cases = [
         (
             "insert\tb\t1\ninsert\ta\t2\ninsert\tab\t3\nremove\ta\nremove\ta\nlist\nclear\nlist\n",
             "none\nnone\nnone\nsome 2\nnone\nrows 2\nab 3\nb 1\nok\nrows 0\n",
@@ -56,39 +70,58 @@ fn removes_lists_and_clears(rt: HostRuntime) -> Result<(), Fail> {
             "remove\nremove\ta\tb\nlist\t\nclear\tx\nRemove\ta\nlist \nclear\r\n",
             "fault 2\nfault 2\nfault 2\nfault 2\nfault 1\nfault 1\nfault 1\n",
         ),
-    ] {
-        let answer = answer_bytes(rt.alloc(), input.as_bytes())?;
-        assert_eq!(rt; answer.as_slice(), output.as_bytes(), "{input}");
+    ];
+    check_all(&rt, rt.alloc(), &cases)
+}
+
+#[test]
+fn text_keys(rt: HostRuntime) -> Result<(), AllocError> {
+    let alloc = rt.alloc();
+    let input = "insert\t🌏🗻\t1\ninsert\t🌏🍔\t2\nlist\n";
+    let answer = answer_text(alloc, input.as_bytes())?;
+    check(&rt, &answer, "none\nnone\nrows 2\n🌏🍔 2\n🌏🗻 1\n");
+    Ok(())
+}
+
+#[test]
+fn keys_cut_short(rt: HostRuntime) -> Result<(), AllocError> {
+    let alloc = rt.alloc();
+    let input =
+        b"get\t\xf0\x9f\ninsert\t\xf0\x9f\tx\nremove\t\xf0\x9f\nget\t\xf0\x9f\tb\n".as_slice();
+    check(
+        &rt,
+        &answer_text(alloc, input)?,
+        "fault 4\nfault 3\nfault 4\nfault 2\n",
+    );
+    check(
+        &rt,
+        &answer_bytes(alloc, input)?,
+        "none\nfault 3\nnone\nfault 2\n",
+    );
+    Ok(())
+}
+
+// Asserts that a line with each of these keys is faulty over text keys.
+fn check_no_texts(rt: &impl Abort, alloc: Global, keys: &[&[u8]]) -> Result<(), AllocError> {
+    for key in keys {
+        let mut input = Vec::new(alloc);
+        input.extend_from_slice(b"get\t".as_slice())?;
+        input.extend_from_slice(key)?;
+        input.extend_from_slice(b"\ninsert\t".as_slice())?;
+        input.extend_from_slice(key)?;
+        input.extend_from_slice(b"\t1\nlen".as_slice())?;
+        check(
+            rt,
+            &answer_text(alloc, &input)?,
+            "fault 4\nfault 4\ncount 0\n",
+        );
     }
     Ok(())
 }
 
 #[test]
-fn text_keys(rt: HostRuntime) -> Result<(), Fail> {
-    let alloc = rt.alloc();
-    let input = "insert\t🌏🗻\t1\ninsert\t🌏🍔\t2\nlist\n";
-    let answer = answer_text(alloc, input.as_bytes())?;
-    let output = "none\nnone\nrows 2\n🌏🍔 2\n🌏🗻 1\n";
-    assert_eq!(rt; answer.as_slice(), output.as_bytes());
-    let cut =
-        b"get\t\xf0\x9f\ninsert\t\xf0\x9f\tx\nremove\t\xf0\x9f\nget\t\xf0\x9f\tb\n".as_slice();
-    let answer = answer_text(alloc, cut)?;
-    assert_eq!(rt;
-        answer.as_slice(),
-        b"fault 4\nfault 3\nfault 4\nfault 2\n".as_slice()
-    );
-    let answer = answer_bytes(alloc, cut)?;
-    assert_eq!(rt;
-        answer.as_slice(),
-        b"none\nfault 3\nnone\nfault 2\n".as_slice()
-    );
-    Ok(())
-}
-
-#[test]
-fn keys_that_are_no_text(rt: HostRuntime) -> Result<(), Fail> {
-    let alloc = rt.alloc();
-    for key in [
+fn keys_that_are_no_text(rt: HostRuntime) -> Result<(), AllocError> {
+    let keys = [
         b"\x80".as_slice(),
         b"\xc0\x80".as_slice(),
         b"\xed\xa0\x80".as_slice(),
@@ -100,36 +133,25 @@ fn keys_that_are_no_text(rt: HostRuntime) -> Result<(), Fail> {
         b"\xf0\x9f".as_slice(),
         b"\xf0\x9f\x8c".as_slice(),
         b"a\xffb".as_slice(),
-    ] {
-        let mut input = Vec::new(alloc);
-        for part in [
-            b"get\t".as_slice(),
-            key,
-            b"\ninsert\t".as_slice(),
-            key,
-            b"\t1\nlen".as_slice(),
-        ] {
-            input.extend_from_slice(part)?;
-        }
-        let answer = answer_text(alloc, &input)?;
-        assert_eq!(rt;
-            answer.as_slice(),
-            b"fault 4\nfault 4\ncount 0\n".as_slice(),
-            "{key:?}"
-        );
-    }
-    Ok(())
+    ];
+    check_no_texts(&rt, rt.alloc(), &keys)
 }
 
 #[test]
-fn keys_of_any_bytes(rt: HostRuntime) -> Result<(), Fail> {
+fn keys_of_any_bytes(rt: HostRuntime) -> Result<(), AllocError> {
     let alloc = rt.alloc();
-    let answer = answer_bytes(alloc, b"get\t\xf0\x9f\n".as_slice())?;
-    assert_eq!(rt; answer.as_slice(), b"none\n".as_slice());
+    check(
+        &rt,
+        &answer_bytes(alloc, b"get\t\xf0\x9f\n".as_slice())?,
+        "none\n",
+    );
     let long = "a".repeat(alloc, 300)?;
     let input = format!(in alloc; "insert\t{long}\t9\nget\t{long}a\nget\t{long}\n")?;
-    let answer = answer_bytes(alloc, input.as_bytes())?;
-    assert_eq!(rt; answer.as_slice(), b"none\nnone\nsome 9\n".as_slice());
+    check(
+        &rt,
+        &answer_bytes(alloc, input.as_bytes())?,
+        "none\nnone\nsome 9\n",
+    );
     Ok(())
 }
 
@@ -140,14 +162,12 @@ type Stored = BTreeMap<&'static [u8], u64>;
 fn is_point(keys: &[&'static [u8]], prefix: &[u8]) -> bool {
     let mut next = None;
     for key in keys {
-        let Some(more) = key.strip_prefix(prefix) else {
-            continue;
-        };
-        let Some(first) = more.first() else {
-            return true;
-        };
-        if *next.get_or_insert(*first) != *first {
-            return true;
+        if let Some(more) = key.strip_prefix(prefix) {
+            let first = more.first().copied();
+            if first.is_none() || next.unwrap_or(first) != first {
+                return true;
+            }
+            next = Some(first);
         }
     }
     false
@@ -246,13 +266,32 @@ fn is_allowed(
     Ok(rest.is_empty())
 }
 
+// Asserts that each answer that is given is an output that a plain run allows.
+fn check_refused(
+    rt: &impl Abort,
+    alloc: Global,
+    input: &[u8],
+    commands: &[Command<&'static [u8], u64>],
+) -> Result<(), AllocError> {
+    for answer in [answer_bytes(alloc, input), answer_text(alloc, input)] {
+        let Ok(output) = answer else {
+            continue;
+        };
+        let allowed = match is_allowed(alloc, commands, &output) {
+            Ok(allowed) => allowed,
+            Err(_) => is_allowed(alloc, commands, &output)?,
+        };
+        assert!(rt; allowed);
+    }
+    Ok(())
+}
+
 // With one memory request refused, an answer is an error or an output that a plain run allows.
 // `.ci/run` runs this with the Nth request refused, for each N.
 #[test]
-fn refused_in_turn(rt: HostRuntime) -> Result<(), Fail> {
-    let alloc = rt.alloc();
-    let input =
-        b"insert\t\t1\ninsert\tab\t2\ninsert\tac\t3\ninsert\tab\t4\nget\tac\nlist\nremove\tab\nlen\nlist\nremove\t\nclear\nlist\n".as_slice();
+fn refused_in_turn(rt: HostRuntime) -> Result<(), AllocError> {
+    let input = "insert\t\t1\ninsert\tab\t2\ninsert\tac\t3\ninsert\tab\t4\nget\tac\nlist\n\
+        remove\tab\nlen\nlist\nremove\t\nclear\nlist\n";
     let commands = [
         Command::Insert(b"".as_slice(), 1),
         Command::Insert(b"ab".as_slice(), 2),
@@ -267,15 +306,5 @@ fn refused_in_turn(rt: HostRuntime) -> Result<(), Fail> {
         Command::Clear,
         Command::List,
     ];
-    for answer in [answer_bytes(alloc, input), answer_text(alloc, input)] {
-        let Ok(output) = answer else {
-            continue;
-        };
-        let allowed = match is_allowed(alloc, &commands, &output) {
-            Ok(allowed) => allowed,
-            Err(_) => is_allowed(alloc, &commands, &output)?,
-        };
-        assert!(rt; allowed, "{output:?}");
-    }
-    Ok(())
+    check_refused(&rt, rt.alloc(), input.as_bytes(), &commands)
 }
