@@ -5,12 +5,6 @@ ghost use Rattle.std.specs.FinMap as map;
 ghost use Rattle.patricia_core.specs.Points.{IsVisitCount, Joins};
 
 mod iter;
-#[cfg(test)]
-mod removal_tests;
-#[cfg(test)]
-mod tests;
-#[cfg(test)]
-mod text_tests;
 
 pub use iter::{IntoIter, Iter, Keys, Values};
 use patricia_core::Steps;
