@@ -81,16 +81,18 @@ def key_answers(kind, call, words):
 
 
 def main():
-    maps = {'bytes': {}, 'text': {}}
-    for line in sys.stdin.read().split('\n')[:-1]:
-        kind, *rest = line.split(' ')
-        if kind in maps and rest:
+    lines = sys.stdin.read().split('\n')[:-1]
+    for kind in 'bytes', 'text':
+        m = {}
+        for line in lines:
+            its_kind, *rest = line.split(' ')
+            if its_kind != kind or not rest:
+                continue
             words = [argument(word) for word in rest[1:]]
-            answers = map_answers(maps[kind], rest[0], words)
+            answers = map_answers(m, rest[0], words)
             if answers is None:
                 answers = key_answers(kind, rest[0], words)
-            line = ' '.join(answers)
-        print(line)
+            print(line + ': ' + ' '.join(answers))
 
 
 if __name__ == '__main__':

@@ -1,7 +1,7 @@
-//! How keys and answers are written in a line.
+//! How calls and answers are written.
 //!
-//! In a key `%` and two hexadecimal digits stand for a byte, and `*` and a number at its end say
-//! how often the rest is repeated, so that `%` and two digits can begin no other key.
+//! In an argument `%` and two hexadecimal digits stand for a byte, and `*` and a number at its end
+//! say how often the rest is repeated, so that `*` alone is the empty key.
 
 use patricia_tree::BorrowedBytes;
 use std::alloc::{AllocError, Global};
@@ -61,13 +61,38 @@ fn argument(alloc: Global, word: &str) -> Result<Vec<u8>, AllocError> {
     }
 }
 
-/// The bytes that each word stands for.
-pub fn arguments(alloc: Global, words: &[&str]) -> Result<Vec<Vec<u8>>, AllocError> {
+fn arguments(alloc: Global, words: &[&str]) -> Result<Vec<Vec<u8>>, AllocError> {
     let mut arguments = Vec::new(alloc);
     for word in words {
         arguments.push(argument(alloc, word)?)?;
     }
     Ok(arguments)
+}
+
+/// A line that is a call.
+#[derive(Drop)]
+pub struct Call<'t> {
+    pub line: &'t str,
+    pub kind: &'t str,
+    pub name: &'t str,
+    pub arguments: Vec<Vec<u8>>,
+}
+
+/// The calls among the lines of a text.
+pub fn calls<'t>(alloc: Global, text: &'t str) -> Result<Vec<Call<'t>>, AllocError> {
+    let mut calls = Vec::new(alloc);
+    for line in text.lines() {
+        let words: Vec<&'t str> = line.split(' ').collect(alloc)?;
+        if let [kind, name, words @ ..] = words.as_slice() {
+            calls.push(Call {
+                line,
+                kind,
+                name,
+                arguments: arguments(alloc, words)?,
+            })?;
+        }
+    }
+    Ok(calls)
 }
 
 /// The number that some digits write, or 0.
