@@ -1,6 +1,6 @@
 """What `line_tests` must answer, by the plain model of model.py.
 
-    python3 tests/oracle/answer_lines.py < crates/line_tests/stdin > crates/line_tests/stdout
+    python3 -B tests/oracle/answer_lines.py < crates/line_tests/stdin > crates/line_tests/stdout
 """
 import sys
 from urllib.parse import unquote_to_bytes
