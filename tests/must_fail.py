@@ -3,10 +3,10 @@
 
     tests/must_fail.py [CRATE..]
 
-Each edit of crates/*/must-fail (or of the crates named) is applied to a copy of the repository, and
-the crate is checked there. An edit is good if a goal fails by its meaning. One that is refused only
-because a proof file names what the edit took away shows nothing of the contract: these are listed at
-the end, with those that are proved and those that do not apply, and the status is then 1.
+Each edit of crates/*/must-fail (or of the crates named) is applied to a copy of the repository,
+and the crate is checked there. An edit is good if a goal fails by its meaning. One that is refused
+only because a proof file names what the edit took away shows nothing of the contract: these are
+listed at the end, with those that are proved and those that do not apply, and the status is 1.
 """
 import os
 import re
@@ -53,7 +53,8 @@ def check(folder):
     words = ['rt', 'check', '--jobs', '1']
     ran = subprocess.run(words, cwd=folder, stdin=subprocess.DEVNULL, stdout=subprocess.PIPE,
                          stderr=subprocess.STDOUT, encoding='utf-8', errors='replace')
-    told = [x for x in ran.stdout.split('\n') if SAID.match(x) and (': error' in x or x.startswith('note: '))]
+    told = [x for x in ran.stdout.split('\n') if SAID.match(x)]
+    told = [x for x in told if ': error' in x or x.startswith('note: ')]
     return ran.returncode == 0, told
 
 

@@ -2,8 +2,9 @@
 
     python3 -B tests/oracle/make_cases.py tests/cases
 
-For each kind of keys and each shape of SHAPES one random script KIND_SHAPE.in, from one seed; then for
-each NAME.in of the folder the answers NAME.out by model.py. A case with a NAME.status is left as it is.
+For each kind of keys and each shape of SHAPES one random script KIND_SHAPE.in, from one seed; then
+for each NAME.in of the folder the answers NAME.out by model.py. A case with a NAME.status is left
+as it is.
 """
 import os
 import random
@@ -35,7 +36,8 @@ def main(folder):
     for name in sorted(os.listdir(folder)):
         path, end = os.path.splitext(os.path.join(folder, name))
         if end == '.in' and not os.path.exists(path + '.status'):
-            kind = read(path + '.args').decode().strip() if os.path.exists(path + '.args') else 'bytes'
+            has_words = os.path.exists(path + '.args')
+            kind = read(path + '.args').decode().strip() if has_words else 'bytes'
             write(path + '.out', answer(kind, read(path + '.in')))
 
 

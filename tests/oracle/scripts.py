@@ -27,13 +27,14 @@ def key_maker(rng, kind, shape):
         if shape == 'shared':
             return rng.choice(stems) + rng.choice([[], rng.choice(stems)]) + rng.choices(few, k=2)
         if shape == 'wide':
-            return [rng.choice(BINARY) if kind == 'bytes' else char(rng) for _ in range(rng.randrange(5))]
+            wide = (lambda: rng.choice(BINARY)) if kind == 'bytes' else (lambda: char(rng))
+            return [wide() for _ in range(rng.randrange(5))]
         if shape == 'nested':
             return few[:1] * rng.randrange(40)
         if shape == 'long':
             length = rng.choice([253, 254, 255, 256, 300, 509, 510, 511, 700])
-            front = few[:1] * (length // len(few[0]))
-            return front[:rng.choice([len(front), len(front), 3])] + rng.choices(few, k=rng.randrange(4))
+            count = rng.choice([length // len(few[0]), length // len(few[0]), 3])
+            return few[:1] * count + rng.choices(few, k=rng.randrange(4))
         return [bytes([d]) for d in b'%d' % rng.randrange(3000)]
     return make
 
@@ -42,9 +43,9 @@ SHAPES = 'short', 'shared', 'wide', 'nested', 'long', 'numbers'
 WEIGHTS = {b'insert': 40, b'remove': 16, b'get': 8, b'len': 2, b'list': 2, b'clear': .2}
 FIELDS = {b'insert': 2, b'remove': 1, b'get': 1, b'len': 0, b'list': 0, b'clear': 0}
 NUMBERS = [b'0', b'1', b'007', b'18446744073709551615', b'00018446744073709551615']
-FAULTY = [b'', b'put\ta', b'get', b'len\t', b'insert\ta', b'insert\ta\t', b'insert\ta\tx', b'insert\ta\t-1',
-          b'insert\ta\t18446744073709551616', b'get\ta\tb', b'Get\ta', b'insert\ta\t+1',
-          b'insert\ta\t1 ', b' len', b'len\r', b'insert\ta\t1\t', b'\t']
+FAULTY = [b'', b'put\ta', b'get', b'len\t', b'insert\ta', b'insert\ta\t', b'insert\ta\tx',
+          b'insert\ta\t-1', b'insert\ta\t18446744073709551616', b'get\ta\tb', b'Get\ta',
+          b'insert\ta\t+1', b'insert\ta\t1 ', b' len', b'len\r', b'insert\ta\t1\t', b'\t']
 
 
 def near_key(rng, known, make, inserts):

@@ -1,5 +1,5 @@
-use patricia_tree::map::Refused;
 use patricia_tree::PatriciaMap;
+use patricia_tree::map::Refused;
 use std::test::Fail;
 
 #[test]

@@ -8,6 +8,7 @@ use std::process::Abort;
 use std::sync::ledger::{Blank, Ledger};
 use std::test::Fail;
 
+// Each call on each key, which is stored or is not.
 fn look_up_all<Q: BorrowedBytes, L: Ledger>(
     rt: &impl Abort,
     map: &GenericPatriciaMap<Q::Owned, u64>,
@@ -32,14 +33,15 @@ fn insert_all<Q: BorrowedBytes>(
     map: &mut GenericPatriciaMap<Q::Owned, u64>,
     keys: &[Q],
     is_stored: bool,
-) {
+) -> Result<(), AllocError> {
     for key in keys {
         let len = key.as_bytes().len() as u64;
         let Ok(old) = map.insert(*key, len) else {
-            return;
+            return Err(AllocError);
         };
         assert!(rt; old.is_some() == is_stored);
     }
+    Ok(())
 }
 
 fn remove_all<Q: BorrowedBytes>(
@@ -93,11 +95,11 @@ fn call_all<Q: BorrowedBytes>(
     assert!(rt; full.is_empty());
     look_up_all::<Q, Brand>(rt, &map, keys.stored, true, Blank::new(1));
     look_up_all::<Q, Brand>(rt, &map, keys.absent, false, Blank::new(1));
-    insert_all(rt, &mut map, keys.stored, true);
+    insert_all(rt, &mut map, keys.stored, true)?;
     remove_all(rt, &mut map, keys.absent, false)?;
     remove_all(rt, &mut map, keys.removed, true)?;
     remove_all(rt, &mut map, keys.removed, false)?;
-    insert_all(rt, &mut map, keys.empty, false);
+    insert_all(rt, &mut map, keys.empty, false)?;
     let left = keys.stored.len().saturating_sub(keys.removed.len());
     assert_eq!(rt; map.len(), left.saturating_add(1));
     assert!(rt; !map.is_empty());

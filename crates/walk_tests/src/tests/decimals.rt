@@ -1,97 +1,96 @@
-// Walks over the decimal texts below ten thousand, beside those over a sorted map.
-use super::helpers::put;
-use patricia_tree::PatriciaMap;
+// The decimal texts below ten thousand, beside a sorted map.
+use super::helpers::{Walked, put, walk_entries, walk_keys, walk_out, walk_values};
+use patricia_tree::{BorrowedBytes, GenericPatriciaMap};
 use std::alloc::{AllocError, Global};
 use std::collections::BTreeMap;
 use std::process::Abort;
 use std::test::Fail;
 
-const COUNT: u32 = 10_000;
+const HALF: u32 = 5_000;
 
-// Puts a number in at its text, which is a new key.
-fn put_text(
-    rt: &impl Abort,
-    alloc: Global,
-    map: &mut PatriciaMap<u32>,
-    n: u32,
-) -> Result<(), AllocError> {
-    let text = format!(in alloc; "{n}")?;
-    assert!(rt; put(map, text.as_bytes(), n)?.is_none());
-    Ok(())
+// The texts of the even numbers, and then those of the odd ones.
+fn texts(alloc: Global) -> Result<Vec<(String, u32)>, AllocError> {
+    let mut texts = Vec::new(alloc);
+    for odd in 0..2u32 {
+        for n in 0..HALF {
+            let number = 2 * n + odd;
+            texts.push((number.to_string(alloc)?, number))?;
+        }
+    }
+    Ok(texts)
 }
 
-// Takes a number out at its text.
-fn remove_text(
-    rt: &impl Abort,
-    alloc: Global,
-    map: &mut PatriciaMap<u32>,
-    n: u32,
-) -> Result<(), AllocError> {
-    let text = format!(in alloc; "{n}")?;
-    assert!(rt; map.remove(text.as_bytes())? == Some(n));
-    assert!(rt; map.remove(text.as_bytes())?.is_none());
-    Ok(())
+fn rows_of(alloc: Global, texts: &[(String, u32)]) -> Result<Vec<(&[u8], u32)>, AllocError> {
+    let mut rows = Vec::new(alloc);
+    for (text, number) in texts {
+        rows.push((text.as_bytes(), *number))?;
+    }
+    Ok(rows)
 }
 
-// The map of the texts, of which the even half was taken out and put in again.
-fn texts(rt: &impl Abort, alloc: Global) -> Result<PatriciaMap<u32>, AllocError> {
-    let mut map = PatriciaMap::new(alloc);
-    for n in 0..COUNT {
-        put_text(rt, alloc, &mut map, n)?;
+fn sorted<'a>(alloc: Global, rows: &[(&'a [u8], u32)]) -> Result<Vec<(&'a [u8], u32)>, AllocError> {
+    let mut map: BTreeMap<&'a [u8], u32> = BTreeMap::new(alloc);
+    for (key, number) in rows {
+        map.insert(*key, *number)?;
     }
-    for half in 0..COUNT / 2 {
-        remove_text(rt, alloc, &mut map, 2 * half)?;
-    }
-    assert_eq!(rt; map.len(), 5_000);
-    for half in 0..COUNT / 2 {
-        put_text(rt, alloc, &mut map, 2 * half)?;
-    }
-    assert_eq!(rt; map.len(), 10_000);
-    Ok(map)
-}
-
-fn sorted_texts(alloc: Global) -> Result<BTreeMap<Vec<u8>, u32>, AllocError> {
-    let mut sorted = BTreeMap::new(alloc);
-    for n in 0..COUNT {
-        let text = format!(in alloc; "{n}")?;
-        sorted.insert(Vec::from_slice(alloc, text.as_bytes())?, n)?;
+    let mut sorted = Vec::new(alloc);
+    for (key, number) in &map {
+        sorted.push((*key, *number))?;
     }
     Ok(sorted)
 }
 
-#[test]
-fn agrees_with_btree(rt: HostRuntime) -> Result<(), Fail> {
-    let map = texts(&rt, rt.alloc())?;
-    let mut keys = map.keys();
-    let mut values = map.values();
-    let mut rows = map.iter();
-    for (key, value) in &sorted_texts(rt.alloc())? {
-        let (Some(found), Some(at), Some(row)) = (keys.next(), values.next(), rows.next()) else {
-            return Err(Fail::from("the walk ended early"));
-        };
-        let (again, also) = row?;
-        assert!(rt; found? == *key);
-        assert!(rt; *at? == *value);
-        assert!(rt; again == *key);
-        assert!(rt; *also == *value);
+// Puts new entries in.
+fn put_all<Q: BorrowedBytes>(
+    rt: &impl Abort,
+    map: &mut GenericPatriciaMap<Q::Owned, u32>,
+    rows: &[(Q, u32)],
+) -> Result<(), AllocError> {
+    for (key, number) in rows {
+        assert!(rt; put(map, *key, *number)?.is_none());
     }
-    assert!(rt; keys.next().is_none());
-    assert!(rt; values.next().is_none());
-    assert!(rt; rows.next().is_none());
     Ok(())
 }
 
-#[test]
-fn taken_out_agrees_with_btree(rt: HostRuntime) -> Result<(), Fail> {
-    let mut owned = texts(&rt, rt.alloc())?.into_iter();
-    for (key, value) in &sorted_texts(rt.alloc())? {
-        let Some(row) = owned.next() else {
-            return Err(Fail::from("the walk ended early"));
-        };
-        let (again, also) = row?;
-        assert!(rt; again == *key);
-        assert_eq!(rt; also, *value);
+// Takes entries out.
+fn remove_all<Q: BorrowedBytes>(
+    rt: &impl Abort,
+    map: &mut GenericPatriciaMap<Q::Owned, u32>,
+    rows: &[(Q, u32)],
+) -> Result<(), AllocError> {
+    for (key, number) in rows {
+        assert!(rt; map.remove(*key)? == Some(*number));
+        assert!(rt; map.remove(*key)?.is_none());
     }
-    assert!(rt; owned.next().is_none());
+    Ok(())
+}
+
+// The map of all entries, of which the first half was taken out and put in again.
+fn map_of_all<Q: BorrowedBytes>(
+    rt: &impl Abort,
+    alloc: Global,
+    rows: &[(Q, u32)],
+) -> Result<GenericPatriciaMap<Q::Owned, u32>, AllocError> {
+    let mut map = GenericPatriciaMap::new(alloc);
+    put_all(rt, &mut map, rows)?;
+    assert_eq!(rt; map.len(), 10_000);
+    let half = rows.get(..5_000).unwrap_or(rows);
+    remove_all(rt, &mut map, half)?;
+    assert_eq!(rt; map.len(), 5_000);
+    put_all(rt, &mut map, half)?;
+    assert_eq!(rt; map.len(), 10_000);
+    Ok(map)
+}
+
+#[test]
+fn agrees_with_btree(rt: HostRuntime) -> Result<(), Fail> {
+    let texts = texts(rt.alloc())?;
+    let rows = rows_of(rt.alloc(), &texts)?;
+    let sorted = sorted(rt.alloc(), &rows)?;
+    let map = map_of_all(&rt, rt.alloc(), &rows)?;
+    assert!(rt; walk_entries(&map, &sorted) == Walked::Whole);
+    assert!(rt; walk_keys(&map, &sorted) == Walked::Whole);
+    assert!(rt; walk_values(&map, &sorted) == Walked::Whole);
+    assert!(rt; walk_out(map, &sorted) == Walked::Whole);
     Ok(())
 }

@@ -1,93 +1,13 @@
 // Walks of which one is refused: it ends there, and the next gives everything. `.ci/run` runs this
 // test with the Nth memory request refused, for each N.
-use super::helpers::map_of;
-use patricia_tree::PatriciaMap;
+use super::helpers::{Walked, map_of, walk_entries, walk_keys, walk_out, walk_values};
 use std::test::Fail;
-
-// How a walk compares with the entries that it should give.
-#[derive(Clone, Copy, PartialEq)]
-enum Walked {
-    // it gave them all
-    Whole,
-    // memory ran out, and it ended there
-    Refused,
-    // it gave something else, or did not end
-    Wrong,
-}
-
-fn ended(whole: Walked, end: bool) -> Walked {
-    if end { whole } else { Walked::Wrong }
-}
 
 // Of two walks one may be refused.
 fn fit(first: Walked, second: Walked) -> bool {
     first != Walked::Wrong
         && second != Walked::Wrong
         && (first == Walked::Whole || second == Walked::Whole)
-}
-
-fn walk_entries(tree: &PatriciaMap<u32>, rows: &[(&[u8], u32)]) -> Walked {
-    let mut walk = tree.iter();
-    for (key, value) in rows {
-        match walk.next() {
-            Some(Ok((found, at))) => {
-                if found.as_slice() != *key || *at != *value {
-                    return Walked::Wrong;
-                }
-            }
-            Some(Err(_)) => return ended(Walked::Refused, walk.next().is_none()),
-            None => return Walked::Wrong,
-        }
-    }
-    ended(Walked::Whole, walk.next().is_none())
-}
-
-fn walk_keys(tree: &PatriciaMap<u32>, rows: &[(&[u8], u32)]) -> Walked {
-    let mut walk = tree.keys();
-    for (key, _) in rows {
-        match walk.next() {
-            Some(Ok(found)) => {
-                if found.as_slice() != *key {
-                    return Walked::Wrong;
-                }
-            }
-            Some(Err(_)) => return ended(Walked::Refused, walk.next().is_none()),
-            None => return Walked::Wrong,
-        }
-    }
-    ended(Walked::Whole, walk.next().is_none())
-}
-
-fn walk_values(tree: &PatriciaMap<u32>, rows: &[(&[u8], u32)]) -> Walked {
-    let mut walk = tree.values();
-    for (_, value) in rows {
-        match walk.next() {
-            Some(Ok(at)) => {
-                if *at != *value {
-                    return Walked::Wrong;
-                }
-            }
-            Some(Err(_)) => return ended(Walked::Refused, walk.next().is_none()),
-            None => return Walked::Wrong,
-        }
-    }
-    ended(Walked::Whole, walk.next().is_none())
-}
-
-fn walk_out(tree: PatriciaMap<u32>, rows: &[(&[u8], u32)]) -> Walked {
-    let mut walk = tree.into_iter();
-    for (key, value) in rows {
-        match walk.next() {
-            Some(Ok((found, at))) => {
-                if found.as_slice() != *key || at != *value {
-                    return Walked::Wrong;
-                }
-            }
-            Some(Err(_)) => return ended(Walked::Refused, walk.next().is_none()),
-            None => return Walked::Wrong,
-        }
-    }
-    ended(Walked::Whole, walk.next().is_none())
 }
 
 #[test]
