@@ -13,4 +13,7 @@ as_bytes = record { read = λ field. Some field; print = λ key. key }
 
 -- a field is a key where it is UTF-8
 abbrev pub as_text : Spelling
-as_text = record { read = λ field. if is_utf8 field then Some field else None; print = λ key. key }
+as_text = record {
+  read = λ field. if is_utf8 field then Some field else None;
+  print = λ key. key;
+}

@@ -1,15 +1,17 @@
 -- The lines of an input, and what each says.
-use Rattle.std.specs.Prelude.{ℕ, ◌^◌, List, [], ◌∷◌, length, Option, None, Some, Result, Ok, Err, ◌==◌, ◌&&◌, nat_lt, if◌then◌else◌, map, codes}
+use Rattle.std.specs.Prelude.{ℕ, ◌^◌, List, [], ◌∷◌, length, map, codes}
+use Rattle.std.specs.Prelude.{Option, None, Some, Result, Ok, Err}
+use Rattle.std.specs.Prelude.{◌==◌, ◌&&◌, nat_lt, if◌then◌else◌}
 use Rattle.std.specs.List.{slice_split, list_all}
 use Rattle.std.specs.Char.{is_ascii_digit}
 use Rattle.std.specs.Str.{bytes_eq}
 use Rattle.std.specs.Str.Parse.{digits_value}
 use Rattle.patricia_run.specs.declared.command.Command.{Command}
-use Rattle.patricia_run.specs.declared.command.Command.TheVariants.{Insert, Get, Remove, Len, List as ListAll, Clear}
+use Rattle.patricia_run.specs.declared.command.Command.TheVariants as Commands
 use Rattle.patricia_run.specs.declared.reading.Fault.{Fault}
-use Rattle.patricia_run.specs.declared.reading.Fault.TheVariants.{UnknownWord, FieldCount, BadNumber, BadKey}
-use Rattle.patricia_run.specs.declared.reading.Word as word
-use Rattle.patricia_run.specs.declared.reading.Word.TheVariants as words
+use Rattle.patricia_run.specs.declared.reading.Fault.TheVariants as Faults
+use Rattle.patricia_run.specs.declared.reading.Word.{Word}
+use Rattle.patricia_run.specs.declared.reading.Word.TheVariants as Words
 use Rattle.patricia_run.specs.Machine.{with_key}
 use Rattle.patricia_run.specs.Spellings.{Spelling}
 
@@ -20,29 +22,31 @@ Said = Result (Command (List ℕ) ℕ) Fault
 -- the number that a field writes: one or more digits, of a value below 2^64
 abbrev pub number_of : List ℕ → Option ℕ
 number_of [] = None
-number_of (b ∷ bs) = if list_all is_ascii_digit (b ∷ bs) && nat_lt (digits_value 10 (b ∷ bs)) (2 ^ 64) then Some (digits_value 10 (b ∷ bs)) else None
+number_of (b ∷ bs) =
+    let value = digits_value 10 (b ∷ bs) in
+    if list_all is_ascii_digit (b ∷ bs) && nat_lt value (2 ^ 64) then Some value else None
 
 -- the word that a field is
-abbrev pub word_of : List ℕ → Option word.Word
+abbrev pub word_of : List ℕ → Option Word
 word_of field =
-    if bytes_eq field (codes "insert") then Some words.Insert
-    else (if bytes_eq field (codes "get") then Some words.Get
-    else (if bytes_eq field (codes "remove") then Some words.Remove
-    else (if bytes_eq field (codes "len") then Some words.Len
-    else (if bytes_eq field (codes "list") then Some words.List
-    else (if bytes_eq field (codes "clear") then Some words.Clear
+    if bytes_eq field (codes "insert") then Some Words.Insert
+    else (if bytes_eq field (codes "get") then Some Words.Get
+    else (if bytes_eq field (codes "remove") then Some Words.Remove
+    else (if bytes_eq field (codes "len") then Some Words.Len
+    else (if bytes_eq field (codes "list") then Some Words.List
+    else (if bytes_eq field (codes "clear") then Some Words.Clear
     else None)))))
 
 -- a key, or the fault of a field that spells none
 abbrev pub readable : Option (List ℕ) → Result (List ℕ) Fault
-readable None = Err BadKey
+readable None = Err Faults.BadKey
 readable (Some key) = Ok key
 
 -- an insert of a number that was read, or the lowest fault
 abbrev pub insert_of : Result (List ℕ) Fault → Option ℕ → Said
-insert_of key None = Err BadNumber
+insert_of key None = Err Faults.BadNumber
 insert_of (Err fault) (Some value) = Err fault
-insert_of (Ok key) (Some value) = Ok (Insert key value)
+insert_of (Ok key) (Some value) = Ok (Commands.Insert key value)
 
 -- a command of a key that was read, or its fault
 abbrev pub keyed : (List ℕ → Command (List ℕ) ℕ) → Result (List ℕ) Fault → Said
@@ -52,27 +56,32 @@ keyed command (Ok key) = Ok (command key)
 -- the key that the fields spell, where there is one field
 abbrev pub key_alone : Spelling → List (List ℕ) → Result (List ℕ) Fault
 key_alone spelling (field ∷ []) = readable (spelling.read field)
-key_alone spelling _ = Err FieldCount
+key_alone spelling _ = Err Faults.FieldCount
 
 -- a command whose word stands alone on its line
 abbrev pub alone : Command (List ℕ) ℕ → List (List ℕ) → Said
 alone command [] = Ok command
-alone command (field ∷ fields) = Err FieldCount
+alone command (field ∷ fields) = Err Faults.FieldCount
 
 -- what the fields after a word say
-abbrev pub said_after : Spelling → word.Word → List (List ℕ) → Said
-said_after spelling words.Insert (key ∷ value ∷ []) = insert_of (readable (spelling.read key)) (number_of value)
-said_after spelling words.Insert _ = Err FieldCount
-said_after spelling words.Get fields = keyed (λ key. Get key) (key_alone spelling fields)
-said_after spelling words.Remove fields = keyed (λ key. Remove key) (key_alone spelling fields)
-said_after spelling words.Len fields = alone Len fields
-said_after spelling words.List fields = alone ListAll fields
-said_after spelling words.Clear fields = alone Clear fields
+abbrev pub said_after : Spelling → Word → List (List ℕ) → Said
+said_after spelling Words.Insert (key ∷ value ∷ []) =
+    insert_of (readable (spelling.read key)) (number_of value)
+said_after spelling Words.Insert _ = Err Faults.FieldCount
+said_after spelling Words.Get fields = keyed (λ key. Commands.Get key) (key_alone spelling fields)
+said_after spelling Words.Remove fields =
+    keyed (λ key. Commands.Remove key) (key_alone spelling fields)
+said_after spelling Words.Len fields = alone Commands.Len fields
+said_after spelling Words.List fields = alone Commands.List fields
+said_after spelling Words.Clear fields = alone Commands.Clear fields
 
 -- what the fields of a line say, the first of which is its word
 abbrev pub said_by : Spelling → List (List ℕ) → Said
-said_by spelling [] = Err UnknownWord
-said_by spelling (first ∷ fields) = elim (word_of first) [ None ↦ Err UnknownWord | Some w ↦ said_after spelling w fields ]
+said_by spelling [] = Err Faults.UnknownWord
+said_by spelling (first ∷ fields) = elim (word_of first) [
+  | None ↦ Err Faults.UnknownWord
+  | Some w ↦ said_after spelling w fields
+]
 
 -- what a line says: each byte 9 parts two fields
 abbrev pub said_of : Spelling → List ℕ → Said
@@ -89,7 +98,8 @@ without_last_empty [] = []
 without_last_empty (part ∷ []) = if length part == 0 then [] else part ∷ []
 without_last_empty (part ∷ next ∷ more) = part ∷ without_last_empty (next ∷ more)
 
--- the lines of an input: each ends at a byte 10, and what follows the last one is a line if it has a byte
+-- the lines of an input: each ends at a byte 10, and what follows the last one is a line if it
+-- has a byte
 abbrev pub lines_of : List ℕ → List (List ℕ)
 lines_of input = without_last_empty (slice_split (λ b. b == 10) input)
 

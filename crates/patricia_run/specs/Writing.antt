@@ -3,9 +3,9 @@ use Rattle.std.specs.Prelude.{ℕ, List, [], ◌∷◌, ◌++◌, length, map, c
 use Rattle.std.specs.Fmt.{decimal}
 use Rattle.std.specs.List.{concat}
 use Rattle.patricia_run.specs.declared.command.Reply.{Reply}
-use Rattle.patricia_run.specs.declared.command.Reply.TheVariants.{None as NoValue, Some as Value, Count, Rows, Done, NoMemory}
+use Rattle.patricia_run.specs.declared.command.Reply.TheVariants as Replies
 use Rattle.patricia_run.specs.declared.reading.Fault.{Fault}
-use Rattle.patricia_run.specs.declared.reading.Fault.TheVariants.{UnknownWord, FieldCount, BadNumber, BadKey}
+use Rattle.patricia_run.specs.declared.reading.Fault.TheVariants as Faults
 use Rattle.patricia_run.specs.Spellings.{Spelling}
 use Rattle.patricia_run.specs.Text.{Said}
 
@@ -23,10 +23,10 @@ row_lines spelling key_of rows = concat (map (row_line spelling key_of) rows)
 
 -- the number by which a fault is printed
 abbrev pub fault_number : Fault → ℕ
-fault_number UnknownWord = 1
-fault_number FieldCount = 2
-fault_number BadNumber = 3
-fault_number BadKey = 4
+fault_number Faults.UnknownWord = 1
+fault_number Faults.FieldCount = 2
+fault_number Faults.BadNumber = 3
+fault_number Faults.BadKey = 4
 
 -- the line of a fault
 abbrev pub fault_line : Fault → List ℕ
@@ -34,16 +34,20 @@ fault_line fault = number_line (codes "fault") (fault_number fault)
 
 -- the lines of a reply
 abbrev pub reply_lines : {K : Type 0} → Spelling → (K → List ℕ) → Reply K ℕ → List ℕ
-reply_lines spelling key_of NoValue = codes "none\n"
-reply_lines spelling key_of (Value n) = number_line (codes "some") n
-reply_lines spelling key_of (Count n) = number_line (codes "count") n
-reply_lines spelling key_of (Rows rows) = number_line (codes "rows") (length rows.items) ++ row_lines spelling key_of rows.items
-reply_lines spelling key_of Done = codes "ok\n"
-reply_lines spelling key_of NoMemory = codes "no memory\n"
+reply_lines spelling key_of Replies.None = codes "none\n"
+reply_lines spelling key_of (Replies.Some n) = number_line (codes "some") n
+reply_lines spelling key_of (Replies.Count n) = number_line (codes "count") n
+reply_lines spelling key_of (Replies.Rows rows) =
+    number_line (codes "rows") (length rows.items) ++ row_lines spelling key_of rows.items
+reply_lines spelling key_of Replies.Done = codes "ok\n"
+reply_lines spelling key_of Replies.NoMemory = codes "no memory\n"
 
 -- for each line that was read, in turn, the line of its fault, or the lines of the next reply
-abbrev pub output_of : {K : Type 0} → Spelling → (K → List ℕ) → List Said → List (Reply K ℕ) → List ℕ
+abbrev pub output_of :
+    {K : Type 0} → Spelling → (K → List ℕ) → List Said → List (Reply K ℕ) → List ℕ
 output_of spelling key_of [] replies = []
-output_of spelling key_of (Err fault ∷ said) replies = fault_line fault ++ output_of spelling key_of said replies
-output_of spelling key_of (Ok command ∷ said) (reply ∷ replies) = reply_lines spelling key_of reply ++ output_of spelling key_of said replies
+output_of spelling key_of (Err fault ∷ said) replies =
+    fault_line fault ++ output_of spelling key_of said replies
+output_of spelling key_of (Ok command ∷ said) (reply ∷ replies) =
+    reply_lines spelling key_of reply ++ output_of spelling key_of said replies
 output_of spelling key_of (Ok command ∷ said) [] = output_of spelling key_of said []

@@ -1,4 +1,6 @@
-ghost use Rattle.std.specs.Prelude.{◌≡◌, ℕ, List, ◌∷◌, ◌++◌, IfOk, OnOk, map, Vec, string_bytes};
+//! The answer to an input: its lines are read, done in turn and written.
+
+ghost use Rattle.std.specs.Prelude.{◌≡◌, ℕ, IfOk, map, Vec, string_bytes};
 ghost use Rattle.std.specs.Global.{Global};
 ghost use Rattle.patricia_tree.specs.ByteKind.{IsByteItem};
 ghost use Rattle.patricia_tree.specs.TextKind.{IsTextItem};
@@ -13,9 +15,6 @@ use crate::reading::{Reading, read_lines};
 use crate::spelling::Spelled;
 use crate::writing::write_output;
 use std::alloc::{AllocError, Global};
-
-#[cfg(test)]
-mod tests;
 
 // The commands of the readings that are not faulty.
 fn commands<'a, Q: Spelled<'a>>(
@@ -40,7 +39,8 @@ fn replies<'a, Q: Spelled<'a>>(
     readings: &[Reading<Q>],
 ) -> Result<Vec<Reply<Q::Owned, u64>>, AllocError>
     ensures { IfOk result (λ v. (new : State ℕ) ×
-        Run Q.Owned.item Q.Owned.key empty_state (commands_of (map (said_with Q.key) readings.now)) v.items new) }
+        Run Q.Owned.item Q.Owned.key
+        empty_state (commands_of (map (said_with Q.key) readings.now)) v.items new) }
 {
     let commands = commands(alloc, readings)?;
     let mut bench: Bench<Q::Owned, u64> = Bench::new(alloc);
@@ -49,7 +49,8 @@ fn replies<'a, Q: Spelled<'a>>(
 
 // The answer to an input, over keys of one kind.
 fn answer<'a, Q: Spelled<'a>>(alloc: Global, input: &'a [u8]) -> Result<Vec<u8>, AllocError>
-    ensures { IfOk result (λ output. Answers Q.Owned.item Q.spelling Q.Owned.key input.now output.items) }
+    ensures { IfOk result (λ output.
+        Answers Q.Owned.item Q.spelling Q.Owned.key input.now output.items) }
 {
     let readings: Vec<Reading<Q>> = read_lines(alloc, input)?;
     let replies = replies(alloc, &readings)?;

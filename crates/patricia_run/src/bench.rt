@@ -1,3 +1,5 @@
+//! The bench, which holds the map that commands work on, and what each command does.
+
 ghost use Rattle.std.specs.Prelude.{◌≡◌, ◌≢◌, [], length, IfOk, OnErr, map as list_map};
 ghost use Rattle.std.specs.FinMap as map;
 ghost use Rattle.patricia_run.specs.Machine.{Step, Run, empty_state, rows_of, with_key};
@@ -90,7 +92,8 @@ pub fn run<K: Bytes, V: Copy, Q: BorrowedBytes<Owned = K>>(
     commands: &[Command<Q, V>],
 ) -> Result<Vec<Reply<K, V>>, AllocError>
     ensures ok { IfOk result (λ replies.
-        Run K.item K.key bench.old (list_map (with_key Q.key) commands.now) replies.items bench.new) }
+        Run K.item K.key
+        bench.old (list_map (with_key Q.key) commands.now) replies.items bench.new) }
     ensures unchanged { OnErr result (bench.new ≡ bench.old) }
 {
     let mut replies = Vec::with_capacity(bench.alloc, commands.len())?;
@@ -98,50 +101,4 @@ pub fn run<K: Bytes, V: Copy, Q: BorrowedBytes<Owned = K>>(
         replies.push(bench.step(*command)).unwrap();
     }
     Ok(replies)
-}
-
-#[cfg(test)]
-mod tests {
-    use super::*;
-    use std::test::Fail;
-
-    // The numbers that a run replies with, over keys of any kind.
-    fn numbers<K: Bytes, Q: BorrowedBytes<Owned = K>>(
-        alloc: Global,
-        commands: &[Command<Q, u32>],
-    ) -> Result<Vec<Option<u32>>, AllocError> {
-        let mut bench: Bench<K, u32> = Bench::new(alloc);
-        let mut numbers = Vec::new(alloc);
-        for reply in run(&mut bench, commands)? {
-            numbers.push(match reply {
-                Reply::Some(value) => Some(value),
-                Reply::Count(count) => u32::try_from(count).ok(),
-                _ => None,
-            })?;
-        }
-        Ok(numbers)
-    }
-
-    #[test]
-    fn runs_over_each_kind(rt: HostRuntime) -> Result<(), Fail> {
-        let alloc = rt.alloc();
-        let wanted = [None, Some(1), Some(2), None, Some(1)];
-        let commands = [
-            Command::Insert("foo", 1),
-            Command::Insert("foo", 2),
-            Command::Get("foo"),
-            Command::Get("fo"),
-            Command::Len,
-        ];
-        assert_eq!(rt; numbers(alloc, &commands)?.as_slice(), wanted.as_slice());
-        let commands = [
-            Command::Insert(b"foo".as_slice(), 1),
-            Command::Insert(b"foo".as_slice(), 2),
-            Command::Get(b"foo".as_slice()),
-            Command::Get(b"fo".as_slice()),
-            Command::Len,
-        ];
-        assert_eq!(rt; numbers(alloc, &commands)?.as_slice(), wanted.as_slice());
-        Ok(())
-    }
 }

@@ -1,3 +1,5 @@
+//! Commands and replies.
+
 /// What a bench is told to do.
 #[derive(Clone, Copy, Debug)]
 pub enum Command<Q, V> {

@@ -1,14 +1,16 @@
-//! Commands over a map, their text, and what a program does with them.
+//! A machine of commands over a map, the lines that tell it and that it replies, and the program.
+//! The module `run` has all that a caller uses; its function `run` has no second name here.
 #![tactic(auto)]
 
-pub mod answer;
-pub mod bench;
-pub mod command;
+mod answer;
+mod bench;
+mod command;
+mod program;
 mod reading;
-pub mod serve;
+pub mod run;
 mod spelling;
+#[cfg(test)]
+mod tests;
 mod writing;
 
-pub use answer::answer_bytes;
-pub use bench::{Bench, run};
-pub use command::{Command, Reply};
+pub use run::{Bench, Command, Reply, answer_bytes, answer_text, serve};

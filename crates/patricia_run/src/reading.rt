@@ -1,8 +1,12 @@
+//! What the lines of an input say: each a command, or what is wrong with it.
+
 ghost use Rattle.std.specs.Prelude.{◌≡◌, [], length, IfOk, map, Option, ◌==◌};
 ghost use Rattle.std.specs.List.{slice_split};
 ghost use Rattle.std.specs.Result.{result_map_both};
 ghost use Rattle.patricia_run.specs.Machine.{with_key};
-ghost use Rattle.patricia_run.specs.Text.{number_of, word_of, key_alone, alone, said_after, said_by, said_of, said_with, all_said, lines_of, without_last_empty};
+ghost use Rattle.patricia_run.specs.Text.{number_of, word_of, key_alone, alone, lines_of};
+ghost use Rattle.patricia_run.specs.Text.{said_after, said_by, said_of, said_with, all_said};
+ghost use Rattle.patricia_run.specs.Text.{without_last_empty};
 
 use crate::command::Command;
 use crate::spelling::Spelled;

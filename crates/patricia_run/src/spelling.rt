@@ -1,3 +1,5 @@
+//! How keys are read from a line and printed.
+
 ghost use Rattle.std.specs.Prelude.{◌≡◌, ◌++◌, OnOk};
 ghost use Rattle.std.specs.Option.{option_map};
 ghost use Rattle.patricia_run.specs.Spellings.{Spelling, as_bytes, as_text};

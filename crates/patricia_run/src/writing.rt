@@ -1,6 +1,9 @@
+//! The lines that are written for faults and replies.
+
 ghost use Rattle.std.specs.Prelude.{◌≡◌, ℕ, List, [], ◌∷◌, ◌++◌, length, IfOk, OnOk, map};
 ghost use Rattle.patricia_run.specs.Text.{Said, said_with};
-ghost use Rattle.patricia_run.specs.Writing.{number_line, row_line, row_lines, fault_line, reply_lines, output_of};
+ghost use Rattle.patricia_run.specs.Writing.{number_line, row_line, row_lines, fault_line};
+ghost use Rattle.patricia_run.specs.Writing.{reply_lines, output_of};
 
 use crate::command::Reply;
 use crate::reading::{Fault, Reading};
@@ -95,7 +98,8 @@ fn write_answer<'a, 'b, Q: Spelled<'a>>(
 ) -> Result<&'b [Reply<Q::Owned, u64>], AllocError>
     ensures { IfOk result (λ more. (rest : List Said) →
         out.new.items ++ output_of Q.spelling Q.Owned.key rest more.now
-        ≡ out.old.items ++ output_of Q.spelling Q.Owned.key (said_with Q.key reading.now ∷ rest) left.now) }
+        ≡ out.old.items
+        ++ output_of Q.spelling Q.Owned.key (said_with Q.key reading.now ∷ rest) left.now) }
 {
     match reading {
         Err(fault) => {
@@ -119,7 +123,8 @@ pub fn write_output<'a, Q: Spelled<'a>>(
     replies: &[Reply<Q::Owned, u64>],
 ) -> Result<Vec<u8>, AllocError>
     ensures { IfOk result (λ out.
-        out.items ≡ output_of Q.spelling Q.Owned.key (map (said_with Q.key) readings.now) replies.now) }
+        out.items
+        ≡ output_of Q.spelling Q.Owned.key (map (said_with Q.key) readings.now) replies.now) }
 {
     let mut out = Vec::new(alloc);
     let mut left = replies;

@@ -1,10 +1,6 @@
 //! A map whose keys are byte strings or texts and share their common prefixes.
 #![tactic(auto)]
 
-#[cfg(test)]
-mod counts;
-#[cfg(test)]
-mod key_tests;
 pub mod map;
 
 pub use map::{GenericPatriciaMap, PatriciaMap, StringPatriciaMap};

@@ -7,12 +7,6 @@ ghost use Rattle.patricia_core.specs.Keys.{AreSingle, IsValid};
 ghost use Rattle.patricia_core.specs.Points.{CountsVisits, Joins};
 
 mod iter;
-#[cfg(test)]
-mod removal_tests;
-#[cfg(test)]
-mod tests;
-#[cfg(test)]
-mod text_tests;
 
 pub use iter::{IntoIter, Iter, Keys, Values};
 use patricia_core::Steps;

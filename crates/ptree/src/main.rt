@@ -2,17 +2,36 @@
 #![tactic(auto)]
 
 use std::alloc::Global;
-use std::env;
-use std::io::{self, Write};
+use std::env::{self, Env, FillError};
+use std::io::{self, ErrorKind, Write};
 use std::process::ExitCode;
 
-// The words after the program's name.
-fn words(rt: &HostRuntime) -> io::Result<Vec<String>> {
-    let mut words = Vec::new(rt.alloc());
-    for word in env::args(rt)?.skip(1) {
-        words.push(word)?;
+/// The arguments after the program's name, which need not be UTF-8.
+#[derive(Drop)]
+struct AfterName<'a>(&'a HostRuntime);
+
+impl<'a> Env for AfterName<'a> {
+    fn arg(&self, i: usize, buf: &mut [u8]) -> Result<usize, FillError> {
+        self.0.arg(i.saturating_add(1), buf)
     }
-    Ok(words)
+
+    fn var(&self, name: &str, buf: &mut [u8]) -> Result<usize, FillError> {
+        self.0.var(name, buf)
+    }
+
+    fn var_at(&self, i: usize, buf: &mut [u8]) -> Result<usize, FillError> {
+        self.0.var_at(i, buf)
+    }
+}
+
+// The words after the program's name. Where one is not UTF-8 there are none, and these name no
+// kind of keys either.
+fn words(rt: &HostRuntime) -> io::Result<Vec<String>> {
+    match env::args(&(AfterName(rt), rt.alloc())) {
+        Ok(words) => Ok(words.collect(rt.alloc())?),
+        Err(error) if error.kind() == ErrorKind::InvalidData => Ok(Vec::new(rt.alloc())),
+        Err(error) => Err(error),
+    }
 }
 
 fn main(rt: HostRuntime) -> ExitCode {
@@ -21,5 +40,5 @@ fn main(rt: HostRuntime) -> ExitCode {
         return ExitCode::from(1);
     };
     let alloc: Global = rt.alloc();
-    ExitCode::from(patricia_run::serve::serve(alloc, &words, rt.stdin(), rt.stdout(), rt.stderr()))
+    ExitCode::from(patricia_run::serve(alloc, &words, rt.stdin(), rt.stdout(), rt.stderr()))
 }

@@ -126,6 +126,3 @@ impl<K: Bytes, V: Drop> Iterator for IntoIter<K, V> {
 }
 
 impl<K: Bytes, V: Drop> FusedIterator for IntoIter<K, V> {}
-
-#[cfg(test)]
-mod tests;

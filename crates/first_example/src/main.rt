@@ -1,0 +1,18 @@
+//! The first example of the README: three words, a look-up, and the entries in order.
+#![tactic(auto)]
+
+use patricia_tree::PatriciaMap;
+use std::str;
+
+fn main(rt: HostRuntime) -> anyhow::Result<()> {
+    let mut map = PatriciaMap::new(rt.alloc());
+    for (word, number) in [("foo", 1), ("bar", 2), ("baz", 3)] {
+        map.insert(word.as_bytes(), number)?;
+    }
+    println!(rt; "baz is {:?}", map.get(b"baz".as_slice()))?;
+    for entry in &map {
+        let (key, number) = entry?;
+        println!(rt; "{} {number}", str::from_utf8(&key)?)?;
+    }
+    Ok(())
+}

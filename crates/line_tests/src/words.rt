@@ -1,0 +1,125 @@
+//! How calls and answers are written.
+//!
+//! In an argument `%` and two hexadecimal digits stand for a byte, and `*` and a number at its end
+//! say how often the rest is repeated, so that `*` alone is the empty key.
+
+use patricia_tree::BorrowedBytes;
+use std::alloc::{AllocError, Global};
+use std::str;
+
+/// A key that can be read from bytes.
+pub trait Readable<'a>: BorrowedBytes {
+    /// The key of these bytes, or `None` where they are no key.
+    fn read(bytes: &'a [u8]) -> Option<Self>;
+}
+
+impl<'a> Readable<'a> for &'a [u8] {
+    fn read(bytes: &'a [u8]) -> Option<&'a [u8]> {
+        Some(bytes)
+    }
+}
+
+impl<'a> Readable<'a> for &'a str {
+    fn read(bytes: &'a [u8]) -> Option<&'a str> {
+        str::from_utf8(bytes).ok()
+    }
+}
+
+// The value of a hexadecimal digit.
+fn digit(byte: u8) -> u8 {
+    match byte {
+        b'0'..=b'9' => byte - b'0',
+        b'A'..=b'F' => byte - b'A' + 10,
+        _ => 0,
+    }
+}
+
+fn unescaped(alloc: Global, text: &str) -> Result<Vec<u8>, AllocError> {
+    let mut bytes = Vec::new(alloc);
+    let mut left = text.as_bytes();
+    for _ in 0..left.len() {
+        match left {
+            [b'%', high, low, rest @ ..] => {
+                bytes.push(digit(*high) << 4 | digit(*low))?;
+                left = rest;
+            }
+            [byte, rest @ ..] => {
+                bytes.push(*byte)?;
+                left = rest;
+            }
+            [] => break,
+        }
+    }
+    Ok(bytes)
+}
+
+// The bytes that a word stands for.
+fn argument(alloc: Global, word: &str) -> Result<Vec<u8>, AllocError> {
+    match word.split_once('*') {
+        Some((text, times)) => unescaped(alloc, text)?.repeat(alloc, number(times.as_bytes())),
+        None => unescaped(alloc, word),
+    }
+}
+
+fn arguments(alloc: Global, words: &[&str]) -> Result<Vec<Vec<u8>>, AllocError> {
+    let mut arguments = Vec::new(alloc);
+    for word in words {
+        arguments.push(argument(alloc, word)?)?;
+    }
+    Ok(arguments)
+}
+
+/// A line that is a call.
+#[derive(Drop)]
+pub struct Call<'t> {
+    pub line: &'t str,
+    pub kind: &'t str,
+    pub name: &'t str,
+    pub arguments: Vec<Vec<u8>>,
+}
+
+/// The calls among the lines of a text.
+pub fn calls<'t>(alloc: Global, text: &'t str) -> Result<Vec<Call<'t>>, AllocError> {
+    let mut calls = Vec::new(alloc);
+    for line in text.lines() {
+        let words: Vec<&'t str> = line.split(' ').collect(alloc)?;
+        if let [kind, name, words @ ..] = words.as_slice() {
+            calls.push(Call {
+                line,
+                kind,
+                name,
+                arguments: arguments(alloc, words)?,
+            })?;
+        }
+    }
+    Ok(calls)
+}
+
+/// The number that some digits write, or 0.
+pub fn number(digits: &[u8]) -> usize {
+    let Ok(text) = str::from_utf8(digits) else {
+        return 0;
+    };
+    text.parse::<usize>().unwrap_or(0)
+}
+
+/// The bytes of a key, written with letters, digits and escapes.
+pub fn written(alloc: Global, bytes: &[u8]) -> Result<String, AllocError> {
+    let mut text = String::new(alloc);
+    for byte in bytes {
+        if byte.is_ascii_alphanumeric() {
+            text.push(char::from(*byte))?;
+        } else {
+            text.push_str(&format!(in alloc; "%{byte:02X}")?)?;
+        }
+    }
+    Ok(text)
+}
+
+/// A value, or `none`.
+pub fn value_or_none(alloc: Global, value: Option<u64>) -> Result<String, AllocError> {
+    match value {
+        Some(value) => value.to_string(alloc),
+        None => String::from_str(alloc, "none"),
+    }
+}

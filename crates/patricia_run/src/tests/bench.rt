@@ -1,0 +1,52 @@
+//! The bench over each kind of keys.
+
+use crate::run::run;
+use crate::{Bench, Command, Reply};
+use patricia_tree::{BorrowedBytes, Bytes};
+use std::alloc::Global;
+use std::process::Abort;
+use std::test::Fail;
+
+// Asserts that a run of a new bench replies with these numbers, over keys of any kind.
+fn check_numbers<K: Bytes, Q: BorrowedBytes<Owned = K>>(
+    rt: &impl Abort,
+    alloc: Global,
+    commands: &[Command<Q, u32>],
+    wanted: &[Option<u32>],
+) -> Result<(), Fail> {
+    let mut bench: Bench<K, u32> = Bench::new(alloc);
+    let mut numbers = Vec::new(alloc);
+    for reply in run(&mut bench, commands)? {
+        numbers.push(match reply {
+            Reply::Some(value) => Some(value),
+            Reply::Count(count) => u32::try_from(count).ok(),
+            _ => None,
+        })?;
+    }
+    assert_eq!(rt; numbers.as_slice(), wanted);
+    Ok(())
+}
+
+// Two inserts of a key, and what is then there.
+fn commands<Q: Copy>(key: Q, beginning: Q) -> [Command<Q, u32>; 5] {
+    [
+        Command::Insert(key, 1),
+        Command::Insert(key, 2),
+        Command::Get(key),
+        Command::Get(beginning),
+        Command::Len,
+    ]
+}
+
+const NUMBERS: [Option<u32>; 5] = [None, Some(1), Some(2), None, Some(1)];
+
+#[test]
+fn runs_over_texts(rt: HostRuntime) -> Result<(), Fail> {
+    check_numbers(&rt, rt.alloc(), &commands("foo", "fo"), &NUMBERS)
+}
+
+#[test]
+fn runs_over_bytes(rt: HostRuntime) -> Result<(), Fail> {
+    let commands = commands(b"foo".as_slice(), b"fo".as_slice());
+    check_numbers(&rt, rt.alloc(), &commands, &NUMBERS)
+}

@@ -1,0 +1,314 @@
+//! The program's statuses and lines, over streams that may fail.
+
+use super::helpers::{Pieces, Progress, Takes, add_numbers, add_times, list_of};
+use crate::serve;
+use std::alloc::{AllocError, Global};
+use std::io::ErrorKind;
+use std::process::Abort;
+
+const USAGE: &str = "usage: ptree bytes|text\n";
+
+const READ_FAILED: &str = "ptree: read failed\n";
+
+const OUT_OF_MEMORY: &str = "ptree: out of memory\n";
+
+const WRITE_FAILED: &str = "ptree: write failed\n";
+
+/// How the streams of a run behave.
+#[derive(Clone, Copy)]
+struct Streams {
+    read_failure: Option<ErrorKind>,
+    room: usize,
+    fails_to_flush: bool,
+    error_room: usize,
+}
+
+// Streams that do not fail.
+const SOUND: Streams = Streams {
+    read_failure: None,
+    room: 1_000_000,
+    fails_to_flush: false,
+    error_room: 100,
+};
+
+/// What a run comes to: its status, output and error line.
+#[derive(Clone, Copy)]
+struct End<'a> {
+    status: u8,
+    output: &'a [u8],
+    errors: &'a str,
+}
+
+// Runs the program over such streams. It gives the status, and how far the input was read.
+fn run_over(
+    alloc: Global,
+    words: &[String],
+    text: &[u8],
+    streams: Streams,
+    output: &mut Vec<u8>,
+    errors: &mut Vec<u8>,
+) -> (u8, Progress) {
+    let mut progress = Progress::Unasked;
+    let input = Pieces {
+        text,
+        piece: 5,
+        failure: streams.read_failure,
+        progress: &mut progress,
+    };
+    let output = Takes {
+        taken: output,
+        room: streams.room,
+        fails_to_flush: streams.fails_to_flush,
+    };
+    let errors = Takes {
+        taken: errors,
+        room: streams.error_room,
+        fails_to_flush: false,
+    };
+    let status = serve(alloc, words, input, output, errors);
+    (status, progress)
+}
+
+// Asserts what a run over such streams comes to, and how far its input was read.
+fn check_run(
+    rt: &impl Abort,
+    alloc: Global,
+    words: &[&str],
+    text: &[u8],
+    streams: Streams,
+    end: End,
+    read: Progress,
+) -> Result<(), AllocError> {
+    let words = list_of(alloc, words)?;
+    let mut output = Vec::new(alloc);
+    let mut errors = Vec::new(alloc);
+    let (status, progress) = run_over(alloc, &words, text, streams, &mut output, &mut errors);
+    assert_eq!(rt; status, end.status);
+    assert_eq!(rt; output.len(), end.output.len());
+    assert!(rt; output.as_slice() == end.output);
+    assert_eq!(rt; errors.as_slice(), end.errors.as_bytes());
+    assert_eq!(rt; progress, read);
+    Ok(())
+}
+
+// Asserts the whole answer to an input over streams that do not fail.
+fn check_answer(
+    rt: &impl Abort,
+    alloc: Global,
+    word: &str,
+    text: &[u8],
+    output: &[u8],
+) -> Result<(), AllocError> {
+    let end = End {
+        status: 0,
+        output,
+        errors: "",
+    };
+    check_run(rt, alloc, &[word], text, SOUND, end, Progress::Ended)
+}
+
+#[test]
+fn answers_for_each_kind(rt: HostRuntime) -> Result<(), AllocError> {
+    let alloc = rt.alloc();
+    let text = b"get\t\xe3\x81\ninsert\t\xe3\x81\x82\t7\nlist".as_slice();
+    let output = b"none\nnone\nrows 1\n\xe3\x81\x82 7\n".as_slice();
+    check_answer(&rt, alloc, "bytes", text, output)?;
+    let output = b"fault 4\nnone\nrows 1\n\xe3\x81\x82 7\n".as_slice();
+    check_answer(&rt, alloc, "text", text, output)
+}
+
+// Asserts the status 1, what was written and the error line of a short run.
+fn check_failure(
+    rt: &impl Abort,
+    alloc: Global,
+    streams: Streams,
+    output: &str,
+    errors: &str,
+) -> Result<(), AllocError> {
+    let text = b"insert\ta\t7\nget\ta".as_slice();
+    let end = End {
+        status: 1,
+        output: output.as_bytes(),
+        errors,
+    };
+    let read = match streams.read_failure {
+        Some(_) => Progress::Begun,
+        None => Progress::Ended,
+    };
+    check_run(rt, alloc, &["bytes"], text, streams, end, read)
+}
+
+// Want of memory while the input is read counts as a failure to read.
+#[test]
+fn failures_to_read(rt: HostRuntime) -> Result<(), AllocError> {
+    let alloc = rt.alloc();
+    let fails = Streams {
+        read_failure: Some(ErrorKind::Other),
+        ..SOUND
+    };
+    check_failure(&rt, alloc, fails, "", READ_FAILED)?;
+    let mute = Streams {
+        error_room: 0,
+        ..fails
+    };
+    check_failure(&rt, alloc, mute, "", "")?;
+    let starved = Streams {
+        read_failure: Some(ErrorKind::OutOfMemory),
+        ..SOUND
+    };
+    check_failure(&rt, alloc, starved, "", READ_FAILED)
+}
+
+// An answer that was not taken whole, or not flushed, is a failure to write.
+#[test]
+fn failures_to_write(rt: HostRuntime) -> Result<(), AllocError> {
+    let alloc = rt.alloc();
+    let full = Streams { room: 0, ..SOUND };
+    check_failure(&rt, alloc, full, "", WRITE_FAILED)?;
+    let small = Streams { room: 3, ..SOUND };
+    check_failure(&rt, alloc, small, "non", WRITE_FAILED)?;
+    let curt = Streams {
+        error_room: 5,
+        ..small
+    };
+    check_failure(&rt, alloc, curt, "non", "ptree")?;
+    let stuck = Streams {
+        fails_to_flush: true,
+        ..SOUND
+    };
+    check_failure(&rt, alloc, stuck, "none\nsome 7\n", WRITE_FAILED)
+}
+
+// Asserts that words are refused before the input is asked for anything.
+fn check_usage(
+    rt: &impl Abort,
+    alloc: Global,
+    words: &[&str],
+    error_room: usize,
+    errors: &str,
+) -> Result<(), AllocError> {
+    let streams = Streams {
+        read_failure: Some(ErrorKind::Other),
+        error_room,
+        ..SOUND
+    };
+    let end = End {
+        status: 2,
+        output: b"".as_slice(),
+        errors,
+    };
+    check_run(
+        rt,
+        alloc,
+        words,
+        b"len\n".as_slice(),
+        streams,
+        end,
+        Progress::Unasked,
+    )
+}
+
+#[test]
+fn usage(rt: HostRuntime) -> Result<(), AllocError> {
+    let alloc = rt.alloc();
+    check_usage(&rt, alloc, &[], 100, USAGE)?;
+    check_usage(&rt, alloc, &["Bytes"], 100, USAGE)?;
+    check_usage(&rt, alloc, &["texts"], 100, USAGE)?;
+    check_usage(&rt, alloc, &[""], 100, USAGE)?;
+    check_usage(&rt, alloc, &["text", "bytes"], 100, USAGE)?;
+    check_usage(&rt, alloc, &["bytes", "bytes"], 0, "")
+}
+
+// More than 65,535 commands: more than 20,000 entries, many looks at no key, and a long key.
+fn large_input(alloc: Global, long: &[u8]) -> Result<Vec<u8>, AllocError> {
+    let mut input = Vec::new(alloc);
+    let insert = b"insert\t".as_slice();
+    add_numbers(
+        alloc,
+        &mut input,
+        insert,
+        (10_000, 30_100),
+        b"\t7\n".as_slice(),
+    )?;
+    add_times(&mut input, b"get\t\n".as_slice(), 45_500)?;
+    input.extend_from_slice(insert)?;
+    input.extend_from_slice(long)?;
+    input.extend_from_slice(b"\t8\nlist\n".as_slice())?;
+    Ok(input)
+}
+
+// What the large input is answered. The numbers are in key order, since they are of one length.
+fn large_output(alloc: Global, long: &[u8]) -> Result<Vec<u8>, AllocError> {
+    let mut output = Vec::new(alloc);
+    add_times(&mut output, b"none\n".as_slice(), 20_100 + 45_500 + 1)?;
+    output.extend_from_slice(b"rows 20101\n".as_slice())?;
+    add_numbers(
+        alloc,
+        &mut output,
+        b"".as_slice(),
+        (10_000, 30_100),
+        b" 7\n".as_slice(),
+    )?;
+    output.extend_from_slice(long)?;
+    output.extend_from_slice(b" 8\n".as_slice())?;
+    Ok(output)
+}
+
+// Of an input and an answer of near half a million bytes each, nothing is cut.
+#[test]
+fn large_input_and_answer(rt: HostRuntime) -> Result<(), AllocError> {
+    let alloc = rt.alloc();
+    let mut long = Vec::new(alloc);
+    add_times(&mut long, b"k".as_slice(), 2_000)?;
+    let input = large_input(alloc, &long)?;
+    let output = large_output(alloc, &long)?;
+    check_answer(&rt, alloc, "bytes", &input, &output)?;
+    check_answer(&rt, alloc, "text", &input, &output)
+}
+
+// What a run may answer where one memory request is refused, if it is one of its map.
+const ANSWERS: [&str; 5] = [
+    "none\nnone\nsome 1\nrows 1\nac 2\nok\ncount 0\n",
+    "no memory\nnone\nnone\nrows 1\nac 2\nok\ncount 0\n",
+    "none\nno memory\nsome 1\nrows 0\nok\ncount 0\n",
+    "none\nnone\nno memory\nrows 2\nab 1\nac 2\nok\ncount 0\n",
+    "none\nnone\nsome 1\nno memory\nok\ncount 0\n",
+];
+
+// With one memory request refused, the output is whole, or the status is 1 and the line says
+// whether the end of the input had been seen. `.ci/run` refuses the Nth request, for each N.
+#[test]
+fn refused_in_turn(rt: HostRuntime) {
+    let alloc = rt.alloc();
+    let (Ok(words), Ok(mut output), Ok(mut errors)) = (
+        list_of(alloc, &["text"]),
+        Vec::with_capacity(alloc, 100),
+        Vec::with_capacity(alloc, 100),
+    ) else {
+        return;
+    };
+    let mut progress = Progress::Unasked;
+    let input = Pieces {
+        text: b"insert\tab\t1\ninsert\tac\t2\nremove\tab\nlist\nclear\nlen\n".as_slice(),
+        piece: 5,
+        failure: None,
+        progress: &mut progress,
+    };
+    let status = serve(alloc, &words, input, &mut output, &mut errors);
+    if status == 0 {
+        assert!(rt;
+            ANSWERS
+                .iter()
+                .any(|answer| answer.as_bytes() == output.as_slice())
+        );
+        assert!(rt; errors.is_empty());
+        return;
+    }
+    assert_eq!(rt; status, 1);
+    assert!(rt; output.is_empty());
+    let line = match progress {
+        Progress::Ended => OUT_OF_MEMORY,
+        _ => READ_FAILED,
+    };
+    assert_eq!(rt; errors.as_slice(), line.as_bytes());
+}

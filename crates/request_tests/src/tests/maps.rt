@@ -1,0 +1,163 @@
+ghost use Rattle.std.specs.Prelude.{◌≡◌, ◌<◌};
+
+use super::helpers::map_of;
+use patricia_tree::{BorrowedBytes, GenericPatriciaMap, Steps};
+use std::alloc::{AllocError, Global};
+use std::marker::Brand;
+use std::process::Abort;
+use std::sync::ledger::{Blank, Ledger};
+use std::test::Fail;
+
+// Each call on each key, which is stored or is not.
+fn look_up_all<Q: BorrowedBytes, L: Ledger>(
+    rt: &impl Abort,
+    map: &GenericPatriciaMap<Q::Owned, u64>,
+    keys: &[Q],
+    is_stored: bool,
+    blank: Blank,
+)
+    requires name { blank.name ≡ L.name }
+    requires parts { blank.parts ≡ L.parts }
+    requires some { 0 < L.parts }
+{
+    let mut steps: Steps<L> = Steps::new(blank);
+    for key in keys {
+        assert!(rt; map.contains_key(*key) == is_stored);
+        assert!(rt; map.get(*key).is_some() == is_stored);
+        assert!(rt; map.get_counted(*key, &mut steps).is_some() == is_stored);
+    }
+}
+
+fn insert_all<Q: BorrowedBytes>(
+    rt: &impl Abort,
+    map: &mut GenericPatriciaMap<Q::Owned, u64>,
+    keys: &[Q],
+    is_stored: bool,
+) -> Result<(), AllocError> {
+    for key in keys {
+        let len = key.as_bytes().len() as u64;
+        let Ok(old) = map.insert(*key, len) else {
+            return Err(AllocError);
+        };
+        assert!(rt; old.is_some() == is_stored);
+    }
+    Ok(())
+}
+
+fn remove_all<Q: BorrowedBytes>(
+    rt: &impl Abort,
+    map: &mut GenericPatriciaMap<Q::Owned, u64>,
+    keys: &[Q],
+    is_stored: bool,
+) -> Result<(), AllocError> {
+    for key in keys {
+        assert!(rt; map.remove(*key)?.is_some() == is_stored);
+    }
+    Ok(())
+}
+
+// Makes walks, and asks those of an empty map for an entry.
+fn make_walks<Q: BorrowedBytes>(
+    rt: &impl Abort,
+    alloc: Global,
+    map: GenericPatriciaMap<Q::Owned, u64>,
+) {
+    drop(map.iter());
+    drop(map.keys());
+    drop(map.values());
+    drop(map.into_iter());
+    let mut empty: GenericPatriciaMap<Q::Owned, u64> = GenericPatriciaMap::new(alloc);
+    assert!(rt; empty.iter().next().is_none());
+    assert!(rt; empty.keys().next().is_none());
+    assert!(rt; empty.values().next().is_none());
+    empty.clear();
+    assert!(rt; empty.into_iter().next().is_none());
+}
+
+// The keys of a test. No removal of `removed`, in its order, joins labels.
+#[derive(Clone, Copy)]
+struct Keys<'a, Q> {
+    stored: &'a [Q],
+    absent: &'a [Q],
+    removed: &'a [Q],
+    empty: &'a [Q],
+}
+
+// Makes two maps, and then each call.
+fn call_all<Q: BorrowedBytes>(
+    rt: &impl Abort,
+    alloc: Global,
+    keys: Keys<'_, Q>,
+) -> Result<(), AllocError> {
+    let mut map = map_of(alloc, keys.stored)?;
+    let mut full = map_of(alloc, keys.stored)?;
+    full.clear();
+    assert!(rt; full.is_empty());
+    look_up_all::<Q, Brand>(rt, &map, keys.stored, true, Blank::new(1));
+    look_up_all::<Q, Brand>(rt, &map, keys.absent, false, Blank::new(1));
+    insert_all(rt, &mut map, keys.stored, true)?;
+    remove_all(rt, &mut map, keys.absent, false)?;
+    remove_all(rt, &mut map, keys.removed, true)?;
+    remove_all(rt, &mut map, keys.removed, false)?;
+    insert_all(rt, &mut map, keys.empty, false)?;
+    let left = keys.stored.len().saturating_sub(keys.removed.len());
+    assert_eq!(rt; map.len(), left.saturating_add(1));
+    assert!(rt; !map.is_empty());
+    make_walks::<Q>(rt, alloc, map);
+    Ok(())
+}
+
+// Makes two maps.
+fn make<Q: BorrowedBytes>(
+    rt: &impl Abort,
+    alloc: Global,
+    keys: Keys<'_, Q>,
+) -> Result<(), AllocError> {
+    let map = map_of(alloc, keys.stored)?;
+    let full = map_of(alloc, keys.stored)?;
+    assert_eq!(rt; map.len(), full.len());
+    Ok(())
+}
+
+// A leaf of three siblings, the node above the other two, a leaf whose sibling keeps the node
+// above, which has a value, then the sibling, the node above, a leaf of the first row, and the
+// empty key.
+const BYTES: Keys<'static, &'static [u8]> = Keys {
+    stored: &[
+        b"", b"foo", b"fooa", b"foob", b"fooc", b"bar", b"barn", b"bars", b"x",
+    ],
+    absent: &[b"fo", b"food", b"fooaa", b"a", b"zebra", b"barnacle"],
+    removed: &[b"foob", b"foo", b"barn", b"bars", b"bar", b"x", b""],
+    empty: &[b""],
+};
+
+const TEXTS: Keys<'static, &'static str> = Keys {
+    stored: &["", "あ", "あい", "あう", "あえ", "い", "いろ", "いは", "x"],
+    absent: &["う", "あお", "あいう", "a", "んん", "いろは"],
+    removed: &["あう", "あ", "いろ", "いは", "い", "x", ""],
+    empty: &[""],
+};
+
+#[test]
+fn bytes_made(rt: HostRuntime) -> Result<(), Fail> {
+    make(&rt, rt.alloc(), BYTES)?;
+    Ok(())
+}
+
+#[test]
+fn bytes_called(rt: HostRuntime) -> Result<(), Fail> {
+    call_all(&rt, rt.alloc(), BYTES)?;
+    Ok(())
+}
+
+#[test]
+fn texts_made(rt: HostRuntime) -> Result<(), Fail> {
+    make(&rt, rt.alloc(), TEXTS)?;
+    Ok(())
+}
+
+#[test]
+fn texts_called(rt: HostRuntime) -> Result<(), Fail> {
+    call_all(&rt, rt.alloc(), TEXTS)?;
+    Ok(())
+}

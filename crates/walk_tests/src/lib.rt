@@ -1,0 +1,5 @@
+//! Tests of walks over small and large maps.
+#![tactic(auto)]
+
+#[cfg(test)]
+mod tests;

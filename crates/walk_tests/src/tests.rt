@@ -1,0 +1,5 @@
+mod decimals;
+mod ends;
+mod helpers;
+mod listings;
+mod refusals;

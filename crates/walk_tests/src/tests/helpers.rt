@@ -1,0 +1,121 @@
+use patricia_tree::{BorrowedBytes, Bytes, GenericPatriciaMap};
+use std::alloc::{AllocError, Global};
+
+// What loops over maps is written for any kind of keys, which is much shorter to prove than for one.
+
+// Puts a value in.
+pub fn put<Q: BorrowedBytes>(
+    map: &mut GenericPatriciaMap<Q::Owned, u32>,
+    key: Q,
+    value: u32,
+) -> Result<Option<u32>, AllocError> {
+    match map.insert(key, value) {
+        Ok(old) => Ok(old),
+        Err(_) => Err(AllocError),
+    }
+}
+
+// A map of these entries. An insert that is refused is tried once more.
+pub fn map_of<Q: BorrowedBytes>(
+    alloc: Global,
+    rows: &[(Q, u32)],
+) -> Result<GenericPatriciaMap<Q::Owned, u32>, AllocError> {
+    let mut map = GenericPatriciaMap::new(alloc);
+    for (key, value) in rows {
+        if put(&mut map, *key, *value).is_err() {
+            put(&mut map, *key, *value)?;
+        }
+    }
+    Ok(map)
+}
+
+// How a walk compares with the entries that it should give.
+#[derive(Clone, Copy, PartialEq)]
+pub enum Walked {
+    // it gave them all
+    Whole,
+    // memory ran out, and it ended there
+    Refused,
+    // it gave something else, or did not end
+    Wrong,
+}
+
+fn ended(whole: Walked, end: bool) -> Walked {
+    if end { whole } else { Walked::Wrong }
+}
+
+pub fn walk_entries<Q: BorrowedBytes>(
+    map: &GenericPatriciaMap<Q::Owned, u32>,
+    rows: &[(Q, u32)],
+) -> Walked {
+    let mut walk = map.iter();
+    for (key, value) in rows {
+        match walk.next() {
+            Some(Ok((found, at))) => {
+                if found.as_bytes() != key.as_bytes() || *at != *value {
+                    return Walked::Wrong;
+                }
+            }
+            Some(Err(_)) => return ended(Walked::Refused, walk.next().is_none()),
+            None => return Walked::Wrong,
+        }
+    }
+    ended(Walked::Whole, walk.next().is_none())
+}
+
+pub fn walk_keys<Q: BorrowedBytes>(
+    map: &GenericPatriciaMap<Q::Owned, u32>,
+    rows: &[(Q, u32)],
+) -> Walked {
+    let mut walk = map.keys();
+    for (key, _) in rows {
+        match walk.next() {
+            Some(Ok(found)) => {
+                if found.as_bytes() != key.as_bytes() {
+                    return Walked::Wrong;
+                }
+            }
+            Some(Err(_)) => return ended(Walked::Refused, walk.next().is_none()),
+            None => return Walked::Wrong,
+        }
+    }
+    ended(Walked::Whole, walk.next().is_none())
+}
+
+pub fn walk_values<Q: BorrowedBytes>(
+    map: &GenericPatriciaMap<Q::Owned, u32>,
+    rows: &[(Q, u32)],
+) -> Walked {
+    let mut walk = map.values();
+    for (_, value) in rows {
+        match walk.next() {
+            Some(Ok(at)) => {
+                if *at != *value {
+                    return Walked::Wrong;
+                }
+            }
+            Some(Err(_)) => return ended(Walked::Refused, walk.next().is_none()),
+            None => return Walked::Wrong,
+        }
+    }
+    ended(Walked::Whole, walk.next().is_none())
+}
+
+pub fn walk_out<Q: BorrowedBytes>(
+    map: GenericPatriciaMap<Q::Owned, u32>,
+    rows: &[(Q, u32)],
+) -> Walked {
+    let mut walk = map.into_iter();
+    for (key, value) in rows {
+        match walk.next() {
+            Some(Ok((found, at))) => {
+                if found.as_bytes() != key.as_bytes() || at != *value {
+                    return Walked::Wrong;
+                }
+            }
+            Some(Err(_)) => return ended(Walked::Refused, walk.next().is_none()),
+            None => return Walked::Wrong,
+        }
+    }
+    ended(Walked::Whole, walk.next().is_none())
+}

@@ -1,0 +1,83 @@
+// What a `for` over each walk gives, by the walk's contract.
+ghost use Rattle.std.specs.Prelude.{◌≡◌, IfOk, map as each};
+ghost use Rattle.std.specs.FinMap as map;
+ghost use Rattle.std.specs.Vec.Iter.{into_iter_items};
+
+use super::helpers::map_of;
+use patricia_tree::{Bytes, GenericPatriciaMap};
+use std::alloc::{AllocError, Global};
+use std::test::Fail;
+
+// Every entry of a map, for any kind of keys.
+fn listed<K: Bytes, V: Copy + Drop>(
+    alloc: Global,
+    tree: &GenericPatriciaMap<K, V>,
+) -> Result<Vec<(K, V)>, AllocError>
+    ensures { IfOk result (λ list. each (λ e. (K.key e.0, e.1)) list.items ≡ map.entries tree.now) }
+{
+    let mut list = Vec::new(alloc);
+    for item in tree {
+        let (key, value) = item?;
+        list.push((key, *value))?;
+    }
+    Ok(list)
+}
+
+// Every key of a map.
+fn listed_keys<K: Bytes, V: Drop>(
+    alloc: Global,
+    tree: &GenericPatriciaMap<K, V>,
+) -> Result<Vec<K>, AllocError>
+    ensures { IfOk result (λ list. each K.key list.items ≡ map.keys tree.now) }
+{
+    let mut list = Vec::new(alloc);
+    for key in tree.keys() {
+        list.push(key?)?;
+    }
+    Ok(list)
+}
+
+// Every value of a map.
+fn listed_values<K: Bytes, V: Copy + Drop>(
+    alloc: Global,
+    tree: &GenericPatriciaMap<K, V>,
+) -> Result<Vec<V>, AllocError>
+    ensures { IfOk result (λ list. list.items ≡ map.values tree.now) }
+{
+    let mut list = Vec::new(alloc);
+    for value in tree.values() {
+        list.push(*value?)?;
+    }
+    Ok(list)
+}
+
+// Every entry of a map, taken out.
+fn taken<K: Bytes, V: Drop>(
+    alloc: Global,
+    tree: GenericPatriciaMap<K, V>,
+) -> Result<Vec<(K, V)>, AllocError>
+    ensures { IfOk result (λ list. each (λ e. (K.key e.0, e.1)) list.items ≡ map.entries tree) }
+{
+    let mut list = Vec::new(alloc);
+    for item in tree {
+        list.push(item?)?;
+    }
+    Ok(list)
+}
+
+#[test]
+fn lists_four(rt: HostRuntime) -> Result<(), Fail> {
+    let rows = [
+        (b"foo".as_slice(), 1),
+        (b"bar".as_slice(), 2),
+        (b"".as_slice(), 9),
+        (b"ba".as_slice(), 8),
+    ];
+    let tree = map_of(rt.alloc(), &rows)?;
+    let values = listed_values(rt.alloc(), &tree)?;
+    assert!(rt; values.as_slice() == [9, 8, 2, 1].as_slice());
+    assert_eq!(rt; listed_keys(rt.alloc(), &tree)?.len(), 4);
+    assert_eq!(rt; listed(rt.alloc(), &tree)?.len(), 4);
+    assert_eq!(rt; taken(rt.alloc(), tree)?.len(), 4);
+    Ok(())
+}

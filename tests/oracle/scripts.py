@@ -1,0 +1,80 @@
+"""Random command scripts, all from a seeded random.Random."""
+
+ITEMS = {
+    'bytes': [b'a', b'b', b'\0', b'\xff'],
+    'text': [x.encode() for x in 'abéèあのい🌏🗻🍔'],
+}
+BINARY = [bytes([x]) for x in range(256) if x not in (9, 10)]
+
+
+def char(rng):
+    """A random character of 1 to 4 bytes, no tab or newline."""
+    top = rng.choice([0x80, 0x800, 0x10000, 0x110000])
+    while True:
+        c = chr(rng.randrange(top))
+        if c not in '\t\n' and not 0xD800 <= ord(c) < 0xE000:
+            return c.encode()
+
+
+def key_maker(rng, kind, shape):
+    """A function that makes a fresh key as a list of items."""
+    few = rng.sample(ITEMS[kind], 3)
+    stems = [rng.choices(few, k=rng.randrange(1, 12)) for _ in range(4)]
+
+    def make():
+        if shape == 'short':
+            return rng.choices(few, k=rng.randrange(7))
+        if shape == 'shared':
+            return rng.choice(stems) + rng.choice([[], rng.choice(stems)]) + rng.choices(few, k=2)
+        if shape == 'wide':
+            wide = (lambda: rng.choice(BINARY)) if kind == 'bytes' else (lambda: char(rng))
+            return [wide() for _ in range(rng.randrange(5))]
+        if shape == 'nested':
+            return few[:1] * rng.randrange(40)
+        if shape == 'long':
+            length = rng.choice([253, 254, 255, 256, 300, 509, 510, 511, 700])
+            count = rng.choice([length // len(few[0]), length // len(few[0]), 3])
+            return few[:1] * count + rng.choices(few, k=rng.randrange(4))
+        return [bytes([d]) for d in b'%d' % rng.randrange(3000)]
+    return make
+
+
+SHAPES = 'short', 'shared', 'wide', 'nested', 'long', 'numbers'
+WEIGHTS = {b'insert': 40, b'remove': 16, b'get': 8, b'len': 2, b'list': 2, b'clear': .2}
+FIELDS = {b'insert': 2, b'remove': 1, b'get': 1, b'len': 0, b'list': 0, b'clear': 0}
+NUMBERS = [b'0', b'1', b'007', b'18446744073709551615', b'00018446744073709551615']
+FAULTY = [b'', b'put\ta', b'get', b'len\t', b'insert\ta', b'insert\ta\t', b'insert\ta\tx',
+          b'insert\ta\t-1', b'insert\ta\t18446744073709551616', b'get\ta\tb', b'Get\ta',
+          b'insert\ta\t+1', b'insert\ta\t1 ', b' len', b'len\r', b'insert\ta\t1\t', b'\t']
+
+
+def near_key(rng, known, make, inserts):
+    """A fresh key, or one that is near a known one."""
+    near, how = rng.choice(known), rng.randrange(6)
+    if how == 0 or inserts and how < 4:
+        return make()
+    if how == 1:
+        return near[:rng.randrange(len(near) + 1)]
+    if how == 2:
+        return near + make()[:3]
+    if how == 3 and near:
+        at = rng.randrange(len(near))
+        return near[:at] + make()[:1] + near[at + 1:]
+    return near
+
+
+def script(rng, kind, shape, size, faults=.03):
+    """`size` command lines, then `len` and `list`; keys of queries are mostly near stored ones."""
+    make, known, out = key_maker(rng, kind, shape), [[]], []
+    weights = [x * rng.choice([.3, 1, 1, 3]) for x in WEIGHTS.values()]
+    for n in range(size):
+        if rng.random() < faults:
+            out.append(rng.choice(FAULTY))
+            continue
+        word = rng.choices(list(WEIGHTS), weights)[0]
+        key = near_key(rng, known, make, word == b'insert')
+        if word == b'insert' or rng.random() < .05:
+            known.append(key)
+        number = rng.choice(NUMBERS) if rng.random() < .05 else b'%d' % n
+        out.append(b'\t'.join([word, b''.join(key), number][:1 + FIELDS[word]]))
+    return b''.join(line + b'\n' for line in [*out, b'len', b'list'])
