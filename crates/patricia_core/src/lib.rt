@@ -5,6 +5,8 @@
 
 pub mod into_walk;
 mod label;
+#[cfg(test)]
+mod both_tests;
 mod link;
 mod node;
 mod removal;

@@ -9,8 +9,6 @@ pub mod into_walk;
 mod removal;
 mod room;
 mod seek;
-#[cfg(test)]
-mod tests;
 pub mod walk;
 
 use crate::label::Label;
