@@ -7,14 +7,4 @@ pub use Rattle.patricia_rows.specs.Rows
 pub use Rattle.patricia_rows.specs.ThreeKeys
 pub use Rattle.patricia_rows.specs.Trees
 pub use Rattle.patricia_rows.specs.Walks
-pub use Rattle.patricia_rows.specs.Private.Counts
-pub use Rattle.patricia_rows.specs.Private.Meeting
-pub use Rattle.patricia_rows.specs.Private.Removals
-pub use Rattle.patricia_rows.specs.Private.Spots
-pub mod Frees
-pub mod Growth
-pub mod Links
-pub mod Places
-pub mod Plans
 pub mod Private
-pub mod Writes

@@ -1,6 +1,2 @@
 -- Words of contracts that no user of the library meets: a reader need not believe them.
-pub mod Labels
-pub mod Lent
-pub mod Nodes
-pub mod Owned
-pub mod Positions
+pub mod Stores

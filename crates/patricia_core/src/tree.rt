@@ -6,13 +6,12 @@ ghost use Rattle.std.specs.List.{All};
 ghost use Rattle.patricia_keys.specs.Keys.{AreSingle, IsValid};
 ghost use Rattle.patricia_rows.specs.Points.{CountsVisits, Joins};
 
-use crate::into_walk::IntoWalk;
-pub use crate::node::Refused;
-use crate::node::{self, Row};
-use crate::removal;
-use crate::steps::Steps;
-use crate::walk::Walk;
 use patricia_keys::{BorrowedBytes, Bytes};
+use patricia_nodes::Steps;
+use patricia_nodes::slots::Slots;
+pub use patricia_nodes::slots::Refused;
+use patricia_nodes::slots::into_walk::IntoWalk;
+use patricia_nodes::slots::walk::Walk;
 use std::alloc::{AllocError, Global};
 use std::marker::{Brand, Model, PhantomData};
 use std::sync::ledger::{Blank, Ledger};
@@ -24,7 +23,7 @@ pub struct Tree<K: Bytes, V> {
     // the value of the empty key
     value: Option<V>,
     // the nodes of the other keys
-    first: Row<V>,
+    slots: Slots<V>,
     // how many they are
     count: usize,
     kind: PhantomData<K>,
@@ -39,12 +38,13 @@ impl<K: Bytes, V> Model for Tree<K, V> {
 
     ghost coded = { map.code (coded_list coded_ℕ) V.code };
 
-    ghost use Rattle.patricia_rows.specs.Trees.{map_of, IsTree};
-    ghost use Rattle.patricia_core.specs.Private.Nodes.{row_of};
+    ghost use Rattle.patricia_rows.specs.Trees.{map_of};
+    ghost use Rattle.patricia_nodes.specs.Private.Plans.{row_of};
+    ghost use Rattle.patricia_core.specs.Private.Stores.{IsStored};
 
-    ghost view = { λ t. map_of t.value (row_of t.first) };
+    ghost view = { λ t. map_of t.value (row_of t.slots) };
 
-    ghost invariant = { λ t. IsTree K.item (row_of t.first) t.count };
+    ghost invariant = { λ t. IsStored K.item t.slots t.count };
 }
 
 impl<K: Bytes, V: Drop> Tree<K, V> {
@@ -55,10 +55,15 @@ impl<K: Bytes, V: Drop> Tree<K, V> {
         Tree {
             alloc,
             value: None,
-            first: Row::End,
+            slots: Slots::new(alloc),
             count: 0,
             kind: PhantomData,
         }
+    }
+
+    /// How many nodes the vector has, used or free.
+    pub fn slots(&self) -> usize {
+        self.slots.slots()
     }
 
     /// The number of entries, that of the empty key included.
@@ -84,7 +89,7 @@ impl<K: Bytes, V: Drop> Tree<K, V> {
         ensures { self.new ≡ map.empty }
     {
         self.value = None;
-        self.first = Row::End;
+        self.slots.clear();
         self.count = 0;
     }
 
@@ -103,7 +108,7 @@ impl<K: Bytes, V: Drop> Tree<K, V> {
         if key.is_empty() {
             self.value.as_ref()
         } else {
-            node::get_counted(&self.first, key, steps)
+            self.slots.get_counted(key, steps)
         }
     }
 
@@ -145,7 +150,7 @@ impl<K: Bytes, V: Drop> Tree<K, V> {
         if self.count == usize::MAX - 1 && self.get(key).is_none() {
             return Err(Refused { value });
         }
-        match node::insert(self.alloc, &mut self.first, key, value) {
+        match self.slots.insert(self.alloc, key, value) {
             Ok(None) => {
                 self.count += 1;
                 Ok(None)
@@ -166,7 +171,7 @@ impl<K: Bytes, V: Drop> Tree<K, V> {
         if key.is_empty() {
             return Ok(self.value.take());
         }
-        match removal::remove(self.alloc, &mut self.first, key) {
+        match self.slots.remove(self.alloc, key) {
             Ok(Some(old)) => {
                 self.count -= 1;
                 Ok(Some(old))
@@ -188,7 +193,7 @@ impl<K: Bytes, V: Drop> Tree<K, V> {
     pub fn walk(&self) -> Walk<'_, K, V>
         ensures { result ≡ map.entries self.now }
     {
-        Walk::new(self.alloc, self.value.as_ref(), &self.first)
+        Walk::new(self.alloc, self.value.as_ref(), &self.slots)
     }
 
     /// A walk that takes the entries out, in key order. Making it takes no memory.
@@ -198,9 +203,9 @@ impl<K: Bytes, V: Drop> Tree<K, V> {
         let Tree {
             alloc,
             value,
-            first,
+            slots,
             ..
         } = self;
-        IntoWalk::new(alloc, value, first)
+        IntoWalk::new(alloc, value, slots)
     }
 }

@@ -1,15 +1,15 @@
 use Rattle.std.proofs.Common.{sym, ◌∙◌, refl, arith}
 use mathlib.Core.Bool.{false≢true}
-use Rattle.patricia_core.specs.Private.Nodes.{row_of}
+use Rattle.patricia_nodes.specs.Private.Plans.{row_of}
 use Rattle.patricia_rows.proofs.TreeLemmas.{get_empty, get_filled, insert_empty, insert_filled, length_new, length_old, option_map_none, option_map_not_none}
 use Rattle.patricia_core.proofs.tree.Tree.insert.Goals as goal
 use Rattle.patricia_core.proofs.tree.Tree.insert.Goals.{else-self-via-then-self+else-is_none, else-self-via-else-self}
 
 pub returns-then-is_empty-clause-old : goal.returns-then-is_empty-clause-old
-returns-then-is_empty-clause-old g c = rw (← c.self.view_is, c.if-is_empty.ensures.0 refl) (c.replace.ensures.value ∙ sym (get_empty g.K.Bytes.item g.met.K.Bytes.lawful _ _ c.self.invariant.row_ok))
+returns-then-is_empty-clause-old g c = rw (← c.self.view_is, c.if-is_empty.ensures.0 refl) (c.replace.ensures.value ∙ sym (get_empty g.K.Bytes.item g.met.K.Bytes.lawful _ _ c.self.invariant.tree.row_ok))
 
 pub returns-then-is_empty-clause-ok : goal.returns-then-is_empty-clause-ok
-returns-then-is_empty-clause-ok g c = rw (← c.self.view_is, c.if-is_empty.ensures.0 refl, c.replace.ensures.after) (insert_empty g.K.Bytes.item g.met.K.Bytes.lawful _ _ c.args.value c.self.invariant.row_ok)
+returns-then-is_empty-clause-ok g c = rw (← c.self.view_is, c.if-is_empty.ensures.0 refl, c.replace.ensures.after) (insert_empty g.K.Bytes.item g.met.K.Bytes.lawful _ _ c.args.value c.self.invariant.tree.row_ok)
 
 pub returns-then-is_none-clause-only_new : goal.returns-then-is_none-clause-only_new
 returns-then-is_none-clause-only_new g c =
@@ -18,11 +18,11 @@ returns-then-is_none-clause-only_new g c =
 pub invariant_of-self-in-Ok-None : goal.invariant_of-self-in-Ok-None
 invariant_of-self-in-Ok-None g c =
     let new = sym c.in-Ok-None.ensures.old ∙ c.in-Ok-None.field-0-is in
-    let none = get_filled g.K.Bytes.item g.met.K.Bytes.lawful _ _ _ c.self.invariant.row_ok (λ none. absurd (false≢true (c.if-is_empty.ensures.1 none))) ∙ new in
+    let none = get_filled g.K.Bytes.item g.met.K.Bytes.lawful _ _ _ c.self.invariant.tree.row_ok (λ none. absurd (false≢true (c.if-is_empty.ensures.1 none))) ∙ new in
     record {
       row_ok = c.in-Ok-None.ensures.row;
-      counted = rw c.self.invariant.counted (sym (length_new g.K.Bytes.item g.met.K.Bytes.lawful (row_of c.self.inside.first) (row_of c.insert.new.row) _ c.args.value c.self.invariant.row_ok c.in-Ok-None.ensures.ok new));
-      fits = elim c.else-self.branch [ else-self-via-then-self+else-is_none w ↦ absurd (option_map_not_none (λ x. x.now) w.get.result (rw (← c.self.view_is) at w.get.ensures ∙ none) w.if-is_none.ensures) | else-self-via-else-self w ↦ omega (arith, c.self.invariant.fits) ];
+      counted = rw c.self.invariant.tree.counted (sym (length_new g.K.Bytes.item g.met.K.Bytes.lawful (row_of c.self.inside.slots) (row_of c.insert.new.self) _ c.args.value c.self.invariant.tree.row_ok c.in-Ok-None.ensures.ok new));
+      fits = elim c.else-self.branch [ else-self-via-then-self+else-is_none w ↦ absurd (option_map_not_none (λ x. x.now) w.get.result (rw (← c.self.view_is) at w.get.ensures ∙ none) w.if-is_none.ensures) | else-self-via-else-self w ↦ omega (arith, c.self.invariant.tree.fits) ];
     }
 
 pub invariant_of-self-in-Ok-Some : goal.invariant_of-self-in-Ok-Some
@@ -30,26 +30,26 @@ invariant_of-self-in-Ok-Some g c =
     let found = sym c.in-Ok-Some.ensures.old ∙ c.in-Ok-Some.field-0-is in
     record {
       row_ok = c.in-Ok-Some.ensures.row;
-      counted = c.self.invariant.counted ∙ sym (length_old g.K.Bytes.item g.met.K.Bytes.lawful (row_of c.self.inside.first) (row_of c.insert.new.row) _ c.args.value c.in-Ok-Some.old c.self.invariant.row_ok c.in-Ok-Some.ensures.ok found);
-      fits = c.self.invariant.fits;
+      counted = c.self.invariant.tree.counted ∙ sym (length_old g.K.Bytes.item g.met.K.Bytes.lawful (row_of c.self.inside.slots) (row_of c.insert.new.self) _ c.args.value c.in-Ok-Some.old c.self.invariant.tree.row_ok c.in-Ok-Some.ensures.ok found);
+      fits = c.self.invariant.tree.fits;
     }
 
 pub returns-in-Ok-None-clause-old : goal.returns-in-Ok-None-clause-old
 returns-in-Ok-None-clause-old g c =
-    rw (← c.self.view_is) (sym c.in-Ok-None.field-0-is ∙ c.in-Ok-None.ensures.old ∙ sym (get_filled g.K.Bytes.item g.met.K.Bytes.lawful _ _ _ c.self.invariant.row_ok (λ none. absurd (false≢true (c.if-is_empty.ensures.1 none)))))
+    rw (← c.self.view_is) (sym c.in-Ok-None.field-0-is ∙ c.in-Ok-None.ensures.old ∙ sym (get_filled g.K.Bytes.item g.met.K.Bytes.lawful _ _ _ c.self.invariant.tree.row_ok (λ none. absurd (false≢true (c.if-is_empty.ensures.1 none)))))
 
 pub returns-in-Ok-None-clause-ok : goal.returns-in-Ok-None-clause-ok
 returns-in-Ok-None-clause-ok g c =
-    rw (← c.self.view_is) (insert_filled g.K.Bytes.item g.met.K.Bytes.lawful _ (row_of c.self.inside.first) (row_of c.insert.new.row) _ c.args.value c.self.invariant.row_ok (λ none. absurd (false≢true (c.if-is_empty.ensures.1 none))) c.in-Ok-None.ensures.ok)
+    rw (← c.self.view_is) (insert_filled g.K.Bytes.item g.met.K.Bytes.lawful _ (row_of c.self.inside.slots) (row_of c.insert.new.self) _ c.args.value c.self.invariant.tree.row_ok (λ none. absurd (false≢true (c.if-is_empty.ensures.1 none))) c.in-Ok-None.ensures.ok)
 
 pub returns-in-Ok-Some-clause-old : goal.returns-in-Ok-Some-clause-old
 returns-in-Ok-Some-clause-old g c =
-    rw (← c.self.view_is) (sym c.in-Ok-Some.field-0-is ∙ c.in-Ok-Some.ensures.old ∙ sym (get_filled g.K.Bytes.item g.met.K.Bytes.lawful _ _ _ c.self.invariant.row_ok (λ none. absurd (false≢true (c.if-is_empty.ensures.1 none)))))
+    rw (← c.self.view_is) (sym c.in-Ok-Some.field-0-is ∙ c.in-Ok-Some.ensures.old ∙ sym (get_filled g.K.Bytes.item g.met.K.Bytes.lawful _ _ _ c.self.invariant.tree.row_ok (λ none. absurd (false≢true (c.if-is_empty.ensures.1 none)))))
 
 pub returns-in-Ok-Some-clause-ok : goal.returns-in-Ok-Some-clause-ok
 returns-in-Ok-Some-clause-ok g c =
-    rw (← c.self.view_is) (insert_filled g.K.Bytes.item g.met.K.Bytes.lawful _ (row_of c.self.inside.first) (row_of c.insert.new.row) _ c.args.value c.self.invariant.row_ok (λ none. absurd (false≢true (c.if-is_empty.ensures.1 none))) c.in-Ok-Some.ensures.ok)
+    rw (← c.self.view_is) (insert_filled g.K.Bytes.item g.met.K.Bytes.lawful _ (row_of c.self.inside.slots) (row_of c.insert.new.self) _ c.args.value c.self.invariant.tree.row_ok (λ none. absurd (false≢true (c.if-is_empty.ensures.1 none))) c.in-Ok-Some.ensures.ok)
 
 pub returns-in-Err-clause-only_new : goal.returns-in-Err-clause-only_new
 returns-in-Err-clause-only_new g c =
-    rw (← c.self.view_is) (get_filled g.K.Bytes.item g.met.K.Bytes.lawful _ _ _ c.self.invariant.row_ok (λ none. absurd (false≢true (c.if-is_empty.ensures.1 none))) ∙ c.in-Err.ensures.only_new)
+    rw (← c.self.view_is) (get_filled g.K.Bytes.item g.met.K.Bytes.lawful _ _ _ c.self.invariant.tree.row_ok (λ none. absurd (false≢true (c.if-is_empty.ensures.1 none))) ∙ c.in-Err.ensures.only_new)

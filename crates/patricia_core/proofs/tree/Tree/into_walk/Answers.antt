@@ -4,4 +4,4 @@ use Rattle.patricia_rows.proofs.TreeLemmas.{entries_map}
 use Rattle.patricia_core.proofs.tree.Tree.into_walk.Goals as goal
 
 pub returns : goal.returns
-returns g c = c.new.ensures ∙ sym (entries_map g.K.Bytes.item g.met.K.Bytes.lawful _ _ c.self.invariant.row_ok) ∙ ap map.entries c.self.view_is
+returns g c = c.new.ensures ∙ sym (entries_map g.K.Bytes.item g.met.K.Bytes.lawful _ _ c.self.invariant.tree.row_ok) ∙ ap map.entries c.self.view_is

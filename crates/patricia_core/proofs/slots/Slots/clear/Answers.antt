@@ -1,7 +1,0 @@
-use Rattle.std.proofs.Common.{[]}
-use Rattle.patricia_core.specs.Plans.{Nil}
-use Rattle.patricia_core.proofs.PlanLemmas.{sound_none}
-use Rattle.patricia_core.proofs.slots.Slots.clear.Goals as goal
-
-pub returns-clause-whole : goal.returns-clause-whole
-returns-clause-whole g c = rw (c.none-self.ensures, c.none-self-2.ensures) (Nil, ([], sound_none _ c.clear.ensures.items))

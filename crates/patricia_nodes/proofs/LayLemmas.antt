@@ -1,0 +1,167 @@
+-- All nodes are laid anew, row by row.
+use Rattle.std.proofs.Common.{◌≡◌, inl, inr, ℕ, zero, suc, ◌+◌, ◌<◌, ◌≤◌, List, [], ◌∷◌, ◌++◌, length, set, get_or, Option, Some, None, slice_get, refl, sym, ap, subst, ◌∙◌, arith, length-append, length-set}
+use Rattle.std.proofs.lemmas.Bool.{cases_lt}
+use Rattle.std.proofs.lemmas.Bool.Decides.{nat_tests}
+use Rattle.patricia_nodes.specs.declared.slots.Node.{Node}
+use Rattle.patricia_nodes.specs.Private.Plans.{Plan, linked, head, row, size, count, below, Stands, IsSound, plan_at}
+use Rattle.patricia_nodes.specs.Private.Growth.{tops, numbered, laid, IsTopRow, TakesRow}
+use Rattle.patricia_nodes.proofs.PlanLemmas.{below_le, below_in, plan_is, node_is}
+use Rattle.patricia_nodes.proofs.WriteLemmas.{get-set_same, get-set_other}
+use Rattle.patricia_nodes.proofs.RelayLemmas.{Mix, flat, first_of, flat_first, Lies, IsUpTo, news, olds, waits, OpenAt, opened, step, row-opened, size-opened, first-opened, olds-opened, waits-opened, news-opened, up_to-opened, row-step, size-step, first-step, step-moves, open_exists, opens_at, open_within, top_row, tops_within, up_to-step, lies-opened, length-laid, lies-step, lies_done}
+
+below_out : (n at : ℕ) → n ≤ at → below n at ≡ 0
+below_out n at h = grind (arith, nat_tests)
+
+all_turns : (i n : ℕ) → i ≤ n → n ≤ i → i ≡ n
+all_turns i n a b = omega arith
+
+module _ {V : Type 0} where
+  -- the first of two lists
+  get_front : (xs ys : List (Node V)) (i : ℕ) → i < length xs → slice_get (xs ++ ys) i ≡ slice_get xs i
+  get_front [] ys i h = absurd (omega arith)
+  get_front (x ∷ xs) ys zero h = refl
+  get_front (x ∷ xs) ys (suc i) h = get_front xs ys i (omega arith)
+
+  same_node : {a b : Node V} → Some a ≡ Some b → a ≡ b
+  same_node e = cc
+
+  -- the nodes before i have their children in the new vector, and together they are the plan
+  pub record Laying (p : Plan V) (from : List (Node V)) (i : ℕ) (to : List (Node V)) (root : Option ℕ) : Type 0 where
+    pub mix : Mix V
+    pub row_is : row (flat mix) ≡ row p
+    pub size_is : size (flat mix) ≡ size p
+    pub root_is : root ≡ first_of mix
+    pub lies : Lies from to mix
+    pub up_to : IsUpTo i mix
+    pub news_once : (at : ℕ) → news mix at ≡ below (length to) at
+    pub olds_once : (at : ℕ) → olds mix at ≤ 1
+    pub sized : length to + waits mix ≡ size p
+    pub within : i ≤ length to
+
+  -- a number of a sound plan stands there once at most
+  pub counted_once : (nodes : List (Node V)) (root free : Option ℕ) (p : Plan V) (spare : List ℕ) → IsSound nodes root free p spare → (at : ℕ) → count p at ≤ 1
+  counted_once nodes root free p spare sound at = omega (arith, sound.once at, below_le (length nodes) at)
+
+  -- the top row is there
+  pub laying_start : (p : Plan V) (from later to0 to : List (Node V)) (root : Option ℕ) → Stands from p → ((at : ℕ) → count p at ≤ 1) → TakesRow from later p → to0 ≡ [] → to ≡ to0 ++ laid (length to0) p → root ≡ head (numbered (length to0) p) → Laying p later 0 to root
+  laying_start p from later to0 to root stands once takes none moved first =
+      let is : to ≡ laid 0 p = rw none at moved in
+      let at_is : root ≡ head (numbered 0 p) = rw none at first in
+      let long : length to ≡ length (tops p) = ap length is ∙ length-laid 0 p in
+      record {
+        mix = opened 0 p;
+        row_is = row-opened 0 p;
+        size_is = size-opened 0 p;
+        root_is = at_is ∙ sym (first-opened 0 p);
+        lies = lies-opened from later [] to p stands (λ at n. takes.others at (omega (arith, olds-opened 0 p at, once at))) (λ at h. ap (λ xs. slice_get xs at) is);
+        up_to = up_to-opened 0 0 p (omega arith);
+        news_once = λ at. let came = news-opened 0 p at in let none : below 0 at ≡ 0 = grind (arith, nat_tests) in let same : 0 + length (tops p) ≡ length (tops p) = omega arith in omega (arith, ap (λ k. below k at) long, ap (λ k. below k at) same);
+        olds_once = λ at. omega (arith, olds-opened 0 p at, once at);
+        sized = omega (arith, waits-opened 0 p);
+        within = omega arith;
+      }
+
+  -- the children of the next node are a row that can be moved, and there is room for it
+  pub record NextRow (p : Plan V) (from : List (Node V)) (i : ℕ) (to : List (Node V)) (mix : Mix V) : Type 0 where
+    pub row : Plan V
+    pub due : OpenAt i mix row
+    pub parent : Node V
+    pub there : slice_get to i ≡ Some parent
+    pub top : IsTopRow from parent.child row
+    pub room : length to + length (tops row) ≤ size p
+
+  pub laying_row : (p : Plan V) (from : List (Node V)) (i : ℕ) (to : List (Node V)) (root : Option ℕ) (l : Laying p from i to root) → i < length to → NextRow p from i to l.mix
+  laying_row p from i to root l short =
+      let some = open_exists i l.mix l.up_to (omega (arith, l.news_once i, below_in (length to) i short)) in
+      let w = some.0 in
+      let opens = opens_at from to i l.mix w l.lies some.1 in
+      let within = open_within i l.mix w some.1 in
+      record {
+        row = w;
+        due = some.1;
+        parent = opens.1.0;
+        there = opens.1.1;
+        top = top_row from _ w opens.0 opens.1.2 (λ k. omega (arith, within.1 k, l.olds_once k));
+        room = omega (arith, l.sized, within.0, (tops_within w).0);
+      }
+
+  -- as the node is read
+  pub next_top : (p : Plan V) (from : List (Node V)) (i : ℕ) (to : List (Node V)) (mix : Mix V) (next : NextRow p from i to mix) (n : Node V) → n ≡ get_or to i n → IsTopRow from n.child next.row
+  next_top p from i to mix next n reads = rw (node_is to i n next.parent next.there reads) next.top
+
+  laying_on : (p : Plan V) (from later : List (Node V)) (i : ℕ) (to final : List (Node V)) (root : Option ℕ) (l : Laying p from i to root) → i < length to → (next : NextRow p from i to l.mix) → TakesRow from later next.row
+      → final ≡ set (to ++ laid (length to) next.row) i (linked next.parent.label next.parent.value (head (numbered (length to) next.row)) next.parent.sibling) → Laying p later (suc i) final root
+  laying_on p from later i to final root l short next takes is =
+      let w = next.row in
+      let n = length to in
+      let whole = to ++ laid n w in
+      let new = linked next.parent.label next.parent.value (head (numbered n w)) next.parent.sibling in
+      let long : length final ≡ n + length (tops w) = ap length is ∙ length-set whole i new ∙ length-append to (laid n w) ∙ ap (λ k. n + k) (length-laid n w) in
+      let once : news l.mix i ≤ 1 = omega (arith, l.news_once i, below_le n i) in
+      let moves = step-moves i n l.mix w once next.due in
+      record {
+        mix = step i n l.mix;
+        row_is = row-step i n l.mix ∙ l.row_is;
+        size_is = size-step i n l.mix ∙ l.size_is;
+        root_is = l.root_is ∙ sym (first-step i n l.mix);
+        lies = lies-step from later to final i w
+            (λ at h k. ap (λ xs. slice_get xs at) is ∙ get-set_other whole i at new k ∙ get_front to (laid n w) at h)
+            (λ m at. ap (λ xs. slice_get xs i) is ∙ get-set_same whole i new (omega (arith, length-append to (laid n w))) ∙ ap (λ (x : Node V). Some (linked x.label x.value (head (numbered n w)) x.sibling)) (same_node (sym next.there ∙ at)))
+            (λ at h. ap (λ xs. slice_get xs at) is ∙ get-set_other whole i at new (λ e. omega arith))
+            l.mix once next.due
+            (λ at k. elim (cases_lt at n) [ inl h ↦ h | inr h ↦ absurd (k (l.news_once at ∙ below_out n at h)) ])
+            (λ at k. takes.others at (omega (arith, moves.left at, l.olds_once at)))
+            l.lies;
+        up_to = up_to-step i n l.mix l.up_to short;
+        news_once = λ at. omega (arith, moves.came at, l.news_once at, ap (λ k. below k at) long);
+        olds_once = λ at. omega (arith, moves.left at, l.olds_once at);
+        sized = omega (arith, l.sized, moves.waits, long);
+        within = omega (arith, long);
+      }
+
+  -- once they are moved and the node has their new number, it is the next one's turn
+  pub laying_next : (p : Plan V) (from later : List (Node V)) (i : ℕ) (to final : List (Node V)) (root : Option ℕ) (l : Laying p from i to root) → i < length to → (next : NextRow p from i to l.mix) → TakesRow from later next.row
+      → (moved : List (Node V)) → moved ≡ to ++ laid (length to) next.row → (first : Option ℕ) → first ≡ head (numbered (length to) next.row) → (n : Node V) → n ≡ get_or moved i n → final ≡ set moved i (linked n.label n.value first n.sibling) → Laying p later (i + 1) final root
+  laying_next p from later i to final root l short next takes moved comes first first_is n reads written =
+      let parent : n ≡ next.parent = node_is moved i n next.parent (ap (λ xs. slice_get xs i) comes ∙ get_front to (laid (length to) next.row) i short ∙ next.there) reads in
+      let is : final ≡ set (to ++ laid (length to) next.row) i (linked next.parent.label next.parent.value (head (numbered (length to) next.row)) next.parent.sibling) = rw (← parent, ← first_is, ← comes) written in
+      subst (λ k. Laying p later k final root) (omega arith) (laying_on p from later i to final root l short next takes is)
+
+  -- and at the end they are sound, and the same row
+  pub laying_done : (p : Plan V) (from : List (Node V)) (i : ℕ) (to : List (Node V)) (root : Option ℕ) → Laying p from i to root → length to ≤ i → (q : Plan V) × IsSound to root None q [] × (row q ≡ row p)
+  laying_done p from i to root l all =
+      let done = lies_done from to l.mix l.lies (subst (λ k. IsUpTo k l.mix) (all_turns i (length to) l.within all) l.up_to) in
+      let q = flat l.mix in (
+        q,
+        record {
+          plan_ok = record { stands = done.0; at_is = l.root_is ∙ flat_first l.mix; fits = omega (arith, l.size_is, l.sized, done.2) };
+          chain = tt;
+          free_is = refl;
+          once = λ at. omega (arith, done.1 at, l.news_once at);
+          total = omega (arith, l.size_is, l.sized, done.2);
+        },
+        l.row_is,
+      )
+
+  -- the plan that is read, as a row to move
+  pub record Readable (nodes : List (Node V)) (root : Option ℕ) (p : Plan V) : Type 0 where
+    pub stands : Stands nodes p
+    pub once : (at : ℕ) → count p at ≤ 1
+    pub top : IsTopRow nodes root p
+    pub fits : size p ≤ length nodes
+    pub room : length (tops p) ≤ length nodes
+
+  pub readable : (nodes : List (Node V)) (root free : Option ℕ) (p : Plan V) (spare : List ℕ) → IsSound nodes root free p spare → Readable nodes root (plan_at nodes root)
+  readable nodes root free p spare sound =
+      let once = counted_once nodes root free p spare sound in
+      rw (plan_is nodes root p sound.plan_ok) (record {
+        stands = sound.plan_ok.stands;
+        once = once;
+        top = top_row nodes root p sound.plan_ok.stands sound.plan_ok.at_is once;
+        fits = sound.plan_ok.fits;
+        room = omega (arith, sound.plan_ok.fits, (tops_within p).0);
+      })
+
+  -- the row that is read is that of the sound plan
+  pub same_row : (to : List (Node V)) (root free : Option ℕ) (q p : Plan V) (spare : List ℕ) → IsSound to root free q spare → row q ≡ row p → row (plan_at to root) ≡ row p
+  same_row to root free q p spare sound e = ap (λ (x : Plan V). row x) (plan_is to root q sound.plan_ok) ∙ e

@@ -1,0 +1,48 @@
+-- What nodes that stand for a plan give.
+use Rattle.std.proofs.Common.{◌≡◌, ℕ, zero, suc, ◌<◌, ◌≤◌, List, [], length, Option, Some, None, get_or, slice_get, refl, ◌∙◌, arith}
+use Rattle.std.proofs.lemmas.Option.{get_or_from_slice_get}
+use Rattle.std.proofs.lemmas.Bool.Decides.{nat_tests}
+use Rattle.patricia_nodes.specs.declared.slots.Node.{Node}
+use Rattle.patricia_nodes.specs.Private.Plans.{Plan, Nil, Cell, head, size, Stands, IsPlan, IsSound, read, plan_at, one, below}
+
+-- a number stands once in itself, and in no other
+pub one-same : (id : ℕ) → one id id ≡ 1
+one-same id = grind (arith, nat_tests)
+
+pub below_le : (n at : ℕ) → below n at ≤ 1
+below_le n at = grind (arith, nat_tests)
+
+pub below_in : (n at : ℕ) → at < n → below n at ≡ 1
+below_in n at h = grind (arith, nat_tests)
+
+module _ {V : Type 0} where
+  -- nodes that stand for a plan are read as that plan
+  read-stands : (nodes : List (Node V)) (p : Plan V) (n : ℕ) → Stands nodes p → size p ≤ n → read n nodes (head p) ≡ p
+  read-stands nodes Nil zero s h = refl
+  read-stands nodes Nil (suc n) s h = refl
+  read-stands nodes (Cell id l v c d) zero s h = absurd (omega arith)
+  read-stands nodes (Cell id l v c d) (suc n) s h =
+      let below = read-stands nodes c n s.1 (omega arith) in
+      let beside = read-stands nodes d n s.2 (omega arith) in
+      rw (s.0, below, beside) refl
+
+  pub plan_is : (nodes : List (Node V)) (at : Option ℕ) (p : Plan V) → IsPlan nodes at p → plan_at nodes at ≡ p
+  plan_is nodes at p w = rw w.at_is (read-stands nodes p (length nodes) w.stands w.fits)
+
+  -- what is read is a plan, where there is one
+  pub plan_read : (nodes : List (Node V)) (root free : Option ℕ) (p : Plan V) (spare : List ℕ) → IsSound nodes root free p spare → IsPlan nodes root (plan_at nodes root)
+  plan_read nodes root free p spare sound = rw (plan_is nodes root p sound.plan_ok) sound.plan_ok
+
+  -- no nodes
+  pub sound_none : (nodes : List (Node V)) → nodes ≡ [] → IsSound nodes None None Nil []
+  sound_none nodes e = rw e (record {
+    plan_ok = record { stands = tt; at_is = refl; fits = omega arith };
+    chain = tt;
+    free_is = refl;
+    once = λ at. grind (arith, nat_tests);
+    total = refl;
+  })
+
+  -- a node of the plan, as it is read
+  pub node_is : (nodes : List (Node V)) (id : ℕ) (n m : Node V) → slice_get nodes id ≡ Some m → n ≡ get_or nodes id n → n ≡ m
+  node_is nodes id n m there reads = reads ∙ get_or_from_slice_get nodes id m n there

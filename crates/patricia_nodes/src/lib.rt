@@ -1,0 +1,11 @@
+//! The nodes of a tree in one vector.
+//!
+//! `patricia_tree` is the library to use. This crate is what it stands on.
+#![tactic(auto)]
+
+mod label;
+mod link;
+pub mod slots;
+pub mod steps;
+
+pub use steps::Steps;
