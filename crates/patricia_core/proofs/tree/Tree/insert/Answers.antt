@@ -20,18 +20,24 @@ invariant_of-self-in-Ok-None g c =
     let new = sym c.in-Ok-None.ensures.old ∙ c.in-Ok-None.field-0-is in
     let none = get_filled g.K.Bytes.item g.met.K.Bytes.lawful _ _ _ c.self.invariant.tree.row_ok (λ none. absurd (false≢true (c.if-is_empty.ensures.1 none))) ∙ new in
     record {
-      row_ok = c.in-Ok-None.ensures.row;
-      counted = rw c.self.invariant.tree.counted (sym (length_new g.K.Bytes.item g.met.K.Bytes.lawful (row_of c.self.inside.slots) (row_of c.insert.new.self) _ c.args.value c.self.invariant.tree.row_ok c.in-Ok-None.ensures.ok new));
-      fits = elim c.else-self.branch [ else-self-via-then-self+else-is_none w ↦ absurd (option_map_not_none (λ x. x.now) w.get.result (rw (← c.self.view_is) at w.get.ensures ∙ none) w.if-is_none.ensures) | else-self-via-else-self w ↦ omega (arith, c.self.invariant.tree.fits) ];
+      whole = c.in-Ok-None.ensures.whole;
+      tree = record {
+        row_ok = c.in-Ok-None.ensures.row;
+        counted = rw c.self.invariant.tree.counted (sym (length_new g.K.Bytes.item g.met.K.Bytes.lawful (row_of c.self.inside.slots) (row_of c.insert.new.self) _ c.args.value c.self.invariant.tree.row_ok c.in-Ok-None.ensures.ok new));
+        fits = elim c.else-self.branch [ else-self-via-then-self+else-is_none w ↦ absurd (option_map_not_none (λ x. x.now) w.get.result (rw (← c.self.view_is) at w.get.ensures ∙ none) w.if-is_none.ensures) | else-self-via-else-self w ↦ omega (arith, c.self.invariant.tree.fits) ];
+      };
     }
 
 pub invariant_of-self-in-Ok-Some : goal.invariant_of-self-in-Ok-Some
 invariant_of-self-in-Ok-Some g c =
     let found = sym c.in-Ok-Some.ensures.old ∙ c.in-Ok-Some.field-0-is in
     record {
-      row_ok = c.in-Ok-Some.ensures.row;
-      counted = c.self.invariant.tree.counted ∙ sym (length_old g.K.Bytes.item g.met.K.Bytes.lawful (row_of c.self.inside.slots) (row_of c.insert.new.self) _ c.args.value c.in-Ok-Some.old c.self.invariant.tree.row_ok c.in-Ok-Some.ensures.ok found);
-      fits = c.self.invariant.tree.fits;
+      whole = c.in-Ok-Some.ensures.whole;
+      tree = record {
+        row_ok = c.in-Ok-Some.ensures.row;
+        counted = c.self.invariant.tree.counted ∙ sym (length_old g.K.Bytes.item g.met.K.Bytes.lawful (row_of c.self.inside.slots) (row_of c.insert.new.self) _ c.args.value c.in-Ok-Some.old c.self.invariant.tree.row_ok c.in-Ok-Some.ensures.ok found);
+        fits = c.self.invariant.tree.fits;
+      };
     }
 
 pub returns-in-Ok-None-clause-old : goal.returns-in-Ok-None-clause-old

@@ -18,18 +18,24 @@ invariant_of-self-in-Ok-Some g c =
     let found = sym c.in-Ok-Some.ensures.old ∙ c.in-Ok-Some.field-0-is in
     let less = remove_present g.K.Bytes.item g.met.K.Bytes.lawful (c.self.inside.value) (row_of c.self.inside.slots) (row_of c.remove.new.self) _ c.in-Ok-Some.old c.self.invariant.tree.row_ok c.in-Ok-Some.ensures.ok found in
     record {
-      row_ok = c.in-Ok-Some.ensures.row;
-      counted = omega (arith, less, c.self.invariant.tree.counted);
-      fits = omega (arith, c.self.invariant.tree.fits);
+      whole = c.in-Ok-Some.ensures.whole;
+      tree = record {
+        row_ok = c.in-Ok-Some.ensures.row;
+        counted = omega (arith, less, c.self.invariant.tree.counted);
+        fits = omega (arith, c.self.invariant.tree.fits);
+      };
     }
 
 pub invariant_of-self-in-Ok-None : goal.invariant_of-self-in-Ok-None
 invariant_of-self-in-Ok-None g c =
     let absent = sym c.in-Ok-None.ensures.old ∙ c.in-Ok-None.field-0-is in
     record {
-      row_ok = c.in-Ok-None.ensures.row;
-      counted = c.self.invariant.tree.counted ∙ sym (remove_absent g.K.Bytes.item g.met.K.Bytes.lawful (c.self.inside.value) (row_of c.self.inside.slots) (row_of c.remove.new.self) _ c.self.invariant.tree.row_ok c.in-Ok-None.ensures.ok absent);
-      fits = c.self.invariant.tree.fits;
+      whole = c.in-Ok-None.ensures.whole;
+      tree = record {
+        row_ok = c.in-Ok-None.ensures.row;
+        counted = c.self.invariant.tree.counted ∙ sym (remove_absent g.K.Bytes.item g.met.K.Bytes.lawful (c.self.inside.value) (row_of c.self.inside.slots) (row_of c.remove.new.self) _ c.self.invariant.tree.row_ok c.in-Ok-None.ensures.ok absent);
+        fits = c.self.invariant.tree.fits;
+      };
     }
 
 pub returns-in-Ok-Some-clause-old : goal.returns-in-Ok-Some-clause-old
