@@ -1,0 +1,186 @@
+//! tree_bench [times]: counts the answers of a map for the keys of its input, or times its calls.
+//!
+//! The input has a key a line. The keys of every other line are put in, the rest are only asked
+//! for. With the word `times` each line of the output has nanoseconds a call, or bytes a key.
+#![tactic(auto)]
+
+mod keys;
+mod memory;
+
+use keys::{read_keys, shuffle};
+use memory::memory;
+use patricia_tree::PatriciaMap;
+use std::alloc::AllocError;
+use std::env;
+use std::io::{self, Read};
+use std::rt::{Clock, Env, Files};
+use std::time::Instant;
+
+// Puts each key in, and counts the new ones.
+fn put(map: &mut PatriciaMap<u64>, keys: &[&[u8]]) -> Result<u64, AllocError> {
+    let mut new: u64 = 0;
+    for key in keys {
+        let Ok(old) = map.insert(*key, new) else {
+            return Err(AllocError);
+        };
+        if old.is_none() {
+            new = new.wrapping_add(1);
+        }
+    }
+    Ok(new)
+}
+
+// Counts the keys that are there.
+fn found(map: &PatriciaMap<u64>, keys: &[&[u8]]) -> u64 {
+    let mut found: u64 = 0;
+    for key in keys {
+        if map.get(*key).is_some() {
+            found = found.wrapping_add(1);
+        }
+    }
+    found
+}
+
+// Counts the bytes of all keys.
+fn walked(map: &PatriciaMap<u64>) -> Result<u64, AllocError> {
+    let mut bytes: u64 = 0;
+    for entry in map.iter() {
+        let (key, _) = entry?;
+        bytes = bytes.wrapping_add(key.len() as u64);
+    }
+    Ok(bytes)
+}
+
+// Adds all values.
+fn summed(map: &PatriciaMap<u64>) -> Result<u64, AllocError> {
+    let mut sum: u64 = 0;
+    for value in map.values() {
+        sum = sum.wrapping_add(*value?);
+    }
+    Ok(sum)
+}
+
+// Takes each key out, and counts those that were there.
+fn taken(map: &mut PatriciaMap<u64>, keys: &[&[u8]]) -> Result<u64, AllocError> {
+    let mut taken: u64 = 0;
+    for key in keys {
+        if map.remove(*key)?.is_some() {
+            taken = taken.wrapping_add(1);
+        }
+    }
+    Ok(taken)
+}
+
+// A line on calls: their answer, or nanoseconds a call.
+fn report(
+    rt: &(impl Clock + Print),
+    times: bool,
+    name: &str,
+    start: Instant,
+    calls: usize,
+    answer: u64,
+) -> io::Result<()> {
+    let nanos = start.elapsed(rt)?.as_nanos();
+    if times {
+        println!(rt; "{name} {}", nanos / calls.max(1) as u128)
+    } else {
+        println!(rt; "{name} {answer}")
+    }
+}
+
+fn time_puts(
+    rt: &(impl Clock + Print),
+    times: bool,
+    name: &str,
+    map: &mut PatriciaMap<u64>,
+    keys: &[&[u8]],
+) -> io::Result<u64> {
+    let start = Instant::now(rt)?;
+    let new = put(map, keys)?;
+    report(rt, times, name, start, keys.len(), new)?;
+    Ok(new)
+}
+
+fn time_gets(
+    rt: &(impl Clock + Print),
+    times: bool,
+    name: &str,
+    map: &PatriciaMap<u64>,
+    keys: &[&[u8]],
+) -> io::Result<()> {
+    let start = Instant::now(rt)?;
+    let found = found(map, keys);
+    report(rt, times, name, start, keys.len(), found)
+}
+
+fn time_walks(rt: &(impl Clock + Print), times: bool, map: &PatriciaMap<u64>) -> io::Result<()> {
+    let start = Instant::now(rt)?;
+    let bytes = walked(map)?;
+    report(rt, times, "walk", start, map.len(), bytes)?;
+    let start = Instant::now(rt)?;
+    let sum = summed(map)?;
+    report(rt, times, "values", start, map.len(), sum)
+}
+
+fn time_removes(
+    rt: &(impl Clock + Print),
+    times: bool,
+    map: &mut PatriciaMap<u64>,
+    keys: &[&[u8]],
+) -> io::Result<()> {
+    let start = Instant::now(rt)?;
+    let taken = taken(map, keys)?;
+    report(rt, times, "remove", start, keys.len(), taken)
+}
+
+// Calls each method for all keys in turn, and answers the memory of a key and the most of it.
+fn measure(
+    rt: &(impl AllocGlobal + Clock + Files + Print),
+    times: bool,
+    present: &mut [&[u8]],
+    absent: &[&[u8]],
+) -> io::Result<(u64, u64)> {
+    let before = memory(rt, "VmRSS:");
+    let mut map = PatriciaMap::new(rt.alloc());
+    let keys = time_puts(rt, times, "insert", &mut map, present)?.max(1);
+    let after = memory(rt, "VmRSS:");
+    let peak = memory(rt, "VmHWM:");
+    shuffle(present, 3);
+    time_gets(rt, times, "get", &map, present)?;
+    time_gets(rt, times, "get_absent", &map, absent)?;
+    time_walks(rt, times, &map)?;
+    time_removes(rt, times, &mut map, present)?;
+    Ok((
+        after.saturating_sub(before) / keys,
+        peak.saturating_sub(before) / keys,
+    ))
+}
+
+// Whether the program's word is `times`.
+fn is_timed(rt: &(impl Alloc + Env)) -> io::Result<bool> {
+    Ok(env::args(rt)?.skip(1).any(|word| word.as_str() == "times"))
+}
+
+fn run(rt: &(impl AllocGlobal + Clock + Env + Files + Input + Print)) -> io::Result<()> {
+    let alloc = rt.alloc();
+    let times = is_timed(rt)?;
+    let mut input: Vec<u8> = Vec::new(alloc);
+    rt.reader().read_to_end(&mut input)?;
+    let (mut present, mut absent) = read_keys(alloc, &input)?;
+    shuffle(&mut present, 1);
+    shuffle(&mut absent, 2);
+    println!(rt; "keys {}", present.len())?;
+    let (memory, peak) = measure(rt, times, &mut present, &absent)?;
+    present.sort_unstable();
+    let mut map = PatriciaMap::new(alloc);
+    time_puts(rt, times, "insert_sorted", &mut map, &present)?;
+    if times {
+        println!(rt; "memory {memory}")?;
+        println!(rt; "peak {peak}")?;
+    }
+    Ok(())
+}
+
+fn main(rt: HostRuntime) -> io::Result<()> {
+    run(&rt)
+}

@@ -1,0 +1,115 @@
+//! btree [times]: what `tree_bench` does, over std's ordered map. Its walk lends the keys.
+
+use std::collections::BTreeMap;
+use std::io::Read;
+use std::time::Instant;
+
+type Map = BTreeMap<Vec<u8>, u64>;
+
+fn put(map: &mut Map, keys: &[&[u8]]) -> u64 {
+    let mut new = 0;
+    for key in keys {
+        if map.insert(key.to_vec(), new).is_none() {
+            new += 1;
+        }
+    }
+    new
+}
+
+fn found(map: &Map, keys: &[&[u8]]) -> u64 {
+    keys.iter().filter(|key| map.get(**key).is_some()).count() as u64
+}
+
+fn walked(map: &Map) -> u64 {
+    map.iter().map(|(key, _)| key.len() as u64).sum()
+}
+
+fn summed(map: &Map) -> u64 {
+    map.values().sum()
+}
+
+fn taken(map: &mut Map, keys: &[&[u8]]) -> u64 {
+    keys.iter().filter(|key| map.remove(**key).is_some()).count() as u64
+}
+
+// The lines that are not empty, by turns in the first list and in the second.
+fn read_keys(input: &[u8]) -> (Vec<&[u8]>, Vec<&[u8]>) {
+    let (mut first, mut second) = (Vec::new(), Vec::new());
+    for line in input.split(|byte| *byte == b'\n').filter(|line| !line.is_empty()) {
+        if first.len() == second.len() {
+            first.push(line);
+        } else {
+            second.push(line);
+        }
+    }
+    (first, second)
+}
+
+fn shuffle(keys: &mut [&[u8]], seed: u64) {
+    let mut random = seed;
+    for i in 1..keys.len() {
+        random ^= random << 13;
+        random ^= random >> 7;
+        random ^= random << 17;
+        keys.swap(i, random as usize % (i + 1));
+    }
+}
+
+// The bytes that a line of /proc/self/status names.
+fn memory(name: &str) -> u64 {
+    let status = std::fs::read_to_string("/proc/self/status").unwrap();
+    let line = status.lines().find(|line| line.starts_with(name)).unwrap();
+    line.split_ascii_whitespace().nth(1).unwrap().parse::<u64>().unwrap() * 1024
+}
+
+fn report(times: bool, name: &str, start: Instant, calls: usize, answer: u64) {
+    let nanos = start.elapsed().as_nanos();
+    if times {
+        println!("{name} {}", nanos / calls.max(1) as u128);
+    } else {
+        println!("{name} {answer}");
+    }
+}
+
+fn measure(times: bool, present: &mut [&[u8]], absent: &[&[u8]]) {
+    let before = memory("VmRSS:");
+    let mut map = Map::new();
+    let start = Instant::now();
+    let new = put(&mut map, present);
+    report(times, "insert", start, present.len(), new);
+    let after = memory("VmRSS:");
+    let peak = memory("VmHWM:");
+
+    shuffle(present, 3);
+    let start = Instant::now();
+    report(times, "get", start, present.len(), found(&map, present));
+    let start = Instant::now();
+    report(times, "get_absent", start, absent.len(), found(&map, absent));
+    let start = Instant::now();
+    report(times, "walk", start, map.len(), walked(&map));
+    let start = Instant::now();
+    report(times, "values", start, map.len(), summed(&map));
+    let start = Instant::now();
+    report(times, "remove", start, present.len(), taken(&mut map, present));
+
+    present.sort_unstable();
+    let mut map = Map::new();
+    let start = Instant::now();
+    let new = put(&mut map, present);
+    report(times, "insert_sorted", start, present.len(), new);
+    if times {
+        println!("memory {}", after.saturating_sub(before) / new.max(1));
+        println!("peak {}", peak.saturating_sub(before) / new.max(1));
+    }
+}
+
+fn main() {
+    let times = std::env::args().skip(1).any(|word| word == "times");
+    let mut input = Vec::new();
+    std::io::stdin().read_to_end(&mut input).unwrap();
+    let (mut present, mut absent) = read_keys(&input);
+    shuffle(&mut present, 1);
+    shuffle(&mut absent, 2);
+    println!("keys {}", present.len());
+    measure(times, &mut present, &absent);
+}

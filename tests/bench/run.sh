@@ -1,0 +1,42 @@
+#!/bin/bash
+# Times the map and std's ordered map in turn, three times each: run.sh [KEYS].
+# Prints a table for each kind of keys, with the best of the three figures and their ratio.
+set -euo pipefail
+cd "$(dirname "$0")/../.."
+count=${1:-1000000}
+room=$(mktemp -d)
+trap 'rm -rf "$room"' EXIT
+
+if ! (cd crates/tree_bench && rt run) < /dev/null > "$room/log" 2>&1; then
+    cat "$room/log"
+    exit 1
+fi
+cp crates/tree_bench/out/tree_bench "$room/map"
+rustc -O --edition 2021 tests/bench/btree.rs -o "$room/btree"
+
+for kind in titles domains hex; do
+    # as many again are only asked for
+    python3 tests/bench/keys.py "$kind" $((2 * count)) 1 > "$room/keys"
+    "$room/map" < "$room/keys" > "$room/map.answers"
+    "$room/btree" < "$room/keys" > "$room/btree.answers"
+    cmp "$room/map.answers" "$room/btree.answers"
+    rm -f "$room/figures"
+    for _ in 1 2 3; do
+        for program in map btree; do
+            "$room/$program" times < "$room/keys" | sed "s/^/$program /" >> "$room/figures"
+        done
+    done
+    echo "| $count $kind | the map | std's ordered map | ratio |"
+    echo "|---|---|---|---|"
+    awk '
+        $2 == "keys" { next }
+        !(($1, $2) in best) { if ($1 == "map") names[++n] = $2; best[$1, $2] = $3 }
+        $3 < best[$1, $2] { best[$1, $2] = $3 }
+        END {
+            for (i = 1; i <= n; i++) {
+                map = best["map", names[i]]; btree = best["btree", names[i]]
+                printf "| %s | %d | %d | %.2f |\n", names[i], map, btree, map / (btree > 0 ? btree : 1)
+            }
+        }' "$room/figures"
+    echo
+done
