@@ -8,8 +8,8 @@ ghost use Rattle.patricia_rows.specs.Points.{CountsVisits, Joins};
 
 use patricia_keys::{BorrowedBytes, Bytes};
 use patricia_nodes::Steps;
-use patricia_nodes::slots::Slots;
 pub use patricia_nodes::slots::Refused;
+use patricia_nodes::slots::Slots;
 use patricia_nodes::slots::into_walk::IntoWalk;
 use patricia_nodes::slots::walk::Walk;
 use std::alloc::{AllocError, Global};
