@@ -81,6 +81,7 @@ impl Label {
         })
     }
 
+    /// The bytes.
     pub fn as_slice(&self) -> &[u8]
         ensures { result.now ≡ self.now }
     {

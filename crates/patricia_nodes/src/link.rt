@@ -18,12 +18,14 @@ impl Model for NodeId {
 }
 
 impl NodeId {
+    /// The node at this index of the vector.
     pub fn new(index: usize) -> NodeId
         ensures { result ≡ index }
     {
         NodeId(index)
     }
 
+    /// Its index in the vector.
     pub fn index(self) -> usize
         ensures { result ≡ self }
     {
@@ -51,12 +53,14 @@ impl Model for Link {
 }
 
 impl Link {
+    /// No number.
     pub fn none() -> Link
         ensures { result ≡ None }
     {
         Link(0)
     }
 
+    /// This number.
     pub fn some(id: NodeId) -> Link
         requires { id < 18446744073709551615 }
         ensures { result ≡ Some id }
@@ -64,6 +68,7 @@ impl Link {
         Link(id.0 + 1)
     }
 
+    /// The number, if there is one.
     pub fn get(self) -> Option<NodeId>
         ensures { result ≡ self }
     {

@@ -134,8 +134,3 @@ module _ (item : List ℕ → Type 0) (kind : IsKeyKind item) {V : Type 0} (x : 
         earns None h parts =
             let first = first_of item l ok.valid ok.filled in
             earns_by_keys item kind l first.0 first.1 c' ok' (λ i p all. parts i p (AllKeys-put _ t x (entries c) (rw e at all)) h)
-
--- what holds of both outcomes
-pub ok_or_err : {T E : Type 0} {P Q : Type 0} (r : Result T E) → OnOk r P → OnErr r Q → P ⊎ Q
-ok_or_err (Ok x) p q = inl p
-ok_or_err (Err e) p q = inr q

@@ -1,25 +1,20 @@
 -- What a removal leaves of a row, by how the key compares with the first label.
-use Rattle.std.proofs.Common.{◌≡◌, ℕ, suc, ◌+◌, ◌≤◌, ◌≢◌, inl, inr, cond, not, List, [], ◌∷◌, ◌++◌, Option, Some, None, refl, sym, ap, subst, ◌∙◌, arith}
-use mathlib.Core.Bool.{false≢true}
-use Rattle.std.specs.Prelude.{Vec, MatchOption, IsSome}
-use Rattle.std.specs.Global.{Global}
+use Rattle.std.proofs.Common.{◌≡◌, ℕ, ◌≤◌, ◌≢◌, inl, inr, cond, not, List, [], ◌∷◌, ◌++◌, Option, Some, None, refl, sym, ap, subst, ◌∙◌, arith}
 use Rattle.std.specs.declared.cmp.Ordering.{Ordering}
 use Rattle.std.specs.declared.cmp.Ordering.TheVariants.{Less, Equal, Greater}
 use Rattle.std.specs.Ordering.{is_eq}
 use Rattle.std.proofs.lemmas.List.{append-nil}
 use Rattle.std.proofs.lemmas.List.Elements.{filter-append}
-use Rattle.std.proofs.lemmas.Bool.{cases_lt}
 use Rattle.patricia_keys.specs.Keys.{Begins, IsKeyKind, IsValid, key_cmp}
 use Rattle.patricia_rows.specs.Private.Meeting.{EndsWithin, Passes}
 use Rattle.patricia_rows.specs.Rows.{Row, end, node, prefixed, own, entries, IsBefore, IsBeforeRow, EarnsWithin, IsRow}
-use Rattle.patricia_rows.specs.Private.Removals.{others, width, HasLeaf, taking_in, without_first, LeavesAlone, KeepsPlace, LosesPlace, settled}
+use Rattle.patricia_rows.specs.Private.Removals.{others, width, without_first, LeavesAlone}
 use Rattle.patricia_keys.proofs.KeyLemmas.{first_of, IsValid-append}
 use Rattle.patricia_rows.proofs.RowLemmas.{AllKeys, prefixed-prefixed, lacks_empty}
 use Rattle.patricia_rows.proofs.ListLemmas.{key_cmp-equal, key_cmp-front}
 use Rattle.patricia_rows.proofs.GetLemmas.{lacks_past, lacks_before, lacks_within, later_lacks}
 use Rattle.patricia_rows.proofs.InsertLemmas.{IsBefore-longer_left, keys_rise, rises_by_keys, earns_elsewhere}
 use Rattle.patricia_rows.proofs.PointLemmas.{nil_first}
-use Rattle.patricia_rows.proofs.UniqueLemmas.{same_row}
 
 module _ {V : Type 0} where
   -- a key that is not there leaves nothing out
@@ -53,32 +48,6 @@ module _ {V : Type 0} where
       by Less f rest = rw f (h.0, rest)
       by Equal f rest = rw f rest
       by Greater f rest = rw f (h.0, rest)
-
-  -- a node that is still there
-  leaf_later : (q l : List ℕ) (v : Option V) (c s : Row V) → HasLeaf q s → HasLeaf q (node l v c s)
-  leaf_later q l v end s h = inr h
-  leaf_later q l v (node m w d t) s h = h
-
-  pub as_many_past : (q l : List ℕ) (v : Option V) (c s s' : Row V) → ((HasLeaf q s → ⊥) → width s ≤ width s') → (HasLeaf q (node l v c s) → ⊥) → width (node l v c s) ≤ width (node l v c s')
-  as_many_past q l v c s s' h none = let rest = h (λ leaf. none (leaf_later q l v c s leaf)) in omega arith
-
-  pub one_less_first : (r : Row V) → width r ≤ width (without_first r) + 1
-  one_less_first end = omega arith
-  one_less_first (node l None c s) = omega arith
-  one_less_first (node l (Some x) end s) = omega arith
-  one_less_first (node l (Some x) (node m w d end) s) = omega arith
-  one_less_first (node l (Some x) (node m w d (node m' w' d' t')) s) = omega arith
-
-  pub as_many_first : (q l : List ℕ) (v : Option V) (c s : Row V) → l ≡ q → (HasLeaf q (node l v c s) → ⊥) → width (node l v c s) ≤ width (without_first (node l v c s))
-  as_many_first q l None c s e none = omega arith
-  as_many_first q l (Some x) end s e none = absurd (none (inl e))
-  as_many_first q l (Some x) (node m w d end) s e none = omega arith
-  as_many_first q l (Some x) (node m w d (node m' w' d' t')) s e none = omega arith
-
-  pub width-settled : (o : Option (Vec ℕ Global)) (l : List ℕ) (v : Option V) (c s : Row V) → width (settled o (node l v c s)) ≡ suc (width s)
-  width-settled None l v c s = refl
-  width-settled (Some label) l v end s = refl
-  width-settled (Some label) l v (node m w d t) s = refl
 
 module _ (item : List ℕ → Type 0) (kind : IsKeyKind item) {V : Type 0} where
   -- without the empty key a node has the entries of its children left
@@ -211,36 +180,3 @@ module _ (item : List ℕ → Type 0) (kind : IsKeyKind item) {V : Type 0} where
         let first : IsRow item (node a v ca end) = record { valid = ok.valid; filled = ok.filled; fits = tt; earns = ok.earns; rises = tt; child = ok.child; sibling = tt } in
         (v, ca, subst (λ k. IsRow item (node k v ca end)) (sym h.2) first, ap (λ k. entries (node k v ca end)) h.2 ∙ sym (left ∙ ap (λ es. prefixed a (own v ++ entries ca) ++ es) (here ∙ gone)))
   ]
-
--- the key was below the first node
-module _ (item : List ℕ → Type 0) (kind : IsKeyKind item) {V : Type 0} (l : List ℕ) (v : Option V) (c s : Row V) (ok : IsRow item (node l v c s)) (q t : List ℕ) (passes : Passes item q l t) (filled : t ≢ []) (c' : Row V) (ok' : IsRow item c') (e : entries c' ≡ others t (entries c)) where
-  two_left : width c ≤ width c' + 1 → ((HasLeaf t c → ⊥) → width c ≤ width c') → KeepsPlace t v c → v ≡ None → 2 ≤ width c'
-  two_left one_less as_many keeps none =
-      let two = width_of_earned item kind l c s (subst (λ w. IsRow item (node l w c s)) none ok) in
-      elim keeps [
-        | inl some ↦ absurd (false≢true (subst (IsSome {T = V}) none some))
-        | inr more ↦ elim more [ inl not_two ↦ three (width c) two not_two one_less | inr no_leaf ↦ let all = as_many no_leaf in omega arith ]
-      ]
-    where
-      three : (n : ℕ) → 2 ≤ n → (n ≡ 2 → ⊥) → n ≤ width c' + 1 → 2 ≤ width c'
-      three n two not_two le = elim (cases_lt 2 n) [ inl lt ↦ omega arith | inr le' ↦ absurd (not_two (omega arith)) ]
-
-  pub row_deeper_removed : (o : Option (Vec ℕ Global)) → width c ≤ width c' + 1 → ((HasLeaf t c → ⊥) → width c ≤ width c') → MatchOption o (KeepsPlace t v c) (λ label. (m : List ℕ) × LosesPlace t v c m × (label.items ≡ l ++ m)) → IsRow item (settled o (node l v c' s))
-  row_deeper_removed None one_less as_many keeps = record { valid = ok.valid; filled = ok.filled; fits = tt; earns = earns_by_width item kind l v c' (two_left one_less as_many keeps); rises = ok.rises; child = ok'; sibling = ok.sibling }
-  row_deeper_removed (Some label) one_less as_many (m, loses, is) =
-      let left = survivor item kind t c m ok.child loses.1 in
-      let same = same_row item kind None c' (node m left.0 left.1 end) ok' left.2 (e ∙ sym left.3) in
-      subst (λ (r : Row V). IsRow item (taking_in label.items (node l v r s))) (sym same)
-      (subst (λ k. IsRow item (node k left.0 left.1 s)) (sym is) (taken_in_row item kind l v m left.0 left.1 s ok.valid ok.filled ok.rises ok.sibling left.2))
-
-  pub entries_deeper_removed : (o : Option (Vec ℕ Global)) → MatchOption o (KeepsPlace t v c) (λ label. (m : List ℕ) × LosesPlace t v c m × (label.items ≡ l ++ m)) → entries (settled o (node l v c' s)) ≡ others q (entries (node l v c s))
-  entries_deeper_removed None keeps = ap (λ es. prefixed l (own v ++ es) ++ entries s) e ∙ sym (others_deeper item kind l v c s ok q t passes filled)
-  entries_deeper_removed (Some label) (m, loses, is) =
-      let left = survivor item kind t c m ok.child loses.1 in
-      let same = same_row item kind None c' (node m left.0 left.1 end) ok' left.2 (e ∙ sym left.3) in
-      ap (λ (r : Row V). entries (taking_in label.items (node l v r s))) same
-      ∙ ap (λ k. entries (node k left.0 left.1 s)) is
-      ∙ taken_in_entries item kind l m left.0 left.1 s
-      ∙ ap (λ es. prefixed l es ++ entries s) left.3
-      ∙ ap (λ (w : Option V). prefixed l (own w ++ others t (entries c)) ++ entries s) (sym loses.0)
-      ∙ sym (others_deeper item kind l v c s ok q t passes filled)

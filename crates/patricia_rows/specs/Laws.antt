@@ -35,7 +35,8 @@ module _ (item : List ℕ → Type 0) where
   abbrev pub TreeStandsAtPoints : Type 0 → Type 0
   TreeStandsAtPoints V =
       (v : Option V) (r : Row V) (n : ℕ) → IsTree item r n
-      → AreApart (paths r) × ((p : List ℕ) → Has (paths r) p ↔ IsPoint item (map.keys (map_of v r)) p)
+      → AreApart (paths r)
+      × ((p : List ℕ) → Has (paths r) p ↔ IsPoint item (map.keys (map_of v r)) p)
 
   -- rows that keep the invariant under one limit and have the same entries are the same row
   abbrev pub HasOneShape : Type 0 → Type 0
@@ -47,4 +48,5 @@ module _ (item : List ℕ → Type 0) where
   abbrev pub RowStandsAtPoints : Type 0 → Type 0
   RowStandsAtPoints V =
       (row : Row V) → IsRow item row
-      → AreApart (paths row) × ((p : List ℕ) → Has (paths row) p ↔ IsPoint item (keys_of (entries row)) p)
+      → AreApart (paths row)
+      × ((p : List ℕ) → Has (paths row) p ↔ IsPoint item (keys_of (entries row)) p)

@@ -19,6 +19,7 @@ pub enum Meeting<Q> {
     Through(Q),
 }
 
+/// How a key meets a label. Where their first bytes differ, these decide.
 pub fn meet<Q: BorrowedBytes>(key: Q, label: &[u8]) -> Meeting<Q>
     requires valid { IsValid Q.Owned.item label.now }
     requires filled { label.now ≢ [] }

@@ -177,7 +177,8 @@ impl<V: Drop> Slots<V> {
         ensures old { IfOk result (λ old. old ≡ find key_cmp (Q.key key) (entries_of self.old)) }
         ensures ok { OnOk result (entries_of self.new ≡ others (Q.key key) (entries_of self.old)) }
         ensures unchanged { OnErr result (row_of self.new ≡ row_of self.old) }
-        ensures joins { OnErr result (Joins Q.Owned.item (keys_of (entries_of self.old)) (Q.key key)) }
+        ensures joins { OnErr result (
+            Joins Q.Owned.item (keys_of (entries_of self.old)) (Q.key key)) }
     {
         let place = self.seek(key);
         match place.here() {

@@ -1,6 +1,5 @@
 -- What a removal leaves of a row.
-use Rattle.std.specs.Prelude.{◌≡◌, ℕ, suc, ◌⊎◌, List, ◌++◌, not, Option, Some, None, IsSome, Vec}
-use Rattle.std.specs.Global.{Global}
+use Rattle.std.specs.Prelude.{◌≡◌, ℕ, suc, ◌⊎◌, List, ◌++◌, not, Some, None}
 use Rattle.std.specs.FinMap.Entries.{where_key}
 use Rattle.std.specs.Ordering.{eq_by_cmp}
 use Rattle.patricia_keys.specs.Keys.{key_cmp}
@@ -16,26 +15,10 @@ module _ {V : Type 0} where
   width end = 0
   width (node l v c s) = suc (width s)
 
-  -- one of the nodes has this label and no children
-  abbrev pub HasLeaf : List ℕ → Row V → Type 0
-  HasLeaf q end = ⊥
-  HasLeaf q (node l v end s) = (l ≡ q) ⊎ HasLeaf q s
-  HasLeaf q (node l v (node l' v' c' s') s) = HasLeaf q s
-
-  -- the value of the first node
-  abbrev pub first_value : Row V → Option V
-  first_value end = None
-  first_value (node l v c s) = v
-
   -- the first node has a value and one child
   abbrev pub IsLoneParent : Row V → Type 0
   IsLoneParent (node l (Some x) (node m w d end) s) = Unit {0}
   IsLoneParent _ = ⊥
-
-  -- the first node takes in its lone child, under this label
-  abbrev pub taking_in : List ℕ → Row V → Row V
-  taking_in joined (node l v (node m w d t) s) = node joined w d s
-  taking_in joined row = row
 
   -- the row without the value of its first node: the node goes, takes in its lone child or stays
   abbrev pub without_first : Row V → Row V
@@ -43,22 +26,11 @@ module _ {V : Type 0} where
   without_first (node l None c s) = node l None c s
   without_first (node l (Some x) end s) = s
   without_first (node l (Some x) (node m w d end) s) = node (l ++ m) w d s
-  without_first (node l (Some x) (node m w d (node m' w' d' t')) s) = node l None (node m w d (node m' w' d' t')) s
+  without_first (node l (Some x) (node m w d (node m' w' d' t')) s) =
+      node l None (node m w d (node m' w' d' t')) s
 
   -- without the leaf at q this label of the two children would be alone
   abbrev pub LeavesAlone : List ℕ → Row V → List ℕ → Type 0
-  LeavesAlone q (node l v c (node m w d end)) label = ((l ≡ q) × (c ≡ end) × (label ≡ m)) ⊎ ((m ≡ q) × (d ≡ end) × (label ≡ l))
+  LeavesAlone q (node l v c (node m w d end)) label =
+      ((l ≡ q) × (c ≡ end) × (label ≡ m)) ⊎ ((m ≡ q) × (d ≡ end) × (label ≡ l))
   LeavesAlone q _ label = ⊥
-
-  -- a node keeps its place though the key q below it goes: it has a value, or not two children, or none of them is a leaf at q
-  abbrev pub KeepsPlace : List ℕ → Option V → Row V → Type 0
-  KeepsPlace q v c = (IsSome v) ⊎ ((width c ≡ 2 → ⊥) ⊎ (HasLeaf q c → ⊥))
-
-  -- without the key q below it the node has no value and one child, of this label
-  abbrev pub LosesPlace : List ℕ → Option V → Row V → List ℕ → Type 0
-  LosesPlace q v c label = (v ≡ None) × LeavesAlone q c label
-
-  -- the first node takes in its lone child where there is a joined label
-  abbrev pub settled : Option (Vec ℕ Global) → Row V → Row V
-  settled None row = row
-  settled (Some label) row = taking_in label.items row

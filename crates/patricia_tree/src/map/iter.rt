@@ -98,8 +98,8 @@ impl<'a, K: Bytes, V> Iterator for Values<'a, K, V> {
 
 impl<'a, K: Bytes, V> FusedIterator for Values<'a, K, V> {}
 
-/// The entries of a map, taken out. An error is want of memory: it ends the walk, and the entries that
-/// are left are dropped.
+/// The entries of a map, taken out. An error is want of memory: it ends the walk, and the entries
+/// that are left are dropped.
 #[derive(Drop)]
 pub struct IntoIter<K: Bytes, V> {
     pub(super) walk: IntoWalk<K, V>,
