@@ -9,8 +9,6 @@ mod program;
 mod reading;
 pub mod run;
 mod spelling;
-#[cfg(test)]
-mod tests;
 mod writing;
 
 pub use run::{Bench, Command, Reply, answer_bytes, answer_text, serve};

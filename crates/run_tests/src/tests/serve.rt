@@ -1,7 +1,7 @@
 //! The program's statuses and lines, over streams that may fail.
 
 use super::helpers::{Pieces, Progress, Takes, add_numbers, add_times, list_of};
-use crate::serve;
+use patricia_run::serve;
 use std::alloc::{AllocError, Global};
 use std::io::ErrorKind;
 use std::process::Abort;

@@ -1,6 +1,6 @@
 //! Lines and their answers, with values from outside, and answers where memory is refused.
 
-use crate::{Command, answer_bytes, answer_text};
+use patricia_run::{Command, answer_bytes, answer_text};
 use std::alloc::{AllocError, Global};
 use std::collections::BTreeMap;
 use std::process::Abort;

@@ -1,7 +1,7 @@
 //! The bench over each kind of keys.
 
-use crate::run::run;
-use crate::{Bench, Command, Reply};
+use patricia_run::run::run;
+use patricia_run::{Bench, Command, Reply};
 use patricia_tree::{BorrowedBytes, Bytes};
 use std::alloc::Global;
 use std::process::Abort;
