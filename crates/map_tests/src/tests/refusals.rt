@@ -6,11 +6,22 @@ use std::alloc::AllocError;
 use std::process::Abort;
 use std::test::Fail;
 
-// Puts a key in with its length as its value, and answers how many refusals there were. A refusal
-// hands the value back, which then goes in.
+// Whether the map has these keys, each with its length as its value.
+fn has_all<Q: BorrowedBytes>(map: &GenericPatriciaMap<Q::Owned, u64>, keys: &[Q]) -> bool {
+    for key in keys {
+        if map.get(*key).copied() != Some(key.as_bytes().len() as u64) {
+            return false;
+        }
+    }
+    true
+}
+
+// Puts a new key in with its length as its value, and answers how many refusals there were. A
+// refusal hands the value back and leaves what was put in before. The value then goes in.
 fn put_again<Q: BorrowedBytes>(
     rt: &impl Abort,
     map: &mut GenericPatriciaMap<Q::Owned, u64>,
+    before: &[Q],
     key: Q,
 ) -> Result<usize, AllocError> {
     let value = key.as_bytes().len() as u64;
@@ -21,72 +32,85 @@ fn put_again<Q: BorrowedBytes>(
     assert_eq!(rt; refused.value, value);
     assert_eq!(rt; map.len(), len);
     assert_eq!(rt; map.get(key).copied(), None);
+    assert!(rt; has_all(map, before));
     put(map, key)?;
     Ok(1)
 }
 
-// Puts keys in, of which at most one is refused.
+// Puts new keys in, of which at most one is refused.
 fn put_all<Q: BorrowedBytes>(
     rt: &impl Abort,
     map: &mut GenericPatriciaMap<Q::Owned, u64>,
     keys: &[Q],
 ) -> Result<(), AllocError> {
     let mut refusals: usize = 0;
-    for key in keys {
-        refusals = refusals.saturating_add(put_again(rt, map, *key)?);
+    for (n, key) in keys.iter().enumerate() {
+        let before = keys.get(..n).unwrap_or(keys);
+        refusals = refusals.saturating_add(put_again(rt, map, before, *key)?);
     }
     assert!(rt; refusals <= 1);
-    for key in keys {
-        assert_eq!(rt; map.get(*key).copied(), Some(key.as_bytes().len() as u64));
-    }
+    assert!(rt; has_all(map, keys));
     Ok(())
 }
+
+// The first has a label of 76 bytes, which the second cuts to two of more than 30. The third cuts
+// the rest once more. The others meet labels of more than 30 bytes before and within them.
+const LONG: [&[u8]; 8] = [
+    b"foo foo foo foo foo foo foo foo foo foo bar bar bar bar bar bar bar bar bar ",
+    b"foo foo foo foo foo foo foo foo foo ",
+    b"foo foo foo foo foo foo foo foo foo foo baz baz baz baz baz baz baz baz baz baz",
+    b"foo foo foo foo foo foo foo foo foo a a a a a a a a a a a a a a a a a a",
+    b"foo foo foo foo foo foo foo ",
+    b"bar bar bar bar bar bar bar bar bar bar",
+    b"bar bar bar bar bar bar bar bar bar bar foo foo foo foo foo foo foo foo foo",
+    b"",
+];
+
+// So many that the vector of nodes grows more than once.
+const SHORT: [&[u8]; 40] = [
+    b"g", b"c", b"fa", b"fox", b"z", b"ga", b"gb", b"gc", b"za", b"zab", b"zabc", b"zabd", b"e",
+    b"d", b"h", b"i", b"j", b"k", b"l", b"m", b"n", b"o", b"p", b"q", b"r", b"s", b"t", b"u", b"v",
+    b"w", b"x", b"y", b"ha", b"hb", b"ia", b"ib", b"ja", b"jb", b"ka", b"kb",
+];
 
 #[test]
 fn inserts_refused_in_turn(rt: HostRuntime) -> Result<(), Fail> {
     let mut map = PatriciaMap::new(rt.alloc());
-    let keys = [
-        b"foobar".as_slice(),
-        b"foobaz".as_slice(),
-        b"foo".as_slice(),
-        b"fox".as_slice(),
-        b"".as_slice(),
-        b"a".as_slice(),
-        b"foo".as_slice(),
-        b"zebra".as_slice(),
-    ];
-    put_all(&rt, &mut map, &keys)?;
-    assert_eq!(rt; map.len(), 7);
+    put_all(&rt, &mut map, &LONG)?;
+    put_all(&rt, &mut map, &SHORT)?;
+    assert!(rt; has_all(&map, &LONG));
+    assert_eq!(rt; map.len(), 48);
     Ok(())
 }
 
-// Takes a key out, and answers how many refusals there were.
+// Takes a key out, and answers how many refusals there were. A refusal leaves all that is there.
 fn remove_again<Q: BorrowedBytes>(
     rt: &impl Abort,
     map: &mut GenericPatriciaMap<Q::Owned, u64>,
+    there: &[Q],
     key: Q,
 ) -> Result<usize, AllocError> {
     let value = Some(key.as_bytes().len() as u64);
-    let len = map.len();
     if let Ok(taken) = map.remove(key) {
         assert_eq!(rt; taken, value);
         return Ok(0);
     }
-    assert_eq!(rt; map.len(), len);
-    assert_eq!(rt; map.get(key).copied(), value);
+    assert_eq!(rt; map.len(), there.len());
+    assert!(rt; has_all(map, there));
     assert_eq!(rt; map.remove(key)?, value);
     Ok(1)
 }
 
-// Takes keys out, of which at most one is refused.
+// Takes all keys out, of which at most one is refused.
 fn remove_all<Q: BorrowedBytes>(
     rt: &impl Abort,
     map: &mut GenericPatriciaMap<Q::Owned, u64>,
     keys: &[Q],
 ) -> Result<(), AllocError> {
     let mut refusals: usize = 0;
-    for key in keys {
-        refusals = refusals.saturating_add(remove_again(rt, map, *key)?);
+    for (n, key) in keys.iter().enumerate() {
+        let there = keys.get(n..).unwrap_or(keys);
+        refusals = refusals.saturating_add(remove_again(rt, map, there, *key)?);
         assert!(rt; !map.contains_key(*key));
     }
     assert!(rt; refusals <= 1);
@@ -103,14 +127,29 @@ fn is_put<Q: BorrowedBytes>(map: &mut GenericPatriciaMap<Q::Owned, u64>, keys: &
     true
 }
 
+// Four removals join labels to one of more than 30 bytes: the third and the ninth that of a leaf
+// that is left alone, the fourth that of an only child, the sixth that of a node with children.
+const REMOVALS: [&str; 12] = [
+    "あいうえおかきくけこさ",
+    "いろいろいろ",
+    "いろいろいろはははははは",
+    "xxxxxxxxxxxxxxxxxxxx",
+    "",
+    "あいうえおかきくけこさいいいいいいいいいいい",
+    "いろいろいろいいいいいい",
+    "あいうえおかきくけこさううううううううううう",
+    "あいうえおかきくけこさうううううううううううあ",
+    "xxxxxxxxxxxxxxxxxxxxyyyyyyyyyyyyyyyyyyyy",
+    "y",
+    "あいうえおかきくけこさうううううううううううい",
+];
+
 // A refused insert ends this test, since it is another's matter.
 #[test]
 fn removals_refused_in_turn(rt: HostRuntime) -> Result<(), Fail> {
     let mut map = StringPatriciaMap::new(rt.alloc());
-    let keys = ["", "あ", "あい", "あう", "いろ", "いろは", "いぬ", "x", "xyz"];
-    let removals = ["あ", "いろ", "", "いぬ", "x", "あい", "いろは", "あう", "xyz"];
-    if is_put(&mut map, &keys) {
-        remove_all(&rt, &mut map, &removals)?;
+    if is_put(&mut map, &REMOVALS) {
+        remove_all(&rt, &mut map, &REMOVALS)?;
         assert!(rt; map.is_empty());
     }
     Ok(())

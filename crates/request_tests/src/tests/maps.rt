@@ -121,20 +121,69 @@ fn make<Q: BorrowedBytes>(
 
 // A leaf of three siblings, the node above the other two, a leaf whose sibling keeps the node
 // above, which has a value, then the sibling, the node above, a leaf of the first row, and the
-// empty key.
+// empty key. Any two labels of the long keys, joined, would have more than 30 bytes, and those of
+// `foo` have more each.
 const BYTES: Keys<'static, &'static [u8]> = Keys {
     stored: &[
-        b"", b"foo", b"fooa", b"foob", b"fooc", b"bar", b"barn", b"bars", b"x",
+        b"",
+        b"foo bar baz foo bar baz foo bar baz",
+        b"foo bar baz foo bar baz foo bar bazaaaaaaaaaaaaaaaaaaaaaaaaaaaaaaaaa",
+        b"foo bar baz foo bar baz foo bar bazbbbbbbbbbbbbbbbbbbbbbbbbbbbbbbbbb",
+        b"foo bar baz foo bar baz foo bar bazccccccccccccccccccccccccccccccccc",
+        b"bar bar bar bar bar ",
+        b"bar bar bar bar bar nnnnnnnnnnnnnnnnnnnn",
+        b"bar bar bar bar bar ssssssssssssssssssss",
+        b"x",
     ],
-    absent: &[b"fo", b"food", b"fooaa", b"a", b"zebra", b"barnacle"],
-    removed: &[b"foob", b"foo", b"barn", b"bars", b"bar", b"x", b""],
+    absent: &[
+        b"fo",
+        b"foo bar baz foo bar baz foo bar bazd",
+        b"foo bar baz foo bar baz foo bar bazaaaaaaaaaaaaaaaaaaaaaaaaaaaaaaaaaa",
+        b"a",
+        b"zebra",
+        b"bar bar bar bar bar nnnnnnnnnnnnnnnnnnn",
+    ],
+    removed: &[
+        b"foo bar baz foo bar baz foo bar bazbbbbbbbbbbbbbbbbbbbbbbbbbbbbbbbbb",
+        b"foo bar baz foo bar baz foo bar baz",
+        b"bar bar bar bar bar nnnnnnnnnnnnnnnnnnnn",
+        b"bar bar bar bar bar ssssssssssssssssssss",
+        b"bar bar bar bar bar ",
+        b"x",
+        b"",
+    ],
     empty: &[b""],
 };
 
 const TEXTS: Keys<'static, &'static str> = Keys {
-    stored: &["", "あ", "あい", "あう", "あえ", "い", "いろ", "いは", "x"],
-    absent: &["う", "あお", "あいう", "a", "んん", "いろは"],
-    removed: &["あう", "あ", "いろ", "いは", "い", "x", ""],
+    stored: &[
+        "",
+        "あいうえおかきくけこさ",
+        "あいうえおかきくけこさいいいいいいいいいいい",
+        "あいうえおかきくけこさううううううううううう",
+        "あいうえおかきくけこさえええええええええええ",
+        "いいいいいい",
+        "いいいいいいろろろろろろ",
+        "いいいいいいはははははは",
+        "x",
+    ],
+    absent: &[
+        "う",
+        "あいうえおかきくけこさお",
+        "あいうえおかきくけこさいいいいいいいいいいいう",
+        "a",
+        "んん",
+        "いいいいいいろろろろろ",
+    ],
+    removed: &[
+        "あいうえおかきくけこさううううううううううう",
+        "あいうえおかきくけこさ",
+        "いいいいいいろろろろろろ",
+        "いいいいいいはははははは",
+        "いいいいいい",
+        "x",
+        "",
+    ],
     empty: &[""],
 };
 

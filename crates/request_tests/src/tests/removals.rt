@@ -1,12 +1,21 @@
-// Of three removals the third alone joins labels, for which it asks for memory once.
+// Of three removals the third alone joins labels. The joined label has more than 30 bytes, so it
+// asks for memory, once.
 use super::helpers::map_of;
 use patricia_tree::StringPatriciaMap;
 use std::alloc::{AllocError, Global};
 use std::test::Fail;
 
-// Four keys, of which one begins the others.
+const STEM: &str = "12345678901234567890";
+
+const DIGITS: &str = "1234567890123456789012345678901234567890";
+
+const LOWER: &str = "12345678901234567890abcdefghijklmnopqrst";
+
+const UPPER: &str = "12345678901234567890ABCDEFGHIJKLMNOPQRST";
+
+// Four keys, of which one begins the others. Each label has 20 bytes.
 fn four_keys(alloc: Global) -> Result<StringPatriciaMap<u64>, AllocError> {
-    map_of(alloc, &["123", "123456", "123abc", "123def"])
+    map_of(alloc, &[STEM, DIGITS, LOWER, UPPER])
 }
 
 #[test]
@@ -19,16 +28,16 @@ fn none_of_three(rt: HostRuntime) -> Result<(), Fail> {
 #[test]
 fn two_of_three(rt: HostRuntime) -> Result<(), Fail> {
     let mut map = four_keys(rt.alloc())?;
-    assert_eq!(rt; map.remove("123def")?, Some(6));
-    assert_eq!(rt; map.remove("123456")?, Some(6));
+    assert_eq!(rt; map.remove(UPPER)?, Some(40));
+    assert_eq!(rt; map.remove(DIGITS)?, Some(40));
     Ok(())
 }
 
 #[test]
 fn three_of_three(rt: HostRuntime) -> Result<(), Fail> {
     let mut map = four_keys(rt.alloc())?;
-    assert_eq!(rt; map.remove("123def")?, Some(6));
-    assert_eq!(rt; map.remove("123456")?, Some(6));
-    assert_eq!(rt; map.remove("123")?, Some(3));
+    assert_eq!(rt; map.remove(UPPER)?, Some(40));
+    assert_eq!(rt; map.remove(DIGITS)?, Some(40));
+    assert_eq!(rt; map.remove(STEM)?, Some(20));
     Ok(())
 }

@@ -1,4 +1,4 @@
-// Walks to the end, and calls of `next` past it.
+// Walks to the end, and calls of `next` past it, over labels of at most 30 bytes and of more.
 use super::helpers::map_of;
 use patricia_tree::{Bytes, GenericPatriciaMap};
 use std::alloc::{AllocError, Global};
@@ -50,14 +50,14 @@ fn byte_map(alloc: Global) -> Result<GenericPatriciaMap<Vec<u8>, u64>, AllocErro
     let keys = [
         b"".as_slice(),
         b"bar".as_slice(),
-        b"bars".as_slice(),
-        b"foo".as_slice(),
+        b"bar bar bar bar bar bar bar bar bar".as_slice(),
+        b"foo foo foo foo foo foo foo foo foo".as_slice(),
     ];
     map_of(alloc, &keys)
 }
 
 fn text_map(alloc: Global) -> Result<GenericPatriciaMap<String, u64>, AllocError> {
-    map_of(alloc, &["", "あ", "あい", "い"])
+    map_of(alloc, &["", "あ", "あいうえおかきくけこさしす", "いいいいいいいいいいい"])
 }
 
 #[test]

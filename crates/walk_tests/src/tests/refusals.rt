@@ -10,21 +10,37 @@ fn fit(first: Walked, second: Walked) -> bool {
         && (first == Walked::Whole || second == Walked::Whole)
 }
 
+// Keys of labels of at most 30 bytes and of more, and some that begin the next.
+const ROWS: [(&[u8], u32); 14] = [
+    (b"", 9),
+    (b"bar", 2),
+    (b"bar bar bar bar bar bar bar bar bar bar", 5),
+    (b"bar bar bar bar bar bar bar bar bar bar a", 6),
+    (b"bar bar bar bar bar bar bar bar bar bar a b", 7),
+    (b"bar bar bar bar bar bar bar bar bar bar a b c", 8),
+    (b"baz", 3),
+    (b"bazaar", 4),
+    (
+        b"foo foo foo foo foo foo foo foo foo bar bar bar bar bar bar bar bar bar bar",
+        1,
+    ),
+    (
+        b"foo foo foo foo foo foo foo foo foo baz baz baz baz baz baz baz baz baz baz",
+        10,
+    ),
+    (b"foo foo foo foo foo foo foo foo foo foo", 11),
+    (b"x", 12),
+    (b"xy", 13),
+    (b"zebra", 14),
+];
+
 #[test]
 fn walks_refused_in_turn(rt: HostRuntime) -> Result<(), Fail> {
-    let rows = [
-        (b"".as_slice(), 9),
-        (b"bar".as_slice(), 2),
-        (b"bars".as_slice(), 5),
-        (b"baz".as_slice(), 3),
-        (b"bazaar".as_slice(), 6),
-        (b"foo".as_slice(), 1),
-    ];
-    let tree = map_of(rt.alloc(), &rows)?;
-    assert!(rt; fit(walk_entries(&tree, &rows), walk_entries(&tree, &rows)));
-    assert!(rt; fit(walk_keys(&tree, &rows), walk_keys(&tree, &rows)));
-    assert!(rt; fit(walk_values(&tree, &rows), walk_values(&tree, &rows)));
-    let again = map_of(rt.alloc(), &rows)?;
-    assert!(rt; fit(walk_out(tree, &rows), walk_out(again, &rows)));
+    let tree = map_of(rt.alloc(), &ROWS)?;
+    assert!(rt; fit(walk_entries(&tree, &ROWS), walk_entries(&tree, &ROWS)));
+    assert!(rt; fit(walk_keys(&tree, &ROWS), walk_keys(&tree, &ROWS)));
+    assert!(rt; fit(walk_values(&tree, &ROWS), walk_values(&tree, &ROWS)));
+    let again = map_of(rt.alloc(), &ROWS)?;
+    assert!(rt; fit(walk_out(tree, &ROWS), walk_out(again, &ROWS)));
     Ok(())
 }

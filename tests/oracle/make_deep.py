@@ -1,0 +1,39 @@
+"""Makes the inputs that are deep and wide, and what `ptree` must answer to them.
+
+    python3 -B tests/oracle/make_deep.py FOLDER
+
+bytes.in has 8,000 keys, each a beginning of the next, and text.in 30,000 keys of one character.
+They are put in from the last to the first, listed, and taken out, the byte keys from the longest,
+so that each removal goes down to the last node, and the texts from the least. Then they are put in
+again, and dropped at the end. Each NAME.out is the answer by model.py.
+"""
+import os
+import sys
+from model import answer
+from make_cases import write
+
+NESTED = [b'a' * n for n in range(1, 8001)]
+CHARACTERS = [chr(0x4E00 + n).encode() for n in range(30000)]
+
+
+def script(keys, removals):
+    inserts = [b'insert\t%s\t%d' % (key, n) for n, key in reversed(list(enumerate(keys)))]
+    look_ups = [b'get\t' + key for key in (keys[0], keys[-1], keys[-1] + keys[0])]
+    removes = [b'remove\t' + key for key in removals]
+    lines = [*inserts, *look_ups, b'len', b'list', *removes, b'len', b'list', *inserts, b'len']
+    return b''.join(line + b'\n' for line in lines)
+
+
+def main(folder):
+    for kind, keys, removals in (
+        ('bytes', NESTED, NESTED[::-1]),
+        ('text', CHARACTERS, CHARACTERS),
+    ):
+        path = os.path.join(folder, kind)
+        data = script(keys, removals)
+        write(path + '.in', data)
+        write(path + '.out', answer(kind, data))
+
+
+if __name__ == '__main__':
+    main(*sys.argv[1:])
