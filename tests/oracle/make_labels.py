@@ -1,0 +1,99 @@
+"""Makes calls over labels of each length that matters, which `line_tests` reads.
+
+    python3 -B tests/oracle/make_labels.py > FILE
+
+A label of at most 30 bytes stands in its node, and a longer one in memory of its own. Labels of 1
+to 33 bytes, and of about 255, are linked before, behind and below others, cut, joined again, looked
+up, walked over and taken out. What must be answered is what answer_lines.py says.
+"""
+LENGTHS = [*range(1, 34), *range(254, 258)]
+# a front or a rest of so many bytes is cut off a label of about 255
+NEAR = [1, 2, 3, *range(28, 34)]
+
+
+def label(kind, length):
+    """The items of a label of so many bytes."""
+    if kind == 'bytes':
+        return ['abcdefghi'[n % 9] for n in range(length)]
+    return ['a'] * (length % 3) + ['あ'] * (length // 3)
+
+
+def lesser(item):
+    return 'ぁ' if item == 'あ' else 'A'
+
+
+def greater(item):
+    return 'い' if item == 'あ' else 'z'
+
+
+def key(items):
+    return ''.join(items)
+
+
+def linked(items):
+    """Leaves of one length before, behind and below another, which is then joined with the last."""
+    whole, last = key(items), key(items[:-1])
+    before, behind = (key([make(items[0]), *items[1:]]) for make in (lesser, greater))
+    below = whole + whole
+    return [
+        'insert %s 1' % whole,
+        'insert %s 2 %s 3' % (behind, before),
+        'insert %s 4' % below,
+        'get %s' % ' '.join([whole, behind, before, below, last + '*1', whole + 'x', below + 'x']),
+        'iter',
+        'remove %s' % whole,
+        'get %s' % ' '.join([whole, below]),
+        'keys',
+        'remove %s' % before,
+        'take',
+    ]
+
+
+def cut(items, at):
+    """A label is cut by a branch and joined again, and then by a key that ends in it."""
+    whole, front, rest = key(items), key(items[:at]), items[at:]
+    branch = front + greater(rest[0])
+    before = front + key([lesser(rest[0]), *rest])
+    near = ' '.join([whole, front, branch, before, whole + 'x', front + key(rest[:-1]) + 'x'])
+    return [
+        'insert %s 1' % whole,
+        'insert %s 2' % branch,
+        'contains %s' % near,
+        'insert %s 3' % before,
+        'iter',
+        'remove %s' % before,
+        'remove %s' % branch,
+        'get %s' % near,
+        'iter',
+        'insert %s 4' % front,
+        'get %s' % near,
+        'values',
+        'remove %s' % front,
+        'get %s' % near,
+        'insert %s 5' % front,
+        'remove %s' % whole,
+        'keys',
+        'take',
+    ]
+
+
+def calls(kind, length):
+    items = label(kind, length)
+    answers = linked(items)
+    for at in range(1, len(items)):
+        front = len(key(items[:at]).encode())
+        if length <= 33 or front in NEAR or length - front in NEAR:
+            answers += cut(items, at)
+    return answers
+
+
+def main():
+    for kind in 'bytes', 'text':
+        for length in LENGTHS:
+            for call in calls(kind, length):
+                print(kind, call)
+            print(kind, 'len')
+
+
+if __name__ == '__main__':
+    main()
