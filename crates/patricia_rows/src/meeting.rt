@@ -26,6 +26,7 @@ pub fn meet<Q: BorrowedBytes>(key: Q, label: &[u8]) -> Meeting<Q>
     requires key_filled { Q.key key ≢ [] }
     ensures { Meets Q.Owned.item Q.key (Q.key key) label.now result }
 {
+    // first bytes that differ order the first items
     let first = key.as_bytes()[0];
     if first < label[0] {
         return Meeting::Before;
