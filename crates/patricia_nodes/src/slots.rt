@@ -26,10 +26,10 @@ pub struct Refused<V> {
 /// A node with its whole label. In a free node only `sibling` counts.
 #[derive(Drop)]
 pub struct Node<V> {
-    pub label: Label,
-    pub value: Option<V>,
     pub child: Link,
     pub sibling: Link,
+    pub label: Label,
+    pub value: Option<V>,
 }
 
 /// Nodes, the first of the top row, and the first of those that are free for use.
