@@ -6,6 +6,6 @@
 pub mod tree;
 
 pub use patricia_keys::keys;
-pub use patricia_nodes::slots::{into_walk, walk};
-pub use patricia_nodes::{Steps, steps};
+pub use patricia_labels::{Steps, steps};
 pub use patricia_rows::laws;
+pub use patricia_walks::{into_walk, walk};

@@ -7,11 +7,11 @@ ghost use Rattle.patricia_keys.specs.Keys.{AreSingle, IsValid};
 ghost use Rattle.patricia_rows.specs.Points.{CountsVisits, Joins};
 
 use patricia_keys::{BorrowedBytes, Bytes};
-use patricia_nodes::Steps;
+use patricia_labels::Steps;
 pub use patricia_nodes::slots::Refused;
 use patricia_nodes::slots::Slots;
-use patricia_nodes::slots::into_walk::IntoWalk;
-use patricia_nodes::slots::walk::Walk;
+use patricia_walks::into_walk::IntoWalk;
+use patricia_walks::walk::Walk;
 use std::alloc::{AllocError, Global};
 use std::marker::{Brand, Model, PhantomData};
 use std::sync::ledger::{Blank, Ledger};

@@ -6,7 +6,6 @@ pub mod GrowthLemmas
 pub mod LayLemmas
 pub mod MakeLemmas
 pub mod PlanLemmas
-pub mod PositionLemmas
 pub mod PutLemmas
 pub mod RelayLemmas
 pub mod RemoveLemmas

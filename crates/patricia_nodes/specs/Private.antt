@@ -1,9 +1,6 @@
 -- Words of contracts that no user of the library meets: a reader need not believe them.
 pub mod Frees
 pub mod Growth
-pub mod Labels
-pub mod Links
 pub mod Places
 pub mod Plans
-pub mod Positions
 pub mod Writes

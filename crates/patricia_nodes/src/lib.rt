@@ -3,9 +3,4 @@
 //! `patricia_tree` is the library to use. This crate is what it stands on.
 #![tactic(auto)]
 
-mod label;
-mod link;
 pub mod slots;
-pub mod steps;
-
-pub use steps::Steps;

@@ -5,14 +5,12 @@ ghost use Rattle.patricia_rows.specs.Rows.{end};
 
 mod growth;
 mod insertion;
-pub mod into_walk;
 mod removal;
 mod room;
 mod seek;
-pub mod walk;
 
-use crate::label::Label;
-use crate::link::Link;
+use patricia_labels::label::Label;
+use patricia_labels::link::Link;
 use std::alloc::Global;
 use thiserror::Error;
 
@@ -34,12 +32,14 @@ pub struct Node<V> {
 
 /// Nodes, the first of the top row, and the first of those that are free for use.
 ///
-/// The free nodes are linked by `sibling`.
+/// The free nodes are linked by `sibling`. The fields are for this crate and `patricia_walks`
+/// alone. Each call that needs it asks for `IsWhole`, so whoever writes to a field has to prove that
+/// it still holds.
 #[derive(Drop)]
 pub struct Slots<V> {
-    nodes: Vec<Node<V>>,
-    root: Link,
-    free: Link,
+    pub nodes: Vec<Node<V>>,
+    pub root: Link,
+    pub free: Link,
 }
 
 impl<V: Drop> Slots<V> {

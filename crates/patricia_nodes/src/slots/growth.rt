@@ -6,9 +6,9 @@ ghost use Rattle.std.specs.Prelude.{◌≡◌, ◌≢◌, ◌+◌, ◌<◌, ◌�
 ghost use Rattle.patricia_nodes.specs.Private.Plans.{Plan, head, row_of, IsWhole};
 ghost use Rattle.patricia_nodes.specs.Private.Growth.{IsTopRow, TakesRow, tops, laid, numbered};
 
-use crate::label::Label;
-use crate::link::{Link, NodeId};
 use crate::slots::{Node, Slots};
+use patricia_labels::label::Label;
+use patricia_labels::link::{Link, NodeId};
 use std::alloc::{AllocError, Global};
 use std::mem;
 

@@ -8,11 +8,11 @@ ghost use Rattle.patricia_nodes.specs.Private.Plans.{IsWhole, row_of, entries_of
 ghost use Rattle.patricia_nodes.specs.Private.Places.{node_of};
 ghost use Rattle.patricia_nodes.specs.Private.Writes.{HasRoom, Reuses, MakesNode, Relinks, SpotWithin, HasSpot, Adds, HasCell, Splits, FindsAt, Ready, IsPut, PutsAt};
 
-use crate::label::Label;
-use crate::link::{Link, NodeId};
 use crate::slots::seek::{Place, Spot, Stop};
 use crate::slots::{Node, Refused, Slots};
 use patricia_keys::{BorrowedBytes, Bytes};
+use patricia_labels::label::Label;
+use patricia_labels::link::{Link, NodeId};
 use std::alloc::Global;
 use std::cmp::Ordering;
 use std::mem;

@@ -10,11 +10,11 @@ ghost use Rattle.patricia_nodes.specs.Private.Plans.{Plan, IsPlan, IsWhole, row,
 ghost use Rattle.patricia_nodes.specs.Private.Writes.{Ready};
 ghost use Rattle.patricia_nodes.specs.Private.Frees.{Frees, HasLeafAt, Unlinks, HasLone, Absorbs, IsJoined, IsPair, HasNodeAt, LeftAlone, IsLeaf, IsValued, HasValue, RemovesAt, JoinsAt};
 
-use crate::label::Label;
-use crate::link::{Link, NodeId};
 use crate::slots::seek::{Place, Spot};
 use crate::slots::{Node, Slots};
 use patricia_keys::{BorrowedBytes, Bytes};
+use patricia_labels::label::Label;
+use patricia_labels::link::{Link, NodeId};
 use std::alloc::{AllocError, Global};
 use std::mem;
 

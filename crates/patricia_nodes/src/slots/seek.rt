@@ -8,10 +8,10 @@ ghost use Rattle.patricia_rows.specs.Private.Counts.{IsCounted};
 ghost use Rattle.patricia_nodes.specs.Private.Plans.{IsWhole, row_of, entries_of};
 ghost use Rattle.patricia_nodes.specs.Private.Places.{IsPlace, node_of, node_above};
 
-use crate::link::{Link, NodeId};
 use crate::slots::Slots;
-use crate::steps::Steps;
 use patricia_keys::{BorrowedBytes, Bytes};
+use patricia_labels::link::{Link, NodeId};
+use patricia_labels::steps::Steps;
 use patricia_rows::meeting::{Meeting, meet};
 use std::marker::Brand;
 use std::sync::ledger::{Blank, Ledger};

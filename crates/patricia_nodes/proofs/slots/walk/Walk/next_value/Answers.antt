@@ -1,7 +1,0 @@
-use Rattle.std.proofs.Common.{ap, subst, ◌≢◌, []}
-use Rattle.patricia_rows.specs.Walks.{values_of}
-use Rattle.patricia_rows.proofs.WalkLemmas.{map_filled}
-use Rattle.patricia_nodes.proofs.slots.walk.Walk.next_value.Goals as goal
-
-pub returns-in-Err : goal.returns-in-Err
-returns-in-Err g c = (map_filled _ _ (subst (λ l. l ≢ []) c.self.view_is (c.in-Err.ensures.err)), ap values_of c.finish.ensures.left)

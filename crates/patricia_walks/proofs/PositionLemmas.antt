@@ -1,0 +1,147 @@
+-- How the steps of a walk change what it has left of nodes in one vector.
+use Rattle.std.proofs.Common.{◌≡◌, ◌≢◌, ℕ, ◌+◌, ◌<◌, List, [], ◌∷◌, ◌++◌, length, get_or, take, Option, Some, None, slice_get, refl, sym, ap, ◌∙◌, arith}
+use Rattle.std.proofs.lemmas.List.{map-append}
+use Rattle.patricia_keys.proofs.KeyLemmas.{IsValid-nil}
+use Rattle.patricia_rows.specs.Rows.{node, end, IsRow}
+use Rattle.patricia_rows.specs.Private.Spots.{left}
+use Rattle.patricia_rows.proofs.WalkLemmas.{step_down, step_back, left_filled}
+use Rattle.patricia_nodes.specs.declared.slots.Node.{Node}
+use Rattle.patricia_nodes.specs.declared.slots.Slots.{Slots}
+use Rattle.patricia_nodes.specs.Private.Plans.{Plan, Nil, Cell, head, row, count, plan_at, row_of, IsPlan, IsWhole}
+use Rattle.patricia_walks.specs.Private.Positions.{Position, row_at, rows_at, spot_of, AllPlans, count_all, Stand, IsPosition, Goes}
+use Rattle.patricia_nodes.proofs.PlanLemmas.{one-same, below_le, plan_is}
+use Rattle.patricia_nodes.proofs.SeekLemmas.{head_within, opened, whole_plan}
+use Rattle.patricia_nodes.proofs.WriteLemmas.{stands-keep}
+
+module _ {V : Type 0} (nodes : List (Node V)) where
+  -- one more row that waits
+  all_plans-snoc : (fs : List (ℕ × Option ℕ)) (n : ℕ) (at : Option ℕ) → AllPlans nodes fs → IsPlan nodes at (plan_at nodes at) → AllPlans nodes (fs ++ (n, at) ∷ [])
+  all_plans-snoc [] n at ps p = (p, tt)
+  all_plans-snoc (f ∷ fs) n at ps p = (ps.0, all_plans-snoc fs n at ps.1 p)
+
+  all_plans-last : (fs : List (ℕ × Option ℕ)) (n : ℕ) (at : Option ℕ) → AllPlans nodes (fs ++ (n, at) ∷ []) → IsPlan nodes at (plan_at nodes at) × AllPlans nodes fs
+  all_plans-last [] n at ps = (ps.0, tt)
+  all_plans-last (f ∷ fs) n at ps = let later = all_plans-last fs n at ps.1 in (later.0, (ps.0, later.1))
+
+  count_all-snoc : (fs : List (ℕ × Option ℕ)) (n : ℕ) (at : Option ℕ) (i : ℕ) → count_all nodes (fs ++ (n, at) ∷ []) i ≡ count (plan_at nodes at) i + count_all nodes fs i
+  count_all-snoc [] n at i = omega arith
+  count_all-snoc (f ∷ fs) n at i = omega (arith, count_all-snoc fs n at i)
+
+  -- where there is no number, there is no row
+  row_none : row_at nodes None ≡ end
+  row_none = ap row (plan_is nodes None Nil (record { stands = tt; at_is = refl; fits = omega arith }))
+
+-- after a write to a node
+module _ {V : Type 0} (nodes later : List (Node V)) (id : ℕ) (long : length later ≡ length nodes) (others : (i : ℕ) → i ≢ id → slice_get later i ≡ slice_get nodes i) where
+  -- a plan without the node is as it was
+  plan-keep : (at : Option ℕ) (p : Plan V) → IsPlan nodes at p → count p id ≡ 0 → IsPlan later at p
+  plan-keep at p w none = record { stands = stands-keep nodes later p (λ i some. others i (λ e. some (ap (count p) e ∙ none))) w.stands; at_is = w.at_is; fits = rw long w.fits }
+
+  -- and so are those of the rows that wait
+  record Keeps (fs : List (ℕ × Option ℕ)) : Type 0 where
+    plans : AllPlans later fs
+    rows : rows_at later fs ≡ rows_at nodes fs
+    counts : (i : ℕ) → count_all later fs i ≡ count_all nodes fs i
+
+  all-keep : (fs : List (ℕ × Option ℕ)) → AllPlans nodes fs → count_all nodes fs id ≡ 0 → Keeps fs
+  all-keep [] ps none = record { plans = tt; rows = refl; counts = λ i. refl }
+  all-keep (f ∷ fs) ps none =
+      let kept = plan-keep f.1 (plan_at nodes f.1) ps.0 (omega (arith, none)) in
+      let same = plan_is later f.1 (plan_at nodes f.1) kept in
+      let rest = all-keep fs ps.1 (omega (arith, none)) in
+      record {
+        plans = (rw same kept, rest.plans);
+        rows = let rows = rest.rows in cc;
+        counts = λ i. omega (arith, rest.counts i, ap (λ p. count p i) same);
+      }
+
+module _ {V : Type 0} (p q : Position V) (id : ℕ) (n : Node V) (stands : Stand p) (next : p.next ≡ Some id) (reads : n ≡ get_or p.nodes id n) (long : length q.nodes ≡ length p.nodes) (others : (i : ℕ) → i ≢ id → slice_get q.nodes i ≡ slice_get p.nodes i) (front : ℕ) (child : q.next ≡ n.child) (stack : q.stack ≡ p.stack ++ (front, n.sibling) ∷ []) where
+  -- the rows after the step to the children
+  record Down : Type 0 where
+    row_is : row_at p.nodes p.next ≡ node n.label n.value (row_at q.nodes q.next) (row_at q.nodes n.sibling)
+    stack_is : rows_at q.nodes q.stack ≡ rows_at p.nodes p.stack ++ (front, row_at q.nodes n.sibling) ∷ []
+    stand : Stand q
+
+  down : Down
+  down =
+      let o = opened p.nodes p.next (plan_at p.nodes p.next) id n stands.next_plan next reads in
+      let counts : (i : ℕ) → _ = λ i. ap (λ r. count r i) o.is in
+      let alone : count o.child id + count o.sibling id + count_all p.nodes p.stack id ≡ 0 = omega (arith, stands.once id, counts id, one-same id) in
+      let c = plan-keep p.nodes q.nodes id long others n.child o.child o.child_plan (omega (arith, alone)) in
+      let s = plan-keep p.nodes q.nodes id long others n.sibling o.sibling o.sibling_plan (omega (arith, alone)) in
+      let c_is = plan_is q.nodes n.child o.child c in
+      let s_is = plan_is q.nodes n.sibling o.sibling s in
+      let kept = all-keep p.nodes q.nodes id long others p.stack stands.plans (omega (arith, alone)) in
+      record {
+        row_is = rw (child, c_is, s_is) (ap row o.is);
+        stack_is = rw stack (map-append _ _ _ ∙ ap (λ r. r ++ (front, row_at q.nodes n.sibling) ∷ []) kept.rows);
+        stand = record {
+          next_plan = rw (child, c_is) c;
+          plans = rw stack (all_plans-snoc q.nodes p.stack front n.sibling kept.plans (rw s_is s));
+          once = λ i. rw (child, c_is, stack) (omega (arith, stands.once i, counts i, kept.counts i, count_all-snoc q.nodes p.stack front n.sibling i, ap (λ r. count r i) s_is));
+        };
+      }
+
+module _ (item : List ℕ → Type 0) {V : Type 0} where
+  -- the step to a node's value and its children, where only that node is written to
+  pub goes_down : (p q : Position V) (id : ℕ) (n : Node V) (l : List ℕ) (front : ℕ) → IsPosition item p → p.due ≡ None → p.next ≡ Some id → n ≡ get_or p.nodes id n
+      → length q.nodes ≡ length p.nodes → ((i : ℕ) → i ≢ id → slice_get q.nodes i ≡ slice_get p.nodes i)
+      → l ≡ n.label → front ≡ length p.path
+      → q.path ≡ p.path ++ l → q.due ≡ n.value → q.next ≡ n.child → q.stack ≡ p.stack ++ (front, n.sibling) ∷ []
+      → Goes item p q
+  goes_down p q id n l front w due next reads long others label_is front_is path due' child stack =
+      let d = down p q id n w.stand next reads long others (length p.path) child (rw (sym front_is) stack) in
+      record { stand = d.stand; step = step_down item (spot_of p) (spot_of q) n.label n.value _ _ w.spot due d.row_is (rw (sym label_is) path) due' refl d.stack_is }
+
+  -- the step back to the row that waits last
+  pub goes_back : (p q : Position V) (n : ℕ) (at : Option ℕ) → IsPosition item p → p.due ≡ None → p.next ≡ None → p.stack ≡ q.stack ++ (n, at) ∷ []
+      → q.nodes ≡ p.nodes → q.path ≡ take n p.path → q.due ≡ p.due → q.next ≡ at
+      → Goes item p q
+  goes_back p q n at w due next stack nodes path due' at_is =
+      let last = all_plans-last p.nodes q.stack n at (rw stack at w.stand.plans) in
+      record {
+        stand = record {
+          next_plan = rw (nodes, at_is) last.0;
+          plans = rw nodes last.1;
+          once = λ i. rw (nodes, at_is) (omega (arith, w.stand.once i, ap (λ f. count_all p.nodes f i) stack, count_all-snoc p.nodes q.stack n at i));
+        };
+        step = step_back item (spot_of p) (spot_of q) n (row_at p.nodes at) w.spot due (ap (row_at p.nodes) next ∙ row_none p.nodes)
+            (rw (stack, nodes) (map-append _ _ _)) path due' (rw (nodes, at_is) refl);
+      }
+
+  -- where a node is next, an entry is left
+  pub position_filled : (p : Position V) (id : ℕ) → IsPosition item p → p.next ≡ Some id → left (spot_of p) ≢ []
+  position_filled p id w next = by (plan_at p.nodes p.next) refl w.stand.next_plan.at_is
+    where
+      by : (r : Plan V) → plan_at p.nodes p.next ≡ r → p.next ≡ head r → left (spot_of p) ≢ []
+      by Nil is at = absurd (cc)
+      by (Cell i l v c d) is at = left_filled item (spot_of p) l v (row c) (row d) w.spot (ap row is)
+
+  -- a number that is next is that of a node
+  pub position_within : (p : Position V) (id : ℕ) → IsPosition item p → p.next ≡ Some id → id < length p.nodes
+  position_within p id w next = head_within p.nodes p.next (plan_at p.nodes p.next) id w.stand.next_plan next
+
+  -- at its start a walk stands at the first row
+  pub position_start : (s : Slots V) (p : Position V) → IsWhole s → IsRow item (row_of s) → p.nodes ≡ s.nodes.items → p.path ≡ [] → p.next ≡ s.root → p.stack ≡ [] → IsPosition item p
+  position_start s p whole ok nodes path next stack =
+      let plan = whole_plan s whole in
+      let once = whole.1.1.once in
+      let is = plan_is s.nodes.items s.root whole.0 whole.1.1.plan_ok in
+      record {
+        stand = record {
+          next_plan = rw (nodes, next) plan;
+          plans = rw stack tt;
+          once = λ i. rw (nodes, next, stack) (omega (arith, once i, below_le (length s.nodes.items) i, ap (λ r. count r i) is));
+        };
+        spot = record { valid = rw path (IsValid-nil item); row_ok = rw (nodes, next) ok; waits = rw stack tt };
+      }
+
+  -- with no row left a walk stands at its end
+  pub position_end : (p : Position V) → p.path ≡ [] → p.next ≡ None → p.stack ≡ [] → IsPosition item p
+  position_end p path next stack =
+      let plan : IsPlan p.nodes None Nil = record { stands = tt; at_is = refl; fits = omega arith } in
+      let is = plan_is p.nodes None Nil plan in
+      record {
+        stand = record { next_plan = rw (next, is) plan; plans = rw stack tt; once = λ i. rw (next, is, stack) (omega arith) };
+        spot = record { valid = rw path (IsValid-nil item); row_ok = rw (next, is) tt; waits = rw stack tt };
+      }

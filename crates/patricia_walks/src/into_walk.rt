@@ -1,0 +1,162 @@
+//! Walks that take the values out of nodes in one vector, in key order.
+//!
+//! The nodes stay in the vector. They are dropped with the walk, or at an error.
+ghost use Rattle.std.specs.Prelude.{◌≡◌, ◌≢◌, ◌++◌, [], Some, None, false, IfOk, OnOk, OnErr, IsTrue};
+ghost use Rattle.patricia_rows.specs.Rows.{own, IsRow};
+ghost use Rattle.patricia_rows.specs.Private.Spots.{left, Takes};
+ghost use Rattle.patricia_rows.specs.Walks.{Gives};
+ghost use Rattle.patricia_nodes.specs.Private.Plans.{IsWhole, row_of, entries_of};
+ghost use Rattle.patricia_walks.specs.Private.Positions.{IsPosition, Goes, spot_of, owned};
+
+use patricia_keys::Bytes;
+use patricia_labels::link::{Link, NodeId};
+use patricia_nodes::slots::Slots;
+use std::alloc::{AllocError, Global};
+use std::marker::{Model, PhantomData};
+
+// How far a walk has come, and what it still owns.
+#[derive(Drop)]
+struct OwnedPlace<V> {
+    slots: Slots<V>,
+    // the key of the last value, which stands before the keys of the row
+    path: Vec<u8>,
+    // the value at the path, while it is due
+    due: Option<V>,
+    // the row that is next
+    next: Link,
+    // the rows that wait, each behind so many bytes of the path
+    stack: Vec<(usize, Link)>,
+}
+
+impl<V: Drop> OwnedPlace<V> {
+    // Ends the walk, and drops what is left.
+    fn finish<K: Bytes>(&mut self)
+        ensures left { left (spot_of (owned self.new)) ≡ [] }
+        ensures position { IsPosition K.item (owned self.new) }
+    {
+        self.slots.clear();
+        self.path.clear();
+        self.due = None;
+        self.next = Link::none();
+        self.stack.clear();
+    }
+
+    // Goes on to the node's value and its children.
+    fn descend<K: Bytes>(&mut self, id: NodeId) -> Result<(), AllocError>
+        requires position { IsPosition K.item (owned self.old) }
+        requires taken { self.old.due ≡ None }
+        requires next { self.old.next ≡ Some id }
+        ensures { OnOk result (Goes K.item (owned self.old) (owned self.new)) }
+    {
+        let node = &mut self.slots.nodes[id.index()];
+        let front = self.path.len();
+        self.stack.push((front, node.sibling))?;
+        self.path.extend_from_slice(node.label.as_slice())?;
+        self.due = node.value.take();
+        self.next = node.child;
+        Ok(())
+    }
+
+    // Goes back to the row that waits last, if there is one.
+    fn back<K: Bytes>(&mut self) -> bool
+        requires position { IsPosition K.item (owned self.old) }
+        requires taken { self.old.due ≡ None }
+        requires over { self.old.next ≡ None }
+        ensures step { IsTrue result → Goes K.item (owned self.old) (owned self.new) }
+        ensures over { result ≡ false → left (spot_of (owned self.old)) ≡ [] }
+        ensures stays { result ≡ false → owned self.new ≡ owned self.old }
+    {
+        let Some((front, row)) = self.stack.pop() else {
+            return false;
+        };
+        self.path.truncate(front);
+        self.next = row;
+        true
+    }
+
+    // Takes the next value, whose key is then the path.
+    fn seek<K: Bytes>(&mut self) -> Result<Option<V>, AllocError>
+        requires { IsPosition K.item (owned self.old) }
+        ensures position { OnOk result (IsPosition K.item (owned self.new)) }
+        ensures ok { IfOk result (λ found.
+            Takes (spot_of (owned self.old)) found (spot_of (owned self.new))) }
+        ensures err { OnErr result (left (spot_of (owned self.old)) ≢ []) }
+    {
+        loop {
+            if let Some(value) = self.due.take() {
+                return Ok(Some(value));
+            }
+            match self.next.get() {
+                Some(id) => self.descend::<K>(id)?,
+                None => {
+                    if !self.back::<K>() {
+                        return Ok(None);
+                    }
+                }
+            }
+        }
+    }
+}
+
+/// What a walk that takes the entries out has left, in key order.
+#[derive(Drop)]
+pub struct IntoWalk<K: Bytes, V> {
+    alloc: Global,
+    place: OwnedPlace<V>,
+    kind: PhantomData<K>,
+}
+
+impl<K: Bytes, V> Model for IntoWalk<K, V> {
+    ghost use Rattle.std.specs.Prelude.{List, ℕ};
+
+    ghost Value = { List (List ℕ × V) };
+
+    ghost use Rattle.patricia_rows.specs.Private.Spots.{left};
+    ghost use Rattle.patricia_walks.specs.Private.Positions.{IsPosition, spot_of, owned};
+
+    ghost view = { λ w. left (spot_of (owned w.place)) };
+
+    ghost invariant = { λ w. IsPosition K.item (owned w.place) };
+}
+
+impl<K: Bytes, V: Drop> IntoWalk<K, V> {
+    /// A walk over the empty key's value and the nodes. Making it takes no memory.
+    pub fn new(alloc: Global, due: Option<V>, slots: Slots<V>) -> Self
+        requires whole { IsWhole slots }
+        requires row { IsRow K.item (row_of slots) }
+        ensures { result ≡ own due ++ entries_of slots }
+    {
+        let next = slots.root;
+        IntoWalk {
+            alloc,
+            place: OwnedPlace {
+                slots,
+                path: Vec::new(alloc),
+                due,
+                next,
+                stack: Vec::new(alloc),
+            },
+            kind: PhantomData,
+        }
+    }
+
+    /// The next entry. After an error nothing is left: the other entries are dropped.
+    pub fn next_entry(&mut self) -> Option<Result<(K, V), AllocError>>
+        ensures { Gives (λ e. (K.key e.0, e.1)) self.old result self.new }
+    {
+        match self.place.seek::<K>() {
+            Ok(Some(value)) => match K::from_bytes(self.alloc, &self.place.path) {
+                Ok(key) => Some(Ok((key, value))),
+                Err(error) => {
+                    self.place.finish::<K>();
+                    Some(Err(error))
+                }
+            },
+            Ok(None) => None,
+            Err(error) => {
+                self.place.finish::<K>();
+                Some(Err(error))
+            }
+        }
+    }
+}

@@ -1,0 +1,183 @@
+//! Walks over nodes in one vector, in key order.
+ghost use Rattle.std.specs.Prelude.{◌≡◌, ◌≢◌, ◌++◌, [], Some, None, false, IfOk, OnOk, OnErr, IsTrue};
+ghost use Rattle.std.specs.Option.{option_copied};
+ghost use Rattle.patricia_rows.specs.Rows.{own, keys_of, IsRow};
+ghost use Rattle.patricia_rows.specs.Private.Spots.{left, Takes};
+ghost use Rattle.patricia_rows.specs.Walks.{Gives, values_of};
+ghost use Rattle.patricia_nodes.specs.Private.Plans.{IsWhole, row_of, entries_of};
+ghost use Rattle.patricia_walks.specs.Private.Positions.{IsPosition, Goes, spot_of, lent};
+
+use patricia_keys::Bytes;
+use patricia_labels::link::{Link, NodeId};
+use patricia_nodes::slots::Slots;
+use std::alloc::{AllocError, Global};
+use std::marker::{Model, PhantomData};
+
+// How far a walk has come.
+#[derive(Drop)]
+struct Place<'a, V> {
+    slots: &'a Slots<V>,
+    // the key of the last value, which stands before the keys of the row
+    path: Vec<u8>,
+    // the value at the path, while it is due
+    due: Option<&'a V>,
+    // the row that is next
+    next: Link,
+    // the rows that wait, each behind so many bytes of the path
+    stack: Vec<(usize, Link)>,
+}
+
+impl<'a, V> Place<'a, V> {
+    // Ends the walk.
+    fn finish<K: Bytes>(&mut self)
+        ensures left { left (spot_of (lent self.new)) ≡ [] }
+        ensures position { IsPosition K.item (lent self.new) }
+    {
+        self.path.clear();
+        self.due = None;
+        self.next = Link::none();
+        self.stack.clear();
+    }
+
+    // Goes on to the node's value and its children.
+    fn descend<K: Bytes>(&mut self, id: NodeId) -> Result<(), AllocError>
+        requires position { IsPosition K.item (lent self.old) }
+        requires taken { self.old.due ≡ None }
+        requires next { self.old.next ≡ Some id }
+        ensures { OnOk result (Goes K.item (lent self.old) (lent self.new)) }
+    {
+        let node = &self.slots.nodes[id.index()];
+        let front = self.path.len();
+        self.stack.push((front, node.sibling))?;
+        self.path.extend_from_slice(node.label.as_slice())?;
+        self.due = node.value.as_ref();
+        self.next = node.child;
+        Ok(())
+    }
+
+    // Goes back to the row that waits last, if there is one.
+    fn back<K: Bytes>(&mut self) -> bool
+        requires position { IsPosition K.item (lent self.old) }
+        requires taken { self.old.due ≡ None }
+        requires over { self.old.next ≡ None }
+        ensures step { IsTrue result → Goes K.item (lent self.old) (lent self.new) }
+        ensures over { result ≡ false → left (spot_of (lent self.old)) ≡ [] }
+        ensures stays { result ≡ false → lent self.new ≡ lent self.old }
+    {
+        let Some((front, row)) = self.stack.pop() else {
+            return false;
+        };
+        self.path.truncate(front);
+        self.next = row;
+        true
+    }
+
+    // Takes the next value, whose key is then the path.
+    fn seek<K: Bytes>(&mut self) -> Result<Option<&'a V>, AllocError>
+        requires { IsPosition K.item (lent self.old) }
+        ensures position { OnOk result (IsPosition K.item (lent self.new)) }
+        ensures ok { IfOk result (λ found.
+            Takes (spot_of (lent self.old)) (option_copied found) (spot_of (lent self.new))) }
+        ensures err { OnErr result (left (spot_of (lent self.old)) ≢ []) }
+    {
+        loop {
+            if let Some(value) = self.due.take() {
+                return Ok(Some(value));
+            }
+            match self.next.get() {
+                Some(id) => self.descend::<K>(id)?,
+                None => {
+                    if !self.back::<K>() {
+                        return Ok(None);
+                    }
+                }
+            }
+        }
+    }
+}
+
+/// What a walk by reference has left, in key order.
+#[derive(Drop)]
+pub struct Walk<'a, K: Bytes, V> {
+    alloc: Global,
+    place: Place<'a, V>,
+    kind: PhantomData<K>,
+}
+
+impl<'a, K: Bytes, V> Model for Walk<'a, K, V> {
+    ghost use Rattle.std.specs.Prelude.{List, ℕ};
+
+    ghost Value = { List (List ℕ × V) };
+
+    ghost use Rattle.patricia_rows.specs.Private.Spots.{left};
+    ghost use Rattle.patricia_walks.specs.Private.Positions.{IsPosition, spot_of, lent};
+
+    ghost view = { λ w. left (spot_of (lent w.place)) };
+
+    ghost invariant = { λ w. IsPosition K.item (lent w.place) };
+}
+
+impl<'a, K: Bytes, V> Walk<'a, K, V> {
+    /// A walk over the empty key's value and the nodes. Making it takes no memory.
+    pub fn new(alloc: Global, due: Option<&'a V>, slots: &'a Slots<V>) -> Self
+        requires whole { IsWhole slots.now }
+        requires row { IsRow K.item (row_of slots.now) }
+        ensures { result ≡ own (option_copied due.entry) ++ entries_of slots.now }
+    {
+        Walk {
+            alloc,
+            place: Place {
+                slots,
+                path: Vec::new(alloc),
+                due,
+                next: slots.root,
+                stack: Vec::new(alloc),
+            },
+            kind: PhantomData,
+        }
+    }
+
+    /// The next entry.
+    pub fn next_entry(&mut self) -> Option<Result<(K, &'a V), AllocError>>
+        ensures { Gives (λ e. (K.key e.0, e.1.now)) self.old result self.new }
+    {
+        match self.place.seek::<K>() {
+            Ok(Some(value)) => match K::from_bytes(self.alloc, &self.place.path) {
+                Ok(key) => Some(Ok((key, value))),
+                Err(error) => {
+                    self.place.finish::<K>();
+                    Some(Err(error))
+                }
+            },
+            Ok(None) => None,
+            Err(error) => {
+                self.place.finish::<K>();
+                Some(Err(error))
+            }
+        }
+    }
+
+    /// The key of the next entry.
+    pub fn next_key(&mut self) -> Option<Result<K, AllocError>>
+        ensures { Gives K.key (keys_of self.old) result (keys_of self.new) }
+    {
+        match self.next_entry()? {
+            Ok((key, _)) => Some(Ok(key)),
+            Err(error) => Some(Err(error)),
+        }
+    }
+
+    /// The value of the next entry. No key is built.
+    pub fn next_value(&mut self) -> Option<Result<&'a V, AllocError>>
+        ensures { Gives (λ v. v.now) (values_of self.old) result (values_of self.new) }
+    {
+        match self.place.seek::<K>() {
+            Ok(Some(value)) => Some(Ok(value)),
+            Ok(None) => None,
+            Err(error) => {
+                self.place.finish::<K>();
+                Some(Err(error))
+            }
+        }
+    }
+}
