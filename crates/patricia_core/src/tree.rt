@@ -6,10 +6,12 @@ ghost use Rattle.std.specs.List.{All};
 ghost use Rattle.patricia_keys.specs.Keys.{AreSingle, IsValid};
 ghost use Rattle.patricia_rows.specs.Points.{CountsVisits, Joins};
 
+use patricia_inserts::insert;
 use patricia_keys::{BorrowedBytes, Bytes};
 use patricia_labels::Steps;
 pub use patricia_nodes::slots::Refused;
 use patricia_nodes::slots::Slots;
+use patricia_removals::remove;
 use patricia_walks::into_walk::IntoWalk;
 use patricia_walks::walk::Walk;
 use std::alloc::{AllocError, Global};
@@ -150,7 +152,7 @@ impl<K: Bytes, V: Drop> Tree<K, V> {
         if self.count == usize::MAX - 1 && self.get(key).is_none() {
             return Err(Refused { value });
         }
-        match self.slots.insert(self.alloc, key, value) {
+        match insert(&mut self.slots, self.alloc, key, value) {
             Ok(None) => {
                 self.count += 1;
                 Ok(None)
@@ -171,7 +173,7 @@ impl<K: Bytes, V: Drop> Tree<K, V> {
         if key.is_empty() {
             return Ok(self.value.take());
         }
-        match self.slots.remove(self.alloc, key) {
+        match remove(&mut self.slots, self.alloc, key) {
             Ok(Some(old)) => {
                 self.count -= 1;
                 Ok(Some(old))

@@ -1,14 +1,8 @@
-pub mod AddLemmas
-pub mod AloneLemmas
 pub mod FillLemmas
-pub mod FreeLemmas
 pub mod GrowthLemmas
 pub mod LayLemmas
-pub mod MakeLemmas
 pub mod PlanLemmas
-pub mod PutLemmas
 pub mod RelayLemmas
-pub mod RemoveLemmas
 pub mod SeekLemmas
-pub mod TakeLemmas
+pub mod SpotLemmas
 pub mod WriteLemmas

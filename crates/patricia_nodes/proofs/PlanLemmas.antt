@@ -1,5 +1,7 @@
 -- What nodes that stand for a plan give.
 use Rattle.std.proofs.Common.{◌≡◌, ℕ, zero, suc, ◌<◌, ◌≤◌, List, [], length, Option, Some, None, get_or, slice_get, refl, ◌∙◌, arith}
+use Rattle.std.specs.Prelude.{false, is_some}
+use mathlib.Core.Bool.{false≢true}
 use Rattle.std.proofs.lemmas.Option.{get_or_from_slice_get}
 use Rattle.std.proofs.lemmas.Bool.Decides.{nat_tests}
 use Rattle.patricia_nodes.specs.declared.slots.Node.{Node}
@@ -46,3 +48,8 @@ module _ {V : Type 0} where
   -- a node of the plan, as it is read
   pub node_is : (nodes : List (Node V)) (id : ℕ) (n m : Node V) → slice_get nodes id ≡ Some m → n ≡ get_or nodes id n → n ≡ m
   node_is nodes id n m there reads = reads ∙ get_or_from_slice_get nodes id m n there
+
+-- a test that found nothing
+pub not_some : {A : Type 0} (o : Option A) → false ≡ is_some o → o ≡ None
+not_some None e = refl
+not_some (Some n) e = absurd (false≢true e)

@@ -1,10 +1,11 @@
 -- What a write leaves of nodes that are a plan.
-use Rattle.std.proofs.Common.{◌≡◌, ◌≢◌, ℕ, zero, suc, ◌+◌, ◌<◌, List, [], ◌∷◌, ◌++◌, length, set, Option, Some, slice_get, refl, sym, ap, ◌∙◌, arith, length-set}
+use Rattle.std.proofs.Common.{◌≡◌, ◌≢◌, ℕ, zero, suc, ◌+◌, ◌<◌, List, [], ◌∷◌, ◌++◌, length, set, Option, Some, slice_get, get_or, refl, sym, ap, ◌∙◌, arith, length-set}
 use Rattle.std.proofs.lemmas.Option.{slice_get_within}
 use Rattle.patricia_nodes.specs.declared.slots.Node.{Node}
-use Rattle.patricia_nodes.specs.Private.Plans.{Plan, Nil, Cell, linked, head, size, count, below, times, first, Stands, IsChain, IsSound}
+use Rattle.patricia_nodes.specs.declared.slots.Slots.{Slots}
+use Rattle.patricia_nodes.specs.Private.Plans.{Plan, Nil, Cell, linked, head, size, count, below, times, first, Stands, IsChain, IsSound, Holds}
 use Rattle.patricia_nodes.specs.Private.Places.{Frame, InChild, InSibling, fill, count_frames}
-use Rattle.patricia_nodes.proofs.PlanLemmas.{one-same, below_le}
+use Rattle.patricia_nodes.proofs.PlanLemmas.{one-same, below_le, node_is}
 use Rattle.patricia_nodes.proofs.FillLemmas.{stands-within, size-fill, count-fill}
 
 -- a list after a write, and after a push
@@ -115,3 +116,15 @@ module _ {V : Type 0} where
       let node : c.0.0 ≡ d.0.0 = let here = c.0.1 in cc in
       let rest = one_chain nodes a b c.1 d.1 (sym c.0.2 ∙ ap (λ (n : Node V). n.sibling) node ∙ d.0.2) in
       cc
+
+module _ {V : Type 0} (s : Slots V) (id : ℕ) (r : Node V) (reads : r ≡ get_or s.nodes.items id r) where
+  -- a node of the plan, as it is read
+  pub read_at : (fs : List (Frame V)) (l : List ℕ) (v : Option V) (c d : Plan V) → Holds s (fill fs (Cell id l v c d)) → r ≡ linked l v (head c) (head d)
+  read_at fs l v c d h = node_is s.nodes.items id r _ (stands-within s.nodes.items fs (Cell id l v c d) h.1.plan_ok.stands).0 reads
+
+  -- a write of its label and its value
+  pub holds_write : (fs : List (Frame V)) (l l' : List ℕ) (v v' : Option V) (c d : Plan V) → Holds s (fill fs (Cell id l v c d))
+      → (spare : List ℕ) × IsSound (set s.nodes.items id (linked l' v' r.child r.sibling)) s.root s.free (fill fs (Cell id l' v' c d)) spare
+  holds_write fs l l' v v' c d h =
+      let is = read_at fs l v c d h in
+      rw is (h.0, sound-write s.nodes.items s.root s.free fs id l l' v v' c d h.0 h.1)

@@ -1,14 +1,14 @@
 //! The nodes of a tree in one vector, each with its first child and its next sibling.
-ghost use Rattle.std.specs.Prelude.{◌≡◌, vec_len};
+ghost use Rattle.std.specs.Prelude.{◌≡◌, vec_len, vec_capacity};
 ghost use Rattle.patricia_nodes.specs.Private.Plans.{IsWhole, row_of};
+ghost use Rattle.patricia_nodes.specs.Private.Writes.{Relinks, SpotWithin};
 ghost use Rattle.patricia_rows.specs.Rows.{end};
 
 mod growth;
-mod insertion;
-mod removal;
 mod room;
-mod seek;
+pub mod seek;
 
+use crate::slots::seek::Spot;
 use patricia_labels::label::Label;
 use patricia_labels::link::Link;
 use std::alloc::Global;
@@ -32,9 +32,9 @@ pub struct Node<V> {
 
 /// Nodes, the first of the top row, and the first of those that are free for use.
 ///
-/// The free nodes are linked by `sibling`. The fields are for this crate and `patricia_walks`
-/// alone. Each call that needs it asks for `IsWhole`, so whoever writes to a field has to prove that
-/// it still holds.
+/// The free nodes are linked by `sibling`. The fields are for this crate and those of inserts,
+/// removals and walks. Each call that needs it asks for `IsWhole`, so whoever writes to a field has to
+/// prove that it still holds.
 #[derive(Drop)]
 pub struct Slots<V> {
     pub nodes: Vec<Node<V>>,
@@ -71,5 +71,20 @@ impl<V: Drop> Slots<V> {
         self.nodes.clear();
         self.root = Link::none();
         self.free = Link::none();
+    }
+
+    /// Writes a number at a spot. That the nodes are whole then is for the caller to prove.
+    pub fn relink(&mut self, spot: Spot, to: Link)
+        requires { SpotWithin spot (vec_len self.old.nodes) }
+        ensures relinks { Relinks self.old self.new spot to }
+        ensures free { self.new.free ≡ self.old.free }
+        ensures len { vec_len self.new.nodes ≡ vec_len self.old.nodes }
+        ensures capacity { vec_capacity self.new.nodes ≡ vec_capacity self.old.nodes }
+    {
+        match spot {
+            Spot::Root => self.root = to,
+            Spot::Child(id) => self.nodes[id.index()].child = to,
+            Spot::Sibling(id, _) => self.nodes[id.index()].sibling = to,
+        }
     }
 }

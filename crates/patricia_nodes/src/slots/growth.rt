@@ -2,7 +2,7 @@
 //!
 //! The siblings of a row lie side by side, and the rows level by level. The new vector is the
 //! queue of the rows that wait, so nothing else is asked for.
-ghost use Rattle.std.specs.Prelude.{◌≡◌, ◌≢◌, ◌+◌, ◌<◌, ◌≤◌, ◌++◌, ℕ, List, [], Some, None, IfOk, OnOk, OnErr, length, slice_get, vec_len, vec_capacity};
+ghost use Rattle.std.specs.Prelude.{◌≡◌, ◌≢◌, ◌+◌, ◌<◌, ◌≤◌, ◌++◌, ℕ, [], Some, None, IfOk, OnOk, OnErr, length, slice_get, vec_len, vec_capacity};
 ghost use Rattle.patricia_nodes.specs.Private.Plans.{Plan, head, row_of, IsWhole};
 ghost use Rattle.patricia_nodes.specs.Private.Growth.{IsTopRow, TakesRow, tops, laid, numbered};
 

@@ -23,7 +23,7 @@ invariant_of-self-in-Ok-None g c =
       whole = c.in-Ok-None.ensures.whole;
       tree = record {
         row_ok = c.in-Ok-None.ensures.row;
-        counted = rw c.self.invariant.tree.counted (sym (length_new g.K.Bytes.item g.met.K.Bytes.lawful (row_of c.self.inside.slots) (row_of c.insert.new.self) _ c.args.value c.self.invariant.tree.row_ok c.in-Ok-None.ensures.ok new));
+        counted = rw c.self.invariant.tree.counted (sym (length_new g.K.Bytes.item g.met.K.Bytes.lawful (row_of c.self.inside.slots) (row_of c.insert.new.slots) _ c.args.value c.self.invariant.tree.row_ok c.in-Ok-None.ensures.ok new));
         fits = elim c.else-self.branch [ else-self-via-then-self+else-is_none w ↦ absurd (option_map_not_none (λ x. x.now) w.get.result (rw (← c.self.view_is) at w.get.ensures ∙ none) w.if-is_none.ensures) | else-self-via-else-self w ↦ omega (arith, c.self.invariant.tree.fits) ];
       };
     }
@@ -35,7 +35,7 @@ invariant_of-self-in-Ok-Some g c =
       whole = c.in-Ok-Some.ensures.whole;
       tree = record {
         row_ok = c.in-Ok-Some.ensures.row;
-        counted = c.self.invariant.tree.counted ∙ sym (length_old g.K.Bytes.item g.met.K.Bytes.lawful (row_of c.self.inside.slots) (row_of c.insert.new.self) _ c.args.value c.in-Ok-Some.old c.self.invariant.tree.row_ok c.in-Ok-Some.ensures.ok found);
+        counted = c.self.invariant.tree.counted ∙ sym (length_old g.K.Bytes.item g.met.K.Bytes.lawful (row_of c.self.inside.slots) (row_of c.insert.new.slots) _ c.args.value c.in-Ok-Some.old c.self.invariant.tree.row_ok c.in-Ok-Some.ensures.ok found);
         fits = c.self.invariant.tree.fits;
       };
     }
@@ -46,7 +46,7 @@ returns-in-Ok-None-clause-old g c =
 
 pub returns-in-Ok-None-clause-ok : goal.returns-in-Ok-None-clause-ok
 returns-in-Ok-None-clause-ok g c =
-    rw (← c.self.view_is) (insert_filled g.K.Bytes.item g.met.K.Bytes.lawful _ (row_of c.self.inside.slots) (row_of c.insert.new.self) _ c.args.value c.self.invariant.tree.row_ok (λ none. absurd (false≢true (c.if-is_empty.ensures.1 none))) c.in-Ok-None.ensures.ok)
+    rw (← c.self.view_is) (insert_filled g.K.Bytes.item g.met.K.Bytes.lawful _ (row_of c.self.inside.slots) (row_of c.insert.new.slots) _ c.args.value c.self.invariant.tree.row_ok (λ none. absurd (false≢true (c.if-is_empty.ensures.1 none))) c.in-Ok-None.ensures.ok)
 
 pub returns-in-Ok-Some-clause-old : goal.returns-in-Ok-Some-clause-old
 returns-in-Ok-Some-clause-old g c =
@@ -54,7 +54,7 @@ returns-in-Ok-Some-clause-old g c =
 
 pub returns-in-Ok-Some-clause-ok : goal.returns-in-Ok-Some-clause-ok
 returns-in-Ok-Some-clause-ok g c =
-    rw (← c.self.view_is) (insert_filled g.K.Bytes.item g.met.K.Bytes.lawful _ (row_of c.self.inside.slots) (row_of c.insert.new.self) _ c.args.value c.self.invariant.tree.row_ok (λ none. absurd (false≢true (c.if-is_empty.ensures.1 none))) c.in-Ok-Some.ensures.ok)
+    rw (← c.self.view_is) (insert_filled g.K.Bytes.item g.met.K.Bytes.lawful _ (row_of c.self.inside.slots) (row_of c.insert.new.slots) _ c.args.value c.self.invariant.tree.row_ok (λ none. absurd (false≢true (c.if-is_empty.ensures.1 none))) c.in-Ok-Some.ensures.ok)
 
 pub returns-in-Err-clause-only_new : goal.returns-in-Err-clause-only_new
 returns-in-Err-clause-only_new g c =

@@ -16,7 +16,7 @@ returns-then-is_empty-clause-ok g c = rw (← c.self.view_is, c.if-is_empty.ensu
 pub invariant_of-self-in-Ok-Some : goal.invariant_of-self-in-Ok-Some
 invariant_of-self-in-Ok-Some g c =
     let found = sym c.in-Ok-Some.ensures.old ∙ c.in-Ok-Some.field-0-is in
-    let less = remove_present g.K.Bytes.item g.met.K.Bytes.lawful (c.self.inside.value) (row_of c.self.inside.slots) (row_of c.remove.new.self) _ c.in-Ok-Some.old c.self.invariant.tree.row_ok c.in-Ok-Some.ensures.ok found in
+    let less = remove_present g.K.Bytes.item g.met.K.Bytes.lawful (c.self.inside.value) (row_of c.self.inside.slots) (row_of c.remove.new.slots) _ c.in-Ok-Some.old c.self.invariant.tree.row_ok c.in-Ok-Some.ensures.ok found in
     record {
       whole = c.in-Ok-Some.ensures.whole;
       tree = record {
@@ -33,7 +33,7 @@ invariant_of-self-in-Ok-None g c =
       whole = c.in-Ok-None.ensures.whole;
       tree = record {
         row_ok = c.in-Ok-None.ensures.row;
-        counted = c.self.invariant.tree.counted ∙ sym (remove_absent g.K.Bytes.item g.met.K.Bytes.lawful (c.self.inside.value) (row_of c.self.inside.slots) (row_of c.remove.new.self) _ c.self.invariant.tree.row_ok c.in-Ok-None.ensures.ok absent);
+        counted = c.self.invariant.tree.counted ∙ sym (remove_absent g.K.Bytes.item g.met.K.Bytes.lawful (c.self.inside.value) (row_of c.self.inside.slots) (row_of c.remove.new.slots) _ c.self.invariant.tree.row_ok c.in-Ok-None.ensures.ok absent);
         fits = c.self.invariant.tree.fits;
       };
     }
@@ -44,7 +44,7 @@ returns-in-Ok-Some-clause-old g c =
 
 pub returns-in-Ok-Some-clause-ok : goal.returns-in-Ok-Some-clause-ok
 returns-in-Ok-Some-clause-ok g c =
-    rw (← c.self.view_is) (remove_filled g.K.Bytes.item g.met.K.Bytes.lawful _ (row_of c.self.inside.slots) (row_of c.remove.new.self) _ c.self.invariant.tree.row_ok (λ none. absurd (false≢true (c.if-is_empty.ensures.1 none))) c.in-Ok-Some.ensures.ok)
+    rw (← c.self.view_is) (remove_filled g.K.Bytes.item g.met.K.Bytes.lawful _ (row_of c.self.inside.slots) (row_of c.remove.new.slots) _ c.self.invariant.tree.row_ok (λ none. absurd (false≢true (c.if-is_empty.ensures.1 none))) c.in-Ok-Some.ensures.ok)
 
 pub returns-in-Ok-None-clause-old : goal.returns-in-Ok-None-clause-old
 returns-in-Ok-None-clause-old g c =
@@ -52,7 +52,7 @@ returns-in-Ok-None-clause-old g c =
 
 pub returns-in-Ok-None-clause-ok : goal.returns-in-Ok-None-clause-ok
 returns-in-Ok-None-clause-ok g c =
-    rw (← c.self.view_is) (remove_filled g.K.Bytes.item g.met.K.Bytes.lawful _ (row_of c.self.inside.slots) (row_of c.remove.new.self) _ c.self.invariant.tree.row_ok (λ none. absurd (false≢true (c.if-is_empty.ensures.1 none))) c.in-Ok-None.ensures.ok)
+    rw (← c.self.view_is) (remove_filled g.K.Bytes.item g.met.K.Bytes.lawful _ (row_of c.self.inside.slots) (row_of c.remove.new.slots) _ c.self.invariant.tree.row_ok (λ none. absurd (false≢true (c.if-is_empty.ensures.1 none))) c.in-Ok-None.ensures.ok)
 
 pub returns-in-Err-clause-joins : goal.returns-in-Err-clause-joins
 returns-in-Err-clause-joins g c =

@@ -1,0 +1,4 @@
+pub mod AloneLemmas
+pub mod FreeLemmas
+pub mod RemoveLemmas
+pub mod TakeLemmas

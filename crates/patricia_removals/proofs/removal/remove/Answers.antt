@@ -1,0 +1,31 @@
+use Rattle.std.proofs.Common.{sym, ◌∙◌}
+use Rattle.std.proofs.lemmas.Result.{IfOk-weaker, on_ok_weaker}
+use Rattle.patricia_nodes.proofs.SeekLemmas.{find_none, find_some}
+use Rattle.patricia_removals.proofs.RemoveLemmas.{node_here, here_is, others_none, removed_or_same, here_stop}
+use Rattle.patricia_removals.proofs.removal.remove.Goals as goal
+
+pub returns-in-Some-clause-whole : goal.returns-in-Some-clause-whole
+returns-in-Some-clause-whole g c =
+    let key = g.Q.BorrowedBytes.key c.args.key in
+    (removed_or_same g.Q.Owned.Bytes.item c.remove_at.result c.args.slots.now c.remove_at.new.slots key (on_ok_weaker c.remove_at.result (λ removes. removes key c.seek-place.ensures) c.remove_at.ensures.ok) c.remove_at.ensures.unchanged c.requires.whole c.requires.row).0
+
+pub returns-in-Some-clause-row : goal.returns-in-Some-clause-row
+returns-in-Some-clause-row g c =
+    let key = g.Q.BorrowedBytes.key c.args.key in
+    (removed_or_same g.Q.Owned.Bytes.item c.remove_at.result c.args.slots.now c.remove_at.new.slots key (on_ok_weaker c.remove_at.result (λ removes. removes key c.seek-place.ensures) c.remove_at.ensures.ok) c.remove_at.ensures.unchanged c.requires.whole c.requires.row).1
+
+pub returns-in-Some-clause-old : goal.returns-in-Some-clause-old
+returns-in-Some-clause-old g c =
+    let key = g.Q.BorrowedBytes.key c.args.key in
+    let is = here_stop _ c.in-Some.id (sym c.here.ensures ∙ c.in-Some.is) in
+    let n = node_here _ g.met.Q.Owned.Bytes.lawful c.args.slots.now key c.requires.whole c.requires.row _ _ _ _ c.seek-place.ensures c.in-Some.id is in
+    IfOk-weaker c.remove_at.result _ _ (λ taken h. h n.0 (here_is _ g.met.Q.Owned.Bytes.lawful c.args.slots.now key c.requires.whole c.requires.row _ _ _ _ c.seek-place.ensures c.in-Some.id is n.0 n.1)
+    ∙ sym (find_some _ g.met.Q.Owned.Bytes.lawful c.args.slots.now key c.requires.whole c.requires.row _ _ _ _ c.seek-place.ensures c.in-Some.id (sym c.here.ensures ∙ c.in-Some.is) n.0 n.1)) c.remove_at.ensures.value
+
+pub returns-in-None-clause-old : goal.returns-in-None-clause-old
+returns-in-None-clause-old g c =
+    sym (find_none _ g.met.Q.Owned.Bytes.lawful c.args.slots.now _ c.requires.whole c.requires.row _ _ _ _ c.seek-place.ensures (sym c.here.ensures ∙ c.in-None.is))
+
+pub returns-in-None-clause-ok : goal.returns-in-None-clause-ok
+returns-in-None-clause-ok g c =
+    others_none _ g.met.Q.Owned.Bytes.lawful c.args.slots.now _ c.requires.whole c.requires.row _ _ _ _ c.seek-place.ensures (sym c.here.ensures ∙ c.in-None.is)

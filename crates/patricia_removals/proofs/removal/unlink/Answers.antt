@@ -1,0 +1,13 @@
+use Rattle.std.proofs.Common.{arith}
+use Rattle.patricia_nodes.proofs.SpotLemmas.{spot_longer}
+use Rattle.patricia_removals.proofs.FreeLemmas.{leaf_within, spot_of_leaf, unlinks}
+use Rattle.patricia_removals.proofs.removal.unlink.Goals as goal
+
+pub release-node-requires : goal.release-node-requires
+release-node-requires g c = let within = leaf_within c.args.slots.now c.args.spot c.args.id c.requires in omega arith
+
+pub relink-requires : goal.relink-requires
+relink-requires g c = spot_longer c.args.spot _ _ (omega arith) (spot_of_leaf c.args.slots.now c.release-node.new.slots c.args.spot c.args.id c.release-node.result c.release-node.ensures.frees c.requires)
+
+pub returns : goal.returns
+returns g c = unlinks c.args.slots.now c.release-node.new.slots c.relink.new.self c.args.spot c.args.id c.release-node.result c.release-node.ensures.frees c.relink.ensures.free c.relink.ensures.relinks
