@@ -8,6 +8,7 @@ pub mod MeetingLemmas
 pub mod MemberLemmas
 pub mod OrderLemmas
 pub mod PointLemmas
+pub mod PrefixLemmas
 pub mod RemovalLemmas
 pub mod RowLemmas
 pub mod TreeLemmas

@@ -1,5 +1,6 @@
 pub mod Laws
 pub mod Points
+pub mod Prefixes
 pub mod Private
 pub mod Rows
 pub mod ThreeKeys
