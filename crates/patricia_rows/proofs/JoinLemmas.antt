@@ -40,7 +40,7 @@ has-without (x ∷ S) q k h = by (key_cmp q x) refl (has-without S q k)
 
 -- the keys of entries
 module _ {V : Type 0} where
-  AllKeys-at : (P : List ℕ → Type 0) (es : List (List ℕ × V)) (k : List ℕ) → AllKeys P es → Has (keys_of es) k → P k
+  pub AllKeys-at : (P : List ℕ → Type 0) (es : List (List ℕ × V)) (k : List ℕ) → AllKeys P es → Has (keys_of es) k → P k
   AllKeys-at P [] k all h = absurd h
   AllKeys-at P (e ∷ es) k all (inl same) = subst P same all.0
   AllKeys-at P (e ∷ es) k all (inr h) = AllKeys-at P es k all.1 h
@@ -125,7 +125,7 @@ module _ (item : List ℕ → Type 0) where
 
 module _ (item : List ℕ → Type 0) (kind : IsKeyKind item) {V : Type 0} where
   -- a node has a key
-  some_key : (m : List ℕ) (w : Option V) (d t : Row V) → IsRow item (node m w d t) → (e : List ℕ) × Has (keys_of (entries (node m w d t))) (m ++ e)
+  pub some_key : (m : List ℕ) (w : Option V) (d t : Row V) → IsRow item (node m w d t) → (e : List ℕ) × Has (keys_of (entries (node m w d t))) (m ++ e)
   some_key m w d t ok =
       let some = has_entry item kind None m w d t ok in
       (some.0.0, has_prefixed m (own w ++ entries d) (entries t) some.0.0 (subst (λ es. Has (keys_of es) some.0.0) (sym some.2) (inl refl)))

@@ -9,6 +9,7 @@ pub mod MemberLemmas
 pub mod OrderLemmas
 pub mod PointLemmas
 pub mod PrefixLemmas
+pub mod ReachLemmas
 pub mod RemovalLemmas
 pub mod RowLemmas
 pub mod TreeLemmas
