@@ -61,11 +61,14 @@ not_above q k b less =
     after [] e = absurd (cc)
     after (c ∷ rest) e = absurd (cc)
 
+pub begins_other : (p k : List ℕ) → begins p k ≡ false → Begins p k → ⊥
+begins_other p k none b = let some = begins_from p k b in absurd (cc)
+
 module _ {V : Type 0} where
-  under-append : (p : List ℕ) (xs ys : List (List ℕ × V)) → under p (xs ++ ys) ≡ under p xs ++ under p ys
+  pub under-append : (p : List ℕ) (xs ys : List (List ℕ × V)) → under p (xs ++ ys) ≡ under p xs ++ under p ys
   under-append p xs ys = filter-append _ xs ys
 
-  along-append : (k : List ℕ) (xs ys : List (List ℕ × V)) → along k (xs ++ ys) ≡ along k xs ++ along k ys
+  pub along-append : (k : List ℕ) (xs ys : List (List ℕ × V)) → along k (xs ++ ys) ≡ along k xs ++ along k ys
   along-append k xs ys = filter-append _ xs ys
 
   -- a test that looks past a front

@@ -1,16 +1,16 @@
 -- How the steps of a walk change what it has left of nodes in one vector.
-use Rattle.std.proofs.Common.{◌≡◌, ◌≢◌, ℕ, ◌+◌, ◌<◌, List, [], ◌∷◌, ◌++◌, length, get_or, take, Option, Some, None, slice_get, refl, sym, ap, ◌∙◌, arith}
-use Rattle.std.proofs.lemmas.List.{map-append}
-use Rattle.patricia_keys.proofs.KeyLemmas.{IsValid-nil}
+use Rattle.std.proofs.Common.{◌≡◌, ◌≢◌, ℕ, ◌+◌, ◌<◌, List, [], ◌∷◌, ◌++◌, length, get_or, take, Option, Some, None, slice_get, refl, sym, ap, subst, ◌∙◌, arith}
+use Rattle.std.proofs.lemmas.List.{map-append, append-nil}
+use Rattle.patricia_keys.proofs.KeyLemmas.{IsValid-nil, IsValid-append}
 use Rattle.patricia_rows.specs.Rows.{node, end, IsRow}
 use Rattle.patricia_rows.specs.Private.Spots.{left}
 use Rattle.patricia_rows.proofs.WalkLemmas.{step_down, step_back, left_filled}
 use Rattle.patricia_nodes.specs.declared.slots.Node.{Node}
 use Rattle.patricia_nodes.specs.declared.slots.Slots.{Slots}
 use Rattle.patricia_nodes.specs.Private.Plans.{Plan, Nil, Cell, head, row, count, plan_at, row_of, IsPlan, IsWhole}
-use Rattle.patricia_walks.specs.Private.Positions.{Position, row_at, rows_at, spot_of, AllPlans, count_all, Stand, IsPosition, Goes}
+use Rattle.patricia_walks.specs.Private.Positions.{Position, row_at, rows_at, spot_of, AllPlans, count_all, Stand, IsPosition, IsTop, rows_below, Goes}
 use Rattle.patricia_nodes.proofs.PlanLemmas.{one-same, below_le, plan_is}
-use Rattle.patricia_nodes.proofs.SeekLemmas.{head_within, opened, whole_plan}
+use Rattle.patricia_nodes.proofs.SeekLemmas.{Opened, head_within, opened, whole_plan}
 use Rattle.patricia_nodes.proofs.WriteLemmas.{stands-keep}
 
 module _ {V : Type 0} (nodes : List (Node V)) where
@@ -28,7 +28,7 @@ module _ {V : Type 0} (nodes : List (Node V)) where
   count_all-snoc (f ∷ fs) n at i = omega (arith, count_all-snoc fs n at i)
 
   -- where there is no number, there is no row
-  row_none : row_at nodes None ≡ end
+  pub row_none : row_at nodes None ≡ end
   row_none = ap row (plan_is nodes None Nil (record { stands = tt; at_is = refl; fits = omega arith }))
 
 -- after a write to a node
@@ -145,3 +145,30 @@ module _ (item : List ℕ → Type 0) {V : Type 0} where
         stand = record { next_plan = rw (next, is) plan; plans = rw stack tt; once = λ i. rw (next, is, stack) (omega arith) };
         spot = record { valid = rw path (IsValid-nil item); row_ok = rw (next, is) tt; waits = rw stack tt };
       }
+
+module _ (item : List ℕ → Type 0) {V : Type 0} (slots : Slots V) (front : List ℕ) (top : ℕ) (n : Node V) (w : IsTop item slots front top) (reads : n ≡ get_or slots.nodes.items top n) where
+  top_opened : Opened slots.nodes.items (plan_at slots.nodes.items (Some top)) top n
+  top_opened = opened slots.nodes.items (Some top) (plan_at slots.nodes.items (Some top)) top n w.plan refl reads
+
+  top_row : row_at slots.nodes.items (Some top) ≡ node n.label n.value (row_at slots.nodes.items n.child) (row top_opened.sibling)
+  top_row = ap row top_opened.is ∙ ap (λ c. node n.label n.value (row c) (row top_opened.sibling)) (sym (plan_is slots.nodes.items n.child top_opened.child top_opened.child_plan))
+
+  -- a walk below a node stands at its value and its children
+  pub position_top : (p : Position V) → p.nodes ≡ slots.nodes.items → p.path ≡ front ++ n.label → p.next ≡ n.child → p.stack ≡ [] → IsPosition item p
+  position_top p nodes path next stack =
+      let is = plan_is slots.nodes.items n.child top_opened.child top_opened.child_plan in
+      let ok = subst (IsRow item) top_row w.row_ok in
+      record {
+        stand = record {
+          next_plan = rw (nodes, next, is) top_opened.child_plan;
+          plans = rw stack tt;
+          once = λ i. rw (nodes, next, is, stack) (omega (arith, w.once i, ap (λ r. count r i) top_opened.is));
+        };
+        spot = record { valid = rw path (IsValid-append item front n.label w.valid ok.valid); row_ok = rw (nodes, next) ok.child; waits = rw stack tt };
+      }
+
+  pub left_top : (p : Position V) → p.nodes ≡ slots.nodes.items → p.path ≡ front ++ n.label → p.due ≡ n.value → p.next ≡ n.child → p.stack ≡ [] → left (spot_of p) ≡ rows_below front (row_at slots.nodes.items (Some top))
+  left_top p nodes path due next stack = rw (nodes, path, due, next, stack, top_row) (append-nil _)
+
+  pub top_within : top < length slots.nodes.items
+  top_within = head_within slots.nodes.items (Some top) (plan_at slots.nodes.items (Some top)) top w.plan refl

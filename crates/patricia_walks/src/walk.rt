@@ -5,7 +5,7 @@ ghost use Rattle.patricia_rows.specs.Rows.{own, keys_of, IsRow};
 ghost use Rattle.patricia_rows.specs.Private.Spots.{left, Takes};
 ghost use Rattle.patricia_rows.specs.Walks.{Gives, values_of};
 ghost use Rattle.patricia_nodes.specs.Private.Plans.{IsWhole, row_of, entries_of};
-ghost use Rattle.patricia_walks.specs.Private.Positions.{IsPosition, Goes, spot_of, lent};
+ghost use Rattle.patricia_walks.specs.Private.Positions.{IsPosition, IsTop, Goes, spot_of, lent, row_at, rows_below};
 
 use patricia_keys::Bytes;
 use patricia_labels::link::{Link, NodeId};
@@ -135,6 +135,51 @@ impl<'a, K: Bytes, V> Walk<'a, K, V> {
             },
             kind: PhantomData,
         }
+    }
+
+    /// A walk that is over. Making it takes no memory.
+    pub fn ended(alloc: Global, slots: &'a Slots<V>) -> Self
+        ensures { result ≡ [] }
+    {
+        Walk {
+            alloc,
+            place: Place {
+                slots,
+                path: Vec::new(alloc),
+                due: None,
+                next: Link::none(),
+                stack: Vec::new(alloc),
+            },
+            kind: PhantomData,
+        }
+    }
+
+    /// A walk over a node and what is below it, behind these bytes. The error is want of memory.
+    pub fn below(
+        alloc: Global,
+        slots: &'a Slots<V>,
+        front: &[u8],
+        top: NodeId,
+    ) -> Result<Self, AllocError>
+        requires { IsTop K.item slots.now front.now top }
+        ensures { IfOk result (λ walk. walk ≡ rows_below front.now (row_at slots.now.nodes.items (Some top))) }
+    {
+        let node = &slots.nodes[top.index()];
+        let label = node.label.as_slice();
+        let mut path = Vec::with_capacity(alloc, front.len() + label.len())?;
+        path.extend_from_slice(front)?;
+        path.extend_from_slice(label)?;
+        Ok(Walk {
+            alloc,
+            place: Place {
+                slots,
+                path,
+                due: node.value.as_ref(),
+                next: node.child,
+                stack: Vec::new(alloc),
+            },
+            kind: PhantomData,
+        })
     }
 
     /// The next entry.

@@ -1,5 +1,5 @@
 -- The place of a key among nodes in one vector.
-use Rattle.std.specs.Prelude.{◌≡◌, ◌≢◌, ℕ, ◌+◌, suc, List, [], ◌∷◌, Option, Some, None}
+use Rattle.std.specs.Prelude.{◌≡◌, ◌≢◌, ℕ, ◌+◌, suc, List, [], ◌∷◌, length, Option, Some, None, nat_eq, if◌then◌else◌}
 use Rattle.patricia_nodes.specs.declared.slots.Slots.{Slots}
 use Rattle.patricia_nodes.specs.declared.slots.seek.Place.{Place}
 use Rattle.patricia_nodes.specs.declared.slots.seek.Spot.{Spot}
@@ -57,6 +57,12 @@ abbrev pub node_of : Stop → Option ℕ
 node_of (Here id) = Some id
 node_of (Within id n) = None
 node_of Gap = None
+
+-- the node below which all keys begin with the key, where this is left of it at the look-up's end
+abbrev pub node_under : List ℕ → Stop → Option ℕ
+node_under rest (Here id) = Some id
+node_under rest (Within id n) = if nat_eq n (length rest) then Some id else None
+node_under rest Gap = None
 
 module _ (item : List ℕ → Type 0) where
   -- a look-up of the key passes the frames, and this is left of it

@@ -6,7 +6,7 @@ ghost use Rattle.patricia_keys.specs.Keys.{key_cmp};
 ghost use Rattle.patricia_rows.specs.Rows.{IsRow};
 ghost use Rattle.patricia_rows.specs.Private.Counts.{IsCounted};
 ghost use Rattle.patricia_nodes.specs.Private.Plans.{IsWhole, row_of, entries_of};
-ghost use Rattle.patricia_nodes.specs.Private.Places.{IsPlace, node_of, node_above};
+ghost use Rattle.patricia_nodes.specs.Private.Places.{IsPlace, node_of, node_under, node_above};
 
 use crate::slots::Slots;
 use patricia_keys::{BorrowedBytes, Bytes};
@@ -65,6 +65,19 @@ impl<Q> Place<Q> {
     {
         match self.stop {
             Stop::Here(id) => Some(id),
+            _ => None,
+        }
+    }
+}
+
+impl<Q: BorrowedBytes> Place<Q> {
+    /// The topmost node whose keys all begin with the key, where there is one.
+    pub fn under(&self) -> Option<NodeId>
+        ensures { result ≡ node_under (Q.key self.now.rest) self.now.stop }
+    {
+        match self.stop {
+            Stop::Here(id) => Some(id),
+            Stop::Within(id, n) if n == self.rest.as_bytes().len() => Some(id),
             _ => None,
         }
     }

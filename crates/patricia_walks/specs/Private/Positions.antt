@@ -1,9 +1,11 @@
 -- How far a walk over nodes in one vector has come.
-use Rattle.std.specs.Prelude.{ℕ, ◌+◌, ◌≤◌, List, [], ◌∷◌, Option, map}
+use Rattle.std.specs.Prelude.{ℕ, ◌+◌, ◌≤◌, List, [], ◌∷◌, ◌++◌, Option, Some, map}
 use Rattle.std.specs.Option.{option_copied}
-use Rattle.patricia_rows.specs.Rows.{Row}
+use Rattle.patricia_keys.specs.Keys.{IsValid}
+use Rattle.patricia_rows.specs.Rows.{Row, end, node, prefixed, own, entries, IsRow}
 use Rattle.patricia_rows.specs.Private.Spots.{Spot, IsSpot, IsStep}
 use Rattle.patricia_nodes.specs.declared.slots.Node.{Node}
+use Rattle.patricia_nodes.specs.declared.slots.Slots.{Slots}
 use Rattle.patricia_walks.specs.declared.walk.Place.{Place}
 use Rattle.patricia_walks.specs.declared.into_walk.OwnedPlace.{OwnedPlace}
 use Rattle.patricia_nodes.specs.Private.Plans.{row, count, plan_at, IsPlan}
@@ -71,7 +73,19 @@ module _ {V : Type 0} where
     pub plans : AllPlans p.nodes p.stack
     pub once : (at : ℕ) → count (plan_at p.nodes p.next) at + count_all p.nodes p.stack at ≤ 1
 
+  -- the entries of the first node of a row, behind these bytes
+  abbrev pub rows_below : List ℕ → Row V → List (List ℕ × V)
+  rows_below front end = []
+  rows_below front (node label value child sibling) = prefixed (front ++ label) (own value ++ entries child)
+
 module _ (item : List ℕ → Type 0) {V : Type 0} where
+  -- a walk can begin at this node, behind these bytes
+  pub record IsTop (slots : Slots V) (front : List ℕ) (top : ℕ) : Type 0 where
+    pub valid : IsValid item front
+    pub plan : IsPlan slots.nodes.items (Some top) (plan_at slots.nodes.items (Some top))
+    pub once : (at : ℕ) → count (plan_at slots.nodes.items (Some top)) at ≤ 1
+    pub row_ok : IsRow item (row_at slots.nodes.items (Some top))
+
   -- the rows stand, and they are those of a walk
   pub record IsPosition (p : Position V) : Type 0 where
     pub stand : Stand p

@@ -1,0 +1,3 @@
+pub mod AlongLemmas
+pub mod PlaceLemmas
+pub mod UnderLemmas
