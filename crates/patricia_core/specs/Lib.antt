@@ -3,6 +3,7 @@ pub use Rattle.patricia_keys.specs.Keys
 pub use Rattle.patricia_keys.specs.TextKind
 pub use Rattle.patricia_rows.specs.Laws
 pub use Rattle.patricia_rows.specs.Points
+pub use Rattle.patricia_rows.specs.Prefixes
 pub use Rattle.patricia_rows.specs.Rows
 pub use Rattle.patricia_rows.specs.ThreeKeys
 pub use Rattle.patricia_rows.specs.Trees

@@ -7,5 +7,6 @@ pub mod tree;
 
 pub use patricia_keys::keys;
 pub use patricia_labels::{Steps, steps};
+pub use patricia_queries::{along, under};
 pub use patricia_rows::laws;
 pub use patricia_walks::{into_walk, walk};

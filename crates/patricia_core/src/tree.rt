@@ -5,12 +5,17 @@ ghost use Rattle.std.specs.FinMap as map;
 ghost use Rattle.std.specs.List.{All};
 ghost use Rattle.patricia_keys.specs.Keys.{AreSingle, IsValid};
 ghost use Rattle.patricia_rows.specs.Points.{CountsVisits, Joins};
+ghost use Rattle.patricia_rows.specs.Prefixes.{along, under, IsReach};
+ghost use Rattle.patricia_rows.specs.Walks.{values_of};
 
 use patricia_inserts::insert;
 use patricia_keys::{BorrowedBytes, Bytes};
 use patricia_labels::Steps;
 pub use patricia_nodes::slots::Refused;
 use patricia_nodes::slots::Slots;
+use patricia_queries::along::{Along, AlongOwned};
+use patricia_queries::reach::reach;
+use patricia_queries::under::Under;
 use patricia_removals::remove;
 use patricia_walks::into_walk::IntoWalk;
 use patricia_walks::walk::Walk;
@@ -189,6 +194,34 @@ impl<K: Bytes, V: Drop> Tree<K, V> {
         ensures bytes { All (All (λ b. b < 256)) (map.keys self.now) }
     {
         let _count = self.count;
+    }
+
+    /// The entries whose key begins a key, the shortest first. Each key is a part of that key.
+    pub fn along<Q: BorrowedBytes<Owned = K>>(&self, key: Q) -> Along<'_, Q, V>
+        ensures { result ≡ along (Q.key key) (map.entries self.now) }
+    {
+        Along::new(self.value.as_ref(), &self.slots, key)
+    }
+
+    /// The values of the same entries, along an owned key.
+    pub fn along_owned(&self, key: K) -> AlongOwned<'_, K, V>
+        ensures { result ≡ values_of (along (K.key key) (map.entries self.now)) }
+    {
+        AlongOwned::new(self.value.as_ref(), &self.slots, key)
+    }
+
+    /// The greatest common length of a key with the keys, in bytes; 0 where there are none.
+    pub fn reach<Q: BorrowedBytes<Owned = K>>(&self, key: Q) -> usize
+        ensures { IsReach K.item (map.keys self.now) (Q.key key) result }
+    {
+        reach(&self.slots, key)
+    }
+
+    /// A walk over the entries whose key begins with a prefix. Making it takes no memory.
+    pub fn under<Q: BorrowedBytes<Owned = K>>(&self, prefix: Q) -> Under<'_, Q, V>
+        ensures { result ≡ under (Q.key prefix) (map.entries self.now) }
+    {
+        Under::new(self.alloc, self.value.as_ref(), &self.slots, prefix)
     }
 
     /// A walk over the entries in key order. Making it takes no memory.

@@ -2,6 +2,7 @@ pub use Rattle.patricia_core.specs.ByteKind
 pub use Rattle.patricia_core.specs.Keys
 pub use Rattle.patricia_core.specs.Laws
 pub use Rattle.patricia_core.specs.Points
+pub use Rattle.patricia_core.specs.Prefixes
 pub use Rattle.patricia_core.specs.Rows
 pub use Rattle.patricia_core.specs.TextKind
 pub use Rattle.patricia_core.specs.ThreeKeys
