@@ -1,11 +1,11 @@
 //! A tree of keys, seen as a finite map.
-ghost use Rattle.std.specs.Prelude.{◌≡◌, ◌≢◌, ◌↔◌, ◌+◌, ◌*◌, ◌<◌, ◌≤◌, ℕ, List, [], length, None, IsTrue, IfOk, OnOk, IfErr, OnErr};
-ghost use Rattle.std.specs.Option.{option_copied};
+ghost use Rattle.std.specs.Prelude.{◌≡◌, ◌≢◌, ◌↔◌, ◌+◌, ◌*◌, ◌<◌, ◌≤◌, ℕ, List, [], length, None, IsTrue, IfSome, IfOk, OnOk, IfErr, OnErr};
+ghost use Rattle.std.specs.Option.{option_copied, option_map};
 ghost use Rattle.std.specs.FinMap as map;
 ghost use Rattle.std.specs.List.{All};
-ghost use Rattle.patricia_keys.specs.Keys.{AreSingle, IsValid};
+ghost use Rattle.patricia_keys.specs.Keys.{AreSingle, Begins, IsValid};
 ghost use Rattle.patricia_rows.specs.Points.{CountsVisits, Joins};
-ghost use Rattle.patricia_rows.specs.Prefixes.{along, under, IsReach};
+ghost use Rattle.patricia_rows.specs.Prefixes.{along, longest, under, IsReach};
 ghost use Rattle.patricia_rows.specs.Walks.{values_of};
 
 use patricia_inserts::insert;
@@ -208,6 +208,19 @@ impl<K: Bytes, V: Drop> Tree<K, V> {
         ensures { result ≡ values_of (along (K.key key) (map.entries self.now)) }
     {
         AlongOwned::new(self.value.as_ref(), &self.slots, key)
+    }
+
+    /// The entry of the longest key that begins a key. The key handed out is a part of that key.
+    pub fn longest<Q: BorrowedBytes<Owned = K>>(&self, key: Q) -> Option<(Q, &V)>
+        ensures row { option_map (λ e. (Q.key e.0, e.1.now)) result ≡ longest (Q.key key) (map.entries self.now) }
+        ensures part { IfSome result (λ e. Begins (Q.key e.0) (Q.key key)) }
+    {
+        let mut rest = self.along(key);
+        let mut last = None;
+        while let Some(entry) = rest.next_entry() {
+            last = Some(entry);
+        }
+        last
     }
 
     /// The greatest common length of a key with the keys, in bytes; 0 where there are none.

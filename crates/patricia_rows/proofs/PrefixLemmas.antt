@@ -1,8 +1,9 @@
 -- Rows under a prefix and along a key, where the rows are made of others.
 use Rattle.std.proofs.Common.{◌≡◌, ◌≢◌, ℕ, suc, ◌⊎◌, inl, inr, Bool, true, false, ◌&&◌, cond, List, [], ◌∷◌, ◌++◌, Option, None, Some, length, refl, sym, ap, subst, ◌∙◌}
-use Rattle.std.specs.Prelude.{filter, nat_eq, ◌↔◌}
+use Rattle.std.specs.Prelude.{filter, nat_eq, IfSome}
+use Rattle.std.specs.Option.{option_map}
 use Rattle.std.specs.declared.cmp.Ordering.TheVariants.{Less}
-use Rattle.std.specs.List.{starts_with}
+use Rattle.std.specs.List.{last_or}
 use Rattle.std.proofs.lemmas.Bool.{eq-eqb, eqb-true, and_from}
 use Rattle.std.specs.Cmp.Lexicographic.{nat_list_cmp_total}
 use Rattle.std.proofs.lemmas.List.{append_assoc, append-nil}
@@ -215,3 +216,26 @@ module _ (item : List ℕ → Type 0) (kind : IsKeyKind item) {V : Type 0} (l : 
         | inl h ↦ other h
         | inr h ↦ longer h
       ]
+
+module _ {V : Type 0} where
+  -- the keys of the rows along a key begin it
+  along_begin : (k : List ℕ) (es : List (List ℕ × V)) → AllKeys (λ q. Begins q k) (along k es)
+  along_begin k [] = tt
+  along_begin k (e ∷ es) = by (begins e.0 k) refl (along_begin k es)
+    where
+      by : (b : Bool) → begins e.0 k ≡ b → AllKeys (λ q. Begins q k) (along k es) → AllKeys (λ q. Begins q k) (along k (e ∷ es))
+      by true f rest = rw f (begins_is e.0 k f, rest)
+      by false f rest = rw f rest
+
+  -- the last of some rows is one of them
+  last_of : (P : List ℕ → Type 0) (o : Option (List ℕ × V)) (es : List (List ℕ × V)) (r : List ℕ × V) → AllKeys P es → ((x : List ℕ × V) → o ≡ Some x → P x.0) → last_or o es ≡ Some r → P r.0
+  last_of P o [] r all start e = start r e
+  last_of P o (x ∷ es) r all start e = last_of P (Some x) es r all.1 (λ y same. let is : x ≡ y = cc in subst (λ z. P z.0) is all.0) e
+
+  -- so does that of the longest
+  pub longest_begins : (k : List ℕ) (es : List (List ℕ × V)) (r : List ℕ × V) → longest k es ≡ Some r → Begins r.0 k
+  longest_begins k es r e = last_of (λ q. Begins q k) None (along k es) r (along_begin k es) (λ x none. absurd (cc)) e
+
+  pub some_begins : {A : Type 0} (shows : A → List ℕ × V) (k : List ℕ) (es : List (List ℕ × V)) (o : Option A) → option_map shows o ≡ longest k es → IfSome o (λ x. Begins (shows x).0 k)
+  some_begins shows k es None e = tt
+  some_begins shows k es (Some x) e = longest_begins k es (shows x) (sym e)

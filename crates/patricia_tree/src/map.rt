@@ -1,18 +1,22 @@
 //! A map whose keys, byte strings or texts, share their common prefixes.
-ghost use Rattle.std.specs.Prelude.{◌≡◌, ◌≢◌, ◌↔◌, ◌+◌, ◌*◌, ◌<◌, ◌≤◌, ℕ, List, [], length, None, IsTrue, IfOk, OnOk, IfErr, OnErr};
-ghost use Rattle.std.specs.Option.{option_copied};
+ghost use Rattle.std.specs.Prelude.{◌≡◌, ◌≢◌, ◌↔◌, ◌+◌, ◌*◌, ◌<◌, ◌≤◌, ℕ, List, [], length, None, IsTrue, IfSome, IfOk, OnOk, IfErr, OnErr};
+ghost use Rattle.std.specs.Option.{option_copied, option_map};
 ghost use Rattle.std.specs.FinMap as map;
 ghost use Rattle.std.specs.List.{All};
-ghost use Rattle.patricia_core.specs.Keys.{AreSingle, IsValid};
+ghost use Rattle.patricia_core.specs.Keys.{AreSingle, Begins, IsValid};
 ghost use Rattle.patricia_core.specs.Points.{CountsVisits, Joins};
+ghost use Rattle.patricia_core.specs.Prefixes.{along, longest, under, IsReach};
+ghost use Rattle.patricia_core.specs.Walks.{values_of};
 
 mod iter;
+mod prefixes;
 
 pub use iter::{IntoIter, Iter, Keys, Values};
 use patricia_core::Steps;
 use patricia_core::keys::{BorrowedBytes, Bytes};
 pub use patricia_core::tree::Refused;
 use patricia_core::tree::Tree;
+pub use prefixes::{CommonPrefixValues, CommonPrefixValuesOwned, CommonPrefixesIter, IterPrefix};
 use std::alloc::{AllocError, Global};
 use std::iter::IntoIterator;
 use std::marker::Model;
@@ -107,6 +111,57 @@ impl<K: Bytes, V: Drop> GenericPatriciaMap<K, V> {
         self.tree.get_counted(key, steps)
     }
 
+    /// The entry of the longest key that is a beginning of the key, or `None` where there is none.
+    ///
+    /// The key handed out is a part of the key that is passed, and does not borrow the map. It takes
+    /// no memory.
+    pub fn get_longest_common_prefix<Q: BorrowedBytes<Owned = K>>(&self, key: Q) -> Option<(Q, &V)>
+        ensures row { option_map (λ e. (Q.key e.0, e.1.now)) result ≡ longest (Q.key key) (map.entries self.now) }
+        ensures part { IfSome result (λ e. Begins (Q.key e.0) (Q.key key)) }
+    {
+        self.tree.longest(key)
+    }
+
+    /// How many bytes of the key, in whole items, some key of the map begins with; 0 for an empty
+    /// map. That key may go on differently. It takes no memory.
+    pub fn longest_common_prefix_len<Q: BorrowedBytes<Owned = K>>(&self, key: Q) -> usize
+        ensures { IsReach K.item (map.keys self.now) (Q.key key) result }
+    {
+        self.tree.reach(key)
+    }
+
+    /// The entries whose key is a beginning of the key, the shortest first: that of the empty key
+    /// and that of the key itself are among them where they are there.
+    ///
+    /// The keys handed out are parts of the key that is passed. Neither this nor the walk takes
+    /// memory.
+    pub fn common_prefixes<Q: BorrowedBytes<Owned = K>>(&self, key: Q) -> CommonPrefixesIter<'_, Q, V>
+        ensures { result ≡ along (Q.key key) (map.entries self.now) }
+    {
+        CommonPrefixesIter {
+            along: self.tree.along(key),
+        }
+    }
+
+    /// The values of the same entries. Neither this nor the walk takes memory.
+    pub fn common_prefix_values<Q: BorrowedBytes<Owned = K>>(&self, key: Q) -> CommonPrefixValues<'_, Q, V>
+        ensures { result ≡ values_of (along (Q.key key) (map.entries self.now)) }
+    {
+        CommonPrefixValues {
+            along: self.tree.along(key),
+        }
+    }
+
+    /// The values of the same entries, for a key that the walk owns. Neither this nor the walk takes
+    /// memory.
+    pub fn common_prefix_values_owned(&self, key: K) -> CommonPrefixValuesOwned<'_, K, V>
+        ensures { result ≡ values_of (along (K.key key) (map.entries self.now)) }
+    {
+        CommonPrefixValuesOwned {
+            along: self.tree.along_owned(key),
+        }
+    }
+
     /// Puts a value in and answers the old one, or `None` for a new key.
     ///
     /// The error is want of memory, which only a key can meet that is new and not empty. It hands
@@ -155,6 +210,15 @@ impl<K: Bytes, V: Drop> GenericPatriciaMap<K, V> {
     {
         Iter {
             walk: self.tree.walk(),
+        }
+    }
+
+    /// The entries whose key begins with the prefix, in key order. Making it takes no memory.
+    pub fn iter_prefix<Q: BorrowedBytes<Owned = K>>(&self, prefix: Q) -> IterPrefix<'_, Q, V>
+        ensures { result ≡ under (Q.key prefix) (map.entries self.now) }
+    {
+        IterPrefix {
+            under: self.tree.under(prefix),
         }
     }
 

@@ -1,0 +1,10 @@
+use Rattle.std.proofs.Common.{None, ap, ◌∙◌}
+use Rattle.std.specs.FinMap as map
+use Rattle.std.specs.List.{last_or}
+use Rattle.patricia_rows.proofs.PrefixLemmas.{some_begins}
+use Rattle.patricia_core.proofs.tree.Tree.longest.Goals as goal
+
+pub returns-clause-part : goal.returns-clause-part
+returns-clause-part g c =
+    let last = rw c.in_default.ensures.0 at c.loop-entry.invariant in
+    some_begins (λ e. (g.Q.BorrowedBytes.key e.0, e.1.now)) _ (map.entries c.args.self.now) c.loop-entry.last (last ∙ ap (last_or None) c.along-rest.ensures)
