@@ -1,11 +1,11 @@
 -- Which output answers an input.
 use Rattle.std.specs.Prelude.{◌≡◌, ℕ, List, [], ◌∷◌, Ok, Err}
-use Rattle.patricia_run.specs.declared.command.Command.{Command}
-use Rattle.patricia_run.specs.declared.command.Reply.{Reply}
-use Rattle.patricia_run.specs.Machine.{State, empty_state, Run}
-use Rattle.patricia_run.specs.Spellings.{Spelling}
-use Rattle.patricia_run.specs.Text.{Said, all_said}
-use Rattle.patricia_run.specs.Writing.{output_of}
+use Rattle.patricia_machine.specs.declared.command.Command.{Command}
+use Rattle.patricia_machine.specs.declared.command.Reply.{Reply}
+use Rattle.patricia_machine.specs.Machine.{State, empty_state, Run}
+use Rattle.patricia_lines.specs.Spellings.{Spelling}
+use Rattle.patricia_lines.specs.Text.{Said, all_said}
+use Rattle.patricia_lines.specs.Writing.{output_of}
 
 -- the commands of the lines that are not faulty
 abbrev pub commands_of : List Said → List (Command (List ℕ) ℕ)

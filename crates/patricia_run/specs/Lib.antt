@@ -1,5 +1,5 @@
 pub mod Answers
-pub mod Machine
-pub mod Spellings
-pub mod Text
-pub mod Writing
+pub use Rattle.patricia_lines.specs.Machine
+pub use Rattle.patricia_lines.specs.Spellings
+pub use Rattle.patricia_lines.specs.Text
+pub use Rattle.patricia_lines.specs.Writing

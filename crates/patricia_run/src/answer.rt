@@ -4,16 +4,13 @@ ghost use Rattle.std.specs.Prelude.{◌≡◌, ℕ, IfOk, map, Vec, string_bytes
 ghost use Rattle.std.specs.Global.{Global};
 ghost use Rattle.patricia_tree.specs.ByteKind.{IsByteItem};
 ghost use Rattle.patricia_tree.specs.TextKind.{IsTextItem};
-ghost use Rattle.patricia_run.specs.Machine.{State, Run, empty_state, with_key};
-ghost use Rattle.patricia_run.specs.Spellings.{as_bytes, as_text};
-ghost use Rattle.patricia_run.specs.Text.{Said, said_with};
+ghost use Rattle.patricia_machine.specs.Machine.{State, Run, empty_state, with_key};
+ghost use Rattle.patricia_lines.specs.Spellings.{as_bytes, as_text};
+ghost use Rattle.patricia_lines.specs.Text.{Said, said_with};
 ghost use Rattle.patricia_run.specs.Answers.{Answers, commands_of};
 
-use crate::bench::{Bench, run};
-use crate::command::{Command, Reply};
-use crate::reading::{Reading, read_lines};
-use crate::spelling::Spelled;
-use crate::writing::write_output;
+use patricia_lines::{Reading, Spelled, read_lines, write_output};
+use patricia_machine::{Bench, Command, Reply, run};
 use std::alloc::{AllocError, Global};
 
 // The commands of the readings that are not faulty.

@@ -3,12 +3,7 @@
 #![tactic(auto)]
 
 mod answer;
-mod bench;
-mod command;
 mod program;
-mod reading;
 pub mod run;
-mod spelling;
-mod writing;
 
 pub use run::{Bench, Command, Reply, answer_bytes, answer_text, serve};

@@ -1,6 +1,6 @@
 use Rattle.std.proofs.Common.{◌≡◌, ◌++◌, drop, map}
-use Rattle.patricia_run.specs.Machine.{with_key}
-use Rattle.patricia_run.specs.Text.{said_with}
+use Rattle.patricia_machine.specs.Machine.{with_key}
+use Rattle.patricia_lines.specs.Text.{said_with}
 use Rattle.patricia_run.specs.Answers.{commands_of}
 use Rattle.patricia_run.proofs.answer.commands.Given as goal
 

@@ -1,0 +1,53 @@
+-- The lines that an output has for faults and replies.
+use Rattle.std.specs.Prelude.{ℕ, List, [], ◌∷◌, ◌++◌, length, map, codes, Ok, Err}
+use Rattle.std.specs.Fmt.{decimal}
+use Rattle.std.specs.List.{concat}
+use Rattle.patricia_machine.specs.declared.command.Reply.{Reply}
+use Rattle.patricia_machine.specs.declared.command.Reply.TheVariants as Replies
+use Rattle.patricia_lines.specs.declared.reading.Fault.{Fault}
+use Rattle.patricia_lines.specs.declared.reading.Fault.TheVariants as Faults
+use Rattle.patricia_lines.specs.Spellings.{Spelling}
+use Rattle.patricia_lines.specs.Text.{Said}
+
+-- a text, a space and a number, and the byte 10 that ends the line
+abbrev pub number_line : List ℕ → ℕ → List ℕ
+number_line text n = text ++ (32 ∷ decimal n) ++ 10 ∷ []
+
+-- the printed key, a space and the value
+abbrev pub row_line : {K : Type 0} → Spelling → (K → List ℕ) → K × ℕ → List ℕ
+row_line spelling key_of row = number_line (spelling.print (key_of row.0)) row.1
+
+-- a line for each row
+abbrev pub row_lines : {K : Type 0} → Spelling → (K → List ℕ) → List (K × ℕ) → List ℕ
+row_lines spelling key_of rows = concat (map (row_line spelling key_of) rows)
+
+-- the number by which a fault is printed
+abbrev pub fault_number : Fault → ℕ
+fault_number Faults.UnknownWord = 1
+fault_number Faults.FieldCount = 2
+fault_number Faults.BadNumber = 3
+fault_number Faults.BadKey = 4
+
+-- the line of a fault
+abbrev pub fault_line : Fault → List ℕ
+fault_line fault = number_line (codes "fault") (fault_number fault)
+
+-- the lines of a reply
+abbrev pub reply_lines : {K : Type 0} → Spelling → (K → List ℕ) → Reply K ℕ → List ℕ
+reply_lines spelling key_of Replies.None = codes "none\n"
+reply_lines spelling key_of (Replies.Some n) = number_line (codes "some") n
+reply_lines spelling key_of (Replies.Count n) = number_line (codes "count") n
+reply_lines spelling key_of (Replies.Rows rows) =
+    number_line (codes "rows") (length rows.items) ++ row_lines spelling key_of rows.items
+reply_lines spelling key_of Replies.Done = codes "ok\n"
+reply_lines spelling key_of Replies.NoMemory = codes "no memory\n"
+
+-- for each line that was read, in turn, the line of its fault, or the lines of the next reply
+abbrev pub output_of :
+    {K : Type 0} → Spelling → (K → List ℕ) → List Said → List (Reply K ℕ) → List ℕ
+output_of spelling key_of [] replies = []
+output_of spelling key_of (Err fault ∷ said) replies =
+    fault_line fault ++ output_of spelling key_of said replies
+output_of spelling key_of (Ok command ∷ said) (reply ∷ replies) =
+    reply_lines spelling key_of reply ++ output_of spelling key_of said replies
+output_of spelling key_of (Ok command ∷ said) [] = output_of spelling key_of said []

@@ -1,0 +1,185 @@
+//! What the lines of an input say: each a command, or what is wrong with it.
+
+ghost use Rattle.std.specs.Prelude.{◌≡◌, [], length, IfOk, map, Option, ◌==◌};
+ghost use Rattle.std.specs.List.{slice_split};
+ghost use Rattle.std.specs.Result.{result_map_both};
+ghost use Rattle.patricia_machine.specs.Machine.{with_key};
+ghost use Rattle.patricia_lines.specs.Text.{number_of, word_of, key_alone, alone, lines_of};
+ghost use Rattle.patricia_lines.specs.Text.{said_after, said_by, said_of, said_with, all_said};
+ghost use Rattle.patricia_lines.specs.Text.{without_last_empty};
+
+use crate::spelling::Spelled;
+use patricia_machine::Command;
+use std::alloc::{AllocError, Global};
+
+/// What is wrong with a line.
+#[derive(Clone, Copy)]
+pub enum Fault {
+    UnknownWord,
+    FieldCount,
+    BadNumber,
+    BadKey,
+}
+
+/// What a line says.
+pub type Reading<Q> = Result<Command<Q, u64>, Fault>;
+
+// The word that a line begins with.
+#[derive(Clone, Copy)]
+enum Word {
+    Insert,
+    Get,
+    Remove,
+    Len,
+    List,
+    Clear,
+}
+
+// The number that a field writes.
+fn number(field: &[u8]) -> Option<u64>
+    ensures { result ≡ number_of field.now }
+{
+    if field.is_empty() {
+        return None;
+    }
+    let mut value: u64 = 0;
+    for b in field {
+        if !b.is_ascii_digit() {
+            return None;
+        }
+        value = value.checked_mul(10)?.checked_add(u64::from(*b - b'0'))?;
+    }
+    Some(value)
+}
+
+// The word that a field is.
+fn first_word(field: &[u8]) -> Option<Word>
+    ensures { result ≡ word_of field.now }
+{
+    if field == b"insert".as_slice() {
+        Some(Word::Insert)
+    } else if field == b"get".as_slice() {
+        Some(Word::Get)
+    } else if field == b"remove".as_slice() {
+        Some(Word::Remove)
+    } else if field == b"len".as_slice() {
+        Some(Word::Len)
+    } else if field == b"list".as_slice() {
+        Some(Word::List)
+    } else if field == b"clear".as_slice() {
+        Some(Word::Clear)
+    } else {
+        None
+    }
+}
+
+// The key that the only field spells.
+fn only_key<'a, Q: Spelled<'a>>(fields: &[&'a [u8]]) -> Result<Q, Fault>
+    ensures { result_map_both Q.key (λ fault. fault) result
+        ≡ key_alone Q.spelling (map (λ f. f.now) fields.now) }
+{
+    match fields {
+        [field] => Q::read(field).ok_or(Fault::BadKey),
+        _ => Err(Fault::FieldCount),
+    }
+}
+
+// The command of a word that stands alone.
+fn alone<'a, Q: Spelled<'a>>(command: Command<Q, u64>, fields: &[&'a [u8]]) -> Reading<Q>
+    ensures { said_with Q.key result
+        ≡ alone (with_key Q.key command) (map (λ f. f.now) fields.now) }
+{
+    if fields.is_empty() {
+        Ok(command)
+    } else {
+        Err(Fault::FieldCount)
+    }
+}
+
+// The command of the fields after a word.
+fn command<'a, Q: Spelled<'a>>(word: Word, fields: &[&'a [u8]]) -> Reading<Q>
+    ensures { said_with Q.key result
+        ≡ said_after Q.spelling word (map (λ f. f.now) fields.now) }
+{
+    match word {
+        Word::Insert => match fields {
+            [key, value] => {
+                let value = number(value).ok_or(Fault::BadNumber)?;
+                let key = Q::read(key).ok_or(Fault::BadKey)?;
+                Ok(Command::Insert(key, value))
+            }
+            _ => Err(Fault::FieldCount),
+        },
+        Word::Get => Ok(Command::Get(only_key(fields)?)),
+        Word::Remove => Ok(Command::Remove(only_key(fields)?)),
+        Word::Len => alone(Command::Len, fields),
+        Word::List => alone(Command::List, fields),
+        Word::Clear => alone(Command::Clear, fields),
+    }
+}
+
+// The command of the fields of a line.
+fn from_fields<'a, Q: Spelled<'a>>(fields: &[&'a [u8]]) -> Reading<Q>
+    ensures { said_with Q.key result ≡ said_by Q.spelling (map (λ f. f.now) fields.now) }
+{
+    let Some((first, more)) = fields.split_first() else {
+        return Err(Fault::UnknownWord);
+    };
+    match first_word(first) {
+        Some(word) => command(word, more),
+        None => Err(Fault::UnknownWord),
+    }
+}
+
+// The parts of a text round a byte.
+fn pieces<'a>(alloc: Global, text: &'a [u8], at: u8) -> Result<Vec<&'a [u8]>, AllocError>
+    ensures { IfOk result (λ v.
+        map (λ f. f.now) v.items ≡ slice_split (λ b. b == at) text.now) }
+{
+    text.split(|b| *b == at).collect(alloc)
+}
+
+// What a line says.
+fn read_line<'a, Q: Spelled<'a>>(alloc: Global, line: &'a [u8]) -> Result<Reading<Q>, AllocError>
+    ensures { IfOk result (λ r. said_with Q.key r ≡ said_of Q.spelling line.now) }
+{
+    let fields = pieces(alloc, line, b'\t')?;
+    Ok(from_fields(&fields))
+}
+
+// The lines of an input, each without the byte 10 at its end.
+fn lines<'a>(alloc: Global, input: &'a [u8]) -> Result<Vec<&'a [u8]>, AllocError>
+    ensures { IfOk result (λ v. map (λ f. f.now) v.items ≡ lines_of input.now) }
+{
+    let mut parts = pieces(alloc, input, b'\n')?;
+    drop_last_empty(&mut parts);
+    Ok(parts)
+}
+
+// What is left after the last byte 10 is a line only if it has a byte.
+fn drop_last_empty<'a>(parts: &mut Vec<&'a [u8]>)
+    ensures { map (λ f. f.now) parts.new.items
+        ≡ without_last_empty (map (λ f. f.now) parts.old.items) }
+{
+    let Some(last) = parts.pop() else {
+        return;
+    };
+    if !last.is_empty() {
+        parts.push(last).unwrap();
+    }
+}
+
+/// What each line of an input says.
+pub fn read_lines<'a, Q: Spelled<'a>>(
+    alloc: Global,
+    input: &'a [u8],
+) -> Result<Vec<Reading<Q>>, AllocError>
+    ensures { IfOk result (λ v. map (said_with Q.key) v.items ≡ all_said Q.spelling input.now) }
+{
+    let lines = lines(alloc, input)?;
+    let mut readings = Vec::new(alloc);
+    for line in &lines {
+        readings.push(read_line(alloc, line)?)?;
+    }
+    Ok(readings)
+}

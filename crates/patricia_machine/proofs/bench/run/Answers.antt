@@ -1,0 +1,14 @@
+use Rattle.std.proofs.Common.{◌≡◌, ◌∷◌, ◌++◌, [], arith}
+use Rattle.std.proofs.lemmas.List.{take_more, map-append}
+use Rattle.patricia_machine.proofs.MachineLemmas.{Run-more}
+use Rattle.patricia_machine.proofs.bench.run.Goals as goal
+
+pub loop-command-preserved : goal.loop-command-preserved
+loop-command-preserved g c =
+    let items : c.push.new.self.items ≡ c.loop-command.replies.items ++ c.step.result ∷ [] = rw c.unwrap.ensures at c.push.ensures.items in
+    let more = Run-more g.K.Bytes.item g.K.Bytes.key _ _ _ _ _ _ _ c.loop-command.invariant.run c.step.ensures in
+    record {
+      run = rw (items, take_more _ _ c.command-item.result c.loop-command-test.true, ← c.command-item.is, map-append) more;
+      count = grind (arith, c.unwrap.ensures, c.push.ensures.len);
+      room = omega (arith, c.push.ensures.capacity);
+    }

@@ -1,0 +1,111 @@
+-- The machine of commands over a finite map.
+use Rattle.std.specs.Prelude.{◌≡◌, ◌≢◌, ℕ, List, [], ◌∷◌, None, Some, refl}
+use Rattle.std.specs.FinMap as map
+use Rattle.std.specs.Coded.{Coded, code_by, coded_ℕ, coded_list}
+use Rattle.patricia_tree.specs.Keys.{key_cmp}
+use Rattle.patricia_tree.specs.Points.{Joins}
+use Rattle.patricia_machine.specs.declared.command.Command.{Command}
+use Rattle.patricia_machine.specs.declared.command.Command.TheVariants as Commands
+use Rattle.patricia_machine.specs.declared.command.Reply.{Reply}
+use Rattle.patricia_machine.specs.declared.command.Reply.TheVariants as Replies
+
+-- what the machine holds: the map that commands work on
+pub record State (V : Type 0) : Type 0 where
+  pub main : map.FinMap key_cmp V
+
+-- a state is stored as its map
+abbrev pub state_code : {V : Type 0} → Coded V → Coded (State V)
+state_code {V} values = code_by
+    (map.FinMap key_cmp V)
+    (map.code (coded_list coded_ℕ) values)
+    (λ s. s.main)
+    (λ m. record { main = m })
+    (λ _. refl)
+
+-- what every machine holds at first
+abbrev pub empty_state : {V : Type 0} → State V
+empty_state = record { main = map.empty }
+
+-- a command with the bytes of its key in the key's place
+abbrev pub with_key : {Q V : Type 0} → (Q → List ℕ) → Command Q V → Command (List ℕ) V
+with_key key_of (Commands.Insert key value) = Commands.Insert (key_of key) value
+with_key key_of (Commands.Get key) = Commands.Get (key_of key)
+with_key key_of (Commands.Remove key) = Commands.Remove (key_of key)
+with_key key_of Commands.Len = Commands.Len
+with_key key_of Commands.List = Commands.List
+with_key key_of Commands.Clear = Commands.Clear
+
+-- rows with the bytes of each key in the key's place
+abbrev pub rows_of : {K V : Type 0} → (K → List ℕ) → List (K × V) → List (List ℕ × V)
+rows_of key_of [] = []
+rows_of key_of (row ∷ rows) = (key_of row.0, row.1) ∷ rows_of key_of rows
+
+-- Each relation below says when the machine in the state old may reply so to its command, and
+-- then be in the state new. What it does not name never comes.
+
+-- an insert replies the value before; for memory it fails only at a new key that is not empty
+abbrev pub Inserts : {K V : Type 0} → State V → List ℕ → V → Reply K V → State V → Type 0
+Inserts old key value Replies.None new =
+    (map.get old.main key ≡ None) × (new ≡ record old { main = map.insert old.main key value })
+Inserts old key value (Replies.Some before) new =
+    (map.get old.main key ≡ Some before)
+    × (new ≡ record old { main = map.insert old.main key value })
+Inserts old key value Replies.NoMemory new =
+    (key ≢ []) × (map.get old.main key ≡ None) × (new ≡ old)
+Inserts old key value _ new = ⊥
+
+-- a get replies the value of the key
+abbrev pub Gets : {K V : Type 0} → State V → List ℕ → Reply K V → State V → Type 0
+Gets old key Replies.None new = (map.get old.main key ≡ None) × (new ≡ old)
+Gets old key (Replies.Some found) new = (map.get old.main key ≡ Some found) × (new ≡ old)
+Gets old key _ new = ⊥
+
+-- a remove replies the value taken out; for memory it fails only where labels join
+abbrev pub Removes :
+    {K V : Type 0} → (List ℕ → Type 0) → State V → List ℕ → Reply K V → State V → Type 0
+Removes item old key Replies.None new =
+    (map.get old.main key ≡ None) × (new ≡ record old { main = map.remove old.main key })
+Removes item old key (Replies.Some before) new =
+    (map.get old.main key ≡ Some before) × (new ≡ record old { main = map.remove old.main key })
+Removes item old key Replies.NoMemory new = Joins item (map.keys old.main) key × (new ≡ old)
+Removes item old key _ new = ⊥
+
+-- a len replies the number of entries
+abbrev pub Counts : {K V : Type 0} → State V → Reply K V → State V → Type 0
+Counts old (Replies.Count n) new = (n ≡ map.len old.main) × (new ≡ old)
+Counts old _ new = ⊥
+
+-- a list replies the entries in key order; for memory it fails only where there is an entry
+abbrev pub Lists : {K V : Type 0} → (K → List ℕ) → State V → Reply K V → State V → Type 0
+Lists key_of old (Replies.Rows rows) new =
+    (rows_of key_of rows.items ≡ map.entries old.main) × (new ≡ old)
+Lists key_of old Replies.NoMemory new = (map.entries old.main ≢ []) × (new ≡ old)
+Lists key_of old _ new = ⊥
+
+-- a clear leaves no entry
+abbrev pub Clears : {K V : Type 0} → State V → Reply K V → State V → Type 0
+Clears old Replies.Done new = new ≡ record old { main = map.empty }
+Clears old _ new = ⊥
+
+-- the relation of each command;
+-- keys are made of such items, and key_of gives the bytes of a row's key
+abbrev pub Step :
+    {K V : Type 0} → (List ℕ → Type 0) → (K → List ℕ)
+    → State V → Command (List ℕ) V → Reply K V → State V → Type 0
+Step item key_of old (Commands.Insert key value) reply new = Inserts old key value reply new
+Step item key_of old (Commands.Get key) reply new = Gets old key reply new
+Step item key_of old (Commands.Remove key) reply new = Removes item old key reply new
+Step item key_of old Commands.Len reply new = Counts old reply new
+Step item key_of old Commands.List reply new = Lists key_of old reply new
+Step item key_of old Commands.Clear reply new = Clears old reply new
+
+-- the machine may reply so to the commands in turn, with one reply for each
+abbrev pub Run :
+    {K V : Type 0} → (List ℕ → Type 0) → (K → List ℕ)
+    → State V → List (Command (List ℕ) V) → List (Reply K V) → State V → Type 0
+Run item key_of old [] [] new = new ≡ old
+Run {V = V} item key_of old (command ∷ commands) (reply ∷ replies) new =
+    (between : State V)
+    × Step item key_of old command reply between
+    × Run item key_of between commands replies new
+Run item key_of old _ _ new = ⊥

@@ -1,0 +1,104 @@
+//! The bench, which holds the map that commands work on, and what each command does.
+
+ghost use Rattle.std.specs.Prelude.{◌≡◌, ◌≢◌, [], length, IfOk, OnErr, map as list_map};
+ghost use Rattle.std.specs.FinMap as map;
+ghost use Rattle.patricia_machine.specs.Machine.{Step, Run, empty_state, rows_of, with_key};
+
+use crate::command::{Command, Reply};
+use patricia_tree::{BorrowedBytes, Bytes, GenericPatriciaMap};
+use std::alloc::{AllocError, Global};
+use std::marker::Model;
+
+/// A map that commands work on.
+#[derive(Drop)]
+pub struct Bench<K: Bytes, V> {
+    alloc: Global,
+    main: GenericPatriciaMap<K, V>,
+}
+
+impl<K: Bytes, V> Model for Bench<K, V> {
+    ghost use Rattle.patricia_machine.specs.Machine.{State, state_code};
+
+    ghost Value = { State V };
+
+    ghost coded = { state_code V.code };
+
+    ghost view = { λ b. record { main = b.main } };
+}
+
+// The rows of a map, in key order.
+fn rows<K: Bytes, V: Copy>(
+    alloc: Global,
+    entries: &GenericPatriciaMap<K, V>,
+) -> Result<Vec<(K, V)>, AllocError>
+    ensures ok { IfOk result (λ rows. rows_of K.key rows.items ≡ map.entries entries.now) }
+    ensures err { OnErr result (map.entries entries.now ≢ []) }
+{
+    let mut rows = Vec::new(alloc);
+    for entry in entries.iter() {
+        let (key, value) = entry?;
+        rows.push((key, *value))?;
+    }
+    Ok(rows)
+}
+
+impl<K: Bytes, V: Copy> Bench<K, V> {
+    /// A bench whose map is empty.
+    pub fn new(alloc: Global) -> Self
+        ensures { result ≡ empty_state }
+    {
+        Bench {
+            alloc,
+            main: GenericPatriciaMap::new(alloc),
+        }
+    }
+
+    /// Does one command.
+    pub fn step<Q: BorrowedBytes<Owned = K>>(&mut self, command: Command<Q, V>) -> Reply<K, V>
+        ensures { Step K.item K.key self.old (with_key Q.key command) result self.new }
+    {
+        match command {
+            Command::Insert(key, value) => match self.main.insert(key, value) {
+                Ok(None) => Reply::None,
+                Ok(Some(before)) => Reply::Some(before),
+                Err(_) => Reply::NoMemory,
+            },
+            Command::Get(key) => match self.main.get(key) {
+                None => Reply::None,
+                Some(value) => Reply::Some(*value),
+            },
+            Command::Remove(key) => match self.main.remove(key) {
+                Ok(None) => Reply::None,
+                Ok(Some(before)) => Reply::Some(before),
+                Err(_) => Reply::NoMemory,
+            },
+            Command::Len => Reply::Count(self.main.len()),
+            Command::List => match rows(self.alloc, &self.main) {
+                Ok(rows) => Reply::Rows(rows),
+                Err(_) => Reply::NoMemory,
+            },
+            Command::Clear => {
+                self.main.clear();
+                Reply::Done
+            }
+        }
+    }
+}
+
+/// Does the commands in order. The list of replies is reserved before the first of them, so its
+/// refusal is the only error.
+pub fn run<K: Bytes, V: Copy, Q: BorrowedBytes<Owned = K>>(
+    bench: &mut Bench<K, V>,
+    commands: &[Command<Q, V>],
+) -> Result<Vec<Reply<K, V>>, AllocError>
+    ensures ok { IfOk result (λ replies.
+        Run K.item K.key
+        bench.old (list_map (with_key Q.key) commands.now) replies.items bench.new) }
+    ensures unchanged { OnErr result (bench.new ≡ bench.old) }
+{
+    let mut replies = Vec::with_capacity(bench.alloc, commands.len())?;
+    for command in commands {
+        replies.push(bench.step(*command)).unwrap();
+    }
+    Ok(replies)
+}
