@@ -34,8 +34,12 @@ word_of field =
     else (if bytes_eq field (codes "remove") then Some Words.Remove
     else (if bytes_eq field (codes "len") then Some Words.Len
     else (if bytes_eq field (codes "list") then Some Words.List
+    else (if bytes_eq field (codes "under") then Some Words.Under
+    else (if bytes_eq field (codes "along") then Some Words.Along
+    else (if bytes_eq field (codes "longest") then Some Words.Longest
+    else (if bytes_eq field (codes "reach") then Some Words.Reach
     else (if bytes_eq field (codes "clear") then Some Words.Clear
-    else None)))))
+    else None)))))))))
 
 -- a key, or the fault of a field that spells none
 abbrev pub readable : Option (List ℕ) → Result (List ℕ) Fault
@@ -73,6 +77,11 @@ said_after spelling Words.Remove fields =
     keyed (λ key. Commands.Remove key) (key_alone spelling fields)
 said_after spelling Words.Len fields = alone Commands.Len fields
 said_after spelling Words.List fields = alone Commands.List fields
+said_after spelling Words.Under fields = keyed (λ key. Commands.Under key) (key_alone spelling fields)
+said_after spelling Words.Along fields = keyed (λ key. Commands.Along key) (key_alone spelling fields)
+said_after spelling Words.Longest fields =
+    keyed (λ key. Commands.Longest key) (key_alone spelling fields)
+said_after spelling Words.Reach fields = keyed (λ key. Commands.Reach key) (key_alone spelling fields)
 said_after spelling Words.Clear fields = alone Commands.Clear fields
 
 -- what the fields of a line say, the first of which is its word

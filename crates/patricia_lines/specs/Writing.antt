@@ -36,6 +36,8 @@ fault_line fault = number_line (codes "fault") (fault_number fault)
 abbrev pub reply_lines : {K : Type 0} → Spelling → (K → List ℕ) → Reply K ℕ → List ℕ
 reply_lines spelling key_of Replies.None = codes "none\n"
 reply_lines spelling key_of (Replies.Some n) = number_line (codes "some") n
+reply_lines spelling key_of (Replies.Longest length n) =
+    number_line (codes "some" ++ 32 ∷ decimal length) n
 reply_lines spelling key_of (Replies.Count n) = number_line (codes "count") n
 reply_lines spelling key_of (Replies.Rows rows) =
     number_line (codes "rows") (length rows.items) ++ row_lines spelling key_of rows.items

@@ -32,6 +32,10 @@ enum Word {
     Remove,
     Len,
     List,
+    Under,
+    Along,
+    Longest,
+    Reach,
     Clear,
 }
 
@@ -66,6 +70,14 @@ fn first_word(field: &[u8]) -> Option<Word>
         Some(Word::Len)
     } else if field == b"list".as_slice() {
         Some(Word::List)
+    } else if field == b"under".as_slice() {
+        Some(Word::Under)
+    } else if field == b"along".as_slice() {
+        Some(Word::Along)
+    } else if field == b"longest".as_slice() {
+        Some(Word::Longest)
+    } else if field == b"reach".as_slice() {
+        Some(Word::Reach)
     } else if field == b"clear".as_slice() {
         Some(Word::Clear)
     } else {
@@ -114,6 +126,10 @@ fn command<'a, Q: Spelled<'a>>(word: Word, fields: &[&'a [u8]]) -> Reading<Q>
         Word::Remove => Ok(Command::Remove(only_key(fields)?)),
         Word::Len => alone(Command::Len, fields),
         Word::List => alone(Command::List, fields),
+        Word::Under => Ok(Command::Under(only_key(fields)?)),
+        Word::Along => Ok(Command::Along(only_key(fields)?)),
+        Word::Longest => Ok(Command::Longest(only_key(fields)?)),
+        Word::Reach => Ok(Command::Reach(only_key(fields)?)),
         Word::Clear => alone(Command::Clear, fields),
     }
 }

@@ -1,6 +1,7 @@
 //! The lines that are written for faults and replies.
 
-ghost use Rattle.std.specs.Prelude.{◌≡◌, ℕ, List, [], ◌∷◌, ◌++◌, length, IfOk, OnOk, map};
+ghost use Rattle.std.specs.Prelude.{◌≡◌, ℕ, List, [], ◌∷◌, ◌++◌, length, IfOk, OnOk, map, codes};
+ghost use Rattle.std.specs.Fmt.{decimal};
 ghost use Rattle.patricia_lines.specs.Text.{Said, said_with};
 ghost use Rattle.patricia_lines.specs.Writing.{number_line, row_line, row_lines, fault_line};
 ghost use Rattle.patricia_lines.specs.Writing.{reply_lines, output_of};
@@ -28,6 +29,22 @@ fn write_line(alloc: Global, out: &mut Vec<u8>, text: &[u8], n: u64) -> Result<(
 {
     out.extend_from_slice(text)?;
     write_number(alloc, out, n)
+}
+
+// The length of a key that is there, and its value.
+fn write_longest(
+    alloc: Global,
+    out: &mut Vec<u8>,
+    length: u64,
+    value: u64,
+) -> Result<(), AllocError>
+    ensures { OnOk result (out.new.items
+        ≡ out.old.items ++ number_line (codes "some" ++ 32 ∷ decimal length) value) }
+{
+    let text = length.to_string(alloc)?;
+    out.extend_from_slice(b"some ")?;
+    out.extend_from_slice(text.as_bytes())?;
+    write_number(alloc, out, value)
 }
 
 fn write_row<'a, Q: Spelled<'a>>(
@@ -79,6 +96,7 @@ fn write_reply<'a, Q: Spelled<'a>>(
     match reply {
         Reply::None => out.extend_from_slice(b"none\n"),
         Reply::Some(value) => write_line(alloc, out, b"some", *value),
+        Reply::Longest(length, value) => write_longest(alloc, out, *length as u64, *value),
         Reply::Count(n) => write_line(alloc, out, b"count", *n as u64),
         Reply::Rows(rows) => {
             write_line(alloc, out, b"rows", rows.len() as u64)?;

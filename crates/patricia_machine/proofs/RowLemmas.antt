@@ -1,7 +1,13 @@
 -- Laws of rows.
 use Rattle.std.proofs.Common.{◌≡◌, ℕ, ◌≢◌, List, [], ◌∷◌, ◌++◌, refl, sym, ap, ◌∙◌}
 use Rattle.std.proofs.lemmas.List.{append_assoc}
+use Rattle.std.specs.Prelude.{Result, Ok, Err, OnErr}
 use Rattle.patricia_machine.specs.Machine.{rows_of}
+
+-- what holds holds on an error
+pub OnErr-from : {T E P : Type 0} (r : Result T E) → P → OnErr r P
+OnErr-from (Ok x) p = tt
+OnErr-from (Err e) p = p
 
 module _ {K V : Type 0} (key_of : K → List ℕ) where
   rows_of-append : (rows : List (K × V)) (row : K × V) → rows_of key_of (rows ++ row ∷ []) ≡ rows_of key_of rows ++ (key_of row.0, row.1) ∷ []

@@ -1,9 +1,10 @@
 -- The machine of commands over a finite map.
-use Rattle.std.specs.Prelude.{◌≡◌, ◌≢◌, ℕ, List, [], ◌∷◌, None, Some, refl}
+use Rattle.std.specs.Prelude.{◌≡◌, ◌≢◌, ℕ, List, [], ◌∷◌, length, None, Some, refl}
 use Rattle.std.specs.FinMap as map
 use Rattle.std.specs.Coded.{Coded, code_by, coded_ℕ, coded_list}
 use Rattle.patricia_tree.specs.Keys.{key_cmp}
 use Rattle.patricia_tree.specs.Points.{Joins}
+use Rattle.patricia_tree.specs.Prefixes.{under, along, longest, IsReach}
 use Rattle.patricia_machine.specs.declared.command.Command.{Command}
 use Rattle.patricia_machine.specs.declared.command.Command.TheVariants as Commands
 use Rattle.patricia_machine.specs.declared.command.Reply.{Reply}
@@ -33,6 +34,10 @@ with_key key_of (Commands.Get key) = Commands.Get (key_of key)
 with_key key_of (Commands.Remove key) = Commands.Remove (key_of key)
 with_key key_of Commands.Len = Commands.Len
 with_key key_of Commands.List = Commands.List
+with_key key_of (Commands.Under prefix) = Commands.Under (key_of prefix)
+with_key key_of (Commands.Along key) = Commands.Along (key_of key)
+with_key key_of (Commands.Longest key) = Commands.Longest (key_of key)
+with_key key_of (Commands.Reach key) = Commands.Reach (key_of key)
 with_key key_of Commands.Clear = Commands.Clear
 
 -- rows with the bytes of each key in the key's place
@@ -75,12 +80,28 @@ abbrev pub Counts : {K V : Type 0} → State V → Reply K V → State V → Typ
 Counts old (Replies.Count n) new = (n ≡ map.len old.main) × (new ≡ old)
 Counts old _ new = ⊥
 
--- a list replies the entries in key order; for memory it fails only where there is an entry
-abbrev pub Lists : {K V : Type 0} → (K → List ℕ) → State V → Reply K V → State V → Type 0
-Lists key_of old (Replies.Rows rows) new =
-    (rows_of key_of rows.items ≡ map.entries old.main) × (new ≡ old)
-Lists key_of old Replies.NoMemory new = (map.entries old.main ≢ []) × (new ≡ old)
-Lists key_of old _ new = ⊥
+-- these rows are replied; for memory it fails only where there is a row
+abbrev pub Shows :
+    {K V : Type 0} → (K → List ℕ) → List (List ℕ × V) → State V → Reply K V → State V → Type 0
+Shows key_of entries old (Replies.Rows rows) new =
+    (rows_of key_of rows.items ≡ entries) × (new ≡ old)
+Shows key_of entries old Replies.NoMemory new = (entries ≢ []) × (new ≡ old)
+Shows key_of entries old _ new = ⊥
+
+-- a longest replies the length and the value of the longest key that begins the key
+abbrev pub FindsLongest : {K V : Type 0} → State V → List ℕ → Reply K V → State V → Type 0
+FindsLongest old key Replies.None new =
+    (longest key (map.entries old.main) ≡ None) × (new ≡ old)
+FindsLongest {V = V} old key (Replies.Longest n found) new =
+    ((prefix : List ℕ) × (length prefix ≡ n) × (longest key (map.entries old.main) ≡ Some (prefix, found)))
+    × (new ≡ old)
+FindsLongest old key _ new = ⊥
+
+-- a reach replies the greatest common length of the key with the keys
+abbrev pub Reaches :
+    {K V : Type 0} → (List ℕ → Type 0) → State V → List ℕ → Reply K V → State V → Type 0
+Reaches item old key (Replies.Count n) new = IsReach item (map.keys old.main) key n × (new ≡ old)
+Reaches item old key _ new = ⊥
 
 -- a clear leaves no entry
 abbrev pub Clears : {K V : Type 0} → State V → Reply K V → State V → Type 0
@@ -96,7 +117,14 @@ Step item key_of old (Commands.Insert key value) reply new = Inserts old key val
 Step item key_of old (Commands.Get key) reply new = Gets old key reply new
 Step item key_of old (Commands.Remove key) reply new = Removes item old key reply new
 Step item key_of old Commands.Len reply new = Counts old reply new
-Step item key_of old Commands.List reply new = Lists key_of old reply new
+Step item key_of old Commands.List reply new =
+    Shows key_of (map.entries old.main) old reply new
+Step item key_of old (Commands.Under prefix) reply new =
+    Shows key_of (under prefix (map.entries old.main)) old reply new
+Step item key_of old (Commands.Along key) reply new =
+    Shows key_of (along key (map.entries old.main)) old reply new
+Step item key_of old (Commands.Longest key) reply new = FindsLongest old key reply new
+Step item key_of old (Commands.Reach key) reply new = Reaches item old key reply new
 Step item key_of old Commands.Clear reply new = Clears old reply new
 
 -- the machine may reply so to the commands in turn, with one reply for each

@@ -2,6 +2,7 @@
 
 ghost use Rattle.std.specs.Prelude.{◌≡◌, ◌≢◌, [], length, IfOk, OnErr, map as list_map};
 ghost use Rattle.std.specs.FinMap as map;
+ghost use Rattle.patricia_tree.specs.Prefixes.{along, under};
 ghost use Rattle.patricia_machine.specs.Machine.{Step, Run, empty_state, rows_of, with_key};
 
 use crate::command::{Command, Reply};
@@ -42,6 +43,41 @@ fn rows<K: Bytes, V: Copy>(
     Ok(rows)
 }
 
+// The rows whose key begins with a prefix, in key order.
+fn rows_under<Q: BorrowedBytes, V: Copy>(
+    alloc: Global,
+    entries: &GenericPatriciaMap<Q::Owned, V>,
+    prefix: Q,
+) -> Result<Vec<(Q::Owned, V)>, AllocError>
+    ensures ok { IfOk result (λ rows.
+        rows_of Q.Owned.key rows.items ≡ under (Q.key prefix) (map.entries entries.now)) }
+    ensures err { OnErr result (under (Q.key prefix) (map.entries entries.now) ≢ []) }
+{
+    let mut rows = Vec::new(alloc);
+    for entry in entries.iter_prefix(prefix) {
+        let (key, value) = entry?;
+        rows.push((key, *value))?;
+    }
+    Ok(rows)
+}
+
+// The rows whose key is a beginning of a key, the shortest first.
+fn rows_along<Q: BorrowedBytes, V: Copy>(
+    alloc: Global,
+    entries: &GenericPatriciaMap<Q::Owned, V>,
+    key: Q,
+) -> Result<Vec<(Q::Owned, V)>, AllocError>
+    ensures ok { IfOk result (λ rows.
+        rows_of Q.Owned.key rows.items ≡ along (Q.key key) (map.entries entries.now)) }
+    ensures err { OnErr result (along (Q.key key) (map.entries entries.now) ≢ []) }
+{
+    let mut rows = Vec::new(alloc);
+    for (prefix, value) in entries.common_prefixes(key) {
+        rows.push((Bytes::from_bytes(alloc, prefix.as_bytes())?, *value))?;
+    }
+    Ok(rows)
+}
+
 impl<K: Bytes, V: Copy> Bench<K, V> {
     /// A bench whose map is empty.
     pub fn new(alloc: Global) -> Self
@@ -77,6 +113,19 @@ impl<K: Bytes, V: Copy> Bench<K, V> {
                 Ok(rows) => Reply::Rows(rows),
                 Err(_) => Reply::NoMemory,
             },
+            Command::Under(prefix) => match rows_under(self.alloc, &self.main, prefix) {
+                Ok(rows) => Reply::Rows(rows),
+                Err(_) => Reply::NoMemory,
+            },
+            Command::Along(key) => match rows_along(self.alloc, &self.main, key) {
+                Ok(rows) => Reply::Rows(rows),
+                Err(_) => Reply::NoMemory,
+            },
+            Command::Longest(key) => match self.main.get_longest_common_prefix(key) {
+                None => Reply::None,
+                Some((prefix, value)) => Reply::Longest(prefix.as_bytes().len(), *value),
+            },
+            Command::Reach(key) => Reply::Count(self.main.longest_common_prefix_len(key)),
             Command::Clear => {
                 self.main.clear();
                 Reply::Done

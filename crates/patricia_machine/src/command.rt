@@ -8,6 +8,10 @@ pub enum Command<Q, V> {
     Remove(Q),
     Len,
     List,
+    Under(Q),
+    Along(Q),
+    Longest(Q),
+    Reach(Q),
     Clear,
 }
 
@@ -16,6 +20,8 @@ pub enum Command<Q, V> {
 pub enum Reply<K, V> {
     None,
     Some(V),
+    /// The length in bytes of a key that is there, and its value.
+    Longest(usize, V),
     Count(usize),
     Rows(Vec<(K, V)>),
     Done,

@@ -1,12 +1,6 @@
 use Rattle.std.proofs.Common.{sym, ◌∙◌}
-use Rattle.std.specs.Prelude.{Result, Ok, Err, OnErr}
-use Rattle.patricia_machine.proofs.RowLemmas.{one_more_row, some_row}
+use Rattle.patricia_machine.proofs.RowLemmas.{OnErr-from, one_more_row, some_row}
 use Rattle.patricia_machine.proofs.bench.rows.Goals as goal
-
--- what holds holds on an error
-OnErr-from : {T E P : Type 0} (r : Result T E) → P → OnErr r P
-OnErr-from (Ok x) p = tt
-OnErr-from (Err e) p = p
 
 pub loop-entry-preserved : goal.loop-entry-preserved
 loop-entry-preserved g c =
