@@ -1,5 +1,6 @@
 pub mod CountLemmas
 pub mod DivideLemmas
+pub mod FilterLemmas
 pub mod GetLemmas
 pub mod InsertLemmas
 pub mod JoinLemmas

@@ -53,7 +53,7 @@ begins_not p k lacks = by (begins p k) refl
     by false e = e
 
 -- a beginning of a key is not above it
-not_above : (q k : List ℕ) → Begins k q → key_cmp q k ≡ Less → ⊥
+pub not_above : (q k : List ℕ) → Begins k q → key_cmp q k ≡ Less → ⊥
 not_above q k b less =
     let turned : key_cmp (k ++ b.0) (k ++ []) ≡ Less = rw (b.1, append-nil) less in
     after b.0 (sym (key_cmp-front k b.0 []) ∙ turned)

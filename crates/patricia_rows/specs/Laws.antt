@@ -1,12 +1,42 @@
 -- What the laws say, each in one sentence.
-use Rattle.std.specs.Prelude.{◌≡◌, ◌↔◌, ℕ, List, Option, take}
+use Rattle.std.specs.Prelude.{◌≡◌, ◌↔◌, ◌≤◌, ℕ, List, Option, Some, length, take, IsTrue}
 use Rattle.std.specs.FinMap as map
-use Rattle.patricia_keys.specs.Keys.{IsCommon, IsFloor, IsSharedLen}
+use Rattle.patricia_keys.specs.Keys.{Begins, IsCommon, IsFloor, IsSharedLen, key_cmp}
 use Rattle.patricia_rows.specs.Points.{Has, AreApart, IsPoint, IsParent, IsVisitCount}
+use Rattle.patricia_rows.specs.Prefixes.{begins, under, along, longest, IsReach}
 use Rattle.patricia_rows.specs.Rows.{Row, entries, keys_of, paths, IsRow, IsRowWithin}
 use Rattle.patricia_rows.specs.Trees.{map_of, IsTree}
 
+-- the test says whether the one byte list begins the other
+abbrev pub TestsBeginnings : Type 0
+TestsBeginnings = (p k : List ℕ) → IsTrue (begins p k) ↔ Begins p k
+
+-- under a prefix are those rows whose key it begins
+abbrev pub UnderIsFiltered : Type 0 → Type 0
+UnderIsFiltered V =
+    (p : List ℕ) (rows : List (List ℕ × V)) (r : List ℕ × V)
+    → Has (under p rows) r ↔ (Has rows r × Begins p r.0)
+
+-- along a key are those rows whose key begins it
+abbrev pub AlongIsFiltered : Type 0 → Type 0
+AlongIsFiltered V =
+    (k : List ℕ) (rows : List (List ℕ × V)) (r : List ℕ × V)
+    → Has (along k rows) r ↔ (Has rows r × Begins r.0 k)
+
+-- the last of the rows along a key has the longest key of them
+abbrev pub LastIsLongest : Type 0 → Type 0
+LastIsLongest V =
+    (m : map.FinMap key_cmp V) (k : List ℕ) (r : List ℕ × V)
+    → longest k (map.entries m) ≡ Some r
+    → Has (along k (map.entries m)) r
+    × ((e : List ℕ × V) → Has (along k (map.entries m)) e → length e.0 ≤ length r.0)
+
 module _ (item : List ℕ → Type 0) where
+  -- there is one reach for a set of keys and a key
+  abbrev pub HasOneReach : Type 0
+  HasOneReach =
+      (S : List (List ℕ)) (q : List ℕ) (n m : ℕ) → IsReach item S q n → IsReach item S q m → n ≡ m
+
   -- the common length of a key and any bytes is the floor of the bytes that they share
   abbrev pub CommonIsFloor : Type 0
   CommonIsFloor =

@@ -1,6 +1,7 @@
 //! Laws that hold for every key kind, as contracts of functions that do nothing.
 ghost use Rattle.std.specs.Prelude.{[]};
 ghost use Rattle.patricia_keys.specs.ByteKind.{IsByteItem};
+ghost use Rattle.patricia_rows.specs.Laws.{TestsBeginnings, UnderIsFiltered, AlongIsFiltered, LastIsLongest, HasOneReach};
 ghost use Rattle.patricia_rows.specs.Laws.{CommonIsFloor, HasOneParent, HasOneVisitCount, HasOneTree, TreeStandsAtPoints, HasOneShape, RowStandsAtPoints};
 ghost use Rattle.patricia_rows.specs.Points.{IsVisitCount};
 ghost use Rattle.patricia_rows.specs.ThreeKeys.{three_keys, baz, foo, aaa};
@@ -40,6 +41,23 @@ pub fn one_visit_count<K: Bytes>()
 /// A point has one parent.
 pub fn one_parent<K: Bytes>()
     ensures { HasOneParent K.item }
+{}
+
+/// There is one reach for a set of keys and a key.
+pub fn one_reach<K: Bytes>()
+    ensures { HasOneReach K.item }
+{}
+
+/// Under a prefix are those rows whose key it begins, and along a key those whose key begins it.
+pub fn prefixes_filter<V>()
+    ensures test { TestsBeginnings }
+    ensures under { UnderIsFiltered V }
+    ensures along { AlongIsFiltered V }
+{}
+
+/// The last of the rows along a key has the longest key of them.
+pub fn last_is_longest<V>()
+    ensures { LastIsLongest V }
 {}
 
 /// How many visits look-ups make with the keys bar, baz and foo.
