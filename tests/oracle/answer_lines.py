@@ -25,8 +25,8 @@ def truth(flag):
     return 'true' if flag else 'false'
 
 
-def listed(m):
-    return ['%s=%d' % (written(k), v) for k, v in rows(m)]
+def row(entry):
+    return '%s=%d' % (written(entry[0]), entry[1])
 
 
 def map_answers(m, call, words):
@@ -52,11 +52,27 @@ def map_answers(m, call, words):
     if call == 'values':
         return [str(v) for _, v in rows(m)]
     if call in ('iter', 'take', 'clear'):
-        answers = listed(m) if call != 'clear' else []
+        answers = [row(e) for e in rows(m)] if call != 'clear' else []
         if call != 'iter':
             m.clear()
         return answers
     return None
+
+
+def prefix_answers(m, kind, call, words):
+    """The answers to a call about beginnings of keys, or None for another call."""
+    if call == 'reach':
+        return [str(max((common(key, k, kind) for k in m), default=0)) for key in words]
+    if call not in ('longest', 'along', 'along_values', 'along_owned', 'under'):
+        return None
+    if call == 'under':
+        return [row(e) for e in rows(m) if e[0].startswith(words[0])]
+    along = [[e for e in rows(m) if key.startswith(e[0])] for key in words]
+    if call == 'longest':
+        return [row(max(es, key=lambda e: len(e[0]))) if es else 'none' for es in along]
+    if call == 'along':
+        return [row(e) for e in along[0]]
+    return [str(value) for _, value in along[0]]
 
 
 def key_answers(kind, call, words):
@@ -90,6 +106,8 @@ def main():
                 continue
             words = [argument(word) for word in rest[1:]]
             answers = map_answers(m, rest[0], words)
+            if answers is None:
+                answers = prefix_answers(m, kind, rest[0], words)
             if answers is None:
                 answers = key_answers(kind, rest[0], words)
             print(line + ': ' + ' '.join(answers))

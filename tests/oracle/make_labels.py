@@ -4,7 +4,7 @@
 
 A label of at most 30 bytes stands in its node, and a longer one in memory of its own. Labels of 1
 to 33 bytes, and of about 255, are linked before, behind and below others, cut, joined again, looked
-up, walked over and taken out. What must be answered is what answer_lines.py says.
+up, walked over, along and under, and taken out. What must be answered is what answer_lines.py says.
 """
 LENGTHS = [*range(1, 34), *range(254, 258)]
 # a front or a rest of so many bytes is cut off a label of about 255
@@ -30,6 +30,18 @@ def key(items):
     return ''.join(items)
 
 
+def asked(prefixes, keys):
+    """What is under prefixes, how far the keys of the map go with keys, and what begins these."""
+    return [
+        *('under %s' % prefix for prefix in prefixes),
+        'reach %s' % ' '.join(keys),
+        'longest %s' % ' '.join(keys),
+        'along %s' % keys[-1],
+        'along_values %s' % keys[-1],
+        'along_owned %s' % keys[-1],
+    ]
+
+
 def linked(items):
     """Leaves of one length before, behind and below another, which is then joined with the last."""
     whole, last = key(items), key(items[:-1])
@@ -41,7 +53,9 @@ def linked(items):
         'insert %s 4' % below,
         'get %s' % ' '.join([whole, behind, before, below, last + '*1', whole + 'x', below + 'x']),
         'iter',
+        *asked([whole, before, below, below + 'x'], [last + '*1', behind + 'x', below + 'x']),
         'remove %s' % whole,
+        *asked([whole], [whole, below]),
         'get %s' % ' '.join([whole, below]),
         'keys',
         'remove %s' % before,
@@ -54,19 +68,24 @@ def cut(items, at):
     whole, front, rest = key(items), key(items[:at]), items[at:]
     branch = front + greater(rest[0])
     before = front + key([lesser(rest[0]), *rest])
-    near = ' '.join([whole, front, branch, before, whole + 'x', front + key(rest[:-1]) + 'x'])
+    beside = front + key(rest[:-1]) + 'x'
+    keys = [whole, front, branch, before, beside, whole + 'x']
+    near = ' '.join(keys)
     return [
         'insert %s 1' % whole,
+        *asked([front, branch, beside, whole + 'x'], [branch, front]),
         'insert %s 2' % branch,
         'contains %s' % near,
         'insert %s 3' % before,
         'iter',
+        *asked([front, before], keys),
         'remove %s' % before,
         'remove %s' % branch,
         'get %s' % near,
         'iter',
         'insert %s 4' % front,
         'get %s' % near,
+        *asked([front, beside], keys),
         'values',
         'remove %s' % front,
         'get %s' % near,

@@ -7,6 +7,7 @@
 
 mod key_calls;
 mod map_calls;
+mod prefix_calls;
 mod words;
 
 use patricia_tree::GenericPatriciaMap;
@@ -20,7 +21,10 @@ fn answers<'a, Q: Readable<'a>>(
     map: &mut GenericPatriciaMap<Q::Owned, u64>,
     call: &'a Call<'_>,
 ) -> Result<Vec<String>, AllocError> {
-    match map_calls::answers::<Q>(alloc, map, call.name, &call.arguments)? {
+    if let Some(answers) = map_calls::answers::<Q>(alloc, map, call.name, &call.arguments)? {
+        return Ok(answers);
+    }
+    match prefix_calls::answers::<Q>(alloc, map, call.name, &call.arguments)? {
         Some(answers) => Ok(answers),
         None => key_calls::answers::<Q>(alloc, call.name, &call.arguments),
     }

@@ -96,17 +96,11 @@ fn removed<'a, Q: Readable<'a>>(
     Ok(answers)
 }
 
-// An entry, as its key and its value.
-fn row(alloc: Global, key: &[u8], value: u64) -> Result<String, AllocError> {
-    let key = words::written(alloc, key)?;
-    format!(in alloc; "{key}={value}")
-}
-
 fn rows<K: Bytes>(alloc: Global, map: &Map<K>) -> Result<Vec<String>, AllocError> {
     let mut answers = Vec::new(alloc);
     for entry in map {
         let (key, value) = entry?;
-        answers.push(row(alloc, key.as_bytes(), *value)?)?;
+        answers.push(words::row(alloc, key.as_bytes(), *value)?)?;
     }
     Ok(answers)
 }
@@ -131,7 +125,7 @@ fn taken<K: Bytes>(alloc: Global, map: Map<K>) -> Result<Vec<String>, AllocError
     let mut answers = Vec::new(alloc);
     for entry in map {
         let (key, value) = entry?;
-        answers.push(row(alloc, key.as_bytes(), value)?)?;
+        answers.push(words::row(alloc, key.as_bytes(), value)?)?;
     }
     Ok(answers)
 }

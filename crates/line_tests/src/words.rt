@@ -116,6 +116,12 @@ pub fn written(alloc: Global, bytes: &[u8]) -> Result<String, AllocError> {
     Ok(text)
 }
 
+/// An entry, as its key and its value.
+pub fn row(alloc: Global, key: &[u8], value: u64) -> Result<String, AllocError> {
+    let key = written(alloc, key)?;
+    format!(in alloc; "{key}={value}")
+}
+
 /// A value, or `none`.
 pub fn value_or_none(alloc: Global, value: Option<u64>) -> Result<String, AllocError> {
     match value {
