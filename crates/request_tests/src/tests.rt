@@ -3,5 +3,6 @@
 mod helpers;
 mod keys;
 mod maps;
+mod prefixes;
 mod removals;
 mod walks;
