@@ -30,7 +30,7 @@ def main(folder):
     for kind in 'bytes', 'text':
         for shape in SHAPES:
             path = os.path.join(folder, '%s_%s' % (kind, shape))
-            write(path + '.in', script(rng, kind, shape, 100 if shape == 'long' else 300))
+            write(path + '.in', script(rng, kind, shape, 130 if shape == 'long' else 400))
             if kind != 'bytes':
                 write(path + '.args', kind.encode() + b'\n')
     for name in sorted(os.listdir(folder)):

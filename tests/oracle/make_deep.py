@@ -3,9 +3,10 @@
     python3 -B tests/oracle/make_deep.py FOLDER
 
 bytes.in has 8,000 keys, each a beginning of the next, and text.in 30,000 keys of one character.
-They are put in from the last to the first, listed, and taken out, the byte keys from the longest,
-so that each removal goes down to the last node, and the texts from the least. Then they are put in
-again, and dropped at the end. Each NAME.out is the answer by model.py.
+They are put in from the last to the first, looked up, asked for what is under and along the last,
+listed, and taken out, the byte keys from the longest, so that each removal goes down to the last
+node, and the texts from the least. Then they are put in again, and dropped at the end. Each
+NAME.out is the answer by model.py.
 """
 import os
 import sys
@@ -18,9 +19,12 @@ CHARACTERS = [chr(0x4E00 + n).encode() for n in range(30000)]
 
 def script(keys, removals):
     inserts = [b'insert\t%s\t%d' % (key, n) for n, key in reversed(list(enumerate(keys)))]
-    look_ups = [b'get\t' + key for key in (keys[0], keys[-1], keys[-1] + keys[0])]
+    past = keys[-1] + keys[0]
+    look_ups = [b'get\t' + key for key in (keys[0], keys[-1], past)]
+    queries = [b'longest\t' + past, b'reach\t' + past, b'under\t' + keys[-1], b'along\t' + past]
     removes = [b'remove\t' + key for key in removals]
-    lines = [*inserts, *look_ups, b'len', b'list', *removes, b'len', b'list', *inserts, b'len']
+    asked = [*look_ups, *queries, b'len', b'list']
+    lines = [*inserts, *asked, *removes, b'len', b'list', *inserts, b'len']
     return b''.join(line + b'\n' for line in lines)
 
 

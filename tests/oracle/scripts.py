@@ -40,12 +40,15 @@ def key_maker(rng, kind, shape):
 
 
 SHAPES = 'short', 'shared', 'wide', 'nested', 'long', 'numbers'
-WEIGHTS = {b'insert': 40, b'remove': 16, b'get': 8, b'len': 2, b'list': 2, b'clear': .2}
-FIELDS = {b'insert': 2, b'remove': 1, b'get': 1, b'len': 0, b'list': 0, b'clear': 0}
+WEIGHTS = {b'insert': 40, b'remove': 16, b'get': 8, b'len': 2, b'list': 2, b'clear': .2,
+           b'under': 5, b'along': 5, b'longest': 6, b'reach': 6}
+FIELDS = {b'insert': 2, b'remove': 1, b'get': 1, b'len': 0, b'list': 0, b'clear': 0,
+          b'under': 1, b'along': 1, b'longest': 1, b'reach': 1}
 NUMBERS = [b'0', b'1', b'007', b'18446744073709551615', b'00018446744073709551615']
 FAULTY = [b'', b'put\ta', b'get', b'len\t', b'insert\ta', b'insert\ta\t', b'insert\ta\tx',
           b'insert\ta\t-1', b'insert\ta\t18446744073709551616', b'get\ta\tb', b'Get\ta',
-          b'insert\ta\t+1', b'insert\ta\t1 ', b' len', b'len\r', b'insert\ta\t1\t', b'\t']
+          b'insert\ta\t+1', b'insert\ta\t1 ', b' len', b'len\r', b'insert\ta\t1\t', b'\t',
+          b'under', b'along\ta\tb', b'longest', b'reach\ta\t', b'Reach\ta', b'unde\ta']
 
 
 def near_key(rng, known, make, inserts):
