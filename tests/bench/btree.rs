@@ -1,6 +1,7 @@
 //! btree [times]: what `tree_bench` does, over std's ordered map. Its walk lends the keys.
 
 use std::collections::BTreeMap;
+use std::ops::Bound;
 use std::io::Read;
 use std::time::Instant;
 
@@ -26,6 +27,33 @@ fn walked(map: &Map) -> u64 {
 
 fn summed(map: &Map) -> u64 {
     map.values().sum()
+}
+
+// The entries under the first half of each key.
+fn under(map: &Map, keys: &[&[u8]]) -> u64 {
+    let mut entries = 0;
+    for key in keys {
+        let prefix = &key[..key.len() / 2];
+        let from = (Bound::Included(prefix), Bound::Unbounded);
+        let rows = map.range::<[u8], _>(from).take_while(|(key, _)| key.starts_with(prefix));
+        for (key, _) in rows {
+            // the map answers a key of its own, too
+            drop(key.clone());
+            entries += 1;
+        }
+    }
+    entries
+}
+
+// The lengths of the longest keys that begin each key: each beginning is looked up.
+fn longest(map: &Map, keys: &[&[u8]]) -> u64 {
+    let mut bytes = 0;
+    for key in keys {
+        if let Some(len) = (0..=key.len()).rev().find(|len| map.contains_key(&key[..*len])) {
+            bytes += len as u64;
+        }
+    }
+    bytes
 }
 
 fn taken(map: &mut Map, keys: &[&[u8]]) -> u64 {
@@ -89,6 +117,10 @@ fn measure(times: bool, present: &mut [&[u8]], absent: &[&[u8]]) {
     report(times, "walk", start, map.len(), walked(&map));
     let start = Instant::now();
     report(times, "values", start, map.len(), summed(&map));
+    let start = Instant::now();
+    report(times, "under", start, absent.len(), under(&map, absent));
+    let start = Instant::now();
+    report(times, "longest", start, absent.len(), longest(&map, absent));
     let start = Instant::now();
     report(times, "remove", start, present.len(), taken(&mut map, present));
 

@@ -60,6 +60,29 @@ fn summed(map: &PatriciaMap<u64>) -> Result<u64, AllocError> {
     Ok(sum)
 }
 
+// Counts the entries under the first half of each key.
+fn under(map: &PatriciaMap<u64>, keys: &[&[u8]]) -> Result<u64, AllocError> {
+    let mut entries: u64 = 0;
+    for key in keys {
+        for entry in map.iter_prefix(&key[..key.len() / 2]) {
+            let _ = entry?;
+            entries = entries.wrapping_add(1);
+        }
+    }
+    Ok(entries)
+}
+
+// Adds the lengths of the longest keys that begin each key.
+fn longest(map: &PatriciaMap<u64>, keys: &[&[u8]]) -> u64 {
+    let mut bytes: u64 = 0;
+    for key in keys {
+        if let Some((prefix, _)) = map.get_longest_common_prefix(*key) {
+            bytes = bytes.wrapping_add(prefix.len() as u64);
+        }
+    }
+    bytes
+}
+
 // Takes each key out, and counts those that were there.
 fn taken(map: &mut PatriciaMap<u64>, keys: &[&[u8]]) -> Result<u64, AllocError> {
     let mut taken: u64 = 0;
@@ -122,6 +145,20 @@ fn time_walks(rt: &(impl Clock + Print), times: bool, map: &PatriciaMap<u64>) ->
     report(rt, times, "values", start, map.len(), sum)
 }
 
+fn time_prefixes(
+    rt: &(impl Clock + Print),
+    times: bool,
+    map: &PatriciaMap<u64>,
+    keys: &[&[u8]],
+) -> io::Result<()> {
+    let start = Instant::now(rt)?;
+    let entries = under(map, keys)?;
+    report(rt, times, "under", start, keys.len(), entries)?;
+    let start = Instant::now(rt)?;
+    let bytes = longest(map, keys);
+    report(rt, times, "longest", start, keys.len(), bytes)
+}
+
 fn time_removes(
     rt: &(impl Clock + Print),
     times: bool,
@@ -149,6 +186,7 @@ fn measure(
     time_gets(rt, times, "get", &map, present)?;
     time_gets(rt, times, "get_absent", &map, absent)?;
     time_walks(rt, times, &map)?;
+    time_prefixes(rt, times, &map, absent)?;
     time_removes(rt, times, &mut map, present)?;
     Ok((
         after.saturating_sub(before) / keys,
