@@ -117,10 +117,11 @@ fn measure(times: bool, present: &mut [&[u8]], absent: &[&[u8]]) {
     report(times, "walk", start, map.len(), walked(&map));
     let start = Instant::now();
     report(times, "values", start, map.len(), summed(&map));
+    let some = &absent[..absent.len().min(100_000)];
     let start = Instant::now();
-    report(times, "under", start, absent.len(), under(&map, absent));
+    report(times, "under", start, some.len(), under(&map, some));
     let start = Instant::now();
-    report(times, "longest", start, absent.len(), longest(&map, absent));
+    report(times, "longest", start, some.len(), longest(&map, some));
     let start = Instant::now();
     report(times, "remove", start, present.len(), taken(&mut map, present));
 
