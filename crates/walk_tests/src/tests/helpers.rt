@@ -63,6 +63,30 @@ pub fn walk_entries<Q: BorrowedBytes>(
     ended(Walked::Whole, walk.next().is_none())
 }
 
+// Compares a walk under a prefix with those of the entries whose keys begin with it.
+pub fn walk_under<Q: BorrowedBytes>(
+    map: &GenericPatriciaMap<Q::Owned, u32>,
+    prefix: Q,
+    rows: &[(Q, u32)],
+) -> Walked {
+    let mut walk = map.iter_prefix(prefix);
+    for (key, value) in rows {
+        if !key.as_bytes().starts_with(prefix.as_bytes()) {
+            continue;
+        }
+        match walk.next() {
+            Some(Ok((found, at))) => {
+                if found.as_bytes() != key.as_bytes() || *at != *value {
+                    return Walked::Wrong;
+                }
+            }
+            Some(Err(_)) => return ended(Walked::Refused, walk.next().is_none()),
+            None => return Walked::Wrong,
+        }
+    }
+    ended(Walked::Whole, walk.next().is_none())
+}
+
 pub fn walk_keys<Q: BorrowedBytes>(
     map: &GenericPatriciaMap<Q::Owned, u32>,
     rows: &[(Q, u32)],

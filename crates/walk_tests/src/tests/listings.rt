@@ -2,9 +2,10 @@
 ghost use Rattle.std.specs.Prelude.{◌≡◌, IfOk, map as each};
 ghost use Rattle.std.specs.FinMap as map;
 ghost use Rattle.std.specs.Vec.Iter.{into_iter_items};
+ghost use Rattle.patricia_tree.specs.Prefixes.{along, under};
 
 use super::helpers::map_of;
-use patricia_tree::{Bytes, GenericPatriciaMap};
+use patricia_tree::{BorrowedBytes, Bytes, GenericPatriciaMap};
 use std::alloc::{AllocError, Global};
 use std::test::Fail;
 
@@ -65,6 +66,48 @@ fn taken<K: Bytes, V: Drop>(
     Ok(list)
 }
 
+// Every entry along a key.
+fn listed_along<Q: BorrowedBytes, V: Copy + Drop>(
+    alloc: Global,
+    tree: &GenericPatriciaMap<Q::Owned, V>,
+    key: Q,
+) -> Result<Vec<(Q, V)>, AllocError>
+    ensures { IfOk result (λ list. each (λ e. (Q.key e.0, e.1)) list.items ≡ along (Q.key key) (map.entries tree.now)) }
+{
+    let mut list = Vec::new(alloc);
+    for item in tree.common_prefixes(key) {
+        list.push((item.0, *item.1))?;
+    }
+    Ok(list)
+}
+
+// Every value along a key, by an adapter.
+fn mapped_along<Q: BorrowedBytes, V: Copy + Drop>(
+    alloc: Global,
+    tree: &GenericPatriciaMap<Q::Owned, V>,
+    key: Q,
+) -> Result<Vec<V>, AllocError> {
+    tree.common_prefixes(key)
+        .map(|entry| *entry.1)
+        .collect(alloc)
+}
+
+// Every entry under a prefix.
+fn listed_under<Q: BorrowedBytes, V: Copy + Drop>(
+    alloc: Global,
+    tree: &GenericPatriciaMap<Q::Owned, V>,
+    prefix: Q,
+) -> Result<Vec<(Q::Owned, V)>, AllocError>
+    ensures { IfOk result (λ list. each (λ e. (Q.Owned.key e.0, e.1)) list.items ≡ under (Q.key prefix) (map.entries tree.now)) }
+{
+    let mut list = Vec::new(alloc);
+    for item in tree.iter_prefix(prefix) {
+        let (key, value) = item?;
+        list.push((key, *value))?;
+    }
+    Ok(list)
+}
+
 #[test]
 fn lists_four(rt: HostRuntime) -> Result<(), Fail> {
     let rows = [
@@ -78,6 +121,13 @@ fn lists_four(rt: HostRuntime) -> Result<(), Fail> {
     assert!(rt; values.as_slice() == [9, 8, 2, 1].as_slice());
     assert_eq!(rt; listed_keys(rt.alloc(), &tree)?.len(), 4);
     assert_eq!(rt; listed(rt.alloc(), &tree)?.len(), 4);
+    assert_eq!(rt;
+        listed_along(rt.alloc(), &tree, b"bars".as_slice())?.len(),
+        3
+    );
+    let values = mapped_along(rt.alloc(), &tree, b"bars".as_slice())?;
+    assert!(rt; values.as_slice() == [9, 8, 2].as_slice());
+    assert_eq!(rt; listed_under(rt.alloc(), &tree, b"b".as_slice())?.len(), 2);
     assert_eq!(rt; taken(rt.alloc(), tree)?.len(), 4);
     Ok(())
 }

@@ -1,6 +1,7 @@
 // Walks of which one is refused: it ends there, and the next gives everything. `.ci/run` runs this
 // test with the Nth memory request refused, for each N.
-use super::helpers::{Walked, map_of, walk_entries, walk_keys, walk_out, walk_values};
+use super::helpers::{Walked, map_of, walk_entries, walk_keys, walk_out, walk_under, walk_values};
+use patricia_tree::{BorrowedBytes, GenericPatriciaMap};
 use std::test::Fail;
 
 // Of two walks one may be refused.
@@ -8,6 +9,23 @@ fn fit(first: Walked, second: Walked) -> bool {
     first != Walked::Wrong
         && second != Walked::Wrong
         && (first == Walked::Whole || second == Walked::Whole)
+}
+
+// Of two walks under each prefix one may be refused.
+fn fit_under<Q: BorrowedBytes>(
+    map: &GenericPatriciaMap<Q::Owned, u32>,
+    prefixes: &[Q],
+    rows: &[(Q, u32)],
+) -> bool {
+    for prefix in prefixes {
+        if !fit(
+            walk_under(map, *prefix, rows),
+            walk_under(map, *prefix, rows),
+        ) {
+            return false;
+        }
+    }
+    true
 }
 
 // Keys of labels of at most 30 bytes and of more, and some that begin the next.
@@ -34,12 +52,28 @@ const ROWS: [(&[u8], u32); 14] = [
     (b"zebra", 14),
 ];
 
+// The empty one, one at a node without value and one at a node with one, two that end inside a
+// label of at most 30 bytes and inside a longer one, two below a long label, and two with nothing
+// under them.
+const PREFIXES: [&[u8]; 9] = [
+    b"",
+    b"ba",
+    b"bar",
+    b"baza",
+    b"foo foo f",
+    b"foo foo foo foo foo foo foo foo foo baz baz",
+    b"foo foo foo foo foo foo foo foo foo ba",
+    b"foo foo bar",
+    b"zebras",
+];
+
 #[test]
 fn walks_refused_in_turn(rt: HostRuntime) -> Result<(), Fail> {
     let tree = map_of(rt.alloc(), &ROWS)?;
     assert!(rt; fit(walk_entries(&tree, &ROWS), walk_entries(&tree, &ROWS)));
     assert!(rt; fit(walk_keys(&tree, &ROWS), walk_keys(&tree, &ROWS)));
     assert!(rt; fit(walk_values(&tree, &ROWS), walk_values(&tree, &ROWS)));
+    assert!(rt; fit_under(&tree, &PREFIXES, &ROWS));
     let again = map_of(rt.alloc(), &ROWS)?;
     assert!(rt; fit(walk_out(tree, &ROWS), walk_out(again, &ROWS)));
     Ok(())
