@@ -75,11 +75,48 @@ fn removes_lists_and_clears(rt: HostRuntime) -> Result<(), AllocError> {
 }
 
 #[test]
+fn prefix_queries(rt: HostRuntime) -> Result<(), AllocError> {
+    let cases = [
+        (
+            "insert\ta\t1\ninsert\tab\t2\nalong\tabc\nlongest\tabc\nreach\tacb\n",
+            "none\nnone\nrows 2\na 1\nab 2\nsome 2 2\ncount 1\n",
+        ),
+        (
+            "insert\tab\t1\ninsert\tb\t2\nunder\ta\nunder\tb\nunder\tabc\nunder\t\n",
+            "none\nnone\nrows 1\nab 1\nrows 1\nb 2\nrows 0\nrows 2\nab 1\nb 2\n",
+        ),
+        (
+            "insert\t\t5\ninsert\ta\t6\nalong\t\nalong\tab\nlongest\t\nlongest\tb\nreach\t\n",
+            "none\nnone\nrows 1\n 5\nrows 2\n 5\na 6\nsome 0 5\nsome 0 5\ncount 0\n",
+        ),
+        (
+            "longest\ta\nreach\ta\nalong\t\nunder\t\ninsert\tb\t7\nlongest\ta\nlongest\tb\n",
+            "none\ncount 0\nrows 0\nrows 0\nnone\nnone\nsome 1 7\n",
+        ),
+        (
+            "under\nalong\ta\tb\nReach\ta\nlongest\nreach\t\t\nalong \n",
+            "fault 2\nfault 2\nfault 1\nfault 2\nfault 2\nfault 1\n",
+        ),
+    ];
+    check_all(&rt, rt.alloc(), &cases)
+}
+
+#[test]
 fn text_keys(rt: HostRuntime) -> Result<(), AllocError> {
     let alloc = rt.alloc();
     let input = "insert\t🌏🗻\t1\ninsert\t🌏🍔\t2\nlist\n";
     let answer = answer_text(alloc, input.as_bytes())?;
     check(&rt, &answer, "none\nnone\nrows 2\n🌏🍔 2\n🌏🗻 1\n");
+    Ok(())
+}
+
+// A character is shared as a whole, and a byte by itself.
+#[test]
+fn reach_of_items(rt: HostRuntime) -> Result<(), AllocError> {
+    let alloc = rt.alloc();
+    let input = "insert\t🌏🗻\t1\ninsert\t🌏🍔\t2\nreach\t🌏🗾\n".as_bytes();
+    check(&rt, &answer_text(alloc, input)?, "none\nnone\ncount 4\n");
+    check(&rt, &answer_bytes(alloc, input)?, "none\nnone\ncount 7\n");
     Ok(())
 }
 
@@ -97,6 +134,24 @@ fn keys_cut_short(rt: HostRuntime) -> Result<(), AllocError> {
         &rt,
         &answer_bytes(alloc, input)?,
         "none\nfault 3\nnone\nfault 2\n",
+    );
+    Ok(())
+}
+
+#[test]
+fn queries_cut_short(rt: HostRuntime) -> Result<(), AllocError> {
+    let alloc = rt.alloc();
+    let input =
+        b"under\t\xf0\nalong\t\xf0\x9f\nlongest\t\xf0\nreach\t\xf0\nreach\t\xf0\tb\n".as_slice();
+    check(
+        &rt,
+        &answer_text(alloc, input)?,
+        "fault 4\nfault 4\nfault 4\nfault 4\nfault 2\n",
+    );
+    check(
+        &rt,
+        &answer_bytes(alloc, input)?,
+        "rows 0\nrows 0\nnone\ncount 0\nfault 2\n",
     );
     Ok(())
 }
@@ -187,6 +242,39 @@ fn joins(alloc: Global, stored: &Stored, key: &'static [u8]) -> Result<bool, All
     Ok(false)
 }
 
+// The rows that a command lists.
+fn listed(
+    alloc: Global,
+    stored: &Stored,
+    command: Command<&'static [u8], u64>,
+) -> Result<Vec<(&'static [u8], u64)>, AllocError> {
+    let mut rows = Vec::new(alloc);
+    for (key, value) in stored {
+        let is_listed = match command {
+            Command::List => true,
+            Command::Under(prefix) => key.starts_with(prefix),
+            Command::Along(whole) => whole.starts_with(key),
+            _ => false,
+        };
+        if is_listed {
+            rows.push((*key, *value))?;
+        }
+    }
+    Ok(rows)
+}
+
+// How many bytes of a key begin one of those stored.
+fn reach(stored: &Stored, key: &[u8]) -> usize {
+    let mut reached = 0;
+    for n in 1..=key.len() {
+        let prefix = key.get(..n).unwrap_or(key);
+        if stored.keys().any(|k| k.starts_with(prefix)) {
+            reached = n;
+        }
+    }
+    reached
+}
+
 // Whether a command may find no memory.
 fn may_be_refused(
     alloc: Global,
@@ -196,8 +284,11 @@ fn may_be_refused(
     match command {
         Command::Insert(key, _) => Ok(!key.is_empty() && !stored.contains_key(&key)),
         Command::Remove(key) => joins(alloc, stored, key),
-        Command::List => Ok(!stored.is_empty()),
-        Command::Get(_) | Command::Len | Command::Clear => Ok(false),
+        Command::List | Command::Under(_) | Command::Along(_) => {
+            Ok(!listed(alloc, stored, command)?.is_empty())
+        }
+        Command::Get(_) | Command::Longest(_) | Command::Reach(_) | Command::Len | Command::Clear =>
+            Ok(false),
     }
 }
 
@@ -209,14 +300,22 @@ fn value_line(alloc: Global, found: Option<u64>) -> Result<String, AllocError> {
     }
 }
 
-// What a plain run writes for its rows; the keys are text.
-fn list_lines(alloc: Global, stored: &Stored) -> Result<String, AllocError> {
-    let mut lines = format!(in alloc; "rows {}\n", stored.len())?;
-    for (key, value) in stored {
+// What a plain run writes for rows; the keys are text.
+fn row_lines(alloc: Global, rows: &[(&'static [u8], u64)]) -> Result<String, AllocError> {
+    let mut lines = format!(in alloc; "rows {}\n", rows.len())?;
+    for (key, value) in rows {
         let key = str::from_utf8(key).unwrap_or("?");
         lines.push_str(&format!(in alloc; "{key} {value}\n")?)?;
     }
     Ok(lines)
+}
+
+// What a plain run writes of the longest of the rows along a key.
+fn longest_line(alloc: Global, rows: &[(&'static [u8], u64)]) -> Result<String, AllocError> {
+    match rows.last() {
+        None => String::from_str(alloc, "none\n"),
+        Some((key, value)) => format!(in alloc; "some {} {value}\n", key.len()),
+    }
 }
 
 // Does a command in a plain run, and gives the lines that it writes.
@@ -230,7 +329,13 @@ fn plain_lines(
         Command::Get(key) => value_line(alloc, stored.get(&key).copied()),
         Command::Remove(key) => value_line(alloc, stored.remove(&key)),
         Command::Len => format!(in alloc; "count {}\n", stored.len()),
-        Command::List => list_lines(alloc, stored),
+        Command::List | Command::Under(_) | Command::Along(_) => {
+            row_lines(alloc, &listed(alloc, stored, command)?)
+        }
+        Command::Longest(key) => {
+            longest_line(alloc, &listed(alloc, stored, Command::Along(key))?)
+        }
+        Command::Reach(key) => format!(in alloc; "count {}\n", reach(stored, key)),
         Command::Clear => {
             stored.clear();
             String::from_str(alloc, "ok\n")
@@ -286,10 +391,8 @@ fn check_refused(
     Ok(())
 }
 
-// With one memory request refused, an answer is an error or an output that a plain run allows.
-// `.ci/run` runs this with the Nth request refused, for each N.
-#[test]
-fn refused_in_turn(rt: HostRuntime) -> Result<(), AllocError> {
+// What changes the map, and its list.
+fn check_changes_refused(rt: &impl Abort, alloc: Global) -> Result<(), AllocError> {
     let input = "insert\t\t1\ninsert\tab\t2\ninsert\tac\t3\ninsert\tab\t4\nget\tac\nlist\n\
         remove\tab\nlen\nlist\nremove\t\nclear\nlist\n";
     let commands = [
@@ -306,5 +409,36 @@ fn refused_in_turn(rt: HostRuntime) -> Result<(), AllocError> {
         Command::Clear,
         Command::List,
     ];
-    check_refused(&rt, rt.alloc(), input.as_bytes(), &commands)
+    check_refused(rt, alloc, input.as_bytes(), &commands)
+}
+
+// Questions about prefixes, some of which find no row.
+fn check_queries_refused(rt: &impl Abort, alloc: Global) -> Result<(), AllocError> {
+    let input = "under\t\ninsert\ta\t1\ninsert\tabc\t2\nunder\ta\nunder\tb\nalong\tb\n\
+        along\tabcd\nlongest\tab\nlongest\tb\nreach\tabd\nreach\tb\nclear\nalong\ta\n";
+    let commands = [
+        Command::Under(b"".as_slice()),
+        Command::Insert(b"a".as_slice(), 1),
+        Command::Insert(b"abc".as_slice(), 2),
+        Command::Under(b"a".as_slice()),
+        Command::Under(b"b".as_slice()),
+        Command::Along(b"b".as_slice()),
+        Command::Along(b"abcd".as_slice()),
+        Command::Longest(b"ab".as_slice()),
+        Command::Longest(b"b".as_slice()),
+        Command::Reach(b"abd".as_slice()),
+        Command::Reach(b"b".as_slice()),
+        Command::Clear,
+        Command::Along(b"a".as_slice()),
+    ];
+    check_refused(rt, alloc, input.as_bytes(), &commands)
+}
+
+// With one memory request refused, an answer is an error or an output that a plain run allows.
+// `.ci/run` runs this with the Nth request refused, for each N.
+#[test]
+fn refused_in_turn(rt: HostRuntime) -> Result<(), AllocError> {
+    let alloc = rt.alloc();
+    check_changes_refused(&rt, alloc)?;
+    check_queries_refused(&rt, alloc)
 }

@@ -19,7 +19,9 @@ fn check_numbers<K: Bytes, Q: BorrowedBytes<Owned = K>>(
     for reply in run(&mut bench, commands)? {
         numbers.push(match reply {
             Reply::Some(value) => Some(value),
+            Reply::Longest(_, value) => Some(value),
             Reply::Count(count) => u32::try_from(count).ok(),
+            Reply::Rows(rows) => u32::try_from(rows.len()).ok(),
             _ => None,
         })?;
     }
@@ -28,17 +30,31 @@ fn check_numbers<K: Bytes, Q: BorrowedBytes<Owned = K>>(
 }
 
 // Two inserts of a key, and what is then there.
-fn commands<Q: Copy>(key: Q, beginning: Q) -> [Command<Q, u32>; 5] {
+fn commands<Q: Copy>(key: Q, beginning: Q) -> [Command<Q, u32>; 9] {
     [
         Command::Insert(key, 1),
         Command::Insert(key, 2),
         Command::Get(key),
         Command::Get(beginning),
         Command::Len,
+        Command::Under(beginning),
+        Command::Along(beginning),
+        Command::Longest(key),
+        Command::Reach(beginning),
     ]
 }
 
-const NUMBERS: [Option<u32>; 5] = [None, Some(1), Some(2), None, Some(1)];
+const NUMBERS: [Option<u32>; 9] = [
+    None,
+    Some(1),
+    Some(2),
+    None,
+    Some(1),
+    Some(1),
+    Some(0),
+    Some(2),
+    Some(2),
+];
 
 #[test]
 fn runs_over_texts(rt: HostRuntime) -> Result<(), Fail> {
