@@ -56,8 +56,7 @@ module _ (item : List ℕ → Type 0) (kind : IsKeyKind item) {V : Type 0} where
   reaches-fill (InChild id l v d ∷ fs) q ok key rest (before, passes, filled, leads) =
       let o = reaches-fill fs (Cell id l v q d) ok key before leads in
       let inner = row-within item fs (Cell id l v q d) ok in
-      let long = ap length (sym passes.splits) ∙ length-append l rest in
-      (
+      let long = ap length (sym passes.splits) ∙ length-append l rest in (
         o.0 + length l,
         omega (arith, o.1, long),
         λ n r. subst (Reaches item (keys_of (entries (row (fill fs (Cell id l v q d))))) key) (omega arith) (o.2 (length l + n) (reaches_through item kind l v (row q) (row d) inner before rest passes n (reaches_own item rest v (entries (row q)) n r))),

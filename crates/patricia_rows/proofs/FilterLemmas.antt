@@ -1,16 +1,15 @@
 -- Which rows are under a prefix and along a key, and which of them is the longest.
-use Rattle.std.proofs.Common.{◌≡◌, ℕ, ◌<◌, ◌≤◌, ◌⊎◌, inl, inr, Bool, true, false, T, ◌&&◌, cond, List, [], ◌∷◌, length, Option, None, Some, refl, sym, ap, subst, ◌∙◌, arith}
+use Rattle.std.proofs.Common.{◌≡◌, ℕ, ◌≤◌, ◌⊎◌, inl, inr, Bool, true, false, T, ◌&&◌, cond, List, [], ◌∷◌, length, Option, None, Some, refl, sym, ap, subst, ◌∙◌, arith}
 use Rattle.std.specs.Prelude.{◌↔◌, filter}
 use Rattle.std.specs.List.{last_or}
 use Rattle.std.specs.declared.cmp.Ordering.{Ordering}
 use Rattle.std.specs.declared.cmp.Ordering.TheVariants.{Less, Equal, Greater}
 use Rattle.std.specs.Ordering.{is_lt}
-use Rattle.std.specs.FinMap.{FinMap, is_sorted}
+use Rattle.std.specs.FinMap.{is_sorted}
 use Rattle.std.specs.FinMap.Entries.{below_all}
-use Rattle.std.proofs.lemmas.Bool.{cases_lt}
 use Rattle.std.proofs.lemmas.List.{length-append}
-use Rattle.patricia_keys.specs.Keys.{Begins, IsCommon, key_cmp}
-use Rattle.patricia_keys.proofs.KeyLemmas.{begins_either, IsCommon-unique}
+use Rattle.patricia_keys.specs.Keys.{Begins, key_cmp}
+use Rattle.patricia_keys.proofs.KeyLemmas.{begins_either}
 use Rattle.patricia_rows.specs.Points.{Has}
 use Rattle.patricia_rows.specs.Prefixes.{begins, under, along, longest, IsReach}
 use Rattle.patricia_rows.proofs.PrefixLemmas.{begins_is, begins_from, begins_other, not_above}
@@ -108,8 +107,7 @@ module _ {V : Type 0} where
   pub longest_last : (es : List (List ℕ × V)) → T (is_sorted key_cmp es) → (k : List ℕ) (r : List ℕ × V) → longest k es ≡ Some r
       → Has (along k es) r × ((e : List ℕ × V) → Has (along k es) e → length e.0 ≤ length r.0)
   longest_last es sorted k r e =
-      let found = last_is k None es r sorted (λ x none. absurd (cc)) e in
-      (
+      let found = last_is k None es r sorted (λ x none. absurd (cc)) e in (
         elim found.has [ inl h ↦ (along_has k es r).1 (h, found.begun) | inr none ↦ absurd (cc) ],
         λ x h. let is = (along_has k es x).0 h in found.longest_is x is.0 is.1,
       )

@@ -1,5 +1,5 @@
 -- Rows under a prefix and along a key, where the rows are made of others.
-use Rattle.std.proofs.Common.{◌≡◌, ◌≢◌, ℕ, suc, ◌⊎◌, inl, inr, Bool, true, false, ◌&&◌, cond, List, [], ◌∷◌, ◌++◌, Option, None, Some, length, refl, sym, ap, subst, ◌∙◌}
+use Rattle.std.proofs.Common.{◌≡◌, ◌≢◌, ℕ, inl, inr, Bool, true, false, ◌&&◌, cond, List, [], ◌∷◌, ◌++◌, Option, None, Some, refl, sym, ap, subst, ◌∙◌}
 use Rattle.std.specs.Prelude.{filter, nat_eq, IfSome}
 use Rattle.std.specs.Option.{option_map}
 use Rattle.std.specs.declared.cmp.Ordering.TheVariants.{Less}
@@ -9,7 +9,6 @@ use Rattle.std.specs.Cmp.Lexicographic.{nat_list_cmp_total}
 use Rattle.std.proofs.lemmas.List.{append_assoc, append-nil}
 use Rattle.std.proofs.lemmas.List.Elements.{filter-append}
 use Rattle.patricia_keys.specs.Keys.{Begins, IsKeyKind, key_cmp}
-use Rattle.patricia_rows.specs.Points.{Has}
 use Rattle.patricia_rows.specs.Prefixes.{begins, under, along, longest}
 use Rattle.patricia_rows.specs.Private.Meeting.{SharesItem, Passes}
 use Rattle.patricia_rows.specs.Rows.{Row, node, prefixed, own, entries, IsBefore, IsBeforeRow, IsRow}

@@ -1,5 +1,5 @@
 -- How far the keys of a row go with a key.
-use Rattle.std.proofs.Common.{◌≡◌, ◌≢◌, ℕ, ◌+◌, ◌-◌, ◌<◌, ◌≤◌, ◌⊎◌, inl, inr, List, [], ◌∷◌, ◌++◌, Option, None, Some, length, take, drop, refl, sym, ap, subst, ◌∙◌, arith}
+use Rattle.std.proofs.Common.{◌≡◌, ℕ, ◌+◌, ◌-◌, ◌≤◌, ◌⊎◌, inl, inr, List, [], ◌∷◌, ◌++◌, Option, None, Some, length, take, drop, refl, sym, ap, ◌∙◌, arith}
 use Rattle.std.proofs.lemmas.List.{append-nil, take-append-drop, length-take-le, length-append, append_cancel_left, append_assoc}
 use Rattle.std.proofs.Math.Seq.{take-append-add}
 use Rattle.std.proofs.lemmas.Bool.{cases_lt}
@@ -8,8 +8,8 @@ use Rattle.patricia_keys.proofs.KeyLemmas.{Begins-trans, begins_either, begins_s
 use Rattle.patricia_rows.specs.Points.{Has}
 use Rattle.patricia_rows.specs.Prefixes.{IsReach}
 use Rattle.patricia_rows.specs.Private.Meeting.{SharesItem, EndsWithin, Passes}
-use Rattle.patricia_rows.specs.Rows.{Row, end, node, prefixed, own, entries, keys_of, IsBefore, IsRow}
-use Rattle.patricia_rows.proofs.RowLemmas.{AllKeys, lacks_item}
+use Rattle.patricia_rows.specs.Rows.{Row, node, prefixed, own, entries, keys_of, IsBefore, IsRow}
+use Rattle.patricia_rows.proofs.RowLemmas.{lacks_item}
 use Rattle.patricia_rows.proofs.GetLemmas.{common_whole}
 use Rattle.patricia_rows.proofs.PointLemmas.{has_prefixed, has_after, has_one}
 use Rattle.patricia_rows.proofs.JoinLemmas.{AllKeys-at, some_key}
@@ -97,8 +97,8 @@ module _ (item : List ℕ → Type 0) (kind : IsKeyKind item) {V : Type 0} (l : 
     furthest = λ k m has within valid b. elim (has_one l (own v ++ entries c) (entries s) k has) [
       | inl mine ↦
           let other : Begins before.second k → ⊥ = λ d.
-              let same = begins_same item kind before.first before.second k before.first_item before.second_item (Begins-trans before.first l k before.first_begins (mine.0, mine.1)) d in
-              key_cmp-irreflexive before.first before.second same before.less in
+          let same = begins_same item kind before.first before.second k before.first_item before.second_item (Begins-trans before.first l k before.first_begins (mine.0, mine.1)) d in
+          key_cmp-irreflexive before.first before.second same before.less in
           let none = none_common before.second k before.second_item before.second_begins other m within valid b in
           omega arith
       | inr later ↦ r.furthest k m later within valid b

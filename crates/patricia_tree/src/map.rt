@@ -135,7 +135,10 @@ impl<K: Bytes, V: Drop> GenericPatriciaMap<K, V> {
     ///
     /// The keys handed out are parts of the key that is passed. Neither this nor the walk takes
     /// memory.
-    pub fn common_prefixes<Q: BorrowedBytes<Owned = K>>(&self, key: Q) -> CommonPrefixesIter<'_, Q, V>
+    pub fn common_prefixes<Q: BorrowedBytes<Owned = K>>(
+        &self,
+        key: Q,
+    ) -> CommonPrefixesIter<'_, Q, V>
         ensures { result ≡ along (Q.key key) (map.entries self.now) }
     {
         CommonPrefixesIter {
@@ -144,7 +147,10 @@ impl<K: Bytes, V: Drop> GenericPatriciaMap<K, V> {
     }
 
     /// The values of the same entries. Neither this nor the walk takes memory.
-    pub fn common_prefix_values<Q: BorrowedBytes<Owned = K>>(&self, key: Q) -> CommonPrefixValues<'_, Q, V>
+    pub fn common_prefix_values<Q: BorrowedBytes<Owned = K>>(
+        &self,
+        key: Q,
+    ) -> CommonPrefixValues<'_, Q, V>
         ensures { result ≡ values_of (along (Q.key key) (map.entries self.now)) }
     {
         CommonPrefixValues {
