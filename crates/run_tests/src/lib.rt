@@ -1,4 +1,4 @@
-//! Tests of commands, of their lines, and of the program.
+//! Tests of commands and of their lines.
 #![tactic(auto)]
 
 #[cfg(test)]

@@ -1,6 +1,4 @@
-//! Tests of what no contract says: outside values, statuses, failing streams and refused memory.
+//! Tests of what no contract says: values from outside.
 
 mod answer;
 mod bench;
-mod helpers;
-mod serve;

@@ -1,0 +1,5 @@
+//! Tests of the program over its words and streams.
+#![tactic(auto)]
+
+#[cfg(test)]
+mod tests;

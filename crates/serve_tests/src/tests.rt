@@ -1,0 +1,4 @@
+//! Tests of what no contract says: statuses, failing streams and refused memory.
+
+mod helpers;
+mod serve;
