@@ -3,6 +3,8 @@
 ghost use Rattle.std.specs.Prelude.{◌≡◌, ◌≢◌, [], length, IfOk, OnErr, map as list_map};
 ghost use Rattle.std.specs.FinMap as map;
 ghost use Rattle.patricia_tree.specs.Prefixes.{along, under};
+ghost use Rattle.patricia_machine.specs.Machine.{Inserts, Gets, Removes, Counts, Shows};
+ghost use Rattle.patricia_machine.specs.Machine.{FindsLongest, Reaches, Clears};
 ghost use Rattle.patricia_machine.specs.Machine.{Step, Run, empty_state, rows_of, with_key};
 
 use crate::command::{Command, Reply};
@@ -89,47 +91,115 @@ impl<K: Bytes, V: Copy> Bench<K, V> {
         }
     }
 
+    // Sets the value of a key.
+    fn insert<Q: BorrowedBytes<Owned = K>>(&mut self, key: Q, value: V) -> Reply<K, V>
+        ensures { Inserts self.old (Q.key key) value result self.new }
+    {
+        match self.main.insert(key, value) {
+            Ok(None) => Reply::None,
+            Ok(Some(before)) => Reply::Some(before),
+            Err(_) => Reply::NoMemory,
+        }
+    }
+
+    // Looks a key up.
+    fn get<Q: BorrowedBytes<Owned = K>>(&self, key: Q) -> Reply<K, V>
+        ensures { Gets self.now (Q.key key) result self.now }
+    {
+        match self.main.get(key) {
+            None => Reply::None,
+            Some(value) => Reply::Some(*value),
+        }
+    }
+
+    // Takes a key out.
+    fn remove<Q: BorrowedBytes<Owned = K>>(&mut self, key: Q) -> Reply<K, V>
+        ensures { Removes K.item self.old (Q.key key) result self.new }
+    {
+        match self.main.remove(key) {
+            Ok(None) => Reply::None,
+            Ok(Some(before)) => Reply::Some(before),
+            Err(_) => Reply::NoMemory,
+        }
+    }
+
+    // Counts the entries.
+    fn count(&self) -> Reply<K, V>
+        ensures { Counts self.now result self.now }
+    {
+        Reply::Count(self.main.len())
+    }
+
+    // Lists the entries.
+    fn list(&self) -> Reply<K, V>
+        ensures { Shows K.key (map.entries self.now.main) self.now result self.now }
+    {
+        match rows(self.alloc, &self.main) {
+            Ok(rows) => Reply::Rows(rows),
+            Err(_) => Reply::NoMemory,
+        }
+    }
+
+    // Lists the entries under a prefix.
+    fn under<Q: BorrowedBytes<Owned = K>>(&self, prefix: Q) -> Reply<K, V>
+        ensures { Shows K.key (under (Q.key prefix) (map.entries self.now.main)) self.now result self.now }
+    {
+        match rows_under(self.alloc, &self.main, prefix) {
+            Ok(rows) => Reply::Rows(rows),
+            Err(_) => Reply::NoMemory,
+        }
+    }
+
+    // Lists the entries along a key.
+    fn along<Q: BorrowedBytes<Owned = K>>(&self, key: Q) -> Reply<K, V>
+        ensures { Shows K.key (along (Q.key key) (map.entries self.now.main)) self.now result self.now }
+    {
+        match rows_along(self.alloc, &self.main, key) {
+            Ok(rows) => Reply::Rows(rows),
+            Err(_) => Reply::NoMemory,
+        }
+    }
+
+    // Finds the longest key that begins a key.
+    fn longest<Q: BorrowedBytes<Owned = K>>(&self, key: Q) -> Reply<K, V>
+        ensures { FindsLongest self.now (Q.key key) result self.now }
+    {
+        match self.main.get_longest_common_prefix(key) {
+            None => Reply::None,
+            Some((prefix, value)) => Reply::Longest(prefix.as_bytes().len(), *value),
+        }
+    }
+
+    // Finds how far the keys go with a key.
+    fn reach<Q: BorrowedBytes<Owned = K>>(&self, key: Q) -> Reply<K, V>
+        ensures { Reaches K.item self.now (Q.key key) result self.now }
+    {
+        Reply::Count(self.main.longest_common_prefix_len(key))
+    }
+
+    // Takes each entry out.
+    fn clear(&mut self) -> Reply<K, V>
+        ensures { Clears self.old result self.new }
+    {
+        self.main.clear();
+        Reply::Done
+    }
+
     /// Does one command.
     pub fn step<Q: BorrowedBytes<Owned = K>>(&mut self, command: Command<Q, V>) -> Reply<K, V>
         ensures { Step K.item K.key self.old (with_key Q.key command) result self.new }
     {
         match command {
-            Command::Insert(key, value) => match self.main.insert(key, value) {
-                Ok(None) => Reply::None,
-                Ok(Some(before)) => Reply::Some(before),
-                Err(_) => Reply::NoMemory,
-            },
-            Command::Get(key) => match self.main.get(key) {
-                None => Reply::None,
-                Some(value) => Reply::Some(*value),
-            },
-            Command::Remove(key) => match self.main.remove(key) {
-                Ok(None) => Reply::None,
-                Ok(Some(before)) => Reply::Some(before),
-                Err(_) => Reply::NoMemory,
-            },
-            Command::Len => Reply::Count(self.main.len()),
-            Command::List => match rows(self.alloc, &self.main) {
-                Ok(rows) => Reply::Rows(rows),
-                Err(_) => Reply::NoMemory,
-            },
-            Command::Under(prefix) => match rows_under(self.alloc, &self.main, prefix) {
-                Ok(rows) => Reply::Rows(rows),
-                Err(_) => Reply::NoMemory,
-            },
-            Command::Along(key) => match rows_along(self.alloc, &self.main, key) {
-                Ok(rows) => Reply::Rows(rows),
-                Err(_) => Reply::NoMemory,
-            },
-            Command::Longest(key) => match self.main.get_longest_common_prefix(key) {
-                None => Reply::None,
-                Some((prefix, value)) => Reply::Longest(prefix.as_bytes().len(), *value),
-            },
-            Command::Reach(key) => Reply::Count(self.main.longest_common_prefix_len(key)),
-            Command::Clear => {
-                self.main.clear();
-                Reply::Done
-            }
+            Command::Insert(key, value) => self.insert(key, value),
+            Command::Get(key) => self.get(key),
+            Command::Remove(key) => self.remove(key),
+            Command::Len => self.count(),
+            Command::List => self.list(),
+            Command::Under(prefix) => self.under(prefix),
+            Command::Along(key) => self.along(key),
+            Command::Longest(key) => self.longest(key),
+            Command::Reach(key) => self.reach(key),
+            Command::Clear => self.clear(),
         }
     }
 }
