@@ -1,25 +1,82 @@
 -- Nodes that are laid anew.
-use Rattle.std.proofs.Common.{◌≡◌, ◌≢◌, ℕ, suc, ◌+◌, ◌<◌, ◌≤◌, List, [], ◌∷◌, ◌++◌, length, Option, Some, None, slice_get, refl, sym, ap, ◌∙◌, arith, length-append}
+use Rattle.std.proofs.Common.{◌≡◌, ◌≢◌, ℕ, suc, ◌+◌, ◌<◌, ◌≤◌, List, [], ◌∷◌, ◌++◌, length, Option, Some, None, slice_get, refl, sym, ap, ◌∙◌, arith, length-append, length-set}
 use Rattle.std.proofs.lemmas.List.{append_assoc, append-nil}
 use Rattle.std.proofs.lemmas.Option.{slice_get_within}
 use Rattle.patricia_nodes.specs.declared.slots.Node.{Node}
+use Rattle.patricia_nodes.specs.declared.slots.Slots.{Slots}
 use Rattle.patricia_nodes.specs.Private.Plans.{Plan, Nil, Cell, linked, head, one, times}
-use Rattle.patricia_nodes.specs.Private.Growth.{tops, numbered, laid, RowStands, IsTopRow, TakesRow}
+use Rattle.patricia_nodes.specs.Private.Growth.{tops, numbered, laid, RowStands, IsTopRow, Takes, TakesRow}
+use Rattle.patricia_nodes.specs.Private.Writes.{Frees}
 use Rattle.patricia_nodes.proofs.PlanLemmas.{one-same}
+use Rattle.patricia_nodes.proofs.WriteLemmas.{get-set_same, get-set_other, chain-keep}
 
 module _ {V : Type 0} where
+  -- nothing is taken
+  pub takes_none : (s : Slots V) → Takes s s (λ i. 0) 0
+  takes_none s = record { others = λ i z. refl; long = refl; root_is = refl; freed = λ spare free once. (spare, free, λ i. refl, refl) }
+
+  -- the same, counted otherwise
+  pub takes_same : (old new : Slots V) (f g : ℕ → ℕ) (n m : ℕ) → ((i : ℕ) → f i ≡ g i) → n ≡ m → Takes old new f n → Takes old new g m
+  takes_same old new f g n m e k t = record {
+    others = λ i z. t.others i (e i ∙ z);
+    long = t.long;
+    root_is = t.root_is;
+    freed = λ spare free once.
+        let l = t.freed spare free (λ i. omega (arith, once i, e i)) in
+        (l.0, l.1, λ i. omega (arith, l.2 i, e i), omega (arith, l.3, k));
+  }
+
+  -- one after the other
+  pub takes_more : (a b c : Slots V) (f g : ℕ → ℕ) (n m : ℕ) → Takes a b f n → Takes b c g m → Takes a c (λ i. f i + g i) (n + m)
+  takes_more a b c f g n m t u = record {
+    others = λ i z. u.others i (omega arith) ∙ t.others i (omega arith);
+    long = u.long ∙ t.long;
+    root_is = u.root_is ∙ t.root_is;
+    freed = λ spare free once.
+        let l = t.freed spare free (λ i. omega (arith, once i)) in
+        let r = u.freed l.0 l.1 (λ i. omega (arith, once i, l.2 i)) in
+        (r.0, r.1, λ i. omega (arith, r.2 i, l.2 i), omega (arith, r.3, l.3));
+  }
+
+  -- one node is taken
+  pub takes_one : (old new : Slots V) (id : ℕ) (n : Node V) → Frees old new id n → Takes old new (λ i. one id i) 1
+  takes_one old new id n f =
+      let hollow = linked [] None None old.free in
+      let short = slice_get_within old.nodes.items id n f.taken in
+      let others : (i : ℕ) → i ≢ id → slice_get new.nodes.items i ≡ slice_get old.nodes.items i = λ i k. ap (λ xs. slice_get xs i) f.nodes_is ∙ get-set_other old.nodes.items id i hollow k in
+      record {
+        others = λ i z. others i (λ e. absurd (omega (arith, z, one-same i, ap (λ k. one k i) e)));
+        long = ap length f.nodes_is ∙ length-set old.nodes.items id hollow;
+        root_is = f.root_is;
+        freed = λ spare free once. (
+          id ∷ spare,
+          (
+            (
+              (hollow, ap (λ xs. slice_get xs id) f.nodes_is ∙ get-set_same old.nodes.items id hollow short, free.1),
+              chain-keep old.nodes.items new.nodes.items spare (λ i some. others i (λ e. some (omega (arith, once i, one-same i, ap (λ k. one k i) e)))) free.0,
+            ),
+            f.free_is,
+          ),
+          λ i. refl,
+          refl,
+        );
+      }
+
   -- how far a row is moved
-  pub record Moving (from0 to0 : List (Node V)) (w : Plan V) (from : List (Node V)) (at : Option ℕ) (to : List (Node V)) : Type 0 where
+  pub record Moving (from0 : Slots V) (to0 : List (Node V)) (w : Plan V) (from : Slots V) (at : Option ℕ) (to : List (Node V)) : Type 0 where
     pub rest : Plan V
-    pub row : IsTopRow from at rest
+    pub row : IsTopRow from.nodes.items at rest
     pub moved : to ++ laid (length to) rest ≡ to0 ++ laid (length to0) w
-    pub others : (i : ℕ) → times (tops w) i ≡ 0 → (slice_get from i ≡ slice_get from0 i) × (times (tops rest) i ≡ 0)
-    pub long : length from ≡ length from0
+    pub counts : ℕ → ℕ
+    pub number : ℕ
+    pub takes : Takes from0 from counts number
+    pub split : (i : ℕ) → counts i + times (tops rest) i ≡ times (tops w) i
+    pub sized : number + length (tops rest) ≡ length (tops w)
     pub counted : length to + length (tops rest) ≡ length to0 + length (tops w)
 
   -- nothing is moved at first
-  pub moving_none : (from to : List (Node V)) (at : Option ℕ) (w : Plan V) → IsTopRow from at w → Moving from to w from at to
-  moving_none from to at w row = record { rest = w; row = row; moved = refl; others = λ i z. (refl, z); long = refl; counted = refl }
+  pub moving_none : (from : Slots V) (to : List (Node V)) (at : Option ℕ) (w : Plan V) → IsTopRow from.nodes.items at w → Moving from to w from at to
+  moving_none from to at w row = record { rest = w; row = row; moved = refl; counts = λ i. 0; number = 0; takes = takes_none from; split = λ i. refl; sized = refl; counted = refl }
 
   -- the node at the head of a row
   pub opens_top : (from : List (Node V)) (id : ℕ) (w : Plan V) → IsTopRow from (Some id) w
@@ -30,13 +87,13 @@ module _ {V : Type 0} where
       (l, v, c, d, rw same refl, rw same row.stands.0)
 
   -- there is one more to move, and room for it
-  pub room_for_next : (from0 to0 : List (Node V)) (w : Plan V) (from : List (Node V)) (to : List (Node V)) (id capacity : ℕ) → Moving from0 to0 w from (Some id) to → length to0 + length (tops w) ≤ capacity → length to < capacity
+  pub room_for_next : (from0 : Slots V) (to0 : List (Node V)) (w : Plan V) (from : Slots V) (to : List (Node V)) (id capacity : ℕ) → Moving from0 to0 w from (Some id) to → length to0 + length (tops w) ≤ capacity → length to < capacity
   room_for_next from0 to0 w from to id capacity m room =
-      let o = opens_top from id m.rest m.row in
+      let o = opens_top from.nodes.items id m.rest m.row in
       omega (arith, m.counted, ap (λ p. length (tops p)) o.4)
 
-  pub next_within : (from0 to0 : List (Node V)) (w : Plan V) (from : List (Node V)) (to : List (Node V)) (id : ℕ) → Moving from0 to0 w from (Some id) to → id < length from
-  next_within from0 to0 w from to id m = let o = opens_top from id m.rest m.row in slice_get_within from id _ o.5
+  pub next_within : (from0 : Slots V) (to0 : List (Node V)) (w : Plan V) (from : Slots V) (to : List (Node V)) (id : ℕ) → Moving from0 to0 w from (Some id) to → id < length from.nodes.items
+  next_within from0 to0 w from to id m = let o = opens_top from.nodes.items id m.rest m.row in slice_get_within from.nodes.items id _ o.5
 
   -- what stands at other numbers, stands still
   rows-keep : (nodes new : List (Node V)) (q : Plan V) → ((i : ℕ) → times (tops q) i ≢ 0 → slice_get new i ≡ slice_get nodes i) → RowStands nodes q → RowStands new q
@@ -52,24 +109,26 @@ module _ {V : Type 0} where
   number_some Nil n k e = absurd (cc)
   number_some (Cell id l v c d) n k e = refl
 
-  module _ (from0 to0 : List (Node V)) (w : Plan V) (from later : List (Node V)) (id : ℕ) (to to' : List (Node V)) (m : Moving from0 to0 w from (Some id) to)
-      (n : Node V) (here : slice_get from id ≡ Some n) (others : (i : ℕ) → i ≢ id → slice_get later i ≡ slice_get from i) (long : length later ≡ length from)
-      (number : Option ℕ) (numbers : (d : Plan V) → n.sibling ≡ head d → number ≡ head (numbered (suc (length to)) d)) (pushed : to' ≡ to ++ linked n.label n.value n.child number ∷ []) where
+  module _ (from0 : Slots V) (to0 : List (Node V)) (w : Plan V) (from later : Slots V) (id : ℕ) (to to' : List (Node V)) (m : Moving from0 to0 w from (Some id) to)
+      (n : Node V) (frees : Frees from later id n) (number : Option ℕ) (numbers : (d : Plan V) → n.sibling ≡ head d → number ≡ head (numbered (suc (length to)) d)) (pushed : to' ≡ to ++ linked n.label n.value n.child number ∷ []) where
+    one_taken : Takes from later (λ i. one id i) 1
+    one_taken = takes_one from later id n frees
+
     pub moving_next : Moving from0 to0 w later n.sibling to'
-    moving_next = by m.rest m.row m.moved m.others m.counted
+    moving_next = by m.rest m.row m.moved m.split m.sized m.counted
       where
-        by : (r : Plan V) → IsTopRow from (Some id) r → to ++ laid (length to) r ≡ to0 ++ laid (length to0) w → ((i : ℕ) → times (tops w) i ≡ 0 → (slice_get from i ≡ slice_get from0 i) × (times (tops r) i ≡ 0)) → length to + length (tops r) ≡ length to0 + length (tops w) → Moving from0 to0 w later n.sibling to'
-        by Nil row moved rest counted = let e = row.at_is in absurd (cc)
-        by (Cell i l v c d) row moved rest counted =
+        by : (r : Plan V) → IsTopRow from.nodes.items (Some id) r → to ++ laid (length to) r ≡ to0 ++ laid (length to0) w → ((i : ℕ) → m.counts i + times (tops r) i ≡ times (tops w) i) → m.number + length (tops r) ≡ length (tops w) → length to + length (tops r) ≡ length to0 + length (tops w) → Moving from0 to0 w later n.sibling to'
+        by Nil row moved split sized counted = let e = row.at_is in absurd (cc)
+        by (Cell i l v c d) row moved split sized counted =
             let same : id ≡ i = let e = row.at_is in cc in
-            let is : n ≡ linked l v (head c) (head d) = let there = row.stands.0 in let here' : slice_get from i ≡ Some n = rw (← same) here in cc in
+            let is : n ≡ linked l v (head c) (head d) = let there = row.stands.0 in let here' : slice_get from.nodes.items i ≡ Some n = rw (← same) frees.taken in cc in
             let sibling : n.sibling ≡ head d = ap (λ (x : Node V). x.sibling) is in
             let node : linked n.label n.value n.child number ≡ linked l v (head c) (head (numbered (suc (length to)) d)) = rw (is, numbers d sibling) refl in
             let longer : length to' ≡ suc (length to) = omega (arith, ap length pushed, length-append to (linked n.label n.value n.child number ∷ [])) in
             record {
               rest = d;
               row = record {
-                stands = rows-keep from later d (λ k some. others k (λ e. some (omega (arith, row.once k, ap (λ x. one x k) (sym same), ap (λ x. one x k) e, one-same k)))) row.stands.1;
+                stands = rows-keep from.nodes.items later.nodes.items d (λ k some. one_taken.others k (omega (arith, row.once k, ap (λ x. one x k) same))) row.stands.1;
                 at_is = sibling;
                 once = λ k. omega (arith, row.once k);
               };
@@ -77,17 +136,18 @@ module _ {V : Type 0} where
                   ap (λ x. x ++ laid (length to') d) pushed ∙ append_assoc to (linked n.label n.value n.child number ∷ []) (laid (length to') d)
                   ∙ ap (λ k. to ++ linked n.label n.value n.child number ∷ laid k d) longer
                   ∙ ap (λ x. to ++ x ∷ laid (suc (length to)) d) node ∙ moved;
-              others = λ k none.
-                  let kept = rest k none in
-                  (others k (λ e. omega (arith, kept.1, ap (λ x. one x k) (sym same), ap (λ x. one x k) e, one-same k)) ∙ kept.0, omega (arith, kept.1));
-              long = long ∙ m.long;
+              counts = λ k. m.counts k + one id k;
+              number = m.number + 1;
+              takes = takes_more from0 from later m.counts (λ k. one id k) m.number 1 m.takes one_taken;
+              split = λ k. omega (arith, split k, ap (λ x. one x k) same);
+              sized = omega (arith, sized);
               counted = omega (arith, counted, longer);
             }
 
   -- at the end all is moved
-  pub moving_done : (from0 to0 : List (Node V)) (w : Plan V) (from to : List (Node V)) → Moving from0 to0 w from None to → (to ≡ to0 ++ laid (length to0) w) × TakesRow from0 from w
-  moving_done from0 to0 w from to m = by m.rest m.row.at_is m.moved
+  pub moving_done : (from0 : Slots V) (to0 : List (Node V)) (w : Plan V) (from : Slots V) (to : List (Node V)) → Moving from0 to0 w from None to → (to ≡ to0 ++ laid (length to0) w) × TakesRow from0 from w
+  moving_done from0 to0 w from to m = by m.rest m.row.at_is m.moved m.split m.sized
     where
-      by : (r : Plan V) → None ≡ head r → to ++ laid (length to) r ≡ to0 ++ laid (length to0) w → (to ≡ to0 ++ laid (length to0) w) × TakesRow from0 from w
-      by Nil e moved = (sym (append-nil to) ∙ moved, record { others = λ i none. (m.others i none).0; long = m.long })
-      by (Cell i l v c d) e moved = absurd (cc)
+      by : (r : Plan V) → None ≡ head r → to ++ laid (length to) r ≡ to0 ++ laid (length to0) w → ((i : ℕ) → m.counts i + times (tops r) i ≡ times (tops w) i) → m.number + length (tops r) ≡ length (tops w) → (to ≡ to0 ++ laid (length to0) w) × TakesRow from0 from w
+      by Nil e moved split sized = (sym (append-nil to) ∙ moved, takes_same from0 from m.counts (λ i. times (tops w) i) m.number (length (tops w)) (λ i. omega (arith, split i)) (omega (arith, sized)) m.takes)
+      by (Cell i l v c d) e moved split sized = absurd (cc)

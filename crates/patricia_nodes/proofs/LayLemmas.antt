@@ -3,11 +3,13 @@ use Rattle.std.proofs.Common.{◌≡◌, inl, inr, ℕ, zero, suc, ◌+◌, ◌<
 use Rattle.std.proofs.lemmas.Bool.{cases_lt}
 use Rattle.std.proofs.lemmas.Bool.Decides.{nat_tests}
 use Rattle.patricia_nodes.specs.declared.slots.Node.{Node}
+use Rattle.patricia_nodes.specs.declared.slots.Slots.{Slots}
 use Rattle.patricia_nodes.specs.Private.Plans.{Plan, linked, head, row, size, count, below, Stands, IsSound, plan_at}
-use Rattle.patricia_nodes.specs.Private.Growth.{tops, numbered, laid, IsTopRow, TakesRow}
+use Rattle.patricia_nodes.specs.Private.Growth.{tops, numbered, laid, IsTopRow, IsLaid, Takes, TakesRow, TakesBelow, count_below, size_below}
 use Rattle.patricia_nodes.proofs.PlanLemmas.{below_le, below_in, plan_is, node_is}
 use Rattle.patricia_nodes.proofs.WriteLemmas.{get-set_same, get-set_other}
-use Rattle.patricia_nodes.proofs.RelayLemmas.{Mix, flat, first_of, flat_first, Lies, IsUpTo, news, olds, waits, OpenAt, opened, step, row-opened, size-opened, first-opened, olds-opened, waits-opened, news-opened, up_to-opened, row-step, size-step, first-step, step-moves, open_exists, opens_at, open_within, top_row, tops_within, up_to-step, lies-opened, length-laid, lies-step, lies_done}
+use Rattle.patricia_nodes.proofs.GrowthLemmas.{takes_none, takes_same, takes_more}
+use Rattle.patricia_nodes.proofs.RelayLemmas.{Mix, flat, first_of, flat_first, Lies, IsUpTo, news, olds, waits, OpenAt, opened, step, row-opened, size-opened, first-opened, olds-below, waits-opened, waits-below, count-parts, below-keep, news-opened, up_to-opened, row-step, size-step, first-step, step-moves, open_exists, opens_at, open_within, top_row, tops_within, up_to-step, lies-opened, length-laid, lies-step, lies_done}
 
 below_out : (n at : ℕ) → n ≤ at → below n at ≡ 0
 below_out n at h = grind (arith, nat_tests)
@@ -43,21 +45,19 @@ module _ {V : Type 0} where
   counted_once nodes root free p spare sound at = omega (arith, sound.once at, below_le (length nodes) at)
 
   -- the top row is there
-  pub laying_start : (p : Plan V) (from later to0 to : List (Node V)) (root : Option ℕ) → Stands from p → ((at : ℕ) → count p at ≤ 1) → TakesRow from later p → to0 ≡ [] → to ≡ to0 ++ laid (length to0) p → root ≡ head (numbered (length to0) p) → Laying p later 0 to root
-  laying_start p from later to0 to root stands once takes none moved first =
-      let is : to ≡ laid 0 p = rw none at moved in
-      let at_is : root ≡ head (numbered 0 p) = rw none at first in
-      let long : length to ≡ length (tops p) = ap length is ∙ length-laid 0 p in
+  laying_start : (p : Plan V) (from to : List (Node V)) → IsLaid from to p → Laying p from 0 to (head (numbered 0 p))
+  laying_start p from to l =
+      let long : length to ≡ length (tops p) = ap length l.laid_is ∙ length-laid 0 p in
       record {
         mix = opened 0 p;
         row_is = row-opened 0 p;
         size_is = size-opened 0 p;
-        root_is = at_is ∙ sym (first-opened 0 p);
-        lies = lies-opened from later [] to p stands (λ at n. takes.others at (omega (arith, olds-opened 0 p at, once at))) (λ at h. ap (λ xs. slice_get xs at) is);
+        root_is = sym (first-opened 0 p);
+        lies = lies-opened from [] to p l.below_stands (λ at h. ap (λ xs. slice_get xs at) l.laid_is);
         up_to = up_to-opened 0 0 p (omega arith);
         news_once = λ at. let came = news-opened 0 p at in let none : below 0 at ≡ 0 = grind (arith, nat_tests) in let same : 0 + length (tops p) ≡ length (tops p) = omega arith in omega (arith, ap (λ k. below k at) long, ap (λ k. below k at) same);
-        olds_once = λ at. omega (arith, olds-opened 0 p at, once at);
-        sized = omega (arith, waits-opened 0 p);
+        olds_once = λ at. omega (arith, olds-below 0 p at, l.once at);
+        sized = omega (arith, waits-opened 0 p, long);
         within = omega arith;
       }
 
@@ -89,9 +89,9 @@ module _ {V : Type 0} where
   pub next_top : (p : Plan V) (from : List (Node V)) (i : ℕ) (to : List (Node V)) (mix : Mix V) (next : NextRow p from i to mix) (n : Node V) → n ≡ get_or to i n → IsTopRow from n.child next.row
   next_top p from i to mix next n reads = rw (node_is to i n next.parent next.there reads) next.top
 
-  laying_on : (p : Plan V) (from later : List (Node V)) (i : ℕ) (to final : List (Node V)) (root : Option ℕ) (l : Laying p from i to root) → i < length to → (next : NextRow p from i to l.mix) → TakesRow from later next.row
+  laying_on : (p : Plan V) (from later : List (Node V)) (i : ℕ) (to final : List (Node V)) (root : Option ℕ) (l : Laying p from i to root) → i < length to → (next : NextRow p from i to l.mix) → ((at : ℕ) → times (tops next.row) at ≡ 0 → slice_get later at ≡ slice_get from at)
       → final ≡ set (to ++ laid (length to) next.row) i (linked next.parent.label next.parent.value (head (numbered (length to) next.row)) next.parent.sibling) → Laying p later (suc i) final root
-  laying_on p from later i to final root l short next takes is =
+  laying_on p from later i to final root l short next others is =
       let w = next.row in
       let n = length to in
       let whole = to ++ laid n w in
@@ -110,7 +110,7 @@ module _ {V : Type 0} where
             (λ at h. ap (λ xs. slice_get xs at) is ∙ get-set_other whole i at new (λ e. omega arith))
             l.mix once next.due
             (λ at k. elim (cases_lt at n) [ inl h ↦ h | inr h ↦ absurd (k (l.news_once at ∙ below_out n at h)) ])
-            (λ at k. takes.others at (omega (arith, moves.left at, l.olds_once at)))
+            (λ at k. others at (omega (arith, moves.left at, l.olds_once at)))
             l.lies;
         up_to = up_to-step i n l.mix l.up_to short;
         news_once = λ at. omega (arith, moves.came at, l.news_once at, ap (λ k. below k at) long);
@@ -119,29 +119,75 @@ module _ {V : Type 0} where
         within = omega (arith, long);
       }
 
+  -- what is taken from the old nodes meanwhile
+  pub record Emptied (old : Slots V) (w : Plan V) (mix : Mix V) (now : Slots V) : Type 0 where
+    pub counts : ℕ → ℕ
+    pub number : ℕ
+    pub takes : Takes old now counts number
+    pub split : (at : ℕ) → counts at + olds mix at ≡ count_below w at
+    pub sized : number + waits mix ≡ size_below w
+
+  pub record Filling (old : Slots V) (w : Plan V) (now : Slots V) (i : ℕ) (to : List (Node V)) : Type 0 where
+    pub laying : Laying w now.nodes.items i to (head (numbered 0 w))
+    pub emptied : Emptied old w laying.mix now
+
+  pub filling_start : (w : Plan V) (s : Slots V) (to : List (Node V)) → IsLaid s.nodes.items to w → Filling s w s 0 to
+  filling_start w s to l = record {
+    laying = laying_start w s.nodes.items to l;
+    emptied = record { counts = λ at. 0; number = 0; takes = takes_none s; split = λ at. olds-below 0 w at; sized = waits-below 0 w };
+  }
+
   -- once they are moved and the node has their new number, it is the next one's turn
-  pub laying_next : (p : Plan V) (from later : List (Node V)) (i : ℕ) (to final : List (Node V)) (root : Option ℕ) (l : Laying p from i to root) → i < length to → (next : NextRow p from i to l.mix) → TakesRow from later next.row
-      → (moved : List (Node V)) → moved ≡ to ++ laid (length to) next.row → (first : Option ℕ) → first ≡ head (numbered (length to) next.row) → (n : Node V) → n ≡ get_or moved i n → final ≡ set moved i (linked n.label n.value first n.sibling) → Laying p later (i + 1) final root
-  laying_next p from later i to final root l short next takes moved comes first first_is n reads written =
+  pub filling_next : (old : Slots V) (w : Plan V) (from later : Slots V) (i : ℕ) (to final : List (Node V)) (f : Filling old w from i to) → i < length to → (next : NextRow w from.nodes.items i to f.laying.mix) → TakesRow from later next.row
+      → (moved : List (Node V)) → moved ≡ to ++ laid (length to) next.row → (first : Option ℕ) → first ≡ head (numbered (length to) next.row) → (n : Node V) → n ≡ get_or moved i n → final ≡ set moved i (linked n.label n.value first n.sibling) → Filling old w later (i + 1) final
+  filling_next old w from later i to final f short next takes moved comes first first_is n reads written =
+      let l = f.laying in
+      let e = f.emptied in
       let parent : n ≡ next.parent = node_is moved i n next.parent (ap (λ xs. slice_get xs i) comes ∙ get_front to (laid (length to) next.row) i short ∙ next.there) reads in
       let is : final ≡ set (to ++ laid (length to) next.row) i (linked next.parent.label next.parent.value (head (numbered (length to) next.row)) next.parent.sibling) = rw (← parent, ← first_is, ← comes) written in
-      subst (λ k. Laying p later k final root) (omega arith) (laying_on p from later i to final root l short next takes is)
+      let moves = step-moves i (length to) l.mix next.row (omega (arith, l.news_once i, below_le (length to) i)) next.due in
+      let done : Filling old w later (suc i) final = record {
+        laying = laying_on w from.nodes.items later.nodes.items i to final (head (numbered 0 w)) l short next takes.others is;
+        emptied = record {
+          counts = λ at. e.counts at + times (tops next.row) at;
+          number = e.number + length (tops next.row);
+          takes = takes_more old from later e.counts (λ at. times (tops next.row) at) e.number (length (tops next.row)) e.takes takes;
+          split = λ at. omega (arith, e.split at, moves.left at);
+          sized = omega (arith, e.sized, moves.waits);
+        };
+      } in
+      subst (λ k. Filling old w later k final) (omega arith) done
 
   -- and at the end they are sound, and the same row
-  pub laying_done : (p : Plan V) (from : List (Node V)) (i : ℕ) (to : List (Node V)) (root : Option ℕ) → Laying p from i to root → length to ≤ i → (q : Plan V) × IsSound to root None q [] × (row q ≡ row p)
-  laying_done p from i to root l all =
-      let done = lies_done from to l.mix l.lies (subst (λ k. IsUpTo k l.mix) (all_turns i (length to) l.within all) l.up_to) in
+  pub filling_done : (old : Slots V) (w : Plan V) (now : Slots V) (i : ℕ) (to : List (Node V)) → Filling old w now i to → length to ≤ i
+      → ((q : Plan V) × IsSound to (head (numbered 0 w)) None q [] × (row q ≡ row w) × (size q ≡ size w)) × TakesBelow old now w
+  filling_done old w now i to f all =
+      let l = f.laying in
+      let e = f.emptied in
+      let done = lies_done now.nodes.items to l.mix l.lies (subst (λ k. IsUpTo k l.mix) (all_turns i (length to) l.within all) l.up_to) in
       let q = flat l.mix in (
-        q,
-        record {
-          plan_ok = record { stands = done.0; at_is = l.root_is ∙ flat_first l.mix; fits = omega (arith, l.size_is, l.sized, done.2) };
-          chain = tt;
-          free_is = refl;
-          once = λ at. omega (arith, done.1 at, l.news_once at);
-          total = omega (arith, l.size_is, l.sized, done.2);
-        },
-        l.row_is,
+        (
+          q,
+          record {
+            plan_ok = record { stands = done.0; at_is = l.root_is ∙ flat_first l.mix; fits = omega (arith, l.size_is, l.sized, done.2) };
+            chain = tt;
+            free_is = refl;
+            once = λ at. omega (arith, done.1 at, l.news_once at);
+            total = omega (arith, l.size_is, l.sized, done.2);
+          },
+          l.row_is,
+          l.size_is,
+        ),
+        takes_same old now e.counts (λ at. count_below w at) e.number (size_below w) (λ at. omega (arith, e.split at, done.3 at)) (omega (arith, e.sized, done.2)) e.takes,
       )
+
+  -- a plan whose top row was moved to the front of new nodes
+  pub laid_row : (old now : Slots V) (p : Plan V) (to0 to : List (Node V)) → Stands old.nodes.items p → ((at : ℕ) → count p at ≤ 1) → TakesRow old now p → to0 ≡ [] → to ≡ to0 ++ laid (length to0) p → IsLaid now.nodes.items to p
+  laid_row old now p to0 to stands once takes none moved = record {
+    laid_is = rw none at moved;
+    below_stands = below-keep old.nodes.items now.nodes.items p (λ at n. takes.others at (omega (arith, count-parts p at, once at))) stands;
+    once = λ at. omega (arith, count-parts p at, once at);
+  }
 
   -- the plan that is read, as a row to move
   pub record Readable (nodes : List (Node V)) (root : Option ℕ) (p : Plan V) : Type 0 where

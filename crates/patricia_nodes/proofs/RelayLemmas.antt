@@ -7,7 +7,7 @@ use Rattle.std.proofs.lemmas.Option.{slice_get_within}
 use Rattle.patricia_rows.specs.Rows.{node}
 use Rattle.patricia_nodes.specs.declared.slots.Node.{Node}
 use Rattle.patricia_nodes.specs.Private.Plans.{Plan, Nil, Cell, linked, head, row, size, count, one, below, times, Stands}
-use Rattle.patricia_nodes.specs.Private.Growth.{tops, numbered, laid, RowStands, IsTopRow}
+use Rattle.patricia_nodes.specs.Private.Growth.{tops, numbered, laid, RowStands, IsTopRow, count_below, size_below, BelowStands}
 use Rattle.patricia_nodes.proofs.PlanLemmas.{one-same}
 use Rattle.patricia_nodes.proofs.WriteLemmas.{stands-keep}
 
@@ -107,6 +107,15 @@ module _ {V : Type 0} where
   pub olds-opened : (n : ℕ) (w : Plan V) (at : ℕ) → olds (opened n w) at + times (tops w) at ≡ count w at
   olds-opened n Nil at = refl
   olds-opened n (Cell id l v c d) at = omega (arith, olds-opened (suc n) d at)
+
+  -- what is below it is in the old part
+  pub olds-below : (n : ℕ) (w : Plan V) (at : ℕ) → olds (opened n w) at ≡ count_below w at
+  olds-below n Nil at = refl
+  olds-below n (Cell id l v c d) at = omega (arith, olds-below (suc n) d at)
+
+  pub waits-below : (n : ℕ) (w : Plan V) → waits (opened n w) ≡ size_below w
+  waits-below n Nil = refl
+  waits-below n (Cell id l v c d) = omega (arith, waits-below (suc n) d)
 
   pub waits-opened : (n : ℕ) (w : Plan V) → waits (opened n w) + length (tops w) ≡ size w
   waits-opened n Nil = refl
@@ -224,6 +233,13 @@ module _ {V : Type 0} where
   tops_within Nil = (omega arith, λ at. omega arith)
   tops_within (Cell id l v c d) = let h = tops_within d in (omega (arith, h.0), λ at. omega (arith, h.1 at))
 
+  -- a plan is its top row and what is below
+  pub count-parts : (w : Plan V) (at : ℕ) → count_below w at + times (tops w) at ≡ count w at
+  count-parts w at = omega (arith, olds-opened 0 w at, olds-below 0 w at)
+
+  pub size-parts : (w : Plan V) → size_below w + length (tops w) ≡ size w
+  size-parts w = omega (arith, waits-opened 0 w, waits-below 0 w)
+
   rows_stand : (nodes : List (Node V)) (w : Plan V) → Stands nodes w → RowStands nodes w
   rows_stand nodes Nil s = tt
   rows_stand nodes (Cell id l v c d) s = (s.0, rows_stand nodes d s.2)
@@ -264,19 +280,27 @@ module _ {V : Type 0} where
   get-behind [] ys y = refl
   get-behind (x ∷ xs) ys y = get-behind xs ys y
 
+  -- what is below a row that stands, and is not touched
+  pub below-keep : (from later : List (Node V)) (w : Plan V) → ((at : ℕ) → count_below w at ≢ 0 → slice_get later at ≡ slice_get from at) → Stands from w → BelowStands later w
+  below-keep from later Nil k s = tt
+  below-keep from later (Cell id l v c d) k s = (
+    stands-keep from later c (λ at n. k at (λ e. n (omega arith))) s.1,
+    below-keep from later d (λ at n. k at (λ e. n (omega arith))) s.2,
+  )
+
   -- a row that has just come lies behind the others
-  pub lies-opened : (from later to final : List (Node V)) (w : Plan V) → Stands from w → ((at : ℕ) → olds (opened (length to) w) at ≢ 0 → slice_get later at ≡ slice_get from at)
-      → ((at : ℕ) → length to ≤ at → slice_get final at ≡ slice_get (to ++ laid (length to) w) at) → Lies later final (opened (length to) w)
-  lies-opened from later to final Nil s o f = tt
-  lies-opened from later to final (Cell id l v c d) s o f =
+  pub lies-opened : (from to final : List (Node V)) (w : Plan V) → BelowStands from w
+      → ((at : ℕ) → length to ≤ at → slice_get final at ≡ slice_get (to ++ laid (length to) w) at) → Lies from final (opened (length to) w)
+  lies-opened from to final Nil s f = tt
+  lies-opened from to final (Cell id l v c d) s f =
       let x = linked l v (head c) (head (numbered (suc (length to)) d)) in
       let more : length (to ++ x ∷ []) ≡ suc (length to) = omega (arith, length-append to (x ∷ [])) in
       let same : (to ++ x ∷ []) ++ laid (length (to ++ x ∷ [])) d ≡ to ++ laid (length to) (Cell id l v c d) = append_assoc to (x ∷ []) (laid (length (to ++ x ∷ [])) d) ∙ ap (λ k. to ++ x ∷ laid k d) more in
-      let rest : Lies later final (opened (length (to ++ x ∷ [])) d) =
-      lies-opened from later (to ++ x ∷ []) final d s.2 (λ at n. o at (λ e. n (omega (arith, ap (λ k. olds (opened k d) at) more)))) (λ at h. f at (omega (arith, more)) ∙ ap (λ xs. slice_get xs at) (sym same)) in (
+      let rest : Lies from final (opened (length (to ++ x ∷ [])) d) =
+      lies-opened from (to ++ x ∷ []) final d s.1 (λ at h. f at (omega (arith, more)) ∙ ap (λ xs. slice_get xs at) (sym same)) in (
         f (length to) (omega arith) ∙ get-behind to (laid (suc (length to)) d) x ∙ ap (λ k. Some (linked l v (head c) k)) (sym (first-opened (suc (length to)) d)),
-        stands-keep from later c (λ at n. o at (λ e. n (omega arith))) s.1,
-        subst (λ k. Lies later final (opened k d)) more rest,
+        s.0,
+        subst (λ k. Lies from final (opened k d)) more rest,
       )
 
   -- the children of node i have come, and all lies as it should
@@ -325,13 +349,13 @@ module _ {V : Type 0} where
         let there : slice_get to i ≡ Some (linked l v (head c) (first_of d)) = ap (slice_get to) (sym at_i.0) ∙ lies.0 in
         rw same (
           ap (slice_get final) at_i.0 ∙ here _ there ∙ ap (λ k. Some (linked l v k (first_of d))) (ap (λ x. head (numbered (length to) x)) (sym at_i.1) ∙ sym (first-opened (length to) c)) ∙ ap (λ k. Some (linked l v (first_of (opened (length to) c)) k)) (sym (first-step i (length to) d)),
-          lies-opened from later to final c lies.1 (λ at n. kept at (λ e. n (omega arith))) (λ at h. new at h ∙ ap (λ x. slice_get (to ++ laid (length to) x) at) (sym at_i.1)),
+          lies-opened later to final c (below-keep from later c (λ at n. kept at (λ e. n (omega (arith, olds-below (length to) c at)))) lies.1) (λ at h. new at h ∙ ap (λ x. slice_get (to ++ laid (length to) x) at) (sym at_i.1)),
           still d none (λ at n. short at (λ e. n (omega arith))) (λ at n. kept at (λ e. n (omega arith))) lies.2,
         )
 
   -- once each number had its turn, nothing waits
-  pub lies_done : (from to : List (Node V)) (q : Mix V) → Lies from to q → IsUpTo (length to) q → Stands to (flat q) × ((at : ℕ) → count (flat q) at ≡ news q at) × (waits q ≡ 0)
-  lies_done from to Empty lies up = (tt, λ at. refl, refl)
+  pub lies_done : (from to : List (Node V)) (q : Mix V) → Lies from to q → IsUpTo (length to) q → Stands to (flat q) × ((at : ℕ) → count (flat q) at ≡ news q at) × (waits q ≡ 0) × ((at : ℕ) → olds q at ≡ 0)
+  lies_done from to Empty lies up = (tt, λ at. refl, refl, λ at. refl)
   lies_done from to (Open id l v c d) lies up = absurd (let short = slice_get_within to id _ lies.0 in let long = up.0 in omega arith)
   lies_done from to (Done id l v c d) lies up =
       let below = lies_done from to c lies.1 up.1 in
@@ -339,4 +363,5 @@ module _ {V : Type 0} where
         (lies.0 ∙ ap (λ k. Some (linked l v k (first_of d))) (flat_first c) ∙ ap (λ k. Some (linked l v (head (flat c)) k)) (flat_first d), below.0, beside.0),
         λ at. omega (arith, below.1 at, beside.1 at),
         omega (arith, below.2, beside.2),
+        λ at. omega (arith, below.3 at, beside.3 at),
       )

@@ -1,7 +1,7 @@
 //! The nodes of a tree in one vector, each with its first child and its next sibling.
-ghost use Rattle.std.specs.Prelude.{◌≡◌, vec_len, vec_capacity};
+ghost use Rattle.std.specs.Prelude.{◌≡◌, ◌<◌, vec_len, vec_capacity};
 ghost use Rattle.patricia_nodes.specs.Private.Plans.{IsWhole, row_of};
-ghost use Rattle.patricia_nodes.specs.Private.Writes.{Relinks, SpotWithin};
+ghost use Rattle.patricia_nodes.specs.Private.Writes.{Frees, Relinks, SpotWithin};
 ghost use Rattle.patricia_rows.specs.Rows.{end};
 
 mod growth;
@@ -10,8 +10,9 @@ pub mod seek;
 
 use crate::slots::seek::Spot;
 use patricia_labels::label::Label;
-use patricia_labels::link::Link;
+use patricia_labels::link::{Link, NodeId};
 use std::alloc::Global;
+use std::mem;
 use thiserror::Error;
 
 /// Memory ran out before anything was changed. The value is handed back.
@@ -71,6 +72,23 @@ impl<V: Drop> Slots<V> {
         self.nodes.clear();
         self.root = Link::none();
         self.free = Link::none();
+    }
+
+    /// Takes a node out. Its place in the vector holds the number of the next free one, so that
+    /// nothing is asked for. That the nodes are whole then is for the caller to prove.
+    pub fn release(&mut self, alloc: Global, id: NodeId) -> Node<V>
+        requires { id < vec_len self.old.nodes }
+        ensures frees { Frees self.old self.new id result }
+        ensures capacity { vec_capacity self.new.nodes ≡ vec_capacity self.old.nodes }
+    {
+        let hollow = Node {
+            label: Label::empty(alloc),
+            value: None,
+            child: Link::none(),
+            sibling: self.free,
+        };
+        self.free = Link::some(id);
+        mem::replace(&mut self.nodes[id.index()], hollow)
     }
 
     /// Writes a number at a spot. That the nodes are whole then is for the caller to prove.

@@ -6,8 +6,8 @@ use Rattle.patricia_nodes.specs.declared.slots.Slots.{Slots}
 use Rattle.patricia_nodes.specs.declared.slots.seek.Spot.{Spot}
 use Rattle.patricia_nodes.specs.Private.Plans.{Plan, Nil, Cell, linked, head, count, one, below, times, first, Stands, IsChain, IsSound, Holds}
 use Rattle.patricia_nodes.specs.Private.Places.{Frame, InChild, InSibling, fill, count_frames, spot_of}
-use Rattle.patricia_nodes.specs.Private.Writes.{Relinks, SpotWithin}
-use Rattle.patricia_removals.specs.Private.Frees.{Frees, HasLeafAt, Unlinks, HasLone}
+use Rattle.patricia_nodes.specs.Private.Writes.{Frees, Relinks, SpotWithin}
+use Rattle.patricia_removals.specs.Private.Frees.{HasLeafAt, Unlinks, HasLone}
 use Rattle.patricia_nodes.proofs.PlanLemmas.{one-same, below_le, node_is}
 use Rattle.patricia_nodes.proofs.FillLemmas.{stands-within, count-fill}
 use Rattle.patricia_nodes.proofs.SpotLemmas.{has_spot_within}

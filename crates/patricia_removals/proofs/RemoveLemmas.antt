@@ -22,7 +22,9 @@ use Rattle.patricia_nodes.proofs.PlanLemmas.{plan_is, node_is}
 use Rattle.patricia_nodes.proofs.FillLemmas.{row-within, stands-within}
 use Rattle.patricia_nodes.proofs.WriteLemmas.{holds_write}
 use Rattle.patricia_nodes.proofs.SeekLemmas.{Opened, opened, head_within, place_row, focus_plan_at, stop_at, here_passes}
-use Rattle.patricia_removals.proofs.TakeLemmas.{Gone, gone_past, gone_joined, gone-fill, spared-fill, joins-fill}
+use Rattle.patricia_removals.proofs.TakeLemmas.{Gone, gone-fill, spared-fill, joins-fill}
+use Rattle.patricia_removals.proofs.OtherLemmas.{Inside, inside, whole_ok, upper_ok, left_plan, labels_are, other_gone}
+use Rattle.patricia_rows.proofs.LeavingLemmas.{others_leave}
 use Rattle.patricia_rows.proofs.RemovalLemmas.{others_before, others_within, row_first_removed, entries_first_removed}
 use Rattle.patricia_rows.proofs.JoinLemmas.{joins_lone, joins_alone}
 
@@ -54,90 +56,8 @@ module _ {V : Type 0} where
 
 module _ (item : List ℕ → Type 0) (kind : IsKeyKind item) {V : Type 0} where
   -- the first node goes, or its value does
-  first_gone : (l : List ℕ) (v : Option V) (c s : Row V) → IsRow item (node l v c s) → (q : List ℕ) → Passes item q l [] → Gone item (node l v c s) (without_first (node l v c s)) q
+  first_gone : (l : List ℕ) (v : Option V) (c s : Row V) → IsRow item (node l v c s) → (q : List ℕ) → Passes item q l [] → Gone item others (node l v c s) (without_first (node l v c s)) q
   first_gone l v c s ok q passes = record { row_ok = row_first_removed item kind (node l v c s) ok; left_is = entries_first_removed item kind l v c s ok q [] passes refl }
-
-  -- a leaf and one other node stand below a node without value
-  module _ (id u o : ℕ) (l : List ℕ) (x : Option V) (key rest : List ℕ) (passes : Passes item rest l []) (fs : List (Frame V)) (d : Plan V) (leads : Leads item fs key rest) (ok : IsRow item (row (fill fs (Cell id l x Nil d)))) (gone_leaf : without_first (node l x end (row d)) ≡ row d) (left : LeavesOther fs d u o) where
-    abbrev after : Plan V
-    after = Cell u (left.label ++ left.inner) left.own left.below left.beside
-
-    abbrev lone : Plan V
-    lone = Cell o left.inner left.own left.below Nil
-
-    pub left_plan : fill fs d ≡ fill left.outer (Cell u left.label None lone left.beside)
-    left_plan = elim left.stands [ inl e ↦ rw (e.0, e.1) refl | inr e ↦ rw (e.0, e.1) refl ]
-
-    -- the two of them, and what is left of them
-    record Inside : Type 0 where
-      pub old : Plan V
-      pub was : fill fs (Cell id l x Nil d) ≡ fill left.outer (Cell u left.label None old left.beside)
-      pub before : List ℕ
-      pub through : Passes item before left.label rest
-      pub filled : rest ≢ []
-      pub outer_leads : Leads item left.outer key before
-      pub gone : IsRow item (row old) → Gone item (row old) (row lone) rest
-      pub joins : IsRow item (node left.label None (row old) (row left.beside)) → Joins item (keys_of (entries (node left.label None (row old) (row left.beside)))) before
-
-    inside : Inside
-    inside = elim left.stands [
-      | inl e ↦
-          let way : Leads item (InChild u left.label None left.beside ∷ left.outer) key rest = rw e.0 at leads in
-          record {
-            old = Cell id l x Nil lone;
-            was = rw (e.0, e.1) refl;
-            before = way.0;
-            through = way.1;
-            filled = way.2;
-            outer_leads = way.3;
-            gone = λ inner. subst (λ (r : Row V). Gone item (node l x end (row lone)) r rest) (subst (λ (q : Plan V). without_first (node l x end (row q)) ≡ row q) e.1 gone_leaf) (first_gone l x end (row lone) inner rest passes);
-            joins = λ inner. joins_alone item kind left.label None (row (Cell id l x Nil lone)) (row left.beside) inner way.0 rest left.inner way.1 way.2 refl (inl (label_is item rest l passes, refl, refl));
-          }
-      | inr e ↦
-          let way : Leads item (InSibling o left.inner left.own left.below ∷ InChild u left.label None left.beside ∷ left.outer) key rest = rw e.0 at leads in
-          let none : without_first (node l x end (row {V = V} Nil)) ≡ row {V = V} Nil = subst (λ (q : Plan V). without_first (node l x end (row q)) ≡ row q) e.1 gone_leaf in
-          record {
-            old = Cell o left.inner left.own left.below (Cell id l x Nil Nil);
-            was = rw (e.0, e.1) refl;
-            before = way.1.0;
-            through = way.1.1;
-            filled = way.1.2;
-            outer_leads = way.1.3;
-            gone = λ inner. gone_past item kind left.inner left.own (row left.below) (node l x end end) end inner rest way.0 (subst (λ (r : Row V). Gone item (node l x end end) r rest) none (first_gone l x end end inner.sibling rest passes));
-            joins = λ inner. joins_alone item kind left.label None (row (Cell o left.inner left.own left.below (Cell id l x Nil Nil))) (row left.beside) inner way.1.0 rest left.inner way.1.1 way.1.2 refl (inr (label_is item rest l passes, refl, refl));
-          }
-    ]
-
-    -- the node above takes in the other
-    whole_ok : IsRow item (row (fill left.outer (Cell u left.label None inside.old left.beside)))
-    whole_ok = subst (λ (q : Plan V). IsRow item (row q)) inside.was ok
-
-    upper_ok : IsRow item (node left.label None (row inside.old) (row left.beside))
-    upper_ok = row-within item left.outer (Cell u left.label None inside.old left.beside) whole_ok
-
-    -- both are in the vector, with their labels
-    pub labels_are : (nodes : List (Node V)) → Stands nodes (fill fs (Cell id l x Nil d)) → ((n : Node V) × (slice_get nodes u ≡ Some n) × (n.label ≡ left.label)) × ((m : Node V) × (slice_get nodes o ≡ Some m) × (m.label ≡ left.inner))
-    labels_are nodes stands = elim left.stands [
-      | inl e ↦
-          let all : Stands nodes (fill left.outer (Cell u left.label None (Cell id l x Nil lone) left.beside)) = rw (e.0, e.1) at stands in
-          let at = stands-within nodes left.outer (Cell u left.label None (Cell id l x Nil lone) left.beside) all in
-          ((linked left.label None (Some id) (head left.beside), at.0, refl), (linked left.inner left.own (head left.below) None, at.1.2.0, refl))
-      | inr e ↦
-          let all : Stands nodes (fill left.outer (Cell u left.label None (Cell o left.inner left.own left.below (Cell id l x Nil Nil)) left.beside)) = rw (e.0, e.1) at stands in
-          let at = stands-within nodes left.outer (Cell u left.label None (Cell o left.inner left.own left.below (Cell id l x Nil Nil)) left.beside) all in
-          ((linked left.label None (Some o) (head left.beside), at.0, refl), (linked left.inner left.own (head left.below) (Some id), at.1.0, refl))
-    ]
-
-    pub alone_gone : Gone item (row (fill fs (Cell id l x Nil d))) (row (fill left.outer after)) key
-    alone_gone =
-        subst (λ (q : Plan V). Gone item (row q) (row (fill left.outer after)) key) (sym inside.was)
-        (gone-fill item kind left.outer (Cell u left.label None inside.old left.beside) after whole_ok key inside.before inside.outer_leads (omega arith)
-        (gone_joined item kind left.label (row inside.old) (row left.beside) left.inner left.own (row left.below) upper_ok inside.before rest inside.through inside.filled (inside.gone upper_ok.child)))
-
-    pub alone_joins : Joins item (keys_of (entries (row (fill fs (Cell id l x Nil d))))) key
-    alone_joins =
-        subst (λ (q : Plan V). Joins item (keys_of (entries (row q))) key) (sym inside.was)
-        (joins-fill item kind left.outer (Cell u left.label None inside.old left.beside) whole_ok key inside.before inside.outer_leads (inside.joins upper_ok))
 
 module _ (item : List ℕ → Type 0) (kind : IsKeyKind item) {V : Type 0} (s : Slots V) (key : List ℕ) (whole : IsWhole s) (ok : IsRow item (row_of s)) (spot : Spot) (at : Option ℕ) (rest : List ℕ) (stop : Stop) (p : Placed item s key spot at rest stop) (id : ℕ) (is : stop ≡ Here id) (r : Node V) (reads : r ≡ get_or s.nodes.items id r) where
   pub there : Opened s.nodes.items p.focus id r
@@ -170,7 +90,7 @@ module _ (item : List ℕ → Type 0) (kind : IsKeyKind item) {V : Type 0} (s : 
   pub here_is : slice_get s.nodes.items id ≡ Some r
   here_is = (stands-within s.nodes.items p.frames cell holds.1.plan_ok.stands).0 ∙ ap Some (sym (node_is s.nodes.items id r _ (stands-within s.nodes.items p.frames cell holds.1.plan_ok.stands).0 reads))
 
-  removes : (new : Slots V) (plan : Plan V) → Holds new plan → Gone item (row (fill p.frames cell)) (row plan) key → Removes item s new key
+  removes : (new : Slots V) (plan : Plan V) → Holds new plan → Gone item others (row (fill p.frames cell)) (row plan) key → Removes item s new key
   removes new plan h gone =
       let same : plan_at new.nodes.items new.root ≡ plan = plan_is new.nodes.items new.root plan h.1.plan_ok in
       record {
@@ -203,13 +123,13 @@ module _ (item : List ℕ → Type 0) (kind : IsKeyKind item) {V : Type 0} (s : 
       pub lone_child : m.sibling ≡ None → there.child ≡ Cell k m.label m.value first_child.child Nil
       lone_child last = first_child.is ∙ ap (Cell k m.label m.value first_child.child) (plan_end s.nodes.items m.sibling first_child.sibling first_child.sibling_plan last)
 
-  gone_cell : Gone item (row cell) (without_first (row cell)) rest
+  gone_cell : Gone item others (row cell) (without_first (row cell)) rest
   gone_cell = first_gone item kind r.label r.value (row there.child) (row there.sibling) inner_ok rest passes
 
   -- a node stays in the place
   removes_in : (new : Slots V) (q : Plan V) → Holds new (fill p.frames q) → without_first (row cell) ≡ row q → 1 + width (row there.sibling) ≤ width (row q) → Removes item s new key
   removes_in new q h same wide =
-      removes new (fill p.frames q) h (gone-fill item kind p.frames cell q whole_ok' key rest p.leads (omega arith) (subst (λ (x : Row V). Gone item (row cell) x rest) same gone_cell))
+      removes new (fill p.frames q) h (gone-fill item kind others (others_leave item kind) p.frames cell q whole_ok' key rest p.leads (omega arith) (subst (λ (x : Row V). Gone item others (row cell) x rest) same gone_cell))
 
   -- a node without value stays as it is
   pub removes_none : r.value ≡ None → Removes item s s key
@@ -271,8 +191,8 @@ module _ (item : List ℕ → Type 0) (kind : IsKeyKind item) {V : Type 0} (s : 
       leaf_ok : IsRow item (row (fill p.frames leaf_cell))
       leaf_ok = subst (λ (q : Plan V). IsRow item (row (fill p.frames q))) leaf_is whole_ok'
 
-      gone_leaf : without_first (node r.label r.value end (row there.sibling)) ≡ row there.sibling
-      gone_leaf = first_leaf r.label r.value (row there.sibling) valued
+      leaf_goes : (beside : Row V) → IsRow item (node r.label r.value end beside) → Gone item others (node r.label r.value end beside) beside rest
+      leaf_goes beside inner = subst (λ x. Gone item others (node r.label r.value end beside) x rest) (first_leaf r.label r.value beside valued) (first_gone item kind r.label r.value end beside inner rest passes)
 
       pub has_leaf : HasLeafAt s spot id
       has_leaf = (p.frames, r.label, r.value, there.sibling, p.spot_is, leaf_holds)
@@ -280,21 +200,26 @@ module _ (item : List ℕ → Type 0) (kind : IsKeyKind item) {V : Type 0} (s : 
       pub removes_leaf : (new : Slots V) (taken : Option V) → Unlinks s new spot id taken → Spares p.frames there.sibling → Removes item s new key
       removes_leaf new taken unlinks spares =
           removes new (fill p.frames there.sibling) (unlinks p.frames r.label r.value there.sibling p.spot_is leaf_holds).0
-          (spared-fill item kind p.frames cell there.sibling whole_ok' key rest p.leads spares
-          (subst (λ (x : Row V). Gone item (row cell) x rest) (ap (λ (q : Plan V). without_first (row q)) leaf_is ∙ gone_leaf) gone_cell))
+          (spared-fill item kind others (others_leave item kind) p.frames cell there.sibling whole_ok' key rest p.leads spares
+          (subst (λ (q : Plan V). Gone item others (row q) (row there.sibling) rest) (sym leaf_is) (leaf_goes (row there.sibling) (row-within item p.frames leaf_cell leaf_ok))))
 
       -- and the node above takes in the other child
       module _ (u o : ℕ) (left : LeavesOther p.frames there.sibling u o) where
         left_is : fill p.frames there.sibling ≡ fill left.outer (Cell u left.label None (Cell o left.inner left.own left.below Nil) left.beside)
-        left_is = left_plan item kind id u o r.label r.value key rest passes p.frames there.sibling p.leads leaf_ok gone_leaf left
+        left_is = left_plan item kind others (others_leave item kind) id r.label r.value Nil key rest leaf_goes p.frames there.sibling p.leads leaf_ok u o left
 
         pub labels_left : ((n : Node V) × (slice_get s.nodes.items u ≡ Some n) × (n.label ≡ left.label)) × ((m : Node V) × (slice_get s.nodes.items o ≡ Some m) × (m.label ≡ left.inner))
-        labels_left = labels_are item kind id u o r.label r.value key rest passes p.frames there.sibling p.leads leaf_ok gone_leaf left s.nodes.items leaf_holds.1.plan_ok.stands
+        labels_left = labels_are item kind others (others_leave item kind) id r.label r.value Nil key rest leaf_goes p.frames there.sibling p.leads leaf_ok u o left s.nodes.items leaf_holds.1.plan_ok.stands
+
+        abbrev two : Inside item kind others (others_leave item kind) id r.label r.value Nil key rest leaf_goes p.frames there.sibling p.leads leaf_ok u o left
+        two = inside item kind others (others_leave item kind) id r.label r.value Nil key rest leaf_goes p.frames there.sibling p.leads leaf_ok u o left
 
         pub joins_left : Joins item (keys_of (entries_of s)) key
         joins_left =
             subst (λ (q : Plan V). Joins item (keys_of (entries (row q))) key) (ap (fill p.frames) (sym leaf_is) ∙ filled)
-            (alone_joins item kind id u o r.label r.value key rest passes p.frames there.sibling p.leads leaf_ok gone_leaf left)
+            (subst (λ (q : Plan V). Joins item (keys_of (entries (row q))) key) (sym two.was)
+            (joins-fill item kind left.outer (Cell u left.label None two.old left.beside) (whole_ok item kind others (others_leave item kind) id r.label r.value Nil key rest leaf_goes p.frames there.sibling p.leads leaf_ok u o left) key two.before two.outer_leads
+            (joins_alone item kind left.label None (row two.old) (row left.beside) (upper_ok item kind others (others_leave item kind) id r.label r.value Nil key rest leaf_goes p.frames there.sibling p.leads leaf_ok u o left) two.before rest left.inner two.through two.filled refl (two.alone (label_is item rest r.label passes) refl))))
 
         module _ (mid : Slots V) (taken : Option V) (unlinks : Unlinks s mid spot id taken) where
           mid_holds : Holds mid (fill left.outer (Cell u left.label None (Cell o left.inner left.own left.below Nil) left.beside))
@@ -307,8 +232,8 @@ module _ (item : List ℕ → Type 0) (kind : IsKeyKind item) {V : Type 0} (s : 
           removes_left new joined none is absorbs =
               removes new (fill left.outer (Cell u (left.label ++ left.inner) left.own left.below left.beside))
               (rw (← is) (absorbs left.outer left.label None left.inner left.own left.below left.beside mid_holds).0)
-              (subst (λ (q : Plan V). Gone item (row (fill p.frames q)) (row (fill left.outer (Cell u (left.label ++ left.inner) left.own left.below left.beside))) key) (sym leaf_is)
-              (alone_gone item kind id u o r.label r.value key rest passes p.frames there.sibling p.leads leaf_ok gone_leaf left))
+              (subst (λ (q : Plan V). Gone item others (row (fill p.frames q)) (row (fill left.outer (Cell u (left.label ++ left.inner) left.own left.below left.beside))) key) (sym leaf_is)
+              (other_gone item kind others (others_leave item kind) id r.label r.value Nil key rest leaf_goes p.frames there.sibling p.leads leaf_ok u o left))
 
 module _ (item : List ℕ → Type 0) (kind : IsKeyKind item) {V : Type 0} (s : Slots V) (key : List ℕ) (whole : IsWhole s) (ok : IsRow item (row_of s)) (spot : Spot) (at : Option ℕ) (rest : List ℕ) (stop : Stop) (p : Placed item s key spot at rest stop) (id : ℕ) (is : stop ≡ Here id) where
   -- the node of the key can be read
@@ -409,7 +334,7 @@ module _ (item : List ℕ → Type 0) (kind : IsKeyKind item) {V : Type 0} where
   others_none s key whole ok spot at rest stop p none =
       let around = place_row item kind s key whole ok spot at rest stop p in
       let inner = row-within item p.frames p.focus around in
-      let gone = gone-fill item kind p.frames p.focus p.focus around key rest p.leads (omega arith) (record { row_ok = inner; left_is = sym (absent p.focus inner rest stop p.stops none) }) in
+      let gone = gone-fill item kind others (others_leave item kind) p.frames p.focus p.focus around key rest p.leads (omega arith) (record { row_ok = inner; left_is = sym (absent p.focus inner rest stop p.stops none) }) in
       subst (λ (q : Plan V). entries (row q) ≡ others key (entries (row q))) p.filled gone.left_is
 
 -- what holds after a value was taken out, or not

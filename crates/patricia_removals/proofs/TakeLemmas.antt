@@ -1,47 +1,48 @@
--- A key that is taken out of its place.
+-- Rows that are taken out of their place: the row of a key, or those under a prefix.
 use Rattle.std.proofs.Common.{◌≡◌, ◌≢◌, ℕ, ◌≤◌, List, [], ◌∷◌, ◌++◌, Option, None, sym, ap, subst, ◌∙◌, arith}
 use Rattle.patricia_keys.specs.Keys.{IsKeyKind}
 use Rattle.patricia_rows.specs.Rows.{Row, end, node, prefixed, own, entries, keys_of, IsBefore, IsRow}
 use Rattle.patricia_rows.specs.Points.{Joins}
 use Rattle.patricia_rows.specs.Private.Meeting.{Passes}
-use Rattle.patricia_rows.specs.Private.Removals.{others, width}
+use Rattle.patricia_rows.specs.Private.Removals.{width}
 use Rattle.patricia_nodes.specs.Private.Plans.{Plan, Cell, row}
 use Rattle.patricia_nodes.specs.Private.Places.{Frame, InChild, InSibling, fill, Leads}
 use Rattle.patricia_removals.specs.Private.Frees.{Spares}
 use Rattle.patricia_nodes.proofs.FillLemmas.{row-within}
-use Rattle.patricia_rows.proofs.RemovalLemmas.{row_past_removed, entries_past_removed, others_deeper, earns_by_width, width_of_earned, taken_in_row, taken_in_entries}
+use Rattle.patricia_rows.proofs.RemovalLemmas.{earns_by_width, width_of_earned, taken_in_row, taken_in_entries}
+use Rattle.patricia_rows.proofs.LeavingLemmas.{Leaves, row_past_left, entries_past_left}
 use Rattle.patricia_rows.proofs.JoinLemmas.{joins_past, joins_deeper}
 
--- a key is gone from a row
-pub record Gone (item : List ℕ → Type 0) {V : Type 0} (old new : Row V) (key : List ℕ) : Type 0 where
+-- they are gone from a row
+pub record Gone (item : List ℕ → Type 0) {V : Type 0} (left : List ℕ → List (List ℕ × V) → List (List ℕ × V)) (old new : Row V) (key : List ℕ) : Type 0 where
   pub row_ok : IsRow item new
-  pub left_is : entries new ≡ others key (entries old)
+  pub left_is : entries new ≡ left key (entries old)
 
-module _ (item : List ℕ → Type 0) (kind : IsKeyKind item) {V : Type 0} where
+module _ (item : List ℕ → Type 0) (kind : IsKeyKind item) {V : Type 0} (left : List ℕ → List (List ℕ × V) → List (List ℕ × V)) (leaves : Leaves item left) where
   -- past a node
-  pub gone_past : (l : List ℕ) (v : Option V) (c s s' : Row V) → IsRow item (node l v c s) → (q : List ℕ) → IsBefore item l q → Gone item s s' q → Gone item (node l v c s) (node l v c s') q
+  pub gone_past : (l : List ℕ) (v : Option V) (c s s' : Row V) → IsRow item (node l v c s) → (q : List ℕ) → IsBefore item l q → Gone item left s s' q → Gone item left (node l v c s) (node l v c s') q
   gone_past l v c s s' ok q before gone = record {
-    row_ok = row_past_removed item kind l v c s ok q s' gone.row_ok gone.left_is;
-    left_is = entries_past_removed item kind l v c s ok q s' before gone.left_is;
+    row_ok = row_past_left item kind left leaves l v c s ok q s' gone.row_ok gone.left_is;
+    left_is = entries_past_left item kind left leaves l v c s ok q s' before gone.left_is;
   }
 
   -- through a node that keeps its place
-  gone_through : (l : List ℕ) (v : Option V) (c s c' : Row V) → IsRow item (node l v c s) → (q t : List ℕ) → Passes item q l t → t ≢ [] → Gone item c c' t → (v ≡ None → 2 ≤ width c') → Gone item (node l v c s) (node l v c' s) q
+  gone_through : (l : List ℕ) (v : Option V) (c s c' : Row V) → IsRow item (node l v c s) → (q t : List ℕ) → Passes item q l t → t ≢ [] → Gone item left c c' t → (v ≡ None → 2 ≤ width c') → Gone item left (node l v c s) (node l v c' s) q
   gone_through l v c s c' ok q t passes filled gone two = record {
     row_ok = record { valid = ok.valid; filled = ok.filled; fits = tt; earns = earns_by_width item kind l v c' two; rises = ok.rises; child = gone.row_ok; sibling = ok.sibling };
-    left_is = ap (λ es. prefixed l (own v ++ es) ++ entries s) gone.left_is ∙ sym (others_deeper item kind l v c s ok q t passes filled);
+    left_is = ap (λ es. prefixed l (own v ++ es) ++ entries s) gone.left_is ∙ sym (leaves.deeper l v c s ok q t passes filled);
   }
 
   -- through a node without value that takes in what is left below it
-  pub gone_joined : (l : List ℕ) (c s : Row V) (m : List ℕ) (w : Option V) (d : Row V) → IsRow item (node l None c s) → (q t : List ℕ) → Passes item q l t → t ≢ [] → Gone item c (node m w d end) t → Gone item (node l None c s) (node (l ++ m) w d s) q
+  pub gone_joined : (l : List ℕ) (c s : Row V) (m : List ℕ) (w : Option V) (d : Row V) → IsRow item (node l None c s) → (q t : List ℕ) → Passes item q l t → t ≢ [] → Gone item left c (node m w d end) t → Gone item left (node l None c s) (node (l ++ m) w d s) q
   gone_joined l c s m w d ok q t passes filled gone = record {
     row_ok = taken_in_row item kind l None m w d s ok.valid ok.filled ok.rises ok.sibling gone.row_ok;
-    left_is = taken_in_entries item kind l m w d s ∙ ap (λ es. prefixed l es ++ entries s) gone.left_is ∙ sym (others_deeper item kind l None c s ok q t passes filled);
+    left_is = taken_in_entries item kind l m w d s ∙ ap (λ es. prefixed l es ++ entries s) gone.left_is ∙ sym (leaves.deeper l None c s ok q t passes filled);
   }
 
   -- a place that has as many nodes as before
-  pub gone-fill : (fs : List (Frame V)) (q p : Plan V) → IsRow item (row (fill fs q)) → (key rest : List ℕ) → Leads item fs key rest → width (row q) ≤ width (row p) → Gone item (row q) (row p) rest → Gone item (row (fill fs q)) (row (fill fs p)) key
-  gone-fill [] q p ok key rest e wide gone = subst (Gone item (row q) (row p)) e gone
+  pub gone-fill : (fs : List (Frame V)) (q p : Plan V) → IsRow item (row (fill fs q)) → (key rest : List ℕ) → Leads item fs key rest → width (row q) ≤ width (row p) → Gone item left (row q) (row p) rest → Gone item left (row (fill fs q)) (row (fill fs p)) key
+  gone-fill [] q p ok key rest e wide gone = subst (Gone item left (row q) (row p)) e gone
   gone-fill (InChild id l v d ∷ fs) q p ok key rest (before, passes, filled, leads) wide gone =
       let inner = row-within item fs (Cell id l v q d) ok in
       gone-fill fs (Cell id l v q d) (Cell id l v p d) ok key before leads (omega arith)
@@ -53,8 +54,8 @@ module _ (item : List ℕ → Type 0) (kind : IsKeyKind item) {V : Type 0} where
       (gone_past l v (row c) (row q) (row p) inner rest before gone)
 
   -- or fewer, where the node above keeps its place
-  pub spared-fill : (fs : List (Frame V)) (q p : Plan V) → IsRow item (row (fill fs q)) → (key rest : List ℕ) → Leads item fs key rest → Spares fs p → Gone item (row q) (row p) rest → Gone item (row (fill fs q)) (row (fill fs p)) key
-  spared-fill [] q p ok key rest e spares gone = subst (Gone item (row q) (row p)) e gone
+  pub spared-fill : (fs : List (Frame V)) (q p : Plan V) → IsRow item (row (fill fs q)) → (key rest : List ℕ) → Leads item fs key rest → Spares fs p → Gone item left (row q) (row p) rest → Gone item left (row (fill fs q)) (row (fill fs p)) key
+  spared-fill [] q p ok key rest e spares gone = subst (Gone item left (row q) (row p)) e gone
   spared-fill (InChild id l v d ∷ fs) q p ok key rest (before, passes, filled, leads) spares gone =
       let inner = row-within item fs (Cell id l v q d) ok in
       gone-fill fs (Cell id l v q d) (Cell id l v p d) ok key before leads (omega arith)
@@ -64,6 +65,7 @@ module _ (item : List ℕ → Type 0) (kind : IsKeyKind item) {V : Type 0} where
       spared-fill fs (Cell id l v c q) (Cell id l v c p) ok key rest leads spares
       (gone_past l v (row c) (row q) (row p) inner rest before gone)
 
+module _ (item : List ℕ → Type 0) (kind : IsKeyKind item) {V : Type 0} where
   -- labels that are joined in the place are joined in the whole
   pub joins-fill : (fs : List (Frame V)) (q : Plan V) → IsRow item (row (fill fs q)) → (key rest : List ℕ) → Leads item fs key rest → Joins item (keys_of (entries (row q))) rest → Joins item (keys_of (entries (row (fill fs q)))) key
   joins-fill [] q ok key rest e joins = subst (Joins item (keys_of (entries (row q)))) e joins

@@ -8,7 +8,7 @@ ghost use Rattle.patricia_rows.specs.Rows.{IsRow, keys_of};
 ghost use Rattle.patricia_nodes.specs.declared.slots.seek.Stop.TheVariants.{Here};
 ghost use Rattle.patricia_nodes.specs.Private.Plans.{Plan, IsPlan, IsWhole, row, row_of, entries_of};
 ghost use Rattle.patricia_nodes.specs.Private.Writes.{Ready};
-ghost use Rattle.patricia_removals.specs.Private.Frees.{Frees, HasLeafAt, Unlinks, HasLone, Absorbs, IsJoined, IsPair, HasNodeAt, LeftAlone, IsLeaf, IsValued, HasValue, RemovesAt, JoinsAt};
+ghost use Rattle.patricia_removals.specs.Private.Frees.{HasLeafAt, Unlinks, HasLone, Absorbs, IsJoined, IsPair, HasNodeAt, LeftAlone, IsLeaf, IsValued, HasValue, RemovesAt, JoinsAt};
 
 use patricia_keys::{BorrowedBytes, Bytes};
 use patricia_labels::label::Label;
@@ -18,28 +18,12 @@ use patricia_nodes::slots::{Node, Slots};
 use std::alloc::{AllocError, Global};
 use std::mem;
 
-// Takes a node out. Its place in the vector holds the number of the next free one, so that
-// nothing is asked for.
-fn release<V: Drop>(slots: &mut Slots<V>, alloc: Global, id: NodeId) -> Node<V>
-    requires { id < vec_len slots.old.nodes }
-    ensures frees { Frees slots.old slots.new id result }
-{
-    let hollow = Node {
-        label: Label::empty(alloc),
-        value: None,
-        child: Link::none(),
-        sibling: slots.free,
-    };
-    slots.free = Link::some(id);
-    mem::replace(&mut slots.nodes[id.index()], hollow)
-}
-
 // Takes a node without children out of its place, and gives its value.
 fn unlink<V: Drop>(slots: &mut Slots<V>, alloc: Global, spot: Spot, id: NodeId) -> Option<V>
     requires { HasLeafAt slots.old spot id }
     ensures { Unlinks slots.old slots.new spot id result }
 {
-    let node = release(slots, alloc, id);
+    let node = slots.release(alloc, id);
     slots.relink(spot, node.sibling);
     node.value
 }
@@ -55,7 +39,7 @@ fn absorb<V: Drop>(
     requires { HasLone slots.old upper lower }
     ensures { Absorbs slots.old slots.new upper lower label result }
 {
-    let Node { value, child, .. } = release(slots, alloc, lower);
+    let Node { value, child, .. } = slots.release(alloc, lower);
     let node = &mut slots.nodes[upper.index()];
     node.label = label;
     node.child = child;

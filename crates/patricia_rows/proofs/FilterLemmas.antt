@@ -36,7 +36,7 @@ no_shorter a b k x y less = elim (begins_either a b x.0 y.0 (x.1 ∙ sym y.1)) [
 
 -- the members that a test lets through
 module _ {A : Type 0} (f : A → Bool) where
-  has_filter : (xs : List A) (x : A) → Has (filter f xs) x → Has xs x × (f x ≡ true)
+  pub has_filter : (xs : List A) (x : A) → Has (filter f xs) x → Has xs x × (f x ≡ true)
   has_filter [] x h = absurd h
   has_filter (y ∷ xs) x h = by (f y) refl (has_filter xs x)
     where
@@ -47,7 +47,7 @@ module _ {A : Type 0} (f : A → Bool) where
       ]
       by false e rest = let found = rest (subst (λ b. Has (cond b (y ∷ filter f xs) (filter f xs)) x) e h) in (inr found.0, found.1)
 
-  filter_has : (xs : List A) (x : A) → Has xs x → f x ≡ true → Has (filter f xs) x
+  pub filter_has : (xs : List A) (x : A) → Has xs x → f x ≡ true → Has (filter f xs) x
   filter_has [] x h pass = absurd h
   filter_has (y ∷ xs) x (inl same) pass = subst (λ b. Has (cond b (y ∷ filter f xs) (filter f xs)) x) (sym (ap f same ∙ pass)) (inl same)
   filter_has (y ∷ xs) x (inr h) pass = by (f y) (filter_has xs x h pass)

@@ -4,10 +4,12 @@ pub mod FilterLemmas
 pub mod GetLemmas
 pub mod InsertLemmas
 pub mod JoinLemmas
+pub mod LeavingLemmas
 pub mod ListLemmas
 pub mod MeetingLemmas
 pub mod MemberLemmas
 pub mod OrderLemmas
+pub mod OutsideLemmas
 pub mod PointLemmas
 pub mod PrefixLemmas
 pub mod ReachLemmas

@@ -72,7 +72,7 @@ module _ {V : Type 0} where
   along-append k xs ys = filter-append _ xs ys
 
   -- a test that looks past a front
-  filter-prefixed : (f g : List ℕ → Bool) (l : List ℕ) → ((k : List ℕ) → f (l ++ k) ≡ g k) → (es : List (List ℕ × V)) → filter (λ e. f e.0) (prefixed l es) ≡ prefixed l (filter (λ e. g e.0) es)
+  pub filter-prefixed : (f g : List ℕ → Bool) (l : List ℕ) → ((k : List ℕ) → f (l ++ k) ≡ g k) → (es : List (List ℕ × V)) → filter (λ e. f e.0) (prefixed l es) ≡ prefixed l (filter (λ e. g e.0) es)
   filter-prefixed f g l same [] = refl
   filter-prefixed f g l same (e ∷ es) =
       ap (λ b. cond b ((l ++ e.0, e.1) ∷ filter (λ e. f e.0) (prefixed l es)) (filter (λ e. f e.0) (prefixed l es))) (same e.0)
@@ -164,10 +164,11 @@ module _ (item : List ℕ → Type 0) (kind : IsKeyKind item) {V : Type 0} (l : 
       ]
 
   -- under a prefix past the label, and before it
+  pub first_none : (p : List ℕ) → IsBefore item l p → under p (prefixed l (own v ++ entries c)) ≡ []
+  first_none p before = under_none p _ (AllKeys-prefixed (λ k. Begins p k → ⊥) l (λ t b. key_cmp-irreflexive (l ++ t) (p ++ b.0) (sym b.1) (IsBefore-less item kind l p t b.0 before)) (own v ++ entries c))
+
   pub under_past : (p : List ℕ) → IsBefore item l p → under p (entries (node l v c s)) ≡ under p (entries s)
-  under_past p before =
-      under-append p (prefixed l (own v ++ entries c)) (entries s)
-      ∙ ap (λ r. r ++ under p (entries s)) (under_none p _ (AllKeys-prefixed (λ k. Begins p k → ⊥) l (λ t b. key_cmp-irreflexive (l ++ t) (p ++ b.0) (sym b.1) (IsBefore-less item kind l p t b.0 before)) (own v ++ entries c)))
+  under_past p before = under-append p (prefixed l (own v ++ entries c)) (entries s) ∙ ap (λ r. r ++ under p (entries s)) (first_none p before)
 
   lacks : (p i k : List ℕ) → item i → Begins i k → Begins i p → (r : Row V) → IsRow item r → IsBeforeRow item k r → under p (entries r) ≡ []
   lacks p i k is b d r row_ok before = under_none p _ (AllKeys-follows (λ q. Begins i q → ⊥) (λ q. Begins p q → ⊥) (λ q none more. none (Begins-trans i p q d more)) (entries r) (lacks_item item kind None i k is b r row_ok before))
@@ -175,7 +176,7 @@ module _ (item : List ℕ → Type 0) (kind : IsKeyKind item) {V : Type 0} (l : 
   pub under_before : (p : List ℕ) → IsBefore item p l → under p (entries (node l v c s)) ≡ []
   under_before p before = lacks p before.first p before.first_item before.first_begins before.first_begins (node l v c s) ok before
 
-  past_none : (p : List ℕ) → SharesItem item p l → under p (entries s) ≡ []
+  pub past_none : (p : List ℕ) → SharesItem item p l → under p (entries s) ≡ []
   past_none p share = lacks p share.shared l share.is_item share.begins_second share.begins_first s ok.sibling ok.rises
 
   -- under one that goes on past the label

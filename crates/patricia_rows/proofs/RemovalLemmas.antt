@@ -13,7 +13,7 @@ use Rattle.patricia_keys.proofs.KeyLemmas.{first_of, IsValid-append}
 use Rattle.patricia_rows.proofs.RowLemmas.{AllKeys, prefixed-prefixed, lacks_empty}
 use Rattle.patricia_rows.proofs.ListLemmas.{key_cmp-equal, key_cmp-front}
 use Rattle.patricia_rows.proofs.GetLemmas.{lacks_past, lacks_before, lacks_within, later_lacks}
-use Rattle.patricia_rows.proofs.InsertLemmas.{IsBefore-longer_left, keys_rise, rises_by_keys, earns_elsewhere}
+use Rattle.patricia_rows.proofs.InsertLemmas.{IsBefore-longer_left, earns_elsewhere}
 use Rattle.patricia_rows.proofs.PointLemmas.{nil_first}
 
 module _ {V : Type 0} where
@@ -122,21 +122,6 @@ module _ (item : List ℕ → Type 0) (kind : IsKeyKind item) {V : Type 0} (l : 
 
   pub others_deeper : (q t : List ℕ) → Passes item q l t → t ≢ [] → others q (entries (node l v c s)) ≡ prefixed l (own v ++ others t (entries c)) ++ entries s
   others_deeper q t passes filled = others_through q t passes ∙ ap (λ es. prefixed l es ++ entries s) (others_below item kind t v c filled)
-
-  -- the key was in the rest of the row
-  pub row_past_removed : (q : List ℕ) (s' : Row V) → IsRow item s' → entries s' ≡ others q (entries s) → IsRow item (node l v c s')
-  row_past_removed q s' ok' e = record {
-    valid = ok.valid;
-    filled = ok.filled;
-    fits = tt;
-    earns = ok.earns;
-    rises = rises_by_keys item kind l s' ok' (subst (AllKeys (λ k. IsBefore item l k)) (sym e) (AllKeys-others _ q (entries s) (keys_rise item kind l s ok.sibling ok.rises)));
-    child = ok.child;
-    sibling = ok';
-  }
-
-  pub entries_past_removed : (q : List ℕ) (s' : Row V) → IsBefore item l q → entries s' ≡ others q (entries s) → entries (node l v c s') ≡ others q (entries (node l v c s))
-  entries_past_removed q s' before e = ap (λ es. prefixed l (own v ++ entries c) ++ es) e ∙ sym (others_past q before)
 
 module _ (item : List ℕ → Type 0) (kind : IsKeyKind item) where
   -- the label of the first node is the whole key

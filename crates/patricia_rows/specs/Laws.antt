@@ -1,9 +1,9 @@
 -- What the laws say, each in one sentence.
-use Rattle.std.specs.Prelude.{◌≡◌, ◌↔◌, ◌≤◌, ℕ, List, Option, Some, length, take, IsTrue}
+use Rattle.std.specs.Prelude.{◌≡◌, ◌≢◌, ◌↔◌, ◌⊎◌, ◌≤◌, ℕ, List, Option, Some, length, take, IsTrue}
 use Rattle.std.specs.FinMap as map
 use Rattle.patricia_keys.specs.Keys.{Begins, IsCommon, IsFloor, IsSharedLen, key_cmp}
 use Rattle.patricia_rows.specs.Points.{Has, AreApart, IsPoint, IsParent, IsVisitCount}
-use Rattle.patricia_rows.specs.Prefixes.{begins, under, along, longest, IsReach}
+use Rattle.patricia_rows.specs.Prefixes.{begins, under, outside, along, longest, IsReach}
 use Rattle.patricia_rows.specs.Rows.{Row, entries, keys_of, paths, IsRow, IsRowWithin}
 use Rattle.patricia_rows.specs.Trees.{map_of, IsTree}
 
@@ -16,6 +16,18 @@ abbrev pub UnderIsFiltered : Type 0 → Type 0
 UnderIsFiltered V =
     (p : List ℕ) (rows : List (List ℕ × V)) (r : List ℕ × V)
     → Has (under p rows) r ↔ (Has rows r × Begins p r.0)
+
+-- the rows under a prefix and those outside it are all rows together
+abbrev pub HoldTogether : Type 0 → Type 0
+HoldTogether V =
+    (p : List ℕ) (rows : List (List ℕ × V)) (r : List ℕ × V)
+    → Has rows r ↔ (Has (under p rows) r ⊎ Has (outside p rows) r)
+
+-- and they have no key in common
+abbrev pub HaveNoKeyInCommon : Type 0 → Type 0
+HaveNoKeyInCommon V =
+    (p : List ℕ) (rows : List (List ℕ × V)) (r s : List ℕ × V)
+    → Has (under p rows) r → Has (outside p rows) s → r.0 ≢ s.0
 
 -- along a key are those rows whose key begins it
 abbrev pub AlongIsFiltered : Type 0 → Type 0

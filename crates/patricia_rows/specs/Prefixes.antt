@@ -1,5 +1,5 @@
 -- Questions about prefixes, over rows in key order.
-use Rattle.std.specs.Prelude.{◌≡◌, ℕ, ◌≤◌, ◌⊎◌, Bool, List, [], Option, None, filter, nat_eq}
+use Rattle.std.specs.Prelude.{◌≡◌, ℕ, ◌≤◌, ◌⊎◌, Bool, List, [], Option, None, filter, not, nat_eq}
 use Rattle.std.specs.List.{starts_with, last_or}
 use Rattle.patricia_keys.specs.Keys.{IsCommon}
 use Rattle.patricia_rows.specs.Points.{Has}
@@ -12,6 +12,10 @@ module _ {V : Type 0} where
   -- the rows whose key begins with p
   abbrev pub under : List ℕ → List (List ℕ × V) → List (List ℕ × V)
   under p rows = filter (λ e. begins p e.0) rows
+
+  -- the other rows: those whose key does not begin with p
+  abbrev pub outside : List ℕ → List (List ℕ × V) → List (List ℕ × V)
+  outside p rows = filter (λ e. not (begins p e.0)) rows
 
   -- the rows whose key is a beginning of k; in key order they are the shortest first
   abbrev pub along : List ℕ → List (List ℕ × V) → List (List ℕ × V)

@@ -2,6 +2,7 @@
 ghost use Rattle.std.specs.Prelude.{[]};
 ghost use Rattle.patricia_keys.specs.ByteKind.{IsByteItem};
 ghost use Rattle.patricia_rows.specs.Laws.{TestsBeginnings, UnderIsFiltered, AlongIsFiltered, LastIsLongest, HasOneReach};
+ghost use Rattle.patricia_rows.specs.Laws.{HoldTogether, HaveNoKeyInCommon};
 ghost use Rattle.patricia_rows.specs.Laws.{CommonIsFloor, HasOneParent, HasOneVisitCount, HasOneTree, TreeStandsAtPoints, HasOneShape, RowStandsAtPoints};
 ghost use Rattle.patricia_rows.specs.Points.{IsVisitCount};
 ghost use Rattle.patricia_rows.specs.ThreeKeys.{three_keys, baz, foo, aaa};
@@ -53,6 +54,12 @@ pub fn prefixes_filter<V>()
     ensures test { TestsBeginnings }
     ensures under { UnderIsFiltered V }
     ensures along { AlongIsFiltered V }
+{}
+
+/// The rows under a prefix and those outside it have no key in common, and are all rows together.
+pub fn split_parts<V>()
+    ensures together { HoldTogether V }
+    ensures apart { HaveNoKeyInCommon V }
 {}
 
 /// The last of the rows along a key has the longest key of them.

@@ -1,12 +1,12 @@
 -- What writes leave of nodes in one vector.
-use Rattle.std.specs.Prelude.{◌≡◌, ℕ, ◌+◌, ◌<◌, ◌≤◌, List, length, Option, Some, None, slice_get, slice_set, vec_len, vec_capacity}
+use Rattle.std.specs.Prelude.{◌≡◌, ℕ, ◌+◌, ◌<◌, ◌≤◌, List, [], length, Option, Some, None, slice_get, slice_set, vec_len, vec_capacity}
 use Rattle.patricia_nodes.specs.declared.slots.Node.{Node}
 use Rattle.patricia_nodes.specs.declared.slots.Slots.{Slots}
 use Rattle.patricia_nodes.specs.declared.slots.seek.Place.{Place}
 use Rattle.patricia_nodes.specs.declared.slots.seek.Spot.{Spot}
 use Rattle.patricia_nodes.specs.declared.slots.seek.Spot.TheVariants.{Root, Child, Sibling}
 use Rattle.patricia_rows.specs.Rows.{IsRow}
-use Rattle.patricia_nodes.specs.Private.Plans.{Plan, first, IsChain, Holds, IsWhole, row_of}
+use Rattle.patricia_nodes.specs.Private.Plans.{Plan, linked, first, IsChain, Holds, IsWhole, row_of}
 use Rattle.patricia_nodes.specs.Private.Places.{Frame, fill, spot_of, IsPlace}
 
 -- the node of the spot is in the vector
@@ -41,6 +41,13 @@ module _ {V : Type 0} where
     pub nodes_is : new.nodes.items ≡ old.nodes.items
     pub root_is : new.root ≡ old.root
     pub free_is : new.free ≡ old.free
+
+  -- the node was taken out, and its number is the first that is free
+  pub record Frees (old new : Slots V) (id : ℕ) (n : Node V) : Type 0 where
+    pub taken : slice_get old.nodes.items id ≡ Some n
+    pub nodes_is : new.nodes.items ≡ slice_set old.nodes.items id (linked [] None None old.free)
+    pub root_is : new.root ≡ old.root
+    pub free_is : new.free ≡ Some id
 
   -- the number at the spot is another
   abbrev pub Relinks : Slots V → Slots V → Spot → Option ℕ → Type 0

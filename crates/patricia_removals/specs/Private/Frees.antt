@@ -11,13 +11,6 @@ use Rattle.patricia_nodes.specs.Private.Plans.{Plan, Nil, Cell, linked, row, Hol
 use Rattle.patricia_nodes.specs.Private.Places.{Frame, InChild, InSibling, fill, spot_of, IsPlace}
 
 module _ {V : Type 0} where
-  -- the node was taken out, and its number is the first that is free
-  pub record Frees (old new : Slots V) (id : ℕ) (n : Node V) : Type 0 where
-    pub taken : slice_get old.nodes.items id ≡ Some n
-    pub nodes_is : new.nodes.items ≡ slice_set old.nodes.items id (linked [] None None old.free)
-    pub root_is : new.root ≡ old.root
-    pub free_is : new.free ≡ Some id
-
   -- the number is that of a node without children, which stands at the spot
   abbrev pub HasLeafAt : Slots V → Spot → ℕ → Type 0
   HasLeafAt s spot id =

@@ -3,13 +3,13 @@ use Rattle.std.specs.Vec.{vec_capacity}
 use Rattle.patricia_nodes.specs.Private.Plans.{Plan}
 use Rattle.patricia_nodes.specs.Private.Growth.{IsTopRow}
 use Rattle.patricia_nodes.proofs.GrowthLemmas.{Moving}
-use Rattle.patricia_nodes.proofs.slots.growth.move_row.Given as goal
+use Rattle.patricia_nodes.proofs.slots.Slots.move_row.Given as goal
 
 -- what is moved, and what is left of the row
 abbrev pub invariant-loop-id : goal.invariant-loop-id
 invariant-loop-id g l = record {
   capacity : vec_capacity l.to ≡ vec_capacity l.fn.to;
-  moving : (w : Plan g.row.V.Denot) → IsTopRow l.fn.from.items l.fn.first w → Moving l.fn.from.items l.fn.to.items w l.from.items l.at l.to.items;
+  moving : (w : Plan g.row.V.Denot) → IsTopRow l.fn.self.nodes.items l.fn.first w → Moving l.fn.self l.fn.to.items w l.self l.at l.to.items;
 }
 
 abbrev pub decreases-loop-id : goal.decreases-loop-id

@@ -1,7 +1,7 @@
 use Rattle.std.proofs.Common.{suc, Some, length, sym, ap, ◌∙◌, arith}
 use Rattle.patricia_nodes.proofs.GrowthLemmas.{moving_next, moving_done, number_none, number_some}
-use Rattle.patricia_nodes.proofs.slots.growth.move_row.Goals as goal
-use Rattle.patricia_nodes.proofs.slots.growth.move_row.Goals.{in-None, in-Some-get}
+use Rattle.patricia_nodes.proofs.slots.Slots.move_row.Goals as goal
+use Rattle.patricia_nodes.proofs.slots.Slots.move_row.Goals.{in-None, in-Some-get}
 
 pub loop-id-preserved : goal.loop-id-preserved
 loop-id-preserved g c = record {
@@ -9,9 +9,9 @@ loop-id-preserved g c = record {
   moving = λ w row.
       let found = sym c.get.ensures ∙ c.in-Some.is in
       let m = rw found at c.loop-id.invariant.moving w row in
-      let node = c.take_node-node in
-      moving_next c.args.from.now.items c.args.to.now.items w c.loop-id.from.items node.new.nodes.items c.in-Some.id c.loop-id.to.items c.push_reserved.new.self.items m
-      node.result node.ensures.taken node.ensures.others node.ensures.len
+      let node = c.release-node in
+      moving_next c.args.self.now c.args.to.now.items w c.loop-id.self node.new.self c.in-Some.id c.loop-id.to.items c.push_reserved.new.self.items m
+      node.result node.ensures.frees
       c.match-get-2.sibling
       (λ d e. elim c.match-get-2.branch [
         | in-None b ↦ b.sibling-is ∙ b.none-sibling.ensures ∙ number_none d (suc (length c.loop-id.to.items)) (sym e ∙ sym c.get-in-Some.ensures ∙ b.in-None.is)
@@ -22,8 +22,8 @@ loop-id-preserved g c = record {
 
 pub returns-in-None-get-clause-taken : goal.returns-in-None-get-clause-taken
 returns-in-None-get-clause-taken g c w row =
-    (moving_done c.args.from.now.items c.args.to.now.items w c.loop-id.from.items c.loop-id.to.items (rw (sym c.get.ensures ∙ c.in_default.is) at c.loop-id.invariant.moving w row)).1
+    (moving_done c.args.self.now c.args.to.now.items w c.loop-id.self c.loop-id.to.items (rw (sym c.get.ensures ∙ c.in_default.is) at c.loop-id.invariant.moving w row)).1
 
 pub returns-in-Some-get-2-clause-taken : goal.returns-in-Some-get-2-clause-taken
 returns-in-Some-get-2-clause-taken g c w row =
-    (moving_done c.args.from.now.items c.args.to.now.items w c.loop-id.from.items c.loop-id.to.items (rw (sym c.get.ensures ∙ c.in_default.is) at c.loop-id.invariant.moving w row)).1
+    (moving_done c.args.self.now c.args.to.now.items w c.loop-id.self c.loop-id.to.items (rw (sym c.get.ensures ∙ c.in_default.is) at c.loop-id.invariant.moving w row)).1
