@@ -13,7 +13,7 @@ use Rattle.patricia_nodes.proofs.WriteLemmas.{get-set_same, get-set_other, chain
 module _ {V : Type 0} where
   -- nothing is taken
   pub takes_none : (s : Slots V) → Takes s s (λ i. 0) 0
-  takes_none s = record { others = λ i z. refl; long = refl; root_is = refl; freed = λ spare free once. (spare, free, λ i. refl, refl) }
+  takes_none s = record { others = λ i z. refl; long = refl; root_is = refl; freed = λ spare free once. (spare, free, λ i. omega arith, omega arith) }
 
   -- the same, counted otherwise
   pub takes_same : (old new : Slots V) (f g : ℕ → ℕ) (n m : ℕ) → ((i : ℕ) → f i ≡ g i) → n ≡ m → Takes old new f n → Takes old new g m
@@ -58,7 +58,7 @@ module _ {V : Type 0} where
             f.free_is,
           ),
           λ i. refl,
-          refl,
+          omega arith,
         );
       }
 
@@ -76,7 +76,7 @@ module _ {V : Type 0} where
 
   -- nothing is moved at first
   pub moving_none : (from : Slots V) (to : List (Node V)) (at : Option ℕ) (w : Plan V) → IsTopRow from.nodes.items at w → Moving from to w from at to
-  moving_none from to at w row = record { rest = w; row = row; moved = refl; counts = λ i. 0; number = 0; takes = takes_none from; split = λ i. refl; sized = refl; counted = refl }
+  moving_none from to at w row = record { rest = w; row = row; moved = refl; counts = λ i. 0; number = 0; takes = takes_none from; split = λ i. omega arith; sized = omega arith; counted = refl }
 
   -- the node at the head of a row
   pub opens_top : (from : List (Node V)) (id : ℕ) (w : Plan V) → IsTopRow from (Some id) w

@@ -4,7 +4,7 @@ use Rattle.std.proofs.lemmas.Bool.{cases_lt}
 use Rattle.std.proofs.lemmas.Bool.Decides.{nat_tests}
 use Rattle.patricia_nodes.specs.declared.slots.Node.{Node}
 use Rattle.patricia_nodes.specs.declared.slots.Slots.{Slots}
-use Rattle.patricia_nodes.specs.Private.Plans.{Plan, linked, head, row, size, count, below, Stands, IsSound, plan_at}
+use Rattle.patricia_nodes.specs.Private.Plans.{Plan, linked, head, row, size, count, times, below, Stands, IsSound, plan_at}
 use Rattle.patricia_nodes.specs.Private.Growth.{tops, numbered, laid, IsTopRow, IsLaid, Takes, TakesRow, TakesBelow, count_below, size_below}
 use Rattle.patricia_nodes.proofs.PlanLemmas.{below_le, below_in, plan_is, node_is}
 use Rattle.patricia_nodes.proofs.WriteLemmas.{get-set_same, get-set_other}
@@ -45,7 +45,7 @@ module _ {V : Type 0} where
   counted_once nodes root free p spare sound at = omega (arith, sound.once at, below_le (length nodes) at)
 
   -- the top row is there
-  laying_start : (p : Plan V) (from to : List (Node V)) → IsLaid from to p → Laying p from 0 to (head (numbered 0 p))
+  abbrev laying_start : (p : Plan V) (from to : List (Node V)) → IsLaid from to p → Laying p from 0 to (head (numbered 0 p))
   laying_start p from to l =
       let long : length to ≡ length (tops p) = ap length l.laid_is ∙ length-laid 0 p in
       record {
@@ -89,7 +89,7 @@ module _ {V : Type 0} where
   pub next_top : (p : Plan V) (from : List (Node V)) (i : ℕ) (to : List (Node V)) (mix : Mix V) (next : NextRow p from i to mix) (n : Node V) → n ≡ get_or to i n → IsTopRow from n.child next.row
   next_top p from i to mix next n reads = rw (node_is to i n next.parent next.there reads) next.top
 
-  laying_on : (p : Plan V) (from later : List (Node V)) (i : ℕ) (to final : List (Node V)) (root : Option ℕ) (l : Laying p from i to root) → i < length to → (next : NextRow p from i to l.mix) → ((at : ℕ) → times (tops next.row) at ≡ 0 → slice_get later at ≡ slice_get from at)
+  abbrev laying_on : (p : Plan V) (from later : List (Node V)) (i : ℕ) (to final : List (Node V)) (root : Option ℕ) (l : Laying p from i to root) → i < length to → (next : NextRow p from i to l.mix) → ((at : ℕ) → times (tops next.row) at ≡ 0 → slice_get later at ≡ slice_get from at)
       → final ≡ set (to ++ laid (length to) next.row) i (linked next.parent.label next.parent.value (head (numbered (length to) next.row)) next.parent.sibling) → Laying p later (suc i) final root
   laying_on p from later i to final root l short next others is =
       let w = next.row in
@@ -131,30 +131,33 @@ module _ {V : Type 0} where
     pub laying : Laying w now.nodes.items i to (head (numbered 0 w))
     pub emptied : Emptied old w laying.mix now
 
+  emptied_start : (s : Slots V) (w : Plan V) → Emptied s w (opened 0 w) s
+  emptied_start s w = record { counts = λ at. 0; number = 0; takes = takes_none s; split = λ at. omega (arith, olds-below 0 w at); sized = omega (arith, waits-below 0 w) }
+
+  emptied_next : (old : Slots V) (w : Plan V) (q : Mix V) (from later : Slots V) (i n : ℕ) (r : Plan V) → news q i ≤ 1 → OpenAt i q r → TakesRow from later r → Emptied old w q from → Emptied old w (step i n q) later
+  emptied_next old w q from later i n r once due takes e =
+      let moves = step-moves i n q r once due in
+      record {
+        counts = λ at. e.counts at + times (tops r) at;
+        number = e.number + length (tops r);
+        takes = takes_more old from later e.counts (λ at. times (tops r) at) e.number (length (tops r)) e.takes takes;
+        split = λ at. omega (arith, e.split at, moves.left at);
+        sized = omega (arith, e.sized, moves.waits);
+      }
+
   pub filling_start : (w : Plan V) (s : Slots V) (to : List (Node V)) → IsLaid s.nodes.items to w → Filling s w s 0 to
-  filling_start w s to l = record {
-    laying = laying_start w s.nodes.items to l;
-    emptied = record { counts = λ at. 0; number = 0; takes = takes_none s; split = λ at. olds-below 0 w at; sized = waits-below 0 w };
-  }
+  filling_start w s to l = record { laying = laying_start w s.nodes.items to l; emptied = emptied_start s w }
 
   -- once they are moved and the node has their new number, it is the next one's turn
   pub filling_next : (old : Slots V) (w : Plan V) (from later : Slots V) (i : ℕ) (to final : List (Node V)) (f : Filling old w from i to) → i < length to → (next : NextRow w from.nodes.items i to f.laying.mix) → TakesRow from later next.row
       → (moved : List (Node V)) → moved ≡ to ++ laid (length to) next.row → (first : Option ℕ) → first ≡ head (numbered (length to) next.row) → (n : Node V) → n ≡ get_or moved i n → final ≡ set moved i (linked n.label n.value first n.sibling) → Filling old w later (i + 1) final
   filling_next old w from later i to final f short next takes moved comes first first_is n reads written =
       let l = f.laying in
-      let e = f.emptied in
       let parent : n ≡ next.parent = node_is moved i n next.parent (ap (λ xs. slice_get xs i) comes ∙ get_front to (laid (length to) next.row) i short ∙ next.there) reads in
       let is : final ≡ set (to ++ laid (length to) next.row) i (linked next.parent.label next.parent.value (head (numbered (length to) next.row)) next.parent.sibling) = rw (← parent, ← first_is, ← comes) written in
-      let moves = step-moves i (length to) l.mix next.row (omega (arith, l.news_once i, below_le (length to) i)) next.due in
       let done : Filling old w later (suc i) final = record {
         laying = laying_on w from.nodes.items later.nodes.items i to final (head (numbered 0 w)) l short next takes.others is;
-        emptied = record {
-          counts = λ at. e.counts at + times (tops next.row) at;
-          number = e.number + length (tops next.row);
-          takes = takes_more old from later e.counts (λ at. times (tops next.row) at) e.number (length (tops next.row)) e.takes takes;
-          split = λ at. omega (arith, e.split at, moves.left at);
-          sized = omega (arith, e.sized, moves.waits);
-        };
+        emptied = emptied_next old w l.mix from later i (length to) next.row (omega (arith, l.news_once i, below_le (length to) i)) next.due takes f.emptied;
       } in
       subst (λ k. Filling old w later k final) (omega arith) done
 

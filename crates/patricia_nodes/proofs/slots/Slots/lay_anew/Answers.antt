@@ -1,12 +1,13 @@
-use Rattle.std.proofs.Common.{[], length, sym, ap, ◌∙◌, arith}
-use Rattle.patricia_nodes.specs.Private.Plans.{plan_at}
+use Rattle.std.proofs.Common.{◌≡◌, [], length, ap, arith}
+use Rattle.patricia_nodes.specs.Private.Growth.{numbered}
+use Rattle.patricia_nodes.specs.Private.Plans.{head, plan_at}
 use Rattle.patricia_nodes.proofs.LayLemmas.{readable, laid_row, same_row}
 use Rattle.patricia_nodes.proofs.slots.Slots.lay_anew.Goals as goal
 
 pub move_row-root-requires : goal.move_row-root-requires
 move_row-root-requires g c =
     let r = readable _ _ c.args.self.now.free c.requires.0 c.requires.1.0 c.requires.1.1 in
-    (plan_at c.args.self.now.nodes.items c.args.self.now.root, r.top, omega (arith, r.room, c.in_ok-nodes.ensures.room, ap length c.in_ok-nodes.ensures.empty))
+    record { row = (plan_at c.args.self.now.nodes.items c.args.self.now.root, r.top, omega (arith, r.room, c.in_ok-nodes.ensures.room, ap length c.in_ok-nodes.ensures.empty)) }
 
 pub move_below-requires : goal.move_below-requires
 move_below-requires g c =
@@ -14,3 +15,29 @@ move_below-requires g c =
     let root = c.move_row-root in
     let p = plan_at c.args.self.now.nodes.items c.args.self.now.root in
     (p, laid_row c.args.self.now root.new.self p _ _ r.stands r.once (root.ensures.taken p r.top) c.in_ok-nodes.ensures.empty (root.ensures.laid p r.top), omega (arith, r.fits, c.in_ok-nodes.ensures.room, root.ensures.capacity))
+
+pub returns-clause-ok : goal.returns-clause-ok
+returns-clause-ok g c =
+    let r = readable _ _ c.args.self.now.free c.requires.0 c.requires.1.0 c.requires.1.1 in
+    let root = c.move_row-root in
+    let p = plan_at c.args.self.now.nodes.items c.args.self.now.root in
+    let is : root.result ≡ head (numbered 0 p) = rw c.in_ok-nodes.ensures.empty at (root.ensures.first p r.top) in
+    let d = c.move_below.ensures.laid p (laid_row c.args.self.now root.new.self p _ _ r.stands r.once (root.ensures.taken p r.top) c.in_ok-nodes.ensures.empty (root.ensures.laid p r.top)) in
+    (d.0, ([], rw (c.none-self.ensures, is) d.1))
+
+pub returns-clause-row : goal.returns-clause-row
+returns-clause-row g c =
+    let r = readable _ _ c.args.self.now.free c.requires.0 c.requires.1.0 c.requires.1.1 in
+    let root = c.move_row-root in
+    let p = plan_at c.args.self.now.nodes.items c.args.self.now.root in
+    let is : root.result ≡ head (numbered 0 p) = rw c.in_ok-nodes.ensures.empty at (root.ensures.first p r.top) in
+    let d = c.move_below.ensures.laid p (laid_row c.args.self.now root.new.self p _ _ r.stands r.once (root.ensures.taken p r.top) c.in_ok-nodes.ensures.empty (root.ensures.laid p r.top)) in
+    rw is (same_row _ _ _ d.0 p [] d.1 d.2)
+
+pub returns-clause-room : goal.returns-clause-room
+returns-clause-room g c =
+    let r = readable _ _ c.args.self.now.free c.requires.0 c.requires.1.0 c.requires.1.1 in
+    let root = c.move_row-root in
+    let p = plan_at c.args.self.now.nodes.items c.args.self.now.root in
+    let d = c.move_below.ensures.laid p (laid_row c.args.self.now root.new.self p _ _ r.stands r.once (root.ensures.taken p r.top) c.in_ok-nodes.ensures.empty (root.ensures.laid p r.top)) in
+    omega (arith, r.fits, d.1.total, d.3, c.in_ok-nodes.ensures.room, root.ensures.capacity, c.move_below.ensures.capacity)

@@ -11,7 +11,7 @@ move_row-first-requires g c =
     let w = c.requires.0 in
     let f = c.loop-i.invariant.filling w c.requires.1 in
     let next = laying_row w _ c.loop-i.i _ _ f.laying (omega (arith, c.loop-i-test.true, c.len.ensures)) in
-    (next.row, next_top w _ c.loop-i.i _ _ next c.index.result.now c.index.ensures, omega (arith, next.room, c.requires.2, c.loop-i.invariant.capacity))
+    record { row = (next.row, next_top w _ c.loop-i.i _ _ next c.index.result.now c.index.ensures, omega (arith, next.room, c.requires.2, c.loop-i.invariant.capacity)) }
 
 pub index_mut-requires : goal.index_mut-requires
 index_mut-requires g c =

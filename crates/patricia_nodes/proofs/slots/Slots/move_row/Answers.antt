@@ -1,7 +1,16 @@
-use Rattle.std.proofs.Common.{suc, Some, length, sym, ap, ◌∙◌, arith}
-use Rattle.patricia_nodes.proofs.GrowthLemmas.{moving_next, moving_done, number_none, number_some}
+use Rattle.std.proofs.Common.{suc, Some, length, refl, sym, ap, ◌∙◌, arith}
+use Rattle.patricia_nodes.proofs.GrowthLemmas.{moving_none, next_within, moving_next, moving_done, number_none, number_some}
 use Rattle.patricia_nodes.proofs.slots.Slots.move_row.Goals as goal
 use Rattle.patricia_nodes.proofs.slots.Slots.move_row.Goals.{in-None, in-Some-get}
+
+pub loop-id-init : goal.loop-id-init
+loop-id-init g c = record { capacity = refl; moving = λ w row. moving_none c.args.self.now c.args.to.now.items c.args.first w row }
+
+pub release-node-requires : goal.release-node-requires
+release-node-requires g c =
+    let m = rw (sym c.get.ensures ∙ c.in-Some.is) at c.loop-id.invariant.moving c.requires.row.0 c.requires.row.1 in
+    let within = next_within c.args.self.now c.args.to.now.items c.requires.row.0 c.loop-id.self c.loop-id.to.items c.in-Some.id m in
+    omega arith
 
 pub loop-id-preserved : goal.loop-id-preserved
 loop-id-preserved g c = record {
