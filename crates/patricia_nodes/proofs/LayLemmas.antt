@@ -45,7 +45,7 @@ module _ {V : Type 0} where
   counted_once nodes root free p spare sound at = omega (arith, sound.once at, below_le (length nodes) at)
 
   -- the top row is there
-  abbrev laying_start : (p : Plan V) (from to : List (Node V)) → IsLaid from to p → Laying p from 0 to (head (numbered 0 p))
+  laying_start : (p : Plan V) (from to : List (Node V)) → IsLaid from to p → Laying p from 0 to (head (numbered 0 p))
   laying_start p from to l =
       let long : length to ≡ length (tops p) = ap length l.laid_is ∙ length-laid 0 p in
       record {
@@ -89,7 +89,7 @@ module _ {V : Type 0} where
   pub next_top : (p : Plan V) (from : List (Node V)) (i : ℕ) (to : List (Node V)) (mix : Mix V) (next : NextRow p from i to mix) (n : Node V) → n ≡ get_or to i n → IsTopRow from n.child next.row
   next_top p from i to mix next n reads = rw (node_is to i n next.parent next.there reads) next.top
 
-  abbrev laying_on : (p : Plan V) (from later : List (Node V)) (i : ℕ) (to final : List (Node V)) (root : Option ℕ) (l : Laying p from i to root) → i < length to → (next : NextRow p from i to l.mix) → ((at : ℕ) → times (tops next.row) at ≡ 0 → slice_get later at ≡ slice_get from at)
+  laying_on : (p : Plan V) (from later : List (Node V)) (i : ℕ) (to final : List (Node V)) (root : Option ℕ) (l : Laying p from i to root) → i < length to → (next : NextRow p from i to l.mix) → ((at : ℕ) → times (tops next.row) at ≡ 0 → slice_get later at ≡ slice_get from at)
       → final ≡ set (to ++ laid (length to) next.row) i (linked next.parent.label next.parent.value (head (numbered (length to) next.row)) next.parent.sibling) → Laying p later (suc i) final root
   laying_on p from later i to final root l short next others is =
       let w = next.row in
@@ -146,11 +146,13 @@ module _ {V : Type 0} where
       }
 
   pub filling_start : (w : Plan V) (s : Slots V) (to : List (Node V)) → IsLaid s.nodes.items to w → Filling s w s 0 to
+  unfolding laying_start
   filling_start w s to l = record { laying = laying_start w s.nodes.items to l; emptied = emptied_start s w }
 
   -- once they are moved and the node has their new number, it is the next one's turn
   pub filling_next : (old : Slots V) (w : Plan V) (from later : Slots V) (i : ℕ) (to final : List (Node V)) (f : Filling old w from i to) → i < length to → (next : NextRow w from.nodes.items i to f.laying.mix) → TakesRow from later next.row
       → (moved : List (Node V)) → moved ≡ to ++ laid (length to) next.row → (first : Option ℕ) → first ≡ head (numbered (length to) next.row) → (n : Node V) → n ≡ get_or moved i n → final ≡ set moved i (linked n.label n.value first n.sibling) → Filling old w later (i + 1) final
+  unfolding laying_on
   filling_next old w from later i to final f short next takes moved comes first first_is n reads written =
       let l = f.laying in
       let parent : n ≡ next.parent = node_is moved i n next.parent (ap (λ xs. slice_get xs i) comes ∙ get_front to (laid (length to) next.row) i short ∙ next.there) reads in

@@ -14,4 +14,4 @@ index_mut-node-requires g c =
 pub returns : goal.returns
 returns g c fs l v m w e d h =
     let reads = rw c.index.ensures at c.index_mut-node.ensures.value in
-    rw (c.index.ensures, c.replace.ensures.after) (absorbs c.args.slots.now c.release-child.new.slots c.args.upper c.args.lower c.release-child.result c.index_mut-node.result.now c.args.label c.replace.result c.release-child.ensures.frees reads c.replace.ensures.value fs l v m w e d h)
+    rw (c.index.ensures, c.replace.ensures.after) (absorbs c.args.slots.now c.release-child.new.self c.args.upper c.args.lower c.release-child.result c.index_mut-node.result.now c.args.label c.replace.result c.release-child.ensures.frees reads c.replace.ensures.value fs l v m w e d h)

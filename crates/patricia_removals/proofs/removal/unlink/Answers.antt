@@ -7,7 +7,7 @@ pub release-node-requires : goal.release-node-requires
 release-node-requires g c = let within = leaf_within c.args.slots.now c.args.spot c.args.id c.requires in omega arith
 
 pub relink-requires : goal.relink-requires
-relink-requires g c = spot_longer c.args.spot _ _ (omega arith) (spot_of_leaf c.args.slots.now c.release-node.new.slots c.args.spot c.args.id c.release-node.result c.release-node.ensures.frees c.requires)
+relink-requires g c = spot_longer c.args.spot _ _ (omega arith) (spot_of_leaf c.args.slots.now c.release-node.new.self c.args.spot c.args.id c.release-node.result c.release-node.ensures.frees c.requires)
 
 pub returns : goal.returns
-returns g c = unlinks c.args.slots.now c.release-node.new.slots c.relink.new.self c.args.spot c.args.id c.release-node.result c.release-node.ensures.frees c.relink.ensures.free c.relink.ensures.relinks
+returns g c = unlinks c.args.slots.now c.release-node.new.self c.relink.new.self c.args.spot c.args.id c.release-node.result c.release-node.ensures.frees c.relink.ensures.free c.relink.ensures.relinks
