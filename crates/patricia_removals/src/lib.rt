@@ -3,6 +3,6 @@
 //! `patricia_tree` is the library to use. This crate is what it stands on.
 #![tactic(auto)]
 
-mod removal;
+pub mod removal;
 
 pub use removal::remove;

@@ -18,8 +18,8 @@ use patricia_nodes::slots::{Node, Slots};
 use std::alloc::{AllocError, Global};
 use std::mem;
 
-// Takes a node without children out of its place, and gives its value.
-fn unlink<V: Drop>(slots: &mut Slots<V>, alloc: Global, spot: Spot, id: NodeId) -> Option<V>
+/// Takes a node without children out of its place, and gives its value.
+pub fn unlink<V: Drop>(slots: &mut Slots<V>, alloc: Global, spot: Spot, id: NodeId) -> Option<V>
     requires { HasLeafAt slots.old spot id }
     ensures { Unlinks slots.old slots.new spot id result }
 {
@@ -28,8 +28,8 @@ fn unlink<V: Drop>(slots: &mut Slots<V>, alloc: Global, spot: Spot, id: NodeId) 
     node.value
 }
 
-// Joins a node with its only child under the joined label, and gives its own value.
-fn absorb<V: Drop>(
+/// Joins a node with its only child under the joined label, and gives its own value.
+pub fn absorb<V: Drop>(
     slots: &mut Slots<V>,
     alloc: Global,
     upper: NodeId,
@@ -46,8 +46,8 @@ fn absorb<V: Drop>(
     mem::replace(&mut node.value, value)
 }
 
-// The labels of two nodes as one.
-fn joined<V: Drop>(
+/// The labels of two nodes as one.
+pub fn joined<V: Drop>(
     slots: &Slots<V>,
     alloc: Global,
     upper: NodeId,
@@ -80,8 +80,8 @@ fn pair<V: Drop>(slots: &Slots<V>, first: Link) -> Option<(NodeId, NodeId)>
     }
 }
 
-// The node above, and its other child, where it has no value and just two children.
-fn left_alone<V: Drop, K: Bytes>(
+/// The node above, and its other child, where it has no value and just two children.
+pub fn left_alone<V: Drop, K: Bytes>(
     slots: &Slots<V>,
     spot: Spot,
     id: NodeId,
