@@ -1,7 +1,7 @@
 //! Taking out the nodes under a prefix.
 ghost use Rattle.std.specs.Prelude.{◌≡◌, ◌≢◌, ◌<◌, ◌≤◌, [], Some, IfOk, OnOk, OnErr, length, slice_get, vec_len, vec_capacity};
 ghost use Rattle.patricia_rows.specs.Prefixes.{under};
-ghost use Rattle.patricia_rows.specs.Rows.{IsRow};
+ghost use Rattle.patricia_rows.specs.Rows.{own, IsRow};
 ghost use Rattle.patricia_nodes.specs.Private.Plans.{Plan, IsPlan, IsWhole, row_of, entries_of, size};
 ghost use Rattle.patricia_nodes.specs.Private.Places.{IsPlace, node_under};
 ghost use Rattle.patricia_nodes.specs.declared.slots.Node.{Node as NodeOf};
@@ -30,6 +30,16 @@ struct Size {
     values: usize,
 }
 
+// One value, or none.
+fn how_many<V>(value: &Option<V>) -> usize
+    ensures { result ≡ length (own value.now) }
+{
+    match value {
+        Some(_) => 1,
+        None => 0,
+    }
+}
+
 // Counts the nodes of a row and below it.
 fn measure<V: Drop>(slots: &Slots<V>, alloc: Global, first: Link) -> Result<Size, AllocError>
     requires { (p : Plan V) × IsPlan slots.now.nodes.items first p }
@@ -47,9 +57,7 @@ fn measure<V: Drop>(slots: &Slots<V>, alloc: Global, first: Link) -> Result<Size
             Some(id) => {
                 let node = &slots.nodes[id.index()];
                 size.nodes += 1;
-                if node.value.is_some() {
-                    size.values += 1;
-                }
+                size.values += how_many(&node.value);
                 waiting.push(node.sibling)?;
                 at = node.child;
             }
@@ -74,11 +82,7 @@ fn room_for<V: Drop>(
     let node = &slots.nodes[id.index()];
     let below = measure(slots, alloc, node.child)?;
     let room = Vec::with_capacity(alloc, below.nodes + 1)?;
-    if node.value.is_some() {
-        Ok((room, below.values + 1))
-    } else {
-        Ok((room, below.values))
-    }
+    Ok((room, below.values + how_many(&node.value)))
 }
 
 // The label of the topmost node: the prefix, and what the node's label has past these bytes.
