@@ -1,1 +1,2 @@
 pub mod MeasureLemmas
+pub mod NodeLemmas

@@ -17,11 +17,11 @@ module _ {V : Type 0} where
   values-cell id l v c d = omega (arith, length-append (prefixed l (own v ++ entries (row c))) (entries (row d)), length-prefixed l (own v ++ entries (row c)), length-append (own v) (entries (row c)))
 
   -- no more of them than nodes
-  own-one : (v : Option V) → length (own v) ≤ 1
+  pub own-one : (v : Option V) → length (own v) ≤ 1
   own-one None = omega arith
   own-one (Some x) = omega arith
 
-  values-within : (p : Plan V) → values p ≤ size p
+  pub values-within : (p : Plan V) → values p ≤ size p
   values-within Nil = omega arith
   values-within (Cell id l v c d) = omega (arith, values-cell id l v c d, own-one v, values-within c, values-within d)
 
