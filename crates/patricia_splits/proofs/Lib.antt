@@ -1,2 +1,3 @@
 pub mod MeasureLemmas
+pub mod MoveLemmas
 pub mod NodeLemmas

@@ -1,24 +1,53 @@
-use Rattle.std.proofs.Common.{rules, ◌≡◌, ◌≢◌, ◌<◌, ◌≤◌, [], Some, IfOk, OnOk, OnErr, length, slice_get, vec_len, vec_capacity, ℕ, ◌+◌, ◌-◌, ◌*◌, ◌/◌, ◌%◌, Bool, true, false, nat_eq, nat_lt, List, ◌∷◌, ◌++◌, slice_index_or, slice_set, bit_and, bit_or, Fits, w8, w32, w64, Bor, MutBor}
-use Rattle.patricia_rows.specs.Prefixes.{under}
-use Rattle.patricia_rows.specs.Rows.{own, IsRow}
-use Rattle.patricia_nodes.specs.Private.Plans.{Plan, IsPlan, IsWhole, row_of, entries_of, size}
-use Rattle.patricia_nodes.specs.Private.Places.{IsPlace, node_under}
-use Rattle.patricia_nodes.specs.declared.slots.Node.{Node as NodeOf}
-use Rattle.patricia_splits.specs.Private.Splits.{values, HasNode, HasTreeAt, CountsTree, MovesOut, IsTopLabel, Splits}
+use Rattle.std.proofs.Common.{◌++◌, [], ◌∷◌, None, refl, sym, ap, ◌∙◌, arith}
+use Rattle.patricia_splits.proofs.NodeLemmas.{node_within, node_read}
+use Rattle.patricia_splits.proofs.MoveLemmas.{moved, bare_is, laid_top, emptied}
 use Rattle.patricia_splits.proofs.splitting.move_out.Goals as goal
 
--- src/splitting.rt:118:21
 pub index_mut-node-requires : goal.index_mut-node-requires
-index_mut-node-requires g c = ?
+index_mut-node-requires g c =
+    let h = c.requires.tree in
+    let within = node_within c.args.slots.now c.args.id h.0 h.1 h.2 h.3 h.4 h.6 in
+    omega (arith, c.index.ensures)
 
--- src/splitting.rt:127:5
 pub move_below-requires : goal.move_below-requires
-move_below-requires g c = ?
+move_below-requires g c =
+    let h = c.requires.tree in
+    let n = c.index_mut-node.result.now in
+    let is = node_read c.args.slots.now c.args.id h.0 h.1 h.2 h.3 h.4 h.6 n (rw c.index.ensures at c.index_mut-node.ensures.value) in
+    let bare = bare_is c.args.slots.now c.args.id h.0 h.1 h.2 h.3 h.4 h.6 c.args.label n is c.index.result c.index.ensures c.replace-child.new.dest (c.replace-child.ensures.after ∙ c.none.ensures) c.take-value.new.self c.take-value.ensures.after in
+    let child = c.replace-child.ensures.value ∙ ap (λ m. m.child) is in
+    let value = c.take-value.ensures.value ∙ ap (λ m. m.value) is in
+    let to = c.push_reserved.ensures.items ∙ rw (c.requires.empty, child, value, c.none-2.ensures) refl in
+    (
+      moved c.args.slots.now c.args.id h.0 h.1 h.2 h.3 h.4 h.6 c.args.label,
+      laid_top c.args.slots.now c.args.id h.0 h.1 h.2 h.3 h.4 h.6 c.args.label _ bare _ to,
+      omega (arith, h.7, c.push_reserved.ensures.capacity),
+    )
 
--- src/splitting.rt:128:9
 pub unlink-none-requires : goal.unlink-none-requires
-unlink-none-requires g c = ?
+unlink-none-requires g c =
+    let h = c.requires.tree in
+    let n = c.index_mut-node.result.now in
+    let is = node_read c.args.slots.now c.args.id h.0 h.1 h.2 h.3 h.4 h.6 n (rw c.index.ensures at c.index_mut-node.ensures.value) in
+    let bare = bare_is c.args.slots.now c.args.id h.0 h.1 h.2 h.3 h.4 h.6 c.args.label n is c.index.result c.index.ensures c.replace-child.new.dest (c.replace-child.ensures.after ∙ c.none.ensures) c.take-value.new.self c.take-value.ensures.after in
+    let child = c.replace-child.ensures.value ∙ ap (λ m. m.child) is in
+    let value = c.take-value.ensures.value ∙ ap (λ m. m.value) is in
+    let to = c.push_reserved.ensures.items ∙ rw (c.requires.empty, child, value, c.none-2.ensures) refl in
+    let laid = laid_top c.args.slots.now c.args.id h.0 h.1 h.2 h.3 h.4 h.6 c.args.label _ bare _ to in
+    (h.0, h.1, None, h.4, h.5, emptied c.args.slots.now c.args.id h.0 h.1 h.2 h.3 h.4 h.6 c.args.label _ c.move_below.new.self bare refl refl (c.move_below.ensures.taken _ laid))
 
--- src/splitting.rt:105:1
 pub returns : goal.returns
-returns g c = ?
+returns g c fs l v child d at h =
+    let n = c.index_mut-node.result.now in
+    let is = node_read c.args.slots.now c.args.id fs l v child d h n (rw c.index.ensures at c.index_mut-node.ensures.value) in
+    let bare = bare_is c.args.slots.now c.args.id fs l v child d h c.args.label n is c.index.result c.index.ensures c.replace-child.new.dest (c.replace-child.ensures.after ∙ c.none.ensures) c.take-value.new.self c.take-value.ensures.after in
+    let first = c.replace-child.ensures.value ∙ ap (λ m. m.child) is in
+    let value = c.take-value.ensures.value ∙ ap (λ m. m.value) is in
+    let to = c.push_reserved.ensures.items ∙ rw (c.requires.empty, first, value, c.none-2.ensures) refl in
+    let laid = laid_top c.args.slots.now c.args.id fs l v child d h c.args.label _ bare _ to in
+    let gone = emptied c.args.slots.now c.args.id fs l v child d h c.args.label _ c.move_below.new.self bare refl refl (c.move_below.ensures.taken _ laid) in
+    let q = c.move_below.ensures.laid _ laid in
+    (
+      (c.unlink-none.ensures fs l None d at gone).0,
+      (q.0, ([], rw (c.some.ensures, c.new.ensures, c.none-3.ensures) q.1), q.2),
+    )
