@@ -25,7 +25,7 @@ use Rattle.patricia_queries.specs.declared.under.Start.{Start}
 use Rattle.patricia_queries.specs.Private.Starts.{IsStart, IsUnder, rows_from, rows_left}
 use Rattle.patricia_queries.proofs.PlaceLemmas.{Passed, passed-fill}
 
-within_node : (i id n : ℕ) (rest : List ℕ) → node_under rest (Within i n) ≡ Some id → (i ≡ id) × (n ≡ length rest)
+pub within_node : (i id n : ℕ) (rest : List ℕ) → node_under rest (Within i n) ≡ Some id → (i ≡ id) × (n ≡ length rest)
 within_node i id n rest e = by (nat_eq n (length rest)) refl
   where
     by : (b : Bool) → nat_eq n (length rest) ≡ b → (i ≡ id) × (n ≡ length rest)
@@ -41,7 +41,7 @@ module _ (item : List ℕ → Type 0) (kind : IsKeyKind item) {V : Type 0} where
   behind path end = refl
   behind path (node l v c s) = prefixed-prefixed path l (own v ++ entries c)
 
-  stop_some : (focus : Plan V) → IsRow item (row focus) → (rest : List ℕ) (stop : Stop) → Stops item focus rest stop → (id : ℕ) → node_under rest stop ≡ Some id
+  pub stop_some : (focus : Plan V) → IsRow item (row focus) → (rest : List ℕ) (stop : Stop) → Stops item focus rest stop → (id : ℕ) → node_under rest stop ≡ Some id
       → (head focus ≡ Some id) × (under rest (entries (row focus)) ≡ rows_below [] (row focus))
   stop_some Nil ok rest stop h id e = absurd (let f = rw h at e in cc)
   stop_some (Cell i l v c d) ok rest Gap h id e = absurd (cc)
@@ -51,7 +51,7 @@ module _ (item : List ℕ → Type 0) (kind : IsKeyKind item) {V : Type 0} where
       (ap Some (sym h.0 ∙ same.0), under_within item kind l v (row c) (row d) ok rest h.1.shares (subst (λ k. Begins k l) all h.1.common.begins))
   stop_some (Cell i l v c d) ok rest (Here k) h id e = (let f = h.0 in cc, under_here item kind l v (row c) (row d) ok rest h.1)
 
-  stop_none : (focus : Plan V) → IsRow item (row focus) → (rest : List ℕ) → IsValid item rest → (stop : Stop) → Stops item focus rest stop → node_under rest stop ≡ None → under rest (entries (row focus)) ≡ []
+  pub stop_none : (focus : Plan V) → IsRow item (row focus) → (rest : List ℕ) → IsValid item rest → (stop : Stop) → Stops item focus rest stop → node_under rest stop ≡ None → under rest (entries (row focus)) ≡ []
   stop_none Nil ok rest valid stop h e = refl
   stop_none (Cell i l v c d) ok rest valid Gap h e = under_before item kind l v (row c) (row d) ok rest h
   stop_none (Cell i l v c d) ok rest valid (Within k n) h e =

@@ -1,3 +1,4 @@
 pub mod MeasureLemmas
 pub mod MoveLemmas
 pub mod NodeLemmas
+pub mod SplitLemmas

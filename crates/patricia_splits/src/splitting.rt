@@ -152,13 +152,13 @@ fn split_at<V: Drop, Q: BorrowedBytes>(
     let (room, count) = room_for(slots, alloc, id)?;
     let passed = place.rest.as_bytes().len();
     let label = top_label(slots, alloc, id, prefix.as_bytes(), passed)?;
-    let Some((upper, other)) = left_alone::<V, Q::Owned>(slots, place.spot, id) else {
+    let Some(alone) = left_alone::<V, Q::Owned>(slots, place.spot, id) else {
         let slots = move_out(slots, alloc, place.spot, id, label, room);
         return Ok(Taken { slots, count });
     };
-    let together = joined(slots, alloc, upper, other)?;
+    let together = joined(slots, alloc, alone.0, alone.1)?;
     let taken = move_out(slots, alloc, place.spot, id, label, room);
-    let _none = absorb(slots, alloc, upper, other, together);
+    let _none = absorb(slots, alloc, alone.0, alone.1, together);
     Ok(Taken {
         slots: taken,
         count,
