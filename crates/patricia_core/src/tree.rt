@@ -5,7 +5,7 @@ ghost use Rattle.std.specs.FinMap as map;
 ghost use Rattle.std.specs.List.{All};
 ghost use Rattle.patricia_keys.specs.Keys.{AreSingle, Begins, IsValid};
 ghost use Rattle.patricia_rows.specs.Points.{CountsVisits, Joins};
-ghost use Rattle.patricia_rows.specs.Prefixes.{along, longest, under, IsReach};
+ghost use Rattle.patricia_rows.specs.Prefixes.{along, longest, outside, under, IsReach};
 ghost use Rattle.patricia_rows.specs.Walks.{values_of};
 
 use patricia_inserts::insert;
@@ -17,10 +17,12 @@ use patricia_queries::along::{Along, AlongOwned};
 use patricia_queries::reach::reach;
 use patricia_queries::under::Under;
 use patricia_removals::remove;
+use patricia_splits::split;
 use patricia_walks::into_walk::IntoWalk;
 use patricia_walks::walk::Walk;
 use std::alloc::{AllocError, Global};
 use std::marker::{Brand, Model, PhantomData};
+use std::mem;
 use std::sync::ledger::{Blank, Ledger};
 
 /// A finite map from keys of one kind.
@@ -184,6 +186,34 @@ impl<K: Bytes, V: Drop> Tree<K, V> {
                 Ok(Some(old))
             }
             Ok(None) => Ok(None),
+            Err(error) => Err(error),
+        }
+    }
+
+    /// Takes out the entries whose key begins with a prefix, as a tree of their own. The error is
+    /// want of memory.
+    pub fn split<Q: BorrowedBytes<Owned = K>>(&mut self, prefix: Q) -> Result<Self, AllocError>
+        ensures taken { IfOk result (λ t. map.entries t ≡ under (Q.key prefix) (map.entries self.old)) }
+        ensures left { OnOk result (map.entries self.new ≡ outside (Q.key prefix) (map.entries self.old)) }
+        ensures unchanged { OnErr result (self.new ≡ self.old) }
+        ensures only_filled { OnErr result (Q.key prefix ≢ []) }
+        ensures only_begun { OnErr result (under (Q.key prefix) (map.entries self.old) ≢ []) }
+    {
+        if prefix.is_empty() {
+            let empty = Tree::new(self.alloc);
+            return Ok(mem::replace(self, empty));
+        }
+        match split(&mut self.slots, self.alloc, prefix) {
+            Ok(taken) => {
+                self.count -= taken.count;
+                Ok(Tree {
+                    alloc: self.alloc,
+                    value: None,
+                    slots: taken.slots,
+                    count: taken.count,
+                    kind: PhantomData,
+                })
+            }
             Err(error) => Err(error),
         }
     }

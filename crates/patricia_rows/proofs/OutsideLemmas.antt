@@ -20,7 +20,7 @@ module _ {V : Type 0} where
   outside-prefixed l p es = filter-prefixed (λ k. not (begins (l ++ p) k)) (λ k. not (begins p k)) l (λ k. ap not (begins-front l p k)) es
 
   -- all rows, or none
-  outside_all : (p : List ℕ) (es : List (List ℕ × V)) → under p es ≡ [] → outside p es ≡ es
+  pub outside_all : (p : List ℕ) (es : List (List ℕ × V)) → under p es ≡ [] → outside p es ≡ es
   outside_all p [] none = refl
   outside_all p (e ∷ es) none = by (begins p e.0) refl (outside_all p es)
     where

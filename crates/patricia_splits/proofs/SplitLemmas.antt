@@ -10,7 +10,7 @@ use Rattle.patricia_rows.specs.Private.Meeting.{SharesItem}
 use Rattle.patricia_rows.specs.Rows.{Row, end, node, prefixed, own, entries, IsRow}
 use Rattle.patricia_rows.proofs.InsertLemmas.{earns_elsewhere}
 use Rattle.patricia_rows.proofs.LeavingLemmas.{outside_leave}
-use Rattle.patricia_rows.proofs.OutsideLemmas.{outside_first}
+use Rattle.patricia_rows.proofs.OutsideLemmas.{outside_all, outside_first}
 use Rattle.patricia_rows.proofs.RowLemmas.{prefixed-prefixed}
 use Rattle.patricia_rows.proofs.UniqueLemmas.{has_entry}
 use Rattle.patricia_nodes.specs.declared.slots.Node.{Node}
@@ -240,3 +240,16 @@ module _ (item : List ℕ → Type 0) (kind : IsKeyKind item) {V : Type 0} (s : 
     other_absorbed mid new joined own is_joined held absorbs =
         let is : joined ≡ other.label ++ other.inner = is_joined both_labels.0.0 both_labels.1.0 both_labels.0.1 both_labels.1.1 ∙ ap (λ k. k ++ both_labels.1.0.label) both_labels.0.2 ∙ ap (λ k. other.label ++ k) both_labels.1.2 in
         rw (← is) (absorbs other.outer other.label None other.inner other.own other.below other.beside (other_left mid held)).0
+
+-- where nothing is under the prefix, nothing goes
+module _ (item : List ℕ → Type 0) {V : Type 0} (s : Slots V) (prefix : List ℕ) (whole : IsWhole s) (ok : IsRow item (row_of s)) where
+  pub splits_none : under prefix (entries_of s) ≡ [] → (out : Slots V) → IsWhole out → row_of out ≡ end → Splits item s s prefix (record { slots = out; count = 0 })
+  splits_none nothing out out_whole is = record {
+    whole = whole;
+    row_ok = ok;
+    left_is = sym (outside_all prefix (entries_of s) nothing);
+    taken_whole = out_whole;
+    taken_ok = rw is tt;
+    taken_is = ap (λ (r : Row V). entries r) is ∙ sym nothing;
+    counted = ap length (sym (ap (λ (r : Row V). entries r) is));
+  }

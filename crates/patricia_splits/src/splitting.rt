@@ -179,6 +179,7 @@ pub fn split<V: Drop, Q: BorrowedBytes>(
     ensures begun { OnErr result (under (Q.key prefix) (entries_of slots.old) ≢ []) }
 {
     let place = slots.seek(prefix);
+    let _valid = place.rest.as_bytes();
     match place.under() {
         Some(id) => split_at(slots, alloc, prefix, &place, id),
         None => Ok(Taken {
