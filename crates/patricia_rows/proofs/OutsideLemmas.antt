@@ -32,6 +32,13 @@ module _ {V : Type 0} where
   outside_none p [] all = refl
   outside_none p (e ∷ es) all = rw (begins_from p e.0 all.0) (outside_none p es all.1)
 
+  pub outside_empty : (es : List (List ℕ × V)) → outside [] es ≡ []
+  outside_empty es = outside_none [] es (all es)
+    where
+      all : (es : List (List ℕ × V)) → AllKeys (Begins []) es
+      all [] = tt
+      all (e ∷ es) = ((e.0, refl), all es)
+
   -- what holds of each key holds of those outside
   pub AllKeys-outside : (P : List ℕ → Type 0) (p : List ℕ) (es : List (List ℕ × V)) → AllKeys P es → AllKeys P (outside p es)
   AllKeys-outside P p [] h = tt

@@ -74,12 +74,13 @@ module _ (item : List ℕ → Type 0) (kind : IsKeyKind item) {V : Type 0} where
   len_none None r ok e = let whole = len_map None r ok in omega arith
   len_none (Some x) r ok e = absurd (cc)
 
+-- the empty map has no entry
+pub entries_empty : (V : Type 0) → map.entries (empty {X = V} {R = key_cmp}) ≡ []
+entries_empty V = nil_from_length (map.entries (empty {X = V} {R = key_cmp})) (sym (len-entries (empty {X = V} {R = key_cmp})) ∙ len-empty key_cmp V)
+
 -- the map of a new tree
 pub map_of_none : {V : Type 0} → map_of {V = V} None end ≡ empty
-map_of_none {V} = same_entries_map _ _ (entries-from_sorted key_cmp [] tt ∙ sym (no_entry empty (len-empty key_cmp V)))
-  where
-    no_entry : (m : FinMap key_cmp V) → len m ≡ 0 → map.entries m ≡ []
-    no_entry m none = nil_from_length (map.entries m) (sym (len-entries m) ∙ none)
+map_of_none {V} = same_entries_map _ _ (entries-from_sorted key_cmp [] tt ∙ sym (entries_empty V))
 
 pub option_map_none : {A B : Type 0} (f : A → B) (o : Option A) → is_some o ≡ false → option_map f o ≡ None
 option_map_none f None e = refl

@@ -1,41 +1,72 @@
-use Rattle.std.proofs.Common.{rules, ◌≡◌, ◌≢◌, ◌↔◌, ◌+◌, ◌*◌, ◌<◌, ◌≤◌, ℕ, List, [], length, None, IsTrue, IfSome, IfOk, OnOk, IfErr, OnErr, ◌-◌, ◌/◌, ◌%◌, Bool, true, false, nat_eq, nat_lt, ◌∷◌, ◌++◌, slice_index_or, slice_set, bit_and, bit_or, Fits, w8, w32, w64, Bor, MutBor}
-use Rattle.std.specs.Option.{option_copied, option_map}
+use Rattle.std.proofs.Common.{◌≡◌, ◌≢◌, [], ◌++◌, None, refl, sym, ap, ◌∙◌, arith, length}
+use mathlib.Core.Bool.{false≢true}
 use Rattle.std.specs.FinMap as map
-use Rattle.std.specs.List.{All}
-use Rattle.patricia_keys.specs.Keys.{AreSingle, Begins, IsValid}
-use Rattle.patricia_rows.specs.Points.{CountsVisits, Joins}
-use Rattle.patricia_rows.specs.Prefixes.{along, longest, outside, under, IsReach}
-use Rattle.patricia_rows.specs.Walks.{values_of}
+use Rattle.patricia_rows.specs.Prefixes.{outside, under}
+use Rattle.patricia_rows.specs.Rows.{own, entries}
+use Rattle.patricia_nodes.specs.Private.Plans.{row_of}
+use Rattle.patricia_rows.proofs.OutsideLemmas.{outside_empty, outside_filled, outside_counted}
+use Rattle.patricia_rows.proofs.PrefixLemmas.{under_empty}
+use Rattle.patricia_rows.proofs.TreeLemmas.{entries_empty, entries_map}
+use Rattle.patricia_queries.proofs.UnderLemmas.{under_filled}
 use Rattle.patricia_core.proofs.tree.Tree.split.Goals as goal
 
--- src/tree.rt:204:13
 pub returns-then-is_empty-clause-taken : goal.returns-then-is_empty-clause-taken
-returns-then-is_empty-clause-taken g c = ?
+returns-then-is_empty-clause-taken g c = ap map.entries c.replace.ensures.value ∙ rw (c.if-is_empty.ensures.0 refl) (sym (under_empty (map.entries c.args.self.now)))
 
--- src/tree.rt:204:13
 pub returns-then-is_empty-clause-left : goal.returns-then-is_empty-clause-left
-returns-then-is_empty-clause-left g c = ?
+returns-then-is_empty-clause-left g c = ap map.entries (c.replace.ensures.after ∙ c.new-empty.ensures) ∙ entries_empty _ ∙ rw (c.if-is_empty.ensures.0 refl) (sym (outside_empty (map.entries c.args.self.now)))
 
--- src/tree.rt:208:17
 pub overflow_sub-self : goal.overflow_sub-self
-overflow_sub-self g c = ?
+overflow_sub-self g c =
+    let rows = entries (row_of c.self-2.inside.slots) in
+    omega (arith, c.in-Ok.ensures.ok.counted, ap length c.in-Ok.ensures.ok.taken_is, outside_counted (g.Q.BorrowedBytes.key c.args.prefix) rows, c.self-2.invariant.tree.counted)
 
--- src/tree.rt:209:17
 pub invariant_of-result : goal.invariant_of-result
-invariant_of-result g c = ?
+invariant_of-result g c =
+    let rows = entries (row_of c.self-2.inside.slots) in
+    record {
+      whole = c.in-Ok.ensures.ok.taken_whole;
+      tree = record {
+        row_ok = c.in-Ok.ensures.ok.taken_ok;
+        counted = c.in-Ok.ensures.ok.counted;
+        fits = omega (arith, c.in-Ok.ensures.ok.counted, ap length c.in-Ok.ensures.ok.taken_is, outside_counted (g.Q.BorrowedBytes.key c.args.prefix) rows, c.self-2.invariant.tree.counted, c.self-2.invariant.tree.fits);
+      };
+    }
 
--- src/tree.rt:209:17
 pub invariant_of-self : goal.invariant_of-self
-invariant_of-self g c = ?
+invariant_of-self g c =
+    let rows = entries (row_of c.self-2.inside.slots) in
+    record {
+      whole = c.in-Ok.ensures.ok.whole;
+      tree = record {
+        row_ok = c.in-Ok.ensures.ok.row_ok;
+        counted = omega (arith, c.in-Ok.ensures.ok.counted, ap length c.in-Ok.ensures.ok.taken_is, ap length c.in-Ok.ensures.ok.left_is, outside_counted (g.Q.BorrowedBytes.key c.args.prefix) rows, c.self-2.invariant.tree.counted);
+        fits = omega (arith, c.self-2.invariant.tree.fits);
+      };
+    }
 
--- src/tree.rt:195:5
 pub returns-in-Ok-clause-taken : goal.returns-in-Ok-clause-taken
-returns-in-Ok-clause-taken g c = ?
+returns-in-Ok-clause-taken g c =
+    let p = g.Q.BorrowedBytes.key c.args.prefix in
+    let some : p ≢ [] = λ none. absurd (false≢true (c.if-is_empty.ensures.1 none)) in
+    entries_map g.K.Bytes.item g.met.K.Bytes.lawful None _ c.in-Ok.ensures.ok.taken_ok ∙ c.in-Ok.ensures.ok.taken_is
+    ∙ sym (under_filled p some c.self-2.inside.value (entries (row_of c.self-2.inside.slots)))
+    ∙ ap (under p) (sym (entries_map g.K.Bytes.item g.met.K.Bytes.lawful _ _ c.self-2.invariant.tree.row_ok) ∙ ap map.entries c.self-2.view_is)
 
--- src/tree.rt:195:5
 pub returns-in-Ok-clause-left : goal.returns-in-Ok-clause-left
-returns-in-Ok-clause-left g c = ?
+returns-in-Ok-clause-left g c =
+    let p = g.Q.BorrowedBytes.key c.args.prefix in
+    let some : p ≢ [] = λ none. absurd (false≢true (c.if-is_empty.ensures.1 none)) in
+    entries_map g.K.Bytes.item g.met.K.Bytes.lawful c.self-2.inside.value _ c.in-Ok.ensures.ok.row_ok ∙ ap (λ es. own c.self-2.inside.value ++ es) c.in-Ok.ensures.ok.left_is
+    ∙ sym (outside_filled p some c.self-2.inside.value (entries (row_of c.self-2.inside.slots)))
+    ∙ ap (outside p) (sym (entries_map g.K.Bytes.item g.met.K.Bytes.lawful _ _ c.self-2.invariant.tree.row_ok) ∙ ap map.entries c.self-2.view_is)
 
--- src/tree.rt:195:5
 pub returns-in-Err-clause-only_begun : goal.returns-in-Err-clause-only_begun
-returns-in-Err-clause-only_begun g c = ?
+returns-in-Err-clause-only_begun g c none =
+    let p = g.Q.BorrowedBytes.key c.args.prefix in
+    let some : p ≢ [] = λ e. absurd (false≢true (c.if-is_empty.ensures.1 e)) in
+    c.in-Err.ensures.begun (
+      sym (under_filled p some c.self-2.inside.value (entries (row_of c.self-2.inside.slots)))
+      ∙ ap (under p) (sym (entries_map g.K.Bytes.item g.met.K.Bytes.lawful _ _ c.self-2.invariant.tree.row_ok) ∙ ap map.entries c.self-2.view_is)
+      ∙ none
+    )
