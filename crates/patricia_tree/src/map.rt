@@ -5,7 +5,7 @@ ghost use Rattle.std.specs.FinMap as map;
 ghost use Rattle.std.specs.List.{All};
 ghost use Rattle.patricia_core.specs.Keys.{AreSingle, Begins, IsValid};
 ghost use Rattle.patricia_core.specs.Points.{CountsVisits, Joins};
-ghost use Rattle.patricia_core.specs.Prefixes.{along, longest, under, IsReach};
+ghost use Rattle.patricia_core.specs.Prefixes.{along, longest, outside, under, IsReach};
 ghost use Rattle.patricia_core.specs.Walks.{values_of};
 
 mod iter;
@@ -200,6 +200,25 @@ impl<K: Bytes, V: Drop> GenericPatriciaMap<K, V> {
         ensures joins { OnErr result (Joins K.item (map.keys self.old) (Q.key key)) }
     {
         self.tree.remove(key)
+    }
+
+    /// Takes out the entries whose key begins with the prefix, as a map of their own.
+    ///
+    /// The error is want of memory. It comes only where there is such an entry, and never for the
+    /// empty prefix, which hands everything over.
+    pub fn split_by_prefix<Q: BorrowedBytes<Owned = K>>(
+        &mut self,
+        prefix: Q,
+    ) -> Result<Self, AllocError>
+        ensures taken { IfOk result (λ m. map.entries m ≡ under (Q.key prefix) (map.entries self.old)) }
+        ensures left { OnOk result (map.entries self.new ≡ outside (Q.key prefix) (map.entries self.old)) }
+        ensures unchanged { OnErr result (self.new ≡ self.old) }
+        ensures only_filled { OnErr result (Q.key prefix ≢ []) }
+        ensures only_begun { OnErr result (under (Q.key prefix) (map.entries self.old) ≢ []) }
+    {
+        Ok(GenericPatriciaMap {
+            tree: self.tree.split(prefix)?,
+        })
     }
 
     /// Each key is a valid key of its kind, so its bytes are bytes. This says so, and does nothing.
