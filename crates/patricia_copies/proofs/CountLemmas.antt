@@ -1,5 +1,5 @@
 -- How many nodes are used: all but the free ones.
-use Rattle.std.proofs.Common.{◌≡◌, ℕ, suc, ◌+◌, ◌-◌, ◌<◌, ◌≤◌, List, [], ◌∷◌, length, get_or, Option, Some, None, slice_get, ap, arith}
+use Rattle.std.proofs.Common.{◌≡◌, ℕ, suc, ◌+◌, ◌-◌, ◌<◌, List, [], ◌∷◌, length, get_or, Option, Some, slice_get, arith}
 use Rattle.std.proofs.lemmas.Option.{slice_get_within}
 use Rattle.patricia_nodes.specs.declared.slots.Node.{Node}
 use Rattle.patricia_nodes.specs.declared.slots.Slots.{Slots}
@@ -34,21 +34,12 @@ module _ {V : Type 0} where
       let same : i ≡ id = cc in
       record { ids = ids; more = omega arith; n = c.0.0; there = rw (← same) c.0.1; next = c.0.2; chain = c.1 }
 
-  -- it is in the vector, and counted as used still
-  pub free_within : (nodes : List (Node V)) (p : Plan V) (id used : ℕ) → Counting nodes p (Some id) used → (id < length nodes) × (1 ≤ used)
-  free_within nodes p id used c =
-      let o = opens nodes id c.rest c.chain c.at_is in
-      (slice_get_within nodes id o.n o.there, omega (arith, c.counted, o.more))
+  -- it is in the vector
+  pub free_within : (nodes : List (Node V)) (p : Plan V) (id used : ℕ) → Counting nodes p (Some id) used → id < length nodes
+  free_within nodes p id used c = let o = opens nodes id c.rest c.chain c.at_is in slice_get_within nodes id o.n o.there
 
+  -- and one that is not used
   pub counting_next : (nodes : List (Node V)) (p : Plan V) (id used : ℕ) (n : Node V) → n ≡ get_or nodes id n → Counting nodes p (Some id) used → Counting nodes p n.sibling (used - 1)
   counting_next nodes p id used n reads c =
       let o = opens nodes id c.rest c.chain c.at_is in
       record { rest = o.ids; chain = o.chain; at_is = rw (node_is nodes id n o.n o.there reads) o.next; counted = omega (arith, c.counted, o.more) }
-
-  -- at the end none of them is
-  pub counting_done : (nodes : List (Node V)) (p : Plan V) (used : ℕ) → Counting nodes p None used → used ≡ size p
-  counting_done nodes p used c = by c.rest c.at_is c.counted
-    where
-      by : (rest : List ℕ) → None ≡ first rest → used ≡ size p + length rest → used ≡ size p
-      by [] e counted = omega (arith, counted)
-      by (i ∷ ids) e counted = absurd (cc)

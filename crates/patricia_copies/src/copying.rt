@@ -28,11 +28,7 @@ fn used<V: Drop>(slots: &Slots<V>) -> usize
 }
 
 // A copy of a node, with its child and another sibling.
-fn copy_node<V: Clone>(
-    alloc: Global,
-    node: &Node<V>,
-    sibling: Link,
-) -> Result<Node<V>, AllocError>
+fn copy_node<V: Clone>(alloc: Global, node: &Node<V>, sibling: Link) -> Result<Node<V>, AllocError>
     requires { IfSome node.now.value (IsKept V.is_clone) }
     ensures { IfOk result (λ n. n ≡ linked node.now.label node.now.value node.now.child sibling) }
 {

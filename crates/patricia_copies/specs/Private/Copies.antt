@@ -1,5 +1,5 @@
 -- What a copy of nodes needs of the clones of their values.
-use Rattle.std.specs.Prelude.{◌≡◌, Option, IfSome}
+use Rattle.std.specs.Prelude.{◌≡◌, IfSome}
 use Rattle.std.specs.List.{All}
 use Rattle.patricia_rows.specs.Rows.{Row, end, node}
 use Rattle.patricia_nodes.specs.declared.slots.Slots.{Slots}

@@ -1,6 +1,6 @@
-use Rattle.std.proofs.Common.{◌≡◌, ◌<◌, ◌+◌, [], length, refl, ap, ◌∙◌, arith, add-one, length-append}
-use Rattle.patricia_nodes.specs.Private.Growth.{laid}
+use Rattle.std.proofs.Common.{◌<◌, length, refl, ap, ◌∙◌, arith, add-one}
 use Rattle.patricia_nodes.proofs.LayLemmas.{laying_start, laying_row, next_top, laying_next, laying_done}
+use Rattle.patricia_copies.proofs.CopyLemmas.{not_fewer}
 use Rattle.patricia_copies.proofs.KeptLemmas.{next_row_kept}
 use Rattle.patricia_copies.proofs.copying.copy_below.Goals as goal
 
@@ -26,9 +26,8 @@ index_mut-requires g c =
     let w = c.requires.0 in
     let l = c.loop-i.invariant.laying w c.requires.1 in
     let next = laying_row w _ c.loop-i.i _ _ l (omega (arith, c.loop-i-test.true, c.len.ensures)) in
-    let comes = ap length (c.in_ok-first.ensures.laid next.row (next_top w _ c.loop-i.i _ _ next c.index.result.now c.index.ensures)) in
-    let both = length-append c.loop-i.to.items (laid (length c.loop-i.to.items) next.row) in
-    omega (arith, c.loop-i-test.true, c.len.ensures, comes, both)
+    let more = not_fewer _ _ next.row (c.in_ok-first.ensures.laid next.row (next_top w _ c.loop-i.i _ _ next c.index.result.now c.index.ensures)) in
+    omega (arith, c.loop-i-test.true, c.len.ensures, more)
 
 pub loop-i-preserved : goal.loop-i-preserved
 loop-i-preserved g c = record {

@@ -1,6 +1,6 @@
-use Rattle.std.proofs.Common.{◌≡◌, suc, Some, None, length, refl, sym, ap, ◌∙◌, arith}
+use Rattle.std.proofs.Common.{suc, Some, length, sym, ap, ◌∙◌, arith}
 use Rattle.patricia_nodes.proofs.GrowthLemmas.{number_none, number_some}
-use Rattle.patricia_copies.proofs.CopyLemmas.{copying_none, next_within, room_for_next, next_kept, copying_next, copying_done}
+use Rattle.patricia_copies.proofs.CopyLemmas.{copying_next, copying_done}
 use Rattle.patricia_copies.proofs.copying.copy_row.Goals as goal
 use Rattle.patricia_copies.proofs.copying.copy_row.Goals.{in-None, in-Some-get}
 
