@@ -109,6 +109,20 @@ module _ {V : Type 0} where
   number_some Nil n k e = absurd (cc)
   number_some (Cell id l v c d) n k e = refl
 
+  -- one node more lies behind, and the rest of its row comes after it
+  pub laid_next : (to to' : List (Node V)) (n : Node V) (number : Option ℕ) (i : ℕ) (l : List ℕ) (v : Option V) (c d : Plan V)
+      → n ≡ linked l v (head c) (head d) → number ≡ head (numbered (suc (length to)) d) → to' ≡ to ++ linked n.label n.value n.child number ∷ []
+      → (length to' ≡ suc (length to)) × (to' ++ laid (length to') d ≡ to ++ laid (length to) (Cell i l v c d))
+  laid_next to to' n number i l v c d is numbers pushed =
+      let x = linked n.label n.value n.child number in
+      let node : x ≡ linked l v (head c) (head (numbered (suc (length to)) d)) = rw (is, numbers) refl in
+      let longer : length to' ≡ suc (length to) = omega (arith, ap length pushed, length-append to (x ∷ [])) in (
+        longer,
+        ap (λ xs. xs ++ laid (length to') d) pushed ∙ append_assoc to (x ∷ []) (laid (length to') d)
+        ∙ ap (λ k. to ++ x ∷ laid k d) longer
+        ∙ ap (λ y. to ++ y ∷ laid (suc (length to)) d) node,
+      )
+
   module _ (from0 : Slots V) (to0 : List (Node V)) (w : Plan V) (from later : Slots V) (id : ℕ) (to to' : List (Node V)) (m : Moving from0 to0 w from (Some id) to)
       (n : Node V) (frees : Frees from later id n) (number : Option ℕ) (numbers : (d : Plan V) → n.sibling ≡ head d → number ≡ head (numbered (suc (length to)) d)) (pushed : to' ≡ to ++ linked n.label n.value n.child number ∷ []) where
     one_taken : Takes from later (λ i. one id i) 1
@@ -123,8 +137,7 @@ module _ {V : Type 0} where
             let same : id ≡ i = let e = row.at_is in cc in
             let is : n ≡ linked l v (head c) (head d) = let there = row.stands.0 in let here' : slice_get from.nodes.items i ≡ Some n = rw (← same) frees.taken in cc in
             let sibling : n.sibling ≡ head d = ap (λ (x : Node V). x.sibling) is in
-            let node : linked n.label n.value n.child number ≡ linked l v (head c) (head (numbered (suc (length to)) d)) = rw (is, numbers d sibling) refl in
-            let longer : length to' ≡ suc (length to) = omega (arith, ap length pushed, length-append to (linked n.label n.value n.child number ∷ [])) in
+            let comes = laid_next to to' n number i l v c d is (numbers d sibling) pushed in
             record {
               rest = d;
               row = record {
@@ -132,16 +145,13 @@ module _ {V : Type 0} where
                 at_is = sibling;
                 once = λ k. omega (arith, row.once k);
               };
-              moved =
-                  ap (λ x. x ++ laid (length to') d) pushed ∙ append_assoc to (linked n.label n.value n.child number ∷ []) (laid (length to') d)
-                  ∙ ap (λ k. to ++ linked n.label n.value n.child number ∷ laid k d) longer
-                  ∙ ap (λ x. to ++ x ∷ laid (suc (length to)) d) node ∙ moved;
+              moved = comes.1 ∙ moved;
               counts = λ k. m.counts k + one id k;
               number = m.number + 1;
               takes = takes_more from0 from later m.counts (λ k. one id k) m.number 1 m.takes one_taken;
               split = λ k. omega (arith, split k, ap (λ x. one x k) same);
               sized = omega (arith, sized);
-              counted = omega (arith, counted, longer);
+              counted = omega (arith, counted, comes.0);
             }
 
   -- at the end all is moved

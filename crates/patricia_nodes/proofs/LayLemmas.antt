@@ -45,7 +45,7 @@ module _ {V : Type 0} where
   counted_once nodes root free p spare sound at = omega (arith, sound.once at, below_le (length nodes) at)
 
   -- the top row is there
-  laying_start : (p : Plan V) (from to : List (Node V)) → IsLaid from to p → Laying p from 0 to (head (numbered 0 p))
+  pub laying_start : (p : Plan V) (from to : List (Node V)) → IsLaid from to p → Laying p from 0 to (head (numbered 0 p))
   laying_start p from to l =
       let long : length to ≡ length (tops p) = ap length l.laid_is ∙ length-laid 0 p in
       record {
@@ -119,6 +119,31 @@ module _ {V : Type 0} where
         within = omega (arith, long);
       }
 
+  -- as the nodes are read and written
+  pub laying_next : (p : Plan V) (from later : List (Node V)) (i : ℕ) (to final : List (Node V)) (root : Option ℕ) (l : Laying p from i to root) → i < length to → (next : NextRow p from i to l.mix) → ((at : ℕ) → times (tops next.row) at ≡ 0 → slice_get later at ≡ slice_get from at)
+      → (moved : List (Node V)) → moved ≡ to ++ laid (length to) next.row → (first : Option ℕ) → first ≡ head (numbered (length to) next.row) → (n : Node V) → n ≡ get_or moved i n → final ≡ set moved i (linked n.label n.value first n.sibling) → Laying p later (suc i) final root
+  laying_next p from later i to final root l short next others moved comes first first_is n reads written =
+      let parent : n ≡ next.parent = node_is moved i n next.parent (ap (λ xs. slice_get xs i) comes ∙ get_front to (laid (length to) next.row) i short ∙ next.there) reads in
+      let is : final ≡ set (to ++ laid (length to) next.row) i (linked next.parent.label next.parent.value (head (numbered (length to) next.row)) next.parent.sibling) = rw (← parent, ← first_is, ← comes) written in
+      laying_on p from later i to final root l short next others is
+
+  -- at the end the nodes are sound, and the same row
+  pub laying_done : (p : Plan V) (from : List (Node V)) (i : ℕ) (to : List (Node V)) (root : Option ℕ) → Laying p from i to root → length to ≤ i → (q : Plan V) × IsSound to root None q [] × (row q ≡ row p) × (size q ≡ size p)
+  laying_done p from i to root l all =
+      let done = lies_done from to l.mix l.lies (subst (λ k. IsUpTo k l.mix) (all_turns i (length to) l.within all) l.up_to) in
+      let q = flat l.mix in (
+        q,
+        record {
+          plan_ok = record { stands = done.0; at_is = l.root_is ∙ flat_first l.mix; fits = omega (arith, l.size_is, l.sized, done.2) };
+          chain = tt;
+          free_is = refl;
+          once = λ at. omega (arith, done.1 at, l.news_once at);
+          total = omega (arith, l.size_is, l.sized, done.2);
+        },
+        l.row_is,
+        l.size_is,
+      )
+
   -- what is taken from the old nodes meanwhile
   pub record Emptied (old : Slots V) (w : Plan V) (mix : Mix V) (now : Slots V) : Type 0 where
     pub counts : ℕ → ℕ
@@ -152,47 +177,37 @@ module _ {V : Type 0} where
   -- once they are moved and the node has their new number, it is the next one's turn
   pub filling_next : (old : Slots V) (w : Plan V) (from later : Slots V) (i : ℕ) (to final : List (Node V)) (f : Filling old w from i to) → i < length to → (next : NextRow w from.nodes.items i to f.laying.mix) → TakesRow from later next.row
       → (moved : List (Node V)) → moved ≡ to ++ laid (length to) next.row → (first : Option ℕ) → first ≡ head (numbered (length to) next.row) → (n : Node V) → n ≡ get_or moved i n → final ≡ set moved i (linked n.label n.value first n.sibling) → Filling old w later (i + 1) final
-  unfolding laying_on
+  unfolding laying_on laying_next
   filling_next old w from later i to final f short next takes moved comes first first_is n reads written =
       let l = f.laying in
-      let parent : n ≡ next.parent = node_is moved i n next.parent (ap (λ xs. slice_get xs i) comes ∙ get_front to (laid (length to) next.row) i short ∙ next.there) reads in
-      let is : final ≡ set (to ++ laid (length to) next.row) i (linked next.parent.label next.parent.value (head (numbered (length to) next.row)) next.parent.sibling) = rw (← parent, ← first_is, ← comes) written in
       let done : Filling old w later (suc i) final = record {
-        laying = laying_on w from.nodes.items later.nodes.items i to final (head (numbered 0 w)) l short next takes.others is;
+        laying = laying_next w from.nodes.items later.nodes.items i to final (head (numbered 0 w)) l short next takes.others moved comes first first_is n reads written;
         emptied = emptied_next old w l.mix from later i (length to) next.row (omega (arith, l.news_once i, below_le (length to) i)) next.due takes f.emptied;
       } in
       subst (λ k. Filling old w later k final) (omega arith) done
 
-  -- and at the end they are sound, and the same row
+  -- and at the end they are sound, and what is below the row was taken
   pub filling_done : (old : Slots V) (w : Plan V) (now : Slots V) (i : ℕ) (to : List (Node V)) → Filling old w now i to → length to ≤ i
       → ((q : Plan V) × IsSound to (head (numbered 0 w)) None q [] × (row q ≡ row w) × (size q ≡ size w)) × TakesBelow old now w
   filling_done old w now i to f all =
       let l = f.laying in
       let e = f.emptied in
-      let done = lies_done now.nodes.items to l.mix l.lies (subst (λ k. IsUpTo k l.mix) (all_turns i (length to) l.within all) l.up_to) in
-      let q = flat l.mix in (
-        (
-          q,
-          record {
-            plan_ok = record { stands = done.0; at_is = l.root_is ∙ flat_first l.mix; fits = omega (arith, l.size_is, l.sized, done.2) };
-            chain = tt;
-            free_is = refl;
-            once = λ at. omega (arith, done.1 at, l.news_once at);
-            total = omega (arith, l.size_is, l.sized, done.2);
-          },
-          l.row_is,
-          l.size_is,
-        ),
+      let done = lies_done now.nodes.items to l.mix l.lies (subst (λ k. IsUpTo k l.mix) (all_turns i (length to) l.within all) l.up_to) in (
+        laying_done w now.nodes.items i to (head (numbered 0 w)) l all,
         takes_same old now e.counts (λ at. count_below w at) e.number (size_below w) (λ at. omega (arith, e.split at, done.3 at)) (omega (arith, e.sized, done.2)) e.takes,
       )
 
-  -- a plan whose top row was moved to the front of new nodes
-  pub laid_row : (old now : Slots V) (p : Plan V) (to0 to : List (Node V)) → Stands old.nodes.items p → ((at : ℕ) → count p at ≤ 1) → TakesRow old now p → to0 ≡ [] → to ≡ to0 ++ laid (length to0) p → IsLaid now.nodes.items to p
-  laid_row old now p to0 to stands once takes none moved = record {
-    laid_is = rw none at moved;
-    below_stands = below-keep old.nodes.items now.nodes.items p (λ at n. takes.others at (omega (arith, count-parts p at, once at))) stands;
+  -- a plan whose top row came to the front of new nodes, and no other node was touched
+  pub laid_apart : (from later : List (Node V)) (p : Plan V) (to0 to : List (Node V)) → Stands from p → ((at : ℕ) → count p at ≤ 1) → ((at : ℕ) → times (tops p) at ≡ 0 → slice_get later at ≡ slice_get from at) → to0 ≡ [] → to ≡ to0 ++ laid (length to0) p → IsLaid later to p
+  laid_apart from later p to0 to stands once others none comes = record {
+    laid_is = rw none at comes;
+    below_stands = below-keep from later p (λ at n. others at (omega (arith, count-parts p at, once at))) stands;
     once = λ at. omega (arith, count-parts p at, once at);
   }
+
+  -- so where the row was moved
+  pub laid_row : (old now : Slots V) (p : Plan V) (to0 to : List (Node V)) → Stands old.nodes.items p → ((at : ℕ) → count p at ≤ 1) → TakesRow old now p → to0 ≡ [] → to ≡ to0 ++ laid (length to0) p → IsLaid now.nodes.items to p
+  laid_row old now p to0 to stands once takes none moved = laid_apart old.nodes.items now.nodes.items p to0 to stands once takes.others none moved
 
   -- the plan that is read, as a row to move
   pub record Readable (nodes : List (Node V)) (root : Option ℕ) (p : Plan V) : Type 0 where

@@ -1,0 +1,51 @@
+-- Values whose clones are the same.
+use Rattle.std.proofs.Common.{inl, inr, ℕ, List, [], ◌∷◌, ◌++◌, Option, Some, None, sym, subst}
+use Rattle.std.specs.Prelude.{IfSome}
+use Rattle.std.specs.List.{AllByRecursion}
+use Rattle.std.proofs.lemmas.List.Elements.{recursion_from_All}
+use Rattle.patricia_rows.specs.Rows.{Row, end, node, own, prefixed, entries}
+use Rattle.patricia_nodes.specs.declared.slots.Node.{Node}
+use Rattle.patricia_nodes.specs.declared.slots.Slots.{Slots}
+use Rattle.patricia_nodes.specs.Private.Plans.{Plan, row, row_of}
+use Rattle.patricia_nodes.proofs.RelayLemmas.{Mix, Empty, Done, Open, flat, OpenAt}
+use Rattle.patricia_nodes.proofs.LayLemmas.{Laying, NextRow}
+use Rattle.patricia_copies.specs.Private.Copies.{IsKept, EntriesKept, RowKept}
+
+module _ {V : Type 0} (is_clone : V → V → Type 0) where
+  abbrev Kept : List (List ℕ × V) → Type 0
+  Kept es = AllByRecursion (λ e. IsKept is_clone e.1) es
+
+  kept_both : (xs ys : List (List ℕ × V)) → Kept (xs ++ ys) → Kept xs × Kept ys
+  kept_both [] ys k = (tt, k)
+  kept_both (x ∷ xs) ys k = let rest = kept_both xs ys k.1 in ((k.0, rest.0), rest.1)
+
+  kept-prefixed : (p : List ℕ) (es : List (List ℕ × V)) → Kept (prefixed p es) → Kept es
+  kept-prefixed p [] k = tt
+  kept-prefixed p (e ∷ es) k = (k.0, kept-prefixed p es k.1)
+
+  kept-own : (v : Option V) → Kept (own v) → IfSome v (IsKept is_clone)
+  kept-own None k = tt
+  kept-own (Some v) k = k.0
+
+  kept-entries : (r : Row V) → Kept (entries r) → RowKept is_clone r
+  kept-entries end k = tt
+  kept-entries (node l v c s) k =
+      let both = kept_both (prefixed l (own v ++ entries c)) (entries s) k in
+      let inner = kept_both (own v) (entries c) (kept-prefixed l (own v ++ entries c) both.0) in
+      (kept-own v inner.0, kept-entries c inner.1, kept-entries s both.1)
+
+  -- the values of the entries are those of the row
+  pub row_kept : (s : Slots V) → EntriesKept is_clone s → RowKept is_clone (row_of s)
+  row_kept s k = kept-entries (row_of s) (recursion_from_All (λ e. IsKept is_clone e.1) (entries (row_of s)) k)
+
+  -- the children of a node have some of them
+  kept-open : (i : ℕ) (q : Mix V) (w : Plan V) → OpenAt i q w → RowKept is_clone (row (flat q)) → RowKept is_clone (row w)
+  kept-open i Empty w due k = absurd due
+  kept-open i (Done id l v c d) w (inl due) k = kept-open i c w due k.1
+  kept-open i (Done id l v c d) w (inr due) k = kept-open i d w due k.2
+  kept-open i (Open id l v c d) w (inl here) k = subst (λ x. RowKept is_clone (row x)) here.1 k.1
+  kept-open i (Open id l v c d) w (inr due) k = kept-open i d w due k.2
+
+  -- and so has the next row that is laid
+  pub next_row_kept : (p : Plan V) (from : List (Node V)) (i : ℕ) (to : List (Node V)) (root : Option ℕ) (l : Laying p from i to root) (next : NextRow p from i to l.mix) → RowKept is_clone (row p) → RowKept is_clone (row next.row)
+  next_row_kept p from i to root l next kept = kept-open i l.mix next.row next.due (subst (λ r. RowKept is_clone r) (sym l.row_is) kept)

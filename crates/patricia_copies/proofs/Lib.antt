@@ -1,0 +1,4 @@
+pub mod CopyLemmas
+pub mod CountLemmas
+pub mod KeptLemmas
+pub mod WholeLemmas

@@ -1,0 +1,36 @@
+-- All nodes are copied.
+use Rattle.std.proofs.Common.{◌≡◌, ℕ, List, [], ◌++◌, length, None, refl, ap, ◌∙◌}
+use Rattle.patricia_rows.specs.Rows.{end}
+use Rattle.patricia_nodes.specs.declared.slots.Node.{Node}
+use Rattle.patricia_nodes.specs.declared.slots.Slots.{Slots}
+use Rattle.patricia_nodes.specs.Private.Plans.{Plan, Nil, Cell, head, row, row_of, size, plan_at, IsWhole}
+use Rattle.patricia_nodes.specs.Private.Growth.{laid, IsTopRow, IsLaid}
+use Rattle.patricia_nodes.proofs.LayLemmas.{Readable, readable, laid_apart}
+
+module _ {V : Type 0} where
+  no_nodes : (p : Plan V) → row p ≡ end → p ≡ Nil
+  no_nodes Nil e = refl
+  no_nodes (Cell id l v c d) e = absurd (cc)
+
+  -- where there is no row, no node is used, none is the first, and none is laid
+  pub none_used : (s : Slots V) (n : ℕ) → n ≡ size (plan_at s.nodes.items s.root) → row_of s ≡ end → n ≡ 0
+  none_used s n used e = used ∙ ap (λ (p : Plan V). size p) (no_nodes _ e)
+
+  whole_readable : (s : Slots V) → IsWhole s → Readable s.nodes.items s.root (plan_at s.nodes.items s.root)
+  whole_readable s whole = readable s.nodes.items s.root s.free whole.0 whole.1.0 whole.1.1
+
+  pub none_first : (s : Slots V) → IsWhole s → row_of s ≡ end → s.root ≡ None
+  none_first s whole e = (whole_readable s whole).top.at_is ∙ ap (λ (p : Plan V). head p) (no_nodes _ e)
+
+  pub none_laid : (s : Slots V) (to0 to : List (Node V)) → row_of s ≡ end → to0 ≡ [] → to ≡ to0 ++ laid (length to0) (plan_at s.nodes.items s.root) → to ≡ []
+  none_laid s to0 to e none comes = rw (none, no_nodes _ e) at comes
+
+  -- the top row is there
+  pub top_there : (s : Slots V) → IsWhole s → (from : List (Node V)) → from ≡ s.nodes.items → IsTopRow from s.root (plan_at s.nodes.items s.root)
+  top_there s whole from same = rw same (whole_readable s whole).top
+
+  -- once it is copied, what is below it still stands there
+  pub top_copied : (s : Slots V) → IsWhole s → (from : List (Node V)) → from ≡ s.nodes.items → (to0 to : List (Node V)) → to0 ≡ [] → to ≡ to0 ++ laid (length to0) (plan_at s.nodes.items s.root) → IsLaid from to (plan_at s.nodes.items s.root)
+  top_copied s whole from same to0 to none comes =
+      let r = whole_readable s whole in
+      rw same (laid_apart s.nodes.items s.nodes.items (plan_at s.nodes.items s.root) to0 to r.stands r.once (λ at k. refl) none comes)

@@ -1,0 +1,123 @@
+//! Nodes copied to a vector of their own.
+//!
+//! Rows are laid there as growth lays them: siblings side by side, and the rows level by level. The
+//! new vector is the queue of the rows that wait, and it is reserved once.
+ghost use Rattle.std.specs.Prelude.{◌≡◌, ◌≢◌, ◌+◌, ◌≤◌, ◌++◌, [], None, IfSome, IfOk, OnOk, OnErr, length, vec_len, vec_capacity};
+ghost use Rattle.patricia_rows.specs.Rows.{end};
+ghost use Rattle.patricia_nodes.specs.Private.Plans.{Plan, linked, head, row, row_of, size, plan_at, IsSound, IsWhole};
+ghost use Rattle.patricia_nodes.specs.Private.Growth.{IsLaid, IsTopRow, tops, laid, numbered};
+ghost use Rattle.patricia_copies.specs.Private.Copies.{IsKept, RowKept, EntriesKept};
+
+use patricia_labels::label::Label;
+use patricia_labels::link::{Link, NodeId};
+use patricia_nodes::slots::{Node, Slots};
+use std::alloc::{AllocError, Global};
+
+// How many nodes are used: all but the free ones.
+fn used<V: Drop>(slots: &Slots<V>) -> usize
+    requires { IsWhole slots.now }
+    ensures { result ≡ size (plan_at slots.now.nodes.items slots.now.root) }
+{
+    let mut used = slots.nodes.len();
+    let mut at = slots.free;
+    while let Some(id) = at.get() {
+        used -= 1;
+        at = slots.nodes[id.index()].sibling;
+    }
+    used
+}
+
+// A copy of a node, with its child and another sibling.
+fn copy_node<V: Clone>(alloc: Global, node: &Node<V>, sibling: Link) -> Result<Node<V>, AllocError>
+    requires { IfSome node.now.value (IsKept V.is_clone) }
+    ensures { IfOk result (λ n. n ≡ linked node.now.label node.now.value node.now.child sibling) }
+{
+    let label = Label::from_slice(alloc, node.label.as_slice())?;
+    let value = match &node.value {
+        Some(value) => Some(value.clone()?),
+        None => None,
+    };
+    Ok(Node {
+        child: node.child,
+        sibling,
+        label,
+        value,
+    })
+}
+
+// Copies a row behind the last of some new nodes, each with the old number of its first child, and
+// answers the new number of its first node.
+fn copy_row<V: Clone>(
+    alloc: Global,
+    from: &[Node<V>],
+    first: Link,
+    to: &mut Vec<Node<V>>,
+) -> Result<Link, AllocError>
+    requires row { (w : Plan V) × IsTopRow from.now first w × RowKept V.is_clone (row w)
+        × (vec_len to.old + length (tops w) ≤ vec_capacity to.old) }
+    ensures laid { OnOk result ((w : Plan V) → IsTopRow from.now first w
+        → to.new.items ≡ to.old.items ++ laid (length to.old.items) w) }
+    ensures first { IfOk result (λ at. (w : Plan V) → IsTopRow from.now first w
+        → at ≡ head (numbered (length to.old.items) w)) }
+    ensures capacity { OnOk result (vec_capacity to.new ≡ vec_capacity to.old) }
+    ensures filled { OnErr result (first ≢ None) }
+{
+    let start = to.len();
+    let mut at = first;
+    while let Some(id) = at.get() {
+        let node = &from[id.index()];
+        at = node.sibling;
+        let sibling = match at.get() {
+            None => Link::none(),
+            Some(_) => Link::some(NodeId::new(to.len() + 1)),
+        };
+        to.push_reserved(copy_node(alloc, node, sibling)?);
+    }
+    Ok(match first.get() {
+        None => Link::none(),
+        Some(_) => Link::some(NodeId::new(start)),
+    })
+}
+
+// Copies what is below the nodes of a new vector behind them, row by row. They have the old numbers
+// of their children.
+fn copy_below<V: Clone>(
+    alloc: Global,
+    from: &[Node<V>],
+    to: &mut Vec<Node<V>>,
+) -> Result<(), AllocError>
+    requires { (w : Plan V) × IsLaid from.now to.old.items w × RowKept V.is_clone (row w)
+        × (size w ≤ vec_capacity to.old) }
+    ensures laid { OnOk result ((w : Plan V) → IsLaid from.now to.old.items w
+        → (q : Plan V) × IsSound to.new.items (head (numbered 0 w)) None q [] × (row q ≡ row w)) }
+    ensures filled { OnErr result (to.old.items ≢ []) }
+{
+    let mut i = 0;
+    while i < to.len() {
+        let child = to[i].child;
+        let first = copy_row(alloc, from, child, to)?;
+        to[i].child = first;
+        i += 1;
+    }
+    Ok(())
+}
+
+/// The same nodes in a vector of their own, laid row by row as growth lays them, with none free.
+/// The vector is reserved once.
+pub fn copy<V: Clone>(slots: &Slots<V>, alloc: Global) -> Result<Slots<V>, AllocError>
+    requires whole { IsWhole slots.now }
+    requires cloned { EntriesKept V.is_clone slots.now }
+    ensures whole { IfOk result (λ c. IsWhole c) }
+    ensures row { IfOk result (λ c. row_of c ≡ row_of slots.now) }
+    ensures none_free { IfOk result (λ c. c.free ≡ None) }
+    ensures filled { OnErr result (row_of slots.now ≢ end) }
+{
+    let mut nodes = Vec::with_capacity(alloc, used(slots))?;
+    let root = copy_row(alloc, &slots.nodes, slots.root, &mut nodes)?;
+    copy_below(alloc, &slots.nodes, &mut nodes)?;
+    Ok(Slots {
+        nodes,
+        root,
+        free: Link::none(),
+    })
+}
