@@ -1,5 +1,5 @@
 -- Pairs put in one after the other.
-use Rattle.std.proofs.Common.{◌≡◌, ◌≢◌, ℕ, List, [], ◌∷◌, ◌++◌, Option, Some, None, refl, sym, ap, ◌∙◌}
+use Rattle.std.proofs.Common.{◌≡◌, ◌≢◌, ℕ, List, [], ◌∷◌, ◌++◌, Option, Some, None, Result, Ok, Err, OnErr, refl, sym, ap, ◌∙◌}
 use Rattle.std.proofs.iter.Next.{Yields-more}
 use Rattle.std.specs.FinMap as map
 use Rattle.std.specs.Iterator.{Yields}
@@ -30,3 +30,8 @@ module _ {Q V : Type 0} (bytes : Q → List ℕ) (old : map.FinMap key_cmp V) (g
       is_filled = filled;
       is_new = ap (λ m. map.get m (bytes pair.0)) same ∙ absent;
     }
+
+-- what holds of some value holds of one at an error
+pub of_some_at_error : {A B E : Type 0} (P : B → Type 0) (r : Result A E) (some : B) → P some → OnErr r ((b : B) × P b)
+of_some_at_error P (Ok x) some p = tt
+of_some_at_error P (Err e) some p = (some, p)
