@@ -11,25 +11,23 @@ insert_all_more : {Q V : Type 0} (bytes : Q → List ℕ) (m : map.FinMap key_cm
 insert_all_more bytes m [] pair = refl
 insert_all_more bytes m (first ∷ pairs) pair = insert_all_more bytes (map.insert m (bytes first.0) first.1) pairs pair
 
-module _ {Q V : Type 0} (bytes : Q → List ℕ) (old : map.FinMap key_cmp V) (given : List (Q × V)) {here new : map.FinMap key_cmp V} (pair : Q × V) (so_far : here ≡ insert_all old (by_bytes bytes given)) where
-  -- one more turn, at which the pair is put in
-  pub puts_one_more : new ≡ map.insert here (bytes pair.0) pair.1 → new ≡ insert_all old (by_bytes bytes (given ++ pair ∷ []))
-  puts_one_more put = put ∙ ap (λ m. map.insert m (bytes pair.0) pair.1) so_far ∙ sym (insert_all_more bytes old given pair)
+-- one more turn, at which the pair is put in
+pub puts_one_more : {Q V : Type 0} (bytes : Q → List ℕ) (old : map.FinMap key_cmp V) (given : List (Q × V)) {here new : map.FinMap key_cmp V} (pair : Q × V) → here ≡ insert_all old (by_bytes bytes given) → new ≡ map.insert here (bytes pair.0) pair.1 → new ≡ insert_all old (by_bytes bytes (given ++ pair ∷ []))
+puts_one_more bytes old given pair so_far put = put ∙ ap (λ m. map.insert m (bytes pair.0) pair.1) so_far ∙ sym (insert_all_more bytes old given pair)
 
-  -- the last turn, at which the pair is refused
-  module _ {I S : Type 0} (becomes : I → S → Type 0) (steps : S → Option (Q × V) → S → Type 0) {pairs : I} {start at rest : S} where
-    pub stops_at : becomes pairs start → Yields steps start given at → steps at (Some pair) rest → new ≡ here → bytes pair.0 ≢ [] → map.get here (bytes pair.0) ≡ None → IsStoppedAt becomes steps bytes pairs old new
-    stops_at is_start gave next same filled absent = record {
-      start = start;
-      given = given;
-      refused = pair;
-      rest = rest;
-      is_start = is_start;
-      gave = Yields-more steps start given at pair rest gave next;
-      put_in = same ∙ so_far;
-      is_filled = filled;
-      is_new = ap (λ m. map.get m (bytes pair.0)) same ∙ absent;
-    }
+-- the last turn, at which the pair is refused
+pub stops_at : {I S Q V : Type 0} {becomes : I → S → Type 0} {steps : S → Option (Q × V) → S → Type 0} {bytes : Q → List ℕ} {pairs : I} {old here new : map.FinMap key_cmp V} (start at rest : S) (given : List (Q × V)) (pair : Q × V) → becomes pairs start → Yields steps start given at → steps at (Some pair) rest → here ≡ insert_all old (by_bytes bytes given) → new ≡ here → bytes pair.0 ≢ [] → map.get here (bytes pair.0) ≡ None → IsStoppedAt becomes steps bytes pairs old new
+stops_at {steps = steps} {bytes = bytes} start at rest given pair is_start gave next so_far same filled absent = record {
+  start = start;
+  given = given;
+  refused = pair;
+  rest = rest;
+  is_start = is_start;
+  gave = Yields-more steps start given at pair rest gave next;
+  put_in = same ∙ so_far;
+  is_filled = filled;
+  is_new = ap (λ m. map.get m (bytes pair.0)) same ∙ absent;
+}
 
 -- what holds of some value holds of one at an error
 pub of_some_at_error : {A B E : Type 0} (P : B → Type 0) (r : Result A E) (some : B) → P some → OnErr r ((b : B) × P b)
