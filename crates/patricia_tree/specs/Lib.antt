@@ -1,3 +1,4 @@
+pub mod Bulk
 pub use Rattle.patricia_core.specs.ByteKind
 pub use Rattle.patricia_core.specs.Keys
 pub use Rattle.patricia_core.specs.Laws

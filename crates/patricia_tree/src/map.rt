@@ -8,6 +8,7 @@ ghost use Rattle.patricia_core.specs.Points.{CountsVisits, Joins};
 ghost use Rattle.patricia_core.specs.Prefixes.{along, longest, outside, under, IsReach};
 ghost use Rattle.patricia_core.specs.Walks.{values_of};
 
+mod bulk;
 mod iter;
 mod prefixes;
 
