@@ -1,15 +1,16 @@
 -- Values whose clones are the same.
 use Rattle.std.proofs.Common.{inl, inr, ℕ, List, [], ◌∷◌, ◌++◌, Option, Some, None, sym, subst}
-use Rattle.std.specs.Prelude.{IfSome}
-use Rattle.std.specs.List.{AllByRecursion}
-use Rattle.std.proofs.lemmas.List.Elements.{recursion_from_All}
+use Rattle.std.specs.Prelude.{IfSome, map}
+use Rattle.std.specs.List.{All, AllByRecursion}
+use Rattle.std.proofs.lemmas.List.Elements.{All-from_recursion, recursion_from_All}
 use Rattle.patricia_rows.specs.Rows.{Row, end, node, own, prefixed, entries}
 use Rattle.patricia_nodes.specs.declared.slots.Node.{Node}
 use Rattle.patricia_nodes.specs.declared.slots.Slots.{Slots}
 use Rattle.patricia_nodes.specs.Private.Plans.{Plan, row, row_of}
 use Rattle.patricia_nodes.proofs.RelayLemmas.{Mix, Empty, Done, Open, flat, OpenAt}
 use Rattle.patricia_nodes.proofs.LayLemmas.{Laying, NextRow}
-use Rattle.patricia_copies.specs.Private.Copies.{IsKept, EntriesKept, RowKept}
+use Rattle.patricia_rows.specs.Clones.{IsKept, AreKept}
+use Rattle.patricia_copies.specs.Private.Copies.{EntriesKept, RowKept}
 
 module _ {V : Type 0} (is_clone : V → V → Type 0) where
   abbrev Kept : List (List ℕ × V) → Type 0
@@ -33,6 +34,16 @@ module _ {V : Type 0} (is_clone : V → V → Type 0) where
       let both = kept_both (prefixed l (own v ++ entries c)) (entries s) k in
       let inner = kept_both (own v) (entries c) (kept-prefixed l (own v ++ entries c) both.0) in
       (kept-own v inner.0, kept-entries c inner.1, kept-entries s both.1)
+
+  kept_values : (es : List (List ℕ × V)) → AllByRecursion (IsKept is_clone) (map (λ e. e.1) es) → Kept es
+  kept_values [] k = tt
+  kept_values (e ∷ es) k = (k.0, kept_values es k.1)
+
+  -- the values of a tree are that of the empty key and those of its entries
+  pub kept_parts : (v : Option V) (r : Row V) → AreKept is_clone (map (λ e. e.1) (own v ++ entries r)) → IfSome v (IsKept is_clone) × All (λ e. IsKept is_clone e.1) (entries r)
+  kept_parts v r k =
+      let both = kept_both (own v) (entries r) (kept_values (own v ++ entries r) (recursion_from_All (IsKept is_clone) (map (λ e. e.1) (own v ++ entries r)) k)) in
+      (kept-own v both.0, All-from_recursion (λ e. IsKept is_clone e.1) (entries r) both.1)
 
   -- the values of the entries are those of the row
   pub row_kept : (s : Slots V) → EntriesKept is_clone s → RowKept is_clone (row_of s)

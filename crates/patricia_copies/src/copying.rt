@@ -6,7 +6,8 @@ ghost use Rattle.std.specs.Prelude.{◌≡◌, ◌≢◌, ◌+◌, ◌≤◌, �
 ghost use Rattle.patricia_rows.specs.Rows.{end};
 ghost use Rattle.patricia_nodes.specs.Private.Plans.{Plan, linked, head, row, row_of, size, plan_at, IsSound, IsWhole};
 ghost use Rattle.patricia_nodes.specs.Private.Growth.{IsLaid, IsTopRow, tops, laid, numbered};
-ghost use Rattle.patricia_copies.specs.Private.Copies.{IsKept, RowKept, EntriesKept};
+ghost use Rattle.patricia_rows.specs.Clones.{IsKept};
+ghost use Rattle.patricia_copies.specs.Private.Copies.{RowKept, EntriesKept};
 
 use patricia_labels::label::Label;
 use patricia_labels::link::{Link, NodeId};
@@ -27,21 +28,29 @@ fn used<V: Drop>(slots: &Slots<V>) -> usize
     used
 }
 
+/// A copy of a value that may be there. Where there is none, nothing is asked for.
+pub fn copy_value<V: Clone>(value: &Option<V>) -> Result<Option<V>, AllocError>
+    requires { IfSome value.now (IsKept V.is_clone) }
+    ensures same { IfOk result (λ v. v ≡ value.now) }
+    ensures filled { OnErr result (value.now ≢ None) }
+{
+    match value {
+        Some(value) => Ok(Some(value.clone()?)),
+        None => Ok(None),
+    }
+}
+
 // A copy of a node, with its child and another sibling.
 fn copy_node<V: Clone>(alloc: Global, node: &Node<V>, sibling: Link) -> Result<Node<V>, AllocError>
     requires { IfSome node.now.value (IsKept V.is_clone) }
     ensures { IfOk result (λ n. n ≡ linked node.now.label node.now.value node.now.child sibling) }
 {
     let label = Label::from_slice(alloc, node.label.as_slice())?;
-    let value = match &node.value {
-        Some(value) => Some(value.clone()?),
-        None => None,
-    };
     Ok(Node {
         child: node.child,
         sibling,
         label,
-        value,
+        value: copy_value(&node.value)?,
     })
 }
 

@@ -5,4 +5,4 @@
 
 mod copying;
 
-pub use copying::copy;
+pub use copying::{copy, copy_value};

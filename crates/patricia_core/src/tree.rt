@@ -4,10 +4,12 @@ ghost use Rattle.std.specs.Option.{option_copied, option_map};
 ghost use Rattle.std.specs.FinMap as map;
 ghost use Rattle.std.specs.List.{All};
 ghost use Rattle.patricia_keys.specs.Keys.{AreSingle, Begins, IsValid};
+ghost use Rattle.patricia_rows.specs.Clones.{AreKept};
 ghost use Rattle.patricia_rows.specs.Points.{CountsVisits, Joins};
 ghost use Rattle.patricia_rows.specs.Prefixes.{along, longest, outside, under, IsReach};
 ghost use Rattle.patricia_rows.specs.Walks.{values_of};
 
+use patricia_copies::{copy, copy_value};
 use patricia_inserts::insert;
 use patricia_keys::{BorrowedBytes, Bytes};
 use patricia_labels::Steps;
@@ -188,6 +190,24 @@ impl<K: Bytes, V: Drop> Tree<K, V> {
             Ok(None) => Ok(None),
             Err(error) => Err(error),
         }
+    }
+
+    /// The same entries in a tree of their own. The error is want of memory.
+    pub fn clone(&self) -> Result<Self, AllocError>
+    where
+        V: Clone,
+        requires { AreKept V.is_clone (map.values self.now) }
+        ensures same { IfOk result (λ t. t ≡ self.now) }
+        ensures only_filled { OnErr result (map.len self.now ≢ 0) }
+    {
+        let value = copy_value(&self.value)?;
+        Ok(Tree {
+            alloc: self.alloc,
+            value,
+            slots: copy(&self.slots, self.alloc)?,
+            count: self.count,
+            kind: PhantomData,
+        })
     }
 
     /// Takes out the entries whose key begins with a prefix, as a tree of their own. The error is

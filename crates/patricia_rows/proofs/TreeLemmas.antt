@@ -12,10 +12,10 @@ use Rattle.patricia_rows.proofs.ListLemmas.{key_cmp-equal}
 use Rattle.patricia_rows.proofs.RemovalLemmas.{others_own, others_below}
 use Rattle.std.specs.Cmp.Lexicographic.{nat_list_cmp_total}
 use Rattle.patricia_keys.specs.Keys.{IsKeyKind, key_cmp}
-use Rattle.patricia_rows.specs.Rows.{Row, end, own, entries, paths, IsRow, keys_of}
+use Rattle.patricia_rows.specs.Rows.{Row, end, node, own, entries, paths, IsRow, keys_of}
 use Rattle.patricia_rows.specs.Points.{Has, IsPoint}
 use Rattle.patricia_rows.proofs.PointLemmas.{IsPoint-within, own_within, within_own, paths_points}
-use Rattle.patricia_rows.proofs.UniqueLemmas.{insides, same_row}
+use Rattle.patricia_rows.proofs.UniqueLemmas.{has_entry, insides, same_row}
 use Rattle.patricia_rows.specs.Trees.{map_of}
 use Rattle.patricia_rows.proofs.OrderLemmas.{entries_sorted, sorted_own, sorted-append, below_own}
 use Rattle.patricia_rows.proofs.GetLemmas.{find_own, find_child}
@@ -39,6 +39,24 @@ module _ (item : List ℕ → Type 0) (kind : IsKeyKind item) {V : Type 0} where
   -- the rows of the map are the entries of the tree
   pub entries_map : (v : Option V) (r : Row V) → IsRow item r → map.entries (map_of v r) ≡ own v ++ entries r
   entries_map v r ok = entries-from_sorted key_cmp (own v ++ entries r) (tree_sorted v r ok)
+
+  -- a map without entries is that of no value and no node
+  pub nothing_in : (v : Option V) (r : Row V) → IsRow item r → len (map_of v r) ≡ 0 → (v ≡ None) × (r ≡ end)
+  nothing_in v r ok none =
+      let all : own v ++ entries r ≡ [] = sym (entries_map v r ok) ∙ nil_from_length (map.entries (map_of v r)) (sym (len-entries (map_of v r)) ∙ none) in
+      (no_own v (entries r) all, no_node r ok (no_entry v (entries r) all))
+    where
+      no_own : (v : Option V) (es : List (List ℕ × V)) → own v ++ es ≡ [] → v ≡ None
+      no_own None es e = refl
+      no_own (Some x) es e = absurd (cc)
+
+      no_entry : (v : Option V) (es : List (List ℕ × V)) → own v ++ es ≡ [] → es ≡ []
+      no_entry None es e = e
+      no_entry (Some x) es e = absurd (cc)
+
+      no_node : (r : Row V) → IsRow item r → entries r ≡ [] → r ≡ end
+      no_node end ok e = refl
+      no_node (node l v c s) ok e = let some = has_entry item kind None l v c s ok in absurd (let gone = rw some.2 at e in cc)
 
   pub get_empty : (v : Option V) (r : Row V) → IsRow item r → get (map_of v r) [] ≡ v
   get_empty v r ok = get-from_sorted key_cmp (own v ++ entries r) [] (tree_sorted v r ok) ∙ find_own item kind v r ok

@@ -1,3 +1,4 @@
+pub mod Clones
 pub mod Laws
 pub mod Points
 pub mod Prefixes

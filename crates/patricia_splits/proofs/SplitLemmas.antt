@@ -1,6 +1,5 @@
 -- What a split leaves, and what it takes out.
 use Rattle.std.proofs.Common.{◌≡◌, ◌≢◌, ℕ, suc, ◌+◌, ◌<◌, ◌≤◌, List, [], ◌∷◌, ◌++◌, length, take, drop, Option, Some, None, slice_get, refl, sym, ap, subst, ◌∙◌, arith, length-append}
-use Rattle.std.specs.Prelude.{Result, Ok, Err, OnErr}
 use Rattle.std.proofs.lemmas.List.{append-nil, append_assoc, take_all}
 use Rattle.std.proofs.lemmas.Option.{slice_get_within}
 use Rattle.patricia_keys.specs.Keys.{Begins, IsKeyKind, IsValid}
@@ -39,11 +38,6 @@ drop-front (x ∷ xs) ys = drop-front xs ys
 nil_second : (xs ys : List ℕ) → xs ++ ys ≡ [] → ys ≡ []
 nil_second [] ys e = e
 nil_second (x ∷ xs) ys e = absurd (cc)
-
--- what holds in any case, holds on an error
-pub on_err : {T E P : Type 0} (r : Result T E) → P → OnErr r P
-on_err (Ok x) p = tt
-on_err (Err e) p = p
 
 -- the node whose label what is left of the prefix begins
 record Topmost (item : List ℕ → Type 0) {V : Type 0} (rest : List ℕ) (id : ℕ) (focus : Plan V) : Type 0 where

@@ -1,5 +1,6 @@
 pub mod Bulk
 pub use Rattle.patricia_core.specs.ByteKind
+pub use Rattle.patricia_core.specs.Clones
 pub use Rattle.patricia_core.specs.Keys
 pub use Rattle.patricia_core.specs.Laws
 pub use Rattle.patricia_core.specs.Points

@@ -3,6 +3,7 @@ ghost use Rattle.std.specs.Prelude.{◌≡◌, ◌≢◌, ◌↔◌, ◌+◌, �
 ghost use Rattle.std.specs.Option.{option_copied, option_map};
 ghost use Rattle.std.specs.FinMap as map;
 ghost use Rattle.std.specs.List.{All};
+ghost use Rattle.patricia_core.specs.Clones.{AreKept};
 ghost use Rattle.patricia_core.specs.Keys.{AreSingle, Begins, IsValid};
 ghost use Rattle.patricia_core.specs.Points.{CountsVisits, Joins};
 ghost use Rattle.patricia_core.specs.Prefixes.{along, longest, outside, under, IsReach};
@@ -201,6 +202,22 @@ impl<K: Bytes, V: Drop> GenericPatriciaMap<K, V> {
         ensures joins { OnErr result (Joins K.item (map.keys self.old) (Q.key key)) }
     {
         self.tree.remove(key)
+    }
+
+    /// The same entries in a map of their own. The error is want of memory, which the empty map
+    /// never meets.
+    ///
+    /// Each clone of a stored value is asked to be that value.
+    pub fn clone(&self) -> Result<Self, AllocError>
+    where
+        V: Clone,
+        requires { AreKept V.is_clone (map.values self.now) }
+        ensures same { IfOk result (λ m. m ≡ self.now) }
+        ensures only_filled { OnErr result (map.len self.now ≢ 0) }
+    {
+        Ok(GenericPatriciaMap {
+            tree: self.tree.clone()?,
+        })
     }
 
     /// Takes out the entries whose key begins with the prefix, as a map of their own.

@@ -1,20 +1,17 @@
 -- What a copy of nodes needs of the clones of their values.
-use Rattle.std.specs.Prelude.{◌≡◌, IfSome}
+use Rattle.std.specs.Prelude.{IfSome}
 use Rattle.std.specs.List.{All}
 use Rattle.patricia_rows.specs.Rows.{Row, end, node}
+use Rattle.patricia_rows.specs.Clones.{IsKept}
 use Rattle.patricia_nodes.specs.declared.slots.Slots.{Slots}
 use Rattle.patricia_nodes.specs.Private.Plans.{entries_of}
 
 module _ {V : Type 0} (is_clone : V → V → Type 0) where
-  -- each clone of a value is that value
-  abbrev pub IsKept : V → Type 0
-  IsKept v = (w : V) → is_clone v w → w ≡ v
-
-  -- and so for each value of the entries
+  -- each clone of a value of the entries is that value
   abbrev pub EntriesKept : Slots V → Type 0
-  EntriesKept s = All (λ e. IsKept e.1) (entries_of s)
+  EntriesKept s = All (λ e. IsKept is_clone e.1) (entries_of s)
 
-  -- and of a row
+  -- and so in a row
   abbrev pub RowKept : Row V → Type 0
   RowKept end = Unit {0}
-  RowKept (node label value child sibling) = IfSome value IsKept × RowKept child × RowKept sibling
+  RowKept (node label value child sibling) = IfSome value (IsKept is_clone) × RowKept child × RowKept sibling

@@ -1,5 +1,6 @@
 use Rattle.std.proofs.Common.{length, refl, sym, ap, ◌∙◌, arith}
-use Rattle.patricia_splits.proofs.SplitLemmas.{on_err, Found, found, has_node, has_node_at, has_tree_at, some_under, label_long, node_short, splits_spared, splits_other, other, both_short, other_lone, other_absorbed}
+use Rattle.patricia_removals.proofs.RemoveLemmas.{on_err_from}
+use Rattle.patricia_splits.proofs.SplitLemmas.{found, has_node, has_node_at, has_tree_at, some_under, label_long, node_short, splits_spared, splits_other, other, both_short, other_lone, other_absorbed}
 use Rattle.patricia_splits.proofs.splitting.split_at.Goals as goal
 
 pub room_for-requires : goal.room_for-requires
@@ -10,7 +11,7 @@ room_for-requires g c =
 pub returns-in_err-room-clause-begun : goal.returns-in_err-room-clause-begun
 returns-in_err-room-clause-begun g c =
     let f = found _ g.met.Q.Owned.Bytes.lawful _ _ c.requires.whole c.requires.row _ _ _ _ c.requires.place c.args.id c.requires.under in
-    on_err _ (some_under _ g.met.Q.Owned.Bytes.lawful _ _ _ _ c.args.id f)
+    on_err_from _ (some_under _ g.met.Q.Owned.Bytes.lawful _ _ _ _ c.args.id f)
 
 pub top_label-requires-clause-within : goal.top_label-requires-clause-within
 top_label-requires-clause-within g c =
@@ -26,7 +27,7 @@ top_label-requires-clause-passed g c n there =
 pub returns-in_err-label-clause-begun : goal.returns-in_err-label-clause-begun
 returns-in_err-label-clause-begun g c =
     let f = found _ g.met.Q.Owned.Bytes.lawful _ _ c.requires.whole c.requires.row _ _ _ _ c.requires.place c.args.id c.requires.under in
-    on_err _ (some_under _ g.met.Q.Owned.Bytes.lawful _ _ _ _ c.args.id f)
+    on_err_from _ (some_under _ g.met.Q.Owned.Bytes.lawful _ _ _ _ c.args.id f)
 
 pub left_alone-requires : goal.left_alone-requires
 left_alone-requires g c =
@@ -60,7 +61,7 @@ joined-requires-clause-lower g c =
 pub returns-in_err-together-clause-begun : goal.returns-in_err-together-clause-begun
 returns-in_err-together-clause-begun g c =
     let f = found _ g.met.Q.Owned.Bytes.lawful _ _ c.requires.whole c.requires.row _ _ _ _ c.requires.place c.args.id c.requires.under in
-    on_err _ (some_under _ g.met.Q.Owned.Bytes.lawful _ _ _ _ c.args.id f)
+    on_err_from _ (some_under _ g.met.Q.Owned.Bytes.lawful _ _ _ _ c.args.id f)
 
 pub move_out-taken-requires-clause-tree : goal.move_out-taken-requires-clause-tree
 move_out-taken-requires-clause-tree g c =
