@@ -1,31 +1,33 @@
--- The machine of commands over a finite map.
+-- The machine of commands over two finite maps.
 use Rattle.std.specs.Prelude.{◌≡◌, ◌≢◌, ℕ, List, [], ◌∷◌, length, None, Some, refl}
 use Rattle.std.specs.FinMap as map
-use Rattle.std.specs.Coded.{Coded, code_by, coded_ℕ, coded_list}
+use Rattle.std.specs.Coded.{Coded, code_by, coded_ℕ, coded_list, coded×}
+use Rattle.patricia_tree.specs.Clones.{IsKept}
 use Rattle.patricia_tree.specs.Keys.{key_cmp}
 use Rattle.patricia_tree.specs.Points.{Joins}
-use Rattle.patricia_tree.specs.Prefixes.{under, along, longest, IsReach}
+use Rattle.patricia_tree.specs.Prefixes.{under, outside, along, longest, IsReach}
 use Rattle.patricia_machine.specs.declared.command.Command.{Command}
 use Rattle.patricia_machine.specs.declared.command.Command.TheVariants as Commands
 use Rattle.patricia_machine.specs.declared.command.Reply.{Reply}
 use Rattle.patricia_machine.specs.declared.command.Reply.TheVariants as Replies
 
--- what the machine holds: the map that commands work on
+-- what the machine holds: the map that commands work on, and one that is kept aside
 pub record State (V : Type 0) : Type 0 where
   pub main : map.FinMap key_cmp V
+  pub aside : map.FinMap key_cmp V
 
--- a state is stored as its map
+-- a state is stored as its two maps
 abbrev pub state_code : {V : Type 0} → Coded V → Coded (State V)
 state_code {V} values = code_by
-    (map.FinMap key_cmp V)
-    (map.code (coded_list coded_ℕ) values)
-    (λ s. s.main)
-    (λ m. record { main = m })
+    (map.FinMap key_cmp V × map.FinMap key_cmp V)
+    (coded× (map.code (coded_list coded_ℕ) values) (map.code (coded_list coded_ℕ) values))
+    (λ s. (s.main, s.aside))
+    (λ m. record { main = m.0; aside = m.1 })
     (λ _. refl)
 
 -- what every machine holds at first
 abbrev pub empty_state : {V : Type 0} → State V
-empty_state = record { main = map.empty }
+empty_state = record { main = map.empty; aside = map.empty }
 
 -- a command with the bytes of its key in the key's place
 abbrev pub with_key : {Q V : Type 0} → (Q → List ℕ) → Command Q V → Command (List ℕ) V
@@ -38,6 +40,9 @@ with_key key_of (Commands.Under prefix) = Commands.Under (key_of prefix)
 with_key key_of (Commands.Along key) = Commands.Along (key_of key)
 with_key key_of (Commands.Longest key) = Commands.Longest (key_of key)
 with_key key_of (Commands.Reach key) = Commands.Reach (key_of key)
+with_key key_of (Commands.Split prefix) = Commands.Split (key_of prefix)
+with_key key_of Commands.Swap = Commands.Swap
+with_key key_of Commands.Copy = Commands.Copy
 with_key key_of Commands.Clear = Commands.Clear
 
 -- rows with the bytes of each key in the key's place
@@ -103,7 +108,28 @@ abbrev pub Reaches :
 Reaches item old key (Replies.Count n) new = IsReach item (map.keys old.main) key n × (new ≡ old)
 Reaches item old key _ new = ⊥
 
--- a clear leaves no entry
+-- a split puts the rows under the prefix aside, and main keeps the others;
+-- for memory it fails only where there is such a row and the prefix is not empty
+abbrev pub Splits : {K V : Type 0} → State V → List ℕ → Reply K V → State V → Type 0
+Splits old prefix Replies.Done new =
+    (map.entries new.main ≡ outside prefix (map.entries old.main))
+    × (map.entries new.aside ≡ under prefix (map.entries old.main))
+Splits old prefix Replies.NoMemory new =
+    (prefix ≢ []) × (under prefix (map.entries old.main) ≢ []) × (new ≡ old)
+Splits old prefix _ new = ⊥
+
+-- a swap exchanges the two maps
+abbrev pub Swaps : {K V : Type 0} → State V → Reply K V → State V → Type 0
+Swaps old Replies.Done new = new ≡ record { main = old.aside; aside = old.main }
+Swaps old _ new = ⊥
+
+-- a copy puts a copy of main aside; for memory it fails only where main has an entry
+abbrev pub Copies : {K V : Type 0} → State V → Reply K V → State V → Type 0
+Copies old Replies.Done new = new ≡ record old { aside = old.main }
+Copies old Replies.NoMemory new = (map.len old.main ≢ 0) × (new ≡ old)
+Copies old _ new = ⊥
+
+-- a clear leaves no entry in main
 abbrev pub Clears : {K V : Type 0} → State V → Reply K V → State V → Type 0
 Clears old Replies.Done new = new ≡ record old { main = map.empty }
 Clears old _ new = ⊥
@@ -125,6 +151,9 @@ Step item key_of old (Commands.Along key) reply new =
     Shows key_of (along key (map.entries old.main)) old reply new
 Step item key_of old (Commands.Longest key) reply new = FindsLongest old key reply new
 Step item key_of old (Commands.Reach key) reply new = Reaches item old key reply new
+Step item key_of old (Commands.Split prefix) reply new = Splits old prefix reply new
+Step item key_of old Commands.Swap reply new = Swaps old reply new
+Step item key_of old Commands.Copy reply new = Copies old reply new
 Step item key_of old Commands.Clear reply new = Clears old reply new
 
 -- the machine may reply so to the commands in turn, with one reply for each
@@ -137,3 +166,7 @@ Run {V = V} item key_of old (command ∷ commands) (reply ∷ replies) new =
     × Step item key_of old command reply between
     × Run item key_of between commands replies new
 Run item key_of old _ _ new = ⊥
+
+-- a kind of values each clone of which is the value itself
+abbrev pub KeepsClones : {V : Type 0} → (V → V → Type 0) → Type 0
+KeepsClones {V} is_clone = (v : V) → IsKept is_clone v

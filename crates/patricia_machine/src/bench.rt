@@ -1,22 +1,24 @@
-//! The bench, which holds the map that commands work on, and what each command does.
+//! The bench, which holds the map that commands work on and one aside, and what each command does.
 
 ghost use Rattle.std.specs.Prelude.{◌≡◌, ◌≢◌, [], length, IfOk, OnErr, map as list_map};
 ghost use Rattle.std.specs.FinMap as map;
 ghost use Rattle.patricia_tree.specs.Prefixes.{along, under};
 ghost use Rattle.patricia_machine.specs.Machine.{Inserts, Gets, Removes, Counts, Shows};
-ghost use Rattle.patricia_machine.specs.Machine.{FindsLongest, Reaches, Clears};
-ghost use Rattle.patricia_machine.specs.Machine.{Step, Run, empty_state, rows_of, with_key};
+ghost use Rattle.patricia_machine.specs.Machine.{FindsLongest, Reaches, Splits, Swaps, Copies, Clears};
+ghost use Rattle.patricia_machine.specs.Machine.{Step, Run, KeepsClones, empty_state, rows_of, with_key};
 
 use crate::command::{Command, Reply};
 use patricia_tree::{BorrowedBytes, Bytes, GenericPatriciaMap};
 use std::alloc::{AllocError, Global};
 use std::marker::Model;
+use std::mem;
 
-/// A map that commands work on.
+/// A map that commands work on, and one that is kept aside.
 #[derive(Drop)]
 pub struct Bench<K: Bytes, V> {
     alloc: Global,
     main: GenericPatriciaMap<K, V>,
+    aside: GenericPatriciaMap<K, V>,
 }
 
 impl<K: Bytes, V> Model for Bench<K, V> {
@@ -26,7 +28,7 @@ impl<K: Bytes, V> Model for Bench<K, V> {
 
     ghost coded = { state_code V.code };
 
-    ghost view = { λ b. record { main = b.main } };
+    ghost view = { λ b. record { main = b.main; aside = b.aside } };
 }
 
 // The rows of a map, in key order.
@@ -81,13 +83,14 @@ fn rows_along<Q: BorrowedBytes, V: Copy>(
 }
 
 impl<K: Bytes, V: Copy> Bench<K, V> {
-    /// A bench whose map is empty.
+    /// A bench whose maps are empty.
     pub fn new(alloc: Global) -> Self
         ensures { result ≡ empty_state }
     {
         Bench {
             alloc,
             main: GenericPatriciaMap::new(alloc),
+            aside: GenericPatriciaMap::new(alloc),
         }
     }
 
@@ -177,6 +180,41 @@ impl<K: Bytes, V: Copy> Bench<K, V> {
         Reply::Count(self.main.longest_common_prefix_len(key))
     }
 
+    // Puts the entries under a prefix aside.
+    fn split<Q: BorrowedBytes<Owned = K>>(&mut self, prefix: Q) -> Reply<K, V>
+        ensures { Splits self.old (Q.key prefix) result self.new }
+    {
+        match self.main.split_by_prefix(prefix) {
+            Ok(taken) => {
+                self.aside = taken;
+                Reply::Done
+            }
+            Err(_) => Reply::NoMemory,
+        }
+    }
+
+    // Exchanges the two maps.
+    fn swap(&mut self) -> Reply<K, V>
+        ensures { Swaps self.old result self.new }
+    {
+        mem::swap(&mut self.main, &mut self.aside);
+        Reply::Done
+    }
+
+    // Puts a copy of the map aside.
+    fn copy(&mut self) -> Reply<K, V>
+        requires { KeepsClones V.is_clone }
+        ensures { Copies self.old result self.new }
+    {
+        match self.main.clone() {
+            Ok(copy) => {
+                self.aside = copy;
+                Reply::Done
+            }
+            Err(_) => Reply::NoMemory,
+        }
+    }
+
     // Takes each entry out.
     fn clear(&mut self) -> Reply<K, V>
         ensures { Clears self.old result self.new }
@@ -185,8 +223,9 @@ impl<K: Bytes, V: Copy> Bench<K, V> {
         Reply::Done
     }
 
-    /// Does one command.
+    /// Does one command. Each clone of a value is asked to be that value.
     pub fn step<Q: BorrowedBytes<Owned = K>>(&mut self, command: Command<Q, V>) -> Reply<K, V>
+        requires { KeepsClones V.is_clone }
         ensures { Step K.item K.key self.old (with_key Q.key command) result self.new }
     {
         match command {
@@ -199,17 +238,21 @@ impl<K: Bytes, V: Copy> Bench<K, V> {
             Command::Along(key) => self.along(key),
             Command::Longest(key) => self.longest(key),
             Command::Reach(key) => self.reach(key),
+            Command::Split(prefix) => self.split(prefix),
+            Command::Swap => self.swap(),
+            Command::Copy => self.copy(),
             Command::Clear => self.clear(),
         }
     }
 }
 
 /// Does the commands in order. The list of replies is reserved before the first of them, so its
-/// refusal is the only error.
+/// refusal is the only error. Each clone of a value is asked to be that value.
 pub fn run<K: Bytes, V: Copy, Q: BorrowedBytes<Owned = K>>(
     bench: &mut Bench<K, V>,
     commands: &[Command<Q, V>],
 ) -> Result<Vec<Reply<K, V>>, AllocError>
+    requires { KeepsClones V.is_clone }
     ensures ok { IfOk result (λ replies.
         Run K.item K.key
         bench.old (list_map (with_key Q.key) commands.now) replies.items bench.new) }

@@ -12,6 +12,9 @@ pub enum Command<Q, V> {
     Along(Q),
     Longest(Q),
     Reach(Q),
+    Split(Q),
+    Swap,
+    Copy,
     Clear,
 }
 
