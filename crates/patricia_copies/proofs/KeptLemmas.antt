@@ -1,20 +1,22 @@
 -- Values whose clones are the same.
 use Rattle.std.proofs.Common.{inl, inr, ℕ, List, [], ◌∷◌, ◌++◌, Option, Some, None, sym, subst}
-use Rattle.std.specs.Prelude.{IfSome}
-use Rattle.std.specs.List.{AllByRecursion}
-use Rattle.std.proofs.lemmas.List.Elements.{recursion_from_All}
+use Rattle.std.specs.Prelude.{IfSome, map}
+use Rattle.std.specs.List.{All, AllByRecursion}
+use Rattle.std.proofs.lemmas.List.Elements.{recursion_from_All, All-from_recursion}
 use Rattle.patricia_rows.specs.Rows.{Row, end, node, own, prefixed, entries}
 use Rattle.patricia_nodes.specs.declared.slots.Node.{Node}
 use Rattle.patricia_nodes.specs.declared.slots.Slots.{Slots}
-use Rattle.patricia_nodes.specs.Private.Plans.{Plan, row, row_of}
+use Rattle.patricia_nodes.specs.Private.Plans.{Plan, row, row_of, entries_of}
 use Rattle.patricia_nodes.proofs.RelayLemmas.{Mix, Empty, Done, Open, flat, OpenAt}
 use Rattle.patricia_nodes.proofs.LayLemmas.{Laying, NextRow}
 use Rattle.patricia_copies.specs.Private.Copies.{IsKept, EntriesKept, RowKept}
 
 module _ {V : Type 0} (is_clone : V → V → Type 0) where
+  -- each clone of the value of an entry is that value
   abbrev Kept : List (List ℕ × V) → Type 0
   Kept es = AllByRecursion (λ e. IsKept is_clone e.1) es
 
+  -- so of two lists of entries, where it is so of both, and of a node's entries
   kept_both : (xs ys : List (List ℕ × V)) → Kept (xs ++ ys) → Kept xs × Kept ys
   kept_both [] ys k = (tt, k)
   kept_both (x ∷ xs) ys k = let rest = kept_both xs ys k.1 in ((k.0, rest.0), rest.1)
@@ -37,6 +39,17 @@ module _ {V : Type 0} (is_clone : V → V → Type 0) where
   -- the values of the entries are those of the row
   pub row_kept : (s : Slots V) → EntriesKept is_clone s → RowKept is_clone (row_of s)
   row_kept s k = kept-entries (row_of s) (recursion_from_All (λ e. IsKept is_clone e.1) (entries (row_of s)) k)
+
+  -- it is so of the nodes of a tree, and of the value of its empty key, where it is so of all its values
+  kept-values : (es : List (List ℕ × V)) → AllByRecursion (IsKept is_clone) (map (λ e. e.1) es) → Kept es
+  kept-values [] k = tt
+  kept-values (e ∷ es) k = (k.0, kept-values es k.1)
+
+  pub parts_kept : (v : Option V) (s : Slots V) → All (IsKept is_clone) (map (λ e. e.1) (own v ++ entries_of s)) → IfSome v (IsKept is_clone) × EntriesKept is_clone s
+  parts_kept v s k =
+      let es = own v ++ entries_of s in
+      let both = kept_both (own v) (entries_of s) (kept-values es (recursion_from_All (IsKept is_clone) (map (λ e. e.1) es) k)) in
+      (kept-own v both.0, All-from_recursion (λ e. IsKept is_clone e.1) (entries_of s) both.1)
 
   -- the children of a node have some of them
   kept-open : (i : ℕ) (q : Mix V) (w : Plan V) → OpenAt i q w → RowKept is_clone (row (flat q)) → RowKept is_clone (row w)
