@@ -8,16 +8,18 @@ use Rattle.patricia_nodes.specs.Private.Growth.{laid, IsTopRow, IsLaid}
 use Rattle.patricia_nodes.proofs.LayLemmas.{Readable, readable, laid_apart}
 
 module _ {V : Type 0} where
+  -- a plan without a row has no nodes
   no_nodes : (p : Plan V) → row p ≡ end → p ≡ Nil
   no_nodes Nil e = refl
   no_nodes (Cell id l v c d) e = absurd (cc)
 
+  -- the plan of whole nodes, as it is read
+  whole_readable : (s : Slots V) → IsWhole s → Readable s.nodes.items s.root (plan_at s.nodes.items s.root)
+  whole_readable s whole = readable s.nodes.items s.root s.free whole.0 whole.1.0 whole.1.1
+
   -- where there is no row, no node is used, none is the first, and none is laid
   pub none_used : (s : Slots V) (n : ℕ) → n ≡ size (plan_at s.nodes.items s.root) → row_of s ≡ end → n ≡ 0
   none_used s n used e = used ∙ ap (λ (p : Plan V). size p) (no_nodes _ e)
-
-  whole_readable : (s : Slots V) → IsWhole s → Readable s.nodes.items s.root (plan_at s.nodes.items s.root)
-  whole_readable s whole = readable s.nodes.items s.root s.free whole.0 whole.1.0 whole.1.1
 
   pub none_first : (s : Slots V) → IsWhole s → row_of s ≡ end → s.root ≡ None
   none_first s whole e = (whole_readable s whole).top.at_is ∙ ap (λ (p : Plan V). head p) (no_nodes _ e)

@@ -119,8 +119,8 @@ module _ {V : Type 0} where
       let longer : length to' ≡ suc (length to) = omega (arith, ap length pushed, length-append to (x ∷ [])) in (
         longer,
         ap (λ xs. xs ++ laid (length to') d) pushed ∙ append_assoc to (x ∷ []) (laid (length to') d)
-        ∙ ap (λ k. to ++ x ∷ laid k d) longer
-        ∙ ap (λ y. to ++ y ∷ laid (suc (length to)) d) node,
+            ∙ ap (λ k. to ++ x ∷ laid k d) longer
+            ∙ ap (λ y. to ++ y ∷ laid (suc (length to)) d) node,
       )
 
   module _ (from0 : Slots V) (to0 : List (Node V)) (w : Plan V) (from later : Slots V) (id : ℕ) (to to' : List (Node V)) (m : Moving from0 to0 w from (Some id) to)
