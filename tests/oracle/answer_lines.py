@@ -37,6 +37,11 @@ def map_answers(m, call, words):
             answers.append(shown(m.get(key)))
             m[key] = int(value)
         return answers
+    if call in ('extend', 'from_iter'):
+        if call == 'from_iter':
+            m.clear()
+        m.update(zip(words[::2], map(int, words[1::2])))
+        return [row(e) for e in rows(m)]
     if call == 'get':
         return [shown(m.get(k)) for k in words]
     if call == 'contains':

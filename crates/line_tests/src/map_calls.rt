@@ -16,6 +16,14 @@ pub fn answers<'a, Q: Readable<'a>>(
 ) -> Result<Option<Vec<String>>, AllocError> {
     let answers = match call {
         "insert" => inserted::<Q>(alloc, map, arguments)?,
+        "extend" => {
+            map.extend(pairs::<Q>(alloc, arguments)?)?;
+            rows(alloc, map)?
+        }
+        "from_iter" => {
+            *map = GenericPatriciaMap::from_iter(alloc, pairs::<Q>(alloc, arguments)?)?;
+            rows(alloc, map)?
+        }
         "get" => values_at::<Q>(alloc, map, arguments)?,
         "contains" => contained::<Q>(alloc, map, arguments)?,
         "remove" => removed::<Q>(alloc, map, arguments)?,
@@ -35,21 +43,32 @@ pub fn answers<'a, Q: Readable<'a>>(
 }
 
 // The arguments are keys, each with its value after it.
+fn pairs<'a, Q: Readable<'a>>(
+    alloc: Global,
+    arguments: &'a [Vec<u8>],
+) -> Result<Vec<(Q, u64)>, AllocError> {
+    let mut pairs = Vec::new(alloc);
+    for pair in arguments.chunks(2) {
+        if let [key, value] = pair
+            && let Some(key) = Q::read(key)
+        {
+            pairs.push((key, words::number(value) as u64))?;
+        }
+    }
+    Ok(pairs)
+}
+
 fn inserted<'a, Q: Readable<'a>>(
     alloc: Global,
     map: &mut Map<Q::Owned>,
     arguments: &'a [Vec<u8>],
 ) -> Result<Vec<String>, AllocError> {
     let mut answers = Vec::new(alloc);
-    for pair in arguments.chunks(2) {
-        if let [key, value] = pair
-            && let Some(key) = Q::read(key)
-        {
-            let Ok(old) = map.insert(key, words::number(value) as u64) else {
-                return Err(AllocError);
-            };
-            answers.push(words::value_or_none(alloc, old)?)?;
-        }
+    for (key, value) in pairs::<Q>(alloc, arguments)? {
+        let Ok(old) = map.insert(key, value) else {
+            return Err(AllocError);
+        };
+        answers.push(words::value_or_none(alloc, old)?)?;
     }
     Ok(answers)
 }

@@ -5,7 +5,8 @@ use Rattle.std.specs.Iterator.{Drains, Yields}
 use Rattle.patricia_core.specs.Keys.{key_cmp}
 
 -- the map with the pairs put in, one after the other: of two values for one key the later stays
-abbrev pub insert_all : {V : Type 0} → map.FinMap key_cmp V → List (List ℕ × V) → map.FinMap key_cmp V
+abbrev pub insert_all : {V : Type 0}
+    → map.FinMap key_cmp V → List (List ℕ × V) → map.FinMap key_cmp V
 insert_all m [] = m
 insert_all m (pair ∷ pairs) = insert_all (map.insert m pair.0 pair.1) pairs
 
@@ -15,7 +16,8 @@ by_bytes bytes pairs = list_map (λ pair. (bytes pair.0, pair.1)) pairs
 
 -- `becomes` says of what is passed which iterators it may become, `steps` what a call of `next` may
 -- give and leave, and `bytes` what the bytes of a key are
-module _ {I S Q V : Type 0} (becomes : I → S → Type 0) (steps : S → Option (Q × V) → S → Type 0) (bytes : Q → List ℕ) where
+module _ {I S Q V : Type 0} (becomes : I → S → Type 0)
+    (steps : S → Option (Q × V) → S → Type 0) (bytes : Q → List ℕ) where
   -- the iterator gave all its pairs, and new is old with all of them put in
   pub record Extends (pairs : I) (old new : map.FinMap key_cmp V) : Type 0 where
     pub start : S
