@@ -38,8 +38,11 @@ word_of field =
     else (if bytes_eq field (codes "along") then Some Words.Along
     else (if bytes_eq field (codes "longest") then Some Words.Longest
     else (if bytes_eq field (codes "reach") then Some Words.Reach
+    else (if bytes_eq field (codes "split") then Some Words.Split
+    else (if bytes_eq field (codes "swap") then Some Words.Swap
+    else (if bytes_eq field (codes "copy") then Some Words.Copy
     else (if bytes_eq field (codes "clear") then Some Words.Clear
-    else None)))))))))
+    else None))))))))))))
 
 -- a key, or the fault of a field that spells none
 abbrev pub readable : Option (List ℕ) → Result (List ℕ) Fault
@@ -82,6 +85,9 @@ said_after spelling Words.Along fields = keyed (λ key. Commands.Along key) (key
 said_after spelling Words.Longest fields =
     keyed (λ key. Commands.Longest key) (key_alone spelling fields)
 said_after spelling Words.Reach fields = keyed (λ key. Commands.Reach key) (key_alone spelling fields)
+said_after spelling Words.Split fields = keyed (λ key. Commands.Split key) (key_alone spelling fields)
+said_after spelling Words.Swap fields = alone Commands.Swap fields
+said_after spelling Words.Copy fields = alone Commands.Copy fields
 said_after spelling Words.Clear fields = alone Commands.Clear fields
 
 -- what the fields of a line say, the first of which is its word

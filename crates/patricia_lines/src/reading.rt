@@ -36,6 +36,9 @@ enum Word {
     Along,
     Longest,
     Reach,
+    Split,
+    Swap,
+    Copy,
     Clear,
 }
 
@@ -78,6 +81,12 @@ fn first_word(field: &[u8]) -> Option<Word>
         Some(Word::Longest)
     } else if field == b"reach".as_slice() {
         Some(Word::Reach)
+    } else if field == b"split".as_slice() {
+        Some(Word::Split)
+    } else if field == b"swap".as_slice() {
+        Some(Word::Swap)
+    } else if field == b"copy".as_slice() {
+        Some(Word::Copy)
     } else if field == b"clear".as_slice() {
         Some(Word::Clear)
     } else {
@@ -130,6 +139,9 @@ fn command<'a, Q: Spelled<'a>>(word: Word, fields: &[&'a [u8]]) -> Reading<Q>
         Word::Along => Ok(Command::Along(only_key(fields)?)),
         Word::Longest => Ok(Command::Longest(only_key(fields)?)),
         Word::Reach => Ok(Command::Reach(only_key(fields)?)),
+        Word::Split => Ok(Command::Split(only_key(fields)?)),
+        Word::Swap => alone(Command::Swap, fields),
+        Word::Copy => alone(Command::Copy, fields),
         Word::Clear => alone(Command::Clear, fields),
     }
 }
