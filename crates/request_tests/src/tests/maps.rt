@@ -1,7 +1,7 @@
 ghost use Rattle.std.specs.Prelude.{◌≡◌, ◌<◌};
 
 use super::helpers::map_of;
-use patricia_tree::{BorrowedBytes, GenericPatriciaMap, Steps};
+use patricia_tree::{BorrowedBytes, Bytes, GenericPatriciaMap, Steps};
 use std::alloc::{AllocError, Global};
 use std::marker::Brand;
 use std::process::Abort;
@@ -56,22 +56,27 @@ fn remove_all<Q: BorrowedBytes>(
     Ok(())
 }
 
-// Makes walks, and asks those of an empty map for an entry.
-fn make_walks<Q: BorrowedBytes>(
-    rt: &impl Abort,
-    alloc: Global,
-    map: GenericPatriciaMap<Q::Owned, u64>,
-) {
-    drop(map.iter());
-    drop(map.keys());
-    drop(map.values());
-    drop(map.into_iter());
-    let mut empty: GenericPatriciaMap<Q::Owned, u64> = GenericPatriciaMap::new(alloc);
+// Asks the walks over an empty map for an entry.
+fn walk_empty<K: Bytes>(rt: &impl Abort, mut empty: GenericPatriciaMap<K, u64>) {
     assert!(rt; empty.iter().next().is_none());
     assert!(rt; empty.keys().next().is_none());
     assert!(rt; empty.values().next().is_none());
     empty.clear();
     assert!(rt; empty.into_iter().next().is_none());
+}
+
+// Makes walks, and asks those of an empty map for an entry.
+fn make_walks<K: Bytes>(rt: &impl Abort, alloc: Global, map: GenericPatriciaMap<K, u64>) {
+    drop(map.iter());
+    drop(map.keys());
+    drop(map.values());
+    drop(map.into_iter());
+    walk_empty(rt, GenericPatriciaMap::<K, u64>::new(alloc));
+}
+
+fn clear_whole<K: Bytes>(rt: &impl Abort, mut map: GenericPatriciaMap<K, u64>) {
+    map.clear();
+    assert!(rt; map.is_empty());
 }
 
 // The keys of a test. No removal of `removed`, in its order, joins labels.
@@ -83,6 +88,31 @@ struct Keys<'a, Q> {
     empty: &'a [Q],
 }
 
+fn look_up_each<Q: BorrowedBytes>(
+    rt: &impl Abort,
+    map: &GenericPatriciaMap<Q::Owned, u64>,
+    keys: Keys<'_, Q>,
+) {
+    look_up_all::<Q, Brand>(rt, map, keys.stored, true, Blank::new(1));
+    look_up_all::<Q, Brand>(rt, map, keys.absent, false, Blank::new(1));
+}
+
+fn change_each<Q: BorrowedBytes>(
+    rt: &impl Abort,
+    map: &mut GenericPatriciaMap<Q::Owned, u64>,
+    keys: Keys<'_, Q>,
+) -> Result<(), AllocError> {
+    insert_all(rt, map, keys.stored, true)?;
+    remove_all(rt, map, keys.absent, false)?;
+    remove_all(rt, map, keys.removed, true)?;
+    remove_all(rt, map, keys.removed, false)?;
+    insert_all(rt, map, keys.empty, false)?;
+    let left = keys.stored.len().saturating_sub(keys.removed.len());
+    assert_eq!(rt; map.len(), left.saturating_add(1));
+    assert!(rt; !map.is_empty());
+    Ok(())
+}
+
 // Makes two maps, and then each call.
 fn call_all<Q: BorrowedBytes>(
     rt: &impl Abort,
@@ -90,20 +120,10 @@ fn call_all<Q: BorrowedBytes>(
     keys: Keys<'_, Q>,
 ) -> Result<(), AllocError> {
     let mut map = map_of(alloc, keys.stored)?;
-    let mut full = map_of(alloc, keys.stored)?;
-    full.clear();
-    assert!(rt; full.is_empty());
-    look_up_all::<Q, Brand>(rt, &map, keys.stored, true, Blank::new(1));
-    look_up_all::<Q, Brand>(rt, &map, keys.absent, false, Blank::new(1));
-    insert_all(rt, &mut map, keys.stored, true)?;
-    remove_all(rt, &mut map, keys.absent, false)?;
-    remove_all(rt, &mut map, keys.removed, true)?;
-    remove_all(rt, &mut map, keys.removed, false)?;
-    insert_all(rt, &mut map, keys.empty, false)?;
-    let left = keys.stored.len().saturating_sub(keys.removed.len());
-    assert_eq!(rt; map.len(), left.saturating_add(1));
-    assert!(rt; !map.is_empty());
-    make_walks::<Q>(rt, alloc, map);
+    clear_whole(rt, map_of(alloc, keys.stored)?);
+    look_up_each(rt, &map, keys);
+    change_each(rt, &mut map, keys)?;
+    make_walks(rt, alloc, map);
     Ok(())
 }
 

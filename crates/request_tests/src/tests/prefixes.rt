@@ -68,6 +68,18 @@ fn call_all<Q: BorrowedBytes>(
     Ok(())
 }
 
+// Makes a map of some keys, and then the calls where that is asked.
+fn check_all<Q: BorrowedBytes>(
+    rt: &impl Abort,
+    alloc: Global,
+    stored: &[Q],
+    keys: &[(Q, usize)],
+    is_called: bool,
+) -> Result<(), AllocError> {
+    let map = map_of(alloc, stored)?;
+    call_all(rt, alloc, &map, keys, is_called)
+}
+
 const BYTES: [&[u8]; 5] = [
     b"",
     b"bar",
@@ -101,28 +113,24 @@ const TEXT_KEYS: [(&str, usize); 7] = [
 
 #[test]
 fn bytes_made(rt: HostRuntime) -> Result<(), Fail> {
-    let map = map_of(rt.alloc(), &BYTES)?;
-    call_all(&rt, rt.alloc(), &map, &BYTE_KEYS, false)?;
+    check_all(&rt, rt.alloc(), &BYTES, &BYTE_KEYS, false)?;
     Ok(())
 }
 
 #[test]
 fn bytes_called(rt: HostRuntime) -> Result<(), Fail> {
-    let map = map_of(rt.alloc(), &BYTES)?;
-    call_all(&rt, rt.alloc(), &map, &BYTE_KEYS, true)?;
+    check_all(&rt, rt.alloc(), &BYTES, &BYTE_KEYS, true)?;
     Ok(())
 }
 
 #[test]
 fn texts_made(rt: HostRuntime) -> Result<(), Fail> {
-    let map = map_of(rt.alloc(), &TEXTS)?;
-    call_all(&rt, rt.alloc(), &map, &TEXT_KEYS, false)?;
+    check_all(&rt, rt.alloc(), &TEXTS, &TEXT_KEYS, false)?;
     Ok(())
 }
 
 #[test]
 fn texts_called(rt: HostRuntime) -> Result<(), Fail> {
-    let map = map_of(rt.alloc(), &TEXTS)?;
-    call_all(&rt, rt.alloc(), &map, &TEXT_KEYS, true)?;
+    check_all(&rt, rt.alloc(), &TEXTS, &TEXT_KEYS, true)?;
     Ok(())
 }
