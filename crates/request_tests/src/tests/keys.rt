@@ -3,14 +3,13 @@ use patricia_tree::{BorrowedBytes, Bytes};
 use std::alloc::{AllocError, Global};
 use std::cmp::Ordering;
 use std::process::Abort;
-use std::test::Fail;
 
 // The functions on bytes, each of which may end inside an item, and those on the key itself.
 fn call_alone<Q: BorrowedBytes>(rt: &impl Abort, owned: &Q::Owned, key: Q, bytes: &[u8]) {
     let floor = Q::Owned::floor_boundary(bytes);
-    assert_eq!(rt; Q::Owned::is_valid_bytes(bytes), floor == bytes.len());
-    assert_eq!(rt; owned.as_bytes(), key.as_bytes());
-    assert_eq!(rt; key.is_empty(), key.as_bytes().is_empty());
+    assert!(rt; Q::Owned::is_valid_bytes(bytes) == (floor == bytes.len()));
+    assert!(rt; owned.as_bytes() == key.as_bytes());
+    assert!(rt; key.is_empty() == key.as_bytes().is_empty());
 }
 
 // The functions that part a key after its first bytes, where these are whole items.
@@ -19,8 +18,8 @@ fn call_halves<Q: BorrowedBytes>(rt: &impl Abort, key: Q, n: usize) {
         return;
     };
     if Q::Owned::is_valid_bytes(front) {
-        assert_eq!(rt; key.keep_n_prefix(n).is_empty(), n == 0);
-        assert_eq!(rt; key.strip_n_prefix(n).is_empty(), n == key.as_bytes().len());
+        assert!(rt; key.keep_n_prefix(n).is_empty() == (n == 0));
+        assert!(rt; key.strip_n_prefix(n).is_empty() == (n == key.as_bytes().len()));
     }
 }
 
@@ -28,11 +27,11 @@ fn call_halves<Q: BorrowedBytes>(rt: &impl Abort, key: Q, n: usize) {
 fn call_beside<Q: BorrowedBytes>(rt: &impl Abort, key: Q, bytes: &[u8]) {
     let (rest, len) = key.strip_common_prefix_and_len(bytes);
     let again = key.strip_common_prefix(bytes);
-    assert_eq!(rt; rest.as_bytes(), again.as_bytes());
+    assert!(rt; rest.as_bytes() == again.as_bytes());
     call_halves(rt, key, len);
     if Q::Owned::is_valid_bytes(bytes) {
         let is_equal = len > 0 || (key.is_empty() && bytes.is_empty());
-        assert_eq!(rt; key.cmp_first_item(bytes) == Ordering::Equal, is_equal);
+        assert!(rt; (key.cmp_first_item(bytes) == Ordering::Equal) == is_equal);
     }
 }
 
@@ -78,25 +77,21 @@ const OTHER_TEXTS: [&[u8]; 6] = [
 ];
 
 #[test]
-fn bytes_made(rt: HostRuntime) -> Result<(), Fail> {
-    call_all(&rt, rt.alloc(), BYTES, &[])?;
-    Ok(())
+fn bytes_made(rt: HostRuntime) -> Result<(), AllocError> {
+    call_all(&rt, rt.alloc(), BYTES, &[])
 }
 
 #[test]
-fn bytes_called(rt: HostRuntime) -> Result<(), Fail> {
-    call_all(&rt, rt.alloc(), BYTES, &OTHER_BYTES)?;
-    Ok(())
+fn bytes_called(rt: HostRuntime) -> Result<(), AllocError> {
+    call_all(&rt, rt.alloc(), BYTES, &OTHER_BYTES)
 }
 
 #[test]
-fn texts_made(rt: HostRuntime) -> Result<(), Fail> {
-    call_all(&rt, rt.alloc(), TEXT, &[])?;
-    Ok(())
+fn texts_made(rt: HostRuntime) -> Result<(), AllocError> {
+    call_all(&rt, rt.alloc(), TEXT, &[])
 }
 
 #[test]
-fn texts_called(rt: HostRuntime) -> Result<(), Fail> {
-    call_all(&rt, rt.alloc(), TEXT, &OTHER_TEXTS)?;
-    Ok(())
+fn texts_called(rt: HostRuntime) -> Result<(), AllocError> {
+    call_all(&rt, rt.alloc(), TEXT, &OTHER_TEXTS)
 }

@@ -3,7 +3,6 @@ use super::helpers::map_of;
 use patricia_tree::{BorrowedBytes, Bytes, GenericPatriciaMap};
 use std::alloc::{AllocError, Global};
 use std::process::Abort;
-use std::test::Fail;
 
 // What a walk along a key gives, by each of the three, is so many entries.
 fn count_along<Q: BorrowedBytes>(
@@ -16,12 +15,20 @@ fn count_along<Q: BorrowedBytes>(
     for _ in map.common_prefixes(key) {
         entries = entries.saturating_add(1);
     }
-    assert_eq!(rt; entries, count);
+    assert!(rt; entries == count);
+}
+
+fn count_values_along<Q: BorrowedBytes>(
+    rt: &impl Abort,
+    map: &GenericPatriciaMap<Q::Owned, u64>,
+    key: Q,
+    count: usize,
+) {
     let mut values: usize = 0;
     for _ in map.common_prefix_values(key) {
         values = values.saturating_add(1);
     }
-    assert_eq!(rt; values, count);
+    assert!(rt; values == count);
 }
 
 fn count_along_owned<K: Bytes>(
@@ -34,7 +41,7 @@ fn count_along_owned<K: Bytes>(
     for _ in map.common_prefix_values_owned(key) {
         values = values.saturating_add(1);
     }
-    assert_eq!(rt; values, count);
+    assert!(rt; values == count);
 }
 
 // The other calls. A walk under a prefix is made here, and not read.
@@ -61,6 +68,7 @@ fn call_all<Q: BorrowedBytes>(
         let owned = Q::Owned::from_bytes(alloc, key.as_bytes())?;
         if is_called {
             count_along(rt, map, *key, *count);
+            count_values_along(rt, map, *key, *count);
             count_along_owned(rt, map, owned, *count);
             call_others(rt, map, *key, *count);
         }
@@ -112,25 +120,21 @@ const TEXT_KEYS: [(&str, usize); 7] = [
 ];
 
 #[test]
-fn bytes_made(rt: HostRuntime) -> Result<(), Fail> {
-    check_all(&rt, rt.alloc(), &BYTES, &BYTE_KEYS, false)?;
-    Ok(())
+fn bytes_made(rt: HostRuntime) -> Result<(), AllocError> {
+    check_all(&rt, rt.alloc(), &BYTES, &BYTE_KEYS, false)
 }
 
 #[test]
-fn bytes_called(rt: HostRuntime) -> Result<(), Fail> {
-    check_all(&rt, rt.alloc(), &BYTES, &BYTE_KEYS, true)?;
-    Ok(())
+fn bytes_called(rt: HostRuntime) -> Result<(), AllocError> {
+    check_all(&rt, rt.alloc(), &BYTES, &BYTE_KEYS, true)
 }
 
 #[test]
-fn texts_made(rt: HostRuntime) -> Result<(), Fail> {
-    check_all(&rt, rt.alloc(), &TEXTS, &TEXT_KEYS, false)?;
-    Ok(())
+fn texts_made(rt: HostRuntime) -> Result<(), AllocError> {
+    check_all(&rt, rt.alloc(), &TEXTS, &TEXT_KEYS, false)
 }
 
 #[test]
-fn texts_called(rt: HostRuntime) -> Result<(), Fail> {
-    check_all(&rt, rt.alloc(), &TEXTS, &TEXT_KEYS, true)?;
-    Ok(())
+fn texts_called(rt: HostRuntime) -> Result<(), AllocError> {
+    check_all(&rt, rt.alloc(), &TEXTS, &TEXT_KEYS, true)
 }

@@ -4,7 +4,6 @@ use super::helpers::map_of;
 use patricia_tree::BorrowedBytes;
 use std::alloc::{AllocError, Global};
 use std::process::Abort;
-use std::test::Fail;
 
 const STEM: &str = "12345678901234567890";
 
@@ -34,19 +33,16 @@ fn remove_some<Q: BorrowedBytes>(
 }
 
 #[test]
-fn none_of_three(rt: HostRuntime) -> Result<(), Fail> {
-    remove_some(&rt, rt.alloc(), &KEYS, &[])?;
-    Ok(())
+fn none_of_three(rt: HostRuntime) -> Result<(), AllocError> {
+    remove_some(&rt, rt.alloc(), &KEYS, &[])
 }
 
 #[test]
-fn two_of_three(rt: HostRuntime) -> Result<(), Fail> {
-    remove_some(&rt, rt.alloc(), &KEYS, &[UPPER, DIGITS])?;
-    Ok(())
+fn two_of_three(rt: HostRuntime) -> Result<(), AllocError> {
+    remove_some(&rt, rt.alloc(), &KEYS, &[UPPER, DIGITS])
 }
 
 #[test]
-fn three_of_three(rt: HostRuntime) -> Result<(), Fail> {
-    remove_some(&rt, rt.alloc(), &KEYS, &[UPPER, DIGITS, STEM])?;
-    Ok(())
+fn three_of_three(rt: HostRuntime) -> Result<(), AllocError> {
+    remove_some(&rt, rt.alloc(), &KEYS, &[UPPER, DIGITS, STEM])
 }

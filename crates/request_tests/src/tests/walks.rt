@@ -3,7 +3,6 @@ use super::helpers::map_of;
 use patricia_tree::{BorrowedBytes, Bytes, GenericPatriciaMap};
 use std::alloc::{AllocError, Global};
 use std::process::Abort;
-use std::test::Fail;
 
 fn walk_entries<K: Bytes>(rt: &impl Abort, map: &GenericPatriciaMap<K, u64>, past: bool) {
     let mut walk = map.iter();
@@ -63,25 +62,21 @@ const BYTES: [&[u8]; 4] = [
 const TEXTS: [&str; 4] = ["", "あ", "あいうえおかきくけこさしす", "いいいいいいいいいいい"];
 
 #[test]
-fn bytes_made(rt: HostRuntime) -> Result<(), Fail> {
-    walk_all(&rt, rt.alloc(), &BYTES, false)?;
-    Ok(())
+fn bytes_made(rt: HostRuntime) -> Result<(), AllocError> {
+    walk_all(&rt, rt.alloc(), &BYTES, false)
 }
 
 #[test]
-fn bytes_called(rt: HostRuntime) -> Result<(), Fail> {
-    walk_all(&rt, rt.alloc(), &BYTES, true)?;
-    Ok(())
+fn bytes_called(rt: HostRuntime) -> Result<(), AllocError> {
+    walk_all(&rt, rt.alloc(), &BYTES, true)
 }
 
 #[test]
-fn texts_made(rt: HostRuntime) -> Result<(), Fail> {
-    walk_all(&rt, rt.alloc(), &TEXTS, false)?;
-    Ok(())
+fn texts_made(rt: HostRuntime) -> Result<(), AllocError> {
+    walk_all(&rt, rt.alloc(), &TEXTS, false)
 }
 
 #[test]
-fn texts_called(rt: HostRuntime) -> Result<(), Fail> {
-    walk_all(&rt, rt.alloc(), &TEXTS, true)?;
-    Ok(())
+fn texts_called(rt: HostRuntime) -> Result<(), AllocError> {
+    walk_all(&rt, rt.alloc(), &TEXTS, true)
 }
