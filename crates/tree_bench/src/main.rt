@@ -184,6 +184,23 @@ fn time_removes<Q: BorrowedBytes>(
     report(rt, times, "remove", start, keys.len(), taken)
 }
 
+// Calls each method but `insert` for all keys in turn.
+fn time_calls<Q: BorrowedBytes>(
+    rt: &(impl Clock + Print),
+    times: bool,
+    map: &mut GenericPatriciaMap<Q::Owned, u64>,
+    present: &[Q],
+    absent: &[Q],
+    halves: &[Q],
+) -> io::Result<()> {
+    time_gets(rt, times, "get", map, present)?;
+    time_gets(rt, times, "get_absent", map, absent)?;
+    time_walks(rt, times, map)?;
+    let some = &absent[..halves.len().min(absent.len())];
+    time_prefixes(rt, times, map, some, halves)?;
+    time_removes(rt, times, map, present)
+}
+
 // Calls each method for all keys in turn, and answers the memory of a key and the most of it.
 fn measure<Q: BorrowedBytes>(
     rt: &(impl AllocGlobal + Clock + Files + Print),
@@ -198,21 +215,47 @@ fn measure<Q: BorrowedBytes>(
     let after = memory(rt, "VmRSS:");
     let peak = memory(rt, "VmHWM:");
     shuffle(present, 3);
-    time_gets(rt, times, "get", &map, present)?;
-    time_gets(rt, times, "get_absent", &map, absent)?;
-    time_walks(rt, times, &map)?;
-    time_prefixes(
-        rt,
-        times,
-        &map,
-        &absent[..halves.len().min(absent.len())],
-        halves,
-    )?;
-    time_removes(rt, times, &mut map, present)?;
+    time_calls(rt, times, &mut map, present, absent, halves)?;
     Ok((
         after.saturating_sub(before) / keys,
         peak.saturating_sub(before) / keys,
     ))
+}
+
+// Puts the keys in in their order.
+fn put_sorted(
+    rt: &(impl AllocGlobal + Clock + Print),
+    times: bool,
+    keys: &mut [&[u8]],
+) -> io::Result<()> {
+    keys.sort_unstable();
+    let mut map = PatriciaMap::new(rt.alloc());
+    time_puts(rt, times, "insert_sorted", &mut map, keys)?;
+    Ok(())
+}
+
+fn report_memory(rt: &impl Print, memory: u64, peak: u64) -> io::Result<()> {
+    println!(rt; "memory {memory}")?;
+    println!(rt; "peak {peak}")
+}
+
+// Measures the calls with the keys of one half put in.
+fn measure_halves<'k>(
+    rt: &(impl AllocGlobal + Clock + Files + Print),
+    times: bool,
+    present: &mut [&'k [u8]],
+    absent: &mut [&'k [u8]],
+) -> io::Result<()> {
+    shuffle(present, 1);
+    shuffle(absent, 2);
+    println!(rt; "keys {}", present.len())?;
+    let halves = halves(rt.alloc(), &absent[..absent.len().min(100_000)])?;
+    let (memory, peak) = measure(rt, times, present, absent, &halves)?;
+    put_sorted(rt, times, present)?;
+    if times {
+        report_memory(rt, memory, peak)?;
+    }
+    Ok(())
 }
 
 // Whether the program's word is `times`.
@@ -221,24 +264,11 @@ fn is_timed(rt: &(impl Alloc + Env)) -> io::Result<bool> {
 }
 
 fn run(rt: &(impl AllocGlobal + Clock + Env + Files + Input + Print)) -> io::Result<()> {
-    let alloc = rt.alloc();
     let times = is_timed(rt)?;
-    let mut input: Vec<u8> = Vec::new(alloc);
+    let mut input: Vec<u8> = Vec::new(rt.alloc());
     rt.reader().read_to_end(&mut input)?;
-    let (mut present, mut absent) = read_keys(alloc, &input)?;
-    shuffle(&mut present, 1);
-    shuffle(&mut absent, 2);
-    println!(rt; "keys {}", present.len())?;
-    let halves = halves(alloc, &absent[..absent.len().min(100_000)])?;
-    let (memory, peak) = measure(rt, times, &mut present, &absent, &halves)?;
-    present.sort_unstable();
-    let mut map = PatriciaMap::new(alloc);
-    time_puts(rt, times, "insert_sorted", &mut map, &present)?;
-    if times {
-        println!(rt; "memory {memory}")?;
-        println!(rt; "peak {peak}")?;
-    }
-    Ok(())
+    let (mut present, mut absent) = read_keys(rt.alloc(), &input)?;
+    measure_halves(rt, times, &mut present, &mut absent)
 }
 
 fn main(rt: HostRuntime) -> io::Result<()> {
