@@ -1,4 +1,4 @@
 mod helpers;
 mod long_keys;
-mod one_key;
 mod refusals;
+mod refused_text;

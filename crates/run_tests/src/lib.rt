@@ -1,4 +1,4 @@
-//! Tests of commands and of their lines.
+//! Tests of commands.
 #![tactic(auto)]
 
 #[cfg(test)]

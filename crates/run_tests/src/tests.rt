@@ -1,4 +1,3 @@
 //! Tests of what no contract says: values from outside.
 
-mod answer;
 mod bench;

@@ -22,7 +22,7 @@ pub fn read_keys(alloc: Global, input: &[u8]) -> Result<Halves<'_>, AllocError> 
 }
 
 /// Puts the keys in another order, the same each time.
-pub fn shuffle(keys: &mut [&[u8]], seed: u64) {
+pub fn shuffle<T>(keys: &mut [T], seed: u64) {
     let mut random = seed;
     for i in 1..keys.len() {
         random ^= random << 13;
@@ -30,4 +30,13 @@ pub fn shuffle(keys: &mut [&[u8]], seed: u64) {
         random ^= random << 17;
         keys.swap(i, random as usize % (i + 1));
     }
+}
+
+/// The first half of each key.
+pub fn halves<'a>(alloc: Global, keys: &[&'a [u8]]) -> Result<Vec<&'a [u8]>, AllocError> {
+    let mut halves = Vec::new(alloc);
+    for key in keys {
+        halves.push(&key[..key.len() / 2])?;
+    }
+    Ok(halves)
 }

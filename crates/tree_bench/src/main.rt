@@ -7,9 +7,9 @@
 mod keys;
 mod memory;
 
-use keys::{read_keys, shuffle};
+use keys::{halves, read_keys, shuffle};
 use memory::memory;
-use patricia_tree::PatriciaMap;
+use patricia_tree::{BorrowedBytes, Bytes, GenericPatriciaMap, PatriciaMap};
 use std::alloc::AllocError;
 use std::env;
 use std::io::{self, Read};
@@ -17,7 +17,10 @@ use std::rt::{Clock, Env, Files};
 use std::time::Instant;
 
 // Puts each key in, and counts the new ones.
-fn put(map: &mut PatriciaMap<u64>, keys: &[&[u8]]) -> Result<u64, AllocError> {
+fn put<Q: BorrowedBytes>(
+    map: &mut GenericPatriciaMap<Q::Owned, u64>,
+    keys: &[Q],
+) -> Result<u64, AllocError> {
     let mut new: u64 = 0;
     for key in keys {
         let Ok(old) = map.insert(*key, new) else {
@@ -31,7 +34,7 @@ fn put(map: &mut PatriciaMap<u64>, keys: &[&[u8]]) -> Result<u64, AllocError> {
 }
 
 // Counts the keys that are there.
-fn found(map: &PatriciaMap<u64>, keys: &[&[u8]]) -> u64 {
+fn found<Q: BorrowedBytes>(map: &GenericPatriciaMap<Q::Owned, u64>, keys: &[Q]) -> u64 {
     let mut found: u64 = 0;
     for key in keys {
         if map.get(*key).is_some() {
@@ -42,17 +45,17 @@ fn found(map: &PatriciaMap<u64>, keys: &[&[u8]]) -> u64 {
 }
 
 // Counts the bytes of all keys.
-fn walked(map: &PatriciaMap<u64>) -> Result<u64, AllocError> {
+fn walked<K: Bytes>(map: &GenericPatriciaMap<K, u64>) -> Result<u64, AllocError> {
     let mut bytes: u64 = 0;
     for entry in map.iter() {
         let (key, _) = entry?;
-        bytes = bytes.wrapping_add(key.len() as u64);
+        bytes = bytes.wrapping_add(key.as_bytes().len() as u64);
     }
     Ok(bytes)
 }
 
 // Adds all values.
-fn summed(map: &PatriciaMap<u64>) -> Result<u64, AllocError> {
+fn summed<K: Bytes>(map: &GenericPatriciaMap<K, u64>) -> Result<u64, AllocError> {
     let mut sum: u64 = 0;
     for value in map.values() {
         sum = sum.wrapping_add(*value?);
@@ -60,11 +63,14 @@ fn summed(map: &PatriciaMap<u64>) -> Result<u64, AllocError> {
     Ok(sum)
 }
 
-// Counts the entries under the first half of each key.
-fn under(map: &PatriciaMap<u64>, keys: &[&[u8]]) -> Result<u64, AllocError> {
+// Counts the entries under each prefix.
+fn under<Q: BorrowedBytes>(
+    map: &GenericPatriciaMap<Q::Owned, u64>,
+    prefixes: &[Q],
+) -> Result<u64, AllocError> {
     let mut entries: u64 = 0;
-    for key in keys {
-        for entry in map.iter_prefix(&key[..key.len() / 2]) {
+    for prefix in prefixes {
+        for entry in map.iter_prefix(*prefix) {
             let _ = entry?;
             entries = entries.wrapping_add(1);
         }
@@ -73,18 +79,21 @@ fn under(map: &PatriciaMap<u64>, keys: &[&[u8]]) -> Result<u64, AllocError> {
 }
 
 // Adds the lengths of the longest keys that begin each key.
-fn longest(map: &PatriciaMap<u64>, keys: &[&[u8]]) -> u64 {
+fn longest<Q: BorrowedBytes>(map: &GenericPatriciaMap<Q::Owned, u64>, keys: &[Q]) -> u64 {
     let mut bytes: u64 = 0;
     for key in keys {
         if let Some((prefix, _)) = map.get_longest_common_prefix(*key) {
-            bytes = bytes.wrapping_add(prefix.len() as u64);
+            bytes = bytes.wrapping_add(prefix.as_bytes().len() as u64);
         }
     }
     bytes
 }
 
 // Takes each key out, and counts those that were there.
-fn taken(map: &mut PatriciaMap<u64>, keys: &[&[u8]]) -> Result<u64, AllocError> {
+fn taken<Q: BorrowedBytes>(
+    map: &mut GenericPatriciaMap<Q::Owned, u64>,
+    keys: &[Q],
+) -> Result<u64, AllocError> {
     let mut taken: u64 = 0;
     for key in keys {
         if map.remove(*key)?.is_some() {
@@ -111,12 +120,12 @@ fn report(
     }
 }
 
-fn time_puts(
+fn time_puts<Q: BorrowedBytes>(
     rt: &(impl Clock + Print),
     times: bool,
     name: &str,
-    map: &mut PatriciaMap<u64>,
-    keys: &[&[u8]],
+    map: &mut GenericPatriciaMap<Q::Owned, u64>,
+    keys: &[Q],
 ) -> io::Result<u64> {
     let start = Instant::now(rt)?;
     let new = put(map, keys)?;
@@ -124,19 +133,23 @@ fn time_puts(
     Ok(new)
 }
 
-fn time_gets(
+fn time_gets<Q: BorrowedBytes>(
     rt: &(impl Clock + Print),
     times: bool,
     name: &str,
-    map: &PatriciaMap<u64>,
-    keys: &[&[u8]],
+    map: &GenericPatriciaMap<Q::Owned, u64>,
+    keys: &[Q],
 ) -> io::Result<()> {
     let start = Instant::now(rt)?;
     let found = found(map, keys);
     report(rt, times, name, start, keys.len(), found)
 }
 
-fn time_walks(rt: &(impl Clock + Print), times: bool, map: &PatriciaMap<u64>) -> io::Result<()> {
+fn time_walks<K: Bytes>(
+    rt: &(impl Clock + Print),
+    times: bool,
+    map: &GenericPatriciaMap<K, u64>,
+) -> io::Result<()> {
     let start = Instant::now(rt)?;
     let bytes = walked(map)?;
     report(rt, times, "walk", start, map.len(), bytes)?;
@@ -145,53 +158,104 @@ fn time_walks(rt: &(impl Clock + Print), times: bool, map: &PatriciaMap<u64>) ->
     report(rt, times, "values", start, map.len(), sum)
 }
 
-fn time_prefixes(
+fn time_prefixes<Q: BorrowedBytes>(
     rt: &(impl Clock + Print),
     times: bool,
-    map: &PatriciaMap<u64>,
-    keys: &[&[u8]],
+    map: &GenericPatriciaMap<Q::Owned, u64>,
+    keys: &[Q],
+    halves: &[Q],
 ) -> io::Result<()> {
     let start = Instant::now(rt)?;
-    let entries = under(map, keys)?;
-    report(rt, times, "under", start, keys.len(), entries)?;
+    let entries = under(map, halves)?;
+    report(rt, times, "under", start, halves.len(), entries)?;
     let start = Instant::now(rt)?;
     let bytes = longest(map, keys);
     report(rt, times, "longest", start, keys.len(), bytes)
 }
 
-fn time_removes(
+fn time_removes<Q: BorrowedBytes>(
     rt: &(impl Clock + Print),
     times: bool,
-    map: &mut PatriciaMap<u64>,
-    keys: &[&[u8]],
+    map: &mut GenericPatriciaMap<Q::Owned, u64>,
+    keys: &[Q],
 ) -> io::Result<()> {
     let start = Instant::now(rt)?;
     let taken = taken(map, keys)?;
     report(rt, times, "remove", start, keys.len(), taken)
 }
 
+// Calls each method but `insert` for all keys in turn.
+fn time_calls<Q: BorrowedBytes>(
+    rt: &(impl Clock + Print),
+    times: bool,
+    map: &mut GenericPatriciaMap<Q::Owned, u64>,
+    present: &[Q],
+    absent: &[Q],
+    halves: &[Q],
+) -> io::Result<()> {
+    time_gets(rt, times, "get", map, present)?;
+    time_gets(rt, times, "get_absent", map, absent)?;
+    time_walks(rt, times, map)?;
+    let some = &absent[..halves.len().min(absent.len())];
+    time_prefixes(rt, times, map, some, halves)?;
+    time_removes(rt, times, map, present)
+}
+
 // Calls each method for all keys in turn, and answers the memory of a key and the most of it.
-fn measure(
+fn measure<Q: BorrowedBytes>(
     rt: &(impl AllocGlobal + Clock + Files + Print),
     times: bool,
-    present: &mut [&[u8]],
-    absent: &[&[u8]],
+    present: &mut [Q],
+    absent: &[Q],
+    halves: &[Q],
 ) -> io::Result<(u64, u64)> {
     let before = memory(rt, "VmRSS:");
-    let mut map = PatriciaMap::new(rt.alloc());
+    let mut map: GenericPatriciaMap<Q::Owned, u64> = GenericPatriciaMap::new(rt.alloc());
     let keys = time_puts(rt, times, "insert", &mut map, present)?.max(1);
     let after = memory(rt, "VmRSS:");
     let peak = memory(rt, "VmHWM:");
     shuffle(present, 3);
-    time_gets(rt, times, "get", &map, present)?;
-    time_gets(rt, times, "get_absent", &map, absent)?;
-    time_walks(rt, times, &map)?;
-    time_prefixes(rt, times, &map, &absent[..absent.len().min(100_000)])?;
-    time_removes(rt, times, &mut map, present)?;
+    time_calls(rt, times, &mut map, present, absent, halves)?;
     Ok((
         after.saturating_sub(before) / keys,
         peak.saturating_sub(before) / keys,
     ))
+}
+
+// Puts the keys in in their order.
+fn put_sorted(
+    rt: &(impl AllocGlobal + Clock + Print),
+    times: bool,
+    keys: &mut [&[u8]],
+) -> io::Result<()> {
+    keys.sort_unstable();
+    let mut map = PatriciaMap::new(rt.alloc());
+    time_puts(rt, times, "insert_sorted", &mut map, keys)?;
+    Ok(())
+}
+
+fn report_memory(rt: &impl Print, memory: u64, peak: u64) -> io::Result<()> {
+    println!(rt; "memory {memory}")?;
+    println!(rt; "peak {peak}")
+}
+
+// Measures the calls with the keys of one half put in.
+fn measure_halves<'k>(
+    rt: &(impl AllocGlobal + Clock + Files + Print),
+    times: bool,
+    present: &mut [&'k [u8]],
+    absent: &mut [&'k [u8]],
+) -> io::Result<()> {
+    shuffle(present, 1);
+    shuffle(absent, 2);
+    println!(rt; "keys {}", present.len())?;
+    let halves = halves(rt.alloc(), &absent[..absent.len().min(100_000)])?;
+    let (memory, peak) = measure(rt, times, present, absent, &halves)?;
+    put_sorted(rt, times, present)?;
+    if times {
+        report_memory(rt, memory, peak)?;
+    }
+    Ok(())
 }
 
 // Whether the program's word is `times`.
@@ -200,23 +264,11 @@ fn is_timed(rt: &(impl Alloc + Env)) -> io::Result<bool> {
 }
 
 fn run(rt: &(impl AllocGlobal + Clock + Env + Files + Input + Print)) -> io::Result<()> {
-    let alloc = rt.alloc();
     let times = is_timed(rt)?;
-    let mut input: Vec<u8> = Vec::new(alloc);
+    let mut input: Vec<u8> = Vec::new(rt.alloc());
     rt.reader().read_to_end(&mut input)?;
-    let (mut present, mut absent) = read_keys(alloc, &input)?;
-    shuffle(&mut present, 1);
-    shuffle(&mut absent, 2);
-    println!(rt; "keys {}", present.len())?;
-    let (memory, peak) = measure(rt, times, &mut present, &absent)?;
-    present.sort_unstable();
-    let mut map = PatriciaMap::new(alloc);
-    time_puts(rt, times, "insert_sorted", &mut map, &present)?;
-    if times {
-        println!(rt; "memory {memory}")?;
-        println!(rt; "peak {peak}")?;
-    }
-    Ok(())
+    let (mut present, mut absent) = read_keys(rt.alloc(), &input)?;
+    measure_halves(rt, times, &mut present, &mut absent)
 }
 
 fn main(rt: HostRuntime) -> io::Result<()> {

@@ -1,5 +1,3 @@
-mod decimals;
 mod ends;
 mod helpers;
-mod listings;
 mod refusals;

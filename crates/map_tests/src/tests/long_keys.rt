@@ -1,8 +1,22 @@
 use super::helpers::put;
-use patricia_tree::{PatriciaMap, StringPatriciaMap};
+use patricia_tree::{BorrowedBytes, GenericPatriciaMap, StringPatriciaMap};
 use std::alloc::{AllocError, Global};
 use std::process::Abort;
 use std::test::Fail;
+
+// Puts a key in, and looks for it and for a longer one that is not there.
+fn put_one<Q: BorrowedBytes>(
+    rt: &impl Abort,
+    map: &mut GenericPatriciaMap<Q::Owned, u64>,
+    key: Q,
+    longer: Q,
+) -> Result<(), AllocError> {
+    put(map, key)?;
+    let len = key.as_bytes().len() as u64;
+    assert_eq!(rt; map.get(key).copied(), Some(len));
+    assert!(rt; !map.contains_key(longer));
+    Ok(())
+}
 
 // Puts in texts of one character, each of so many bytes or a little less.
 fn put_long_texts(
@@ -14,24 +28,21 @@ fn put_long_texts(
     for bytes in 252..514usize {
         let times = bytes.checked_div(character.len()).unwrap_or(0);
         let key = character.repeat(alloc, times)?;
-        put(map, key.as_str())?;
-        assert_eq!(rt; map.get(key.as_str()).copied(), Some(key.len() as u64));
         let longer = format!(in alloc; "{key}ん")?;
-        assert!(rt; !map.contains_key(longer.as_str()));
+        put_one(rt, map, key.as_str(), longer.as_str())?;
     }
     Ok(())
 }
 
+// Characters of each width, and how many keys there are once the texts of each are in.
+const CHARACTERS: [(&str, usize); 4] = [("a", 262), ("ß", 393), ("あ", 481), ("🌏", 547)];
+
 #[test]
 fn long_texts_of_each_width(rt: HostRuntime) -> Result<(), Fail> {
     let mut map = StringPatriciaMap::new(rt.alloc());
-    put_long_texts(&rt, rt.alloc(), &mut map, "a")?;
-    assert_eq!(rt; map.len(), 262);
-    put_long_texts(&rt, rt.alloc(), &mut map, "ß")?;
-    assert_eq!(rt; map.len(), 393);
-    put_long_texts(&rt, rt.alloc(), &mut map, "あ")?;
-    assert_eq!(rt; map.len(), 481);
-    put_long_texts(&rt, rt.alloc(), &mut map, "🌏")?;
-    assert_eq!(rt; map.len(), 547);
+    for (character, len) in &CHARACTERS {
+        put_long_texts(&rt, rt.alloc(), &mut map, character)?;
+        assert_eq!(rt; map.len(), *len);
+    }
     Ok(())
 }

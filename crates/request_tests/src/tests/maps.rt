@@ -1,12 +1,11 @@
 ghost use Rattle.std.specs.Prelude.{◌≡◌, ◌<◌};
 
 use super::helpers::map_of;
-use patricia_tree::{BorrowedBytes, GenericPatriciaMap, Steps};
+use patricia_tree::{BorrowedBytes, Bytes, GenericPatriciaMap, Steps};
 use std::alloc::{AllocError, Global};
 use std::marker::Brand;
 use std::process::Abort;
 use std::sync::ledger::{Blank, Ledger};
-use std::test::Fail;
 
 // Each call on each key, which is stored or is not.
 fn look_up_all<Q: BorrowedBytes, L: Ledger>(
@@ -56,26 +55,46 @@ fn remove_all<Q: BorrowedBytes>(
     Ok(())
 }
 
+fn has_entry<K: Bytes>(map: &GenericPatriciaMap<K, u64>) -> bool {
+    map.iter().next().is_some()
+}
+
+fn has_key<K: Bytes>(map: &GenericPatriciaMap<K, u64>) -> bool {
+    map.keys().next().is_some()
+}
+
+fn has_value<K: Bytes>(map: &GenericPatriciaMap<K, u64>) -> bool {
+    map.values().next().is_some()
+}
+
+fn has_owned<K: Bytes>(map: GenericPatriciaMap<K, u64>) -> bool {
+    map.into_iter().next().is_some()
+}
+
+// Asks the walks over an empty map for an entry.
+fn walk_empty<K: Bytes>(rt: &impl Abort, mut empty: GenericPatriciaMap<K, u64>) {
+    assert!(rt; !has_entry(&empty));
+    assert!(rt; !has_key(&empty));
+    assert!(rt; !has_value(&empty));
+    empty.clear();
+    assert!(rt; !has_owned(empty));
+}
+
 // Makes walks, and asks those of an empty map for an entry.
-fn make_walks<Q: BorrowedBytes>(
-    rt: &impl Abort,
-    alloc: Global,
-    map: GenericPatriciaMap<Q::Owned, u64>,
-) {
+fn make_walks<K: Bytes>(rt: &impl Abort, alloc: Global, map: GenericPatriciaMap<K, u64>) {
     drop(map.iter());
     drop(map.keys());
     drop(map.values());
     drop(map.into_iter());
-    let mut empty: GenericPatriciaMap<Q::Owned, u64> = GenericPatriciaMap::new(alloc);
-    assert!(rt; empty.iter().next().is_none());
-    assert!(rt; empty.keys().next().is_none());
-    assert!(rt; empty.values().next().is_none());
-    empty.clear();
-    assert!(rt; empty.into_iter().next().is_none());
+    walk_empty(rt, GenericPatriciaMap::<K, u64>::new(alloc));
+}
+
+fn clear_whole<K: Bytes>(rt: &impl Abort, mut map: GenericPatriciaMap<K, u64>) {
+    map.clear();
+    assert!(rt; map.is_empty());
 }
 
 // The keys of a test. No removal of `removed`, in its order, joins labels.
-#[derive(Clone, Copy)]
 struct Keys<'a, Q> {
     stored: &'a [Q],
     absent: &'a [Q],
@@ -83,39 +102,61 @@ struct Keys<'a, Q> {
     empty: &'a [Q],
 }
 
+fn look_up_each<Q: BorrowedBytes>(
+    rt: &impl Abort,
+    map: &GenericPatriciaMap<Q::Owned, u64>,
+    keys: &Keys<'_, Q>,
+) {
+    look_up_all::<Q, Brand>(rt, map, keys.stored, true, Blank::new(1));
+    look_up_all::<Q, Brand>(rt, map, keys.absent, false, Blank::new(1));
+}
+
+fn change_each<Q: BorrowedBytes>(
+    rt: &impl Abort,
+    map: &mut GenericPatriciaMap<Q::Owned, u64>,
+    keys: &Keys<'_, Q>,
+) -> Result<(), AllocError> {
+    insert_all(rt, map, keys.stored, true)?;
+    remove_all(rt, map, keys.absent, false)?;
+    remove_all(rt, map, keys.removed, true)?;
+    remove_all(rt, map, keys.removed, false)?;
+    insert_all(rt, map, keys.empty, false)?;
+    let left = keys.stored.len().saturating_sub(keys.removed.len());
+    assert_eq!(rt; map.len(), left.saturating_add(1));
+    assert!(rt; !map.is_empty());
+    Ok(())
+}
+
 // Makes two maps, and then each call.
 fn call_all<Q: BorrowedBytes>(
     rt: &impl Abort,
     alloc: Global,
-    keys: Keys<'_, Q>,
+    keys: &Keys<'_, Q>,
 ) -> Result<(), AllocError> {
     let mut map = map_of(alloc, keys.stored)?;
-    let mut full = map_of(alloc, keys.stored)?;
-    full.clear();
-    assert!(rt; full.is_empty());
-    look_up_all::<Q, Brand>(rt, &map, keys.stored, true, Blank::new(1));
-    look_up_all::<Q, Brand>(rt, &map, keys.absent, false, Blank::new(1));
-    insert_all(rt, &mut map, keys.stored, true)?;
-    remove_all(rt, &mut map, keys.absent, false)?;
-    remove_all(rt, &mut map, keys.removed, true)?;
-    remove_all(rt, &mut map, keys.removed, false)?;
-    insert_all(rt, &mut map, keys.empty, false)?;
-    let left = keys.stored.len().saturating_sub(keys.removed.len());
-    assert_eq!(rt; map.len(), left.saturating_add(1));
-    assert!(rt; !map.is_empty());
-    make_walks::<Q>(rt, alloc, map);
+    clear_whole(rt, map_of(alloc, keys.stored)?);
+    look_up_each(rt, &map, keys);
+    change_each(rt, &mut map, keys)?;
+    make_walks(rt, alloc, map);
     Ok(())
+}
+
+fn have_same_len<K: Bytes>(
+    map: &GenericPatriciaMap<K, u64>,
+    other: &GenericPatriciaMap<K, u64>,
+) -> bool {
+    map.len() == other.len()
 }
 
 // Makes two maps.
 fn make<Q: BorrowedBytes>(
     rt: &impl Abort,
     alloc: Global,
-    keys: Keys<'_, Q>,
+    keys: &Keys<'_, Q>,
 ) -> Result<(), AllocError> {
     let map = map_of(alloc, keys.stored)?;
     let full = map_of(alloc, keys.stored)?;
-    assert_eq!(rt; map.len(), full.len());
+    assert!(rt; have_same_len(&map, &full));
     Ok(())
 }
 
@@ -188,25 +229,21 @@ const TEXTS: Keys<'static, &'static str> = Keys {
 };
 
 #[test]
-fn bytes_made(rt: HostRuntime) -> Result<(), Fail> {
-    make(&rt, rt.alloc(), BYTES)?;
-    Ok(())
+fn bytes_made(rt: HostRuntime) -> Result<(), AllocError> {
+    make(&rt, rt.alloc(), &BYTES)
 }
 
 #[test]
-fn bytes_called(rt: HostRuntime) -> Result<(), Fail> {
-    call_all(&rt, rt.alloc(), BYTES)?;
-    Ok(())
+fn bytes_called(rt: HostRuntime) -> Result<(), AllocError> {
+    call_all(&rt, rt.alloc(), &BYTES)
 }
 
 #[test]
-fn texts_made(rt: HostRuntime) -> Result<(), Fail> {
-    make(&rt, rt.alloc(), TEXTS)?;
-    Ok(())
+fn texts_made(rt: HostRuntime) -> Result<(), AllocError> {
+    make(&rt, rt.alloc(), &TEXTS)
 }
 
 #[test]
-fn texts_called(rt: HostRuntime) -> Result<(), Fail> {
-    call_all(&rt, rt.alloc(), TEXTS)?;
-    Ok(())
+fn texts_called(rt: HostRuntime) -> Result<(), AllocError> {
+    call_all(&rt, rt.alloc(), &TEXTS)
 }

@@ -1,9 +1,9 @@
 // Of three removals the third alone joins labels. The joined label has more than 30 bytes, so it
 // asks for memory, once.
 use super::helpers::map_of;
-use patricia_tree::StringPatriciaMap;
+use patricia_tree::BorrowedBytes;
 use std::alloc::{AllocError, Global};
-use std::test::Fail;
+use std::process::Abort;
 
 const STEM: &str = "12345678901234567890";
 
@@ -14,30 +14,35 @@ const LOWER: &str = "12345678901234567890abcdefghijklmnopqrst";
 const UPPER: &str = "12345678901234567890ABCDEFGHIJKLMNOPQRST";
 
 // Four keys, of which one begins the others. Each label has 20 bytes.
-fn four_keys(alloc: Global) -> Result<StringPatriciaMap<u64>, AllocError> {
-    map_of(alloc, &[STEM, DIGITS, LOWER, UPPER])
-}
+const KEYS: [&str; 4] = [STEM, DIGITS, LOWER, UPPER];
 
-#[test]
-fn none_of_three(rt: HostRuntime) -> Result<(), Fail> {
-    let map = four_keys(rt.alloc())?;
-    assert_eq!(rt; map.len(), 4);
+// Makes a map of keys, and takes some out, each with its length in bytes.
+fn remove_some<Q: BorrowedBytes>(
+    rt: &impl Abort,
+    alloc: Global,
+    keys: &[Q],
+    removed: &[Q],
+) -> Result<(), AllocError> {
+    let mut map = map_of(alloc, keys)?;
+    assert_eq!(rt; map.len(), keys.len());
+    for key in removed {
+        let len = key.as_bytes().len() as u64;
+        assert_eq!(rt; map.remove(*key)?, Some(len));
+    }
     Ok(())
 }
 
 #[test]
-fn two_of_three(rt: HostRuntime) -> Result<(), Fail> {
-    let mut map = four_keys(rt.alloc())?;
-    assert_eq!(rt; map.remove(UPPER)?, Some(40));
-    assert_eq!(rt; map.remove(DIGITS)?, Some(40));
-    Ok(())
+fn none_of_three(rt: HostRuntime) -> Result<(), AllocError> {
+    remove_some(&rt, rt.alloc(), &KEYS, &[])
 }
 
 #[test]
-fn three_of_three(rt: HostRuntime) -> Result<(), Fail> {
-    let mut map = four_keys(rt.alloc())?;
-    assert_eq!(rt; map.remove(UPPER)?, Some(40));
-    assert_eq!(rt; map.remove(DIGITS)?, Some(40));
-    assert_eq!(rt; map.remove(STEM)?, Some(20));
-    Ok(())
+fn two_of_three(rt: HostRuntime) -> Result<(), AllocError> {
+    remove_some(&rt, rt.alloc(), &KEYS, &[UPPER, DIGITS])
+}
+
+#[test]
+fn three_of_three(rt: HostRuntime) -> Result<(), AllocError> {
+    remove_some(&rt, rt.alloc(), &KEYS, &[UPPER, DIGITS, STEM])
 }

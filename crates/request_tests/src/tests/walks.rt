@@ -1,9 +1,8 @@
 // Walks to the end, and calls of `next` past it, over labels of at most 30 bytes and of more.
 use super::helpers::map_of;
-use patricia_tree::{Bytes, GenericPatriciaMap};
+use patricia_tree::{BorrowedBytes, Bytes, GenericPatriciaMap};
 use std::alloc::{AllocError, Global};
 use std::process::Abort;
-use std::test::Fail;
 
 fn walk_entries<K: Bytes>(rt: &impl Abort, map: &GenericPatriciaMap<K, u64>, past: bool) {
     let mut walk = map.iter();
@@ -38,52 +37,46 @@ fn walk_out<K: Bytes>(rt: &impl Abort, map: GenericPatriciaMap<K, u64>, past: bo
     assert!(rt; !past || walk.next().is_none());
 }
 
-// Walks over a map in each way, and past the end where that is asked.
-fn walk_all<K: Bytes>(rt: &impl Abort, map: GenericPatriciaMap<K, u64>, past: bool) {
+// Walks over a map of some keys in each way, and past the end where that is asked.
+fn walk_all<Q: BorrowedBytes>(
+    rt: &impl Abort,
+    alloc: Global,
+    keys: &[Q],
+    past: bool,
+) -> Result<(), AllocError> {
+    let map = map_of(alloc, keys)?;
     walk_entries(rt, &map, past);
     walk_keys(rt, &map, past);
     walk_values(rt, &map, past);
     walk_out(rt, map, past);
-}
-
-fn byte_map(alloc: Global) -> Result<GenericPatriciaMap<Vec<u8>, u64>, AllocError> {
-    let keys = [
-        b"".as_slice(),
-        b"bar".as_slice(),
-        b"bar bar bar bar bar bar bar bar bar".as_slice(),
-        b"foo foo foo foo foo foo foo foo foo".as_slice(),
-    ];
-    map_of(alloc, &keys)
-}
-
-fn text_map(alloc: Global) -> Result<GenericPatriciaMap<String, u64>, AllocError> {
-    map_of(alloc, &["", "あ", "あいうえおかきくけこさしす", "いいいいいいいいいいい"])
-}
-
-#[test]
-fn bytes_made(rt: HostRuntime) -> Result<(), Fail> {
-    let map = byte_map(rt.alloc())?;
-    walk_all(&rt, map, false);
     Ok(())
 }
 
+const BYTES: [&[u8]; 4] = [
+    b"",
+    b"bar",
+    b"bar bar bar bar bar bar bar bar bar",
+    b"foo foo foo foo foo foo foo foo foo",
+];
+
+const TEXTS: [&str; 4] = ["", "あ", "あいうえおかきくけこさしす", "いいいいいいいいいいい"];
+
 #[test]
-fn bytes_called(rt: HostRuntime) -> Result<(), Fail> {
-    let map = byte_map(rt.alloc())?;
-    walk_all(&rt, map, true);
-    Ok(())
+fn bytes_made(rt: HostRuntime) -> Result<(), AllocError> {
+    walk_all(&rt, rt.alloc(), &BYTES, false)
 }
 
 #[test]
-fn texts_made(rt: HostRuntime) -> Result<(), Fail> {
-    let map = text_map(rt.alloc())?;
-    walk_all(&rt, map, false);
-    Ok(())
+fn bytes_called(rt: HostRuntime) -> Result<(), AllocError> {
+    walk_all(&rt, rt.alloc(), &BYTES, true)
 }
 
 #[test]
-fn texts_called(rt: HostRuntime) -> Result<(), Fail> {
-    let map = text_map(rt.alloc())?;
-    walk_all(&rt, map, true);
-    Ok(())
+fn texts_made(rt: HostRuntime) -> Result<(), AllocError> {
+    walk_all(&rt, rt.alloc(), &TEXTS, false)
+}
+
+#[test]
+fn texts_called(rt: HostRuntime) -> Result<(), AllocError> {
+    walk_all(&rt, rt.alloc(), &TEXTS, true)
 }

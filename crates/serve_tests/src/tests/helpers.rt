@@ -80,18 +80,25 @@ pub fn add_times(out: &mut Vec<u8>, text: &[u8], times: u32) -> Result<(), Alloc
     Ok(())
 }
 
+/// Adds texts in turn.
+pub fn add_all(out: &mut Vec<u8>, texts: &[&[u8]]) -> Result<(), AllocError> {
+    for text in texts {
+        out.extend_from_slice(text)?;
+    }
+    Ok(())
+}
+
 /// Adds each number from one to before another, between two texts.
 pub fn add_numbers(
     alloc: Global,
     out: &mut Vec<u8>,
-    before: &[u8],
+    before: &str,
     numbers: (u32, u32),
-    after: &[u8],
+    after: &str,
 ) -> Result<(), AllocError> {
     for number in numbers.0..numbers.1 {
-        out.extend_from_slice(before)?;
-        out.extend_from_slice(number.to_string(alloc)?.as_bytes())?;
-        out.extend_from_slice(after)?;
+        let line = format!(in alloc; "{before}{number}{after}")?;
+        out.extend_from_slice(line.as_bytes())?;
     }
     Ok(())
 }

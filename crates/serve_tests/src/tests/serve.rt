@@ -1,6 +1,6 @@
 //! The program's statuses and lines, over streams that may fail.
 
-use super::helpers::{Pieces, Progress, Takes, add_numbers, add_times, list_of};
+use super::helpers::{Pieces, Progress, Takes, add_all, add_numbers, add_times, list_of};
 use patricia_run::serve;
 use std::alloc::{AllocError, Global};
 use std::io::ErrorKind;
@@ -31,12 +31,13 @@ const SOUND: Streams = Streams {
     error_room: 100,
 };
 
-/// What a run comes to: its status, output and error line.
+/// What a run comes to: its status, output and error line, and how far the input was read.
 #[derive(Clone, Copy)]
 struct End<'a> {
     status: u8,
     output: &'a [u8],
-    errors: &'a str,
+    errors: &'a [u8],
+    read: Progress,
 }
 
 // Runs the program over such streams. It gives the status, and how far the input was read.
@@ -69,25 +70,35 @@ fn run_over(
     (status, progress)
 }
 
-// Asserts what a run over such streams comes to, and how far its input was read.
+// Asserts what a run came to.
+fn check_end(rt: &impl Abort, got: End<'_>, wanted: End<'_>) {
+    assert_eq!(rt; got.status, wanted.status);
+    assert_eq!(rt; got.output.len(), wanted.output.len());
+    assert!(rt; got.output == wanted.output);
+    assert_eq!(rt; got.errors, wanted.errors);
+    assert_eq!(rt; got.read, wanted.read);
+}
+
+// Asserts what a run over such streams comes to.
 fn check_run(
     rt: &impl Abort,
     alloc: Global,
     words: &[&str],
     text: &[u8],
     streams: Streams,
-    end: End,
-    read: Progress,
+    wanted: End<'_>,
 ) -> Result<(), AllocError> {
     let words = list_of(alloc, words)?;
     let mut output = Vec::new(alloc);
     let mut errors = Vec::new(alloc);
-    let (status, progress) = run_over(alloc, &words, text, streams, &mut output, &mut errors);
-    assert_eq!(rt; status, end.status);
-    assert_eq!(rt; output.len(), end.output.len());
-    assert!(rt; output.as_slice() == end.output);
-    assert_eq!(rt; errors.as_slice(), end.errors.as_bytes());
-    assert_eq!(rt; progress, read);
+    let (status, read) = run_over(alloc, &words, text, streams, &mut output, &mut errors);
+    let got = End {
+        status,
+        output: &output,
+        errors: &errors,
+        read,
+    };
+    check_end(rt, got, wanted);
     Ok(())
 }
 
@@ -102,9 +113,10 @@ fn check_answer(
     let end = End {
         status: 0,
         output,
-        errors: "",
+        errors: b"".as_slice(),
+        read: Progress::Ended,
     };
-    check_run(rt, alloc, &[word], text, SOUND, end, Progress::Ended)
+    check_run(rt, alloc, &[word], text, SOUND, end)
 }
 
 #[test]
@@ -126,16 +138,17 @@ fn check_failure(
     errors: &str,
 ) -> Result<(), AllocError> {
     let text = b"insert\ta\t7\nget\ta".as_slice();
-    let end = End {
-        status: 1,
-        output: output.as_bytes(),
-        errors,
-    };
     let read = match streams.read_failure {
         Some(_) => Progress::Begun,
         None => Progress::Ended,
     };
-    check_run(rt, alloc, &["bytes"], text, streams, end, read)
+    let end = End {
+        status: 1,
+        output: output.as_bytes(),
+        errors: errors.as_bytes(),
+        read,
+    };
+    check_run(rt, alloc, &["bytes"], text, streams, end)
 }
 
 // Want of memory while the input is read counts as a failure to read.
@@ -195,17 +208,10 @@ fn check_usage(
     let end = End {
         status: 2,
         output: b"".as_slice(),
-        errors,
+        errors: errors.as_bytes(),
+        read: Progress::Unasked,
     };
-    check_run(
-        rt,
-        alloc,
-        words,
-        b"len\n".as_slice(),
-        streams,
-        end,
-        Progress::Unasked,
-    )
+    check_run(rt, alloc, words, b"len\n".as_slice(), streams, end)
 }
 
 #[test]
@@ -222,48 +228,35 @@ fn usage(rt: HostRuntime) -> Result<(), AllocError> {
 // More than 65,535 commands: more than 20,000 entries, many looks at no key, and a long key.
 fn large_input(alloc: Global, long: &[u8]) -> Result<Vec<u8>, AllocError> {
     let mut input = Vec::new(alloc);
-    let insert = b"insert\t".as_slice();
-    add_numbers(
-        alloc,
-        &mut input,
-        insert,
-        (10_000, 30_100),
-        b"\t7\n".as_slice(),
-    )?;
-    add_times(&mut input, b"get\t\n".as_slice(), 45_500)?;
-    input.extend_from_slice(insert)?;
-    input.extend_from_slice(long)?;
-    input.extend_from_slice(b"\t8\nlist\n".as_slice())?;
+    add_numbers(alloc, &mut input, "insert\t", (10_000, 30_100), "\t7\n")?;
+    add_times(&mut input, b"get\t\n", 45_500)?;
+    add_all(&mut input, &[b"insert\t", long, b"\t8\nlist\n"])?;
     Ok(input)
 }
 
 // What the large input is answered. The numbers are in key order, since they are of one length.
 fn large_output(alloc: Global, long: &[u8]) -> Result<Vec<u8>, AllocError> {
     let mut output = Vec::new(alloc);
-    add_times(&mut output, b"none\n".as_slice(), 20_100 + 45_500 + 1)?;
-    output.extend_from_slice(b"rows 20101\n".as_slice())?;
-    add_numbers(
-        alloc,
-        &mut output,
-        b"".as_slice(),
-        (10_000, 30_100),
-        b" 7\n".as_slice(),
-    )?;
-    output.extend_from_slice(long)?;
-    output.extend_from_slice(b" 8\n".as_slice())?;
+    add_times(&mut output, b"none\n", 20_100 + 45_500 + 1)?;
+    add_all(&mut output, &[b"rows 20101\n"])?;
+    add_numbers(alloc, &mut output, "", (10_000, 30_100), " 7\n")?;
+    add_all(&mut output, &[long, b" 8\n"])?;
     Ok(output)
+}
+
+// Asserts the answer to the large input, over keys of each kind.
+fn check_large(rt: &impl Abort, alloc: Global, long: &[u8]) -> Result<(), AllocError> {
+    let input = large_input(alloc, long)?;
+    let output = large_output(alloc, long)?;
+    check_answer(rt, alloc, "bytes", &input, &output)?;
+    check_answer(rt, alloc, "text", &input, &output)
 }
 
 // Of an input and an answer of near half a million bytes each, nothing is cut.
 #[test]
 fn large_input_and_answer(rt: HostRuntime) -> Result<(), AllocError> {
-    let alloc = rt.alloc();
-    let mut long = Vec::new(alloc);
-    add_times(&mut long, b"k".as_slice(), 2_000)?;
-    let input = large_input(alloc, &long)?;
-    let output = large_output(alloc, &long)?;
-    check_answer(&rt, alloc, "bytes", &input, &output)?;
-    check_answer(&rt, alloc, "text", &input, &output)
+    let long = b"k".repeat(rt.alloc(), 2_000)?;
+    check_large(&rt, rt.alloc(), &long)
 }
 
 // What a run may answer where one memory request is refused, if it is one of its map.
@@ -275,40 +268,52 @@ const ANSWERS: [&str; 5] = [
     "none\nnone\nsome 1\nno memory\nok\ncount 0\n",
 ];
 
+fn is_answer(output: &[u8]) -> bool {
+    for answer in &ANSWERS {
+        if answer.as_bytes() == output {
+            return true;
+        }
+    }
+    false
+}
+
+// Asserts what a run comes to of which one memory request may be refused.
+fn check_refused(rt: &impl Abort, end: End<'_>) {
+    if end.status == 0 {
+        assert!(rt; is_answer(end.output));
+        assert!(rt; end.errors.is_empty());
+        return;
+    }
+    assert_eq!(rt; end.status, 1);
+    assert!(rt; end.output.is_empty());
+    let line = match end.read {
+        Progress::Ended => OUT_OF_MEMORY,
+        _ => READ_FAILED,
+    };
+    assert_eq!(rt; end.errors, line.as_bytes());
+}
+
+// The words and the room for what is written are asked for before the run. Where one of these
+// requests is refused, there is no run.
+fn run_refused(rt: &impl Abort, alloc: Global) -> Result<(), AllocError> {
+    let words = list_of(alloc, &["text"])?;
+    let mut output = Vec::with_capacity(alloc, 100)?;
+    let mut errors = Vec::with_capacity(alloc, 100)?;
+    let text = b"insert\tab\t1\ninsert\tac\t2\nremove\tab\nlist\nclear\nlen\n".as_slice();
+    let (status, read) = run_over(alloc, &words, text, SOUND, &mut output, &mut errors);
+    let end = End {
+        status,
+        output: &output,
+        errors: &errors,
+        read,
+    };
+    check_refused(rt, end);
+    Ok(())
+}
+
 // With one memory request refused, the output is whole, or the status is 1 and the line says
 // whether the end of the input had been seen. `.ci/run` refuses the Nth request, for each N.
 #[test]
 fn refused_in_turn(rt: HostRuntime) {
-    let alloc = rt.alloc();
-    let (Ok(words), Ok(mut output), Ok(mut errors)) = (
-        list_of(alloc, &["text"]),
-        Vec::with_capacity(alloc, 100),
-        Vec::with_capacity(alloc, 100),
-    ) else {
-        return;
-    };
-    let mut progress = Progress::Unasked;
-    let input = Pieces {
-        text: b"insert\tab\t1\ninsert\tac\t2\nremove\tab\nlist\nclear\nlen\n".as_slice(),
-        piece: 5,
-        failure: None,
-        progress: &mut progress,
-    };
-    let status = serve(alloc, &words, input, &mut output, &mut errors);
-    if status == 0 {
-        assert!(rt;
-            ANSWERS
-                .iter()
-                .any(|answer| answer.as_bytes() == output.as_slice())
-        );
-        assert!(rt; errors.is_empty());
-        return;
-    }
-    assert_eq!(rt; status, 1);
-    assert!(rt; output.is_empty());
-    let line = match progress {
-        Progress::Ended => OUT_OF_MEMORY,
-        _ => READ_FAILED,
-    };
-    assert_eq!(rt; errors.as_slice(), line.as_bytes());
+    let _ = run_refused(&rt, rt.alloc());
 }

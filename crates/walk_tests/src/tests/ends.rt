@@ -2,81 +2,67 @@
 use super::helpers::map_of;
 use patricia_tree::{BorrowedBytes, Bytes, GenericPatriciaMap, PatriciaMap};
 use std::alloc::{AllocError, Global};
-use std::process::Abort;
 use std::test::Fail;
 
 fn two(alloc: Global) -> Result<PatriciaMap<u32>, AllocError> {
     map_of(alloc, &[(b"bar".as_slice(), 2), (b"baz".as_slice(), 3)])
 }
 
+// Whether each walk gives an item. Then it is dropped, with the second of two items still to come.
+fn begins_each<K: Bytes>(map: GenericPatriciaMap<K, u32>) -> bool {
+    map.iter().next().is_some()
+        && map.keys().next().is_some()
+        && map.values().next().is_some()
+        && map.into_iter().next().is_some()
+}
+
 #[test]
 fn drops_walks(rt: HostRuntime) -> Result<(), Fail> {
-    let map = two(rt.alloc())?;
-    let mut entries = map.iter();
-    assert!(rt; entries.next().is_some());
-    drop(entries);
-    let mut keys = map.keys();
-    assert!(rt; keys.next().is_some());
-    drop(keys);
-    let mut values = map.values();
-    assert!(rt; values.next().is_some());
-    drop(values);
-    let mut owned = map.into_iter();
-    assert!(rt; owned.next().is_some());
-    drop(owned);
+    assert!(rt; begins_each(two(rt.alloc())?));
     Ok(())
+}
+
+// Whether a walk gives two items and then ends for good.
+fn gives_two<K: Bytes>(map: GenericPatriciaMap<K, u32>) -> bool {
+    let mut walk = map.into_iter();
+    walk.next().is_some() && walk.next().is_some() && walk.next().is_none() && walk.next().is_none()
 }
 
 #[test]
 fn ends_for_good(rt: HostRuntime) -> Result<(), Fail> {
-    let map = two(rt.alloc())?;
-    let mut walk = map.into_iter();
-    assert!(rt; walk.next().is_some());
-    assert!(rt; walk.next().is_some());
-    assert!(rt; walk.next().is_none());
-    assert!(rt; walk.next().is_none());
+    assert!(rt; gives_two(two(rt.alloc())?));
     Ok(())
 }
 
-// The walks along a key, with one entry each, end for good.
-fn ends_along<Q: BorrowedBytes>(
-    rt: &impl Abort,
-    map: &GenericPatriciaMap<Q::Owned, u32>,
-    key: Q,
-    owned: Q::Owned,
-) {
-    let mut entries = map.common_prefixes(key);
-    assert!(rt; entries.next().is_some());
-    assert!(rt; entries.next().is_none());
-    assert!(rt; entries.next().is_none());
-    let mut values = map.common_prefix_values(key);
-    assert!(rt; values.next().is_some());
-    assert!(rt; values.next().is_none());
-    assert!(rt; values.next().is_none());
-    let mut values = map.common_prefix_values_owned(owned);
-    assert!(rt; values.next().is_some());
-    assert!(rt; values.next().is_none());
-    assert!(rt; values.next().is_none());
+// Whether a walk along a key, or under a prefix, gives one item and then ends for good.
+fn gives_one_entry<Q: BorrowedBytes>(map: &GenericPatriciaMap<Q::Owned, u32>, key: Q) -> bool {
+    let mut walk = map.common_prefixes(key);
+    walk.next().is_some() && walk.next().is_none() && walk.next().is_none()
 }
 
-// The walk under a prefix, with one entry, ends for good.
-fn ends_under<Q: BorrowedBytes>(
-    rt: &impl Abort,
-    map: &GenericPatriciaMap<Q::Owned, u32>,
-    prefix: Q,
-) {
-    let mut entries = map.iter_prefix(prefix);
-    assert!(rt; entries.next().is_some());
-    assert!(rt; entries.next().is_none());
-    assert!(rt; entries.next().is_none());
+fn gives_one_value<Q: BorrowedBytes>(map: &GenericPatriciaMap<Q::Owned, u32>, key: Q) -> bool {
+    let mut walk = map.common_prefix_values(key);
+    walk.next().is_some() && walk.next().is_none() && walk.next().is_none()
+}
+
+fn gives_one_owned<K: Bytes>(map: &GenericPatriciaMap<K, u32>, key: K) -> bool {
+    let mut walk = map.common_prefix_values_owned(key);
+    walk.next().is_some() && walk.next().is_none() && walk.next().is_none()
+}
+
+fn gives_one_under<Q: BorrowedBytes>(map: &GenericPatriciaMap<Q::Owned, u32>, prefix: Q) -> bool {
+    let mut walk = map.iter_prefix(prefix);
+    walk.next().is_some() && walk.next().is_none() && walk.next().is_none()
 }
 
 #[test]
 fn ends_at_prefixes_for_good(rt: HostRuntime) -> Result<(), Fail> {
     let map = two(rt.alloc())?;
     let owned = String::from_str(rt.alloc(), "barn")?.into_bytes();
-    ends_along(&rt, &map, b"barn".as_slice(), owned);
-    ends_under(&rt, &map, b"bar".as_slice());
+    assert!(rt; gives_one_entry(&map, b"barn".as_slice()));
+    assert!(rt; gives_one_value(&map, b"barn".as_slice()));
+    assert!(rt; gives_one_owned(&map, owned));
+    assert!(rt; gives_one_under(&map, b"bar".as_slice()));
     Ok(())
 }
 

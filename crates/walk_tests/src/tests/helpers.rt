@@ -44,20 +44,60 @@ fn ended(whole: Walked, end: bool) -> Walked {
     if end { whole } else { Walked::Wrong }
 }
 
+// What a walk comes to by an item that has the right key and value, or not.
+fn judged(is_right: bool) -> Walked {
+    ended(Walked::Whole, is_right)
+}
+
+fn judge_entry<K: Bytes>(
+    item: Option<Result<(K, &u32), AllocError>>,
+    key: &[u8],
+    value: u32,
+) -> Walked {
+    match item {
+        Some(Ok((found, at))) => judged(found.as_bytes() == key && *at == value),
+        Some(Err(_)) => Walked::Refused,
+        None => Walked::Wrong,
+    }
+}
+
+fn judge_key<K: Bytes>(item: Option<Result<K, AllocError>>, key: &[u8]) -> Walked {
+    match item {
+        Some(Ok(found)) => judged(found.as_bytes() == key),
+        Some(Err(_)) => Walked::Refused,
+        None => Walked::Wrong,
+    }
+}
+
+fn judge_value(item: Option<Result<&u32, AllocError>>, value: u32) -> Walked {
+    match item {
+        Some(Ok(at)) => judged(*at == value),
+        Some(Err(_)) => Walked::Refused,
+        None => Walked::Wrong,
+    }
+}
+
+fn judge_owned<K: Bytes>(
+    item: Option<Result<(K, u32), AllocError>>,
+    key: &[u8],
+    value: u32,
+) -> Walked {
+    match item {
+        Some(Ok((found, at))) => judged(found.as_bytes() == key && at == value),
+        Some(Err(_)) => Walked::Refused,
+        None => Walked::Wrong,
+    }
+}
+
 pub fn walk_entries<Q: BorrowedBytes>(
     map: &GenericPatriciaMap<Q::Owned, u32>,
     rows: &[(Q, u32)],
 ) -> Walked {
     let mut walk = map.iter();
     for (key, value) in rows {
-        match walk.next() {
-            Some(Ok((found, at))) => {
-                if found.as_bytes() != key.as_bytes() || *at != *value {
-                    return Walked::Wrong;
-                }
-            }
-            Some(Err(_)) => return ended(Walked::Refused, walk.next().is_none()),
-            None => return Walked::Wrong,
+        let walked = judge_entry(walk.next(), key.as_bytes(), *value);
+        if walked != Walked::Whole {
+            return ended(walked, walk.next().is_none());
         }
     }
     ended(Walked::Whole, walk.next().is_none())
@@ -74,14 +114,9 @@ pub fn walk_under<Q: BorrowedBytes>(
         if !key.as_bytes().starts_with(prefix.as_bytes()) {
             continue;
         }
-        match walk.next() {
-            Some(Ok((found, at))) => {
-                if found.as_bytes() != key.as_bytes() || *at != *value {
-                    return Walked::Wrong;
-                }
-            }
-            Some(Err(_)) => return ended(Walked::Refused, walk.next().is_none()),
-            None => return Walked::Wrong,
+        let walked = judge_entry(walk.next(), key.as_bytes(), *value);
+        if walked != Walked::Whole {
+            return ended(walked, walk.next().is_none());
         }
     }
     ended(Walked::Whole, walk.next().is_none())
@@ -93,14 +128,9 @@ pub fn walk_keys<Q: BorrowedBytes>(
 ) -> Walked {
     let mut walk = map.keys();
     for (key, _) in rows {
-        match walk.next() {
-            Some(Ok(found)) => {
-                if found.as_bytes() != key.as_bytes() {
-                    return Walked::Wrong;
-                }
-            }
-            Some(Err(_)) => return ended(Walked::Refused, walk.next().is_none()),
-            None => return Walked::Wrong,
+        let walked = judge_key(walk.next(), key.as_bytes());
+        if walked != Walked::Whole {
+            return ended(walked, walk.next().is_none());
         }
     }
     ended(Walked::Whole, walk.next().is_none())
@@ -112,14 +142,9 @@ pub fn walk_values<Q: BorrowedBytes>(
 ) -> Walked {
     let mut walk = map.values();
     for (_, value) in rows {
-        match walk.next() {
-            Some(Ok(at)) => {
-                if *at != *value {
-                    return Walked::Wrong;
-                }
-            }
-            Some(Err(_)) => return ended(Walked::Refused, walk.next().is_none()),
-            None => return Walked::Wrong,
+        let walked = judge_value(walk.next(), *value);
+        if walked != Walked::Whole {
+            return ended(walked, walk.next().is_none());
         }
     }
     ended(Walked::Whole, walk.next().is_none())
@@ -131,14 +156,9 @@ pub fn walk_out<Q: BorrowedBytes>(
 ) -> Walked {
     let mut walk = map.into_iter();
     for (key, value) in rows {
-        match walk.next() {
-            Some(Ok((found, at))) => {
-                if found.as_bytes() != key.as_bytes() || at != *value {
-                    return Walked::Wrong;
-                }
-            }
-            Some(Err(_)) => return ended(Walked::Refused, walk.next().is_none()),
-            None => return Walked::Wrong,
+        let walked = judge_owned(walk.next(), key.as_bytes(), *value);
+        if walked != Walked::Whole {
+            return ended(walked, walk.next().is_none());
         }
     }
     ended(Walked::Whole, walk.next().is_none())

@@ -2,6 +2,8 @@
 // test with the Nth memory request refused, for each N.
 use super::helpers::{Walked, map_of, walk_entries, walk_keys, walk_out, walk_under, walk_values};
 use patricia_tree::{BorrowedBytes, GenericPatriciaMap};
+use std::alloc::{AllocError, Global};
+use std::process::Abort;
 use std::test::Fail;
 
 // Of two walks one may be refused.
@@ -67,14 +69,25 @@ const PREFIXES: [&[u8]; 9] = [
     b"zebras",
 ];
 
+// Asserts of two walks of each sort that one may be refused.
+fn check_walks<Q: BorrowedBytes>(
+    rt: &impl Abort,
+    alloc: Global,
+    rows: &[(Q, u32)],
+    prefixes: &[Q],
+) -> Result<(), AllocError> {
+    let tree = map_of(alloc, rows)?;
+    assert!(rt; fit(walk_entries(&tree, rows), walk_entries(&tree, rows)));
+    assert!(rt; fit(walk_keys(&tree, rows), walk_keys(&tree, rows)));
+    assert!(rt; fit(walk_values(&tree, rows), walk_values(&tree, rows)));
+    assert!(rt; fit_under(&tree, prefixes, rows));
+    let again = map_of(alloc, rows)?;
+    assert!(rt; fit(walk_out(tree, rows), walk_out(again, rows)));
+    Ok(())
+}
+
 #[test]
 fn walks_refused_in_turn(rt: HostRuntime) -> Result<(), Fail> {
-    let tree = map_of(rt.alloc(), &ROWS)?;
-    assert!(rt; fit(walk_entries(&tree, &ROWS), walk_entries(&tree, &ROWS)));
-    assert!(rt; fit(walk_keys(&tree, &ROWS), walk_keys(&tree, &ROWS)));
-    assert!(rt; fit(walk_values(&tree, &ROWS), walk_values(&tree, &ROWS)));
-    assert!(rt; fit_under(&tree, &PREFIXES, &ROWS));
-    let again = map_of(rt.alloc(), &ROWS)?;
-    assert!(rt; fit(walk_out(tree, &ROWS), walk_out(again, &ROWS)));
+    check_walks(&rt, rt.alloc(), &ROWS, &PREFIXES)?;
     Ok(())
 }

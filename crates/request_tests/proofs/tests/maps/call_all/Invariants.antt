@@ -1,4 +1,0 @@
-use Rattle.request_tests.proofs.tests.maps.call_all.Given as goal
-
-abbrev pub ghosts-look_up_all : goal.ghosts-look_up_all
-ghosts-look_up_all g a = record { name = a.blank.name; parts = a.blank.parts }

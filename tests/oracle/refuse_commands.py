@@ -1,0 +1,112 @@
+"""Runs `ptree` with the Nth memory request refused, for N = 1, 2, .. until none is refused.
+
+    python3 -B tests/oracle/refuse_commands.py PROGRAM SHIM
+
+PROGRAM is `ptree`, and SHIM is tests/refusal/refuse.c as a shared library. For each kind of keys
+and each of SCRIPTS a run either writes nothing and ends with status 1 and a line that says why, or
+it writes what the plain model allows: its own answer, in which at most one command, if it may ask
+for memory, is answered `no memory` and changes nothing. With no request refused, the answer is the
+model's own. The last line says how many runs there were.
+"""
+import os
+import subprocess
+import sys
+import tempfile
+from model import along, answer, line_answer, lines, rows, under
+
+# What changes the map, and its list; and questions about prefixes, some of which find no row.
+SCRIPTS = [
+    b'insert\t\t1\ninsert\tab\t2\ninsert\tac\t3\ninsert\tab\t4\nget\tac\nlist\n'
+    b'remove\tab\nlen\nlist\nremove\t\nclear\nlist\n',
+    b'under\t\ninsert\ta\t1\ninsert\tabc\t2\nunder\ta\nunder\tb\nalong\tb\n'
+    b'along\tabcd\nlongest\tab\nlongest\tb\nreach\tabd\nreach\tb\nclear\nalong\ta\n',
+]
+
+ERRORS = [b'ptree: read failed\n', b'ptree: out of memory\n']
+
+MOST_REQUESTS = 5000
+
+
+def is_point(keys, prefix):
+    """Whether a prefix is one of the keys, or keys part after it."""
+    rests = [key[len(prefix):] for key in keys if key.startswith(prefix)]
+    return b'' in rests or len({rest[:1] for rest in rests}) > 1
+
+
+def joins(m, key):
+    """Whether some prefix ends to be a point when a key is removed, though other keys begin so."""
+    rest = [other for other in m if other != key]
+    prefixes = [key[:n] for n in range(1, len(key) + 1)]
+    return any(
+        is_point(m, prefix) and not is_point(rest, prefix)
+        for prefix in prefixes
+        if any(other.startswith(prefix) for other in rest)
+    )
+
+
+def may_be_refused(m, line):
+    """Whether a command may find no memory."""
+    word, *fields = line.split(b'\t')
+    if word == b'insert':
+        return fields[0] != b'' and fields[0] not in m
+    if word == b'remove':
+        return joins(m, fields[0])
+    if word == b'list':
+        return bool(rows(m))
+    if word == b'under':
+        return bool(under(m, fields[0]))
+    if word == b'along':
+        return bool(along(m, fields[0]))
+    return False
+
+
+def is_allowed(kind, data, output):
+    """Whether the model allows the output, with at most one reply of no memory."""
+    m, rest, refusals = {}, lines(output), 0
+    for line in lines(data):
+        if rest[:1] == [b'no memory']:
+            refusals += 1
+            if refusals > 1 or not may_be_refused(m, line):
+                return False
+            rest = rest[1:]
+            continue
+        wanted = line_answer(m, kind, line)
+        if rest[:len(wanted)] != wanted:
+            return False
+        rest = rest[len(wanted):]
+    return not rest and (not output or output.endswith(b'\n'))
+
+
+def run(program, shim, kind, data, n):
+    """A run's status, output and error line, and whether a request was refused."""
+    with tempfile.NamedTemporaryFile() as log:
+        env = {**os.environ, 'REFUSE_AT': str(n), 'REFUSE_LOG': log.name, 'LD_PRELOAD': shim}
+        ran = subprocess.run([program, kind], input=data, env=env, capture_output=True, timeout=60)
+        said = log.read()
+    assert b' refused=' in said, 'the shim was not loaded'
+    return ran.returncode, ran.stdout, ran.stderr, b' refused=1' in said
+
+
+def check(program, shim, kind, data):
+    """Runs until no request is refused, and gives how many were."""
+    for n in range(1, MOST_REQUESTS):
+        status, output, errors, is_refused = run(program, shim, kind, data, n)
+        told = '%s, request %d: status %d, %r, %r' % (kind, n, status, output, errors)
+        if not is_refused:
+            assert (status, output, errors) == (0, answer(kind, data), b''), told
+            return n - 1
+        if status == 0:
+            assert is_allowed(kind, data, output) and errors == b'', told
+        else:
+            assert status == 1 and output == b'' and errors in ERRORS, told
+    raise AssertionError('no end')
+
+
+def main(program, shim):
+    counts = [check(program, shim, kind, data) for kind in ('bytes', 'text') for data in SCRIPTS]
+    assert min(counts) > 0, 'no request'
+    print('%s: passed with each of %s requests refused' % (program, ', '.join(map(str, counts))))
+
+
+if __name__ == '__main__':
+    main(*sys.argv[1:])
