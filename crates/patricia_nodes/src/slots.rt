@@ -33,9 +33,9 @@ pub struct Node<V> {
 
 /// Nodes, the first of the top row, and the first of those that are free for use.
 ///
-/// The free nodes are linked by `sibling`. The fields are for this crate and those of inserts,
-/// removals and walks alone. The calls ask for `IsWhole`, so whoever writes to a field has to prove
-/// that it still holds.
+/// The free nodes are linked by `sibling`. The fields are for the crates below `patricia_core`
+/// alone. The calls ask for `IsWhole`, so whoever writes to a field has to prove that it still
+/// holds.
 #[derive(Drop)]
 pub struct Slots<V> {
     pub nodes: Vec<Node<V>>,
