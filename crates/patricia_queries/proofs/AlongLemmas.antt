@@ -1,13 +1,13 @@
 -- The steps of a walk along a key.
-use Rattle.std.proofs.Common.{◌≡◌, ◌≢◌, ℕ, suc, ◌+◌, ◌-◌, ◌<◌, ◌≤◌, Bool, true, false, List, [], ◌∷◌, ◌++◌, length, get_or, take, drop, Option, Some, None, refl, sym, ap, subst, ◌∙◌, arith}
+use Rattle.std.proofs.Common.{◌≡◌, ℕ, ◌+◌, ◌-◌, ◌≤◌, true, false, List, ◌++◌, length, get_or, take, drop, Option, Some, None, refl, sym, ap, subst, ◌∙◌, arith}
 use Rattle.std.specs.Option.{option_copied}
 use Rattle.std.specs.Prelude.{nat_eq}
 use Rattle.std.specs.Ordering.{ordering_index}
 use Rattle.std.specs.declared.cmp.Ordering.{Ordering}
 use Rattle.std.specs.declared.cmp.Ordering.TheVariants.{Less, Equal, Greater}
-use Rattle.std.proofs.lemmas.List.{append-nil, take-append-drop, length-take-le, length-append, length-drop, take_at, take_all}
+use Rattle.std.proofs.lemmas.List.{take-append-drop, length-take-le, length-append, length-drop, take_at, take_all}
 use Rattle.std.proofs.Math.Seq.{take-append-add, drop-append-add, drop-append_seam}
-use Rattle.patricia_keys.specs.Keys.{Begins, IsKeyKind, IsValid, key_cmp}
+use Rattle.patricia_keys.specs.Keys.{IsKeyKind, key_cmp}
 use Rattle.patricia_keys.proofs.KeyLemmas.{IsValid-nil, IsValid-append}
 use Rattle.patricia_rows.specs.Prefixes.{begins, along}
 use Rattle.patricia_rows.specs.Private.Spots.{steps_in}
@@ -17,7 +17,7 @@ use Rattle.patricia_rows.proofs.WalkLemmas.{prefixed-nil}
 use Rattle.patricia_rows.proofs.PrefixLemmas.{begins_is, begins_other, along-append, along_own, along_down, along_past, along_stop}
 use Rattle.patricia_nodes.specs.declared.slots.Node.{Node}
 use Rattle.patricia_nodes.specs.declared.slots.Slots.{Slots}
-use Rattle.patricia_nodes.specs.Private.Plans.{Plan, Nil, Cell, row, plan_at, IsPlan, IsWhole, row_of as slots_row}
+use Rattle.patricia_nodes.specs.Private.Plans.{Nil, row, plan_at, IsPlan, IsWhole, row_of as slots_row}
 use Rattle.patricia_nodes.proofs.PlanLemmas.{plan_is}
 use Rattle.patricia_nodes.proofs.SeekLemmas.{opened, whole_plan}
 use Rattle.patricia_walks.specs.Private.Positions.{row_at}

@@ -1,15 +1,13 @@
 -- What the place of a key among the nodes tells of the rows under it and of how far the keys go.
-use Rattle.std.proofs.Common.{◌≡◌, ◌≢◌, ℕ, suc, ◌+◌, ◌-◌, ◌<◌, ◌≤◌, List, [], ◌∷◌, ◌++◌, length, take, drop, Option, Some, None, refl, sym, ap, subst, ◌∙◌, arith}
-use Rattle.std.proofs.lemmas.List.{append-nil, append_assoc, length-append, take_all}
-use Rattle.patricia_keys.specs.Keys.{Begins, IsKeyKind, IsValid}
+use Rattle.std.proofs.Common.{◌≡◌, ℕ, ◌+◌, ◌-◌, ◌≤◌, List, [], ◌∷◌, ◌++◌, length, Option, sym, ap, subst, ◌∙◌, arith}
+use Rattle.std.proofs.lemmas.List.{append_assoc, length-append}
+use Rattle.patricia_keys.specs.Keys.{IsKeyKind, IsValid}
 use Rattle.patricia_keys.proofs.KeyLemmas.{IsValid-nil, IsValid-append}
 use Rattle.patricia_rows.specs.Prefixes.{IsReach, under}
-use Rattle.patricia_rows.specs.Private.Meeting.{EndsWithin}
-use Rattle.patricia_rows.specs.Rows.{Row, end, node, prefixed, own, entries, keys_of, IsRow}
+use Rattle.patricia_rows.specs.Rows.{Row, prefixed, own, entries, keys_of, IsRow}
 use Rattle.patricia_rows.proofs.RowLemmas.{prefixed-prefixed}
-use Rattle.patricia_rows.proofs.GetLemmas.{common_whole}
 use Rattle.patricia_rows.proofs.WalkLemmas.{prefixed-nil}
-use Rattle.patricia_rows.proofs.PrefixLemmas.{under_past, under_before, under_deeper, under_here, under_within, under_beside}
+use Rattle.patricia_rows.proofs.PrefixLemmas.{under_past, under_deeper}
 use Rattle.patricia_rows.proofs.ReachLemmas.{Reaches, reaches_nothing, reaches_end, reaches_own, reaches_past, reaches_before, reaches_within, reaches_through, reach_is}
 use Rattle.patricia_nodes.specs.declared.slots.Slots.{Slots}
 use Rattle.patricia_nodes.specs.declared.slots.seek.Spot.{Spot}

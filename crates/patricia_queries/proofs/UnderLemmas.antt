@@ -1,11 +1,10 @@
 -- The node under which the rows of a prefix stand.
-use Rattle.std.proofs.Common.{◌≡◌, ◌≢◌, ℕ, ◌+◌, ◌-◌, ◌<◌, ◌≤◌, Bool, true, false, cond, List, [], ◌∷◌, ◌++◌, length, take, Option, Some, None, refl, sym, ap, subst, ◌∙◌, arith}
+use Rattle.std.proofs.Common.{◌≡◌, ◌≢◌, ℕ, ◌+◌, ◌-◌, Bool, true, false, List, [], ◌++◌, length, take, Option, Some, None, refl, sym, ap, subst, ◌∙◌, arith}
 use Rattle.std.specs.Prelude.{nat_eq, IfSome, IfNone}
 use Rattle.std.proofs.lemmas.Bool.{eq-eqb, eqb-true}
 use Rattle.std.proofs.lemmas.List.{take_all, take_at, length-append}
 use Rattle.patricia_keys.specs.Keys.{Begins, IsKeyKind, IsValid}
 use Rattle.patricia_rows.specs.Prefixes.{under}
-use Rattle.patricia_rows.specs.Private.Meeting.{EndsWithin}
 use Rattle.patricia_rows.specs.Rows.{Row, end, node, prefixed, own, entries, IsRow}
 use Rattle.patricia_rows.proofs.RowLemmas.{prefixed-prefixed}
 use Rattle.patricia_rows.proofs.GetLemmas.{common_whole}

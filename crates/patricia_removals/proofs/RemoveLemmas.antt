@@ -1,5 +1,5 @@
 -- What a removal leaves at the place of its key.
-use Rattle.std.proofs.Common.{◌≡◌, ◌≢◌, inl, inr, ℕ, ◌+◌, ◌<◌, ◌≤◌, List, [], ◌∷◌, ◌++◌, length, set, Option, Some, None, get_or, slice_get, refl, sym, ap, subst, ◌∙◌, arith}
+use Rattle.std.proofs.Common.{◌≡◌, ℕ, ◌+◌, ◌<◌, ◌≤◌, List, [], ◌++◌, length, set, Option, Some, None, get_or, slice_get, refl, sym, ap, subst, ◌∙◌, arith}
 use Rattle.std.proofs.lemmas.List.{append-nil}
 use Rattle.std.proofs.lemmas.Option.{slice_get_within, get_or_from_slice_get}
 use Rattle.std.specs.Prelude.{Result, Ok, Err, OnOk, OnErr, true, is_some}
@@ -15,7 +15,7 @@ use Rattle.patricia_rows.specs.Points.{Joins}
 use Rattle.patricia_rows.specs.Private.Meeting.{Passes}
 use Rattle.patricia_rows.specs.Private.Removals.{others, width, without_first, IsLoneParent}
 use Rattle.patricia_nodes.specs.Private.Plans.{Plan, Nil, Cell, linked, head, row, Stands, IsPlan, Holds, IsWhole, plan_at, row_of, entries_of}
-use Rattle.patricia_nodes.specs.Private.Places.{Frame, InChild, InSibling, fill, node_of, Leads, Stops, Placed}
+use Rattle.patricia_nodes.specs.Private.Places.{fill, node_of, Stops, Placed}
 use Rattle.patricia_removals.specs.Private.Frees.{Unlinks, Absorbs, HasLeafAt, HasLone, Spares, LeavesOther, LeftAlone, StandsAt, HasNodeAt, IsLeaf, IsValued, HasValue, IsJoined, Removes}
 use Rattle.patricia_removals.proofs.AloneLemmas.{plan_end, plan_more}
 use Rattle.patricia_nodes.proofs.PlanLemmas.{plan_is, node_is}

@@ -1,6 +1,6 @@
 -- Rows outside a prefix, where the rows are made of others.
-use Rattle.std.proofs.Common.{◌≡◌, ◌≢◌, ℕ, ◌+◌, ◌⊎◌, inl, inr, Bool, true, false, not, cond, List, [], ◌∷◌, ◌++◌, length, Option, Some, None, refl, sym, ap, subst, ◌∙◌, arith}
-use Rattle.std.specs.Prelude.{◌↔◌, filter}
+use Rattle.std.proofs.Common.{◌≡◌, ◌≢◌, ℕ, ◌+◌, ◌⊎◌, inl, inr, Bool, true, false, not, cond, List, [], ◌∷◌, ◌++◌, length, Option, refl, sym, ap, ◌∙◌, arith}
+use Rattle.std.specs.Prelude.{◌↔◌}
 use Rattle.std.proofs.lemmas.List.Elements.{filter-append}
 use Rattle.patricia_keys.specs.Keys.{Begins, IsKeyKind}
 use Rattle.patricia_rows.specs.Points.{Has}
@@ -9,7 +9,7 @@ use Rattle.patricia_rows.specs.Private.Meeting.{SharesItem, Passes}
 use Rattle.patricia_rows.specs.Rows.{Row, node, prefixed, own, entries, IsBefore, IsRow}
 use Rattle.patricia_rows.proofs.RowLemmas.{AllKeys, AllKeys-prefixed}
 use Rattle.patricia_keys.proofs.KeyLemmas.{Begins-trans}
-use Rattle.patricia_rows.proofs.PrefixLemmas.{begins-front, begins_from, begins_is, begins_other, filter-prefixed, under_own, first_none, past_none}
+use Rattle.patricia_rows.proofs.PrefixLemmas.{begins-front, begins_from, filter-prefixed, under_own, first_none, past_none}
 use Rattle.patricia_rows.proofs.FilterLemmas.{has_filter, filter_has}
 
 module _ {V : Type 0} where

@@ -1,7 +1,7 @@
 -- A tree's entries as a finite map.
 use Rattle.std.proofs.Common.{◌≡◌, ◌↔◌, ℕ, ◌+◌, ◌≢◌, true, false, T, cond, not, List, [], ◌++◌, Option, Some, None, length, refl, sym, ap, subst, ◌∙◌, arith, length-append}
 use Rattle.std.specs.Option.{is_some, option_map}
-use Rattle.std.specs.FinMap.{FinMap, find, put, is_sorted, from_sorted, insert, remove, get, len, empty, entries-from_sorted, get-from_sorted, get-remove, entries-insert, same_entries_map, same_map, slice_cmp-IsAntisymmetric, nat_cmp-IsAntisymmetric, len-entries, len-empty}
+use Rattle.std.specs.FinMap.{find, put, is_sorted, from_sorted, insert, remove, get, len, empty, entries-from_sorted, get-from_sorted, get-remove, entries-insert, same_entries_map, same_map, slice_cmp-IsAntisymmetric, nat_cmp-IsAntisymmetric, len-entries, len-empty}
 use Rattle.std.proofs.lemmas.List.{nil_from_length}
 use Rattle.std.specs.FinMap as map
 use Rattle.std.specs.FinMap.Entries.{is_sorted-put, length-put, is_sorted-where_key, find-where_key, length_without}

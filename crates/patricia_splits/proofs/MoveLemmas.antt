@@ -1,9 +1,8 @@
 -- What is below a node moves out of its vector.
-use Rattle.std.proofs.Common.{◌≡◌, ◌≢◌, ℕ, suc, ◌+◌, ◌<◌, ◌≤◌, List, [], ◌∷◌, ◌++◌, length, set, Option, Some, None, get_or, slice_get, refl, sym, ap, ◌∙◌, arith, length-set}
-use Rattle.patricia_rows.specs.Rows.{node, end}
+use Rattle.std.proofs.Common.{◌≡◌, ◌≢◌, ℕ, ◌+◌, List, [], ◌∷◌, length, set, Option, None, slice_get, refl, ap, ◌∙◌, arith, length-set}
 use Rattle.patricia_nodes.specs.declared.slots.Node.{Node}
 use Rattle.patricia_nodes.specs.declared.slots.Slots.{Slots}
-use Rattle.patricia_nodes.specs.Private.Plans.{Plan, Nil, Cell, linked, head, row, size, count, one, below, times, Stands, Holds}
+use Rattle.patricia_nodes.specs.Private.Plans.{Plan, Nil, Cell, linked, head, count, one, below, times, Holds}
 use Rattle.patricia_nodes.specs.Private.Places.{Frame, fill, count_frames}
 use Rattle.patricia_nodes.specs.Private.Growth.{IsLaid, TakesBelow}
 use Rattle.patricia_nodes.specs.Private.Writes.{IsFree}
@@ -55,22 +54,21 @@ module _ {V : Type 0} (s : Slots V) (id : ℕ) (fs : List (Frame V)) (l : List �
     -- what is left is whole
     pub emptied : (first last : Slots V) → first.nodes.items ≡ set s.nodes.items id (linked l None None (head d)) → first.root ≡ s.root → first.free ≡ s.free → TakesBelow first last moved → Holds last (fill fs bare)
     emptied first last nodes_is root_is free_is takes =
-          let left = takes.freed h.0 (free_kept first.nodes.items nodes_is first.free free_is) (λ i. omega (arith, all i, below_le (length s.nodes.items) i)) in
-          let still : (i : ℕ) → count c i ≡ 0 → i ≢ id → slice_get last.nodes.items i ≡ slice_get s.nodes.items i = λ i none k. takes.others i (omega (arith, none)) ∙ kept first.nodes.items nodes_is i k in
-          let same : length last.nodes.items ≡ length s.nodes.items = takes.long ∙ long first.nodes.items nodes_is in
-          let outside : (i : ℕ) → count_frames fs i + count d i ≢ 0 → slice_get last.nodes.items i ≡ slice_get s.nodes.items i =
-          λ i some. still i (omega (arith, all i, below_le (length s.nodes.items) i, some)) (λ e. some (omega (arith, apart, ap (count_frames fs) e, ap (count d) e))) in
-          (
-            left.0,
-            sound-swap s.nodes.items last.nodes.items s.root last.root s.free last.free fs old bare h.0 left.0 h.1
-            (stands-refill s.nodes.items last.nodes.items fs old bare (λ i k. outside i (λ e. k (omega arith))) refl h.1.plan_ok.stands (
-              takes.others id (omega (arith, apart)) ∙ ap (λ xs. slice_get xs id) nodes_is ∙ get-set_same s.nodes.items id (linked l None None (head d)) (node_within s id fs l v c d h),
-              tt,
-              stands-keep s.nodes.items last.nodes.items d (λ i k. outside i (λ e. k (omega arith))) (stands-within s.nodes.items fs old h.1.plan_ok.stands).2,
-            ))
-            (takes.root_is ∙ root_is ∙ h.1.plan_ok.at_is ∙ head-refill fs bare old refl)
-            left.1.0
-            left.1.1
-            (λ i. omega (arith, left.2 i, ap (λ n. below n i) same))
-            (omega (arith, left.3, same)),
-          )
+        let left = takes.freed h.0 (free_kept first.nodes.items nodes_is first.free free_is) (λ i. omega (arith, all i, below_le (length s.nodes.items) i)) in
+        let still : (i : ℕ) → count c i ≡ 0 → i ≢ id → slice_get last.nodes.items i ≡ slice_get s.nodes.items i = λ i none k. takes.others i (omega (arith, none)) ∙ kept first.nodes.items nodes_is i k in
+        let same : length last.nodes.items ≡ length s.nodes.items = takes.long ∙ long first.nodes.items nodes_is in
+        let outside : (i : ℕ) → count_frames fs i + count d i ≢ 0 → slice_get last.nodes.items i ≡ slice_get s.nodes.items i =
+        λ i some. still i (omega (arith, all i, below_le (length s.nodes.items) i, some)) (λ e. some (omega (arith, apart, ap (count_frames fs) e, ap (count d) e))) in (
+          left.0,
+          sound-swap s.nodes.items last.nodes.items s.root last.root s.free last.free fs old bare h.0 left.0 h.1
+              (stands-refill s.nodes.items last.nodes.items fs old bare (λ i k. outside i (λ e. k (omega arith))) refl h.1.plan_ok.stands (
+                takes.others id (omega (arith, apart)) ∙ ap (λ xs. slice_get xs id) nodes_is ∙ get-set_same s.nodes.items id (linked l None None (head d)) (node_within s id fs l v c d h),
+                tt,
+                stands-keep s.nodes.items last.nodes.items d (λ i k. outside i (λ e. k (omega arith))) (stands-within s.nodes.items fs old h.1.plan_ok.stands).2,
+              ))
+              (takes.root_is ∙ root_is ∙ h.1.plan_ok.at_is ∙ head-refill fs bare old refl)
+              left.1.0
+              left.1.1
+              (λ i. omega (arith, left.2 i, ap (λ n. below n i) same))
+              (omega (arith, left.3, same)),
+        )

@@ -1,5 +1,5 @@
 -- What a split leaves, and what it takes out.
-use Rattle.std.proofs.Common.{◌≡◌, ◌≢◌, ℕ, suc, ◌+◌, ◌<◌, ◌≤◌, List, [], ◌∷◌, ◌++◌, length, take, drop, Option, Some, None, slice_get, refl, sym, ap, subst, ◌∙◌, arith, length-append}
+use Rattle.std.proofs.Common.{◌≡◌, ◌≢◌, ℕ, ◌<◌, ◌≤◌, List, [], ◌∷◌, ◌++◌, length, take, drop, Option, Some, None, slice_get, refl, sym, ap, subst, ◌∙◌, arith, length-append}
 use Rattle.std.proofs.lemmas.List.{append-nil, append_assoc, take_all}
 use Rattle.std.proofs.lemmas.Option.{slice_get_within}
 use Rattle.patricia_keys.specs.Keys.{Begins, IsKeyKind, IsValid}
@@ -26,8 +26,7 @@ use Rattle.patricia_queries.proofs.UnderLemmas.{within_node, stop_some}
 use Rattle.patricia_removals.specs.Private.Frees.{StandsAt, HasNodeAt, LeftAlone, LeavesOther, HasLone, IsJoined, Absorbs}
 use Rattle.patricia_removals.proofs.OtherLemmas.{left_plan, labels_are, other_gone}
 use Rattle.patricia_removals.proofs.TakeLemmas.{Gone, spared-fill}
-use Rattle.patricia_splits.specs.declared.splitting.Taken.{Taken}
-use Rattle.patricia_splits.specs.Private.Splits.{HasNode, HasTreeAt, CountsTree, MovesOut, IsTopLabel, Splits}
+use Rattle.patricia_splits.specs.Private.Splits.{HasNode, HasTreeAt, CountsTree, IsTopLabel, Splits}
 use Rattle.patricia_splits.proofs.MeasureLemmas.{length-prefixed}
 
 drop-front : (xs ys : List ℕ) → drop (length xs) (xs ++ ys) ≡ ys

@@ -1,6 +1,5 @@
 -- Where a walk over the rows under a prefix begins.
 use Rattle.std.specs.Prelude.{◌≡◌, ℕ, ◌≤◌, List, [], length, take, Option, Some, None}
-use Rattle.patricia_rows.specs.Rows.{Row}
 use Rattle.patricia_walks.specs.Private.Positions.{IsTop, row_at, rows_below}
 use Rattle.patricia_queries.specs.declared.under.Start.{Start}
 

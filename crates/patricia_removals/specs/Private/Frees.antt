@@ -1,5 +1,5 @@
 -- What is left of nodes in one vector where a node is freed.
-use Rattle.std.specs.Prelude.{◌≡◌, ◌≢◌, ◌⊎◌, ℕ, ◌≤◌, List, [], ◌∷◌, ◌++◌, Option, Some, None, MatchOption, slice_get, slice_set}
+use Rattle.std.specs.Prelude.{◌≡◌, ◌≢◌, ◌⊎◌, ℕ, ◌≤◌, List, [], ◌∷◌, ◌++◌, Option, Some, None, MatchOption, slice_get}
 use Rattle.patricia_nodes.specs.declared.slots.Node.{Node}
 use Rattle.patricia_nodes.specs.declared.slots.Slots.{Slots}
 use Rattle.patricia_nodes.specs.declared.slots.seek.Spot.{Spot}
@@ -7,7 +7,7 @@ use Rattle.patricia_nodes.specs.declared.slots.seek.Place.{Place}
 use Rattle.patricia_rows.specs.Rows.{IsRow, keys_of}
 use Rattle.patricia_rows.specs.Points.{Joins}
 use Rattle.patricia_rows.specs.Private.Removals.{others, width}
-use Rattle.patricia_nodes.specs.Private.Plans.{Plan, Nil, Cell, linked, row, Holds, IsWhole, row_of, entries_of}
+use Rattle.patricia_nodes.specs.Private.Plans.{Plan, Nil, Cell, row, Holds, IsWhole, row_of, entries_of}
 use Rattle.patricia_nodes.specs.Private.Places.{Frame, InChild, InSibling, fill, spot_of, IsPlace}
 
 module _ {V : Type 0} where

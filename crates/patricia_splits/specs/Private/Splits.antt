@@ -1,10 +1,9 @@
 -- What is left of nodes in one vector where those under a prefix are taken out.
-use Rattle.std.specs.Prelude.{◌≡◌, ℕ, ◌+◌, ◌≤◌, suc, List, [], ◌∷◌, ◌++◌, length, drop, Option, Some, slice_get, vec_capacity, map}
-use Rattle.std.specs.declared.vec.Vec.{Vec}
+use Rattle.std.specs.Prelude.{◌≡◌, ℕ, ◌≤◌, suc, List, ◌++◌, length, drop, Option, Some, slice_get}
 use Rattle.patricia_nodes.specs.declared.slots.Node.{Node}
 use Rattle.patricia_nodes.specs.declared.slots.Slots.{Slots}
 use Rattle.patricia_nodes.specs.declared.slots.seek.Spot.{Spot}
-use Rattle.patricia_nodes.specs.Private.Plans.{Plan, Nil, Cell, row, size, Holds, IsWhole, row_of, entries_of}
+use Rattle.patricia_nodes.specs.Private.Plans.{Plan, Cell, row, size, Holds, IsWhole, row_of, entries_of}
 use Rattle.patricia_nodes.specs.Private.Places.{Frame, fill, spot_of}
 use Rattle.patricia_rows.specs.Prefixes.{outside, under}
 use Rattle.patricia_rows.specs.Rows.{node, end, own, entries, IsRow}

@@ -1,4 +1,4 @@
-use Rattle.std.proofs.Common.{refl, sym, ap, arith, length, ◌∙◌, ◌-◌}
+use Rattle.std.proofs.Common.{sym, ap, arith, length, ◌∙◌, ◌-◌}
 use Rattle.patricia_queries.proofs.PlaceLemmas.{rest_within}
 use Rattle.patricia_queries.proofs.UnderLemmas.{place_top, place_rows, place_nothing, if_none}
 use Rattle.patricia_queries.proofs.under.find_start.Goals as goal

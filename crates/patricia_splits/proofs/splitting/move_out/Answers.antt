@@ -1,4 +1,4 @@
-use Rattle.std.proofs.Common.{◌++◌, [], ◌∷◌, None, refl, sym, ap, ◌∙◌, arith}
+use Rattle.std.proofs.Common.{[], None, refl, ap, ◌∙◌, arith}
 use Rattle.patricia_splits.proofs.NodeLemmas.{node_within, node_read}
 use Rattle.patricia_splits.proofs.MoveLemmas.{moved, bare_is, laid_top, emptied}
 use Rattle.patricia_splits.proofs.splitting.move_out.Goals as goal
@@ -17,8 +17,7 @@ move_below-requires g c =
     let bare = bare_is c.args.slots.now c.args.id h.0 h.1 h.2 h.3 h.4 h.6 c.args.label n is c.index.result c.index.ensures c.replace-child.new.dest (c.replace-child.ensures.after ∙ c.none.ensures) c.take-value.new.self c.take-value.ensures.after in
     let child = c.replace-child.ensures.value ∙ ap (λ m. m.child) is in
     let value = c.take-value.ensures.value ∙ ap (λ m. m.value) is in
-    let to = c.push_reserved.ensures.items ∙ rw (c.requires.empty, child, value, c.none-2.ensures) refl in
-    (
+    let to = c.push_reserved.ensures.items ∙ rw (c.requires.empty, child, value, c.none-2.ensures) refl in (
       moved c.args.slots.now c.args.id h.0 h.1 h.2 h.3 h.4 h.6 c.args.label,
       laid_top c.args.slots.now c.args.id h.0 h.1 h.2 h.3 h.4 h.6 c.args.label _ bare _ to,
       omega (arith, h.7, c.push_reserved.ensures.capacity),
@@ -46,8 +45,7 @@ returns g c fs l v child d at h =
     let to = c.push_reserved.ensures.items ∙ rw (c.requires.empty, first, value, c.none-2.ensures) refl in
     let laid = laid_top c.args.slots.now c.args.id fs l v child d h c.args.label _ bare _ to in
     let gone = emptied c.args.slots.now c.args.id fs l v child d h c.args.label _ c.move_below.new.self bare refl refl (c.move_below.ensures.taken _ laid) in
-    let q = c.move_below.ensures.laid _ laid in
-    (
+    let q = c.move_below.ensures.laid _ laid in (
       (c.unlink-none.ensures fs l None d at gone).0,
       (q.0, ([], rw (c.some.ensures, c.new.ensures, c.none-3.ensures) q.1), q.2),
     )

@@ -1,4 +1,4 @@
-use Rattle.std.proofs.Common.{◌+◌, ap, ◌∙◌, arith}
+use Rattle.std.proofs.Common.{◌+◌, ap, arith}
 use Rattle.patricia_splits.proofs.NodeLemmas.{own_as, node_within, tree_fits, values_fit, node_read, child_plan, tree_counted}
 use Rattle.patricia_splits.proofs.splitting.room_for.Goals as goal
 

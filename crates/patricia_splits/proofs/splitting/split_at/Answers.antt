@@ -1,4 +1,4 @@
-use Rattle.std.proofs.Common.{length, refl, sym, ap, ◌∙◌, arith}
+use Rattle.std.proofs.Common.{length, ap, arith}
 use Rattle.patricia_removals.proofs.RemoveLemmas.{on_err_from}
 use Rattle.patricia_splits.proofs.SplitLemmas.{found, has_node, has_node_at, has_tree_at, some_under, label_long, node_short, splits_spared, splits_other, other, both_short, other_lone, other_absorbed}
 use Rattle.patricia_splits.proofs.splitting.split_at.Goals as goal

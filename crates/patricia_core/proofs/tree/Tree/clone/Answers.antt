@@ -1,8 +1,7 @@
-use Rattle.std.proofs.Common.{◌≢◌, ◌++◌, sym, ap, subst, ◌∙◌}
+use Rattle.std.proofs.Common.{◌≢◌, sym, ap, subst, ◌∙◌}
 use Rattle.std.specs.Prelude.{map as list_map}
 use Rattle.std.specs.FinMap as map
 use Rattle.patricia_rows.specs.Clones.{AreKept}
-use Rattle.patricia_rows.specs.Rows.{own, entries}
 use Rattle.patricia_nodes.specs.Private.Plans.{row_of}
 use Rattle.patricia_rows.proofs.TreeLemmas.{entries_map, nothing_in}
 use Rattle.patricia_copies.proofs.KeptLemmas.{kept_parts}

@@ -1,4 +1,4 @@
-use Rattle.std.proofs.Common.{◌≡◌, ◌≢◌, [], ◌++◌, None, refl, sym, ap, ◌∙◌, arith, length}
+use Rattle.std.proofs.Common.{◌≢◌, [], ◌++◌, None, refl, sym, ap, ◌∙◌, arith, length}
 use mathlib.Core.Bool.{false≢true}
 use Rattle.std.specs.FinMap as map
 use Rattle.patricia_rows.specs.Prefixes.{outside, under}
@@ -66,7 +66,7 @@ returns-in-Err-clause-only_begun g c none =
     let p = g.Q.BorrowedBytes.key c.args.prefix in
     let some : p ≢ [] = λ e. absurd (false≢true (c.if-is_empty.ensures.1 e)) in
     c.in-Err.ensures.begun (
-      sym (under_filled p some c.self-2.inside.value (entries (row_of c.self-2.inside.slots)))
-      ∙ ap (under p) (sym (entries_map g.K.Bytes.item g.met.K.Bytes.lawful _ _ c.self-2.invariant.tree.row_ok) ∙ ap map.entries c.self-2.view_is)
-      ∙ none
+    sym (under_filled p some c.self-2.inside.value (entries (row_of c.self-2.inside.slots)))
+    ∙ ap (under p) (sym (entries_map g.K.Bytes.item g.met.K.Bytes.lawful _ _ c.self-2.invariant.tree.row_ok) ∙ ap map.entries c.self-2.view_is)
+    ∙ none
     )

@@ -1,8 +1,7 @@
 use Rattle.std.proofs.Common.{◌++◌, sym, ap, ◌∙◌}
 use Rattle.std.specs.FinMap as map
-use Rattle.patricia_rows.specs.Prefixes.{along, under}
+use Rattle.patricia_rows.specs.Prefixes.{under}
 use Rattle.patricia_rows.specs.Rows.{own, entries}
-use Rattle.patricia_rows.specs.Walks.{values_of}
 use Rattle.patricia_nodes.specs.Private.Plans.{row_of}
 use Rattle.patricia_rows.proofs.TreeLemmas.{entries_map}
 use Rattle.patricia_core.proofs.tree.Tree.under.Goals as goal

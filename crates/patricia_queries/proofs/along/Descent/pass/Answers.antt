@@ -1,4 +1,4 @@
-use Rattle.std.proofs.Common.{refl, sym, ap, ◌∙◌}
+use Rattle.std.proofs.Common.{refl, sym, ◌∙◌}
 use Rattle.patricia_queries.proofs.AlongLemmas.{moves_down, moves_past, moves_off, rest_is, less_is}
 use Rattle.patricia_queries.proofs.along.Descent.pass.Goals as goal
 
