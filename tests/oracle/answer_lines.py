@@ -64,6 +64,18 @@ def map_answers(m, call, words):
     return None
 
 
+def whole_answers(m, call, words):
+    """The answers to a call that makes a map of a part or of the whole, or None for another call."""
+    if call not in ('split', 'split_off', 'clone'):
+        return None
+    prefix = b'' if call == 'clone' else words[0]
+    made = {k: v for k, v in m.items() if k.startswith(prefix)}
+    left = dict(m) if call == 'clone' else {k: v for k, v in m.items() if k not in made}
+    m.clear()
+    m.update(left if call == 'split' else made)
+    return [*map(row, rows(made)), 'and', *map(row, rows(left))]
+
+
 def prefix_answers(m, kind, call, words):
     """The answers to a call about beginnings of keys, or None for another call."""
     if call == 'reach':
@@ -111,6 +123,8 @@ def main():
                 continue
             words = [argument(word) for word in rest[1:]]
             answers = map_answers(m, rest[0], words)
+            if answers is None:
+                answers = whole_answers(m, rest[0], words)
             if answers is None:
                 answers = prefix_answers(m, kind, rest[0], words)
             if answers is None:

@@ -2,17 +2,18 @@
 
     python3 -B tests/oracle/make_cases.py tests/cases
 
-For each kind of keys and each shape of SHAPES one random script KIND_SHAPE.in, from one seed; then
-for each NAME.in of the folder the answers NAME.out by model.py. A case with a NAME.status is left
-as it is.
+For each kind of keys and each shape of SHAPES one random script KIND_SHAPE.in, from one seed, and
+from another a short one of all words, KIND_two_maps.in; then for each NAME.in of the folder the
+answers NAME.out by model.py. A case with a NAME.status is left as it is.
 """
 import os
 import random
 import sys
 from model import answer
-from scripts import SHAPES, script
+from scripts import SHAPES, script, script_of_all
 
 SEED = 15
+SEED_OF_ALL = 14
 
 
 def write(path, data):
@@ -25,14 +26,20 @@ def read(path):
         return file.read()
 
 
+def write_script(folder, kind, name, data):
+    path = os.path.join(folder, '%s_%s' % (kind, name))
+    write(path + '.in', data)
+    if kind != 'bytes':
+        write(path + '.args', kind.encode() + b'\n')
+
+
 def main(folder):
-    rng = random.Random(SEED)
+    rng, rng_of_all = random.Random(SEED), random.Random(SEED_OF_ALL)
     for kind in 'bytes', 'text':
         for shape in SHAPES:
-            path = os.path.join(folder, '%s_%s' % (kind, shape))
-            write(path + '.in', script(rng, kind, shape, 130 if shape == 'long' else 400))
-            if kind != 'bytes':
-                write(path + '.args', kind.encode() + b'\n')
+            data = script(rng, kind, shape, 130 if shape == 'long' else 400)
+            write_script(folder, kind, shape, data)
+        write_script(folder, kind, 'two_maps', script_of_all(rng_of_all, kind, 'short', 60))
     for name in sorted(os.listdir(folder)):
         path, end = os.path.splitext(os.path.join(folder, name))
         if end == '.in' and not os.path.exists(path + '.status'):

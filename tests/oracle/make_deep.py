@@ -5,8 +5,9 @@
 bytes.in has 8,000 keys, each a beginning of the next, and text.in 30,000 keys of one character.
 They are put in from the last to the first, looked up, asked for what is under and along the last,
 listed, and taken out, the byte keys from the longest, so that each removal goes down to the last
-node, and the texts from the least. Then they are put in again, and dropped at the end. Each
-NAME.out is the answer by model.py.
+node, and the texts from the least. Then they are put in again and copied, the tree is split at the
+key in the middle, which drops the copy, what was taken is copied, and the two maps are dropped at
+the end. Each NAME.out is the answer by model.py.
 """
 import os
 import sys
@@ -17,6 +18,14 @@ NESTED = [b'a' * n for n in range(1, 8001)]
 CHARACTERS = [chr(0x4E00 + n).encode() for n in range(30000)]
 
 
+def two_maps(keys):
+    """A copy of the whole, a split in the middle, and a copy of what was taken, with look-ups."""
+    middle = keys[len(keys) // 2]
+    asked = [b'len', *(b'get\t' + key for key in (keys[0], middle, keys[-1]))]
+    split = [b'split\t' + middle, *asked, b'swap', *asked]
+    return [b'copy', *split, b'copy', b'remove\t' + middle, *asked, b'swap', *asked]
+
+
 def script(keys, removals):
     inserts = [b'insert\t%s\t%d' % (key, n) for n, key in reversed(list(enumerate(keys)))]
     past = keys[-1] + keys[0]
@@ -24,7 +33,7 @@ def script(keys, removals):
     queries = [b'longest\t' + past, b'reach\t' + past, b'under\t' + keys[-1], b'along\t' + past]
     removes = [b'remove\t' + key for key in removals]
     asked = [*look_ups, *queries, b'len', b'list']
-    lines = [*inserts, *asked, *removes, b'len', b'list', *inserts, b'len']
+    lines = [*inserts, *asked, *removes, b'len', b'list', *inserts, b'len', *two_maps(keys)]
     return b''.join(line + b'\n' for line in lines)
 
 

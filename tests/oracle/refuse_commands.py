@@ -12,14 +12,22 @@ import os
 import subprocess
 import sys
 import tempfile
-from model import along, answer, line_answer, lines, rows, under
+from model import Maps, along, answer, line_answer, lines, rows, under
 
-# What changes the map, and its list; and questions about prefixes, some of which find no row.
+LONG = b'bcd' * 20
+
+# What changes the map, and its list; questions about prefixes, some of which find no row; and what
+# changes the two maps, by a prefix that ends a key, one in a label, one in a label of more than 30
+# bytes, one that leaves one of two children, one under which there is nothing, and the empty one.
 SCRIPTS = [
     b'insert\t\t1\ninsert\tab\t2\ninsert\tac\t3\ninsert\tab\t4\nget\tac\nlist\n'
     b'remove\tab\nlen\nlist\nremove\t\nclear\nlist\n',
     b'under\t\ninsert\ta\t1\ninsert\tabc\t2\nunder\ta\nunder\tb\nalong\tb\n'
     b'along\tabcd\nlongest\tab\nlongest\tb\nreach\tabd\nreach\tb\nclear\nalong\ta\n',
+    b'copy\nsplit\ta\ninsert\t\t1\ninsert\tab\t2\ninsert\tac\t3\ninsert\t%s\t4\nsplit\tac\n'
+    b'list\nswap\nlist\nswap\nsplit\t%s\nlen\nswap\nlist\ncopy\nremove\t%s\nlist\nswap\n'
+    b'get\t%s\nsplit\tb\nlen\nsplit\t%s\nlen\nswap\nsplit\t\nlen\nswap\nlist\n'
+    % (LONG, LONG[:33], LONG, LONG, LONG[:3]),
 ]
 
 ERRORS = [b'ptree: read failed\n', b'ptree: out of memory\n']
@@ -57,20 +65,24 @@ def may_be_refused(m, line):
         return bool(under(m, fields[0]))
     if word == b'along':
         return bool(along(m, fields[0]))
+    if word == b'split':
+        return fields[0] != b'' and bool(under(m, fields[0]))
+    if word == b'copy':
+        return bool(m)
     return False
 
 
 def is_allowed(kind, data, output):
     """Whether the model allows the output, with at most one reply of no memory."""
-    m, rest, refusals = {}, lines(output), 0
+    maps, rest, refusals = Maps(), lines(output), 0
     for line in lines(data):
         if rest[:1] == [b'no memory']:
             refusals += 1
-            if refusals > 1 or not may_be_refused(m, line):
+            if refusals > 1 or not may_be_refused(maps.main, line):
                 return False
             rest = rest[1:]
             continue
-        wanted = line_answer(m, kind, line)
+        wanted = line_answer(maps, kind, line)
         if rest[:len(wanted)] != wanted:
             return False
         rest = rest[len(wanted):]

@@ -42,8 +42,10 @@ def key_maker(rng, kind, shape):
 SHAPES = 'short', 'shared', 'wide', 'nested', 'long', 'numbers'
 WEIGHTS = {b'insert': 40, b'remove': 16, b'get': 8, b'len': 2, b'list': 2, b'clear': .2,
            b'under': 5, b'along': 5, b'longest': 6, b'reach': 6}
+# each word with its weight among the others, where the two maps change too
+ALL_WEIGHTS = {**WEIGHTS, b'insert': 80, b'list': 4, b'split': 40, b'swap': 25, b'copy': 10}
 FIELDS = {b'insert': 2, b'remove': 1, b'get': 1, b'len': 0, b'list': 0, b'clear': 0,
-          b'under': 1, b'along': 1, b'longest': 1, b'reach': 1}
+          b'under': 1, b'along': 1, b'longest': 1, b'reach': 1, b'split': 1, b'swap': 0, b'copy': 0}
 NUMBERS = [b'0', b'1', b'007', b'18446744073709551615', b'00018446744073709551615']
 FAULTY = [b'', b'put\ta', b'get', b'len\t', b'insert\ta', b'insert\ta\t', b'insert\ta\tx',
           b'insert\ta\t-1', b'insert\ta\t18446744073709551616', b'get\ta\tb', b'Get\ta',
@@ -66,6 +68,26 @@ def near_key(rng, known, make, inserts):
     return near
 
 
+def command(rng, word, known, make, n):
+    """A command line of a word, with `n` as its number, if it has one."""
+    key = near_key(rng, known, make, word == b'insert')
+    if word == b'split':
+        key = key[:rng.randrange(1, 4)]
+    if word == b'insert' or rng.random() < .05:
+        known.append(key)
+    number = rng.choice(NUMBERS) if rng.random() < .05 else b'%d' % n
+    return b'\t'.join([word, b''.join(key), number][:1 + FIELDS[word]])
+
+
+def script_of_all(rng, kind, shape, size):
+    """`size` command lines, among them at least one of each word, and lists of both maps."""
+    make, known = key_maker(rng, kind, shape), [[]]
+    more = rng.choices(list(ALL_WEIGHTS), ALL_WEIGHTS.values(), k=size - len(ALL_WEIGHTS))
+    words = rng.sample([*ALL_WEIGHTS, *more], k=size)
+    out = [command(rng, word, known, make, n) for n, word in enumerate(words)]
+    return b''.join(line + b'\n' for line in [*out, b'list', b'swap', b'list'])
+
+
 def script(rng, kind, shape, size, faults=.03):
     """`size` command lines, then `len` and `list`; keys of queries are mostly near stored ones."""
     make, known, out = key_maker(rng, kind, shape), [[]], []
@@ -75,9 +97,5 @@ def script(rng, kind, shape, size, faults=.03):
             out.append(rng.choice(FAULTY))
             continue
         word = rng.choices(list(WEIGHTS), weights)[0]
-        key = near_key(rng, known, make, word == b'insert')
-        if word == b'insert' or rng.random() < .05:
-            known.append(key)
-        number = rng.choice(NUMBERS) if rng.random() < .05 else b'%d' % n
-        out.append(b'\t'.join([word, b''.join(key), number][:1 + FIELDS[word]]))
+        out.append(command(rng, word, known, make, n))
     return b''.join(line + b'\n' for line in [*out, b'len', b'list'])

@@ -8,6 +8,7 @@
 mod key_calls;
 mod map_calls;
 mod prefix_calls;
+mod whole_calls;
 mod words;
 
 use patricia_tree::GenericPatriciaMap;
@@ -22,6 +23,9 @@ fn answers<'a, Q: Readable<'a>>(
     call: &'a Call<'_>,
 ) -> Result<Vec<String>, AllocError> {
     if let Some(answers) = map_calls::answers::<Q>(alloc, map, call.name, &call.arguments)? {
+        return Ok(answers);
+    }
+    if let Some(answers) = whole_calls::answers::<Q>(alloc, map, call.name, &call.arguments)? {
         return Ok(answers);
     }
     match prefix_calls::answers::<Q>(alloc, map, call.name, &call.arguments)? {

@@ -115,7 +115,8 @@ fn removed<'a, Q: Readable<'a>>(
     Ok(answers)
 }
 
-fn rows<K: Bytes>(alloc: Global, map: &Map<K>) -> Result<Vec<String>, AllocError> {
+/// The entries of a map.
+pub fn rows<K: Bytes>(alloc: Global, map: &Map<K>) -> Result<Vec<String>, AllocError> {
     let mut answers = Vec::new(alloc);
     for entry in map {
         let (key, value) = entry?;
