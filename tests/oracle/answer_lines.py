@@ -65,7 +65,7 @@ def map_answers(m, call, words):
 
 
 def whole_answers(m, call, words):
-    """The answers to a call that makes a map of a part or of the whole, or None for another call."""
+    """The answers to a call that makes a part or the whole anew, or None for another call."""
     if call not in ('split', 'split_off', 'clone'):
         return None
     prefix = b'' if call == 'clone' else words[0]

@@ -1,4 +1,5 @@
-// Nodes that removals free are used again, so that the vector of nodes grows no further.
+// Nodes that removals and splits free are used again, so that the vector of nodes grows no further.
+// A copy has no free node.
 use patricia_core::keys::BorrowedBytes;
 use patricia_core::tree::Tree;
 use std::alloc::AllocError;
@@ -67,5 +68,72 @@ fn many_nodes(rt: HostRuntime) -> Result<(), Fail> {
         "foobar", "foobaz", "い", "", "あ", "あう", "う", "foo", "え", "お", "fox",
     ];
     repeat(&rt, &mut tree, &keys, 1_000, 12)?;
+    Ok(())
+}
+
+// Puts keys in, and takes those under a prefix out at once, into so many nodes.
+fn split_out<Q: BorrowedBytes>(
+    rt: &impl Abort,
+    tree: &mut Tree<Q::Owned, usize>,
+    keys: &[Q],
+    prefix: Q,
+    slots: usize,
+) -> Result<(), AllocError> {
+    put_all(rt, tree, keys)?;
+    assert_eq!(rt; tree.split(prefix)?.slots(), slots);
+    Ok(())
+}
+
+// The prefix takes all keys but the first, which is removed, or cleared away.
+fn split_often<Q: BorrowedBytes>(
+    rt: &impl Abort,
+    tree: &mut Tree<Q::Owned, usize>,
+    keys: &[Q],
+    prefix: Q,
+) -> Result<(), AllocError> {
+    let first = keys.get(..1).unwrap_or(keys);
+    for _ in 0..1_000 {
+        split_out(rt, tree, keys, prefix, 3)?;
+        remove_all(rt, tree, first)?;
+        assert!(rt; tree.is_empty());
+    }
+    assert_eq!(rt; tree.slots(), 4);
+    for _ in 0..1_000 {
+        split_out(rt, tree, keys, prefix, 3)?;
+        tree.clear();
+    }
+    assert!(rt; tree.slots() <= 4);
+    Ok(())
+}
+
+#[test]
+fn split_nodes(rt: HostRuntime) -> Result<(), Fail> {
+    let mut tree = Tree::new(rt.alloc());
+    split_often(&rt, &mut tree, &["x", "abc", "abd"], "ab")?;
+    Ok(())
+}
+
+// Puts keys in, takes one out, and asserts how many nodes a copy has.
+fn check_copy<Q: BorrowedBytes>(
+    rt: &impl Abort,
+    tree: &mut Tree<Q::Owned, usize>,
+    keys: &[Q],
+    removed: Q,
+    slots: usize,
+) -> Result<(), AllocError> {
+    put_all(rt, tree, keys)?;
+    assert!(rt; tree.remove(removed)?.is_some());
+    assert_eq!(rt; tree.clone()?.slots(), slots);
+    Ok(())
+}
+
+#[test]
+fn copied_nodes(rt: HostRuntime) -> Result<(), Fail> {
+    let mut tree = Tree::new(rt.alloc());
+    check_copy(&rt, &mut tree, &["a", "b", "c"], "b", 2)?;
+    tree.clear();
+    check_copy(&rt, &mut tree, &["foobar", "foobaz", "", "あ"], "foobaz", 2)?;
+    tree.clear();
+    check_copy(&rt, &mut tree, &["foo"], "foo", 0)?;
     Ok(())
 }
