@@ -56,6 +56,24 @@ fn longest(map: &Map, keys: &[&[u8]]) -> u64 {
     bytes
 }
 
+// The first key after all those that begin with a prefix.
+fn end(prefix: &[u8]) -> Option<Vec<u8>> {
+    let last = prefix.iter().rposition(|byte| *byte < 255)?;
+    let mut end = prefix[..=last].to_vec();
+    end[last] += 1;
+    Some(end)
+}
+
+// Takes out the entries that begin with a prefix: the map is cut before and behind them, and what
+// stands behind them is put back.
+fn split_by_prefix(map: &mut Map, prefix: &[u8]) -> Map {
+    let mut part = map.split_off(prefix);
+    if let Some(end) = end(prefix) {
+        map.append(&mut part.split_off(end.as_slice()));
+    }
+    part
+}
+
 fn taken(map: &mut Map, keys: &[&[u8]]) -> u64 {
     keys.iter().filter(|key| map.remove(**key).is_some()).count() as u64
 }
@@ -83,6 +101,25 @@ fn shuffle(keys: &mut [&[u8]], seed: u64) {
     }
 }
 
+// A prefix of about a tenth of the sorted keys: the nearest to it of the beginnings of eight keys.
+fn tenth<'a>(keys: &[&'a [u8]]) -> &'a [u8] {
+    let tenth = keys.len() / 10;
+    let mut best: (&[u8], usize) = (&[], keys.len());
+    for key in (0..8).filter_map(|eighth| keys.get(eighth * (keys.len() / 8))) {
+        for len in 1..=key.len() {
+            let begun = keys.iter().filter(|other| other.starts_with(&key[..len])).count();
+            if begun.abs_diff(tenth) < best.1 {
+                best = (&key[..len], begun.abs_diff(tenth));
+            }
+            // a longer prefix begins no more keys
+            if begun <= tenth {
+                break;
+            }
+        }
+    }
+    best.0
+}
+
 // The bytes that a line of /proc/self/status names.
 fn memory(name: &str) -> u64 {
     let status = std::fs::read_to_string("/proc/self/status").unwrap();
@@ -99,7 +136,18 @@ fn report(times: bool, name: &str, start: Instant, calls: usize, answer: u64) {
     }
 }
 
-fn measure(times: bool, present: &mut [&[u8]], absent: &[&[u8]]) {
+// Copies the map, and takes a part out of the copy.
+fn time_copies(times: bool, map: &Map, prefix: &[u8]) {
+    let start = Instant::now();
+    let mut copy = map.clone();
+    report(times, "clone", start, map.len(), copy.len() as u64);
+    let start = Instant::now();
+    let part = split_by_prefix(&mut copy, prefix);
+    report(times, "split_by_prefix", start, part.len(), part.len() as u64);
+    println!("share {}", part.len() * 1000 / map.len().max(1));
+}
+
+fn measure(times: bool, present: &mut [&[u8]], absent: &[&[u8]], prefix: &[u8]) {
     let before = memory("VmRSS:");
     let mut map = Map::new();
     let start = Instant::now();
@@ -122,6 +170,7 @@ fn measure(times: bool, present: &mut [&[u8]], absent: &[&[u8]]) {
     report(times, "under", start, some.len(), under(&map, some));
     let start = Instant::now();
     report(times, "longest", start, some.len(), longest(&map, some));
+    time_copies(times, &map, prefix);
     let start = Instant::now();
     report(times, "remove", start, present.len(), taken(&mut map, present));
 
@@ -141,8 +190,10 @@ fn main() {
     let mut input = Vec::new();
     std::io::stdin().read_to_end(&mut input).unwrap();
     let (mut present, mut absent) = read_keys(&input);
+    present.sort_unstable();
+    let prefix = tenth(&present);
     shuffle(&mut present, 1);
     shuffle(&mut absent, 2);
     println!("keys {}", present.len());
-    measure(times, &mut present, &absent);
+    measure(times, &mut present, &absent, prefix);
 }

@@ -30,6 +30,7 @@ for kind in titles domains hex; do
     echo "|---|---|---|---|"
     awk '
         $2 == "keys" { next }
+        $2 == "share" { share = $3; next }
         !(($1, $2) in best) { if ($1 == "map") names[++n] = $2; best[$1, $2] = $3 }
         $3 < best[$1, $2] { best[$1, $2] = $3 }
         END {
@@ -37,6 +38,7 @@ for kind in titles domains hex; do
                 map = best["map", names[i]]; btree = best["btree", names[i]]
                 printf "| %s | %d | %d | %.2f |\n", names[i], map, btree, map / (btree > 0 ? btree : 1)
             }
+            printf "\nsplit_by_prefix takes out %d of 1,000 entries.\n", share
         }' "$room/figures"
     echo
 done

@@ -40,3 +40,48 @@ pub fn halves<'a>(alloc: Global, keys: &[&'a [u8]]) -> Result<Vec<&'a [u8]>, All
     }
     Ok(halves)
 }
+
+// How many keys begin with a prefix.
+fn begun(keys: &[&[u8]], prefix: &[u8]) -> usize {
+    let mut begun: usize = 0;
+    for key in keys {
+        if key.starts_with(prefix) {
+            begun = begun.wrapping_add(1);
+        }
+    }
+    begun
+}
+
+// A prefix, and by how many keys those that begin with it differ from a tenth of all.
+type Share<'a> = (&'a [u8], usize);
+
+// The beginning of a key that is nearer to a tenth than the best so far, or else that.
+fn nearer<'a>(keys: &[&'a [u8]], key: &'a [u8], best: Share<'a>) -> Share<'a> {
+    let tenth = keys.len() / 10;
+    let mut nearest = best;
+    for len in 0..key.len() {
+        let prefix = &key[..len + 1];
+        let begun = begun(keys, prefix);
+        let off = begun.abs_diff(tenth);
+        if off < nearest.1 {
+            nearest = (prefix, off);
+        }
+        // a longer prefix begins no more keys
+        if begun <= tenth {
+            break;
+        }
+    }
+    nearest
+}
+
+/// A prefix of about a tenth of the keys: the nearest to it of the beginnings of eight keys. The
+/// keys are sorted, and the eight lie evenly among them.
+pub fn tenth<'a>(keys: &[&'a [u8]]) -> &'a [u8] {
+    let mut best: Share<'a> = (&[], keys.len());
+    for eighth in 0..8usize {
+        if let Some(key) = keys.get(eighth.wrapping_mul(keys.len() / 8)) {
+            best = nearer(keys, key, best);
+        }
+    }
+    best.0
+}

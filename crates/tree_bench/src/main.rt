@@ -1,13 +1,14 @@
 //! tree_bench [times]: counts the answers of a map for the keys of its input, or times its calls.
 //!
 //! The input has a key a line. The keys of every other line are put in, the rest are only asked
-//! for. With the word `times` each line of the output has nanoseconds a call, or bytes a key.
+//! for. With the word `times` each line of the output has nanoseconds a call or an entry, or bytes
+//! a key; `share` has the thousandths of the entries that `split_by_prefix` takes out.
 #![tactic(auto)]
 
 mod keys;
 mod memory;
 
-use keys::{halves, read_keys, shuffle};
+use keys::{halves, read_keys, shuffle, tenth};
 use memory::memory;
 use patricia_tree::{BorrowedBytes, Bytes, GenericPatriciaMap, PatriciaMap};
 use std::alloc::AllocError;
@@ -173,6 +174,44 @@ fn time_prefixes<Q: BorrowedBytes>(
     report(rt, times, "longest", start, keys.len(), bytes)
 }
 
+// Copies the map.
+fn time_clone<K: Bytes>(
+    rt: &(impl Clock + Print),
+    times: bool,
+    map: &GenericPatriciaMap<K, u64>,
+) -> io::Result<GenericPatriciaMap<K, u64>> {
+    let start = Instant::now(rt)?;
+    let copy = map.clone()?;
+    report(rt, times, "clone", start, map.len(), copy.len() as u64)?;
+    Ok(copy)
+}
+
+// Takes the entries out that begin with the prefix, and says how many of 1,000 these are.
+fn time_split<Q: BorrowedBytes>(
+    rt: &(impl Clock + Print),
+    times: bool,
+    map: &mut GenericPatriciaMap<Q::Owned, u64>,
+    prefix: Q,
+) -> io::Result<()> {
+    let whole = map.len().max(1) as u128;
+    let start = Instant::now(rt)?;
+    let part = map.split_by_prefix(prefix)?;
+    let count = part.len();
+    report(rt, times, "split_by_prefix", start, count, count as u64)?;
+    println!(rt; "share {}", count as u128 * 1000 / whole)
+}
+
+// Copies the map, and takes a part out of the copy.
+fn time_copies<Q: BorrowedBytes>(
+    rt: &(impl Clock + Print),
+    times: bool,
+    map: &GenericPatriciaMap<Q::Owned, u64>,
+    prefix: Q,
+) -> io::Result<()> {
+    let mut copy = time_clone(rt, times, map)?;
+    time_split(rt, times, &mut copy, prefix)
+}
+
 fn time_removes<Q: BorrowedBytes>(
     rt: &(impl Clock + Print),
     times: bool,
@@ -184,11 +223,11 @@ fn time_removes<Q: BorrowedBytes>(
     report(rt, times, "remove", start, keys.len(), taken)
 }
 
-// Calls each method but `insert` for all keys in turn.
-fn time_calls<Q: BorrowedBytes>(
+// Looks all keys up, and calls each walk.
+fn time_reads<Q: BorrowedBytes>(
     rt: &(impl Clock + Print),
     times: bool,
-    map: &mut GenericPatriciaMap<Q::Owned, u64>,
+    map: &GenericPatriciaMap<Q::Owned, u64>,
     present: &[Q],
     absent: &[Q],
     halves: &[Q],
@@ -197,8 +236,24 @@ fn time_calls<Q: BorrowedBytes>(
     time_gets(rt, times, "get_absent", map, absent)?;
     time_walks(rt, times, map)?;
     let some = &absent[..halves.len().min(absent.len())];
-    time_prefixes(rt, times, map, some, halves)?;
-    time_removes(rt, times, map, present)
+    time_prefixes(rt, times, map, some, halves)
+}
+
+// Fills the map, and answers the memory of a key and the most of it.
+fn fill<Q: BorrowedBytes>(
+    rt: &(impl Clock + Files + Alloc + Print),
+    times: bool,
+    map: &mut GenericPatriciaMap<Q::Owned, u64>,
+    keys: &[Q],
+) -> io::Result<(u64, u64)> {
+    let before = memory(rt, "VmRSS:");
+    let count = time_puts(rt, times, "insert", map, keys)?.max(1);
+    let after = memory(rt, "VmRSS:");
+    let peak = memory(rt, "VmHWM:");
+    Ok((
+        after.saturating_sub(before) / count,
+        peak.saturating_sub(before) / count,
+    ))
 }
 
 // Calls each method for all keys in turn, and answers the memory of a key and the most of it.
@@ -208,18 +263,15 @@ fn measure<Q: BorrowedBytes>(
     present: &mut [Q],
     absent: &[Q],
     halves: &[Q],
+    prefix: Q,
 ) -> io::Result<(u64, u64)> {
-    let before = memory(rt, "VmRSS:");
     let mut map: GenericPatriciaMap<Q::Owned, u64> = GenericPatriciaMap::new(rt.alloc());
-    let keys = time_puts(rt, times, "insert", &mut map, present)?.max(1);
-    let after = memory(rt, "VmRSS:");
-    let peak = memory(rt, "VmHWM:");
+    let memory = fill(rt, times, &mut map, present)?;
     shuffle(present, 3);
-    time_calls(rt, times, &mut map, present, absent, halves)?;
-    Ok((
-        after.saturating_sub(before) / keys,
-        peak.saturating_sub(before) / keys,
-    ))
+    time_reads(rt, times, &map, present, absent, halves)?;
+    time_copies(rt, times, &map, prefix)?;
+    time_removes(rt, times, &mut map, present)?;
+    Ok(memory)
 }
 
 // Puts the keys in in their order.
@@ -234,9 +286,18 @@ fn put_sorted(
     Ok(())
 }
 
-fn report_memory(rt: &impl Print, memory: u64, peak: u64) -> io::Result<()> {
-    println!(rt; "memory {memory}")?;
-    println!(rt; "peak {peak}")
+fn report_memory(rt: &impl Print, memory: (u64, u64)) -> io::Result<()> {
+    println!(rt; "memory {}", memory.0)?;
+    println!(rt; "peak {}", memory.1)
+}
+
+// Brings the keys into the order in which they are put in, and answers a prefix of a tenth.
+fn prepare<'k>(present: &mut [&'k [u8]], absent: &mut [&'k [u8]]) -> &'k [u8] {
+    present.sort_unstable();
+    let prefix = tenth(present);
+    shuffle(present, 1);
+    shuffle(absent, 2);
+    prefix
 }
 
 // Measures the calls with the keys of one half put in.
@@ -246,14 +307,13 @@ fn measure_halves<'k>(
     present: &mut [&'k [u8]],
     absent: &mut [&'k [u8]],
 ) -> io::Result<()> {
-    shuffle(present, 1);
-    shuffle(absent, 2);
+    let prefix = prepare(present, absent);
     println!(rt; "keys {}", present.len())?;
     let halves = halves(rt.alloc(), &absent[..absent.len().min(100_000)])?;
-    let (memory, peak) = measure(rt, times, present, absent, &halves)?;
+    let memory = measure(rt, times, present, absent, &halves, prefix)?;
     put_sorted(rt, times, present)?;
     if times {
-        report_memory(rt, memory, peak)?;
+        report_memory(rt, memory)?;
     }
     Ok(())
 }
