@@ -213,8 +213,10 @@ impl<K: Bytes, V: Drop> Tree<K, V> {
     /// Takes out the entries whose key begins with a prefix, as a tree of their own. The error is
     /// want of memory.
     pub fn split<Q: BorrowedBytes<Owned = K>>(&mut self, prefix: Q) -> Result<Self, AllocError>
-        ensures taken { IfOk result (λ t. map.entries t ≡ under (Q.key prefix) (map.entries self.old)) }
-        ensures left { OnOk result (map.entries self.new ≡ outside (Q.key prefix) (map.entries self.old)) }
+        ensures taken { IfOk result (λ t.
+            map.entries t ≡ under (Q.key prefix) (map.entries self.old)) }
+        ensures left { OnOk result (
+            map.entries self.new ≡ outside (Q.key prefix) (map.entries self.old)) }
         ensures unchanged { OnErr result (self.new ≡ self.old) }
         ensures only_filled { OnErr result (Q.key prefix ≢ []) }
         ensures only_begun { OnErr result (under (Q.key prefix) (map.entries self.old) ≢ []) }
@@ -262,7 +264,8 @@ impl<K: Bytes, V: Drop> Tree<K, V> {
 
     /// The entry of the longest key that begins a key. The key handed out is a part of that key.
     pub fn longest<Q: BorrowedBytes<Owned = K>>(&self, key: Q) -> Option<(Q, &V)>
-        ensures row { option_map (λ e. (Q.key e.0, e.1.now)) result ≡ longest (Q.key key) (map.entries self.now) }
+        ensures row { option_map (λ e. (Q.key e.0, e.1.now)) result
+            ≡ longest (Q.key key) (map.entries self.now) }
         ensures part { IfSome result (λ e. Begins (Q.key e.0) (Q.key key)) }
     {
         let mut rest = self.along(key);

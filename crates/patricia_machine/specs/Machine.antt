@@ -98,7 +98,8 @@ abbrev pub FindsLongest : {K V : Type 0} → State V → List ℕ → Reply K V 
 FindsLongest old key Replies.None new =
     (longest key (map.entries old.main) ≡ None) × (new ≡ old)
 FindsLongest {V = V} old key (Replies.Longest n found) new =
-    ((prefix : List ℕ) × (length prefix ≡ n) × (longest key (map.entries old.main) ≡ Some (prefix, found)))
+    ((prefix : List ℕ) × (length prefix ≡ n)
+    × (longest key (map.entries old.main) ≡ Some (prefix, found)))
     × (new ≡ old)
 FindsLongest old key _ new = ⊥
 

@@ -145,7 +145,8 @@ impl<K: Bytes, V: Copy> Bench<K, V> {
 
     // Lists the entries under a prefix.
     fn under<Q: BorrowedBytes<Owned = K>>(&self, prefix: Q) -> Reply<K, V>
-        ensures { Shows K.key (under (Q.key prefix) (map.entries self.now.main)) self.now result self.now }
+        ensures { Shows K.key (under (Q.key prefix) (map.entries self.now.main))
+            self.now result self.now }
     {
         match rows_under(self.alloc, &self.main, prefix) {
             Ok(rows) => Reply::Rows(rows),
@@ -155,7 +156,8 @@ impl<K: Bytes, V: Copy> Bench<K, V> {
 
     // Lists the entries along a key.
     fn along<Q: BorrowedBytes<Owned = K>>(&self, key: Q) -> Reply<K, V>
-        ensures { Shows K.key (along (Q.key key) (map.entries self.now.main)) self.now result self.now }
+        ensures { Shows K.key (along (Q.key key) (map.entries self.now.main))
+            self.now result self.now }
     {
         match rows_along(self.alloc, &self.main, key) {
             Ok(rows) => Reply::Rows(rows),

@@ -94,7 +94,8 @@ fn top_label<V: Drop>(
     passed: usize,
 ) -> Result<Label, AllocError>
     requires within { id < vec_len slots.now.nodes }
-    requires passed { (n : NodeOf V) → slice_get slots.now.nodes.items id ≡ Some n → passed ≤ length n.label }
+    requires passed { (n : NodeOf V) → slice_get slots.now.nodes.items id ≡ Some n
+        → passed ≤ length n.label }
     ensures { IfOk result (λ label. IsTopLabel slots.now id prefix.now passed label) }
 {
     let label = slots.nodes[id.index()].label.as_slice();

@@ -118,7 +118,8 @@ impl<K: Bytes, V: Drop> GenericPatriciaMap<K, V> {
     /// The key handed out is a part of the key that is passed, and does not borrow the map. It takes
     /// no memory.
     pub fn get_longest_common_prefix<Q: BorrowedBytes<Owned = K>>(&self, key: Q) -> Option<(Q, &V)>
-        ensures row { option_map (λ e. (Q.key e.0, e.1.now)) result ≡ longest (Q.key key) (map.entries self.now) }
+        ensures row { option_map (λ e. (Q.key e.0, e.1.now)) result
+            ≡ longest (Q.key key) (map.entries self.now) }
         ensures part { IfSome result (λ e. Begins (Q.key e.0) (Q.key key)) }
     {
         self.tree.longest(key)
@@ -228,8 +229,10 @@ impl<K: Bytes, V: Drop> GenericPatriciaMap<K, V> {
         &mut self,
         prefix: Q,
     ) -> Result<Self, AllocError>
-        ensures taken { IfOk result (λ m. map.entries m ≡ under (Q.key prefix) (map.entries self.old)) }
-        ensures left { OnOk result (map.entries self.new ≡ outside (Q.key prefix) (map.entries self.old)) }
+        ensures taken { IfOk result (λ m.
+            map.entries m ≡ under (Q.key prefix) (map.entries self.old)) }
+        ensures left { OnOk result (
+            map.entries self.new ≡ outside (Q.key prefix) (map.entries self.old)) }
         ensures unchanged { OnErr result (self.new ≡ self.old) }
         ensures only_filled { OnErr result (Q.key prefix ≢ []) }
         ensures only_begun { OnErr result (under (Q.key prefix) (map.entries self.old) ≢ []) }
