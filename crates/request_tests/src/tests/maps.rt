@@ -3,6 +3,7 @@ ghost use Rattle.std.specs.Prelude.{◌≡◌, ◌<◌};
 use super::helpers::map_of;
 use patricia_tree::{BorrowedBytes, Bytes, GenericPatriciaMap, Steps};
 use std::alloc::{AllocError, Global};
+use std::iter;
 use std::marker::Brand;
 use std::process::Abort;
 use std::sync::ledger::{Blank, Ledger};
@@ -127,6 +128,72 @@ fn change_each<Q: BorrowedBytes>(
     Ok(())
 }
 
+// Splits by prefixes under which there is nothing. Those that begin a key are left out.
+fn split_all<Q: BorrowedBytes>(
+    map: &mut GenericPatriciaMap<Q::Owned, u64>,
+    prefixes: &[Q],
+) -> Result<(), AllocError> {
+    for prefix in prefixes {
+        if map.longest_common_prefix_len(*prefix) < prefix.as_bytes().len() {
+            drop(map.split_by_prefix(*prefix)?);
+        }
+    }
+    Ok(())
+}
+
+// Puts each key in by a call that takes pairs.
+fn extend_all<Q: BorrowedBytes>(
+    map: &mut GenericPatriciaMap<Q::Owned, u64>,
+    keys: &[Q],
+) -> Result<(), AllocError> {
+    for key in keys {
+        map.extend(iter::once((*key, key.as_bytes().len() as u64)))?;
+    }
+    Ok(())
+}
+
+// Hands the map over by the empty prefix, and takes it back.
+fn hand_over<Q: BorrowedBytes>(
+    rt: &impl Abort,
+    map: &mut GenericPatriciaMap<Q::Owned, u64>,
+    empty: &[Q],
+) -> Result<(), AllocError> {
+    for prefix in empty {
+        let taken = map.split_by_prefix(*prefix)?;
+        assert!(rt; map.clone()?.is_empty());
+        *map = taken;
+    }
+    Ok(())
+}
+
+// Makes a map of the empty key alone by a call that takes pairs.
+fn make_of_pairs<Q: BorrowedBytes>(
+    rt: &impl Abort,
+    alloc: Global,
+    empty: &[Q],
+) -> Result<(), AllocError> {
+    for key in empty {
+        let map = GenericPatriciaMap::from_iter(alloc, iter::once((*key, 1)))?;
+        assert_eq!(rt; map.get(*key).copied(), Some(1));
+    }
+    Ok(())
+}
+
+// The calls on whole maps. The map ends as it was.
+fn take_each<Q: BorrowedBytes>(
+    rt: &impl Abort,
+    alloc: Global,
+    map: &mut GenericPatriciaMap<Q::Owned, u64>,
+    keys: &Keys<'_, Q>,
+) -> Result<(), AllocError> {
+    split_all(map, keys.absent)?;
+    extend_all(map, keys.stored)?;
+    hand_over(rt, map, keys.empty)?;
+    make_of_pairs(rt, alloc, keys.empty)?;
+    assert_eq!(rt; map.len(), keys.stored.len());
+    Ok(())
+}
+
 // Makes two maps, and then each call.
 fn call_all<Q: BorrowedBytes>(
     rt: &impl Abort,
@@ -136,6 +203,7 @@ fn call_all<Q: BorrowedBytes>(
     let mut map = map_of(alloc, keys.stored)?;
     clear_whole(rt, map_of(alloc, keys.stored)?);
     look_up_each(rt, &map, keys);
+    take_each(rt, alloc, &mut map, keys)?;
     change_each(rt, &mut map, keys)?;
     make_walks(rt, alloc, map);
     Ok(())
