@@ -291,10 +291,15 @@ fn report_memory(rt: &impl Print, memory: (u64, u64)) -> io::Result<()> {
     println!(rt; "peak {}", memory.1)
 }
 
+// Sorts the keys, and answers a prefix of a tenth.
+fn tenth_of_sorted<'k>(keys: &mut [&'k [u8]]) -> &'k [u8] {
+    keys.sort_unstable();
+    tenth(keys)
+}
+
 // Brings the keys into the order in which they are put in, and answers a prefix of a tenth.
 fn prepare<'k>(present: &mut [&'k [u8]], absent: &mut [&'k [u8]]) -> &'k [u8] {
-    present.sort_unstable();
-    let prefix = tenth(present);
+    let prefix = tenth_of_sorted(present);
     shuffle(present, 1);
     shuffle(absent, 2);
     prefix
