@@ -4,7 +4,8 @@
 
 A label of at most 30 bytes stands in its node, and a longer one in memory of its own. Labels of 1
 to 33 bytes, and of about 255, are linked before, behind and below others, cut, joined again, looked
-up, walked over, along and under, and taken out. What must be answered is what answer_lines.py says.
+up, walked over, along and under, copied, parted by prefixes, and taken out. What must be answered is
+what answer_lines.py says.
 """
 LENGTHS = [*range(1, 34), *range(254, 258)]
 # a front or a rest of so many bytes is cut off a label of about 255
@@ -96,13 +97,31 @@ def cut(items, at):
     ]
 
 
+def parted(items, at):
+    """A branch is taken out, so that a label is joined again, and then what begins as the branch."""
+    whole, front, rest = key(items), key(items[:at]), items[at:]
+    branch = front + greater(rest[0])
+    near = ' '.join([whole, front, branch])
+    return [
+        'insert %s 1 %s 2' % (whole, branch),
+        'clone',
+        'split %s' % branch,
+        'get %s' % near,
+        'split_off %s' % front,
+        'get %s' % near,
+        'insert %s 3' % branch,
+        'split %s' % front,
+        'len',
+    ]
+
+
 def calls(kind, length):
     items = label(kind, length)
     answers = linked(items)
     for at in range(1, len(items)):
         front = len(key(items[:at]).encode())
         if length <= 33 or front in NEAR or length - front in NEAR:
-            answers += cut(items, at)
+            answers += cut(items, at) + parted(items, at)
     return answers
 
 
