@@ -1,4 +1,5 @@
 pub mod Clones
+pub mod Cursors
 pub mod Laws
 pub mod Points
 pub mod Prefixes

@@ -1,0 +1,66 @@
+-- How far a cursor has come over a tree.
+use Rattle.std.specs.Prelude.{◌≡◌, ◌≢◌, ◌<◌, ◌≤◌, ℕ, List, [], length, take, Option, Some, None}
+use Rattle.patricia_keys.specs.Keys.{IsValid}
+use Rattle.patricia_rows.specs.Cursors.{Standing, after}
+use Rattle.patricia_rows.specs.Prefixes.{under}
+use Rattle.patricia_rows.specs.Rows.{IsRow}
+use Rattle.patricia_rows.specs.Trees.{map_of, IsTree}
+use Rattle.patricia_rows.specs.Private.Spots.{left}
+use Rattle.patricia_nodes.specs.declared.slots.Node.{Node}
+use Rattle.patricia_nodes.specs.Private.Plans.{IsWhole, IsPlan, row_of, plan_at, count}
+use Rattle.patricia_walks.specs.Private.Positions.{Position, IsPosition, spot_of, row_at, rows_below}
+use Rattle.patricia_cursors.specs.declared.trail.Holder.{Holder}
+use Rattle.patricia_cursors.specs.declared.trail.Trail.{Trail}
+use Rattle.patricia_cursors.specs.Private.Holders.{numbered, holders, key_at}
+
+-- the key of a holder
+abbrev pub key_of : List (List ℕ × Holder) → Option Holder → Option (List ℕ)
+key_of rows None = None
+key_of rows (Some h) = key_at rows h
+
+module _ {V : Type 0} where
+  -- its place in the walk over the holders
+  abbrev pub seen : Trail V → Position Holder
+  seen t = record {
+    nodes = numbered 0 t.slots.nodes.items;
+    path = t.path.items;
+    due = t.due;
+    next = t.next;
+    stack = t.stack.items;
+  }
+
+  -- the keys that are left, with who holds their values
+  abbrev pub left_of : Trail V → List (List ℕ × Holder)
+  left_of t = left (spot_of (seen t))
+
+  -- the tree stays, and so does the holder that was lent last
+  pub record Stays (t u : Trail V) : Type 0 where
+    pub value : u.value ≡ t.value
+    pub slots : u.slots ≡ t.slots
+    pub count : u.count ≡ t.count
+    pub last : u.last ≡ t.last
+
+  -- the key that was lent last
+  abbrev pub last_key : Trail V → Option (List ℕ)
+  last_key t = key_of (holders t.value t.slots) t.last
+
+  -- what a caller sees
+  abbrev pub standing : Trail V → List ℕ → Standing V
+  standing t prefix = record { map = map_of t.value (row_of t.slots); prefix = prefix; last = last_key t }
+
+module _ (item : List ℕ → Type 0) {V : Type 0} where
+  -- the tree is whole, and what was lent last is in it
+  pub record IsHeld (t : Trail V) : Type 0 where
+    pub whole : IsWhole t.slots
+    pub tree : IsTree item (row_of t.slots) t.count
+    pub known : (h : Holder) → t.last ≡ Some h → key_at (holders t.value t.slots) h ≢ None
+
+  -- these are the rows behind the key that was lent last, below the prefix
+  abbrev pub AreLeft : Trail V → List ℕ → List (List ℕ × Holder) → Type 0
+  AreLeft t prefix rows = rows ≡ after (last_key t) (under prefix (holders t.value t.slots))
+
+  -- the walk has left what the cursor has still to lend
+  pub record IsTrail (t : Trail V) (prefix : List ℕ) : Type 0 where
+    pub held : IsHeld t
+    pub position : IsPosition item (seen t)
+    pub left_is : AreLeft t prefix (left_of t)

@@ -1,0 +1,5 @@
+//! Cursors: walks over a tree that they own, which lend its values one at a time.
+#![tactic(auto)]
+
+pub mod cursor;
+mod trail;
