@@ -1,1 +1,171 @@
-//! Cursors.
+//! Cursors: each owns a tree, and lends its values one at a time, in key order.
+ghost use Rattle.std.specs.Prelude.{◌≡◌, ◌≢◌, ◌↔◌, [], None, IfOk, OnOk, OnErr, IsTrue};
+ghost use Rattle.std.specs.Option.{option_map};
+ghost use Rattle.patricia_rows.specs.Cursors.{next_key, stepped};
+ghost use Rattle.patricia_rows.specs.Rows.{IsRow};
+ghost use Rattle.patricia_rows.specs.Trees.{map_of, IsTree};
+ghost use Rattle.patricia_nodes.specs.Private.Plans.{IsWhole, row_of};
+
+use crate::trail::{Start, Trail};
+use patricia_keys::{BorrowedBytes, Bytes};
+use patricia_nodes::slots::Slots;
+use std::alloc::{AllocError, Global};
+use std::marker::{Model, PhantomData};
+
+/// The parts of a tree: the value of the empty key, the nodes of the other keys, and how many keys
+/// these have.
+#[derive(Drop)]
+pub struct Parts<V> {
+    pub alloc: Global,
+    pub value: Option<V>,
+    pub slots: Slots<V>,
+    pub count: usize,
+}
+
+/// A cursor over all entries.
+#[derive(Drop)]
+pub struct Cursor<K: Bytes, V> {
+    alloc: Global,
+    trail: Trail<V>,
+    kind: PhantomData<K>,
+}
+
+impl<K: Bytes, V> Model for Cursor<K, V> {
+    ghost use Rattle.std.specs.Prelude.{[]};
+    ghost use Rattle.patricia_rows.specs.Cursors.{Standing, standing_code};
+    ghost use Rattle.patricia_cursors.specs.Private.Trails.{standing, IsTrail};
+
+    ghost Value = { Standing V };
+
+    ghost coded = { standing_code V.code };
+
+    ghost view = { λ c. standing c.trail [] };
+
+    ghost invariant = { λ c. IsTrail K.item c.trail [] };
+}
+
+impl<K: Bytes, V: Drop> Cursor<K, V> {
+    /// A cursor over a tree. Making it takes no memory.
+    pub fn new(parts: Parts<V>) -> Self
+        requires whole { IsWhole parts.slots }
+        requires tree { IsTree K.item (row_of parts.slots) parts.count }
+        ensures { result ≡ record { map = map_of parts.value (row_of parts.slots); prefix = []; last = None } }
+    {
+        Cursor {
+            alloc: parts.alloc,
+            trail: Trail::new(parts),
+            kind: PhantomData,
+        }
+    }
+
+    /// The tree.
+    pub fn into_parts(self) -> Parts<V>
+        ensures whole { IsWhole result.slots }
+        ensures tree { IsTree K.item (row_of result.slots) result.count }
+        ensures map { map_of result.value (row_of result.slots) ≡ self.map }
+    {
+        let Cursor { alloc, trail, .. } = self;
+        trail.into_parts(alloc)
+    }
+
+    /// Goes on to the next entry, and answers its key. The error is want of memory.
+    pub fn advance(&mut self) -> Result<Option<K>, AllocError>
+        ensures key { IfOk result (λ key. option_map K.key key ≡ next_key self.old) }
+        ensures stepped { OnOk result (self.new ≡ stepped self.old) }
+        ensures unchanged { OnErr result (self.new ≡ self.old) }
+        ensures only_left { OnErr result (next_key self.old ≢ None) }
+    {
+        self.trail.advance(self.alloc)
+    }
+
+    /// Goes on to the next entry, and answers whether there is one. The error is want of memory.
+    pub fn pass(&mut self) -> Result<bool, AllocError>
+        ensures found { IfOk result (λ found. IsTrue found ↔ (next_key self.old ≢ None)) }
+        ensures stepped { OnOk result (self.new ≡ stepped self.old) }
+        ensures unchanged { OnErr result (self.new ≡ self.old) }
+        ensures only_left { OnErr result (next_key self.old ≢ None) }
+    {
+        self.trail.pass::<K>()
+    }
+}
+
+/// A cursor over the entries whose key begins with a prefix.
+#[derive(Drop)]
+pub struct PrefixCursor<Q: BorrowedBytes, V> {
+    alloc: Global,
+    prefix: Q,
+    // where the walk begins, until it has begun
+    start: Option<Start>,
+    trail: Trail<V>,
+}
+
+impl<Q: BorrowedBytes, V> Model for PrefixCursor<Q, V> {
+    ghost use Rattle.patricia_rows.specs.Cursors.{Standing, standing_code};
+    ghost use Rattle.patricia_cursors.specs.Private.Trails.{standing, IsUnder};
+
+    ghost Value = { Standing V };
+
+    ghost coded = { standing_code V.code };
+
+    ghost view = { λ c. standing c.trail (Q.key c.prefix) };
+
+    ghost invariant = { λ c. IsUnder Q.Owned.item c.trail (Q.key c.prefix) c.start };
+}
+
+impl<Q: BorrowedBytes, V: Drop> PrefixCursor<Q, V> {
+    /// A cursor over a tree. Making it takes no memory.
+    pub fn new(parts: Parts<V>, prefix: Q) -> Self
+        requires whole { IsWhole parts.slots }
+        requires tree { IsTree Q.Owned.item (row_of parts.slots) parts.count }
+        ensures { result ≡ record { map = map_of parts.value (row_of parts.slots); prefix = Q.key prefix; last = None } }
+    {
+        let alloc = parts.alloc;
+        if prefix.is_empty() {
+            return PrefixCursor {
+                alloc,
+                prefix,
+                start: None,
+                trail: Trail::new(parts),
+            };
+        }
+        match find_start(&parts.slots, prefix) {
+            Some(start) => PrefixCursor {
+                alloc,
+                prefix,
+                start: Some(start),
+                trail: Trail::ended(parts),
+            },
+            None => PrefixCursor {
+                alloc,
+                prefix,
+                start: None,
+                trail: Trail::ended(parts),
+            },
+        }
+    }
+
+    /// The tree.
+    pub fn into_parts(self) -> Parts<V>
+        ensures whole { IsWhole result.slots }
+        ensures tree { IsTree Q.Owned.item (row_of result.slots) result.count }
+        ensures map { map_of result.value (row_of result.slots) ≡ self.map }
+    {
+        let PrefixCursor { alloc, trail, .. } = self;
+        trail.into_parts(alloc)
+    }
+
+    /// Goes on to the next entry, and answers its key. The error is want of memory.
+    pub fn advance(&mut self) -> Result<Option<Q::Owned>, AllocError>
+        ensures key { IfOk result (λ key. option_map Q.Owned.key key ≡ next_key self.old) }
+        ensures stepped { OnOk result (self.new ≡ stepped self.old) }
+        ensures unchanged { OnErr result (self.new ≡ self.old) }
+        ensures only_left { OnErr result (next_key self.old ≢ None) }
+    {
+        if let Some(start) = self.start {
+            let front = &self.prefix.as_bytes()[..start.front];
+            self.trail.begin::<Q::Owned>(self.alloc, front, start.top)?;
+            self.start = None;
+        }
+        self.trail.advance(self.alloc)
+    }
+}

@@ -1,21 +1,30 @@
 //! How far a cursor has come over a tree that it owns.
-ghost use Rattle.std.specs.Prelude.{◌≡◌, ◌≢◌, Some, None, true, false, [], IfOk, OnOk, OnErr, IsTrue};
+ghost use Rattle.std.specs.Prelude.{◌≡◌, ◌≢◌, ℕ, List, Option, Some, None, is_some, true, false, [], IfOk, OnOk, OnErr, IsTrue};
 ghost use Rattle.std.specs.Option.{option_map};
 ghost use Rattle.patricia_rows.specs.Private.Spots.{left};
-ghost use Rattle.patricia_walks.specs.Private.Positions.{IsPosition, Goes, spot_of};
+ghost use Rattle.patricia_walks.specs.Private.Positions.{IsPosition, Goes, spot_of, row_at, rows_below};
 ghost use Rattle.patricia_cursors.specs.declared.trail.Holder.TheVariants.{At};
-ghost use Rattle.patricia_cursors.specs.Private.Trails.{seen, left_of, Stays};
+ghost use Rattle.patricia_cursors.specs.Private.Holders.{numbered};
+ghost use Rattle.patricia_cursors.specs.Private.Trails.{seen, left_of, GoesOn, IsRefused, IsSameTree, IsStart};
 
 use patricia_keys::Bytes;
 use patricia_labels::link::{Link, NodeId};
 use patricia_nodes::slots::{Node, Slots};
-use std::alloc::AllocError;
+use std::alloc::{AllocError, Global};
 
 /// Who holds a value: the tree, for the empty key, or a node.
 #[derive(Clone, Copy)]
 pub enum Holder {
     Top,
     At(NodeId),
+}
+
+/// Where a walk under a prefix is to begin: at a node, whose label comes behind the first bytes of
+/// the prefix.
+#[derive(Clone, Copy)]
+pub struct Start {
+    pub front: usize,
+    pub top: NodeId,
 }
 
 /// A tree, and how far a cursor has come over it.
@@ -54,7 +63,8 @@ impl<V> Trail<V> {
         requires next { self.old.next ≡ Some id }
         ensures goes { OnOk result (Goes K.item (seen self.old) (seen self.new)) }
         ensures refused { OnErr result (seen self.new ≡ seen self.old) }
-        ensures stays { Stays self.old self.new }
+        ensures tree { IsSameTree self.old self.new }
+        ensures last { self.new.last ≡ self.old.last }
     {
         let node = &self.slots.nodes[id.index()];
         let front = self.path.len();
@@ -76,7 +86,8 @@ impl<V> Trail<V> {
         ensures step { IsTrue result → Goes K.item (seen self.old) (seen self.new) }
         ensures over { result ≡ false → left (spot_of (seen self.old)) ≡ [] }
         ensures same { result ≡ false → seen self.new ≡ seen self.old }
-        ensures stays { Stays self.old self.new }
+        ensures tree { IsSameTree self.old self.new }
+        ensures last { self.new.last ≡ self.old.last }
     {
         let Some((front, row)) = self.stack.pop() else {
             return false;
@@ -86,16 +97,17 @@ impl<V> Trail<V> {
         true
     }
 
-    /// Goes on to the next value, whose key is then the path, and who holds it is due. The answer
-    /// is false where there is none. The error is want of memory.
-    pub fn seek<K: Bytes>(&mut self) -> Result<bool, AllocError>
+    // Goes on to the next value, whose key is then the path, and who holds it is due. The answer
+    // is false where there is none.
+    fn seek<K: Bytes>(&mut self) -> Result<bool, AllocError>
         requires { IsPosition K.item (seen self.old) }
         ensures position { IsPosition K.item (seen self.new) }
         ensures left { left_of self.new ≡ left_of self.old }
         ensures found { IfOk result (λ found. IsTrue found → self.new.due ≢ None) }
         ensures over { IfOk result (λ found. found ≡ false → left_of self.old ≡ []) }
         ensures refused { OnErr result (left_of self.old ≢ []) }
-        ensures stays { Stays self.old self.new }
+        ensures tree { IsSameTree self.old self.new }
+        ensures last { self.new.last ≡ self.old.last }
     {
         loop {
             if self.due.is_some() {
@@ -110,5 +122,75 @@ impl<V> Trail<V> {
                 }
             }
         }
+    }
+
+    // Takes the value that is due for lent.
+    fn lend<K: Bytes>(&mut self)
+        requires position { IsPosition K.item (seen self.old) }
+        requires due { self.old.due ≢ None }
+        ensures position { IsPosition K.item (seen self.new) }
+        ensures goes { GoesOn self.old (Some self.old.path.items) self.new }
+        ensures tree { IsSameTree self.old self.new }
+    {
+        self.last = self.due.take();
+    }
+
+    /// Goes on to the next value, and answers its key.
+    pub fn advance<K: Bytes>(&mut self, alloc: Global) -> Result<Option<K>, AllocError>
+        requires { IsPosition K.item (seen self.old) }
+        ensures position { IsPosition K.item (seen self.new) }
+        ensures goes { IfOk result (λ key. GoesOn self.old (option_map K.key key) self.new) }
+        ensures refused { OnErr result (IsRefused self.old self.new) }
+        ensures tree { IsSameTree self.old self.new }
+    {
+        if !self.seek::<K>()? {
+            return Ok(None);
+        }
+        let key = K::from_bytes(alloc, &self.path)?;
+        self.lend::<K>();
+        Ok(Some(key))
+    }
+
+    /// The same without its key.
+    pub fn pass<K: Bytes>(&mut self) -> Result<bool, AllocError>
+        requires { IsPosition K.item (seen self.old) }
+        ensures position { IsPosition K.item (seen self.new) }
+        ensures goes { IfOk result (λ found. (key : Option (List ℕ))
+            × (found ≡ is_some key) × GoesOn self.old key self.new) }
+        ensures refused { OnErr result (IsRefused self.old self.new) }
+        ensures tree { IsSameTree self.old self.new }
+    {
+        if !self.seek::<K>()? {
+            return Ok(false);
+        }
+        self.lend::<K>();
+        Ok(true)
+    }
+
+    /// Begins a walk at a node, whose label comes behind these bytes.
+    pub fn begin<K: Bytes>(
+        &mut self,
+        alloc: Global,
+        front: &[u8],
+        top: NodeId,
+    ) -> Result<(), AllocError>
+        requires start { IsStart K.item (numbered 0 self.old.slots.nodes.items) front.now top }
+        requires stack { self.old.stack.items ≡ [] }
+        ensures position { OnOk result (IsPosition K.item (seen self.new)) }
+        ensures left { OnOk result (left_of self.new
+            ≡ rows_below front.now (row_at (numbered 0 self.old.slots.nodes.items) (Some top))) }
+        ensures unchanged { OnErr result (self.new ≡ self.old) }
+        ensures tree { IsSameTree self.old self.new }
+        ensures last { self.new.last ≡ self.old.last }
+    {
+        let node = &self.slots.nodes[top.index()];
+        let label = node.label.as_slice();
+        let mut path = Vec::with_capacity(alloc, front.len() + label.len())?;
+        path.extend_from_slice(front)?;
+        path.extend_from_slice(label)?;
+        self.path = path;
+        self.due = held_by(node, top);
+        self.next = node.child;
+        Ok(())
     }
 }

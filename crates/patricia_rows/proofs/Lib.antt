@@ -1,4 +1,5 @@
 pub mod CountLemmas
+pub mod CursorLemmas
 pub mod DivideLemmas
 pub mod FilterLemmas
 pub mod GetLemmas

@@ -1,5 +1,5 @@
 -- How far a cursor has come over a tree.
-use Rattle.std.specs.Prelude.{◌≡◌, ◌≢◌, ◌<◌, ◌≤◌, ℕ, List, [], length, take, Option, Some, None}
+use Rattle.std.specs.Prelude.{◌≡◌, ◌≢◌, ◌<◌, ◌≤◌, ℕ, List, [], ◌∷◌, length, take, Option, Some, None}
 use Rattle.patricia_keys.specs.Keys.{IsValid}
 use Rattle.patricia_rows.specs.Cursors.{Standing, after}
 use Rattle.patricia_rows.specs.Prefixes.{under}
@@ -11,6 +11,7 @@ use Rattle.patricia_nodes.specs.Private.Plans.{IsWhole, IsPlan, row_of, plan_at,
 use Rattle.patricia_walks.specs.Private.Positions.{Position, IsPosition, spot_of, row_at, rows_below}
 use Rattle.patricia_cursors.specs.declared.trail.Holder.{Holder}
 use Rattle.patricia_cursors.specs.declared.trail.Trail.{Trail}
+use Rattle.patricia_cursors.specs.declared.trail.Start.{Start}
 use Rattle.patricia_cursors.specs.Private.Holders.{numbered, holders, key_at}
 
 -- the key of a holder
@@ -33,20 +34,41 @@ module _ {V : Type 0} where
   abbrev pub left_of : Trail V → List (List ℕ × Holder)
   left_of t = left (spot_of (seen t))
 
-  -- the tree stays, and so does the holder that was lent last
-  pub record Stays (t u : Trail V) : Type 0 where
+  -- the tree is the same
+  pub record IsSameTree (t u : Trail V) : Type 0 where
     pub value : u.value ≡ t.value
     pub slots : u.slots ≡ t.slots
     pub count : u.count ≡ t.count
+
+  -- it went on to the first key that was left, or there was none
+  abbrev pub GoesOn : Trail V → Option (List ℕ) → Trail V → Type 0
+  GoesOn t None u = (left_of t ≡ []) × (left_of u ≡ []) × (u.last ≡ t.last)
+  GoesOn t (Some key) u = (h : Holder) × (left_of t ≡ (key, h) ∷ left_of u) × (u.last ≡ Some h)
+
+  -- it was refused, though a key was left
+  pub record IsRefused (t u : Trail V) : Type 0 where
+    pub left : left_of u ≡ left_of t
     pub last : u.last ≡ t.last
+    pub some : left_of t ≢ []
 
   -- the key that was lent last
   abbrev pub last_key : Trail V → Option (List ℕ)
   last_key t = key_of (holders t.value t.slots) t.last
 
-  -- what a caller sees
+  -- what a caller of the cursor sees
   abbrev pub standing : Trail V → List ℕ → Standing V
   standing t prefix = record { map = map_of t.value (row_of t.slots); prefix = prefix; last = last_key t }
+
+-- these are the rows behind the key that was lent last, below the prefix
+abbrev pub AreLeft : {V : Type 0} → Trail V → List ℕ → List (List ℕ × Holder) → Type 0
+AreLeft t prefix rows = rows ≡ after (last_key t) (under prefix (holders t.value t.slots))
+
+-- a walk can begin at this node, behind these bytes
+pub record IsStart (item : List ℕ → Type 0) (nodes : List (Node Holder)) (front : List ℕ) (top : ℕ) : Type 0 where
+  pub valid : IsValid item front
+  pub plan : IsPlan nodes (Some top) (plan_at nodes (Some top))
+  pub once : (at : ℕ) → count (plan_at nodes (Some top)) at ≤ 1
+  pub row_ok : IsRow item (row_at nodes (Some top))
 
 module _ (item : List ℕ → Type 0) {V : Type 0} where
   -- the tree is whole, and what was lent last is in it
@@ -55,12 +77,22 @@ module _ (item : List ℕ → Type 0) {V : Type 0} where
     pub tree : IsTree item (row_of t.slots) t.count
     pub known : (h : Holder) → t.last ≡ Some h → key_at (holders t.value t.slots) h ≢ None
 
-  -- these are the rows behind the key that was lent last, below the prefix
-  abbrev pub AreLeft : Trail V → List ℕ → List (List ℕ × Holder) → Type 0
-  AreLeft t prefix rows = rows ≡ after (last_key t) (under prefix (holders t.value t.slots))
-
   -- the walk has left what the cursor has still to lend
   pub record IsTrail (t : Trail V) (prefix : List ℕ) : Type 0 where
     pub held : IsHeld t
     pub position : IsPosition item (seen t)
     pub left_is : AreLeft t prefix (left_of t)
+
+  -- the walk has not begun, and what is left is below this node, behind these bytes of the prefix
+  pub record IsAhead (t : Trail V) (prefix : List ℕ) (front top : ℕ) : Type 0 where
+    pub held : IsHeld t
+    pub none : t.last ≡ None
+    pub path : t.path.items ≡ []
+    pub stack : t.stack.items ≡ []
+    pub start : IsStart item (numbered 0 t.slots.nodes.items) (take front prefix) top
+    pub left_is : AreLeft t prefix (rows_below (take front prefix) (row_at (numbered 0 t.slots.nodes.items) (Some top)))
+
+  -- the one or the other
+  abbrev pub IsUnder : Trail V → List ℕ → Option Start → Type 0
+  IsUnder t prefix None = IsTrail t prefix
+  IsUnder t prefix (Some s) = IsAhead t prefix s.front s.top
