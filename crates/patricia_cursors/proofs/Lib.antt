@@ -1,1 +1,2 @@
+pub mod HolderLemmas
 pub mod NumberLemmas
