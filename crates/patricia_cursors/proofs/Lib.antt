@@ -1,2 +1,3 @@
 pub mod HolderLemmas
+pub mod HolderWriteLemmas
 pub mod NumberLemmas
