@@ -1,1 +1,4 @@
+pub mod HolderLemmas
+pub mod HolderWriteLemmas
+pub mod NumberLemmas
 pub mod ReadLemmas
