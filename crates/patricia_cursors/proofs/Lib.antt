@@ -2,3 +2,5 @@ pub mod HolderLemmas
 pub mod HolderWriteLemmas
 pub mod NumberLemmas
 pub mod ReadLemmas
+pub mod StartLemmas
+pub mod TrailLemmas

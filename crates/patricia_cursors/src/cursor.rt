@@ -5,22 +5,12 @@ ghost use Rattle.patricia_rows.specs.Cursors.{next_key, stepped};
 ghost use Rattle.patricia_rows.specs.Rows.{IsRow};
 ghost use Rattle.patricia_rows.specs.Trees.{map_of, IsTree};
 ghost use Rattle.patricia_nodes.specs.Private.Plans.{IsWhole, row_of};
+ghost use Rattle.patricia_cursors.specs.Private.Trails.{standing, IsTrail, IsUnder};
 
-use crate::trail::{Start, Trail};
+use crate::trail::{Parts, Start, Trail, find_start};
 use patricia_keys::{BorrowedBytes, Bytes};
-use patricia_nodes::slots::Slots;
 use std::alloc::{AllocError, Global};
 use std::marker::{Model, PhantomData};
-
-/// The parts of a tree: the value of the empty key, the nodes of the other keys, and how many keys
-/// these have.
-#[derive(Drop)]
-pub struct Parts<V> {
-    pub alloc: Global,
-    pub value: Option<V>,
-    pub slots: Slots<V>,
-    pub count: usize,
-}
 
 /// A cursor over all entries.
 #[derive(Drop)]
@@ -53,7 +43,7 @@ impl<K: Bytes, V: Drop> Cursor<K, V> {
     {
         Cursor {
             alloc: parts.alloc,
-            trail: Trail::new(parts),
+            trail: Trail::new::<K>(parts),
             kind: PhantomData,
         }
     }
@@ -87,6 +77,29 @@ impl<K: Bytes, V: Drop> Cursor<K, V> {
     {
         self.trail.pass::<K>()
     }
+}
+
+// Begins a walk under a prefix, where it has not begun.
+fn begin<Q: BorrowedBytes, V>(
+    alloc: Global,
+    prefix: Q,
+    start: &mut Option<Start>,
+    trail: &mut Trail<V>,
+) -> Result<(), AllocError>
+    requires { IsUnder Q.Owned.item trail.old (Q.key prefix) start.old }
+    ensures begun { OnOk result (start.new ≡ None) }
+    ensures trail { OnOk result (IsTrail Q.Owned.item trail.new (Q.key prefix)) }
+    ensures stands { standing trail.new (Q.key prefix) ≡ standing trail.old (Q.key prefix) }
+    ensures ahead { OnErr result (IsUnder Q.Owned.item trail.new (Q.key prefix) start.new) }
+    ensures only_left { OnErr result (next_key (standing trail.old (Q.key prefix)) ≢ None) }
+{
+    let Some(at) = *start else {
+        return Ok(());
+    };
+    let front = &prefix.as_bytes()[..at.front];
+    trail.begin::<Q::Owned>(alloc, front, at.top)?;
+    *start = None;
+    Ok(())
 }
 
 /// A cursor over the entries whose key begins with a prefix.
@@ -125,22 +138,14 @@ impl<Q: BorrowedBytes, V: Drop> PrefixCursor<Q, V> {
                 alloc,
                 prefix,
                 start: None,
-                trail: Trail::new(parts),
+                trail: Trail::new::<Q::Owned>(parts),
             };
         }
-        match find_start(&parts.slots, prefix) {
-            Some(start) => PrefixCursor {
-                alloc,
-                prefix,
-                start: Some(start),
-                trail: Trail::ended(parts),
-            },
-            None => PrefixCursor {
-                alloc,
-                prefix,
-                start: None,
-                trail: Trail::ended(parts),
-            },
+        PrefixCursor {
+            alloc,
+            prefix,
+            start: find_start(&parts.slots, prefix),
+            trail: Trail::ended::<Q::Owned>(parts),
         }
     }
 
@@ -161,11 +166,7 @@ impl<Q: BorrowedBytes, V: Drop> PrefixCursor<Q, V> {
         ensures unchanged { OnErr result (self.new ≡ self.old) }
         ensures only_left { OnErr result (next_key self.old ≢ None) }
     {
-        if let Some(start) = self.start {
-            let front = &self.prefix.as_bytes()[..start.front];
-            self.trail.begin::<Q::Owned>(self.alloc, front, start.top)?;
-            self.start = None;
-        }
+        begin(self.alloc, self.prefix, &mut self.start, &mut self.trail)?;
         self.trail.advance(self.alloc)
     }
 }

@@ -3,3 +3,5 @@
 
 pub mod cursor;
 mod trail;
+
+pub use trail::Parts;

@@ -1,13 +1,16 @@
 //! How far a cursor has come over a tree that it owns.
-ghost use Rattle.std.specs.Prelude.{◌≡◌, ◌≢◌, ℕ, List, Option, Some, None, is_some, true, false, [], IfOk, OnOk, OnErr, IsTrue};
+ghost use Rattle.std.specs.Prelude.{◌≡◌, ◌≢◌, ℕ, List, Option, Some, None, is_some, true, false, [], IfOk, IfSome, IfNone, OnOk, OnErr, IsTrue};
 ghost use Rattle.std.specs.Option.{option_map};
+ghost use Rattle.patricia_rows.specs.Prefixes.{under};
+ghost use Rattle.patricia_rows.specs.Rows.{IsRow};
 ghost use Rattle.patricia_rows.specs.Private.Spots.{left};
+ghost use Rattle.patricia_nodes.specs.Private.Plans.{IsWhole, row_of};
 ghost use Rattle.patricia_walks.specs.Private.Positions.{IsPosition, Goes, spot_of, row_at, rows_below};
-ghost use Rattle.patricia_cursors.specs.declared.trail.Holder.TheVariants.{At};
-ghost use Rattle.patricia_cursors.specs.Private.Holders.{numbered};
-ghost use Rattle.patricia_cursors.specs.Private.Trails.{seen, left_of, GoesOn, IsRefused, IsSameTree, IsStart};
+ghost use Rattle.patricia_cursors.specs.declared.trail.Holder.TheVariants.{Top, At};
+ghost use Rattle.patricia_cursors.specs.Private.Holders.{numbered, holders};
+ghost use Rattle.patricia_cursors.specs.Private.Trails.{seen, left_of, GoesOn, IsRefused, IsMadeOf, IsSameTree, IsStart, StartsUnder};
 
-use patricia_keys::Bytes;
+use patricia_keys::{BorrowedBytes, Bytes};
 use patricia_labels::link::{Link, NodeId};
 use patricia_nodes::slots::{Node, Slots};
 use std::alloc::{AllocError, Global};
@@ -17,6 +20,16 @@ use std::alloc::{AllocError, Global};
 pub enum Holder {
     Top,
     At(NodeId),
+}
+
+/// The parts of a tree: the value of the empty key, the nodes of the other keys, and how many keys
+/// these have.
+#[derive(Drop)]
+pub struct Parts<V> {
+    pub alloc: Global,
+    pub value: Option<V>,
+    pub slots: Slots<V>,
+    pub count: usize,
 }
 
 /// Where a walk under a prefix is to begin: at a node, whose label comes behind the first bytes of
@@ -55,7 +68,102 @@ fn held_by<V>(node: &Node<V>, id: NodeId) -> Option<Holder>
     }
 }
 
+// Who holds the value of the empty key, where it has one.
+fn held_on_top<V>(value: &Option<V>) -> Option<Holder>
+    ensures { result ≡ option_map (λ _. Top) value.now }
+{
+    match value {
+        Some(_) => Some(Holder::Top),
+        None => None,
+    }
+}
+
+/// Where a walk under a prefix that is not empty begins, if there is a key under it.
+pub fn find_start<Q: BorrowedBytes, V>(slots: &Slots<V>, prefix: Q) -> Option<Start>
+    requires whole { IsWhole slots.now }
+    requires row { IsRow Q.Owned.item (row_of slots.now) }
+    requires filled { Q.key prefix ≢ [] }
+    ensures some { IfSome result (λ s. StartsUnder Q.Owned.item slots.now (Q.key prefix) s) }
+    ensures none { IfNone result (under (Q.key prefix) (holders None slots.now) ≡ []) }
+{
+    let place = slots.seek(prefix);
+    let front = prefix.as_bytes().len() - place.rest.as_bytes().len();
+    let top = place.under()?;
+    Some(Start { front, top })
+}
+
 impl<V> Trail<V> {
+    // A trail that has not gone on to a value.
+    fn from(parts: Parts<V>, due: Option<Holder>, next: Link) -> Trail<V>
+        ensures tree { IsMadeOf parts result }
+        ensures seen { seen result ≡ record {
+            nodes = numbered 0 parts.slots.nodes.items; path = []; due = due; next = next; stack = [] } }
+        ensures last { result.last ≡ None }
+    {
+        Trail {
+            value: parts.value,
+            slots: parts.slots,
+            count: parts.count,
+            path: Vec::new(parts.alloc),
+            due,
+            next,
+            stack: Vec::new(parts.alloc),
+            last: None,
+        }
+    }
+
+    /// A trail over all entries.
+    pub fn new<K: Bytes>(parts: Parts<V>) -> Trail<V>
+        requires whole { IsWhole parts.slots }
+        requires row { IsRow K.item (row_of parts.slots) }
+        ensures tree { IsMadeOf parts result }
+        ensures position { IsPosition K.item (seen result) }
+        ensures left { left_of result ≡ holders parts.value parts.slots }
+        ensures last { result.last ≡ None }
+    {
+        let Parts {
+            alloc,
+            value,
+            slots,
+            count,
+        } = parts;
+        let due = held_on_top(&value);
+        let next = slots.root;
+        Trail::from(
+            Parts {
+                alloc,
+                value,
+                slots,
+                count,
+            },
+            due,
+            next,
+        )
+    }
+
+    /// A trail that is over.
+    pub fn ended<K: Bytes>(parts: Parts<V>) -> Trail<V>
+        ensures tree { IsMadeOf parts result }
+        ensures position { IsPosition K.item (seen result) }
+        ensures left { left_of result ≡ [] }
+        ensures stack { result.stack.items ≡ [] }
+        ensures last { result.last ≡ None }
+    {
+        Trail::from(parts, None, Link::none())
+    }
+
+    /// The tree.
+    pub fn into_parts(self, alloc: Global) -> Parts<V>
+        ensures { IsMadeOf result self }
+    {
+        Parts {
+            alloc,
+            value: self.value,
+            slots: self.slots,
+            count: self.count,
+        }
+    }
+
     // Goes on to the node's value and its children.
     fn descend<K: Bytes>(&mut self, id: NodeId) -> Result<(), AllocError>
         requires position { IsPosition K.item (seen self.old) }
@@ -69,10 +177,10 @@ impl<V> Trail<V> {
         let node = &self.slots.nodes[id.index()];
         let front = self.path.len();
         self.path.extend_from_slice(node.label.as_slice())?;
-        if self.stack.push((front, node.sibling)).is_err() {
+        let Ok(()) = self.stack.push((front, node.sibling)) else {
             self.path.truncate(front);
             return Err(AllocError);
-        }
+        };
         self.due = held_by(node, id);
         self.next = node.child;
         Ok(())
@@ -174,6 +282,7 @@ impl<V> Trail<V> {
         front: &[u8],
         top: NodeId,
     ) -> Result<(), AllocError>
+        requires whole { IsWhole self.old.slots }
         requires start { IsStart K.item (numbered 0 self.old.slots.nodes.items) front.now top }
         requires stack { self.old.stack.items ≡ [] }
         ensures position { OnOk result (IsPosition K.item (seen self.new)) }

@@ -7,9 +7,11 @@ use Rattle.patricia_rows.specs.Rows.{IsRow}
 use Rattle.patricia_rows.specs.Trees.{map_of, IsTree}
 use Rattle.patricia_rows.specs.Private.Spots.{left}
 use Rattle.patricia_nodes.specs.declared.slots.Node.{Node}
+use Rattle.patricia_nodes.specs.declared.slots.Slots.{Slots}
 use Rattle.patricia_nodes.specs.Private.Plans.{IsWhole, IsPlan, row_of, plan_at, count}
 use Rattle.patricia_walks.specs.Private.Positions.{Position, IsPosition, spot_of, row_at, rows_below}
 use Rattle.patricia_cursors.specs.declared.trail.Holder.{Holder}
+use Rattle.patricia_cursors.specs.declared.trail.Parts.{Parts}
 use Rattle.patricia_cursors.specs.declared.trail.Trail.{Trail}
 use Rattle.patricia_cursors.specs.declared.trail.Start.{Start}
 use Rattle.patricia_cursors.specs.Private.Holders.{numbered, holders, key_at}
@@ -39,6 +41,12 @@ module _ {V : Type 0} where
     pub value : u.value ≡ t.value
     pub slots : u.slots ≡ t.slots
     pub count : u.count ≡ t.count
+
+  -- it is over the tree of these parts
+  pub record IsMadeOf (p : Parts V) (t : Trail V) : Type 0 where
+    pub value : p.value ≡ t.value
+    pub slots : p.slots ≡ t.slots
+    pub count : p.count ≡ t.count
 
   -- it went on to the first key that was left, or there was none
   abbrev pub GoesOn : Trail V → Option (List ℕ) → Trail V → Type 0
@@ -70,6 +78,12 @@ pub record IsStart (item : List ℕ → Type 0) (nodes : List (Node Holder)) (fr
   pub once : (at : ℕ) → count (plan_at nodes (Some top)) at ≤ 1
   pub row_ok : IsRow item (row_at nodes (Some top))
 
+-- the rows under a prefix are below the node where a walk can begin
+pub record StartsUnder {V : Type 0} (item : List ℕ → Type 0) (slots : Slots V) (prefix : List ℕ) (s : Start) : Type 0 where
+  pub within : s.front ≤ length prefix
+  pub start : IsStart item (numbered 0 slots.nodes.items) (take s.front prefix) s.top
+  pub rows : rows_below (take s.front prefix) (row_at (numbered 0 slots.nodes.items) (Some s.top)) ≡ under prefix (holders None slots)
+
 module _ (item : List ℕ → Type 0) {V : Type 0} where
   -- the tree is whole, and what was lent last is in it
   pub record IsHeld (t : Trail V) : Type 0 where
@@ -87,7 +101,7 @@ module _ (item : List ℕ → Type 0) {V : Type 0} where
   pub record IsAhead (t : Trail V) (prefix : List ℕ) (front top : ℕ) : Type 0 where
     pub held : IsHeld t
     pub none : t.last ≡ None
-    pub path : t.path.items ≡ []
+    pub within : front ≤ length prefix
     pub stack : t.stack.items ≡ []
     pub start : IsStart item (numbered 0 t.slots.nodes.items) (take front prefix) top
     pub left_is : AreLeft t prefix (rows_below (take front prefix) (row_at (numbered 0 t.slots.nodes.items) (Some top)))

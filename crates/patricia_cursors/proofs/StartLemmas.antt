@@ -1,0 +1,97 @@
+-- Where a walk under a prefix begins, among the numbered nodes.
+use Rattle.std.proofs.Common.{◌≡◌, ◌≢◌, ℕ, ◌<◌, ◌-◌, List, [], ◌++◌, length, take, Option, Some, None, get_or, refl, sym, ap, ◌∙◌, arith}
+use Rattle.std.specs.Option.{option_map}
+use Rattle.patricia_keys.specs.Keys.{IsKeyKind, IsValid}
+use Rattle.patricia_rows.specs.Prefixes.{under}
+use Rattle.patricia_rows.specs.Rows.{IsRow}
+use Rattle.patricia_nodes.specs.declared.slots.Node.{Node}
+use Rattle.patricia_nodes.specs.declared.slots.Slots.{Slots}
+use Rattle.patricia_nodes.specs.declared.slots.seek.Spot.{Spot}
+use Rattle.patricia_nodes.specs.declared.slots.seek.Stop.{Stop}
+use Rattle.patricia_nodes.specs.Private.Plans.{IsWhole, row_of, plan_at}
+use Rattle.patricia_nodes.proofs.SeekLemmas.{head_within}
+use Rattle.patricia_nodes.specs.Private.Places.{Placed, node_under}
+use Rattle.patricia_walks.specs.Private.Positions.{Position, IsPosition, IsTop, row_at, rows_below, spot_of}
+use Rattle.patricia_walks.proofs.PositionLemmas.{position_top, left_top, position_end, position_start, row_none}
+use Rattle.patricia_rows.proofs.WalkLemmas.{left_start}
+use Rattle.patricia_rows.specs.Private.Spots.{left}
+use Rattle.patricia_queries.proofs.UnderLemmas.{place_top, place_rows, place_nothing, top_filled}
+use Rattle.patricia_cursors.specs.declared.trail.Holder.{Holder}
+use Rattle.patricia_cursors.specs.declared.trail.Holder.TheVariants.{Top, At}
+use Rattle.patricia_cursors.specs.declared.trail.Start.{Start}
+use Rattle.patricia_cursors.specs.Private.Holders.{numbered, holders}
+use Rattle.patricia_cursors.specs.Private.Trails.{IsStart, StartsUnder}
+use Rattle.patricia_cursors.proofs.HolderLemmas.{Marked, marked, place_marked, row_marked}
+use Rattle.patricia_cursors.proofs.NumberLemmas.{marked_node, numbered-length, numbered-read}
+
+-- a walk that can begin in slots can begin in nodes that are the same
+starts_at : (item : List ℕ → Type 0) (m : Slots Holder) (nodes : List (Node Holder)) → m.nodes.items ≡ nodes → (front : List ℕ) (top : ℕ) → IsTop item m front top → IsStart item nodes front top
+starts_at item m nodes same front top w = record { valid = w.valid; plan = rw (← same) w.plan; once = rw (← same) w.once; row_ok = rw (← same) w.row_ok }
+
+top_at : (item : List ℕ → Type 0) (m : Slots Holder) (nodes : List (Node Holder)) → m.nodes.items ≡ nodes → (front : List ℕ) (top : ℕ) → IsStart item nodes front top → IsTop item m front top
+top_at item m nodes same front top w = record { valid = w.valid; plan = rw same w.plan; once = rw same w.once; row_ok = rw same w.row_ok }
+
+module _ (item : List ℕ → Type 0) (kind : IsKeyKind item) {V : Type 0} (s : Slots V) (m : Slots Holder) (is : Marked s m) (whole : IsWhole s) (ok : IsRow item (row_of s)) (key : List ℕ) (spot : Spot) (at : Option ℕ) (rest : List ℕ) (stop : Stop) (p : Placed item s key spot at rest stop) where
+  m_row : IsRow item (row_of m)
+  m_row = rw (is.nodes, is.root) ((row_marked s whole item).0 ok)
+
+  m_place : Placed item m key spot at rest stop
+  m_place = place_marked s whole item m is key spot at rest stop p
+
+  -- where a node's keys all begin with the key, a walk can begin there
+  pub starts_under : (front : ℕ) → front ≡ length key - length rest → (top : ℕ) → node_under rest stop ≡ Some top → StartsUnder item s key (record { front = front; top = top })
+  starts_under front front_is top e = record {
+    within = omega (arith, front_is);
+    start = starts_at item m _ is.nodes (take front key) top (place_top item kind m is.whole m_row key spot at rest stop m_place front front_is top e);
+    rows = rw (← is.nodes, ← is.root) (place_rows item kind m is.whole m_row key spot at rest stop m_place front front_is top e);
+  }
+
+  -- and where there is none, no row is under the key
+  pub starts_nowhere : IsValid item rest → node_under rest stop ≡ None → under key (holders None s) ≡ []
+  starts_nowhere valid none = rw (← is.nodes, ← is.root) (place_nothing item kind m is.whole m_row key spot at rest stop m_place valid none)
+
+-- the node is there
+pub start_within : (item : List ℕ → Type 0) {V : Type 0} (nodes : List (Node V)) (front : List ℕ) (top : ℕ) → IsStart item (numbered 0 nodes) front top → top < length nodes
+start_within item nodes front top w = omega (arith, head_within (numbered 0 nodes) (Some top) (plan_at (numbered 0 nodes) (Some top)) top w.plan refl, numbered-length 0 nodes)
+
+module _ (item : List ℕ → Type 0) {V : Type 0} (s : Slots V) (m : Slots Holder) (is : Marked s m) (front : List ℕ) (top : ℕ) (n : Node V) (w : IsStart item (numbered 0 s.nodes.items) front top) (reads : n ≡ get_or s.nodes.items top n)
+    (p : Position Holder) (nodes : p.nodes ≡ numbered 0 s.nodes.items) (path : p.path ≡ front ++ n.label) (next : p.next ≡ n.child) (stack : p.stack ≡ []) where
+  m_top : IsTop item m front top
+  m_top = top_at item m (numbered 0 s.nodes.items) is.nodes front top w
+
+  m_reads : marked_node top n ≡ get_or m.nodes.items top (marked_node top n)
+  m_reads = rw is.nodes (numbered-read s.nodes.items top n (start_within item s.nodes.items front top w) reads)
+
+  -- a walk begins so
+  pub start_position : IsPosition item p
+  start_position = position_top item m front top (marked_node top n) m_top m_reads p (nodes ∙ sym is.nodes) path next stack
+
+  pub start_left : p.due ≡ option_map (λ _. At top) n.value → left (spot_of p) ≡ rows_below front (row_at (numbered 0 s.nodes.items) (Some top))
+  start_left due = rw (← is.nodes) (left_top item m front top (marked_node top n) m_top m_reads p (nodes ∙ sym is.nodes) path due next stack)
+
+-- where a walk can begin, a row is left
+pub start_filled : (item : List ℕ → Type 0) (kind : IsKeyKind item) {V : Type 0} (s : Slots V) (m : Slots Holder) → Marked s m → (front : List ℕ) (top : ℕ) → IsStart item (numbered 0 s.nodes.items) front top
+    → rows_below front (row_at (numbered 0 s.nodes.items) (Some top)) ≢ []
+start_filled item kind s m is front top w = rw (← is.nodes) (top_filled item kind m front top (top_at item m (numbered 0 s.nodes.items) is.nodes front top w))
+
+module _ {V : Type 0} (nodes : List (Node V)) (next : Option ℕ) where
+  -- the place of a walk that has not begun
+  abbrev fresh : Option Holder → Position Holder
+  fresh due = record { nodes = numbered 0 nodes; path = []; due = due; next = next; stack = [] }
+
+  -- with no row left it is over
+  pub ended_position : (item : List ℕ → Type 0) (p : Position Holder) → next ≡ None → p ≡ fresh None → IsPosition item p
+  ended_position item p none is = rw is (position_end item (fresh None) refl none refl)
+
+  pub ended_left : (p : Position Holder) → next ≡ None → p ≡ fresh None → left (spot_of p) ≡ []
+  ended_left p none is = rw (is, none, row_none (numbered 0 nodes)) refl
+
+module _ (item : List ℕ → Type 0) {V : Type 0} (s : Slots V) (whole : IsWhole s) (p : Position Holder) (due : Option Holder) (is : p ≡ fresh s.nodes.items s.root due) where
+  -- at the first row nothing is passed
+  pub first_position : IsRow item (row_of s) → IsPosition item p
+  first_position ok =
+      let m = marked s whole in
+      rw is (position_start item m.0 (fresh s.nodes.items s.root due) m.1.whole (rw (m.1.nodes, m.1.root) ((row_marked s whole item).0 ok)) (sym m.1.nodes) refl (sym m.1.root) refl)
+
+  pub first_left : (value : Option V) → due ≡ option_map (λ _. Top) value → left (spot_of p) ≡ holders value s
+  first_left value due_is = rw (is, due_is) (left_start (spot_of (fresh s.nodes.items s.root (option_map (λ _. Top) value))) refl refl)
