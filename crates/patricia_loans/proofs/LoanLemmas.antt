@@ -49,19 +49,23 @@ module _ {V : Type 0} (s : Slots V) (id at : ℕ) (same : at ≡ id) (within : i
   lent_none = ap (λ v. record s { nodes = v }) (same_vec s.nodes (set s.nodes.items at n) (sym (ap (set s.nodes.items at) reads ∙ set-get_or s.nodes.items at n)) _)
 
 module _ (item : List ℕ → Type 0) (kind : IsKeyKind item) {V : Type 0} (s : Slots V) (key : List ℕ) (whole : IsWhole s) (ok : IsRow item (row_of s)) (spot : Spot) (at : Option ℕ) (rest : List ℕ) (stop : Stop) (p : Placed item s key spot at rest stop) (id : ℕ) (is : node_of stop ≡ Some id) (n : Node V) (reads : n ≡ get_or s.nodes.items id n) where
+  -- the node is in the vector
+  found_within : id < vec_len s.nodes
+  found_within = rw s.nodes.ok.0 (here_within item kind s key whole ok spot at rest stop p id is)
+
   -- a write at the key's node puts the value in
   found_writes : (w : V) → Puts item s (with_value s id w) key w
   found_writes w =
-      let within = here_within item kind s key whole ok spot at rest stop p id is in
-      subst (λ new. Puts item s new key w) (lent_write s id id refl (rw s.nodes.ok.0 within) n reads w)
+      subst (λ new. Puts item s new key w) (lent_write s id id refl found_within n reads w)
       (puts_here item kind s key whole ok spot at rest stop p id is n reads (record s { nodes = with_item s.nodes id (record n { value = Some w }) }) w (Some w) refl refl refl refl)
 
   -- the node has the key's value
   pub has_node : is_some n.value ≡ true → HasNode item s key id
   has_node some =
       let value = some_of n.value some in record {
-        within = rw s.nodes.ok.0 (here_within item kind s key whole ok spot at rest stop p id is);
+        within = found_within;
         value = value.0;
+        is_value = sym (lent_value s id id refl found_within n reads) ∙ value.1;
         found = find_some item kind s key whole ok spot at rest stop p id is n reads ∙ value.1;
         writes = found_writes;
       }

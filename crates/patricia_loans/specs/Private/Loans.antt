@@ -38,5 +38,6 @@ lends_value V s id r = LendsIf (the_row V) V s r (with_value s.now id) s.now
 pub record HasNode (item : List ℕ → Type 0) {V : Type 0} (s : Slots V) (key : List ℕ) (id : ℕ) : Type 0 where
   pub within : id < vec_len s.nodes
   pub value : V
+  pub is_value : value_of s id ≡ Some value
   pub found : find key_cmp key (entries_of s) ≡ Some value
   pub writes : (w : V) → Puts item s (with_value s id w) key w
