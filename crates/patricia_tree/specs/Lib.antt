@@ -1,4 +1,5 @@
 pub mod Bulk
+pub mod Loans
 pub use Rattle.patricia_core.specs.ByteKind
 pub use Rattle.patricia_core.specs.Clones
 pub use Rattle.patricia_core.specs.Keys
