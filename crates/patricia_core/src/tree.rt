@@ -1,6 +1,7 @@
 //! A tree of keys, seen as a finite map.
 ghost use Rattle.std.specs.Prelude.{◌≡◌, ◌≢◌, ◌↔◌, ◌+◌, ◌*◌, ◌<◌, ◌≤◌, ℕ, List, [], length, None, IsTrue, IfSome, IfOk, OnOk, IfErr, OnErr};
-ghost use Rattle.std.specs.Option.{option_copied, option_map};
+ghost use Rattle.std.specs.Borrow.{sem};
+ghost use Rattle.std.specs.Option.{option_copied, option_copied_mut, option_map};
 ghost use Rattle.std.specs.FinMap as map;
 ghost use Rattle.std.specs.List.{All};
 ghost use Rattle.patricia_keys.specs.Keys.{AreSingle, Begins, IsValid};
@@ -13,6 +14,7 @@ use patricia_copies::{copy, copy_value};
 use patricia_inserts::insert;
 use patricia_keys::{BorrowedBytes, Bytes};
 use patricia_labels::Steps;
+use patricia_loans::{find, value_at};
 pub use patricia_nodes::slots::Refused;
 use patricia_nodes::slots::Slots;
 use patricia_queries::along::{Along, AlongOwned};
@@ -59,6 +61,8 @@ impl<K: Bytes, V> Model for Tree<K, V> {
 }
 
 impl<K: Bytes, V: Drop> Tree<K, V> {
+    ghost use Rattle.patricia_core.specs.Private.Loans.{lends_entry};
+
     /// The empty tree. It takes no memory.
     pub fn new(alloc: Global) -> Self
         ensures { result ≡ map.empty }
@@ -168,6 +172,20 @@ impl<K: Bytes, V: Drop> Tree<K, V> {
             }
             Ok(Some(old)) => Ok(Some(old)),
             Err(refused) => Err(refused),
+        }
+    }
+
+    /// Lends the value at a key, or answers `None` where there is none.
+    pub fn get_mut<Q: BorrowedBytes<Owned = K>>(&mut self, key: Q) -> Option<&mut V>
+        ensures* writes { sem 𝓛 (lends_entry K.row V.row K.Bytes self.entry (Q.key key) result) }
+        ensures value { option_copied_mut result ≡ map.get self.old (Q.key key) }
+    {
+        if key.is_empty() {
+            return self.value.as_mut();
+        }
+        match find(&self.slots, key) {
+            Some(id) => value_at(&mut self.slots, id),
+            None => None,
         }
     }
 

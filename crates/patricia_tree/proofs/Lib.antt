@@ -1,1 +1,2 @@
 mod BulkLemmas
+mod LoanLemmas

@@ -1,4 +1,6 @@
 pub mod Bulk
+pub mod Loans
+pub mod Private
 pub use Rattle.patricia_core.specs.ByteKind
 pub use Rattle.patricia_core.specs.Clones
 pub use Rattle.patricia_core.specs.Keys

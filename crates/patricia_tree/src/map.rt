@@ -1,6 +1,7 @@
 //! A map whose keys, byte strings or texts, share their common prefixes.
 ghost use Rattle.std.specs.Prelude.{◌≡◌, ◌≢◌, ◌↔◌, ◌+◌, ◌*◌, ◌<◌, ◌≤◌, ℕ, List, [], length, None, IsTrue, IfSome, IfOk, OnOk, IfErr, OnErr};
-ghost use Rattle.std.specs.Option.{option_copied, option_map};
+ghost use Rattle.std.specs.Borrow.{sem};
+ghost use Rattle.std.specs.Option.{option_copied, option_copied_mut, option_map};
 ghost use Rattle.std.specs.FinMap as map;
 ghost use Rattle.std.specs.List.{All};
 ghost use Rattle.patricia_core.specs.Clones.{AreKept};
@@ -11,6 +12,7 @@ ghost use Rattle.patricia_core.specs.Walks.{values_of};
 
 mod bulk;
 mod iter;
+mod loans;
 mod prefixes;
 
 pub use iter::{IntoIter, Iter, Keys, Values};
@@ -52,6 +54,8 @@ impl<K: Bytes, V> Model for GenericPatriciaMap<K, V> {
 }
 
 impl<K: Bytes, V: Drop> GenericPatriciaMap<K, V> {
+    ghost use Rattle.patricia_tree.specs.Loans.{lends_entry};
+
     /// The empty map. It takes no memory.
     pub fn new(alloc: Global) -> Self
         ensures { result ≡ map.empty }
@@ -94,6 +98,16 @@ impl<K: Bytes, V: Drop> GenericPatriciaMap<K, V> {
         ensures { option_copied result ≡ map.get self.now (Q.key key) }
     {
         self.tree.get(key)
+    }
+
+    /// Lends the value at a key, or answers `None` where there is none. It takes no memory.
+    ///
+    /// When the loan is over, the map has what was left there.
+    pub fn get_mut<Q: BorrowedBytes<Owned = K>>(&mut self, key: Q) -> Option<&mut V>
+        ensures* writes { sem 𝓛 (lends_entry K.row V.row K.Bytes self.entry (Q.key key) result) }
+        ensures value { option_copied_mut result ≡ map.get self.old (Q.key key) }
+    {
+        self.tree.get_mut(key)
     }
 
     /// Looks a key up and adds the number of nodes that it visits.
