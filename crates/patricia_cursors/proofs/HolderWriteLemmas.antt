@@ -11,7 +11,8 @@ use Rattle.patricia_nodes.specs.Private.Plans.{Plan, Nil, Cell, linked, head, si
 use Rattle.patricia_nodes.proofs.WriteLemmas.{get-set_same, get-set_other}
 use Rattle.patricia_cursors.specs.declared.trail.Holder.{Holder}
 use Rattle.patricia_cursors.specs.declared.trail.Holder.TheVariants.{Top, At}
-use Rattle.patricia_cursors.specs.Private.Holders.{numbered, holders, value_of, held, is_same}
+use Rattle.patricia_loans.specs.Private.Loans.{value_in}
+use Rattle.patricia_cursors.specs.Private.Holders.{numbered, holders, held, is_same}
 use Rattle.patricia_cursors.proofs.NumberLemmas.{mark, marked_node, marks, numbered-get, numbered-length, sound-marks}
 use Rattle.patricia_cursors.proofs.HolderLemmas.{length_marked, row_marked}
 
@@ -19,7 +20,7 @@ module _ {V : Type 0} (nodes : List (Node V)) where
   -- the plan with the values that the nodes have
   abbrev valued : Plan Holder → Plan V
   valued Nil = Nil
-  valued (Cell id label value child sibling) = Cell id label (value_of (slice_get nodes id)) (valued child) (valued sibling)
+  valued (Cell id label value child sibling) = Cell id label (value_in (slice_get nodes id)) (valued child) (valued sibling)
 
   head-valued : (p : Plan Holder) → head (valued p) ≡ head p
   head-valued Nil = refl
@@ -34,11 +35,11 @@ module _ {V : Type 0} (nodes : List (Node V)) where
   count-valued (Cell id l v c d) at = omega (arith, count-valued c at, count-valued d at)
 
   -- a node is the one that its mark was made of
-  node-valued : (id : ℕ) (m : Node Holder) (o : Option (Node V)) → Some m ≡ option_map (marked_node id) o → o ≡ Some (linked m.label (value_of o) m.child m.sibling)
+  node-valued : (id : ℕ) (m : Node Holder) (o : Option (Node V)) → Some m ≡ option_map (marked_node id) o → o ≡ Some (linked m.label (value_in o) m.child m.sibling)
   node-valued id m None e = absurd (cc)
   node-valued id m (Some n) e = let is : m ≡ marked_node id n = cc in rw is refl
 
-  get-valued : (id : ℕ) (m : Node Holder) → slice_get (numbered 0 nodes) id ≡ Some m → slice_get nodes id ≡ Some (linked m.label (value_of (slice_get nodes id)) m.child m.sibling)
+  get-valued : (id : ℕ) (m : Node Holder) → slice_get (numbered 0 nodes) id ≡ Some m → slice_get nodes id ≡ Some (linked m.label (value_in (slice_get nodes id)) m.child m.sibling)
   get-valued id m there = node-valued id m (slice_get nodes id) (sym there ∙ numbered-get nodes id)
 
   stands-valued : (p : Plan Holder) → Stands (numbered 0 nodes) p → Stands nodes (valued p)

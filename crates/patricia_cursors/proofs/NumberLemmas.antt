@@ -9,7 +9,8 @@ use Rattle.patricia_nodes.specs.Private.Plans.{Plan, Nil, Cell, linked, head, ro
 use Rattle.patricia_nodes.proofs.PlanLemmas.{plan_is}
 use Rattle.patricia_cursors.specs.declared.trail.Holder.{Holder}
 use Rattle.patricia_cursors.specs.declared.trail.Holder.TheVariants.{Top, At}
-use Rattle.patricia_cursors.specs.Private.Holders.{numbered, value_of, held, uses, Reads}
+use Rattle.patricia_loans.specs.Private.Loans.{value_in}
+use Rattle.patricia_cursors.specs.Private.Holders.{numbered, held, uses, Reads}
 
 module _ {W : Type 0} where
   keys-prefixed : (l : List ℕ) (es : List (List ℕ × W)) → keys_of (prefixed l es) ≡ map (λ k. l ++ k) (keys_of es)
@@ -168,7 +169,7 @@ module _ {V : Type 0} where
   reads-marks value nodes (Cell id l v c d) s =
       let h = held value nodes in
       reads-append h _ _ _ _
-      (reads-prefixed h l _ _ (reads-append h _ _ _ _ (reads-own h (At id) v (ap value_of s.0)) (reads-marks value nodes c s.1)))
+      (reads-prefixed h l _ _ (reads-append h _ _ _ _ (reads-own h (At id) v (ap value_in s.0)) (reads-marks value nodes c s.1)))
       (reads-marks value nodes d s.2)
 
   -- an own value is used by its holder alone

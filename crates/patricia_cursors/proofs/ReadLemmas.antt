@@ -1,5 +1,5 @@
 -- Rows, and the same rows with who holds each value.
-use Rattle.std.proofs.Common.{◌≡◌, ℕ, ◌+◌, ◌≤◌, Bool, true, false, T, ◌&&◌, cond, List, [], ◌∷◌, ◌++◌, Option, Some, None, slice_get, inl, inr, refl, sym, ap, subst, ◌∙◌, arith}
+use Rattle.std.proofs.Common.{◌≡◌, ◌≢◌, ℕ, ◌+◌, ◌≤◌, Bool, true, false, T, ◌&&◌, cond, List, [], ◌∷◌, ◌++◌, Option, Some, None, slice_get, inl, inr, refl, sym, ap, subst, ◌∙◌, arith}
 use Rattle.std.specs.Prelude.{filter}
 use Rattle.std.specs.declared.cmp.Ordering.{Ordering}
 use Rattle.std.specs.declared.cmp.Ordering.TheVariants.{Less, Equal, Greater}
@@ -94,6 +94,16 @@ module _ {V : Type 0} (held : Holder → Option V) where
       by : (b : Bool) → cond b (Some e.0) (key_at es h) ≡ Some k → (key_at es h ≡ Some k → key_cmp q k ≡ Less) → key_cmp q k ≡ Less
       by true at rest = let same : e.0 ≡ k = cc in rw (← same, r.0) (less_so (key_cmp q x.0) (first_part _ _ below))
       by false at rest = rest at
+
+  -- a holder that stands in the rows holds a value
+  pub key_value : (h : Holder) (es : List (List ℕ × Holder)) (rs : List (List ℕ × V)) → Reads held es rs → key_at es h ≢ None → (v : V) × (held h ≡ Some v)
+  key_value h [] rs r some = absurd (some refl)
+  key_value h (e ∷ es) [] r some = absurd r
+  key_value h (e ∷ es) (x ∷ rs) r some = by (is_same e.1 h) refl some (key_value h es rs r.2)
+    where
+      by : (b : Bool) → is_same e.1 h ≡ b → cond b (Some e.0) (key_at es h) ≢ None → (key_at es h ≢ None → (v : V) × (held h ≡ Some v)) → (v : V) × (held h ≡ Some v)
+      by true f some rest = (x.1, ap held (sym (same_is e.1 h f)) ∙ r.1)
+      by false f some rest = rest some
 
   -- the value at the key of a holder is the one that it holds
   pub find_read : (h : Holder) (k : List ℕ) (es : List (List ℕ × Holder)) (rs : List (List ℕ × V)) → Reads held es rs → T (is_sorted key_cmp rs) → key_at es h ≡ Some k → find key_cmp k rs ≡ held h

@@ -1,7 +1,8 @@
 //! Cursors: each owns a tree, and lends its values one at a time, in key order.
 ghost use Rattle.std.specs.Prelude.{◌≡◌, ◌≢◌, ◌↔◌, [], None, IfOk, OnOk, OnErr, IsTrue};
-ghost use Rattle.std.specs.Option.{option_map};
-ghost use Rattle.patricia_rows.specs.Cursors.{next_key, stepped};
+ghost use Rattle.std.specs.Borrow.{sem};
+ghost use Rattle.std.specs.Option.{option_copied_mut, option_map};
+ghost use Rattle.patricia_rows.specs.Cursors.{last_value, next_key, stepped};
 ghost use Rattle.patricia_rows.specs.Rows.{IsRow};
 ghost use Rattle.patricia_rows.specs.Trees.{map_of, IsTree};
 ghost use Rattle.patricia_nodes.specs.Private.Plans.{IsWhole, row_of};
@@ -35,6 +36,8 @@ impl<K: Bytes, V> Model for Cursor<K, V> {
 }
 
 impl<K: Bytes, V: Drop> Cursor<K, V> {
+    ghost use Rattle.patricia_cursors.specs.Private.Lends.{lends_last};
+
     /// A cursor over a tree. Making it takes no memory.
     pub fn new(parts: Parts<V>) -> Self
         requires whole { IsWhole parts.slots }
@@ -76,6 +79,14 @@ impl<K: Bytes, V: Drop> Cursor<K, V> {
         ensures only_left { OnErr result (next_key self.old ≢ None) }
     {
         self.trail.pass::<K>()
+    }
+
+    /// Lends the value that it went on to last, or answers `None` where it has not gone on yet.
+    pub fn value(&mut self) -> Option<&mut V>
+        ensures* writes { sem 𝓛 (lends_last K.row V.row K.Bytes self.entry result) }
+        ensures value { option_copied_mut result ≡ last_value self.old }
+    {
+        self.trail.value::<K>()
     }
 }
 
@@ -126,6 +137,8 @@ impl<Q: BorrowedBytes, V> Model for PrefixCursor<Q, V> {
 }
 
 impl<Q: BorrowedBytes, V: Drop> PrefixCursor<Q, V> {
+    ghost use Rattle.patricia_cursors.specs.Private.Lends.{lends_last_under};
+
     /// A cursor over a tree. Making it takes no memory.
     pub fn new(parts: Parts<V>, prefix: Q) -> Self
         requires whole { IsWhole parts.slots }
@@ -168,5 +181,13 @@ impl<Q: BorrowedBytes, V: Drop> PrefixCursor<Q, V> {
     {
         begin(self.alloc, self.prefix, &mut self.start, &mut self.trail)?;
         self.trail.advance(self.alloc)
+    }
+
+    /// Lends the value that it went on to last, or answers `None` where it has not gone on yet.
+    pub fn value(&mut self) -> Option<&mut V>
+        ensures* writes { sem 𝓛 (lends_last_under Q.row V.row Q.Owned.row Q.BorrowedBytes Q.Owned.Bytes self.entry result) }
+        ensures value { option_copied_mut result ≡ last_value self.old }
+    {
+        self.trail.value::<Q::Owned>()
     }
 }

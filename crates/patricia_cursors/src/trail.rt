@@ -1,6 +1,7 @@
 //! How far a cursor has come over a tree that it owns.
-ghost use Rattle.std.specs.Prelude.{◌≡◌, ◌≢◌, ℕ, List, Option, Some, None, is_some, true, false, [], IfOk, IfSome, IfNone, OnOk, OnErr, IsTrue};
-ghost use Rattle.std.specs.Option.{option_map};
+ghost use Rattle.std.specs.Prelude.{◌≡◌, ◌≢◌, ◌↔◌, MatchOption, ℕ, List, Option, Some, None, is_some, true, false, [], IfOk, IfSome, IfNone, OnOk, OnErr, IsTrue};
+ghost use Rattle.std.specs.Borrow.{sem};
+ghost use Rattle.std.specs.Option.{option_copied_mut, option_map};
 ghost use Rattle.patricia_rows.specs.Prefixes.{under};
 ghost use Rattle.patricia_rows.specs.Rows.{IsRow};
 ghost use Rattle.patricia_rows.specs.Private.Spots.{left};
@@ -8,10 +9,11 @@ ghost use Rattle.patricia_nodes.specs.Private.Plans.{IsWhole, row_of};
 ghost use Rattle.patricia_walks.specs.Private.Positions.{IsPosition, Goes, spot_of, row_at, rows_below};
 ghost use Rattle.patricia_cursors.specs.declared.trail.Holder.TheVariants.{Top, At};
 ghost use Rattle.patricia_cursors.specs.Private.Holders.{numbered, holders};
-ghost use Rattle.patricia_cursors.specs.Private.Trails.{seen, left_of, GoesOn, IsRefused, IsMadeOf, IsSameTree, IsStart, StartsUnder};
+ghost use Rattle.patricia_cursors.specs.Private.Trails.{seen, left_of, GoesOn, IsRefused, IsMadeOf, IsSameTree, IsStart, StartsUnder, IsHeld, held_last};
 
 use patricia_keys::{BorrowedBytes, Bytes};
 use patricia_labels::link::{Link, NodeId};
+use patricia_loans::value_at;
 use patricia_nodes::slots::{Node, Slots};
 use std::alloc::{AllocError, Global};
 
@@ -93,6 +95,8 @@ pub fn find_start<Q: BorrowedBytes, V>(slots: &Slots<V>, prefix: Q) -> Option<St
 }
 
 impl<V> Trail<V> {
+    ghost use Rattle.patricia_cursors.specs.Private.Lends.{lends_held};
+
     // A trail that has not gone on to a value.
     fn from(parts: Parts<V>, due: Option<Holder>, next: Link) -> Trail<V>
         ensures tree { IsMadeOf parts result }
@@ -301,5 +305,40 @@ impl<V> Trail<V> {
         self.due = held_by(node, top);
         self.next = node.child;
         Ok(())
+    }
+
+    // Whether the value that was lent last is that of the empty key.
+    fn is_on_top(&self) -> bool
+        ensures { IsTrue result ↔ (self.now.last ≡ Some Top) }
+    {
+        match &self.last {
+            Some(Holder::Top) => true,
+            _ => false,
+        }
+    }
+
+    // The node that holds the value that was lent last.
+    fn node(&self) -> Option<NodeId>
+        ensures { MatchOption result ((id : ℕ) → self.now.last ≢ Some (At id)) (λ id. self.now.last ≡ Some (At id)) }
+    {
+        match &self.last {
+            Some(Holder::At(id)) => Some(*id),
+            _ => None,
+        }
+    }
+
+    /// Lends the value that was lent last.
+    pub fn value<K: Bytes>(&mut self) -> Option<&mut V>
+        requires { IsHeld K.item self.old }
+        ensures* writes { sem 𝓛 (lends_held V.row self.entry result) }
+        ensures value { option_copied_mut result ≡ held_last self.old self.old.last }
+    {
+        if self.is_on_top() {
+            return self.value.as_mut();
+        }
+        match self.node() {
+            Some(id) => value_at(&mut self.slots, id),
+            None => None,
+        }
     }
 }

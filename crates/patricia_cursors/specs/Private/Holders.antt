@@ -6,6 +6,7 @@ use Rattle.patricia_nodes.specs.declared.slots.Node.{Node}
 use Rattle.patricia_nodes.specs.declared.slots.Slots.{Slots}
 use Rattle.patricia_nodes.specs.Private.Plans.{linked}
 use Rattle.patricia_walks.specs.Private.Positions.{row_at}
+use Rattle.patricia_loans.specs.Private.Loans.{value_in}
 use Rattle.patricia_cursors.specs.declared.trail.Holder.{Holder}
 use Rattle.patricia_cursors.specs.declared.trail.Holder.TheVariants.{Top, At}
 
@@ -21,15 +22,10 @@ module _ {V : Type 0} where
   holders value slots =
       own (option_map (λ _. Top) value) ++ entries (row_at (numbered 0 slots.nodes.items) slots.root)
 
-  -- the value of a node
-  abbrev pub value_of : Option (Node V) → Option V
-  value_of None = None
-  value_of (Some n) = n.value
-
   -- the value that is held there
   abbrev pub held : Option V → List (Node V) → Holder → Option V
   held value nodes Top = value
-  held value nodes (At id) = value_of (slice_get nodes id)
+  held value nodes (At id) = value_in (slice_get nodes id)
 
 -- the same holder
 abbrev pub is_same : Holder → Holder → Bool

@@ -11,10 +11,12 @@ use Rattle.patricia_nodes.specs.declared.slots.Slots.{Slots}
 use Rattle.patricia_nodes.specs.Private.Plans.{IsWhole, IsPlan, row_of, plan_at, count}
 use Rattle.patricia_walks.specs.Private.Positions.{Position, IsPosition, spot_of, row_at, rows_below}
 use Rattle.patricia_cursors.specs.declared.trail.Holder.{Holder}
+use Rattle.patricia_cursors.specs.declared.trail.Holder.TheVariants.{Top, At}
+use Rattle.patricia_loans.specs.Private.Loans.{with_value}
 use Rattle.patricia_cursors.specs.declared.trail.Parts.{Parts}
 use Rattle.patricia_cursors.specs.declared.trail.Trail.{Trail}
 use Rattle.patricia_cursors.specs.declared.trail.Start.{Start}
-use Rattle.patricia_cursors.specs.Private.Holders.{numbered, holders, key_at}
+use Rattle.patricia_cursors.specs.Private.Holders.{numbered, holders, held, key_at}
 
 -- the key of a holder
 abbrev pub key_of : List (List ℕ × Holder) → Option Holder → Option (List ℕ)
@@ -83,6 +85,18 @@ pub record StartsUnder {V : Type 0} (item : List ℕ → Type 0) (slots : Slots 
   pub within : s.front ≤ length prefix
   pub start : IsStart item (numbered 0 slots.nodes.items) (take s.front prefix) s.top
   pub rows : rows_below (take s.front prefix) (row_at (numbered 0 slots.nodes.items) (Some s.top)) ≡ under prefix (holders None slots)
+
+module _ {V : Type 0} where
+  -- the same with another value where this one holds one
+  abbrev pub with_held : Trail V → Option Holder → V → Trail V
+  with_held t None value = t
+  with_held t (Some Top) value = record t { value = Some value }
+  with_held t (Some (At id)) value = record t { slots = with_value t.slots id value }
+
+  -- the value that was lent last
+  abbrev pub held_last : Trail V → Option Holder → Option V
+  held_last t None = None
+  held_last t (Some h) = held t.value t.slots.nodes.items h
 
 module _ (item : List ℕ → Type 0) {V : Type 0} where
   -- the tree is whole, and what was lent last is in it
