@@ -2,6 +2,7 @@ pub use Rattle.patricia_keys.specs.ByteKind
 pub use Rattle.patricia_keys.specs.Keys
 pub use Rattle.patricia_keys.specs.TextKind
 pub use Rattle.patricia_rows.specs.Clones
+pub use Rattle.patricia_rows.specs.Cursors
 pub use Rattle.patricia_rows.specs.Laws
 pub use Rattle.patricia_rows.specs.Points
 pub use Rattle.patricia_rows.specs.Prefixes

@@ -5,6 +5,7 @@
 
 pub mod tree;
 
+pub use patricia_cursors::cursor;
 pub use patricia_keys::keys;
 pub use patricia_labels::{Steps, steps};
 pub use patricia_queries::{along, under};

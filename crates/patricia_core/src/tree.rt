@@ -10,6 +10,8 @@ ghost use Rattle.patricia_rows.specs.Points.{CountsVisits, Joins};
 ghost use Rattle.patricia_rows.specs.Prefixes.{along, longest, outside, under, IsReach};
 ghost use Rattle.patricia_rows.specs.Walks.{values_of};
 
+mod cursors;
+
 use patricia_copies::{copy, copy_value};
 use patricia_inserts::insert;
 use patricia_keys::{BorrowedBytes, Bytes};
