@@ -11,11 +11,15 @@ ghost use Rattle.patricia_core.specs.Prefixes.{along, longest, outside, under, I
 ghost use Rattle.patricia_core.specs.Walks.{values_of};
 
 mod bulk;
+mod cursors;
 mod iter;
+mod lent;
 mod loans;
 mod prefixes;
 
+pub use cursors::{IterMut, IterPrefixMut};
 pub use iter::{IntoIter, Iter, Keys, Values};
+pub use lent::{GivesBack, Lent};
 use patricia_core::Steps;
 use patricia_core::keys::{BorrowedBytes, Bytes};
 pub use patricia_core::tree::Refused;
