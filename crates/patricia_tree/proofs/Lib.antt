@@ -1,2 +1,3 @@
 mod BulkLemmas
+mod CursorLemmas
 mod LoanLemmas

@@ -31,7 +31,7 @@ lt_is Greater h = absurd h
 
 module _ {A : Type 0} where
   -- what a test lets through was there
-  has_filter : (f : A → Bool) (xs : List A) (x : A) → Has (filter f xs) x → Has xs x
+  pub has_filter : (f : A → Bool) (xs : List A) (x : A) → Has (filter f xs) x → Has xs x
   has_filter f [] x h = absurd h
   has_filter f (y ∷ xs) x h = by (f y) (has_filter f xs x) h
     where
@@ -55,7 +55,7 @@ module _ {V : Type 0} where
   below_is q (x ∷ es) e below (inr h) = below_is q es e (second_of _ _ below) h
 
   -- the value of an entry is found at its key
-  find_has : (es : List (List ℕ × V)) → T (is_sorted key_cmp es) → (e : List ℕ × V) → Has es e → find key_cmp e.0 es ≡ Some e.1
+  pub find_has : (es : List (List ℕ × V)) → T (is_sorted key_cmp es) → (e : List ℕ × V) → Has es e → find key_cmp e.0 es ≡ Some e.1
   find_has [] sorted e h = absurd h
   find_has (x ∷ es) sorted e (inl same) =
       subst (λ y. find key_cmp y.0 (x ∷ es) ≡ Some y.1) same

@@ -1,8 +1,10 @@
 pub mod Bulk
 pub mod Loans
 pub mod Private
+pub mod Steps
 pub use Rattle.patricia_core.specs.ByteKind
 pub use Rattle.patricia_core.specs.Clones
+pub use Rattle.patricia_core.specs.Cursors
 pub use Rattle.patricia_core.specs.Keys
 pub use Rattle.patricia_core.specs.Laws
 pub use Rattle.patricia_core.specs.Points

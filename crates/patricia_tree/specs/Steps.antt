@@ -1,0 +1,23 @@
+-- What a cursor is after it has run a closure on the entry that it lends next.
+use Rattle.std.specs.Prelude.{◌≡◌, ℕ, List, Some}
+use Rattle.std.specs.Borrow.{MutBor}
+use Rattle.std.specs.Fn.{Once}
+use Rattle.patricia_core.specs.Cursors.{Standing, next_row, stepped, written}
+
+-- `call` says of a closure when it may be called at a key and a loan of a value, and what it may
+-- then answer and leave there; `bytes` what the bytes of a key are
+module _ {F K V R : Type 0}
+    (call : Once F (K × (MutBor V × Unit {0})) (R × (MutBor V × Unit {0}))) (bytes : K → List ℕ) where
+  -- f may be called at the entry that the cursor lends next
+  abbrev pub TakesNext : F → Standing V → Type 0
+  TakesNext f s =
+      (key : K) (shown : MutBor V) → next_row s ≡ Some (bytes key, shown.now) → call.pre f (key, (shown, tt))
+
+  -- f was called at that entry and answered r; the cursor went on to it, and what f left is there
+  pub record StepsWith (f : F) (s : Standing V) (r : R) (t : Standing V) : Type 0 where
+    pub key : K
+    pub shown : MutBor V
+    pub left : MutBor V
+    pub is_next : next_row s ≡ Some (bytes key, shown.now)
+    pub met : call.post f (key, (shown, tt)) (r, (left, tt))
+    pub put_in : t ≡ written (stepped s) left.now
