@@ -30,12 +30,15 @@ module _ {V : Type 0} where
   abbrev pub to_lend : Standing V → List (List ℕ × V)
   to_lend s = after s.last (under s.prefix (map.entries s.map))
 
-  -- the first of them, and its key
+  -- the first of them, its key and its value
   abbrev pub next_row : Standing V → Option (List ℕ × V)
   next_row s = slice_get (to_lend s) 0
 
   abbrev pub next_key : Standing V → Option (List ℕ)
   next_key s = option_map (λ e. e.0) (next_row s)
+
+  abbrev pub next_value : Standing V → Option V
+  next_value s = option_map (λ e. e.1) (next_row s)
 
   -- where it stands once it has lent at a key
   abbrev pub lent_at : Standing V → Option (List ℕ) → Standing V

@@ -2,3 +2,4 @@
 pub mod Lends
 pub mod Longest
 pub mod Nexts
+pub mod ValueLends

@@ -2,7 +2,7 @@
 use Rattle.std.specs.Prelude.{◌≡◌, ℕ, List, Some}
 use Rattle.std.specs.Borrow.{MutBor}
 use Rattle.std.specs.Fn.{Once}
-use Rattle.patricia_core.specs.Cursors.{Standing, next_row, stepped, written}
+use Rattle.patricia_core.specs.Cursors.{Standing, next_row, next_value, stepped, written}
 
 -- `call` says of a closure when it may be called at a key and a loan of a value, and what it may
 -- then answer and leave there; `bytes` what the bytes of a key are
@@ -20,4 +20,17 @@ module _ {F K V R : Type 0}
     pub left : MutBor V
     pub is_next : next_row s ≡ Some (bytes key, shown.now)
     pub met : call.post f (key, (shown, tt)) (r, (left, tt))
+    pub put_in : t ≡ written (stepped s) left.now
+
+-- the same for a closure that takes a loan of the value alone
+module _ {F V R : Type 0} (call : Once F (MutBor V × Unit {0}) (R × (MutBor V × Unit {0}))) where
+  abbrev pub TakesNextValue : F → Standing V → Type 0
+  TakesNextValue f s =
+      (shown : MutBor V) → next_value s ≡ Some shown.now → call.pre f (shown, tt)
+
+  pub record StepsWithValue (f : F) (s : Standing V) (r : R) (t : Standing V) : Type 0 where
+    pub shown : MutBor V
+    pub left : MutBor V
+    pub is_next : next_value s ≡ Some shown.now
+    pub met : call.post f (shown, tt) (r, (left, tt))
     pub put_in : t ≡ written (stepped s) left.now

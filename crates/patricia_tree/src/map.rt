@@ -17,7 +17,7 @@ mod lent;
 mod loans;
 mod prefixes;
 
-pub use cursors::{IterMut, IterPrefixMut};
+pub use cursors::{IterMut, IterPrefixMut, ValueCursor, ValuesMut};
 pub use iter::{IntoIter, Iter, Keys, Values};
 pub use lent::{GivesBack, Lent};
 use patricia_core::Steps;

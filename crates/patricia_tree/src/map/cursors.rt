@@ -1,21 +1,25 @@
 //! Cursors: walks that lend the values of a map one at a time, in key order.
-ghost use Rattle.std.specs.Prelude.{◌≡◌, ◌≢◌, ◌↔◌, [], None, IfOk, OnOk, OnErr, IsTrue, IsSome, MatchOption, Some};
-ghost use Rattle.std.specs.Borrow.{sem};
-ghost use Rattle.std.specs.Option.{option_copied_mut, option_map};
-ghost use Rattle.patricia_core.specs.Cursors.{last_value, next_key, next_row, stepped};
+ghost use Rattle.std.specs.Prelude.{◌≡◌, [], None};
+
+mod entries;
+mod prefixes;
+mod values;
 
 use super::GenericPatriciaMap;
 use super::lent::{GivesBack, Lent};
 use patricia_core::cursor::{Cursor, PrefixCursor};
 use patricia_core::keys::{BorrowedBytes, Bytes};
 use patricia_core::tree::Tree;
-use std::alloc::AllocError;
+pub use values::ValueCursor;
 
 /// A cursor over the entries of a map.
 pub type IterMut<'a, K, V> = Lent<'a, GenericPatriciaMap<K, V>, Cursor<K, V>>;
 
 /// A cursor over the entries whose key begins with a prefix.
 pub type IterPrefixMut<'a, K, Q, V> = Lent<'a, GenericPatriciaMap<K, V>, PrefixCursor<Q, V>>;
+
+/// A cursor over the values of a map, in the order of their keys.
+pub type ValuesMut<'a, K, V> = Lent<'a, GenericPatriciaMap<K, V>, ValueCursor<K, V>>;
 
 impl<K: Bytes, V: Drop> GivesBack<GenericPatriciaMap<K, V>> for Cursor<K, V> {
     ghost back = { λ c. c.map };
@@ -38,6 +42,16 @@ impl<K: Bytes, Q: BorrowedBytes<Owned = K>, V: Drop> GivesBack<GenericPatriciaMa
     }
 }
 
+impl<K: Bytes, V: Drop> GivesBack<GenericPatriciaMap<K, V>> for ValueCursor<K, V> {
+    ghost back = { λ c. c.map };
+
+    fn give_back(self) -> GenericPatriciaMap<K, V> {
+        GenericPatriciaMap {
+            tree: Tree::from_cursor(self.into_cursor()),
+        }
+    }
+}
+
 impl<K: Bytes, V: Drop> GenericPatriciaMap<K, V> {
     /// A cursor over the entries, in key order. Making it takes no memory.
     pub fn iter_mut(&mut self) -> IterMut<'_, K, V>
@@ -48,6 +62,18 @@ impl<K: Bytes, V: Drop> GenericPatriciaMap<K, V> {
         Lent {
             home: self,
             at: tree.into_cursor(),
+        }
+    }
+
+    /// A cursor over the values, in the order of their keys. Making it takes no memory.
+    pub fn values_mut(&mut self) -> ValuesMut<'_, K, V>
+        ensures home { result.home.ghost_name ≡ self.entry.ghost_name }
+        ensures start { result.at ≡ record { map = self.old; prefix = []; last = None } }
+    {
+        let tree = self.tree.take();
+        Lent {
+            home: self,
+            at: ValueCursor::new(tree.into_cursor()),
         }
     }
 
@@ -68,93 +94,3 @@ impl<K: Bytes, V: Drop> GenericPatriciaMap<K, V> {
     }
 }
 
-impl<'a, K: Bytes, V: Drop> Lent<'a, GenericPatriciaMap<K, V>, Cursor<K, V>> {
-    ghost use Rattle.patricia_tree.specs.Private.Lends.{lends_last};
-    ghost use Rattle.patricia_tree.specs.Private.Nexts.{IsNext, lends_there};
-    ghost use Rattle.patricia_tree.specs.Steps.{StepsWith, TakesNext};
-
-    /// Goes on to the next entry and answers its key, or `None` at the end. `value` lends its
-    /// value.
-    ///
-    /// The error is want of memory: nothing is changed, and the next call tries the same entry.
-    pub fn advance(&mut self) -> Result<Option<K>, AllocError>
-        ensures home { self.new.home.ghost_name ≡ self.old.home.ghost_name }
-        ensures key { IfOk result (λ key. option_map K.key key ≡ next_key self.old.at) }
-        ensures stepped { OnOk result (self.new.at ≡ stepped self.old.at) }
-        ensures unchanged { OnErr result (self.new.at ≡ self.old.at) }
-        ensures only_left { OnErr result (next_row self.old.at ≢ None) }
-    {
-        self.at.advance()
-    }
-
-    /// Lends the value of the entry that it went on to last, or answers `None` where it has not
-    /// gone on yet.
-    pub fn value(&mut self) -> Option<&mut V>
-        ensures* writes { sem 𝓛 (lends_last K.row V.row K.Bytes self.entry result) }
-        ensures value { option_copied_mut result ≡ last_value self.old.at }
-    {
-        self.at.value()
-    }
-
-    // The same as `advance`, which says what entry it is.
-    fn go_on(&mut self) -> Result<Option<K>, AllocError>
-        ensures home { self.new.home.ghost_name ≡ self.old.home.ghost_name }
-        ensures ok { IfOk result (λ key. MatchOption key
-            ((next_row self.old.at ≡ None) × (self.new.at ≡ self.old.at))
-            (λ key. IsNext self.old.at (K.key key) × (self.new.at ≡ stepped self.old.at))) }
-        ensures unchanged { OnErr result (self.new.at ≡ self.old.at) }
-        ensures only_left { OnErr result (next_row self.old.at ≢ None) }
-    {
-        match self.advance()? {
-            Some(key) => Ok(Some(key)),
-            None => Ok(None),
-        }
-    }
-
-    // Lends the value of the entry that it went on to last.
-    fn there(&mut self) -> &mut V
-        requires { IsSome (last_value self.old.at) }
-        ensures* writes { sem 𝓛 (lends_there K.row V.row K.Bytes self.entry result) }
-        ensures value { last_value self.old.at ≡ Some result.now }
-    {
-        match self.value() {
-            Some(value) => value,
-            None => unreachable!(),
-        }
-    }
-
-    /// Goes on to the next entry and lends its value beside a key of its own, or answers `None` at
-    /// the end.
-    ///
-    /// The error is want of memory, as for `advance`. The contract does not say what the map is
-    /// after the loan: those of `next_with`, and of `advance` and `value`, do.
-    pub fn next(&mut self) -> Result<Option<(K, &mut V)>, AllocError>
-        ensures row { IfOk result (λ e. option_map (λ e. (K.key e.0, e.1.now)) e ≡ next_row self.old.at) }
-        ensures only_left { OnErr result (next_row self.old.at ≢ None) }
-    {
-        match self.go_on()? {
-            Some(key) => Ok(Some((key, self.there()))),
-            None => Ok(None),
-        }
-    }
-
-    /// Goes on to the next entry and runs a closure on a key of its own and a loan of its value. At
-    /// the end it is not run.
-    ///
-    /// The error is want of memory, as for `advance`, and the closure is not run.
-    pub fn next_with<R, F: FnOnce(K, &mut V) -> R>(&mut self, f: F) -> Result<Option<R>, AllocError>
-        requires callable { TakesNext F.FnOnce K.key f self.old.at }
-        ensures home { self.new.home.ghost_name ≡ self.old.home.ghost_name }
-        ensures ok { IfOk result (λ r. MatchOption r
-            ((next_row self.old.at ≡ None) × (self.new.at ≡ self.old.at))
-            (λ r. StepsWith F.FnOnce K.key f self.old.at r self.new.at)) }
-        ensures unchanged { OnErr result (self.new.at ≡ self.old.at) }
-        ensures only_left { OnErr result (next_row self.old.at ≢ None) }
-    {
-        let Some(key) = self.go_on()? else {
-            return Ok(None);
-        };
-        let value = self.there();
-        Ok(Some(f(key, value)))
-    }
-}

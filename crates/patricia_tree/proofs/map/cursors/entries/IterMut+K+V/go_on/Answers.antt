@@ -1,7 +1,7 @@
 use Rattle.std.proofs.Common.{sym, ap, ◌∙◌}
 use Rattle.std.specs.Option.{option_map}
 use Rattle.patricia_tree.proofs.CursorLemmas.{is_next}
-use Rattle.patricia_tree.proofs.map.cursors.Lent+GenericPatriciaMap+K+V+Cursor+K+V.go_on.Goals as goal
+use Rattle.patricia_tree.proofs.map.cursors.entries.IterMut+K+V.go_on.Goals as goal
 
 pub returns-in-Some-clause-ok : goal.returns-in-Some-clause-ok
 returns-in-Some-clause-ok g c =

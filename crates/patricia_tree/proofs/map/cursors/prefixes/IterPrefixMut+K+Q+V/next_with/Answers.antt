@@ -2,7 +2,7 @@ use Rattle.std.proofs.Common.{◌≡◌, ap}
 use Rattle.patricia_core.specs.Cursors.{stepped, written}
 use Rattle.patricia_tree.specs.Private.Nexts.{IsNext}
 use Rattle.patricia_tree.proofs.CursorLemmas.{match_some}
-use Rattle.patricia_tree.proofs.map.cursors.Lent+GenericPatriciaMap+K+V+Cursor+K+V.next_with.Goals as goal
+use Rattle.patricia_tree.proofs.map.cursors.prefixes.IterPrefixMut+K+Q+V.next_with.Goals as goal
 
 pub returns-clause-ok : goal.returns-clause-ok
 returns-clause-ok g c =
