@@ -6,7 +6,7 @@ use Rattle.std.specs.Ordering.{is_lt}
 use Rattle.std.specs.FinMap as map
 use Rattle.std.specs.FinMap.{entries_sorted, get-entries}
 use Rattle.patricia_core.specs.Cursors.{Standing, after, to_lend, next_row, next_key, stepped, lent_at, last_value}
-use Rattle.patricia_tree.specs.Private.Nexts.{IsNext}
+use Rattle.patricia_tree.specs.Private.Nexts.{IsNext, IsNextValue}
 use Rattle.patricia_core.specs.Keys.{key_cmp}
 use Rattle.patricia_core.specs.Points.{Has}
 use Rattle.patricia_core.specs.Prefixes.{begins, under}
@@ -40,6 +40,19 @@ module _ {V : Type 0} where
           record {
             there = subst IsSome (sym there) refl;
             is_next = λ v lent. row ∙ (let both = sym there ∙ lent in cc);
+          }
+
+  -- the same without the key
+  pub is_next_value : (s : Standing V) → next_row s ≢ None → IsNextValue s
+  is_next_value s some = by (next_row s) refl some
+    where
+      by : (o : Option (List ℕ × V)) → next_row s ≡ o → o ≢ None → IsNextValue s
+      by None row some = absurd (some refl)
+      by (Some (k, x)) row some =
+          let there : last_value (stepped s) ≡ Some x = subst (λ o. last_value (lent_at s (option_map (λ e. e.0) o)) ≡ Some x) (sym row) (next_found s (k, x) row) in
+          record {
+            there = subst IsSome (sym there) refl;
+            is_next = λ v lent. ap (option_map (λ e. e.1)) row ∙ (let both = sym there ∙ lent in cc);
           }
 
   -- and where there is no key there is no entry
