@@ -73,3 +73,7 @@ module _ (item : List ℕ → Type 0) (kind : IsKeyKind item) {V : Type 0} (s : 
   -- or no value is there
   pub has_none : false ≡ is_some n.value → find key_cmp key (entries_of s) ≡ None
   has_none none = find_some item kind s key whole ok spot at rest stop p id is n reads ∙ not_some n.value none
+
+-- the node has what a look-up finds
+pub node_found : (item : List ℕ → Type 0) {V : Type 0} (s : Slots V) (key : List ℕ) (id : ℕ) → HasNode item s key id → value_of s id ≡ find key_cmp key (entries_of s)
+node_found item s key id h = h.is_value ∙ sym h.found

@@ -1,5 +1,5 @@
 -- The longest key of a map that begins a key, as a part of that key.
-use Rattle.std.specs.Prelude.{◌≡◌, ℕ, List, Option, Some, IsSome}
+use Rattle.std.specs.Prelude.{◌≡◌, ℕ, List, Some, IsSome}
 use Rattle.std.specs.Borrow.{Lends, Fml, RattleType, MutBor}
 use Rattle.std.specs.FinMap as map
 use Rattle.patricia_core.specs.Keys.{Begins, key_cmp}

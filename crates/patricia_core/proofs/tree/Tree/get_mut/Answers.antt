@@ -1,12 +1,13 @@
 use Rattle.std.proofs.Common.{◌≡◌, ◌≢◌, inr, [], Some, sym, ap, ◌∙◌, refl}
 use borrow.Follows.Closed.{read_of}
 use mathlib.Core.Bool.{false≢true}
-use Rattle.std.specs.Option.{ghost_name_of}
+use Rattle.std.specs.Option.{ghost_name_of, option_copied_mut}
 use Rattle.std.specs.FinMap as map
 use Rattle.patricia_nodes.specs.Private.Plans.{row_of}
-use Rattle.patricia_loans.specs.Private.Loans.{with_value}
+use Rattle.patricia_loans.specs.Private.Loans.{value_of, with_value}
 use Rattle.patricia_rows.specs.Trees.{map_of}
 use Rattle.patricia_rows.proofs.TreeLemmas.{get_empty, get_filled, insert_empty, insert_filled, length_old}
+use Rattle.patricia_loans.proofs.LoanLemmas.{node_found}
 use Rattle.patricia_core.proofs.tree.Tree.get_mut.Goals as goal
 
 pub returns-then-is_empty : goal.returns-then-is_empty
@@ -40,11 +41,12 @@ returns-in-Some g c =
     let key = g.Q.BorrowedBytes.key c.args.key in
     let found = c.in-Some.ensures in
     let filled : key ≢ [] = λ none. absurd (false≢true (c.if-is_empty.ensures.1 none)) in
+    let lent : option_copied_mut c.value_at.result ≡ value_of c.self.inside.slots c.in-Some.id = c.value_at.ensures.value in
     let ok = c.self.invariant.tree.row_ok in
     let wrote : (w : g.row.V.Denot) → map_of c.self.inside.value (row_of (with_value c.self.inside.slots c.in-Some.id w)) ≡ map.insert c.args.self.now key w =
     λ w. rw (← c.self.view_is) (insert_filled g.K.Bytes.item g.met.K.Bytes.lawful _ _ (row_of (with_value c.self.inside.slots c.in-Some.id w)) key w ok filled (found.writes w).put_is) in (
       (λ i. read_of (ghost_name_of c.value_at.result) (λ w. wrote w i) (c.self.view_is i)),
-      record { writes = tt; value = rw (← c.self.view_is) (c.value_at.ensures.value ∙ found.is_value ∙ sym (get_filled g.K.Bytes.item g.met.K.Bytes.lawful _ _ _ ok filled ∙ found.found)) },
+      record { writes = tt; value = rw (← c.self.view_is) (lent ∙ node_found g.K.Bytes.item c.self.inside.slots key c.in-Some.id found ∙ sym (get_filled g.K.Bytes.item g.met.K.Bytes.lawful c.self.inside.value _ key ok filled)) },
     )
 
 pub returns-in-None : goal.returns-in-None
