@@ -1,4 +1,4 @@
-use Rattle.std.proofs.Common.{sym, ap, subst, ◌∙◌}
+use Rattle.std.proofs.Common.{sym, ap, subst, ◌∙◌, rules}
 use Rattle.std.specs.FinMap.{find}
 use Rattle.patricia_keys.specs.Keys.{key_cmp}
 use Rattle.patricia_rows.specs.Rows.{entries, IsRow}
@@ -38,3 +38,15 @@ pub returns-clause-only_new : goal.returns-clause-only_new
 returns-clause-only_new g c =
     let ok = subst (IsRow g.Q.Owned.Bytes.item) (sym c.ensure_room.ensures.row) c.requires.row in
     on_err_weaker c.insert_at-2.result (λ none. ap (λ r. find key_cmp (g.Q.BorrowedBytes.key c.args.key) (entries r)) (sym c.ensure_room.ensures.row) ∙ find_none _ g.met.Q.Owned.Bytes.lawful _ _ c.ensure_room.ensures.whole ok _ _ _ _ c.seek-place-2.ensures none) c.insert_at-2.ensures.only_new
+
+pub returns-then-is_err-clause-whole : goal.returns-then-is_err-clause-whole
+returns-then-is_err-clause-whole g c = search rules
+
+pub returns-then-is_err-clause-row : goal.returns-then-is_err-clause-row
+returns-then-is_err-clause-row g c = search rules
+
+pub returns-then-is_err-clause-refused : goal.returns-then-is_err-clause-refused
+returns-then-is_err-clause-refused g c = search rules
+
+pub returns-then-is_err-clause-unchanged : goal.returns-then-is_err-clause-unchanged
+returns-then-is_err-clause-unchanged g c = search rules

@@ -1,4 +1,5 @@
-use Rattle.std.proofs.Common.{◌≡◌, ◌∷◌, ◌++◌, [], arith}
+use Rattle.std.proofs.Common.{◌≡◌, ◌∷◌, ◌++◌, [], arith, rules}
+use Rattle.std.proofs.lemmas.Grind.{common_steps}
 use Rattle.std.proofs.lemmas.List.{take_more, map-append}
 use Rattle.patricia_machine.proofs.MachineLemmas.{Run-more}
 use Rattle.patricia_machine.proofs.bench.run.Goals as goal
@@ -12,3 +13,9 @@ loop-command-preserved g c =
       count = grind (arith, c.unwrap.ensures, c.push.ensures.len);
       room = omega (arith, c.push.ensures.capacity);
     }
+
+pub returns-clause-ok : goal.returns-clause-ok
+returns-clause-ok g c = grind (arith, common_steps)
+
+pub returns-in_err-replies-clause-unchanged : goal.returns-in_err-replies-clause-unchanged
+returns-in_err-replies-clause-unchanged g c = search rules

@@ -1,4 +1,4 @@
-use Rattle.std.proofs.Common.{◌≢◌, sym, ap, subst, ◌∙◌}
+use Rattle.std.proofs.Common.{◌≢◌, sym, ap, subst, ◌∙◌, rules}
 use Rattle.std.specs.Prelude.{map as list_map}
 use Rattle.std.specs.FinMap as map
 use Rattle.patricia_rows.specs.Clones.{AreKept}
@@ -27,3 +27,6 @@ pub returns-in_err-copy-clause-only_filled : goal.returns-in_err-copy-clause-onl
 returns-in_err-copy-clause-only_filled g c =
     let some : map.len c.args.self.now ≢ 0 = λ none. c.in_err-copy.ensures.filled (nothing_in g.K.Bytes.item g.met.K.Bytes.lawful c.self.inside.value (row_of c.self.inside.slots) c.self.invariant.tree.row_ok (ap map.len c.self.view_is ∙ none)).1 in
     on_err_from _ some
+
+pub returns-clause-same : goal.returns-clause-same
+returns-clause-same g c = search rules

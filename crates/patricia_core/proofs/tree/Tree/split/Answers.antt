@@ -1,4 +1,4 @@
-use Rattle.std.proofs.Common.{◌≢◌, [], ◌++◌, None, refl, sym, ap, ◌∙◌, arith, length}
+use Rattle.std.proofs.Common.{◌≢◌, [], ◌++◌, None, refl, sym, ap, ◌∙◌, arith, length, rules}
 use mathlib.Core.Bool.{false≢true}
 use Rattle.std.specs.FinMap as map
 use Rattle.patricia_rows.specs.Prefixes.{outside, under}
@@ -70,3 +70,6 @@ returns-in-Err-clause-only_begun g c none =
     ∙ ap (under p) (sym (entries_map g.K.Bytes.item g.met.K.Bytes.lawful _ _ c.self-2.invariant.tree.row_ok) ∙ ap map.entries c.self-2.view_is)
     ∙ none
     )
+
+pub returns-then-is_empty-clause-only_filled : goal.returns-then-is_empty-clause-only_filled
+returns-then-is_empty-clause-only_filled g c = search rules

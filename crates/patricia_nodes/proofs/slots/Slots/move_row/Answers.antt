@@ -1,4 +1,4 @@
-use Rattle.std.proofs.Common.{suc, Some, length, refl, sym, ap, ◌∙◌, arith}
+use Rattle.std.proofs.Common.{suc, Some, length, refl, sym, ap, ◌∙◌, arith, rules}
 use Rattle.patricia_nodes.proofs.GrowthLemmas.{moving_none, next_within, moving_next, moving_done, number_none, number_some}
 use Rattle.patricia_nodes.proofs.slots.Slots.move_row.Goals as goal
 use Rattle.patricia_nodes.proofs.slots.Slots.move_row.Goals.{in-None, in-Some-get}
@@ -36,3 +36,6 @@ returns-in-None-get-clause-taken g c w row =
 pub returns-in-Some-get-2-clause-taken : goal.returns-in-Some-get-2-clause-taken
 returns-in-Some-get-2-clause-taken g c w row =
     (moving_done c.args.self.now c.args.to.now.items w c.loop-id.self c.loop-id.to.items (rw (sym c.get.ensures ∙ c.in_default.is) at c.loop-id.invariant.moving w row)).1
+
+pub returns-in-Some-get-2-clause-laid : goal.returns-in-Some-get-2-clause-laid
+returns-in-Some-get-2-clause-laid g c = search rules
