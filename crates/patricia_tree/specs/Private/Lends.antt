@@ -1,5 +1,5 @@
 -- What a cursor is after a loan of the value that it went on to last.
-use Rattle.std.specs.Prelude.{List, [], ℕ, Option}
+use Rattle.std.specs.Prelude.{[], Option}
 use Rattle.std.specs.Borrow.{LendsIf, Fml, RattleType, MutBor}
 use Rattle.std.specs.FinMap as map
 use mir.Syntax.{named}

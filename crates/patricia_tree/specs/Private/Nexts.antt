@@ -1,5 +1,5 @@
 -- The entry that a cursor lends next, by its key.
-use Rattle.std.specs.Prelude.{◌≡◌, ℕ, List, [], Option, Some, IsSome}
+use Rattle.std.specs.Prelude.{◌≡◌, ℕ, List, [], Some, IsSome}
 use Rattle.std.specs.Borrow.{Lends, Fml, RattleType, MutBor}
 use mir.Syntax.{named}
 use Rattle.patricia_core.specs.Cursors.{Standing, next_row, next_value, stepped, last_value}

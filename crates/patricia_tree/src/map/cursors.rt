@@ -93,4 +93,3 @@ impl<K: Bytes, V: Drop> GenericPatriciaMap<K, V> {
         }
     }
 }
-

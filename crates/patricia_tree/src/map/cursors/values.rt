@@ -121,7 +121,11 @@ impl<'a, K: Bytes, V: Drop> ValuesMut<'a, K, V> {
         ensures value { IfOk result (λ v. option_copied_mut v ≡ next_value self.old.at) }
         ensures only_left { OnErr result (next_row self.old.at ≢ None) }
     {
-        if self.go_on()? { Ok(Some(self.there())) } else { Ok(None) }
+        if self.go_on()? {
+            Ok(Some(self.there()))
+        } else {
+            Ok(None)
+        }
     }
 
     /// Goes on to the next value and runs a closure on a loan of it. At the end it is not run.
