@@ -29,6 +29,16 @@ fn summed(map: &Map) -> u64 {
     map.values().sum()
 }
 
+// Adds 1 to each value.
+fn raised(map: &mut Map) -> u64 {
+    let mut raised = 0;
+    for value in map.values_mut() {
+        *value = value.wrapping_add(1);
+        raised += 1;
+    }
+    raised
+}
+
 // The entries under the first half of each key.
 fn under(map: &Map, keys: &[&[u8]]) -> u64 {
     let mut entries = 0;
@@ -170,6 +180,8 @@ fn measure(times: bool, present: &mut [&[u8]], absent: &[&[u8]], prefix: &[u8]) 
     report(times, "under", start, some.len(), under(&map, some));
     let start = Instant::now();
     report(times, "longest", start, some.len(), longest(&map, some));
+    let (count, start) = (map.len(), Instant::now());
+    report(times, "values_mut", start, count, raised(&mut map));
     time_copies(times, &map, prefix);
     let start = Instant::now();
     report(times, "remove", start, present.len(), taken(&mut map, present));

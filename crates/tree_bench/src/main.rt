@@ -64,6 +64,22 @@ fn summed<K: Bytes>(map: &GenericPatriciaMap<K, u64>) -> Result<u64, AllocError>
     Ok(sum)
 }
 
+// Adds 1 to each value, and counts them.
+fn raised<K: Bytes>(map: &mut GenericPatriciaMap<K, u64>) -> Result<u64, AllocError> {
+    let len = map.len();
+    let mut raised: u64 = 0;
+    let mut cursor = map.values_mut();
+    for _ in 0..len {
+        let step = cursor.next_with(|value| {
+            *value = value.wrapping_add(1);
+        })?;
+        if step.is_some() {
+            raised = raised.wrapping_add(1);
+        }
+    }
+    Ok(raised)
+}
+
 // Counts the entries under each prefix.
 fn under<Q: BorrowedBytes>(
     map: &GenericPatriciaMap<Q::Owned, u64>,
@@ -157,6 +173,17 @@ fn time_walks<K: Bytes>(
     let start = Instant::now(rt)?;
     let sum = summed(map)?;
     report(rt, times, "values", start, map.len(), sum)
+}
+
+fn time_raise<K: Bytes>(
+    rt: &(impl Clock + Print),
+    times: bool,
+    map: &mut GenericPatriciaMap<K, u64>,
+) -> io::Result<()> {
+    let len = map.len();
+    let start = Instant::now(rt)?;
+    let raised = raised(map)?;
+    report(rt, times, "values_mut", start, len, raised)
 }
 
 fn time_prefixes<Q: BorrowedBytes>(
@@ -269,6 +296,7 @@ fn measure<Q: BorrowedBytes>(
     let memory = fill(rt, times, &mut map, present)?;
     shuffle(present, 3);
     time_reads(rt, times, &map, present, absent, halves)?;
+    time_raise(rt, times, &mut map)?;
     time_copies(rt, times, &map, prefix)?;
     time_removes(rt, times, &mut map, present)?;
     Ok(memory)
