@@ -9,7 +9,7 @@ use Rattle.patricia_rows.proofs.TreeLemmas.{tree_sorted}
 use Rattle.patricia_nodes.specs.declared.slots.Slots.{Slots}
 use Rattle.patricia_nodes.specs.declared.slots.seek.Spot.{Spot}
 use Rattle.patricia_nodes.specs.declared.slots.seek.Stop.{Stop}
-use Rattle.patricia_nodes.specs.Private.Plans.{Plan, Nil, Cell, count, row, row_of, entries_of, plan_at, IsWhole}
+use Rattle.patricia_nodes.specs.Private.Plans.{Plan, Nil, Cell, count, row_of, entries_of, plan_at, IsWhole}
 use Rattle.patricia_nodes.specs.Private.Places.{Frame, InChild, InSibling, fill, spot_of, above_of, Leads, Stops, Placed}
 use Rattle.patricia_nodes.proofs.PlanLemmas.{plan_is, below_le}
 use Rattle.patricia_nodes.proofs.SeekLemmas.{whole_plan}

@@ -1,16 +1,14 @@
 -- What a write through a loan leaves of a trail.
-use Rattle.std.proofs.Common.{◌≡◌, ◌≢◌, ℕ, ◌<◌, T, false, List, [], ◌++◌, length, set, Option, Some, None, slice_get, refl, sym, ap, subst, ◌∙◌}
-use Rattle.std.specs.Option.{option_map}
+use Rattle.std.proofs.Common.{◌≡◌, ◌≢◌, ℕ, ◌<◌, false, List, ◌++◌, length, set, Option, Some, None, slice_get, refl, sym, ap, subst, ◌∙◌}
 use Rattle.std.specs.FinMap as map
 use Rattle.std.specs.FinMap.{from_sorted, get-from_sorted}
 use Rattle.std.proofs.lemmas.Option.{slice_get_within}
 use Rattle.patricia_keys.specs.Keys.{IsKeyKind, key_cmp}
-use Rattle.patricia_rows.specs.Cursors.{Standing, written, written_at, last_value, value_at}
-use Rattle.patricia_rows.specs.Rows.{own, entries}
+use Rattle.patricia_rows.specs.Cursors.{written, written_at, last_value, value_at}
+use Rattle.patricia_rows.specs.Rows.{own}
 use Rattle.patricia_rows.specs.Trees.{IsTree, map_of}
 use Rattle.patricia_rows.proofs.TreeLemmas.{from_sorted-put, tree_sorted}
 use Rattle.patricia_nodes.specs.declared.slots.Node.{Node}
-use Rattle.patricia_nodes.specs.declared.slots.Slots.{Slots}
 use Rattle.patricia_nodes.specs.Private.Plans.{IsWhole, row_of, entries_of}
 use Rattle.patricia_rows.specs.Private.Spots.{left}
 use Rattle.patricia_walks.specs.Private.Positions.{IsPosition, spot_of}
@@ -19,7 +17,7 @@ use Rattle.patricia_cursors.specs.declared.trail.Holder.{Holder}
 use Rattle.patricia_cursors.specs.declared.trail.Holder.TheVariants.{Top, At}
 use Rattle.patricia_cursors.specs.declared.trail.Start.{Start}
 use Rattle.patricia_cursors.specs.declared.trail.Trail.{Trail}
-use Rattle.patricia_cursors.specs.Private.Holders.{numbered, holders, held, is_same, key_at, Reads}
+use Rattle.patricia_cursors.specs.Private.Holders.{holders, held, is_same, key_at, Reads}
 use Rattle.patricia_cursors.specs.Private.Trails.{seen, key_of, last_key, standing, with_held, held_last, IsHeld, IsTrail, IsUnder}
 use Rattle.patricia_cursors.proofs.HolderLemmas.{holders_read, holders_once}
 use Rattle.patricia_cursors.proofs.HolderWriteLemmas.{write_numbered, write_holders, write_whole, write_tree, write_held, write_kept}

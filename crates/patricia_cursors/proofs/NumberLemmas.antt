@@ -3,7 +3,7 @@ use Rattle.std.proofs.Common.{◌≡◌, ◌↔◌, ℕ, zero, suc, ◌+◌, ◌
 use Rattle.std.specs.Option.{option_map}
 use Rattle.std.proofs.lemmas.List.{map-append, length-map}
 use Rattle.std.proofs.lemmas.Option.{slice_get-get_or, get_or_from_slice_get}
-use Rattle.patricia_rows.specs.Rows.{node, own, prefixed, entries, keys_of, EarnsWithin, IsBeforeRow, IsRow}
+use Rattle.patricia_rows.specs.Rows.{own, prefixed, entries, keys_of, EarnsWithin, IsBeforeRow, IsRow}
 use Rattle.patricia_nodes.specs.declared.slots.Node.{Node}
 use Rattle.patricia_nodes.specs.Private.Plans.{Plan, Nil, Cell, linked, head, row, size, count, Stands, IsChain, IsPlan, IsSound, plan_at}
 use Rattle.patricia_nodes.proofs.PlanLemmas.{plan_is}

@@ -1,5 +1,5 @@
 -- Where a walk under a prefix begins, among the numbered nodes.
-use Rattle.std.proofs.Common.{◌≡◌, ◌≢◌, ℕ, ◌<◌, ◌-◌, List, [], ◌++◌, length, take, Option, Some, None, get_or, refl, sym, ap, ◌∙◌, arith}
+use Rattle.std.proofs.Common.{◌≡◌, ◌≢◌, ℕ, ◌<◌, ◌-◌, List, [], ◌++◌, length, take, Option, Some, None, get_or, refl, sym, ◌∙◌, arith}
 use Rattle.std.specs.Option.{option_map}
 use Rattle.patricia_keys.specs.Keys.{IsKeyKind, IsValid}
 use Rattle.patricia_rows.specs.Prefixes.{under}
@@ -18,7 +18,6 @@ use Rattle.patricia_rows.specs.Private.Spots.{left}
 use Rattle.patricia_queries.proofs.UnderLemmas.{place_top, place_rows, place_nothing, top_filled}
 use Rattle.patricia_cursors.specs.declared.trail.Holder.{Holder}
 use Rattle.patricia_cursors.specs.declared.trail.Holder.TheVariants.{Top, At}
-use Rattle.patricia_cursors.specs.declared.trail.Start.{Start}
 use Rattle.patricia_cursors.specs.Private.Holders.{numbered, holders}
 use Rattle.patricia_cursors.specs.Private.Trails.{IsStart, StartsUnder}
 use Rattle.patricia_cursors.proofs.HolderLemmas.{Marked, marked, place_marked, row_marked}

@@ -1,19 +1,17 @@
 -- What a trail has left, and where its cursor stands, from step to step.
-use Rattle.std.proofs.Common.{◌≡◌, ◌≢◌, ◌↔◌, ℕ, ◌≤◌, T, Bool, List, [], ◌∷◌, ◌++◌, length, take, Option, Some, None, slice_get, inl, refl, sym, ap, subst, ◌∙◌}
+use Rattle.std.proofs.Common.{◌≡◌, ◌≢◌, ◌↔◌, ℕ, T, Bool, List, [], ◌∷◌, ◌++◌, take, Option, Some, None, slice_get, inl, refl, sym, ap, subst, ◌∙◌}
 use Rattle.std.specs.Prelude.{Result, Ok, Err, IfOk, OnOk, OnErr, IfSome, IfNone, IsTrue}
 use Rattle.std.specs.Option.{option_map, is_some}
-use Rattle.std.specs.FinMap as map
 use Rattle.std.specs.FinMap.{is_sorted}
 use Rattle.std.specs.FinMap.Entries.{is_sorted-where_key}
 use Rattle.patricia_keys.specs.Keys.{IsKeyKind, key_cmp}
-use Rattle.patricia_rows.specs.Cursors.{Standing, after, to_lend, next_row, next_key, stepped}
+use Rattle.patricia_rows.specs.Cursors.{Standing, after, to_lend, next_key, stepped}
 use Rattle.patricia_rows.specs.Points.{Has}
 use Rattle.patricia_rows.specs.Prefixes.{begins, under}
 use Rattle.patricia_rows.specs.Rows.{own, entries}
 use Rattle.patricia_rows.specs.Trees.{IsTree, map_of}
 use Rattle.patricia_rows.proofs.CursorLemmas.{after_first, after_has}
 use Rattle.patricia_rows.proofs.FilterLemmas.{has_filter}
-use Rattle.patricia_rows.proofs.PrefixLemmas.{under_empty}
 use Rattle.patricia_rows.proofs.TreeLemmas.{entries_map}
 use Rattle.patricia_nodes.specs.Private.Plans.{IsWhole, row_of, entries_of}
 use Rattle.patricia_walks.specs.Private.Positions.{IsPosition, row_at, rows_below}
@@ -24,7 +22,7 @@ use Rattle.patricia_queries.proofs.UnderLemmas.{under_filled}
 use Rattle.patricia_cursors.specs.declared.trail.Trail.{Trail}
 use Rattle.patricia_cursors.specs.declared.trail.Parts.{Parts}
 use Rattle.patricia_cursors.specs.Private.Holders.{numbered, holders, held, key_at, Reads}
-use Rattle.patricia_cursors.specs.Private.Trails.{seen, left_of, key_of, last_key, standing, GoesOn, IsRefused, IsMadeOf, IsSameTree, AreLeft, IsHeld, IsTrail, IsAhead, IsUnder, StartsUnder}
+use Rattle.patricia_cursors.specs.Private.Trails.{seen, left_of, last_key, standing, GoesOn, IsRefused, IsMadeOf, IsSameTree, AreLeft, IsHeld, IsTrail, IsAhead, IsUnder, StartsUnder}
 use Rattle.patricia_cursors.proofs.HolderLemmas.{marked, holders_read, holders_once, holders_sorted}
 use Rattle.patricia_cursors.proofs.StartLemmas.{start_filled}
 use Rattle.patricia_cursors.proofs.ReadLemmas.{key_of_once, reads_after, reads_first, reads_none}

@@ -101,7 +101,12 @@ impl<V> Trail<V> {
     fn from(parts: Parts<V>, due: Option<Holder>, next: Link) -> Trail<V>
         ensures tree { IsMadeOf parts result }
         ensures seen { seen result ≡ record {
-            nodes = numbered 0 parts.slots.nodes.items; path = []; due = due; next = next; stack = [] } }
+          nodes = numbered 0 parts.slots.nodes.items;
+          path = [];
+          due = due;
+          next = next;
+          stack = [];
+        } }
         ensures last { result.last ≡ None }
     {
         Trail {

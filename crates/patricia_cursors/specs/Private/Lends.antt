@@ -1,5 +1,5 @@
 -- What a trail and a cursor are after a loan of the value that was lent last.
-use Rattle.std.specs.Prelude.{List, ℕ, Option}
+use Rattle.std.specs.Prelude.{Option}
 use Rattle.std.specs.Borrow.{LendsIf, Fml, RattleType, MutBor}
 use Rattle.patricia_keys.specs.declared.keys.Bytes.{Ghosts}
 use Rattle.patricia_keys.specs.declared.keys.BorrowedBytes.{Ghosts as Borrowed}

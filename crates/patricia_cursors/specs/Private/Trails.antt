@@ -1,5 +1,5 @@
 -- How far a cursor has come over a tree.
-use Rattle.std.specs.Prelude.{◌≡◌, ◌≢◌, ◌<◌, ◌≤◌, ℕ, List, [], ◌∷◌, length, take, Option, Some, None}
+use Rattle.std.specs.Prelude.{◌≡◌, ◌≢◌, ◌≤◌, ℕ, List, [], ◌∷◌, length, take, Option, Some, None}
 use Rattle.patricia_keys.specs.Keys.{IsValid}
 use Rattle.patricia_rows.specs.Cursors.{Standing, after}
 use Rattle.patricia_rows.specs.Prefixes.{under}

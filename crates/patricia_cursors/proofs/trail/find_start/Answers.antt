@@ -1,5 +1,4 @@
-use Rattle.std.proofs.Common.{◌≡◌, length, sym, ap, arith, ◌∙◌, ◌-◌, take}
-use Rattle.patricia_rows.specs.Prefixes.{under}
+use Rattle.std.proofs.Common.{length, sym, ap, arith, ◌∙◌, ◌-◌}
 use Rattle.patricia_queries.proofs.PlaceLemmas.{rest_within}
 use Rattle.patricia_queries.proofs.UnderLemmas.{if_none}
 use Rattle.patricia_cursors.proofs.HolderLemmas.{marked}

@@ -1,4 +1,3 @@
-use Rattle.std.proofs.Common.{sym}
 use Rattle.patricia_cursors.proofs.TrailLemmas.{under_held}
 use Rattle.patricia_cursors.proofs.cursor.PrefixCursor.into_parts.Goals as goal
 

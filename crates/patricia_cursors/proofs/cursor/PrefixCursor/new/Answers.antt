@@ -1,7 +1,7 @@
 use Rattle.std.proofs.Common.{[], refl, ◌∙◌, sym}
 use mathlib.Core.Bool.{false≢true}
 use Rattle.patricia_rows.proofs.PrefixLemmas.{under_empty}
-use Rattle.patricia_cursors.proofs.TrailLemmas.{made_trail, made_under, made_stands}
+use Rattle.patricia_cursors.proofs.TrailLemmas.{made_trail, made_under}
 use Rattle.patricia_cursors.proofs.cursor.PrefixCursor.new.Goals as goal
 
 pub invariant_of-result : goal.invariant_of-result
