@@ -1,4 +1,5 @@
 pub mod Bulk
+pub mod Lends
 pub mod Loans
 pub mod Private
 pub mod Steps

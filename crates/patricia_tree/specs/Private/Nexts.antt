@@ -9,7 +9,7 @@ use Rattle.patricia_core.specs.contracts.cursor.PrefixCursor.{the_row as prefix_
 use Rattle.patricia_core.specs.contracts.cursor.Cursor.{the_row as cursor_row}
 use Rattle.patricia_tree.specs.contracts.map.GenericPatriciaMap.{the_row as map_row}
 use Rattle.patricia_tree.specs.contracts.map.lent.Lent.{the_row}
-use Rattle.patricia_tree.specs.Private.Lends.{Walked, wrote}
+use Rattle.patricia_tree.specs.Lends.{Walked, wrote}
 
 -- a step on a value is lent at this key, and with that value it is the entry that was next
 pub record IsNext {V : Type 0} (s : Standing V) (key : List ℕ) : Type 0 where

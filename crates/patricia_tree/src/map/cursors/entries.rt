@@ -9,7 +9,7 @@ use patricia_core::keys::Bytes;
 use std::alloc::AllocError;
 
 impl<'a, K: Bytes, V: Drop> IterMut<'a, K, V> {
-    ghost use Rattle.patricia_tree.specs.Private.Lends.{lends_last};
+    ghost use Rattle.patricia_tree.specs.Lends.{lends_last};
     ghost use Rattle.patricia_tree.specs.Private.Nexts.{IsNext, lends_there};
     ghost use Rattle.patricia_tree.specs.Steps.{StepsWith, TakesNext};
 

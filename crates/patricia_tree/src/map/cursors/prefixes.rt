@@ -9,7 +9,7 @@ use patricia_core::keys::{BorrowedBytes, Bytes};
 use std::alloc::AllocError;
 
 impl<'a, K: Bytes, Q: BorrowedBytes<Owned = K>, V: Drop> IterPrefixMut<'a, K, Q, V> {
-    ghost use Rattle.patricia_tree.specs.Private.Lends.{lends_last_under};
+    ghost use Rattle.patricia_tree.specs.Lends.{lends_last_under};
     ghost use Rattle.patricia_tree.specs.Private.Nexts.{IsNext, lends_there_under};
     ghost use Rattle.patricia_tree.specs.Steps.{StepsWith, TakesNext};
 

@@ -63,7 +63,8 @@ impl<K: Bytes, V: Drop> ValueCursor<K, V> {
 }
 
 impl<'a, K: Bytes, V: Drop> ValuesMut<'a, K, V> {
-    ghost use Rattle.patricia_tree.specs.Private.ValueLends.{lends_last, lends_there};
+    ghost use Rattle.patricia_tree.specs.Lends.{lends_last_value};
+    ghost use Rattle.patricia_tree.specs.Private.ValueLends.{lends_there};
     ghost use Rattle.patricia_tree.specs.Private.Nexts.{IsNextValue};
     ghost use Rattle.patricia_tree.specs.Steps.{StepsWithValue, TakesNextValue};
 
@@ -83,7 +84,7 @@ impl<'a, K: Bytes, V: Drop> ValuesMut<'a, K, V> {
 
     /// Lends the value that it went on to last, or answers `None` where it has not gone on yet.
     pub fn value(&mut self) -> Option<&mut V>
-        ensures* writes { sem 𝓛 (lends_last K.row V.row K.Bytes self.entry result) }
+        ensures* writes { sem 𝓛 (lends_last_value K.row V.row K.Bytes self.entry result) }
         ensures value { option_copied_mut result ≡ last_value self.old.at }
     {
         self.at.value()
