@@ -1,2 +1,4 @@
+mod ends;
 mod helpers;
+mod lends;
 mod refusals;

@@ -1,4 +1,4 @@
-//! Tests whose memory requests are counted: the key traits, and beginnings of keys.
+//! Tests whose memory requests are counted: the key traits, beginnings of keys, and loans.
 #![tactic(auto)]
 
 #[cfg(test)]

@@ -2,4 +2,5 @@
 // ends with `called` makes the same values and then each call that takes no memory.
 mod helpers;
 mod keys;
+mod loans;
 mod prefixes;

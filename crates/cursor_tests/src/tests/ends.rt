@@ -1,0 +1,46 @@
+// Cursors that are dropped before they have lent all, or anything.
+use super::helpers::{add, has_more, map_of};
+use patricia_tree::{BorrowedBytes, Bytes, GenericPatriciaMap};
+use std::alloc::AllocError;
+use std::test::Fail;
+
+// Whether each cursor lends nothing before its first step.
+fn lends_nothing<Q: BorrowedBytes>(
+    map: &mut GenericPatriciaMap<Q::Owned, u32>,
+    prefix: Q,
+) -> bool {
+    map.iter_mut().value().is_none()
+        && map.values_mut().value().is_none()
+        && map.iter_prefix_mut(prefix).value().is_none()
+}
+
+// Takes one step of a cursor, and answers whether the value was the one that is due.
+fn lends_one<Q: BorrowedBytes>(
+    map: &mut GenericPatriciaMap<Q::Owned, u32>,
+    first: Q,
+    due: u32,
+) -> Result<bool, AllocError> {
+    let mut cursor = map.iter_mut();
+    let Some((found, place)) = cursor.next()? else {
+        return Ok(false);
+    };
+    Ok(add(place, due) && found.as_bytes() == first.as_bytes())
+}
+
+#[test]
+fn before_a_step(rt: HostRuntime) -> Result<(), Fail> {
+    let rows = [("bar", 2), ("baz", 3)];
+    let mut map = map_of(rt.alloc(), &rows)?;
+    assert!(rt; lends_nothing(&mut map, "ba"));
+    assert!(rt; has_more(&map, "none", &rows));
+    Ok(())
+}
+
+#[test]
+fn after_a_step(rt: HostRuntime) -> Result<(), Fail> {
+    let rows = [("bar", 2), ("baz", 3)];
+    let mut map = map_of(rt.alloc(), &rows)?;
+    assert!(rt; lends_one(&mut map, "bar", 2)?);
+    assert!(rt; has_more(&map, "bar", &rows));
+    Ok(())
+}
