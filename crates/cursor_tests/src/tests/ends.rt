@@ -5,10 +5,7 @@ use std::alloc::AllocError;
 use std::test::Fail;
 
 // Whether each cursor lends nothing before its first step.
-fn lends_nothing<Q: BorrowedBytes>(
-    map: &mut GenericPatriciaMap<Q::Owned, u32>,
-    prefix: Q,
-) -> bool {
+fn lends_nothing<Q: BorrowedBytes>(map: &mut GenericPatriciaMap<Q::Owned, u32>, prefix: Q) -> bool {
     map.iter_mut().value().is_none()
         && map.values_mut().value().is_none()
         && map.iter_prefix_mut(prefix).value().is_none()

@@ -1,0 +1,76 @@
+//! What a map is after loans through a cursor, known from the contracts alone.
+ghost use Rattle.std.specs.Prelude.{◌≡◌, [], None, IfOk, OnErr, IsTrue, MatchOption};
+ghost use Rattle.patricia_tree.specs.Cursors.{stepped, written};
+
+use patricia_tree::{BorrowedBytes, Bytes, GenericPatriciaMap};
+use std::alloc::AllocError;
+use std::mem;
+
+/// Puts a value at the first key. It answers that key and the old value.
+pub fn replace_first<V: Drop, K: Bytes>(
+    m: &mut GenericPatriciaMap<K, V>,
+    value: V,
+) -> Result<Option<(K, V)>, AllocError>
+    ensures ok { IfOk result (λ r. MatchOption r (m.new ≡ m.old) (λ _.
+        m.new ≡ (written (stepped (record { map = m.old; prefix = []; last = None })) value).map)) }
+    ensures unchanged { OnErr result (m.new ≡ m.old) }
+{
+    let mut cursor = m.iter_mut();
+    match cursor.next_with(move |key, place| (key, mem::replace(place, value)))? {
+        Some(entry) => Ok(Some(entry)),
+        None => Ok(None),
+    }
+}
+
+/// Puts a value at the first key under a prefix. It answers that key and the old value.
+pub fn replace_first_under<V: Drop, Q: BorrowedBytes>(
+    m: &mut GenericPatriciaMap<Q::Owned, V>,
+    prefix: Q,
+    value: V,
+) -> Result<Option<(Q::Owned, V)>, AllocError>
+    ensures ok { IfOk result (λ r. MatchOption r (m.new ≡ m.old) (λ _.
+        m.new ≡ (written (stepped (record { map = m.old; prefix = Q.key prefix; last = None })) value).map)) }
+    ensures unchanged { OnErr result (m.new ≡ m.old) }
+{
+    let mut cursor = m.iter_prefix_mut(prefix);
+    match cursor.next_with(move |key, place| (key, mem::replace(place, value)))? {
+        Some(entry) => Ok(Some(entry)),
+        None => Ok(None),
+    }
+}
+
+/// Puts a value in place of the first value, and answers the old one.
+pub fn replace_first_value<V: Drop, K: Bytes>(
+    m: &mut GenericPatriciaMap<K, V>,
+    value: V,
+) -> Result<Option<V>, AllocError>
+    ensures ok { IfOk result (λ r. MatchOption r (m.new ≡ m.old) (λ _.
+        m.new ≡ (written (stepped (record { map = m.old; prefix = []; last = None })) value).map)) }
+    ensures unchanged { OnErr result (m.new ≡ m.old) }
+{
+    let mut cursor = m.values_mut();
+    match cursor.next_with(move |place| mem::replace(place, value))? {
+        Some(old) => Ok(Some(old)),
+        None => Ok(None),
+    }
+}
+
+/// Puts a value at the first key by two calls. It answers whether there is a key.
+pub fn set_first<V: Drop, K: Bytes>(
+    m: &mut GenericPatriciaMap<K, V>,
+    value: V,
+) -> Result<bool, AllocError>
+    ensures put { IfOk result (λ found. IsTrue found →
+        m.new ≡ (written (stepped (record { map = m.old; prefix = []; last = None })) value).map) }
+    ensures unchanged { OnErr result (m.new ≡ m.old) }
+{
+    let mut cursor = m.iter_mut();
+    cursor.advance()?;
+    match cursor.value() {
+        Some(place) => {
+            *place = value;
+            Ok(true)
+        }
+        None => Ok(false),
+    }
+}
