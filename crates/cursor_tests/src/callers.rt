@@ -1,40 +1,43 @@
 //! What a map is after loans through a cursor, known from the contracts alone.
-ghost use Rattle.std.specs.Prelude.{◌≡◌, [], None, IfOk, OnErr, IsTrue, MatchOption};
-ghost use Rattle.patricia_tree.specs.Cursors.{stepped, written};
+ghost use Rattle.std.specs.Prelude.{◌≡◌, ℕ, List, [], None, Some, IfOk, OnErr, IsTrue, MatchOption};
+ghost use Rattle.std.specs.FinMap as map;
+ghost use Rattle.patricia_tree.specs.Cursors.{next_row, stepped, written};
 
 use patricia_tree::{BorrowedBytes, Bytes, GenericPatriciaMap};
 use std::alloc::AllocError;
 use std::mem;
 
-/// Puts a value at the first key. It answers that key and the old value.
+/// Puts a value at the first key, and answers the old one.
 pub fn replace_first<V: Drop, K: Bytes>(
     m: &mut GenericPatriciaMap<K, V>,
     value: V,
-) -> Result<Option<(K, V)>, AllocError>
-    ensures ok { IfOk result (λ r. MatchOption r (m.new ≡ m.old) (λ _.
-        m.new ≡ (written (stepped (record { map = m.old; prefix = []; last = None })) value).map)) }
+) -> Result<Option<V>, AllocError>
+    ensures ok { IfOk result (λ r. MatchOption r (m.new ≡ m.old) (λ old. (key : List ℕ)
+        × (next_row (record { map = m.old; prefix = []; last = None }) ≡ Some (key, old))
+        × (m.new ≡ map.insert m.old key value))) }
     ensures unchanged { OnErr result (m.new ≡ m.old) }
 {
     let mut cursor = m.iter_mut();
-    match cursor.next_with(move |key, place| (key, mem::replace(place, value)))? {
-        Some(entry) => Ok(Some(entry)),
+    match cursor.next_with(move |_key, place| mem::replace(place, value))? {
+        Some(old) => Ok(Some(old)),
         None => Ok(None),
     }
 }
 
-/// Puts a value at the first key under a prefix. It answers that key and the old value.
+/// Puts a value at the first key under a prefix, and answers the old one.
 pub fn replace_first_under<V: Drop, Q: BorrowedBytes>(
     m: &mut GenericPatriciaMap<Q::Owned, V>,
     prefix: Q,
     value: V,
-) -> Result<Option<(Q::Owned, V)>, AllocError>
-    ensures ok { IfOk result (λ r. MatchOption r (m.new ≡ m.old) (λ _.
-        m.new ≡ (written (stepped (record { map = m.old; prefix = Q.key prefix; last = None })) value).map)) }
+) -> Result<Option<V>, AllocError>
+    ensures ok { IfOk result (λ r. MatchOption r (m.new ≡ m.old) (λ old. (key : List ℕ)
+        × (next_row (record { map = m.old; prefix = Q.key prefix; last = None }) ≡ Some (key, old))
+        × (m.new ≡ map.insert m.old key value))) }
     ensures unchanged { OnErr result (m.new ≡ m.old) }
 {
     let mut cursor = m.iter_prefix_mut(prefix);
-    match cursor.next_with(move |key, place| (key, mem::replace(place, value)))? {
-        Some(entry) => Ok(Some(entry)),
+    match cursor.next_with(move |_key, place| mem::replace(place, value))? {
+        Some(old) => Ok(Some(old)),
         None => Ok(None),
     }
 }

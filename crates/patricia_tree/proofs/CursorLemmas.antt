@@ -5,7 +5,7 @@ use Rattle.std.specs.Option.{option_map}
 use Rattle.std.specs.Ordering.{is_lt}
 use Rattle.std.specs.FinMap as map
 use Rattle.std.specs.FinMap.{entries_sorted, get-entries}
-use Rattle.patricia_core.specs.Cursors.{Standing, after, to_lend, next_row, next_key, stepped, lent_at, last_value}
+use Rattle.patricia_core.specs.Cursors.{Standing, after, to_lend, next_row, next_key, stepped, lent_at, last_value, written}
 use Rattle.patricia_tree.specs.Private.Nexts.{IsNext, IsNextValue}
 use Rattle.patricia_core.specs.Keys.{key_cmp}
 use Rattle.patricia_core.specs.Points.{Has}
@@ -54,6 +54,10 @@ module _ {V : Type 0} where
             there = subst IsSome (sym there) refl;
             is_next = λ v lent. ap (option_map (λ e. e.1)) row ∙ (let both = sym there ∙ lent in cc);
           }
+
+  -- what is written a step on is put in at its key
+  pub written_next : (s : Standing V) (key : List ℕ) (v w : V) → next_row s ≡ Some (key, v) → (written (stepped s) w).map ≡ map.insert s.map key w
+  written_next s key v w is = subst (λ o. (written (lent_at s (option_map (λ e. e.0) o)) w).map ≡ map.insert s.map key w) (sym is) refl
 
   -- and where there is no key there is no entry
   pub is_last : (s : Standing V) → next_key s ≡ None → next_row s ≡ None

@@ -2,6 +2,7 @@
 use Rattle.std.specs.Prelude.{◌≡◌, ℕ, List, Some}
 use Rattle.std.specs.Borrow.{MutBor}
 use Rattle.std.specs.Fn.{Once}
+use Rattle.std.specs.FinMap as map
 use Rattle.patricia_core.specs.Cursors.{Standing, next_row, next_value, stepped, written}
 
 -- `call` says of a closure when it may be called at a key and a loan of a value, and what it may
@@ -13,7 +14,8 @@ module _ {F K V R : Type 0}
   TakesNext f s =
       (key : K) (shown : MutBor V) → next_row s ≡ Some (bytes key, shown.now) → call.pre f (key, (shown, tt))
 
-  -- f was called at that entry and answered r; the cursor went on to it, and what f left is there
+  -- f was called at that entry and answered r; the cursor went on to it, and what f left is there:
+  -- the map is as it was but for the value at this key
   pub record StepsWith (f : F) (s : Standing V) (r : R) (t : Standing V) : Type 0 where
     pub key : K
     pub shown : MutBor V
@@ -21,6 +23,7 @@ module _ {F K V R : Type 0}
     pub is_next : next_row s ≡ Some (bytes key, shown.now)
     pub met : call.post f (key, (shown, tt)) (r, (left, tt))
     pub put_in : t ≡ written (stepped s) left.now
+    pub map_is : t.map ≡ map.insert s.map (bytes key) left.now
 
 -- the same for a closure that takes a loan of the value alone
 module _ {F V R : Type 0} (call : Once F (MutBor V × Unit {0}) (R × (MutBor V × Unit {0}))) where
