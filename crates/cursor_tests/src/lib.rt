@@ -2,5 +2,6 @@
 #![tactic(auto)]
 
 pub mod callers;
+pub mod kept;
 #[cfg(test)]
 mod tests;

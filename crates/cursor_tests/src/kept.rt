@@ -1,0 +1,39 @@
+//! Loans that are over in time. Each comment that begins with `refused:` has a line that would
+//! break the rules of borrows: `.ci/run` puts each in turn into a copy, which must not compile.
+
+use patricia_tree::{BorrowedBytes, Bytes, GenericPatriciaMap};
+use std::alloc::AllocError;
+
+/// A value that `get_mut` lends is not written after the next insert.
+pub fn past_insert<Q: BorrowedBytes>(
+    map: &mut GenericPatriciaMap<Q::Owned, u32>,
+    key: Q,
+    other: Q,
+) {
+    let Some(place) = map.get_mut(key) else {
+        return;
+    };
+    *place = 1;
+    drop(map.insert(other, 2));
+    // refused: *place = 3;
+}
+
+/// A value that `next` of a cursor lends is not written after the next step.
+pub fn past_next<K: Bytes>(map: &mut GenericPatriciaMap<K, u32>) -> Result<(), AllocError> {
+    let mut cursor = map.values_mut();
+    let Some(place) = cursor.next()? else {
+        return Ok(());
+    };
+    *place = 1;
+    cursor.advance()?;
+    // refused: *place = 3;
+    Ok(())
+}
+
+/// A map is not changed while a cursor over it lives.
+pub fn under_cursor<K: Bytes>(map: &mut GenericPatriciaMap<K, u32>) -> Result<(), AllocError> {
+    let mut cursor = map.values_mut();
+    // refused: map.clear();
+    cursor.advance()?;
+    Ok(())
+}
