@@ -1,8 +1,7 @@
-//! A map whose keys are byte strings or texts and share their common prefixes.
+//! A map and a set whose keys are byte strings or texts and share their common prefixes.
 #![tactic(auto)]
 
-pub mod map;
-
-pub use map::{GenericPatriciaMap, PatriciaMap, StringPatriciaMap};
-pub use patricia_core::Steps;
-pub use patricia_core::keys::{BorrowedBytes, Bytes};
+pub use patricia_map::map::{GenericPatriciaMap, PatriciaMap, StringPatriciaMap};
+pub use patricia_map::{BorrowedBytes, Bytes, Steps, map};
+pub use patricia_set::set;
+pub use patricia_set::set::{GenericPatriciaSet, PatriciaSet, StringPatriciaSet};

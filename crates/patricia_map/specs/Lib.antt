@@ -1,0 +1,17 @@
+pub mod Bulk
+pub mod Lends
+pub mod Loans
+pub mod Private
+pub mod Steps
+pub use Rattle.patricia_core.specs.ByteKind
+pub use Rattle.patricia_core.specs.Clones
+pub use Rattle.patricia_core.specs.Cursors
+pub use Rattle.patricia_core.specs.Keys
+pub use Rattle.patricia_core.specs.Laws
+pub use Rattle.patricia_core.specs.Points
+pub use Rattle.patricia_core.specs.Prefixes
+pub use Rattle.patricia_core.specs.Rows
+pub use Rattle.patricia_core.specs.TextKind
+pub use Rattle.patricia_core.specs.ThreeKeys
+pub use Rattle.patricia_core.specs.Trees
+pub use Rattle.patricia_core.specs.Walks

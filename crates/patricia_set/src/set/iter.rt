@@ -1,0 +1,103 @@
+//! Walks over a set, in the order of its elements.
+ghost use Rattle.std.specs.Prelude.{length};
+ghost use Rattle.std.specs.Iterator.{at_most};
+ghost use Rattle.patricia_map.specs.Walks.{Gives};
+
+use patricia_map::keys::{BorrowedBytes, Bytes};
+use patricia_map::map;
+use std::alloc::AllocError;
+use std::iter::FusedIterator;
+use std::marker::Model;
+
+/// The elements of a set, copied. An error is want of memory, and ends the walk.
+#[derive(Drop)]
+pub struct Iter<'a, T: Bytes> {
+    pub(super) keys: map::Keys<'a, T, ()>,
+}
+
+impl<'a, T: Bytes> Model for Iter<'a, T> {
+    ghost use Rattle.std.specs.Prelude.{List, ℕ};
+
+    ghost Value = { List (List ℕ) };
+
+    ghost view = { λ i. i.keys };
+}
+
+impl<'a, T: Bytes> Iterator for Iter<'a, T> {
+    type Item = Result<T, AllocError>;
+
+    ghost next_gives = { Gives T.key };
+
+    ghost remaining = { λ elements. at_most (length elements) };
+
+    fn next(&mut self) -> Option<Result<T, AllocError>> {
+        self.keys.next()
+    }
+}
+
+impl<'a, T: Bytes> FusedIterator for Iter<'a, T> {}
+
+/// The elements that begin with a prefix, copied. An error is want of memory, and ends the walk.
+#[derive(Drop)]
+pub struct IterPrefix<'a, Q: BorrowedBytes> {
+    pub(super) rows: map::IterPrefix<'a, Q, ()>,
+}
+
+impl<'a, Q: BorrowedBytes> Model for IterPrefix<'a, Q> {
+    ghost use Rattle.std.specs.Prelude.{List, ℕ};
+    ghost use Rattle.patricia_map.specs.Rows.{keys_of};
+
+    ghost Value = { List (List ℕ) };
+
+    ghost view = { λ i. keys_of i.rows };
+}
+
+impl<'a, Q: BorrowedBytes> Iterator for IterPrefix<'a, Q> {
+    type Item = Result<Q::Owned, AllocError>;
+
+    ghost next_gives = { Gives Q.Owned.key };
+
+    ghost remaining = { λ elements. at_most (length elements) };
+
+    fn next(&mut self) -> Option<Result<Q::Owned, AllocError>> {
+        match self.rows.next()? {
+            Ok((element, _)) => Some(Ok(element)),
+            Err(refused) => Some(Err(refused)),
+        }
+    }
+}
+
+impl<'a, Q: BorrowedBytes> FusedIterator for IterPrefix<'a, Q> {}
+
+/// The elements of a set, taken out. An error is want of memory: it ends the walk, and the
+/// elements that are left are dropped.
+#[derive(Drop)]
+pub struct IntoIter<T: Bytes> {
+    pub(super) rows: map::IntoIter<T, ()>,
+}
+
+impl<T: Bytes> Model for IntoIter<T> {
+    ghost use Rattle.std.specs.Prelude.{List, ℕ};
+    ghost use Rattle.patricia_map.specs.Rows.{keys_of};
+
+    ghost Value = { List (List ℕ) };
+
+    ghost view = { λ i. keys_of i.rows };
+}
+
+impl<T: Bytes> Iterator for IntoIter<T> {
+    type Item = Result<T, AllocError>;
+
+    ghost next_gives = { Gives T.key };
+
+    ghost remaining = { λ elements. at_most (length elements) };
+
+    fn next(&mut self) -> Option<Result<T, AllocError>> {
+        match self.rows.next()? {
+            Ok((element, _)) => Some(Ok(element)),
+            Err(refused) => Some(Err(refused)),
+        }
+    }
+}
+
+impl<T: Bytes> FusedIterator for IntoIter<T> {}
