@@ -94,7 +94,7 @@ impl<T: Bytes> Iterator for IntoIter<T> {
 
     fn next(&mut self) -> Option<Result<T, AllocError>> {
         match self.rows.next()? {
-            Ok((element, _)) => Some(Ok(element)),
+            Ok((taken, _)) => Some(Ok(taken)),
             Err(refused) => Some(Err(refused)),
         }
     }
