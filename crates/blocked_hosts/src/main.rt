@@ -1,0 +1,49 @@
+//! The README's block list: is a host, or a domain that it belongs to, on the list?
+#![tactic(auto)]
+
+use patricia_tree::StringPatriciaSet;
+use std::alloc::{AllocError, Global};
+
+const LISTED: [&str; 4] = [
+    "ads.example.com",
+    "example.org",
+    "tracker.net",
+    "example.ads",
+];
+
+const HOSTS: [&str; 6] = [
+    "ads.example.com",
+    "eu.ads.example.com",
+    "www.example.com",
+    "adsense.example.com",
+    "cdn.eu.tracker.net",
+    "org",
+];
+
+// The parts of a domain from the last to the first, with a dot after each. So a domain is a
+// beginning of all that belong to it, and of no other.
+fn reversed(alloc: Global, domain: &str) -> Result<String, AllocError> {
+    let mut name = String::new(alloc);
+    for part in domain.rsplit('.') {
+        name.push_str(part)?;
+        name.push('.')?;
+    }
+    Ok(name)
+}
+
+fn main(rt: HostRuntime) -> anyhow::Result<()> {
+    let mut listed = StringPatriciaSet::new(rt.alloc());
+    for domain in LISTED {
+        let name = reversed(rt.alloc(), domain)?;
+        listed.insert(name.as_str())?;
+    }
+    println!(rt; "{listed:?}")?;
+    for host in HOSTS {
+        let name = reversed(rt.alloc(), host)?;
+        match listed.get_longest_common_prefix(name.as_str()) {
+            Some(entry) => println!(rt; "{host}: blocked by {entry}")?,
+            None => println!(rt; "{host}: passes")?,
+        }
+    }
+    Ok(())
+}

@@ -1,0 +1,5 @@
+mod calls;
+mod frees;
+mod helpers;
+mod texts;
+mod walks;

@@ -1,0 +1,29 @@
+use patricia_tree::{BorrowedBytes, GenericPatriciaSet};
+use std::alloc::{AllocError, Global};
+
+// A set of these elements. An insert that is refused is tried once more.
+pub(super) fn set_of<Q: BorrowedBytes>(
+    alloc: Global,
+    elements: &[Q],
+) -> Result<GenericPatriciaSet<Q::Owned>, AllocError> {
+    let mut set = GenericPatriciaSet::new(alloc);
+    for element in elements {
+        if set.insert(*element).is_err() {
+            set.insert(*element)?;
+        }
+    }
+    Ok(set)
+}
+
+// Whether a set has these elements and no other.
+pub(super) fn has_just<Q: BorrowedBytes>(
+    set: &GenericPatriciaSet<Q::Owned>,
+    elements: &[Q],
+) -> bool {
+    for element in elements {
+        if !set.contains(*element) {
+            return false;
+        }
+    }
+    set.len() == elements.len()
+}
