@@ -10,10 +10,11 @@ use Rattle.patricia_rows.proofs.UniqueLemmas.{has_entry}
 use Rattle.patricia_rows.proofs.PointLemmas.{IsPoint-within, has_prefixed, has_after, own_within, within_own, paths_points, paths_apart}
 use Rattle.patricia_wire_laws.specs.Records.{Record}
 use Rattle.patricia_wire_laws.specs.Forests.{Root}
-use Rattle.patricia_wire_laws.specs.WireRows.{records_of}
-use Rattle.patricia_wire_laws.specs.Canons.{IsTight}
+use Rattle.patricia_wire_laws.specs.WrittenRows.{records_of}
+use Rattle.patricia_wire_laws.specs.Writings.{IsTight}
 use Rattle.patricia_wire_laws.specs.Counts.{IsCount, AreShort, AreFew, RecordsArePoints}
-use Rattle.patricia_wire_laws.proofs.Ties.{Nothing, stands_tree}
+use Rattle.patricia_wire_laws.proofs.OneTree.{tight_within}
+use Rattle.patricia_wire_laws.proofs.RowTrees.{Nothing, stands_tree}
 
 module _ {V : Type 0} where
   as_many : (d : ℕ) (r : Row V) → length (records_of d r) ≡ length (paths r)
@@ -46,12 +47,12 @@ module _ (item : List ℕ → Type 0) (kind : IsKeyKind item) {V : Type 0} where
   }
 
 module _ (item : List ℕ → Type 0) (kind : IsKeyKind item) where
-  pub records_are_points : (R : List Record) (E : List (List ℕ)) → IsTight item R → Root item R E → RecordsArePoints item R E
-  records_are_points R E tight root short =
+  pub records_are_points : (R : List Record) (E : List (List ℕ)) → Root item R E → IsTight item R → RecordsArePoints item R E
+  records_are_points R E root tight short =
       let stood = stands_tree item R E root in
       let es = entries stood.row in
       let short' : AreShort (keys_of es) = λ k h. short k (subst (λ S. Has S k) stood.keys (has_after (own stood.value) es k h)) in
-      let ok = in_memory item kind stood.row (stood.tight tight) short' in
+      let ok = in_memory item kind stood.row (tight_within item R E stood tight) short' in
       let count : IsCount (IsPoint item (keys_of (own stood.value ++ es))) (length (paths stood.row)) = record {
         counted = paths stood.row;
         once = paths_apart item kind stood.row ok;
@@ -83,12 +84,12 @@ module _ (item : List ℕ → Type 0) (kind : IsKeyKind item) where
       go None (node m w d end) okc earns below beside = let first = first_of item m okc.valid okc.filled in absurd (earns first.0 first.1 first.2 tt)
       go None (node m w d (node m' w' d' t')) okc earns below beside = let sizes = all None (node m w d (node m' w' d' t')) in omega (arith, sizes.0, sizes.1, beside)
 
-  pub records_are_few : (R : List Record) (E : List (List ℕ)) → IsTight item R → Root item R E → AreFew R E
-  records_are_few R E tight root short some =
+  pub records_are_few : (R : List Record) (E : List (List ℕ)) → Root item R E → IsTight item R → AreFew R E
+  records_are_few R E root tight short some =
       let stood = stands_tree item R E root in
       let es = entries stood.row in
       let short' : AreShort (keys_of es) = λ k h. short k (subst (λ S. Has S k) stood.keys (has_after (own stood.value) es k h)) in
-      let ok = in_memory item kind stood.row (stood.tight tight) short' in
+      let ok = in_memory item kind stood.row (tight_within item R E stood tight) short' in
       let few = few_paths stood.row ok in
       let records : length R ≡ suc (length (paths stood.row)) = sym (ap length stood.records) ∙ ap suc (as_many 1 stood.row) in
       let keys : length E ≡ length (own stood.value) + length es = sym (ap length stood.keys) ∙ length-map (own stood.value ++ es) (λ e. e.0) ∙ length-append (own stood.value) es in

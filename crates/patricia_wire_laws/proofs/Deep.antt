@@ -1,18 +1,19 @@
--- A tight tree has tree bytes of a width, or a record too deep for it.
-use Rattle.std.proofs.Common.{◌≡◌, ℕ, suc, zero, ◌+◌, ◌<◌, ◌≤◌, ◌⊎◌, inl, inr, List, [], ◌∷◌, ◌++◌, Option, Some, refl, sym, ap, subst, arith}
+-- A tight tree has a writing, or a record too deep for one.
+use Rattle.std.proofs.Common.{ℕ, suc, zero, ◌+◌, ◌<◌, ◌≤◌, ◌⊎◌, inl, inr, List, [], ◌∷◌, ◌++◌, Option, Some, refl, subst, arith}
 use Rattle.std.specs.Prelude.{◌^◌, All, Any}
 use Rattle.std.specs.List.{concat}
 use Rattle.std.proofs.lemmas.Bool.{cases_lt}
-use Rattle.std.proofs.lemmas.List.Elements.{All-nil, All-append}
+use Rattle.std.proofs.lemmas.List.Elements.{All-nil, All-cons, All-append}
 use Rattle.patricia_keys.specs.Keys.{IsKeyKind, AreItems, IsValid}
-use Rattle.patricia_rows.specs.Rows.{Row, end, node, IsRowWithin}
-use Rattle.patricia_wire_laws.specs.Records.{Record, SpellsCleanly, SpellAll}
-use Rattle.patricia_wire_laws.specs.WireRows.{record_of, records_of, tree_records}
-use Rattle.patricia_wire_laws.specs.Canons.{Canon, HasTree, TooDeep}
-use Rattle.patricia_wire_laws.proofs.ByteTrees.{HaveRoom, clean_bytes, spelled}
+use Rattle.patricia_rows.specs.Rows.{Row, end, node, own, entries, keys_of, IsRow, IsRowWithin}
+use Rattle.patricia_wire_laws.specs.Records.{Record, HasRoom, clean_spellings}
+use Rattle.patricia_wire_laws.specs.WrittenRows.{record_of, records_of, tree_records, IsWritable}
+use Rattle.patricia_wire_laws.specs.Writings.{Canon, TooDeep}
+use Rattle.patricia_wire_laws.proofs.Cuts.{cut_row}
+use Rattle.patricia_wire_laws.proofs.OneTree.{one_tree}
+use Rattle.patricia_wire_laws.proofs.RowTrees.{tree_of}
 use Rattle.patricia_wire_laws.proofs.Spellings.{positive}
-use Rattle.patricia_wire_laws.proofs.Ties.{Nothing, stands_tree}
-use Rattle.patricia_wire_laws.proofs.OneWriting.{one_tree}
+use Rattle.patricia_wire_laws.proofs.TightRows.{within_writable, within_apart}
 
 module _ (P : Record → Type 0) where
   any_here : (x : Record) (xs : List Record) → P x → Any P (x ∷ xs)
@@ -30,18 +31,12 @@ module _ (P : Record → Type 0) where
   any_right [] ys a = a
   any_right (x ∷ xs) ys a = any_there x (xs ++ ys) (any_right xs ys a)
 
-room_append : (w : ℕ) (R X : List Record) → HaveRoom w R → HaveRoom w X → HaveRoom w (R ++ X)
-room_append w [] X a b = b
-room_append w (r ∷ R) X a b = (a.0, room_append w R X a.1 b)
-
 abbrev IsDeep : ℕ → Record → Type 0
 IsDeep w r = 256 ^ w ≤ r.level
 
--- no record that is spelled is too deep
-not_deep : (w : ℕ) (R : List Record) (b : List ℕ) → SpellAll (SpellsCleanly w) R b → Any (IsDeep w) R → ⊥
-not_deep w [] b p (k, y, h, e, q) = omega arith
-not_deep w (r ∷ R) b p (zero, y, h, e, q) = let same : r ≡ y = e in let level = ap (λ (x : Record). x.level) same in let room = p.spelled.room.level in omega arith
-not_deep w (r ∷ R) b p (suc k, y, h, e, q) = not_deep w R p.rest p.others (k, y, omega arith, e, q)
+-- no record that has room is too deep
+not_deep : (w : ℕ) (R : List Record) → All (HasRoom w) R → Any (IsDeep w) R → ⊥
+not_deep w R room (k, y, h, e, deep) = let fits = subst (HasRoom w) e (room k y h) in omega (arith, fits.level)
 
 module _ (item : List ℕ → Type 0) (kind : IsKeyKind item) where
   items_bytes : (is : List (List ℕ)) → AreItems item is → All (λ b. b < 256) (concat is)
@@ -51,34 +46,46 @@ module _ (item : List ℕ → Type 0) (kind : IsKeyKind item) where
   valid_bytes : (k : List ℕ) → IsValid item k → All (λ b. b < 256) k
   valid_bytes k (is, ok, e) = subst (All (λ b. b < 256)) e (items_bytes is ok)
 
-  room_or_deep : (w d : ℕ) (r : Row Nothing) → IsRowWithin item (Some 255) r → HaveRoom w (records_of d r) ⊎ Any (IsDeep w) (records_of d r)
-  room_or_deep w d end ok = inl tt
-  room_or_deep w d (node l v c s) ok = elim (cases_lt d (256 ^ w)) [
-    | inr deep ↦ inr (any_here (IsDeep w) (record_of d l v c s) _ deep)
-    | inl fits ↦ elim (room_or_deep w (d + 1) c ok.child) [
-      | inr deep ↦ inr (any_there (IsDeep w) (record_of d l v c s) _ (any_left (IsDeep w) (records_of (d + 1) c) (records_of d s) deep))
-      | inl below ↦ elim (room_or_deep w d s ok.sibling) [
-        | inr deep ↦ inr (any_there (IsDeep w) (record_of d l v c s) _ (any_right (IsDeep w) (records_of (d + 1) c) (records_of d s) deep))
-        | inl beside ↦ inl (record { level = fits; length = ok.fits; bytes = valid_bytes l ok.valid }, room_append w (records_of (d + 1) c) (records_of d s) below beside)
-      ]
-    ]
-  ]
+  module _ {V : Type 0} where
+    room_or_deep : (w d : ℕ) (r : Row V) → IsWritable item r → All (HasRoom w) (records_of d r) ⊎ Any (IsDeep w) (records_of d r)
+    room_or_deep w d end ok = inl (All-nil (HasRoom w))
+    room_or_deep w d (node l v c s) ok =
+        let here = record_of d l v c s in
+        let below = records_of (d + 1) c in
+        let beside = records_of d s in
+        elim (cases_lt d (256 ^ w)) [
+          | inr deep ↦ inr (any_here (IsDeep w) here (below ++ beside) deep)
+          | inl fits ↦ elim (room_or_deep w (d + 1) c ok.child) [
+            | inr deep ↦ inr (any_there (IsDeep w) here (below ++ beside) (any_left (IsDeep w) below beside deep))
+            | inl room ↦ elim (room_or_deep w d s ok.sibling) [
+              | inr deep ↦ inr (any_there (IsDeep w) here (below ++ beside) (any_right (IsDeep w) below beside deep))
+              | inl more ↦ inl (All-cons (HasRoom w) here (below ++ beside) (record { level = fits; label = ok.fits; bytes = valid_bytes l ok.valid }) (All-append (HasRoom w) below beside room more))
+            ]
+          ]
+        ]
 
-  tree_room : (w : ℕ) (v : Option Nothing) (r : Row Nothing) → IsRowWithin item (Some 255) r → HaveRoom w (tree_records v r) ⊎ Any (IsDeep w) (tree_records v r)
-  tree_room w v r ok = elim (room_or_deep w 1 r ok) [
-    | inr deep ↦ inr (any_there (IsDeep w) (record_of 0 [] v r end) _ deep)
-    | inl room ↦ inl (record { level = positive w; length = omega arith; bytes = All-nil (λ b. b < 256) }, room)
-  ]
+    pub tree_room_or_deep : (w : ℕ) (v : Option V) (r : Row V) → IsWritable item r → All (HasRoom w) (tree_records v r) ⊎ Any (IsDeep w) (tree_records v r)
+    tree_room_or_deep w v r ok =
+        let root = record_of 0 [] v r end in
+        elim (room_or_deep w 1 r ok) [
+          | inr deep ↦ inr (any_there (IsDeep w) root (records_of 1 r) deep)
+          | inl room ↦ inl (All-cons (HasRoom w) root (records_of 1 r) (record { level = positive w; label = omega arith; bytes = All-nil (λ b. b < 256) }) room)
+        ]
 
-  pub written_or_deep : (w : ℕ) (E : List (List ℕ)) → HasTree item E → ((b : List ℕ) × Canon item w b E) ⊎ TooDeep item w E
-  written_or_deep w E (R, tight, root) =
-      let stood = stands_tree item R E root in
-      elim (subst (λ X. HaveRoom w X ⊎ Any (IsDeep w) X) stood.records (tree_room w stood.value stood.row (stood.tight tight))) [
-        | inl room ↦ inl (clean_bytes w R, record { records = R; spelled = spelled w R room; tight = tight; root = root })
-        | inr deep ↦ inr (record { records = R; tight = tight; root = root; deep = deep })
-      ]
+    -- a row within the limit of labels is written, or lies too deep
+    within_written : (w : ℕ) (v : Option V) (r : Row V) → IsRowWithin item (Some 255) r → ((b : List ℕ) × Canon item w b (keys_of (own v ++ entries r))) ⊎ TooDeep item w (keys_of (own v ++ entries r))
+    within_written w v r within =
+        let ok = within_writable item r within in
+        let tight = within_apart item 1 r within in
+        elim (tree_room_or_deep w v r ok) [
+          | inl room ↦ inl (clean_spellings w (tree_records v r), record { records = tree_records v r; root = tree_of item v r ok; tight = tight; room = room; is = refl })
+          | inr deep ↦ inr (record { records = tree_records v r; root = tree_of item v r ok; tight = tight; deep = deep })
+        ]
 
-  pub not_both : (w : ℕ) (b : List ℕ) (E : List (List ℕ)) → Canon item w b E → TooDeep item w E → ⊥
-  not_both w b E x y =
-      let same = one_tree item kind x.records y.records E x.tight y.tight x.root y.root in
-      not_deep w x.records b x.spelled (subst (Any (IsDeep w)) (sym same) y.deep)
+    pub written_or_deep : (w : ℕ) (v : Option V) (r : Row V) → IsRow item r → ((b : List ℕ) × Canon item w b (keys_of (own v ++ entries r))) ⊎ TooDeep item w (keys_of (own v ++ entries r))
+    written_or_deep w v r ok =
+        let cut = cut_row item kind r ok in
+        subst (λ es. ((b : List ℕ) × Canon item w b (keys_of (own v ++ es))) ⊎ TooDeep item w (keys_of (own v ++ es))) cut.same (within_written w v cut.row cut.ok)
+
+  pub never_both : (w : ℕ) (b : List ℕ) (E : List (List ℕ)) → Canon item w b E → TooDeep item w E → ⊥
+  never_both w b E x y = not_deep w y.records (subst (All (HasRoom w)) (one_tree item kind x.records y.records E x.root y.root x.tight y.tight) x.room) y.deep

@@ -6,10 +6,10 @@ use Rattle.std.proofs.lemmas.List.Elements.{All-nil, All-cons, All-head, All-tai
 use Rattle.patricia_keys.specs.Keys.{IsValid}
 use Rattle.patricia_rows.specs.Rows.{Row, end, node, IsBefore, IsBeforeRow}
 use Rattle.patricia_wire_laws.specs.Records.{Record}
-use Rattle.patricia_wire_laws.specs.WireRows.{is_there, record_of, records_of, tree_records}
+use Rattle.patricia_wire_laws.specs.WrittenRows.{has_node, record_of, records_of, tree_records, IsWritable}
 use Rattle.patricia_wire_laws.specs.Faults.{IsLastUpTo, Waits, IsLastWaiting, IsDue, at_first, below, beside}
-use Rattle.patricia_wire_laws.proofs.Holds.{EndsLow, ends_low}
-use Rattle.patricia_wire_laws.proofs.Ties.{Nothing, IsLoose}
+use Rattle.patricia_wire_laws.proofs.RowTrees.{Nothing}
+use Rattle.patricia_wire_laws.proofs.TightRows.{EndsLow, ends_low}
 
 module _ (P : Record → Type 0) where
   All-left : (xs ys : List Record) → All P (xs ++ ys) → All P xs
@@ -78,16 +78,16 @@ module _ {V : Type 0} where
       All-cons (λ y. k < y.level) (record_of d l v c s) (records_of (d + 1) c ++ records_of d s) h
       (All-append (λ y. k < y.level) (records_of (d + 1) c) (records_of d s) (all_above k (d + 1) c (omega arith)) (all_above k d s h))
 
-  is_child : (d : ℕ) (row : Row V) (ahead : List Record) (r : Record) (after : List Record) → records_of d row ≡ ahead ++ (r ∷ after) → is_there row ≡ true
+  is_child : (d : ℕ) (row : Row V) (ahead : List Record) (r : Record) (after : List Record) → records_of d row ≡ ahead ++ (r ∷ after) → has_node row ≡ true
   is_child d end ahead r after e = absurd (nil_split ahead r after e)
   is_child d (node l v c s) ahead r after e = refl
 
   low_head : (d : ℕ) (l : List ℕ) (v : Option V) (c s : Row V) → EndsLow (record_of d l v c s ∷ records_of (d + 1) c)
   low_head d l v end s = refl
-  low_head d l v (node m w b t) s = ends_low (λ (i : List ℕ). Unit {0}) (d + 1) (node m w b t)
+  low_head d l v (node m w b t) s = ends_low (d + 1) (node m w b t)
 
   -- where a sibling is there, its record has the level
-  met : (P : Record → Type 0) (d : ℕ) (C : List Record) (s : Row V) → is_there s ≡ true → All P (C ++ records_of d s) → (z : Record) × (z.level ≡ d) × P z
+  met : (P : Record → Type 0) (d : ℕ) (C : List Record) (s : Row V) → has_node s ≡ true → All P (C ++ records_of d s) → (z : Record) × (z.level ≡ d) × P z
   met P d C end there all = absurd (cc)
   met P d C (node m w b t) there all = (record_of d m w b t, refl, All-middle P C (record_of d m w b t) (records_of (d + 1) b ++ records_of d t) all)
 
@@ -103,7 +103,7 @@ module _ {V : Type 0} where
   ]
 
   -- behind a node and its children its level is due again, where it has a sibling
-  due_beside : (d : ℕ) (l : List ℕ) (v : Option V) (c s : Row V) (B : List Record) → is_there s ≡ true → IsDue (B ++ (record_of d l v c s ∷ records_of (d + 1) c)) d
+  due_beside : (d : ℕ) (l : List ℕ) (v : Option V) (c s : Row V) (B : List Record) → has_node s ≡ true → IsDue (B ++ (record_of d l v c s ∷ records_of (d + 1) c)) d
   due_beside d l v c s B there =
       let h = record_of d l v c s in
       let C = records_of (d + 1) c in
@@ -149,7 +149,7 @@ behind h inner d x up = go up.ahead up.after up.is up.deeper
         inl (head, subst (All (λ y. d < y.level)) (sym tails) all)
     go (a ∷ A) Z e all =
         let tails : inner ≡ A ++ (x ∷ Z) = cc in
-        inr (record { ahead = A; after = Z; is = tails; deeper = all })
+        inr (record { ahead = A; after = Z; is = tails; level = up.level; deeper = all })
 
 skip : (C inner : List Record) (d : ℕ) (x : Record) → IsLastUpTo (C ++ inner) d x → ((A : List Record) × (Z : List Record) × (C ≡ A ++ (x ∷ Z)) × All (λ y. d < y.level) inner) ⊎ IsLastUpTo inner d x
 skip [] inner d x up = inr up
@@ -172,7 +172,7 @@ module _ (item : List ℕ → Type 0) where
     pub valid : IsValid item r.label
     pub marked : (r.value ≡ true) ⊎ (r.child ≡ true)
 
-  pub good : (d : ℕ) (row : Row Nothing) → IsLoose item row → (ahead : List Record) (r : Record) (after : List Record) → records_of d row ≡ ahead ++ (r ∷ after) → IsGood r
+  pub good : (d : ℕ) (row : Row Nothing) → IsWritable item row → (ahead : List Record) (r : Record) (after : List Record) → records_of d row ≡ ahead ++ (r ∷ after) → IsGood r
   good d end ok ahead r after e = absurd (nil_split ahead r after e)
   good d (node l v c s) ok ahead r after e = elim (place d l v c s ahead r after e) [
     | here a b f ↦ subst IsGood b (record { filled = ok.filled; valid = ok.valid; marked = ok.marked })
@@ -191,7 +191,7 @@ module _ (item : List ℕ → Type 0) where
       absurd (omega (arith, ap (λ (h : Record). h.level) head, All-head (λ y. r.level < y.level) i inner all, deep d (node m w b t) (i ∷ inner) r after e))
 
   -- siblings rise
-  pub rising : (d : ℕ) (row : Row Nothing) → IsLoose item row → (ahead : List Record) (r : Record) (after : List Record) → records_of d row ≡ ahead ++ (r ∷ after) → (x : Record) → IsLastUpTo ahead r.level x → x.level ≡ r.level → IsBefore item x.label r.label
+  pub rising : (d : ℕ) (row : Row Nothing) → IsWritable item row → (ahead : List Record) (r : Record) (after : List Record) → records_of d row ≡ ahead ++ (r ∷ after) → (x : Record) → IsLastUpTo ahead r.level x → x.level ≡ r.level → IsBefore item x.label r.label
   rising d end ok ahead r after e x up same = absurd (nil_split ahead r after e)
   rising d (node l v c s) ok ahead r after e x up same = elim (place d l v c s ahead r after e) [
     | here a b f ↦ absurd (nil_split up.ahead x up.after (sym a ∙ up.is))

@@ -14,10 +14,11 @@ use Rattle.patricia_rows.proofs.MemberLemmas.{Has-left, Has-right, Has-either, A
 use Rattle.patricia_rows.proofs.PointLemmas.{nil_first, Begins-behind, Begins-behind_of, Within, has_prefixed, has_after, has_one, own_within, within_own}
 use Rattle.patricia_wire_laws.specs.Records.{Record}
 use Rattle.patricia_wire_laws.specs.Forests.{Root}
-use Rattle.patricia_wire_laws.specs.WireRows.{record_of, records_of}
-use Rattle.patricia_wire_laws.specs.Canons.{IsTight}
+use Rattle.patricia_wire_laws.specs.WrittenRows.{record_of, records_of}
+use Rattle.patricia_wire_laws.specs.Writings.{IsTight}
 use Rattle.patricia_wire_laws.specs.Counts.{IsCount, IsFront, LabelsAreFronts}
-use Rattle.patricia_wire_laws.proofs.Ties.{stands_tree}
+use Rattle.patricia_wire_laws.proofs.OneTree.{tight_within}
+use Rattle.patricia_wire_laws.proofs.RowTrees.{stands_tree}
 
 -- the byte lists that are not empty and begin this one
 abbrev firsts : List ℕ → List (List ℕ)
@@ -162,11 +163,11 @@ module _ (item : List ℕ → Type 0) (kind : IsKeyKind item) {V : Type 0} where
       too_long x (y ∷ q) filled begun e = omega (arith, ap length e, ap length begun.1, length-append l (y ∷ q), length-append x begun.0)
 
 module _ (item : List ℕ → Type 0) (kind : IsKeyKind item) where
-  pub labels_are_fronts : (R : List Record) (E : List (List ℕ)) → IsTight item R → Root item R E → LabelsAreFronts item R E
-  labels_are_fronts R E tight root single =
+  pub labels_are_fronts : (R : List Record) (E : List (List ℕ)) → Root item R E → IsTight item R → LabelsAreFronts item R E
+  labels_are_fronts R E root tight single =
       let stood = stands_tree item R E root in
       let row = stood.row in
-      let ok = stood.tight tight in
+      let ok = tight_within item R E stood tight in
       let S = keys_of (own stood.value ++ entries row) in
       let count : IsCount (IsFront S) (length (fronts row)) = record {
         counted = fronts row;

@@ -9,21 +9,21 @@ use Rattle.patricia_rows.specs.Rows.{Row, end, node, prefixed, own, entries, key
 use Rattle.patricia_keys.proofs.KeyLemmas.{IsValid-nil}
 use Rattle.patricia_wire_laws.specs.Records.{Record, Spells, SpellAll, where_set, after_flags}
 use Rattle.patricia_wire_laws.specs.Forests.{Root}
-use Rattle.patricia_wire_laws.specs.WireRows.{record_of, records_of, tree_records}
-use Rattle.patricia_wire_laws.specs.Canons.{Means}
+use Rattle.patricia_wire_laws.specs.WrittenRows.{record_of, records_of, tree_records, IsWritable}
+use Rattle.patricia_wire_laws.specs.Writings.{Means}
 use Rattle.patricia_wire_laws.specs.Faults.{Fault, truncated, level, root_label, root_sibling, empty_label, invalid_label, sibling_order, no_value_no_child, too_few_values, trailing_bytes, too_many_values, value_marks, IsLastUpTo, IsFaulty, IsCutShort, Stands, cut_short, in_record, trailing, too_many}
 use Rattle.patricia_wire_laws.proofs.CountLemmas.{length-prefixed}
 use Rattle.patricia_wire_laws.proofs.DueLemmas.{nil_split, deep, tree_due, behind, IsGood, good, rising}
-use Rattle.patricia_wire_laws.proofs.RowsOfRecords.{row_of}
+use Rattle.patricia_wire_laws.proofs.OneMeaning.{row_of}
 use Rattle.patricia_wire_laws.proofs.Spellings.{record_same, one_list, length-high_first}
-use Rattle.patricia_wire_laws.proofs.Ties.{Nothing, IsLoose, StandsTree, stands_tree}
+use Rattle.patricia_wire_laws.proofs.RowTrees.{Nothing, StandsTree, stands_tree}
 
 not_empty : (w : ℕ) (r : Record) (b c : List ℕ) → Spells w r b → [] ≡ b ++ c → ⊥
 not_empty w r b c p e = let h : [] ≡ (p.flags ∷ after_flags w r) ++ c = e ∙ ap (λ l. l ++ c) p.is in cc
 
 -- records that are read from the front of a spelling are the first of its records
-prefix : (w : ℕ) (P R : List Record) (b read rest : List ℕ) → SpellAll (Spells w) P read → read ++ rest ≡ b → SpellAll (Spells w) R b → (Y : List Record) × (R ≡ P ++ Y) × SpellAll (Spells w) Y rest
-prefix w [] R b read rest p e q = (R, refl, subst (SpellAll (Spells w) R) (sym e ∙ ap (λ l. l ++ rest) p) q)
+prefix : (w : ℕ) (P R : List Record) (b read rest : List ℕ) → SpellAll w P read → read ++ rest ≡ b → SpellAll w R b → (Y : List Record) × (R ≡ P ++ Y) × SpellAll w Y rest
+prefix w [] R b read rest p e q = (R, refl, subst (SpellAll w R) (sym e ∙ ap (λ l. l ++ rest) p) q)
 prefix w (x ∷ P) [] b read rest p e q = absurd (not_empty w x p.first (p.rest ++ rest) p.spelled (sym q ∙ sym e ∙ ap (λ l. l ++ rest) p.joined ∙ append_assoc p.first p.rest rest))
 prefix w (x ∷ P) (r ∷ R) b read rest p e q =
     let both = record_same w x r p.first q.first (p.rest ++ rest) q.rest p.spelled q.spelled (sym (append_assoc p.first p.rest rest) ∙ ap (λ l. l ++ rest) (sym p.joined) ∙ e ∙ q.joined) in
@@ -78,7 +78,7 @@ module _ (item : List ℕ → Type 0) where
       sym rest.1
 
   -- a record of a tree keeps what is asked of it
-  root_or : (v : Option Nothing) (row : Row Nothing) (before : List Record) (r : Record) (Y : List Record) → IsLoose item row → tree_records v row ≡ before ++ (r ∷ Y) → ((before ≡ []) × (r.label ≡ []) × (r.sibling ≡ false)) ⊎ ((before ≢ []) × IsGood item r)
+  root_or : (v : Option Nothing) (row : Row Nothing) (before : List Record) (r : Record) (Y : List Record) → IsWritable item row → tree_records v row ≡ before ++ (r ∷ Y) → ((before ≡ []) × (r.label ≡ []) × (r.sibling ≡ false)) ⊎ ((before ≢ []) × IsGood item r)
   root_or v row [] r Y ok e =
       let head : record_of 0 [] v row end ≡ r = cc in
       inl (refl, ap (λ (h : Record). h.label) (sym head), ap (λ (h : Record). h.sibling) (sym head))
@@ -86,7 +86,7 @@ module _ (item : List ℕ → Type 0) where
       let tails : records_of 1 row ≡ before ++ (r ∷ Y) = cc in
       inr ((λ none. cc), good item 1 row ok before r Y tails)
 
-  tree_rising : (v : Option Nothing) (row : Row Nothing) (before : List Record) (r : Record) (Y : List Record) → IsLoose item row → tree_records v row ≡ before ++ (r ∷ Y) → (x : Record) → IsLastUpTo before r.level x → x.level ≡ r.level → IsBefore item x.label r.label
+  tree_rising : (v : Option Nothing) (row : Row Nothing) (before : List Record) (r : Record) (Y : List Record) → IsWritable item row → tree_records v row ≡ before ++ (r ∷ Y) → (x : Record) → IsLastUpTo before r.level x → x.level ≡ r.level → IsBefore item x.label r.label
   tree_rising v row [] r Y ok e x up same = absurd (nil_split up.ahead x up.after up.is)
   tree_rising v row (h ∷ before) r Y ok e x up same =
       let head : record_of 0 [] v row end ≡ h = cc in
@@ -106,7 +106,7 @@ module _ (item : List ℕ → Type 0) where
       at = t.records ∙ e
 
       kind : ((before ≡ []) × (r.label ≡ []) × (r.sibling ≡ false)) ⊎ ((before ≢ []) × IsGood item r)
-      kind = root_or t.value t.row before r Y t.loose at
+      kind = root_or t.value t.row before r Y t.ok at
 
       go : (f : Fault) → IsFaulty item before r n f → ⊥
       go truncated h = h
@@ -127,7 +127,7 @@ module _ (item : List ℕ → Type 0) where
         | inl root ↦ h (subst (IsValid item) (sym root.1) (IsValid-nil item))
         | inr inner ↦ h inner.1.valid
       ]
-      go sibling_order h = h.3 (tree_rising t.value t.row before r Y t.loose at h.0 h.1 h.2)
+      go sibling_order h = h.3 (tree_rising t.value t.row before r Y t.ok at h.0 h.1 h.2)
       go no_value_no_child h = elim kind [
         | inl root ↦ h.0 root.0
         | inr inner ↦ elim inner.1.marked [
@@ -142,19 +142,19 @@ module _ (item : List ℕ → Type 0) where
       go trailing_bytes h = h
       go too_many_values h = h
 
-  no_fault : (w : ℕ) (b : List ℕ) (R : List Record) (E : List (List ℕ)) (n : ℕ) → n ≡ length E → SpellAll (Spells w) R b → Root item R E → (f : Fault) (o : ℕ) → Stands item w b n f o → ⊥
+  no_fault : (w : ℕ) (b : List ℕ) (R : List Record) (E : List (List ℕ)) (n : ℕ) → n ≡ length E → SpellAll w R b → Root item R E → (f : Fault) (o : ℕ) → Stands item w b n f o → ⊥
   no_fault w b R E n count spelled root f o (cut_short before rest reads unfinished short) =
       let more = prefix w before R b reads.read rest reads.spelled reads.joined spelled in
       go more.0 more.1 more.2
     where
-      go : (Y : List Record) → R ≡ before ++ Y → SpellAll (Spells w) Y rest → ⊥
+      go : (Y : List Record) → R ≡ before ++ Y → SpellAll w Y rest → ⊥
       go [] e s = unfinished R [] E (sym (append-nil before) ∙ sym e ∙ sym (append-nil R)) root
       go (y ∷ Y) e s = enough w y s.first s.rest s.spelled (subst (IsCutShort w) s.joined short)
   no_fault w b R E n count spelled root f o (in_record before r first rest reads unfinished one fault) =
       let more = prefix w before R b reads.read (first ++ rest) reads.spelled reads.joined spelled in
       go more.0 more.1 more.2
     where
-      go : (Y : List Record) → R ≡ before ++ Y → SpellAll (Spells w) Y (first ++ rest) → ⊥
+      go : (Y : List Record) → R ≡ before ++ Y → SpellAll w Y (first ++ rest) → ⊥
       go [] e s = unfinished R [] E (sym (append-nil before) ∙ sym e ∙ sym (append-nil R)) root
       go (y ∷ Y) e s =
           let both = record_same w r y first s.first rest s.rest one s.spelled s.joined in
@@ -162,7 +162,7 @@ module _ (item : List ℕ → Type 0) where
   no_fault w b R E n count spelled root f o (trailing P F rest reads tree over) =
       let more = prefix w P R b reads.read rest reads.spelled reads.joined spelled in
       let none = whole R P more.0 E F root tree more.1 in
-      over (subst (λ Y. SpellAll (Spells w) Y rest) none more.2)
+      over (subst (λ Y. SpellAll w Y rest) none more.2)
   no_fault w b R E n count spelled root f o (too_many P F other tree less) =
       let same = one_list w P R b other spelled in
       omega (arith, marks R E root, ap value_marks same, count)

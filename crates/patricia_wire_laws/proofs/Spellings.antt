@@ -1,11 +1,12 @@
 -- Bytes spell one list of records.
 use Rattle.std.proofs.Common.{◌≡◌, ℕ, suc, zero, ◌+◌, ◌*◌, ◌/◌, ◌%◌, ◌<◌, Bool, true, false, List, [], ◌∷◌, ◌++◌, length, refl, sym, ap, subst, ◌∙◌, arith}
-use Rattle.std.specs.Prelude.{◌^◌, ◌↔◌, IsTrue}
+use Rattle.std.specs.Prelude.{◌^◌, ◌↔◌, IsTrue, ◌≢◌, All}
 use Rattle.std.specs.Int.{bytes_high_first}
 use Rattle.std.proofs.Math.Nat.{pow-succ', mod-eq_of_lt}
 use Rattle.std.proofs.Math.Arith.{mod-mul}
 use Rattle.std.proofs.lemmas.List.{append_assoc}
-use Rattle.patricia_wire_laws.specs.Records.{Record, AreFlags, HasRoom, Spells, SpellsCleanly, SpellAll, clean_flags, after_flags}
+use Rattle.std.proofs.lemmas.List.Elements.{All-head, All-tail}
+use Rattle.patricia_wire_laws.specs.Records.{Record, AreFlags, HasRoom, Spells, SpellAll, clean_flags, clean_spelling, clean_spellings, after_flags}
 
 same_mark : (a b : Bool) (P : Type 0) → IsTrue a ↔ P → IsTrue b ↔ P → a ≡ b
 same_mark true true P x y = refl
@@ -66,36 +67,45 @@ record_same w r s b c x y p q e =
     let sibling = same_mark r.sibling s.sibling _ p.marks.sibling marks.sibling in
     ((λ i. record { level = level i; label = label i; value = value i; child = child i; sibling = sibling i }), labels.1)
 
-pub one_list : (w : ℕ) (R X : List Record) (b : List ℕ) → SpellAll (Spells w) R b → SpellAll (Spells w) X b → R ≡ X
+pub one_list : (w : ℕ) (R X : List Record) (b : List ℕ) → SpellAll w R b → SpellAll w X b → R ≡ X
 one_list w [] [] b p q = refl
 one_list w [] (x ∷ X) b p q = absurd (let e : x ≡ x = refl in let h : [] ≡ q.first ++ q.rest = sym p ∙ q.joined in let k : [] ≡ (q.spelled.flags ∷ after_flags w x) ++ q.rest = h ∙ ap (λ l. l ++ q.rest) q.spelled.is in cc)
 one_list w (r ∷ R) [] b p q = absurd (let h : [] ≡ p.first ++ p.rest = sym q ∙ p.joined in let k : [] ≡ (p.spelled.flags ∷ after_flags w r) ++ p.rest = h ∙ ap (λ l. l ++ p.rest) p.spelled.is in cc)
 one_list w (r ∷ R) (x ∷ X) b p q =
     let both = record_same w r x p.first q.first p.rest q.rest p.spelled q.spelled (sym p.joined ∙ q.joined) in
     let head = both.0 in
-    let tail = one_list w R X q.rest (subst (SpellAll (Spells w) R) both.1 p.others) q.others in
+    let tail = one_list w R X q.rest (subst (SpellAll w R) both.1 p.others) q.others in
     λ i. head i ∷ tail i
 
+-- a bit that is set, and one that is clear
+set : (bit : ℕ) → bit ≢ 0 → IsTrue true ↔ (bit ≢ 0)
+set bit some = (λ e. some, λ h. refl)
+
+clear : (bit : ℕ) → bit ≡ 0 → IsTrue false ↔ (bit ≢ 0)
+clear bit none = (λ e. absurd (cc), λ h. absurd (h none))
+
+-- clean flags have the three marks
 clean_marks : (n : ℕ) (v c s : Bool) (label : List ℕ) → AreFlags (record { level = n; label = label; value = v; child = c; sibling = s }) (clean_flags (record { level = n; label = label; value = v; child = c; sibling = s }))
-clean_marks n true true true label = record { in_a_byte = omega arith; value = (λ e. (λ h. cc), λ h. refl); child = (λ e. (λ h. cc), λ h. refl); sibling = (λ e. (λ h. cc), λ h. refl) }
-clean_marks n true true false label = record { in_a_byte = omega arith; value = (λ e. (λ h. cc), λ h. refl); child = (λ e. (λ h. cc), λ h. refl); sibling = (λ e. absurd (cc), λ h. absurd (h refl)) }
-clean_marks n true false true label = record { in_a_byte = omega arith; value = (λ e. (λ h. cc), λ h. refl); child = (λ e. absurd (cc), λ h. absurd (h refl)); sibling = (λ e. (λ h. cc), λ h. refl) }
-clean_marks n true false false label = record { in_a_byte = omega arith; value = (λ e. (λ h. cc), λ h. refl); child = (λ e. absurd (cc), λ h. absurd (h refl)); sibling = (λ e. absurd (cc), λ h. absurd (h refl)) }
-clean_marks n false true true label = record { in_a_byte = omega arith; value = (λ e. absurd (cc), λ h. absurd (h refl)); child = (λ e. (λ h. cc), λ h. refl); sibling = (λ e. (λ h. cc), λ h. refl) }
-clean_marks n false true false label = record { in_a_byte = omega arith; value = (λ e. absurd (cc), λ h. absurd (h refl)); child = (λ e. (λ h. cc), λ h. refl); sibling = (λ e. absurd (cc), λ h. absurd (h refl)) }
-clean_marks n false false true label = record { in_a_byte = omega arith; value = (λ e. absurd (cc), λ h. absurd (h refl)); child = (λ e. absurd (cc), λ h. absurd (h refl)); sibling = (λ e. (λ h. cc), λ h. refl) }
-clean_marks n false false false label = record { in_a_byte = omega arith; value = (λ e. absurd (cc), λ h. absurd (h refl)); child = (λ e. absurd (cc), λ h. absurd (h refl)); sibling = (λ e. absurd (cc), λ h. absurd (h refl)) }
+clean_marks n true true true label = record { in_a_byte = omega arith; value = set 2 (λ h. cc); child = set 8 (λ h. cc); sibling = set 32 (λ h. cc) }
+clean_marks n true true false label = record { in_a_byte = omega arith; value = set 2 (λ h. cc); child = set 8 (λ h. cc); sibling = clear 0 refl }
+clean_marks n true false true label = record { in_a_byte = omega arith; value = set 2 (λ h. cc); child = clear 0 refl; sibling = set 32 (λ h. cc) }
+clean_marks n true false false label = record { in_a_byte = omega arith; value = set 2 (λ h. cc); child = clear 0 refl; sibling = clear 0 refl }
+clean_marks n false true true label = record { in_a_byte = omega arith; value = clear 0 refl; child = set 8 (λ h. cc); sibling = set 32 (λ h. cc) }
+clean_marks n false true false label = record { in_a_byte = omega arith; value = clear 0 refl; child = set 8 (λ h. cc); sibling = clear 0 refl }
+clean_marks n false false true label = record { in_a_byte = omega arith; value = clear 0 refl; child = clear 0 refl; sibling = set 32 (λ h. cc) }
+clean_marks n false false false label = record { in_a_byte = omega arith; value = clear 0 refl; child = clear 0 refl; sibling = clear 0 refl }
 
-pub one_spells : (w : ℕ) (r : Record) → HasRoom w r → Spells w r (clean_flags r ∷ after_flags w r)
-one_spells w r room = record { flags = clean_flags r; marks = clean_marks r.level r.value r.child r.sibling r.label; room = room; is = refl }
+-- the clean spelling of a record that has room spells it
+pub clean_spells : (w : ℕ) (r : Record) → HasRoom w r → Spells w r (clean_spelling w r)
+clean_spells w r room = record { flags = clean_flags r; marks = clean_marks r.level r.value r.child r.sibling r.label; room = room; is = refl }
 
--- a clean spelling is a spelling
-pub clean_spells : (w : ℕ) (R : List Record) (b : List ℕ) → SpellAll (SpellsCleanly w) R b → SpellAll (Spells w) R b
-clean_spells w [] b p = p
-clean_spells w (r ∷ R) b p = record {
-  first = p.first;
-  rest = p.rest;
-  spelled = record { flags = clean_flags r; marks = clean_marks r.level r.value r.child r.sibling r.label; room = p.spelled.room; is = p.spelled.is };
-  others = clean_spells w R p.rest p.others;
-  joined = p.joined;
+-- and so do those of a list
+pub clean_spell_all : (w : ℕ) (R : List Record) → All (HasRoom w) R → SpellAll w R (clean_spellings w R)
+clean_spell_all w [] room = refl
+clean_spell_all w (r ∷ R) room = record {
+  first = clean_spelling w r;
+  rest = clean_spellings w R;
+  spelled = clean_spells w r (All-head (HasRoom w) r R room);
+  others = clean_spell_all w R (All-tail (HasRoom w) r R room);
+  joined = refl;
 }

@@ -1,5 +1,7 @@
-use Rattle.patricia_wire_laws.proofs.Joined as joined
+use Rattle.patricia_wire_laws.proofs.Joined as lemma
 use Rattle.patricia_wire_laws.proofs.laws.joined_row.Goals as goal
 
 pub returns : goal.returns
-returns g c = joined.joined_row g.K.Bytes.item
+returns g c r ok =
+    let joined = lemma.joined g.K.Bytes.item g.met.K.Bytes.lawful r ok in
+    (joined.row, joined.ok, joined.same)

@@ -1,8 +1,5 @@
-use Rattle.patricia_wire_laws.proofs.OneWriting.{one_tree, one_canon}
+use Rattle.patricia_wire_laws.proofs.OneTree as lemma
 use Rattle.patricia_wire_laws.proofs.laws.one_writing.Goals as goal
 
-pub returns-clause-tree : goal.returns-clause-tree
-returns-clause-tree g c = one_tree g.K.Bytes.item g.met.K.Bytes.lawful
-
-pub returns-clause-bytes : goal.returns-clause-bytes
-returns-clause-bytes g c = one_canon g.K.Bytes.item g.met.K.Bytes.lawful
+pub returns : goal.returns
+returns g c = lemma.one_writing g.K.Bytes.item g.met.K.Bytes.lawful

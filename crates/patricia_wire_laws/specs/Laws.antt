@@ -1,0 +1,114 @@
+-- What the laws of the wire form say, each in one sentence.
+use Rattle.std.specs.Prelude.{◌≡◌, ◌↔◌, ◌⊎◌, ℕ, List, Option, Some, ◌++◌, length}
+use Rattle.std.specs.FinMap as map
+use Rattle.patricia_rows.specs.Rows.{Row, own, entries, keys_of, IsRow, IsRowWithin}
+use Rattle.patricia_rows.specs.Trees.{map_of, IsTree}
+use Rattle.patricia_rows.specs.Walks.{values_of}
+use Rattle.patricia_wire_laws.specs.Records.{Record}
+use Rattle.patricia_wire_laws.specs.Forests.{Root}
+use Rattle.patricia_wire_laws.specs.Writings.{Means, IsTight, Canon, TooDeep}
+use Rattle.patricia_wire_laws.specs.WrittenRows.{tree_records, IsWritable}
+use Rattle.patricia_wire_laws.specs.Counts.{LabelsAreFronts, RecordsArePoints, AreFew}
+use Rattle.patricia_wire_laws.specs.Faults.{Fault, IsFirst, Stands}
+
+module _ (item : List ℕ → Type 0) where
+  -- a set of keys has one writing
+  abbrev pub HasOneWriting : Type 0
+  HasOneWriting =
+      (w : ℕ) (b c : List ℕ) (S : List (List ℕ)) → Canon item w b S → Canon item w c S → b ≡ c
+
+  -- bytes are the writing of one set of keys
+  abbrev pub HasOneKeySet : Type 0
+  HasOneKeySet =
+      (w : ℕ) (b : List ℕ) (S T : List (List ℕ)) → Canon item w b S → Canon item w b T → S ≡ T
+
+  -- bytes mean one list of rows with these values
+  abbrev pub HasOneMeaning : Type 0 → Type 0
+  HasOneMeaning V =
+      (w : ℕ) (b : List ℕ) (values : List V) (M N : List (List ℕ × V))
+      → Means item w b values M → Means item w b values N → M ≡ N
+
+  -- the writing of the keys of rows means these rows
+  abbrev pub WritingMeansRows : Type 0 → Type 0
+  WritingMeansRows V =
+      (w : ℕ) (b : List ℕ) (rows : List (List ℕ × V))
+      → Canon item w b (keys_of rows) → Means item w b (values_of rows) rows
+
+  -- the keys of a tree in memory have a writing, or lie too deep for one
+  abbrev pub IsWrittenOrTooDeep : Type 0 → Type 0
+  IsWrittenOrTooDeep V =
+      (w : ℕ) (v : Option V) (r : Row V) (n : ℕ) → IsTree item r n
+      → ((b : List ℕ) × Canon item w b (map.keys (map_of v r)))
+      ⊎ TooDeep item w (map.keys (map_of v r))
+
+  -- and never both
+  abbrev pub IsNeverBoth : Type 0
+  IsNeverBoth = (w : ℕ) (b : List ℕ) (S : List (List ℕ)) → Canon item w b S → TooDeep item w S → ⊥
+
+  -- in a tight tree, where each item is one byte, the labels have a byte for each front of its keys
+  abbrev pub CountsFronts : Type 0
+  CountsFronts =
+      (R : List Record) (S : List (List ℕ)) → Root item R S → IsTight item R
+      → LabelsAreFronts item R S
+
+  -- a tight tree of short keys has a record for each point of its keys, and one more
+  abbrev pub CountsPoints : Type 0
+  CountsPoints =
+      (R : List Record) (S : List (List ℕ)) → Root item R S → IsTight item R
+      → RecordsArePoints item R S
+
+  -- a tight tree of short keys has at most two records for each key
+  abbrev pub HasFewRecords : Type 0
+  HasFewRecords = (R : List Record) (S : List (List ℕ)) → Root item R S → IsTight item R → AreFew R S
+
+  -- two tight trees with the same keys are the same list of records
+  abbrev pub HasOneTightTree : Type 0
+  HasOneTightTree =
+      (R X : List Record) (S : List (List ℕ)) → Root item R S → Root item X S
+      → IsTight item R → IsTight item X → R ≡ X
+
+  -- a list of records holds one list of keys
+  abbrev pub HasOneKeyList : Type 0
+  HasOneKeyList = (R : List Record) (S T : List (List ℕ)) → Root item R S → Root item R T → S ≡ T
+
+  -- the records of a writable row are a tree with its keys
+  abbrev pub HasRecords : Type 0 → Type 0
+  HasRecords V =
+      (v : Option V) (r : Row V) → IsWritable item r
+      → Root item (tree_records v r) (keys_of (own v ++ entries r))
+
+  -- and each tree is the records of such a row
+  abbrev pub HasWritableRow : Type 0
+  HasWritableRow =
+      (R : List Record) (S : List (List ℕ)) → Root item R S
+      → (v : Option (Unit {0})) × (r : Row (Unit {0})) × IsWritable item r
+      × (tree_records v r ≡ R) × (keys_of (own v ++ entries r) ≡ S)
+
+  -- they are tight exactly where the row keeps the invariant with labels of at most 255 bytes
+  abbrev pub IsTightWithin : Type 0 → Type 0
+  IsTightWithin V =
+      (v : Option V) (r : Row V) → IsWritable item r
+      → IsTight item (tree_records v r) ↔ IsRowWithin item (Some 255) r
+
+  -- a row in memory has the entries of a row with labels of at most 255 bytes
+  abbrev pub HasCutRow : Type 0 → Type 0
+  HasCutRow V =
+      (r : Row V) → IsRow item r
+      → (s : Row V) × IsRowWithin item (Some 255) s × (entries s ≡ entries r)
+
+  -- a writable row has the entries of a row in memory
+  abbrev pub HasJoinedRow : Type 0 → Type 0
+  HasJoinedRow V =
+      (r : Row V) → IsWritable item r → (s : Row V) × IsRow item s × (entries s ≡ entries r)
+
+  -- an input has one first fault, at one offset
+  abbrev pub HasOneFirstFault : Type 0
+  HasOneFirstFault =
+      (w : ℕ) (b : List ℕ) (n : ℕ) (f g : Fault) (o p : ℕ)
+      → IsFirst item w b n f o → IsFirst item w b n g p → (f ≡ g) × (o ≡ p)
+
+  -- no fault stands in bytes that mean rows with so many values
+  abbrev pub HasNoFaultWhereMeant : Type 0 → Type 0
+  HasNoFaultWhereMeant V =
+      (w : ℕ) (b : List ℕ) (values : List V) (M : List (List ℕ × V)) (f : Fault) (o : ℕ)
+      → Means item w b values M → Stands item w b (length values) f o → ⊥
