@@ -78,10 +78,10 @@ one_list w (r ∷ R) (x ∷ X) b p q =
     λ i. head i ∷ tail i
 
 -- a bit that is set, and one that is clear
-set : (bit : ℕ) → bit ≢ 0 → IsTrue true ↔ (bit ≢ 0)
+pub set : (bit : ℕ) → bit ≢ 0 → IsTrue true ↔ (bit ≢ 0)
 set bit some = (λ e. some, λ h. refl)
 
-clear : (bit : ℕ) → bit ≡ 0 → IsTrue false ↔ (bit ≢ 0)
+pub clear : (bit : ℕ) → bit ≡ 0 → IsTrue false ↔ (bit ≢ 0)
 clear bit none = (λ e. absurd (cc), λ h. absurd (h none))
 
 -- clean flags have the three marks

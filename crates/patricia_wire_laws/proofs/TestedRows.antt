@@ -4,6 +4,7 @@ use Rattle.std.specs.Prelude.{◌^◌, ◌||◌, ◌⊎◌, ◌≢◌, not, nat_
 use Rattle.std.specs.Cmp.{first_so, second_so}
 use Rattle.std.specs.List.{list_all}
 use Rattle.std.proofs.lemmas.Bool.{ltb-true}
+use Rattle.std.proofs.lemmas.List.Elements.{All-nil, All-cons}
 use Rattle.patricia_keys.specs.Keys.{IsKeyKind, IsValid}
 use Rattle.patricia_keys.specs.ByteKind.{IsByteItem, one_byte}
 use Rattle.patricia_keys.specs.Private.ByteLaw.{byte_lawful}
@@ -125,6 +126,28 @@ byte_writable (node l v c s) test =
       child = byte_writable c (first_so (is_writable c) (is_writable s) rest3);
       sibling = beside;
     }
+
+-- a record can be spelled
+abbrev has_room : ℕ → Record → Bool
+has_room w r = nat_lt r.level (256 ^ w) && (nat_lt (length r.label) 256 && are_bytes r.label)
+
+are_bytes-all : (l : List ℕ) → are_bytes l ≡ true → All (λ b. b < 256) l
+are_bytes-all [] test = All-nil (λ b. b < 256)
+are_bytes-all (b ∷ l) test = All-cons (λ b. b < 256) b l (ltb-true b 256 (first_so _ _ test)) (are_bytes-all l (second_so _ _ test))
+
+pub byte_room : (w : ℕ) (r : Record) → has_room w r ≡ true → HasRoom w r
+byte_room w r test =
+    let rest = second_so (nat_lt r.level (256 ^ w)) _ test in
+    let short = ltb-true (length r.label) 256 (first_so (nat_lt (length r.label) 256) _ rest) in
+    record {
+      level = ltb-true r.level (256 ^ w) (first_so (nat_lt r.level (256 ^ w)) _ test);
+      label = omega arith;
+      bytes = are_bytes-all r.label (second_so (nat_lt (length r.label) 256) _ rest);
+    }
+
+pub byte_rooms : (w : ℕ) (R : List Record) → list_all (has_room w) R ≡ true → All (HasRoom w) R
+byte_rooms w [] test = All-nil (HasRoom w)
+byte_rooms w (r ∷ R) test = All-cons (HasRoom w) r R (byte_room w r (first_so _ _ test)) (byte_rooms w R (second_so _ _ test))
 
 -- the writing of the keys of a row of byte keys
 pub byte_written : (w : ℕ) (v : Option Nothing) (r : Row Nothing) → is_writable r ≡ true → are_shallow w (tree_records v r) ≡ true → are_apart (records_of 1 r) ≡ true → Canon IsByteItem w (clean_spellings w (tree_records v r)) (keys_of (own v ++ entries r))

@@ -79,3 +79,8 @@ ab_in_two = 12 ∷ 0 ∷ 0 ∷ 0 ∷ 12 ∷ 1 ∷ 0 ∷ 1 ∷ 97 ∷ 3 ∷ 1 ∷
 -- and its writing
 abbrev pub ab_written : List ℕ
 ab_written = 12 ∷ 0 ∷ 0 ∷ 0 ∷ 3 ∷ 2 ∷ 0 ∷ 1 ∷ ab
+
+-- b and then a beside it, which is out of order
+abbrev pub falling_siblings : List ℕ
+falling_siblings =
+    12 ∷ 0 ∷ 0 ∷ 0 ∷ 51 ∷ 1 ∷ 0 ∷ 1 ∷ 98 ∷ 3 ∷ 1 ∷ 0 ∷ 1 ∷ 97 ∷ []

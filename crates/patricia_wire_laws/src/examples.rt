@@ -4,8 +4,9 @@ ghost use Rattle.patricia_keys.specs.ByteKind.{IsByteItem};
 ghost use Rattle.patricia_keys.specs.TextKind.{IsTextItem};
 ghost use Rattle.patricia_rows.specs.ThreeKeys.{three_keys};
 ghost use Rattle.patricia_wire_laws.specs.Writings.{Canon, Means};
+ghost use Rattle.patricia_wire_laws.specs.Faults.{Fault, Stands};
 ghost use Rattle.patricia_wire_laws.specs.Examples.{nothing_written, three_keys_written, three_keys_written_wide, empty_key_and_a, empty_key_and_a_written, lone_key, lone_key_written};
-ghost use Rattle.patricia_wire_laws.specs.Examples.{two_texts, two_texts_written, two_texts_written_as_bytes, long_key, long_key_written, ab, ab_in_two, ab_written};
+ghost use Rattle.patricia_wire_laws.specs.Examples.{two_texts, two_texts_written, two_texts_written_as_bytes, long_key, long_key_written, ab, ab_in_two, ab_written, falling_siblings};
 
 /// No keys are written as a root alone.
 pub fn no_keys()
@@ -45,4 +46,20 @@ pub fn not_tight()
     ensures meant { Means IsByteItem {V = ℕ} 2 ab_in_two (7 ∷ []) ((ab, 7) ∷ []) }
     ensures loose { (S : List (List ℕ)) → Canon IsByteItem 2 ab_in_two S → ⊥ }
     ensures tight { Canon IsByteItem 2 ab_written (ab ∷ []) }
+{}
+
+/// Faults of inputs that are one record, a part of one or little more.
+pub fn short_inputs()
+    ensures empty { Stands IsByteItem 2 [] 0 Fault.truncated 0 }
+    ensures level { Stands IsByteItem 2 (0 ∷ 0 ∷ 0 ∷ 1 ∷ []) 0 Fault.level 0 }
+    ensures label { Stands IsByteItem 2 (2 ∷ 1 ∷ 0 ∷ 0 ∷ 97 ∷ []) 1 Fault.root_label 0 }
+    ensures sibling { Stands IsByteItem 2 (32 ∷ 0 ∷ 0 ∷ 0 ∷ []) 0 Fault.root_sibling 0 }
+    ensures few { Stands IsByteItem 2 (3 ∷ 0 ∷ 0 ∷ 0 ∷ []) 0 Fault.too_few_values 0 }
+    ensures trailing { Stands IsByteItem 2 (0 ∷ 0 ∷ 0 ∷ 0 ∷ 0 ∷ []) 1 Fault.trailing_bytes 4 }
+    ensures many { Stands IsByteItem 2 (0 ∷ 0 ∷ 0 ∷ 0 ∷ []) 1 Fault.too_many_values 4 }
+{}
+
+/// Siblings that fall, b and then a, are out of order at the second.
+pub fn sibling_order()
+    ensures { Stands IsByteItem 2 falling_siblings 2 Fault.sibling_order 9 }
 {}
