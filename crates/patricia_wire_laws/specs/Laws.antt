@@ -71,6 +71,12 @@ module _ (item : List ℕ → Type 0) where
   abbrev pub HasOneKeyList : Type 0
   HasOneKeyList = (R : List Record) (S T : List (List ℕ)) → Root item R S → Root item R T → S ≡ T
 
+  -- the keys of a whole tree of records are those of a tree in memory
+  abbrev pub HoldsKeysOfMap : Type 0
+  HoldsKeysOfMap =
+      (R : List Record) (S : List (List ℕ)) → Root item R S
+      → (v : Option (Unit {0})) × (r : Row (Unit {0})) × IsRow item r × (map.keys (map_of v r) ≡ S)
+
   -- the records of a writable row are a tree with its keys
   abbrev pub HasRecords : Type 0 → Type 0
   HasRecords V =

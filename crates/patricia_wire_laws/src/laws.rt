@@ -1,7 +1,7 @@
 //! Laws of the wire form that hold for every key kind and every width of levels, as contracts of
 //! functions that do nothing.
 ghost use Rattle.patricia_wire_laws.specs.Laws.{HasOneWriting, HasOneKeySet, HasOneMeaning, WritingMeansRows, IsWrittenOrTooDeep, IsNeverBoth};
-ghost use Rattle.patricia_wire_laws.specs.Laws.{CountsFronts, CountsPoints, HasFewRecords, HasOneTightTree, HasOneKeyList};
+ghost use Rattle.patricia_wire_laws.specs.Laws.{CountsFronts, CountsPoints, HasFewRecords, HasOneTightTree, HasOneKeyList, HoldsKeysOfMap};
 ghost use Rattle.patricia_wire_laws.specs.Laws.{HasRecords, HasWritableRow, IsTightWithin, HasCutRow, HasJoinedRow};
 ghost use Rattle.patricia_wire_laws.specs.Laws.{HasOneFirstFault, HasNoFaultWhereMeant};
 
@@ -50,9 +50,10 @@ pub fn one_tight_tree<K: Bytes>()
     ensures { HasOneTightTree K.item }
 {}
 
-/// A list of records holds one list of keys.
+/// A list of records holds one list of keys, which are the keys of a tree in memory.
 pub fn one_key_list<K: Bytes>()
-    ensures { HasOneKeyList K.item }
+    ensures one { HasOneKeyList K.item }
+    ensures keys { HoldsKeysOfMap K.item }
 {}
 
 /// The records of a writable row are a tree with its keys, tight exactly where the row keeps the

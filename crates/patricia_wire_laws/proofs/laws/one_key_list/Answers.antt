@@ -1,5 +1,19 @@
+use Rattle.std.proofs.Common.{◌++◌, ◌∙◌}
+use Rattle.patricia_rows.specs.Rows.{own, keys_of}
+use Rattle.patricia_rows.proofs.TreeLemmas.{keys_map}
+use Rattle.patricia_wire_laws.proofs.Joined.{joined}
 use Rattle.patricia_wire_laws.proofs.OneMeaning as lemma
+use Rattle.patricia_wire_laws.proofs.RowTrees.{stands_tree}
 use Rattle.patricia_wire_laws.proofs.laws.one_key_list.Goals as goal
 
-pub returns : goal.returns
-returns g c = lemma.one_key_list g.K.Bytes.item
+pub returns-clause-one : goal.returns-clause-one
+returns-clause-one g c = lemma.one_key_list g.K.Bytes.item
+
+pub returns-clause-keys : goal.returns-clause-keys
+returns-clause-keys g c R S root =
+    let item = g.K.Bytes.item in
+    let kind = g.met.K.Bytes.lawful in
+    let tree = stands_tree item R S root in
+    let row = joined item kind tree.row tree.ok in
+    let same = row.same in
+    (tree.value, row.row, row.ok, keys_map item kind tree.value row.row row.ok ∙ (λ i. keys_of (own tree.value ++ same i)) ∙ tree.keys)
