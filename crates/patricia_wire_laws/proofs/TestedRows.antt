@@ -13,7 +13,7 @@ use Rattle.patricia_rows.proofs.MeetingLemmas.{before_by_first_byte}
 use Rattle.patricia_wire_laws.specs.Records.{Record, HasRoom, clean_spellings}
 use Rattle.patricia_wire_laws.specs.Writings.{Canon, StaysApart, StayApart}
 use Rattle.patricia_wire_laws.specs.WrittenRows.{has_node, records_of, tree_records, IsWritable}
-use Rattle.patricia_wire_laws.proofs.Deep.{tree_room_or_deep}
+use Rattle.patricia_wire_laws.proofs.WrittenOrDeep.{tree_room_or_deep}
 use Rattle.patricia_wire_laws.proofs.RowTrees.{Nothing, tree_of}
 
 -- the levels of all records have room

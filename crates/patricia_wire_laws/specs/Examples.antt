@@ -69,6 +69,27 @@ long_key_written =
     ++ (12 ∷ 255 ∷ 0 ∷ 1 ∷ replicate 255 97)
     ++ (3 ∷ 45 ∷ 0 ∷ 2 ∷ replicate 45 97)
 
+-- a, 254 times, with あの behind, and b
+abbrev pub long_text_and_b : List (List ℕ)
+long_text_and_b =
+    (replicate 254 97 ++ 227 ∷ 129 ∷ 130 ∷ 227 ∷ 129 ∷ 174 ∷ []) ∷ (98 ∷ []) ∷ []
+
+-- as texts: あ has three bytes and no room in the label before it
+abbrev pub long_text_and_b_written : List ℕ
+long_text_and_b_written =
+    (12 ∷ 0 ∷ 0 ∷ 0 ∷ [])
+    ++ (60 ∷ 254 ∷ 0 ∷ 1 ∷ replicate 254 97)
+    ++ (3 ∷ 6 ∷ 0 ∷ 2 ∷ 227 ∷ 129 ∷ 130 ∷ 227 ∷ 129 ∷ 174 ∷ [])
+    ++ (3 ∷ 1 ∷ 0 ∷ 1 ∷ 98 ∷ [])
+
+-- as byte strings: the first byte of あ has room
+abbrev pub long_text_and_b_written_as_bytes : List ℕ
+long_text_and_b_written_as_bytes =
+    (12 ∷ 0 ∷ 0 ∷ 0 ∷ [])
+    ++ (60 ∷ 255 ∷ 0 ∷ 1 ∷ replicate 254 97 ++ 227 ∷ [])
+    ++ (3 ∷ 5 ∷ 0 ∷ 2 ∷ 129 ∷ 130 ∷ 227 ∷ 129 ∷ 174 ∷ [])
+    ++ (3 ∷ 1 ∷ 0 ∷ 1 ∷ 98 ∷ [])
+
 -- ab in two records, which is well formed and not tight
 abbrev pub ab : List ℕ
 ab = 97 ∷ 98 ∷ []

@@ -6,6 +6,7 @@ ghost use Rattle.patricia_rows.specs.ThreeKeys.{three_keys};
 ghost use Rattle.patricia_wire_laws.specs.Writings.{Canon, Means};
 ghost use Rattle.patricia_wire_laws.specs.Faults.{Fault, Stands};
 ghost use Rattle.patricia_wire_laws.specs.Examples.{nothing_written, three_keys_written, three_keys_written_wide, empty_key_and_a, empty_key_and_a_written, lone_key, lone_key_written};
+ghost use Rattle.patricia_wire_laws.specs.Examples.{long_text_and_b, long_text_and_b_written, long_text_and_b_written_as_bytes};
 ghost use Rattle.patricia_wire_laws.specs.Examples.{two_texts, two_texts_written, two_texts_written_as_bytes, long_key, long_key_written, ab, ab_in_two, ab_written, falling_siblings};
 
 /// No keys are written as a root alone.
@@ -39,6 +40,12 @@ pub fn texts_and_bytes()
 /// A label of more than 255 bytes is cut.
 pub fn long_label()
     ensures { Canon IsByteItem 2 long_key_written (long_key ∷ []) }
+{}
+
+/// It is cut between items, so a label of a text may end before its 255th byte.
+pub fn long_text()
+    ensures texts { Canon IsTextItem 2 long_text_and_b_written long_text_and_b }
+    ensures bytes { Canon IsByteItem 2 long_text_and_b_written_as_bytes long_text_and_b }
 {}
 
 /// A writing that is not tight means its rows all the same, and is no key set's writing.

@@ -34,13 +34,13 @@ pub fn written_or_too_deep<K: Bytes, V>()
 {}
 
 /// The labels of a tight tree of byte keys have a byte for each front of its keys.
-pub fn fronts_of_tree<K: Bytes>()
+pub fn labels_are_fronts<K: Bytes>()
     ensures { CountsFronts K.item }
 {}
 
 /// A tight tree of short keys has a record for each point of its keys and one for the root, and at
 /// most two for each key.
-pub fn points_of_tree<K: Bytes>()
+pub fn records_are_points<K: Bytes>()
     ensures points { CountsPoints K.item }
     ensures few { HasFewRecords K.item }
 {}

@@ -4,7 +4,7 @@ use Rattle.patricia_wire_laws.specs.Records.{Record}
 use Rattle.patricia_wire_laws.specs.Forests.{Root}
 use Rattle.patricia_wire_laws.specs.Faults.{Reads, IsDue, at_first, below, beside, IsUnfinished, cut_short, in_record, trailing, too_many}
 use Rattle.patricia_rows.specs.Rows.{end}
-use Rattle.patricia_wire_laws.proofs.DueLemmas.{nil_split}
+use Rattle.patricia_wire_laws.proofs.Places.{nil_split}
 use Rattle.patricia_wire_laws.proofs.RowTrees.{Nothing, tree_of}
 use Rattle.patricia_wire_laws.proofs.Spellings.{set, clear, clean_spells, clean_spell_all}
 use Rattle.patricia_wire_laws.proofs.TestedRows.{byte_room, byte_rooms}

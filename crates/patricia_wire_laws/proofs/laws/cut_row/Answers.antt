@@ -1,4 +1,4 @@
-use Rattle.patricia_wire_laws.proofs.Cuts as lemma
+use Rattle.patricia_wire_laws.proofs.CutRows as lemma
 use Rattle.patricia_wire_laws.proofs.laws.cut_row.Goals as goal
 
 pub returns : goal.returns

@@ -1,4 +1,4 @@
-use Rattle.patricia_wire_laws.proofs.Joined as lemma
+use Rattle.patricia_wire_laws.proofs.JoinedRows as lemma
 use Rattle.patricia_wire_laws.proofs.laws.joined_row.Goals as goal
 
 pub returns : goal.returns

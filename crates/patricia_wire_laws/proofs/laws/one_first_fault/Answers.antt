@@ -1,5 +1,5 @@
 use Rattle.patricia_wire_laws.proofs.FirstFault.{one_first}
-use Rattle.patricia_wire_laws.proofs.MeantLemmas.{no_fault_meant}
+use Rattle.patricia_wire_laws.proofs.NoFault.{no_fault_meant}
 use Rattle.patricia_wire_laws.proofs.laws.one_first_fault.Goals as goal
 
 pub returns-clause-one : goal.returns-clause-one

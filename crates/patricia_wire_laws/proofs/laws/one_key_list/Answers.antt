@@ -1,7 +1,7 @@
 use Rattle.std.proofs.Common.{◌++◌, ◌∙◌}
 use Rattle.patricia_rows.specs.Rows.{own, keys_of}
 use Rattle.patricia_rows.proofs.TreeLemmas.{keys_map}
-use Rattle.patricia_wire_laws.proofs.Joined.{joined}
+use Rattle.patricia_wire_laws.proofs.JoinedRows.{joined}
 use Rattle.patricia_wire_laws.proofs.OneMeaning as lemma
 use Rattle.patricia_wire_laws.proofs.RowTrees.{stands_tree}
 use Rattle.patricia_wire_laws.proofs.laws.one_key_list.Goals as goal

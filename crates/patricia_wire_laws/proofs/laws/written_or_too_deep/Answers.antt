@@ -1,7 +1,7 @@
 use Rattle.std.proofs.Common.{List, ℕ, ◌⊎◌, sym, subst}
 use Rattle.patricia_rows.proofs.TreeLemmas.{keys_map}
 use Rattle.patricia_wire_laws.specs.Writings.{Canon, TooDeep}
-use Rattle.patricia_wire_laws.proofs.Deep as lemma
+use Rattle.patricia_wire_laws.proofs.WrittenOrDeep as lemma
 use Rattle.patricia_wire_laws.proofs.laws.written_or_too_deep.Goals as goal
 
 pub returns-clause-one : goal.returns-clause-one

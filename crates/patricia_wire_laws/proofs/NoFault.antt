@@ -13,7 +13,7 @@ use Rattle.patricia_wire_laws.specs.WrittenRows.{record_of, records_of, tree_rec
 use Rattle.patricia_wire_laws.specs.Writings.{Means}
 use Rattle.patricia_wire_laws.specs.Faults.{Fault, truncated, level, root_label, root_sibling, empty_label, invalid_label, sibling_order, no_value_no_child, too_few_values, trailing_bytes, too_many_values, value_marks, IsLastUpTo, IsFaulty, IsCutShort, Stands, cut_short, in_record, trailing, too_many}
 use Rattle.patricia_wire_laws.proofs.CountLemmas.{length-prefixed}
-use Rattle.patricia_wire_laws.proofs.DueLemmas.{nil_split, deep, tree_due, behind, IsGood, good, rising}
+use Rattle.patricia_wire_laws.proofs.Places.{nil_split, deep, tree_due, behind, IsGood, good, rising}
 use Rattle.patricia_wire_laws.proofs.OneMeaning.{row_of}
 use Rattle.patricia_wire_laws.proofs.Spellings.{record_same, one_list, length-high_first}
 use Rattle.patricia_wire_laws.proofs.RowTrees.{Nothing, StandsTree, stands_tree}

@@ -9,7 +9,7 @@ use Rattle.patricia_rows.specs.Rows.{Row, end, node, own, entries, keys_of, IsRo
 use Rattle.patricia_wire_laws.specs.Records.{Record, HasRoom, clean_spellings}
 use Rattle.patricia_wire_laws.specs.WrittenRows.{record_of, records_of, tree_records, IsWritable}
 use Rattle.patricia_wire_laws.specs.Writings.{Canon, TooDeep}
-use Rattle.patricia_wire_laws.proofs.Cuts.{cut_row}
+use Rattle.patricia_wire_laws.proofs.CutRows.{cut_row}
 use Rattle.patricia_wire_laws.proofs.OneTree.{one_tree}
 use Rattle.patricia_wire_laws.proofs.RowTrees.{tree_of}
 use Rattle.patricia_wire_laws.proofs.Spellings.{positive}

@@ -1,5 +1,5 @@
 use Rattle.patricia_wire_laws.proofs.CountLemmas.{records_are_points, records_are_few}
-use Rattle.patricia_wire_laws.proofs.laws.points_of_tree.Goals as goal
+use Rattle.patricia_wire_laws.proofs.laws.records_are_points.Goals as goal
 
 pub returns-clause-points : goal.returns-clause-points
 returns-clause-points g c = records_are_points g.K.Bytes.item g.met.K.Bytes.lawful
