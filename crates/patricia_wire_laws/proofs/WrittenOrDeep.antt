@@ -1,10 +1,10 @@
 -- A tight tree has a writing, or a record too deep for one.
-use Rattle.std.proofs.Common.{ℕ, suc, zero, ◌+◌, ◌<◌, ◌≤◌, ◌⊎◌, inl, inr, List, [], ◌∷◌, ◌++◌, Option, Some, refl, subst, arith}
+use Rattle.std.proofs.Common.{ℕ, suc, zero, ◌+◌, ◌<◌, ◌≤◌, ◌⊎◌, inl, inr, List, [], ◌∷◌, ◌++◌, Option, Some, refl, sym, ap, subst, ◌∙◌, arith}
 use Rattle.std.specs.Prelude.{◌^◌, All, Any}
-use Rattle.std.specs.List.{concat}
 use Rattle.std.proofs.lemmas.Bool.{cases_lt}
 use Rattle.std.proofs.lemmas.List.Elements.{All-nil, All-cons, All-append}
-use Rattle.patricia_keys.specs.Keys.{IsKeyKind, AreItems, IsValid}
+use Rattle.patricia_keys.specs.Keys.{IsKeyKind, IsValid, key_cmp}
+use Rattle.patricia_keys.proofs.KeyLemmas.{valid_bytes}
 use Rattle.patricia_rows.specs.Rows.{Row, end, node, own, entries, keys_of, IsRow, IsRowWithin}
 use Rattle.patricia_wire_laws.specs.Records.{Record, HasRoom, clean_spellings}
 use Rattle.patricia_wire_laws.specs.WrittenRows.{record_of, records_of, tree_records, IsWritable}
@@ -12,6 +12,9 @@ use Rattle.patricia_wire_laws.specs.Writings.{Canon, TooDeep}
 use Rattle.patricia_wire_laws.proofs.CutRows.{cut_row}
 use Rattle.patricia_wire_laws.proofs.OneTree.{one_tree}
 use Rattle.patricia_wire_laws.proofs.RowTrees.{tree_of}
+use Rattle.patricia_wire_laws.proofs.RowsOfMaps.{held}
+use Rattle.patricia_rows.proofs.TreeLemmas.{keys_map}
+use Rattle.std.specs.FinMap as map
 use Rattle.patricia_wire_laws.proofs.Spellings.{positive}
 use Rattle.patricia_wire_laws.proofs.TightRows.{within_writable, within_apart}
 
@@ -39,13 +42,6 @@ not_deep : (w : ℕ) (R : List Record) → All (HasRoom w) R → Any (IsDeep w) 
 not_deep w R room (k, y, h, e, deep) = let fits = subst (HasRoom w) e (room k y h) in omega (arith, fits.level)
 
 module _ (item : List ℕ → Type 0) (kind : IsKeyKind item) where
-  items_bytes : (is : List (List ℕ)) → AreItems item is → All (λ b. b < 256) (concat is)
-  items_bytes [] ok = All-nil (λ b. b < 256)
-  items_bytes (i ∷ is) ok = All-append (λ b. b < 256) i (concat is) (kind.bytes i ok.0) (items_bytes is ok.1)
-
-  valid_bytes : (k : List ℕ) → IsValid item k → All (λ b. b < 256) k
-  valid_bytes k (is, ok, e) = subst (All (λ b. b < 256)) e (items_bytes is ok)
-
   module _ {V : Type 0} where
     room_or_deep : (w d : ℕ) (r : Row V) → IsWritable item r → All (HasRoom w) (records_of d r) ⊎ Any (IsDeep w) (records_of d r)
     room_or_deep w d end ok = inl (All-nil (HasRoom w))
@@ -59,7 +55,7 @@ module _ (item : List ℕ → Type 0) (kind : IsKeyKind item) where
             | inr deep ↦ inr (any_there (IsDeep w) here (below ++ beside) (any_left (IsDeep w) below beside deep))
             | inl room ↦ elim (room_or_deep w d s ok.sibling) [
               | inr deep ↦ inr (any_there (IsDeep w) here (below ++ beside) (any_right (IsDeep w) below beside deep))
-              | inl more ↦ inl (All-cons (HasRoom w) here (below ++ beside) (record { level = fits; label = ok.fits; bytes = valid_bytes l ok.valid }) (All-append (HasRoom w) below beside room more))
+              | inl more ↦ inl (All-cons (HasRoom w) here (below ++ beside) (record { level = fits; label = ok.fits; bytes = valid_bytes item kind l ok.valid }) (All-append (HasRoom w) below beside room more))
             ]
           ]
         ]
@@ -82,10 +78,15 @@ module _ (item : List ℕ → Type 0) (kind : IsKeyKind item) where
           | inr deep ↦ inr (record { records = tree_records v r; root = tree_of item v r ok; tight = tight; deep = deep })
         ]
 
-    pub written_or_deep : (w : ℕ) (v : Option V) (r : Row V) → IsRow item r → ((b : List ℕ) × Canon item w b (keys_of (own v ++ entries r))) ⊎ TooDeep item w (keys_of (own v ++ entries r))
-    written_or_deep w v r ok =
+    row_written : (w : ℕ) (v : Option V) (r : Row V) → IsRow item r → ((b : List ℕ) × Canon item w b (keys_of (own v ++ entries r))) ⊎ TooDeep item w (keys_of (own v ++ entries r))
+    row_written w v r ok =
         let cut = cut_row item kind r ok in
         subst (λ es. ((b : List ℕ) × Canon item w b (keys_of (own v ++ es))) ⊎ TooDeep item w (keys_of (own v ++ es))) cut.same (within_written w v cut.row cut.ok)
+
+    pub written_or_deep : (w : ℕ) (m : map.FinMap key_cmp V) → All (IsValid item) (map.keys m) → ((b : List ℕ) × Canon item w b (map.keys m)) ⊎ TooDeep item w (map.keys m)
+    written_or_deep w m valid =
+        let (v, r, ok, same) = held item kind m valid in
+        subst (λ S. ((b : List ℕ) × Canon item w b S) ⊎ TooDeep item w S) (sym (keys_map item kind v r ok) ∙ ap map.keys same) (row_written w v r ok)
 
   pub never_both : (w : ℕ) (b : List ℕ) (E : List (List ℕ)) → Canon item w b E → TooDeep item w E → ⊥
   never_both w b E x y = not_deep w y.records (subst (All (HasRoom w)) (one_tree item kind x.records y.records E x.root y.root x.tight y.tight) x.room) y.deep

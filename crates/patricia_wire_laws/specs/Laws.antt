@@ -1,8 +1,9 @@
 -- What the laws of the wire form say, each in one sentence.
-use Rattle.std.specs.Prelude.{◌≡◌, ◌↔◌, ◌⊎◌, ℕ, List, Option, Some, ◌++◌, length}
+use Rattle.std.specs.Prelude.{◌≡◌, ◌↔◌, ◌⊎◌, ℕ, List, Option, Some, ◌++◌, length, All}
 use Rattle.std.specs.FinMap as map
+use Rattle.patricia_keys.specs.Keys.{IsValid, key_cmp}
 use Rattle.patricia_rows.specs.Rows.{Row, own, entries, keys_of, IsRow, IsRowWithin}
-use Rattle.patricia_rows.specs.Trees.{map_of, IsTree}
+use Rattle.patricia_rows.specs.Trees.{map_of}
 use Rattle.patricia_rows.specs.Walks.{values_of}
 use Rattle.patricia_wire_laws.specs.Records.{Record}
 use Rattle.patricia_wire_laws.specs.Forests.{Root}
@@ -34,12 +35,11 @@ module _ (item : List ℕ → Type 0) where
       (w : ℕ) (b : List ℕ) (rows : List (List ℕ × V))
       → Canon item w b (keys_of rows) → Means item w b (values_of rows) rows
 
-  -- the keys of a tree in memory have a writing, or lie too deep for one
+  -- the keys of a finite map, if they are valid, have a writing, or lie too deep for one
   abbrev pub IsWrittenOrTooDeep : Type 0 → Type 0
   IsWrittenOrTooDeep V =
-      (w : ℕ) (v : Option V) (r : Row V) (n : ℕ) → IsTree item r n
-      → ((b : List ℕ) × Canon item w b (map.keys (map_of v r)))
-      ⊎ TooDeep item w (map.keys (map_of v r))
+      (w : ℕ) (m : map.FinMap key_cmp V) → All (IsValid item) (map.keys m)
+      → ((b : List ℕ) × Canon item w b (map.keys m)) ⊎ TooDeep item w (map.keys m)
 
   -- and never both
   abbrev pub IsNeverBoth : Type 0
@@ -71,11 +71,17 @@ module _ (item : List ℕ → Type 0) where
   abbrev pub HasOneKeyList : Type 0
   HasOneKeyList = (R : List Record) (S T : List (List ℕ)) → Root item R S → Root item R T → S ≡ T
 
-  -- the keys of a whole tree of records are those of a tree in memory
+  -- the keys of a tree of records are those of a finite map, and valid
   abbrev pub HoldsKeysOfMap : Type 0
   HoldsKeysOfMap =
       (R : List Record) (S : List (List ℕ)) → Root item R S
-      → (v : Option (Unit {0})) × (r : Row (Unit {0})) × IsRow item r × (map.keys (map_of v r) ≡ S)
+      → (m : map.FinMap key_cmp (Unit {0})) × (map.keys m ≡ S) × All (IsValid item) S
+
+  -- each finite map with valid keys is the map of a tree in memory
+  abbrev pub HasTreeOfMap : Type 0 → Type 0
+  HasTreeOfMap V =
+      (m : map.FinMap key_cmp V) → All (IsValid item) (map.keys m)
+      → (v : Option V) × (r : Row V) × IsRow item r × (map_of v r ≡ m)
 
   -- the records of a writable row are a tree with its keys
   abbrev pub HasRecords : Type 0 → Type 0

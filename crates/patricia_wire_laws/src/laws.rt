@@ -1,7 +1,7 @@
 //! Laws of the wire form that hold for every key kind and every width of levels, as contracts of
 //! functions that do nothing.
 ghost use Rattle.patricia_wire_laws.specs.Laws.{HasOneWriting, HasOneKeySet, HasOneMeaning, WritingMeansRows, IsWrittenOrTooDeep, IsNeverBoth};
-ghost use Rattle.patricia_wire_laws.specs.Laws.{CountsFronts, CountsPoints, HasFewRecords, HasOneTightTree, HasOneKeyList, HoldsKeysOfMap};
+ghost use Rattle.patricia_wire_laws.specs.Laws.{CountsFronts, CountsPoints, HasFewRecords, HasOneTightTree, HasOneKeyList, HoldsKeysOfMap, HasTreeOfMap};
 ghost use Rattle.patricia_wire_laws.specs.Laws.{HasRecords, HasWritableRow, IsTightWithin, HasCutRow, HasJoinedRow};
 ghost use Rattle.patricia_wire_laws.specs.Laws.{HasOneFirstFault, HasNoFaultWhereMeant};
 
@@ -27,7 +27,8 @@ pub fn writing_means_rows<K: Bytes, V>()
     ensures { WritingMeansRows K.item V }
 {}
 
-/// The keys of a tree in memory have a writing or lie too deep for one, and never both.
+/// The keys of a finite map, if they are valid, have a writing or lie too deep for one, and never
+/// both.
 pub fn written_or_too_deep<K: Bytes, V>()
     ensures one { IsWrittenOrTooDeep K.item V }
     ensures never_both { IsNeverBoth K.item }
@@ -50,10 +51,15 @@ pub fn one_tight_tree<K: Bytes>()
     ensures { HasOneTightTree K.item }
 {}
 
-/// A list of records holds one list of keys, which are the keys of a tree in memory.
+/// A list of records holds one list of keys, which are the keys of a finite map, and valid.
 pub fn one_key_list<K: Bytes>()
     ensures one { HasOneKeyList K.item }
     ensures keys { HoldsKeysOfMap K.item }
+{}
+
+/// Each finite map with valid keys is the map of a tree in memory.
+pub fn tree_of_map<K: Bytes, V>()
+    ensures { HasTreeOfMap K.item V }
 {}
 
 /// The records of a writable row are a tree with its keys, tight exactly where the row keeps the
