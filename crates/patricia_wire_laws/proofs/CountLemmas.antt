@@ -10,7 +10,7 @@ use Rattle.patricia_rows.proofs.UniqueLemmas.{has_entry}
 use Rattle.patricia_rows.proofs.PointLemmas.{IsPoint-within, has_prefixed, has_after, own_within, within_own, paths_points, paths_apart}
 use Rattle.patricia_wire_laws.specs.Records.{Record}
 use Rattle.patricia_wire_laws.specs.Forests.{Root}
-use Rattle.patricia_wire_laws.specs.WrittenRows.{records_of}
+use Rattle.patricia_wire_laws.specs.Private.WrittenRows.{records_of}
 use Rattle.patricia_wire_laws.specs.Writings.{IsTight}
 use Rattle.patricia_wire_laws.specs.Counts.{IsCount, AreShort, AreFew, RecordsArePoints}
 use Rattle.patricia_wire_laws.proofs.OneTree.{tight_within}

@@ -14,7 +14,7 @@ use Rattle.patricia_rows.proofs.MemberLemmas.{Has-left, Has-right, Has-either, A
 use Rattle.patricia_rows.proofs.PointLemmas.{nil_first, Begins-behind, Begins-behind_of, Within, has_prefixed, has_after, has_one, own_within, within_own}
 use Rattle.patricia_wire_laws.specs.Records.{Record}
 use Rattle.patricia_wire_laws.specs.Forests.{Root}
-use Rattle.patricia_wire_laws.specs.WrittenRows.{record_of, records_of}
+use Rattle.patricia_wire_laws.specs.Private.WrittenRows.{record_of, records_of}
 use Rattle.patricia_wire_laws.specs.Writings.{IsTight}
 use Rattle.patricia_wire_laws.specs.Counts.{IsCount, IsFront, LabelsAreFronts}
 use Rattle.patricia_wire_laws.proofs.OneTree.{tight_within}

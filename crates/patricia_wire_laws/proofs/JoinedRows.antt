@@ -5,7 +5,7 @@ use Rattle.patricia_keys.specs.Keys.{IsKeyKind}
 use Rattle.patricia_keys.proofs.KeyLemmas.{Begins-trans}
 use Rattle.patricia_rows.specs.Rows.{Row, end, node, prefixed, own, entries, IsBefore, IsBeforeRow, EarnsWithin, IsRow}
 use Rattle.patricia_rows.proofs.RemovalLemmas.{taken_in_row, taken_in_entries}
-use Rattle.patricia_wire_laws.specs.WrittenRows.{has_node, IsWritable}
+use Rattle.patricia_wire_laws.specs.Private.WrittenRows.{has_node, IsWritable}
 
 module _ (item : List ℕ → Type 0) where
   before_longer : (k l m : List ℕ) → IsBefore item k l → IsBefore item k (l ++ m)

@@ -9,7 +9,7 @@ use Rattle.patricia_rows.specs.Rows.{Row, end, node, prefixed, own, entries, key
 use Rattle.patricia_keys.proofs.KeyLemmas.{IsValid-nil}
 use Rattle.patricia_wire_laws.specs.Records.{Record, Spells, SpellAll, where_set, after_flags}
 use Rattle.patricia_wire_laws.specs.Forests.{Root}
-use Rattle.patricia_wire_laws.specs.WrittenRows.{record_of, records_of, tree_records, IsWritable}
+use Rattle.patricia_wire_laws.specs.Private.WrittenRows.{record_of, records_of, tree_records, IsWritable}
 use Rattle.patricia_wire_laws.specs.Writings.{Means}
 use Rattle.patricia_wire_laws.specs.Faults.{Fault, truncated, level, root_label, root_sibling, empty_label, invalid_label, sibling_order, no_value_no_child, too_few_values, trailing_bytes, too_many_values, value_marks, IsLastUpTo, IsFaulty, IsCutShort, Stands, cut_short, in_record, trailing, too_many}
 use Rattle.patricia_wire_laws.proofs.CountLemmas.{length-prefixed}

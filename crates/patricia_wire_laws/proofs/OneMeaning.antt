@@ -7,7 +7,7 @@ use Rattle.patricia_rows.specs.Walks.{values_of}
 use Rattle.patricia_wire_laws.specs.Records.{Record, SpellAll}
 use Rattle.patricia_wire_laws.specs.Forests.{Root}
 use Rattle.patricia_wire_laws.specs.Writings.{Means, Canon}
-use Rattle.patricia_wire_laws.specs.WrittenRows.{has_node, record_of, records_of}
+use Rattle.patricia_wire_laws.specs.Private.WrittenRows.{has_node, record_of, records_of}
 use Rattle.patricia_wire_laws.proofs.RowTrees.{Nothing, stands_tree}
 use Rattle.patricia_wire_laws.proofs.Spellings.{one_list, clean_spell_all}
 

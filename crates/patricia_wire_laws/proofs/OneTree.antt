@@ -5,7 +5,7 @@ use Rattle.patricia_rows.specs.Rows.{keys_of, IsRowWithin}
 use Rattle.patricia_rows.proofs.UniqueLemmas.{insides, same_row}
 use Rattle.patricia_wire_laws.specs.Records.{Record, clean_spellings}
 use Rattle.patricia_wire_laws.specs.Forests.{Root}
-use Rattle.patricia_wire_laws.specs.WrittenRows.{tree_records}
+use Rattle.patricia_wire_laws.specs.Private.WrittenRows.{tree_records}
 use Rattle.patricia_wire_laws.specs.Writings.{IsTight, Canon}
 use Rattle.patricia_wire_laws.proofs.RowTrees.{Nothing, StandsTree, stands_tree}
 use Rattle.patricia_wire_laws.proofs.TightRows.{apart_within}

@@ -6,7 +6,7 @@ use Rattle.std.proofs.lemmas.List.Elements.{All-nil, All-cons, All-head, All-tai
 use Rattle.patricia_keys.specs.Keys.{IsValid}
 use Rattle.patricia_rows.specs.Rows.{Row, end, node, IsBefore, IsBeforeRow}
 use Rattle.patricia_wire_laws.specs.Records.{Record}
-use Rattle.patricia_wire_laws.specs.WrittenRows.{has_node, record_of, records_of, tree_records, IsWritable}
+use Rattle.patricia_wire_laws.specs.Private.WrittenRows.{has_node, record_of, records_of, tree_records, IsWritable}
 use Rattle.patricia_wire_laws.specs.Faults.{IsLastUpTo, Waits, IsLastWaiting, IsDue, at_first, below, beside}
 use Rattle.patricia_wire_laws.proofs.RowTrees.{Nothing}
 use Rattle.patricia_wire_laws.proofs.TightRows.{EndsLow, ends_low}

@@ -4,7 +4,7 @@ use Rattle.std.specs.Prelude.{is_some}
 use Rattle.patricia_rows.specs.Rows.{Row, end, node, prefixed, own, entries, IsBeforeRow, keys_of}
 use Rattle.patricia_wire_laws.specs.Records.{Record}
 use Rattle.patricia_wire_laws.specs.Forests.{behind, own_key, IsBeforeFirst, IsInner, Forest, ForestIf, forest, absent, present, Root}
-use Rattle.patricia_wire_laws.specs.WrittenRows.{has_node, record_of, records_of, tree_records, IsWritable}
+use Rattle.patricia_wire_laws.specs.Private.WrittenRows.{has_node, record_of, records_of, tree_records, IsWritable}
 
 -- a key set has no values
 abbrev pub Nothing : Type 0

@@ -12,7 +12,7 @@ use Rattle.patricia_rows.specs.Rows.{Row, end, node, own, entries, keys_of, IsBe
 use Rattle.patricia_rows.proofs.MeetingLemmas.{before_by_first_byte}
 use Rattle.patricia_wire_laws.specs.Records.{Record, HasRoom, clean_spellings}
 use Rattle.patricia_wire_laws.specs.Writings.{Canon, StaysApart, StayApart}
-use Rattle.patricia_wire_laws.specs.WrittenRows.{has_node, records_of, tree_records, IsWritable}
+use Rattle.patricia_wire_laws.specs.Private.WrittenRows.{has_node, records_of, tree_records, IsWritable}
 use Rattle.patricia_wire_laws.proofs.WrittenOrDeep.{tree_room_or_deep}
 use Rattle.patricia_wire_laws.proofs.RowTrees.{Nothing, tree_of}
 

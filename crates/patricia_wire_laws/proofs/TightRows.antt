@@ -4,7 +4,7 @@ use Rattle.std.specs.Prelude.{is_some}
 use Rattle.std.proofs.lemmas.Bool.{cases_lt}
 use Rattle.patricia_rows.specs.Rows.{Row, end, node, IsRowWithin, EarnsWithin}
 use Rattle.patricia_wire_laws.specs.Records.{Record}
-use Rattle.patricia_wire_laws.specs.WrittenRows.{has_node, record_of, records_of, IsWritable}
+use Rattle.patricia_wire_laws.specs.Private.WrittenRows.{has_node, record_of, records_of, IsWritable}
 use Rattle.patricia_wire_laws.specs.Writings.{StayApart}
 
 -- the last record has no child

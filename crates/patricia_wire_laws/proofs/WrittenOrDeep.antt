@@ -7,7 +7,7 @@ use Rattle.patricia_keys.specs.Keys.{IsKeyKind, IsValid, key_cmp}
 use Rattle.patricia_keys.proofs.KeyLemmas.{valid_bytes}
 use Rattle.patricia_rows.specs.Rows.{Row, end, node, own, entries, keys_of, IsRow, IsRowWithin}
 use Rattle.patricia_wire_laws.specs.Records.{Record, HasRoom, clean_spellings}
-use Rattle.patricia_wire_laws.specs.WrittenRows.{record_of, records_of, tree_records, IsWritable}
+use Rattle.patricia_wire_laws.specs.Private.WrittenRows.{record_of, records_of, tree_records, IsWritable}
 use Rattle.patricia_wire_laws.specs.Writings.{Canon, TooDeep}
 use Rattle.patricia_wire_laws.proofs.CutRows.{cut_row}
 use Rattle.patricia_wire_laws.proofs.OneTree.{one_tree}

@@ -1,8 +1,7 @@
 //! Laws of the wire form that hold for every key kind and every width of levels, as contracts of
 //! functions that do nothing.
 ghost use Rattle.patricia_wire_laws.specs.Laws.{HasOneWriting, HasOneKeySet, HasOneMeaning, WritingMeansRows, IsWrittenOrTooDeep, IsNeverBoth};
-ghost use Rattle.patricia_wire_laws.specs.Laws.{CountsFronts, CountsPoints, HasFewRecords, HasOneTightTree, HasOneKeyList, HoldsKeysOfMap, HasTreeOfMap};
-ghost use Rattle.patricia_wire_laws.specs.Laws.{HasRecords, HasWritableRow, IsTightWithin, HasCutRow, HasJoinedRow};
+ghost use Rattle.patricia_wire_laws.specs.Laws.{CountsFronts, CountsPoints, HasFewRecords, HasOneTightTree, HasOneKeyList, HoldsKeysOfMap};
 ghost use Rattle.patricia_wire_laws.specs.Laws.{HasOneFirstFault, HasNoFaultWhereMeant};
 
 use patricia_keys::Bytes;
@@ -55,29 +54,6 @@ pub fn one_tight_tree<K: Bytes>()
 pub fn one_key_list<K: Bytes>()
     ensures one { HasOneKeyList K.item }
     ensures keys { HoldsKeysOfMap K.item }
-{}
-
-/// Each finite map with valid keys is the map of a tree in memory.
-pub fn tree_of_map<K: Bytes, V>()
-    ensures { HasTreeOfMap K.item V }
-{}
-
-/// The records of a writable row are a tree with its keys, tight exactly where the row keeps the
-/// invariant with labels of at most 255 bytes; and each tree is the records of a writable row.
-pub fn trees_are_rows<K: Bytes, V>()
-    ensures tree { HasRecords K.item V }
-    ensures tight { IsTightWithin K.item V }
-    ensures row { HasWritableRow K.item }
-{}
-
-/// A row in memory has the entries of a row whose labels have at most 255 bytes.
-pub fn cut_row<K: Bytes, V>()
-    ensures { HasCutRow K.item V }
-{}
-
-/// A writable row has the entries of a row in memory.
-pub fn joined_row<K: Bytes, V>()
-    ensures { HasJoinedRow K.item V }
 {}
 
 /// An input has one first fault, and none where it means rows.

@@ -7,7 +7,7 @@ use Rattle.patricia_keys.specs.Private.TextLaw.{text_lawful}
 use Rattle.patricia_keys.proofs.KeyLemmas.{IsValid-nil, IsValid-item, IsValid-append, begins_same}
 use Rattle.patricia_rows.specs.Rows.{Row, end, node}
 use Rattle.patricia_rows.proofs.MeetingLemmas.{before_by_first_byte}
-use Rattle.patricia_wire_laws.specs.WrittenRows.{tree_records, IsWritable}
+use Rattle.patricia_wire_laws.specs.Private.WrittenRows.{tree_records, IsWritable}
 use Rattle.patricia_wire_laws.proofs.RowTrees.{Nothing, tree_of}
 use Rattle.patricia_wire_laws.proofs.TestedRows.{tested_room, byte_written}
 use Rattle.patricia_wire_laws.proofs.examples.long_text.Goals as goal

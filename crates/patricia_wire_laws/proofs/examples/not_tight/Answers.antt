@@ -5,7 +5,7 @@ use Rattle.patricia_rows.specs.Rows.{Row, end, node}
 use Rattle.patricia_wire_laws.specs.Examples.{ab, ab_in_two}
 use Rattle.patricia_wire_laws.specs.Records.{SpellAll}
 use Rattle.patricia_wire_laws.specs.Writings.{IsTight}
-use Rattle.patricia_wire_laws.specs.WrittenRows.{tree_records, IsWritable}
+use Rattle.patricia_wire_laws.specs.Private.WrittenRows.{tree_records, IsWritable}
 use Rattle.patricia_wire_laws.proofs.OneMeaning.{writing_spells}
 use Rattle.patricia_wire_laws.proofs.RowTrees.{Nothing, tree_of}
 use Rattle.patricia_wire_laws.proofs.Spellings.{one_list, clean_spell_all}

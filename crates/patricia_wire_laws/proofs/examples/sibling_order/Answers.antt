@@ -7,7 +7,7 @@ use Rattle.patricia_keys.specs.Private.ByteLaw.{byte_lawful}
 use Rattle.patricia_keys.proofs.KeyLemmas.{begins_same}
 use Rattle.patricia_rows.specs.Rows.{Row, end, node, IsBefore}
 use Rattle.patricia_wire_laws.specs.Records.{Record}
-use Rattle.patricia_wire_laws.specs.WrittenRows.{has_node, record_of, records_of}
+use Rattle.patricia_wire_laws.specs.Private.WrittenRows.{has_node, record_of, records_of}
 use Rattle.patricia_wire_laws.specs.Faults.{in_record, IsUnfinished}
 use Rattle.patricia_wire_laws.proofs.RowTrees.{Nothing, stands_tree}
 use Rattle.patricia_wire_laws.proofs.Spellings.{clean_spells, clean_spell_all}

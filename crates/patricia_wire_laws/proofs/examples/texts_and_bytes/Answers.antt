@@ -4,7 +4,7 @@ use Rattle.patricia_keys.proofs.KeyLemmas.{IsValid-item}
 use Rattle.patricia_keys.specs.TextKind.{IsTextItem, one_char}
 use Rattle.patricia_keys.specs.Private.TextLaw.{text_lawful}
 use Rattle.patricia_rows.specs.Rows.{Row, end, node}
-use Rattle.patricia_wire_laws.specs.WrittenRows.{IsWritable}
+use Rattle.patricia_wire_laws.specs.Private.WrittenRows.{IsWritable}
 use Rattle.patricia_wire_laws.proofs.RowTrees.{Nothing}
 use Rattle.patricia_wire_laws.proofs.TestedRows.{written, byte_written}
 use Rattle.patricia_wire_laws.proofs.examples.texts_and_bytes.Goals as goal

@@ -1,5 +1,5 @@
 use Rattle.patricia_wire_laws.proofs.CutRows as lemma
-use Rattle.patricia_wire_laws.proofs.laws.cut_row.Goals as goal
+use Rattle.patricia_wire_laws.proofs.rows.cut_row.Goals as goal
 
 pub returns : goal.returns
 returns g c r ok =

@@ -1,5 +1,5 @@
 use Rattle.patricia_wire_laws.proofs.JoinedRows as lemma
-use Rattle.patricia_wire_laws.proofs.laws.joined_row.Goals as goal
+use Rattle.patricia_wire_laws.proofs.rows.joined_row.Goals as goal
 
 pub returns : goal.returns
 returns g c r ok =

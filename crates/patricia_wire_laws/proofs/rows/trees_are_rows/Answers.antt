@@ -1,6 +1,6 @@
 use Rattle.patricia_wire_laws.proofs.RowTrees.{tree_of, stands_tree}
 use Rattle.patricia_wire_laws.proofs.TightRows.{apart_within, within_apart}
-use Rattle.patricia_wire_laws.proofs.laws.trees_are_rows.Goals as goal
+use Rattle.patricia_wire_laws.proofs.rows.trees_are_rows.Goals as goal
 
 pub returns-clause-tree : goal.returns-clause-tree
 returns-clause-tree g c = tree_of g.K.Bytes.item
