@@ -27,6 +27,12 @@ module _ (item : List ℕ → Type 0) where
       (w : ℕ) (b : List ℕ) (values : List V) (M N : List (List ℕ × V))
       → Means item w b values M → Means item w b values N → M ≡ N
 
+  -- what bytes mean is the rows of a finite map, and its keys are valid
+  abbrev pub MeansMap : Type 0 → Type 0
+  MeansMap V =
+      (w : ℕ) (b : List ℕ) (values : List V) (M : List (List ℕ × V)) → Means item w b values M
+      → (m : map.FinMap key_cmp V) × (map.entries m ≡ M) × All (IsValid item) (map.keys m)
+
   -- the writing of the keys of rows means these rows
   abbrev pub WritingMeansRows : Type 0 → Type 0
   WritingMeansRows V =

@@ -1,6 +1,6 @@
 //! Laws of the wire form that hold for every key kind and every width of levels, as contracts of
 //! functions that do nothing.
-ghost use Rattle.patricia_wire_laws.specs.Laws.{HasOneWriting, HasOneKeySet, HasOneMeaning, WritingMeansRows, IsWrittenOrTooDeep, IsNeverBoth};
+ghost use Rattle.patricia_wire_laws.specs.Laws.{HasOneWriting, HasOneKeySet, HasOneMeaning, MeansMap, WritingMeansRows, IsWrittenOrTooDeep, IsNeverBoth};
 ghost use Rattle.patricia_wire_laws.specs.Laws.{CountsFronts, CountsPoints, HasFewRecords, HasOneTightTree, HasOneKeyList, HoldsKeysOfMap};
 ghost use Rattle.patricia_wire_laws.specs.Laws.{HasOneFirstFault, HasNoFaultWhereMeant};
 
@@ -16,9 +16,10 @@ pub fn one_key_set<K: Bytes>()
     ensures { HasOneKeySet K.item }
 {}
 
-/// Bytes and values mean one list of rows.
+/// Bytes and values mean one list of rows, which is that of a finite map with valid keys.
 pub fn one_meaning<K: Bytes, V>()
-    ensures { HasOneMeaning K.item V }
+    ensures one { HasOneMeaning K.item V }
+    ensures map { MeansMap K.item V }
 {}
 
 /// The writing of the keys of rows, with their values in turn, means these rows.
