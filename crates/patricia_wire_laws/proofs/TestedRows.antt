@@ -50,7 +50,7 @@ module _ (item : List ℕ → Type 0) (kind : IsKeyKind item) where
       by false true true n test none child lone = absurd (cc)
       by false true false n test none child lone = ltb-true 254 n test
 
-  stay_apart : (R : List Record) → are_apart R ≡ true → StayApart item R
+  pub stay_apart : (R : List Record) → are_apart R ≡ true → StayApart item R
   stay_apart [] test = tt
   stay_apart (r ∷ []) test = tt
   stay_apart (r ∷ c ∷ R) test = (stays_apart r c (first_so _ _ test), stay_apart (c ∷ R) (second_so _ _ test))

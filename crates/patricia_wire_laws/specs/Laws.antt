@@ -63,7 +63,8 @@ module _ (item : List ℕ → Type 0) where
 
   -- a tight tree of short keys has at most two records for each key
   abbrev pub HasFewRecords : Type 0
-  HasFewRecords = (R : List Record) (S : List (List ℕ)) → Root item R S → IsTight item R → AreFew R S
+  HasFewRecords =
+      (R : List Record) (S : List (List ℕ)) → Root item R S → IsTight item R → AreFew R S
 
   -- two tight trees with the same keys are the same list of records
   abbrev pub HasOneTightTree : Type 0

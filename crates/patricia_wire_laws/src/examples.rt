@@ -3,6 +3,8 @@ ghost use Rattle.std.specs.Prelude.{◌≡◌, ℕ, List, [], ◌∷◌};
 ghost use Rattle.patricia_keys.specs.ByteKind.{IsByteItem};
 ghost use Rattle.patricia_keys.specs.TextKind.{IsTextItem};
 ghost use Rattle.patricia_rows.specs.ThreeKeys.{three_keys};
+ghost use Rattle.patricia_rows.specs.Points.{IsPoint};
+ghost use Rattle.patricia_wire_laws.specs.Counts.{IsCount, IsFront};
 ghost use Rattle.patricia_wire_laws.specs.Writings.{Canon, Means};
 ghost use Rattle.patricia_wire_laws.specs.Faults.{Fault, Stands};
 ghost use Rattle.patricia_wire_laws.specs.Examples.{nothing_written, three_keys_written, three_keys_written_wide, empty_key_and_a, empty_key_and_a_written, lone_key, lone_key_written};
@@ -14,10 +16,14 @@ pub fn no_keys()
     ensures { Canon IsByteItem 2 nothing_written [] }
 {}
 
-/// The keys bar, baz and foo, with levels in two bytes and in four.
+/// The keys bar, baz and foo, with levels in two bytes and in four. They have seven fronts: b, ba,
+/// bar, baz, f, fo and foo, and the labels have seven bytes. They have four points: ba, bar, baz and
+/// foo, and the tree has five records.
 pub fn shared_front()
     ensures narrow { Canon IsByteItem 2 three_keys_written three_keys }
     ensures wide { Canon IsByteItem 4 three_keys_written_wide three_keys }
+    ensures fronts { IsCount (IsFront three_keys) 7 }
+    ensures points { IsCount (IsPoint IsByteItem three_keys) 4 }
 {}
 
 /// The value of the empty key is the root's.
