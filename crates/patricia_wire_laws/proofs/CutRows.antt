@@ -7,6 +7,7 @@ use Rattle.patricia_keys.specs.Keys.{Begins, IsKeyKind, AreItems, IsValid}
 use Rattle.patricia_rows.specs.Rows.{Row, end, node, prefixed, own, entries, IsBefore, IsBeforeRow, IsRowWithin, EarnsWithin, IsRow}
 use Rattle.patricia_rows.specs.Private.Removals.{width}
 use Rattle.patricia_keys.proofs.KeyLemmas.{Begins-trans, begins_same, first_of, item-filled, IsValid-append, IsValid-item}
+use Rattle.patricia_rows.proofs.InsertLemmas.{IsBefore-shorter_left}
 use Rattle.patricia_rows.proofs.RowLemmas.{prefixed-prefixed}
 
 rest_shorter : (l r k : List ℕ) (n : ℕ) → l ++ r ≡ k → l ≢ [] → length k ≤ suc n → length r ≤ n
@@ -56,10 +57,7 @@ module _ (item : List ℕ → Type 0) (kind : IsKeyKind item) where
 
   -- what comes before a label comes before what begins with its first item, and the other way round
   before_left : (k l m : List ℕ) → IsValid item l → l ≢ [] → Begins l k → IsBefore item k m → IsBefore item l m
-  before_left k l m valid filled begun b =
-      let f = first_of item l valid filled in
-      let same = begins_same item kind f.0 b.first k f.1 b.first_item (Begins-trans f.0 l k f.2 begun) b.first_begins in
-      record { first = b.first; second = b.second; first_item = b.first_item; second_item = b.second_item; first_begins = rw (← same) f.2; second_begins = b.second_begins; less = b.less }
+  before_left k l m valid filled (t, e) b = IsBefore-shorter_left item kind l m t valid filled (subst (λ x. IsBefore item x m) (sym e) b)
 
   before_right : (k m l : List ℕ) → IsValid item l → l ≢ [] → Begins l m → IsBefore item k m → IsBefore item k l
   before_right k m l valid filled begun b =

@@ -101,6 +101,14 @@ ab_in_two = 12 ∷ 0 ∷ 0 ∷ 0 ∷ 12 ∷ 1 ∷ 0 ∷ 1 ∷ 97 ∷ 3 ∷ 1 ∷
 abbrev pub ab_written : List ℕ
 ab_written = 12 ∷ 0 ∷ 0 ∷ 0 ∷ 3 ∷ 2 ∷ 0 ∷ 1 ∷ ab
 
+-- a alone, with flags that have the bits 64 and 128 and no bit 1 or 4
+abbrev pub a_in_other_bits : List ℕ
+a_in_other_bits = 200 ∷ 0 ∷ 0 ∷ 0 ∷ 194 ∷ 1 ∷ 0 ∷ 1 ∷ 97 ∷ []
+
+-- and its writing
+abbrev pub a_written : List ℕ
+a_written = 12 ∷ 0 ∷ 0 ∷ 0 ∷ 3 ∷ 1 ∷ 0 ∷ 1 ∷ 97 ∷ []
+
 -- b and then a beside it, which is out of order
 abbrev pub falling_siblings : List ℕ
 falling_siblings =

@@ -69,7 +69,7 @@ pub data IsDue : List Record → ℕ → Type 0 where
       (ahead : List Record) (r x : Record) → r.child ≡ false → IsLastWaiting (ahead ++ (r ∷ [])) x
       → IsDue (ahead ++ (r ∷ [])) x.level
 
--- the first bytes of b spell these records, and the rest follows
+-- the bytes of b before the offset spell these records, and the rest follows
 pub record Reads (w : ℕ) (b : List ℕ) (before : List Record) (offset : ℕ) (rest : List ℕ)
     : Type 0 where
   pub read : List ℕ
@@ -77,12 +77,13 @@ pub record Reads (w : ℕ) (b : List ℕ) (before : List Record) (offset : ℕ) 
   pub joined : read ++ rest ≡ b
   pub ends : length read ≡ offset
 
--- too few bytes are left for a record
+-- too few bytes are left for a record: for its flags, length and level, or for its label
 abbrev pub IsCutShort : ℕ → List ℕ → Type 0
 IsCutShort w rest = (length rest < 2 + w) ⊎ (length rest < 2 + w + slice_index rest 1)
 
 module _ (item : List ℕ → Type 0) where
-  -- what the record does not keep, behind these records
+  -- the record r, behind these records and with n values, breaks the rule that the fault names;
+  -- three faults are of no record
   abbrev pub IsFaulty : List Record → Record → ℕ → Fault → Type 0
   IsFaulty before r n truncated = ⊥
   IsFaulty before r n level = IsDue before r.level → ⊥
@@ -104,7 +105,8 @@ module _ (item : List ℕ → Type 0) where
   IsUnfinished before =
       (P X : List Record) (E : List (List ℕ)) → before ≡ P ++ X → Root item P E → ⊥
 
-  -- the fault stands in an input with n values at the offset
+  -- the fault stands at the offset in the input b with n values: all before the offset are whole
+  -- records, and no fault but the last two stands behind a whole tree
   pub data Stands (w : ℕ) (b : List ℕ) (n : ℕ) : Fault → ℕ → Type 0 where
     cut_short :
         {offset : ℕ} (before : List Record) (rest : List ℕ) → Reads w b before offset rest

@@ -1,4 +1,5 @@
-//! Worked writings, as contracts of functions that do nothing. Levels are written in two bytes.
+//! Worked writings, as contracts of functions that do nothing. Levels are written in two bytes, but
+//! for one in four.
 ghost use Rattle.std.specs.Prelude.{◌≡◌, ℕ, List, [], ◌∷◌};
 ghost use Rattle.patricia_keys.specs.ByteKind.{IsByteItem};
 ghost use Rattle.patricia_keys.specs.TextKind.{IsTextItem};
@@ -9,7 +10,7 @@ ghost use Rattle.patricia_wire_laws.specs.Writings.{Canon, Means};
 ghost use Rattle.patricia_wire_laws.specs.Faults.{Fault, Stands};
 ghost use Rattle.patricia_wire_laws.specs.Examples.{nothing_written, three_keys_written, three_keys_written_wide, empty_key_and_a, empty_key_and_a_written, lone_key, lone_key_written};
 ghost use Rattle.patricia_wire_laws.specs.Examples.{long_text_and_b, long_text_and_b_written, long_text_and_b_written_as_bytes};
-ghost use Rattle.patricia_wire_laws.specs.Examples.{two_texts, two_texts_written, two_texts_written_as_bytes, long_key, long_key_written, ab, ab_in_two, ab_written, falling_siblings};
+ghost use Rattle.patricia_wire_laws.specs.Examples.{two_texts, two_texts_written, two_texts_written_as_bytes, long_key, long_key_written, ab, ab_in_two, ab_written, a_in_other_bits, a_written, falling_siblings};
 
 /// No keys are written as a root alone.
 pub fn no_keys()
@@ -59,6 +60,13 @@ pub fn not_tight()
     ensures meant { Means IsByteItem {V = ℕ} 2 ab_in_two (7 ∷ []) ((ab, 7) ∷ []) }
     ensures loose { (S : List (List ℕ)) → Canon IsByteItem 2 ab_in_two S → ⊥ }
     ensures tight { Canon IsByteItem 2 ab_written (ab ∷ []) }
+{}
+
+/// Only the three marks of the flags are read, and in a writing they decide the other bits too.
+pub fn other_bits()
+    ensures meant { Means IsByteItem {V = ℕ} 2 a_in_other_bits (5 ∷ []) ((97 ∷ [], 5) ∷ []) }
+    ensures other { (S : List (List ℕ)) → Canon IsByteItem 2 a_in_other_bits S → ⊥ }
+    ensures clean { Canon IsByteItem 2 a_written ((97 ∷ []) ∷ []) }
 {}
 
 /// Faults of inputs that are one record, a part of one or little more.
