@@ -1,0 +1,3 @@
+-- What the encoder and the decoder stand on: a reader need not believe it.
+pub mod RowLaws
+pub mod WrittenRows

@@ -1,0 +1,45 @@
+-- The records of a row of nodes.
+use Rattle.std.specs.Prelude.{◌≡◌, ℕ, ◌+◌, ◌≤◌, ◌≢◌, ◌⊎◌, Bool, true, false, List, [], ◌∷◌, ◌++◌, length, Option, is_some}
+use Rattle.patricia_keys.specs.Keys.{IsValid}
+use Rattle.patricia_rows.specs.Rows.{Row, end, node, IsBeforeRow}
+use Rattle.patricia_wire_laws.specs.Records.{Record}
+
+module _ {V : Type 0} where
+  -- whether the row has a node
+  abbrev pub has_node : Row V → Bool
+  has_node end = false
+  has_node (node label value child sibling) = true
+
+  -- the record of a node at level d
+  abbrev pub record_of : ℕ → List ℕ → Option V → Row V → Row V → Record
+  record_of d label value child sibling = record {
+    level = d;
+    label = label;
+    value = is_some value;
+    child = has_node child;
+    sibling = has_node sibling;
+  }
+
+  -- the records of a row at level d: each node's, then those of its children, then its siblings'
+  abbrev pub records_of : ℕ → Row V → List Record
+  records_of d end = []
+  records_of d (node label value child sibling) =
+      record_of d label value child sibling ∷ (records_of (d + 1) child ++ records_of d sibling)
+
+  -- the records of a tree: the root's, with the value of the empty key, and those of its row
+  abbrev pub tree_records : Option V → Row V → List Record
+  tree_records value row = record_of 0 [] value row end ∷ records_of 1 row
+
+-- a row whose records are a tree: labels are valid keys of 1 to 255 bytes, first items rise,
+-- and each node has a value or a child
+abbrev pub IsWritable : {V : Type 0} → (List ℕ → Type 0) → Row V → Type 0
+IsWritable item end = Unit {0}
+IsWritable item (node label value child sibling) = record {
+  valid : IsValid item label;
+  filled : label ≢ [];
+  fits : length label ≤ 255;
+  marked : (is_some value ≡ true) ⊎ (has_node child ≡ true);
+  rises : IsBeforeRow item label sibling;
+  child : IsWritable item child;
+  sibling : IsWritable item sibling;
+}

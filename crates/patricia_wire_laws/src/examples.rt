@@ -1,0 +1,86 @@
+//! Worked writings, as contracts of functions that do nothing. Levels are written in two bytes, but
+//! for one in four.
+ghost use Rattle.std.specs.Prelude.{◌≡◌, ℕ, List, [], ◌∷◌};
+ghost use Rattle.patricia_keys.specs.ByteKind.{IsByteItem};
+ghost use Rattle.patricia_keys.specs.TextKind.{IsTextItem};
+ghost use Rattle.patricia_rows.specs.ThreeKeys.{three_keys};
+ghost use Rattle.patricia_rows.specs.Points.{IsPoint};
+ghost use Rattle.patricia_wire_laws.specs.Counts.{IsCount, IsFront};
+ghost use Rattle.patricia_wire_laws.specs.Writings.{Canon, Means};
+ghost use Rattle.patricia_wire_laws.specs.Faults.{Fault, Stands};
+ghost use Rattle.patricia_wire_laws.specs.Examples.{nothing_written, three_keys_written, three_keys_written_wide, empty_key_and_a, empty_key_and_a_written, lone_key, lone_key_written};
+ghost use Rattle.patricia_wire_laws.specs.Examples.{long_text_and_b, long_text_and_b_written, long_text_and_b_written_as_bytes};
+ghost use Rattle.patricia_wire_laws.specs.Examples.{two_texts, two_texts_written, two_texts_written_as_bytes, long_key, long_key_written, ab, ab_in_two, ab_written, a_in_other_bits, a_written, falling_siblings};
+
+/// No keys are written as a root alone.
+pub fn no_keys()
+    ensures { Canon IsByteItem 2 nothing_written [] }
+{}
+
+/// The keys bar, baz and foo, with levels in two bytes and in four. They have seven fronts: b, ba,
+/// bar, baz, f, fo and foo, and the labels have seven bytes. They have four points: ba, bar, baz and
+/// foo, and the tree has five records.
+pub fn shared_front()
+    ensures narrow { Canon IsByteItem 2 three_keys_written three_keys }
+    ensures wide { Canon IsByteItem 4 three_keys_written_wide three_keys }
+    ensures fronts { IsCount (IsFront three_keys) 7 }
+    ensures points { IsCount (IsPoint IsByteItem three_keys) 4 }
+{}
+
+/// The value of the empty key is the root's.
+pub fn empty_key()
+    ensures { Canon IsByteItem 2 empty_key_and_a_written empty_key_and_a }
+{}
+
+/// A key alone is one label.
+pub fn one_key()
+    ensures { Canon IsByteItem 2 lone_key_written (lone_key ∷ []) }
+{}
+
+/// Keys that begin alike are cut behind the items that they share, which are characters in texts
+/// and bytes in byte strings.
+pub fn texts_and_bytes()
+    ensures texts { Canon IsTextItem 2 two_texts_written two_texts }
+    ensures bytes { Canon IsByteItem 2 two_texts_written_as_bytes two_texts }
+{}
+
+/// A label of more than 255 bytes is cut.
+pub fn long_label()
+    ensures { Canon IsByteItem 2 long_key_written (long_key ∷ []) }
+{}
+
+/// It is cut between items, so a label of a text may end before its 255th byte.
+pub fn long_text()
+    ensures texts { Canon IsTextItem 2 long_text_and_b_written long_text_and_b }
+    ensures bytes { Canon IsByteItem 2 long_text_and_b_written_as_bytes long_text_and_b }
+{}
+
+/// A writing that is not tight means its rows all the same, and is no key set's writing.
+pub fn not_tight()
+    ensures meant { Means IsByteItem {V = ℕ} 2 ab_in_two (7 ∷ []) ((ab, 7) ∷ []) }
+    ensures loose { (S : List (List ℕ)) → Canon IsByteItem 2 ab_in_two S → ⊥ }
+    ensures tight { Canon IsByteItem 2 ab_written (ab ∷ []) }
+{}
+
+/// Only the three marks of the flags are read, and in a writing they decide the other bits too.
+pub fn other_bits()
+    ensures meant { Means IsByteItem {V = ℕ} 2 a_in_other_bits (5 ∷ []) ((97 ∷ [], 5) ∷ []) }
+    ensures other { (S : List (List ℕ)) → Canon IsByteItem 2 a_in_other_bits S → ⊥ }
+    ensures clean { Canon IsByteItem 2 a_written ((97 ∷ []) ∷ []) }
+{}
+
+/// Faults of inputs that are one record, a part of one or little more.
+pub fn short_inputs()
+    ensures empty { Stands IsByteItem 2 [] 0 Fault.truncated 0 }
+    ensures level { Stands IsByteItem 2 (0 ∷ 0 ∷ 0 ∷ 1 ∷ []) 0 Fault.level 0 }
+    ensures label { Stands IsByteItem 2 (2 ∷ 1 ∷ 0 ∷ 0 ∷ 97 ∷ []) 1 Fault.root_label 0 }
+    ensures sibling { Stands IsByteItem 2 (32 ∷ 0 ∷ 0 ∷ 0 ∷ []) 0 Fault.root_sibling 0 }
+    ensures few { Stands IsByteItem 2 (3 ∷ 0 ∷ 0 ∷ 0 ∷ []) 0 Fault.too_few_values 0 }
+    ensures trailing { Stands IsByteItem 2 (0 ∷ 0 ∷ 0 ∷ 0 ∷ 0 ∷ []) 1 Fault.trailing_bytes 4 }
+    ensures many { Stands IsByteItem 2 (0 ∷ 0 ∷ 0 ∷ 0 ∷ []) 1 Fault.too_many_values 4 }
+{}
+
+/// Siblings that fall, b and then a, are out of order at the second.
+pub fn sibling_order()
+    ensures { Stands IsByteItem 2 falling_siblings 2 Fault.sibling_order 9 }
+{}
