@@ -1,6 +1,6 @@
 // Calls that take no memory: `.ci/run` counts the requests of both tests, which must be as many.
 use super::helpers::set_of;
-use patricia_tree::{BorrowedBytes, GenericPatriciaSet};
+use patricia_tree::{BorrowedBytes, Bytes, GenericPatriciaSet};
 use std::alloc::{AllocError, Global};
 use std::iter;
 use std::process::Abort;
@@ -33,22 +33,47 @@ fn change<Q: BorrowedBytes>(
     Ok(())
 }
 
-// Calls on a set that is left empty, and on an empty one.
+// A copy of an empty set, and a walk over it.
+fn look_at_none<K: Bytes>(rt: &impl Abort, set: &GenericPatriciaSet<K>) -> Result<(), AllocError> {
+    assert!(rt; set.is_empty());
+    assert!(rt; set.clone()?.is_empty());
+    assert!(rt; set.iter().next().is_none());
+    Ok(())
+}
+
+// The empty element goes into an empty set and out of it.
+fn in_and_out<Q: BorrowedBytes>(
+    rt: &impl Abort,
+    set: &mut GenericPatriciaSet<Q::Owned>,
+    none: Q,
+) -> Result<(), AllocError> {
+    assert!(rt; set.insert(none)?);
+    assert!(rt; set.remove(none)?);
+    Ok(())
+}
+
+// A set of the empty element alone, and a walk over it that is not begun.
+fn make_one<Q: BorrowedBytes>(alloc: Global, none: Q) -> Result<(), AllocError> {
+    let one = GenericPatriciaSet::from_iter(alloc, iter::once(none))?;
+    drop(one.into_iter());
+    Ok(())
+}
+
+fn clear<K: Bytes>(rt: &impl Abort, mut set: GenericPatriciaSet<K>) {
+    set.clear();
+    assert!(rt; set.len() == 0);
+}
+
+// Calls on a set that the empty prefix leaves empty.
 fn empty<Q: BorrowedBytes>(
     rt: &impl Abort,
-    alloc: Global,
     mut set: GenericPatriciaSet<Q::Owned>,
     none: Q,
 ) -> Result<(), AllocError> {
-    let mut whole = set.split_by_prefix(none)?;
-    assert!(rt; set.is_empty() && set.clone()?.is_empty());
-    assert!(rt; set.iter().next().is_none());
-    assert!(rt; set.insert(none)? && set.remove(none)?);
+    clear(rt, set.split_by_prefix(none)?);
+    look_at_none(rt, &set)?;
+    in_and_out(rt, &mut set, none)?;
     assert!(rt; set.into_iter().next().is_none());
-    let one = GenericPatriciaSet::from_iter(alloc, iter::once(none))?;
-    drop(one.into_iter());
-    whole.clear();
-    assert!(rt; whole.len() == 0);
     Ok(())
 }
 
@@ -73,6 +98,7 @@ fn texts_called(rt: HostRuntime) -> Result<(), Fail> {
     for element in &ABSENT {
         ask(&rt, &set, *element, false);
     }
-    empty(&rt, rt.alloc(), set, "")?;
+    empty(&rt, set, "")?;
+    make_one(rt.alloc(), "")?;
     Ok(())
 }

@@ -1,4 +1,4 @@
 use Rattle.patricia_set.proofs.set.GenericPatriciaSet.iter.Goals as goal
 
 pub returns : goal.returns
-returns g c = rw (← c.self.view_is) c.keys.ensures
+returns g c = cc
