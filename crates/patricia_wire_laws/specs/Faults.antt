@@ -83,7 +83,8 @@ IsCutShort w rest = (length rest < 2 + w) ⊎ (length rest < 2 + w + slice_index
 
 module _ (item : List ℕ → Type 0) where
   -- the record r, behind these records and with n values, breaks the rule that the fault names;
-  -- three faults are of no record
+  -- three faults are of no record. Labels without a first item are not in order; that they are
+  -- empty or not valid is a fault that comes before this one
   abbrev pub IsFaulty : List Record → Record → ℕ → Fault → Type 0
   IsFaulty before r n truncated = ⊥
   IsFaulty before r n level = IsDue before r.level → ⊥
