@@ -72,4 +72,10 @@ returns-in-Err-clause-only_begun g c none =
     )
 
 pub returns-then-is_empty-clause-only_filled : goal.returns-then-is_empty-clause-only_filled
-returns-then-is_empty-clause-only_filled g c = search rules
+returns-then-is_empty-clause-only_filled g c = tt
+
+pub returns-then-is_empty-clause-unchanged : goal.returns-then-is_empty-clause-unchanged
+returns-then-is_empty-clause-unchanged g c = tt
+
+pub returns-then-is_empty-clause-only_begun : goal.returns-then-is_empty-clause-only_begun
+returns-then-is_empty-clause-only_begun g c = tt
