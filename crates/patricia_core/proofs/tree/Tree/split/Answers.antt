@@ -1,4 +1,4 @@
-use Rattle.std.proofs.Common.{◌≢◌, [], ◌++◌, None, refl, sym, ap, ◌∙◌, arith, length, rules}
+use Rattle.std.proofs.Common.{◌≢◌, [], ◌++◌, None, refl, sym, ap, ◌∙◌, arith, length}
 use mathlib.Core.Bool.{false≢true}
 use Rattle.std.specs.FinMap as map
 use Rattle.patricia_rows.specs.Prefixes.{outside, under}
