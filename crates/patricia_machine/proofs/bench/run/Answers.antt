@@ -1,6 +1,6 @@
-use Rattle.std.proofs.Common.{◌≡◌, ◌∷◌, ◌++◌, [], arith, rules}
-use Rattle.std.proofs.lemmas.Grind.{common_steps}
-use Rattle.std.proofs.lemmas.List.{take_more, map-append}
+use Rattle.std.proofs.Common.{◌≡◌, ◌∷◌, ◌++◌, [], map, subst, arith, rules}
+use Rattle.std.proofs.lemmas.List.{take_all, take_more, map-append}
+use Rattle.patricia_machine.specs.Machine.{Run, with_key}
 use Rattle.patricia_machine.proofs.MachineLemmas.{Run-more}
 use Rattle.patricia_machine.proofs.bench.run.Goals as goal
 
@@ -15,7 +15,8 @@ loop-command-preserved g c =
     }
 
 pub returns-clause-ok : goal.returns-clause-ok
-returns-clause-ok g c = grind (arith, common_steps)
+returns-clause-ok g c =
+    subst (λ commands. Run g.K.Bytes.item g.K.Bytes.key c.args.bench.now (map (with_key g.Q.BorrowedBytes.key) commands) c.loop-command.replies.items c.loop-command.bench) (take_all c.loop-command.command-index c.args.commands.now c.loop-command-test.false) c.loop-command.invariant.run
 
 pub returns-in_err-replies-clause-unchanged : goal.returns-in_err-replies-clause-unchanged
 returns-in_err-replies-clause-unchanged g c = search rules

@@ -1,4 +1,4 @@
-use Rattle.std.proofs.Common.{◌≢◌, [], ◌++◌, None, refl, sym, ap, ◌∙◌, arith, length, rules}
+use Rattle.std.proofs.Common.{◌≢◌, [], ◌++◌, None, refl, sym, ap, ◌∙◌, arith, length}
 use mathlib.Core.Bool.{false≢true}
 use Rattle.std.specs.FinMap as map
 use Rattle.patricia_rows.specs.Prefixes.{outside, under}
@@ -72,4 +72,10 @@ returns-in-Err-clause-only_begun g c none =
     )
 
 pub returns-then-is_empty-clause-only_filled : goal.returns-then-is_empty-clause-only_filled
-returns-then-is_empty-clause-only_filled g c = search rules
+returns-then-is_empty-clause-only_filled g c = tt
+
+pub returns-then-is_empty-clause-unchanged : goal.returns-then-is_empty-clause-unchanged
+returns-then-is_empty-clause-unchanged g c = tt
+
+pub returns-then-is_empty-clause-only_begun : goal.returns-then-is_empty-clause-only_begun
+returns-then-is_empty-clause-only_begun g c = tt

@@ -1,0 +1,12 @@
+use Rattle.std.proofs.Common.{None, [], ap}
+use Rattle.patricia_cursors.proofs.TrailLemmas.{under_held}
+use Rattle.patricia_cursors.proofs.cursor.Cursor.into_parts.Goals as goal
+
+pub returns-clause-whole : goal.returns-clause-whole
+returns-clause-whole g c = rw c.into_parts.ensures.slots (under_held g.K.Bytes.item c.self.inside.trail [] None c.self.invariant).whole
+
+pub returns-clause-tree : goal.returns-clause-tree
+returns-clause-tree g c = rw (c.into_parts.ensures.slots, c.into_parts.ensures.count) (under_held g.K.Bytes.item c.self.inside.trail [] None c.self.invariant).tree
+
+pub returns-clause-map : goal.returns-clause-map
+returns-clause-map g c = rw (c.into_parts.ensures.value, c.into_parts.ensures.slots) (ap (λ s. s.map) c.self.view_is)
