@@ -6,7 +6,7 @@ use std::alloc::{AllocError, Global};
 use std::cmp::Ordering;
 
 /// The answers to a call.
-pub fn answers<'a, Q: Readable<'a>>(
+pub(super) fn answers<'a, Q: Readable<'a>>(
     alloc: Global,
     call: &str,
     arguments: &'a [Vec<u8>],

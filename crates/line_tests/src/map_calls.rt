@@ -8,7 +8,7 @@ use std::mem;
 type Map<K> = GenericPatriciaMap<K, u64>;
 
 /// The answers to a call, or `None` for a call that no map has.
-pub fn answers<'a, Q: Readable<'a>>(
+pub(super) fn answers<'a, Q: Readable<'a>>(
     alloc: Global,
     map: &mut Map<Q::Owned>,
     call: &str,
@@ -116,7 +116,7 @@ fn removed<'a, Q: Readable<'a>>(
 }
 
 /// The entries of a map.
-pub fn rows<K: Bytes>(alloc: Global, map: &Map<K>) -> Result<Vec<String>, AllocError> {
+pub(super) fn rows<K: Bytes>(alloc: Global, map: &Map<K>) -> Result<Vec<String>, AllocError> {
     let mut answers = Vec::new(alloc);
     for entry in map {
         let (key, value) = entry?;

@@ -7,7 +7,7 @@ use std::alloc::{AllocError, Global};
 type Map<K> = GenericPatriciaMap<K, u64>;
 
 /// The answers to a call, or `None` for another call.
-pub fn answers<'a, Q: Readable<'a>>(
+pub(super) fn answers<'a, Q: Readable<'a>>(
     alloc: Global,
     map: &Map<Q::Owned>,
     call: &str,

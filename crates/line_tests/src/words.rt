@@ -79,7 +79,7 @@ pub struct Call<'t> {
 }
 
 /// The calls among the lines of a text.
-pub fn calls<'t>(alloc: Global, text: &'t str) -> Result<Vec<Call<'t>>, AllocError> {
+pub(super) fn calls<'t>(alloc: Global, text: &'t str) -> Result<Vec<Call<'t>>, AllocError> {
     let mut calls = Vec::new(alloc);
     for line in text.lines() {
         let words: Vec<&'t str> = line.split(' ').collect(alloc)?;
@@ -96,7 +96,7 @@ pub fn calls<'t>(alloc: Global, text: &'t str) -> Result<Vec<Call<'t>>, AllocErr
 }
 
 /// The number that some digits write, or 0.
-pub fn number(digits: &[u8]) -> usize {
+pub(super) fn number(digits: &[u8]) -> usize {
     let Ok(text) = str::from_utf8(digits) else {
         return 0;
     };
@@ -104,7 +104,7 @@ pub fn number(digits: &[u8]) -> usize {
 }
 
 /// The bytes of a key, written with letters, digits and escapes.
-pub fn written(alloc: Global, bytes: &[u8]) -> Result<String, AllocError> {
+pub(super) fn written(alloc: Global, bytes: &[u8]) -> Result<String, AllocError> {
     let mut text = String::new(alloc);
     for byte in bytes {
         if byte.is_ascii_alphanumeric() {
@@ -117,13 +117,13 @@ pub fn written(alloc: Global, bytes: &[u8]) -> Result<String, AllocError> {
 }
 
 /// An entry, as its key and its value.
-pub fn row(alloc: Global, key: &[u8], value: u64) -> Result<String, AllocError> {
+pub(super) fn row(alloc: Global, key: &[u8], value: u64) -> Result<String, AllocError> {
     let key = written(alloc, key)?;
     format!(in alloc; "{key}={value}")
 }
 
 /// A value, or `none`.
-pub fn value_or_none(alloc: Global, value: Option<u64>) -> Result<String, AllocError> {
+pub(super) fn value_or_none(alloc: Global, value: Option<u64>) -> Result<String, AllocError> {
     match value {
         Some(value) => value.to_string(alloc),
         None => String::from_str(alloc, "none"),

@@ -13,7 +13,7 @@ fn put<Q: BorrowedBytes>(
 }
 
 // A map of two keys, whose values are 1 and 2.
-pub fn two<Q: BorrowedBytes>(
+pub(super) fn two<Q: BorrowedBytes>(
     alloc: Global,
     first: Q,
     second: Q,
@@ -25,7 +25,7 @@ pub fn two<Q: BorrowedBytes>(
 }
 
 // The values of two keys.
-pub fn values_at<Q: BorrowedBytes>(
+pub(super) fn values_at<Q: BorrowedBytes>(
     map: &GenericPatriciaMap<Q::Owned, u64>,
     first: Q,
     second: Q,
