@@ -78,9 +78,9 @@ pub fn set_first<V: Drop, K: Bytes>(
         (next_row (record { map = m.old; prefix = []; last = None }) ≡ None) × (m.new ≡ m.old)) }
     ensures unchanged { OnErr result (m.new ≡ m.old) }
 {
-    let mut cursor = m.iter_mut();
-    cursor.advance()?;
-    match cursor.value() {
+    let mut first = m.iter_mut();
+    first.advance()?;
+    match first.value() {
         Some(place) => {
             *place = value;
             Ok(true)
