@@ -1,7 +1,7 @@
 //! What a map is after loans through a cursor, known from the contracts alone.
 ghost use Rattle.std.specs.Prelude.{◌≡◌, ℕ, List, [], None, Some, false, IfOk, OnErr, IsTrue, MatchOption};
 ghost use Rattle.std.specs.FinMap as map;
-ghost use Rattle.patricia_tree.specs.Cursors.{next_row, stepped, written};
+ghost use Rattle.patricia_tree.specs.Cursors.{next_row};
 
 use patricia_tree::{BorrowedBytes, Bytes, GenericPatriciaMap};
 use std::alloc::AllocError;
