@@ -1,7 +1,7 @@
 //! What a map is after loans through a cursor, known from the contracts alone.
-ghost use Rattle.std.specs.Prelude.{◌≡◌, ℕ, List, [], None, Some, IfOk, OnErr, IsTrue, MatchOption};
+ghost use Rattle.std.specs.Prelude.{◌≡◌, ℕ, List, [], None, Some, false, IfOk, OnErr, IsTrue, MatchOption};
 ghost use Rattle.std.specs.FinMap as map;
-ghost use Rattle.patricia_tree.specs.Cursors.{next_row, stepped, written};
+ghost use Rattle.patricia_tree.specs.Cursors.{next_row};
 
 use patricia_tree::{BorrowedBytes, Bytes, GenericPatriciaMap};
 use std::alloc::AllocError;
@@ -12,7 +12,9 @@ pub fn replace_first<V: Drop, K: Bytes>(
     m: &mut GenericPatriciaMap<K, V>,
     value: V,
 ) -> Result<Option<V>, AllocError>
-    ensures ok { IfOk result (λ r. MatchOption r (m.new ≡ m.old) (λ old. (key : List ℕ)
+    ensures ok { IfOk result (λ r. MatchOption r
+        ((next_row (record { map = m.old; prefix = []; last = None }) ≡ None) × (m.new ≡ m.old))
+        (λ old. (key : List ℕ)
         × (next_row (record { map = m.old; prefix = []; last = None }) ≡ Some (key, old))
         × (m.new ≡ map.insert m.old key value))) }
     ensures unchanged { OnErr result (m.new ≡ m.old) }
@@ -30,7 +32,10 @@ pub fn replace_first_under<V: Drop, Q: BorrowedBytes>(
     prefix: Q,
     value: V,
 ) -> Result<Option<V>, AllocError>
-    ensures ok { IfOk result (λ r. MatchOption r (m.new ≡ m.old) (λ old. (key : List ℕ)
+    ensures ok { IfOk result (λ r. MatchOption r
+        ((next_row (record { map = m.old; prefix = Q.key prefix; last = None }) ≡ None)
+        × (m.new ≡ m.old))
+        (λ old. (key : List ℕ)
         × (next_row (record { map = m.old; prefix = Q.key prefix; last = None }) ≡ Some (key, old))
         × (m.new ≡ map.insert m.old key value))) }
     ensures unchanged { OnErr result (m.new ≡ m.old) }
@@ -47,8 +52,11 @@ pub fn replace_first_value<V: Drop, K: Bytes>(
     m: &mut GenericPatriciaMap<K, V>,
     value: V,
 ) -> Result<Option<V>, AllocError>
-    ensures ok { IfOk result (λ r. MatchOption r (m.new ≡ m.old) (λ _.
-        m.new ≡ (written (stepped (record { map = m.old; prefix = []; last = None })) value).map)) }
+    ensures ok { IfOk result (λ r. MatchOption r
+        ((next_row (record { map = m.old; prefix = []; last = None }) ≡ None) × (m.new ≡ m.old))
+        (λ old. (key : List ℕ)
+        × (next_row (record { map = m.old; prefix = []; last = None }) ≡ Some (key, old))
+        × (m.new ≡ map.insert m.old key value))) }
     ensures unchanged { OnErr result (m.new ≡ m.old) }
 {
     let mut cursor = m.values_mut();
@@ -63,13 +71,16 @@ pub fn set_first<V: Drop, K: Bytes>(
     m: &mut GenericPatriciaMap<K, V>,
     value: V,
 ) -> Result<bool, AllocError>
-    ensures put { IfOk result (λ found. IsTrue found →
-        m.new ≡ (written (stepped (record { map = m.old; prefix = []; last = None })) value).map) }
+    ensures put { IfOk result (λ found. IsTrue found → (key : List ℕ) × (old : V)
+        × (next_row (record { map = m.old; prefix = []; last = None }) ≡ Some (key, old))
+        × (m.new ≡ map.insert m.old key value)) }
+    ensures none { IfOk result (λ found. found ≡ false →
+        (next_row (record { map = m.old; prefix = []; last = None }) ≡ None) × (m.new ≡ m.old)) }
     ensures unchanged { OnErr result (m.new ≡ m.old) }
 {
-    let mut cursor = m.iter_mut();
-    cursor.advance()?;
-    match cursor.value() {
+    let mut first = m.iter_mut();
+    first.advance()?;
+    match first.value() {
         Some(place) => {
             *place = value;
             Ok(true)

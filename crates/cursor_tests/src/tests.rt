@@ -2,3 +2,4 @@ mod ends;
 mod helpers;
 mod lends;
 mod refusals;
+mod runs;

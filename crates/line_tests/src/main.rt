@@ -16,22 +16,35 @@ use std::alloc::{AllocError, Global};
 use std::io::{self, Read};
 use words::{Call, Readable};
 
-// The answers to a call over keys of one kind.
+// Adds the answers to a call over keys of one kind.
+fn answer<'a, Q: Readable<'a>>(
+    alloc: Global,
+    map: &mut GenericPatriciaMap<Q::Owned, u64>,
+    call: &'a Call<'_>,
+    out: &mut String,
+) -> Result<(), AllocError> {
+    let arguments = call.arguments.as_slice();
+    if map_calls::answer::<Q>(alloc, map, call.name, arguments, out)?
+        || whole_calls::answer::<Q>(alloc, map, call.name, arguments, out)?
+        || prefix_calls::answer::<Q>(alloc, map, call.name, arguments, out)?
+    {
+        return Ok(());
+    }
+    key_calls::answer::<Q>(alloc, call.name, arguments, out)
+}
+
+// The answers to a call, each after a space, or a space where there is none.
 fn answers<'a, Q: Readable<'a>>(
     alloc: Global,
     map: &mut GenericPatriciaMap<Q::Owned, u64>,
     call: &'a Call<'_>,
-) -> Result<Vec<String>, AllocError> {
-    if let Some(answers) = map_calls::answers::<Q>(alloc, map, call.name, &call.arguments)? {
-        return Ok(answers);
+) -> Result<String, AllocError> {
+    let mut out = String::new(alloc);
+    answer::<Q>(alloc, map, call, &mut out)?;
+    if out.is_empty() {
+        out.push(' ')?;
     }
-    if let Some(answers) = whole_calls::answers::<Q>(alloc, map, call.name, &call.arguments)? {
-        return Ok(answers);
-    }
-    match prefix_calls::answers::<Q>(alloc, map, call.name, &call.arguments)? {
-        Some(answers) => Ok(answers),
-        None => key_calls::answers::<Q>(alloc, call.name, &call.arguments),
-    }
+    Ok(out)
 }
 
 // Writes the calls of one kind with their answers.
@@ -45,7 +58,7 @@ fn write_answers<'a, Q: Readable<'a>>(
     for call in calls {
         if call.kind == kind {
             let answers = answers::<Q>(alloc, &mut map, call)?;
-            println!(rt; "{}: {}", call.line, answers.join(alloc, " ")?)?;
+            println!(rt; "{}:{}", call.line, answers.as_str())?;
         }
     }
     Ok(())

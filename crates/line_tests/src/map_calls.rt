@@ -1,45 +1,62 @@
 //! The calls of a map.
 
 use crate::words::{self, Readable};
-use patricia_tree::{Bytes, GenericPatriciaMap};
+use patricia_tree::{BorrowedBytes, Bytes, GenericPatriciaMap};
 use std::alloc::{AllocError, Global};
 use std::mem;
 
 type Map<K> = GenericPatriciaMap<K, u64>;
 
-/// The answers to a call, or `None` for a call that no map has.
-pub fn answers<'a, Q: Readable<'a>>(
+/// Adds the answers to a call, and answers whether it is one of these.
+pub(super) fn answer<'a, Q: Readable<'a>>(
     alloc: Global,
     map: &mut Map<Q::Owned>,
     call: &str,
     arguments: &'a [Vec<u8>],
-) -> Result<Option<Vec<String>>, AllocError> {
-    let answers = match call {
-        "insert" => inserted::<Q>(alloc, map, arguments)?,
-        "extend" => {
-            map.extend(pairs::<Q>(alloc, arguments)?)?;
-            rows(alloc, map)?
+    out: &mut String,
+) -> Result<bool, AllocError> {
+    match call {
+        "insert" => add_inserts::<Q>(alloc, map, arguments, out)?,
+        "extend" | "from_iter" => {
+            put_pairs::<Q>(alloc, map, arguments, call == "extend")?;
+            add_rows(alloc, map, out)?;
         }
-        "from_iter" => {
-            *map = GenericPatriciaMap::from_iter(alloc, pairs::<Q>(alloc, arguments)?)?;
-            rows(alloc, map)?
+        "get" | "contains" | "remove" => {
+            for key in arguments {
+                if let Some(key) = Q::read(key) {
+                    add_one(alloc, map, call, key, out)?;
+                }
+            }
         }
-        "get" => values_at::<Q>(alloc, map, arguments)?,
-        "contains" => contained::<Q>(alloc, map, arguments)?,
-        "remove" => removed::<Q>(alloc, map, arguments)?,
-        "len" => vec![in alloc; map.len().to_string(alloc)?]?,
-        "empty" => vec![in alloc; map.is_empty().to_string(alloc)?]?,
+        _ => return answer_whole(alloc, map, call, out),
+    }
+    Ok(true)
+}
+
+// The calls without arguments.
+fn answer_whole<K: Bytes>(
+    alloc: Global,
+    map: &mut Map<K>,
+    call: &str,
+    out: &mut String,
+) -> Result<bool, AllocError> {
+    let added = match call {
+        "len" => words::add_number(alloc, out, map.len() as u64),
+        "empty" => words::add_bool(out, map.is_empty()),
         "clear" => {
             map.clear();
-            Vec::new(alloc)
+            Ok(())
         }
-        "iter" => rows(alloc, map)?,
-        "keys" => keys(alloc, map)?,
-        "values" => values(alloc, map)?,
-        "take" => taken(alloc, mem::replace(map, GenericPatriciaMap::new(alloc)))?,
-        _ => return Ok(None),
+        "iter" => add_rows(alloc, map, out),
+        "keys" => add_keys(map, out),
+        "values" => add_values(alloc, map, out),
+        "take" => take(alloc, map, out),
+        _ => return Ok(false),
     };
-    Ok(Some(answers))
+    match added {
+        Ok(()) => Ok(true),
+        Err(error) => Err(error),
+    }
 }
 
 // The arguments are keys, each with its value after it.
@@ -58,94 +75,91 @@ fn pairs<'a, Q: Readable<'a>>(
     Ok(pairs)
 }
 
-fn inserted<'a, Q: Readable<'a>>(
+// Puts pairs into the map, or makes it anew of them.
+fn put_pairs<'a, Q: Readable<'a>>(
     alloc: Global,
     map: &mut Map<Q::Owned>,
     arguments: &'a [Vec<u8>],
-) -> Result<Vec<String>, AllocError> {
-    let mut answers = Vec::new(alloc);
+    is_kept: bool,
+) -> Result<(), AllocError> {
+    let pairs = pairs::<Q>(alloc, arguments)?;
+    if is_kept {
+        return map.extend(pairs);
+    }
+    *map = GenericPatriciaMap::from_iter(alloc, pairs)?;
+    Ok(())
+}
+
+fn add_inserts<'a, Q: Readable<'a>>(
+    alloc: Global,
+    map: &mut Map<Q::Owned>,
+    arguments: &'a [Vec<u8>],
+    out: &mut String,
+) -> Result<(), AllocError> {
     for (key, value) in pairs::<Q>(alloc, arguments)? {
         let Ok(old) = map.insert(key, value) else {
             return Err(AllocError);
         };
-        answers.push(words::value_or_none(alloc, old)?)?;
+        words::add_value(alloc, out, old)?;
     }
-    Ok(answers)
+    Ok(())
 }
 
-fn values_at<'a, Q: Readable<'a>>(
-    alloc: Global,
-    map: &Map<Q::Owned>,
-    keys: &'a [Vec<u8>],
-) -> Result<Vec<String>, AllocError> {
-    let mut answers = Vec::new(alloc);
-    for key in keys {
-        if let Some(key) = Q::read(key) {
-            answers.push(words::value_or_none(alloc, map.get(key).copied())?)?;
-        }
-    }
-    Ok(answers)
-}
-
-fn contained<'a, Q: Readable<'a>>(
-    alloc: Global,
-    map: &Map<Q::Owned>,
-    keys: &'a [Vec<u8>],
-) -> Result<Vec<String>, AllocError> {
-    let mut answers = Vec::new(alloc);
-    for key in keys {
-        if let Some(key) = Q::read(key) {
-            answers.push(map.contains_key(key).to_string(alloc)?)?;
-        }
-    }
-    Ok(answers)
-}
-
-fn removed<'a, Q: Readable<'a>>(
+// The answer of a call on one key.
+fn add_one<Q: BorrowedBytes>(
     alloc: Global,
     map: &mut Map<Q::Owned>,
-    keys: &'a [Vec<u8>],
-) -> Result<Vec<String>, AllocError> {
-    let mut answers = Vec::new(alloc);
-    for key in keys {
-        if let Some(key) = Q::read(key) {
-            answers.push(words::value_or_none(alloc, map.remove(key)?)?)?;
-        }
+    call: &str,
+    key: Q,
+    out: &mut String,
+) -> Result<(), AllocError> {
+    match call {
+        "get" => words::add_value(alloc, out, map.get(key).copied()),
+        "contains" => words::add_bool(out, map.contains_key(key)),
+        _ => words::add_value(alloc, out, map.remove(key)?),
     }
-    Ok(answers)
 }
 
-/// The entries of a map.
-pub fn rows<K: Bytes>(alloc: Global, map: &Map<K>) -> Result<Vec<String>, AllocError> {
-    let mut answers = Vec::new(alloc);
+/// Adds the entries of a map.
+pub(super) fn add_rows<K: Bytes>(
+    alloc: Global,
+    map: &Map<K>,
+    out: &mut String,
+) -> Result<(), AllocError> {
     for entry in map {
         let (key, value) = entry?;
-        answers.push(words::row(alloc, key.as_bytes(), *value)?)?;
+        words::add_row(alloc, out, key.as_bytes(), *value)?;
     }
-    Ok(answers)
+    Ok(())
 }
 
-fn keys<K: Bytes>(alloc: Global, map: &Map<K>) -> Result<Vec<String>, AllocError> {
-    let mut answers = Vec::new(alloc);
+fn add_keys<K: Bytes>(map: &Map<K>, out: &mut String) -> Result<(), AllocError> {
     for key in map.keys() {
-        answers.push(words::written(alloc, key?.as_bytes())?)?;
+        words::add_key(out, key?.as_bytes())?;
     }
-    Ok(answers)
+    Ok(())
 }
 
-fn values<K: Bytes>(alloc: Global, map: &Map<K>) -> Result<Vec<String>, AllocError> {
-    let mut answers = Vec::new(alloc);
+fn add_values<K: Bytes>(alloc: Global, map: &Map<K>, out: &mut String) -> Result<(), AllocError> {
     for value in map.values() {
-        answers.push(value?.to_string(alloc)?)?;
+        words::add_number(alloc, out, *value?)?;
     }
-    Ok(answers)
+    Ok(())
 }
 
-fn taken<K: Bytes>(alloc: Global, map: Map<K>) -> Result<Vec<String>, AllocError> {
-    let mut answers = Vec::new(alloc);
+// Takes the entries out, and leaves an empty map.
+fn take<K: Bytes>(alloc: Global, map: &mut Map<K>, out: &mut String) -> Result<(), AllocError> {
+    add_taken(
+        alloc,
+        mem::replace(map, GenericPatriciaMap::new(alloc)),
+        out,
+    )
+}
+
+fn add_taken<K: Bytes>(alloc: Global, map: Map<K>, out: &mut String) -> Result<(), AllocError> {
     for entry in map {
         let (key, value) = entry?;
-        answers.push(words::row(alloc, key.as_bytes(), value)?)?;
+        words::add_row(alloc, out, key.as_bytes(), value)?;
     }
-    Ok(answers)
+    Ok(())
 }

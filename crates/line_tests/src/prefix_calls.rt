@@ -6,115 +6,134 @@ use std::alloc::{AllocError, Global};
 
 type Map<K> = GenericPatriciaMap<K, u64>;
 
-/// The answers to a call, or `None` for another call.
-pub fn answers<'a, Q: Readable<'a>>(
+/// Adds the answers to a call, and answers whether it is one of these.
+pub(super) fn answer<'a, Q: Readable<'a>>(
     alloc: Global,
     map: &Map<Q::Owned>,
     call: &str,
     arguments: &'a [Vec<u8>],
-) -> Result<Option<Vec<String>>, AllocError> {
+    out: &mut String,
+) -> Result<bool, AllocError> {
     match (call, arguments) {
-        ("longest", keys) => Ok(Some(longest::<Q>(alloc, map, keys)?)),
-        ("reach", keys) => Ok(Some(reaches::<Q>(alloc, map, keys)?)),
+        ("longest", keys) => add_each::<Q>(alloc, map, true, keys, out),
+        ("reach", keys) => add_each::<Q>(alloc, map, false, keys, out),
         (_, [key]) => match Q::read(key) {
-            Some(key) => walked(alloc, map, call, key),
-            None => Ok(None),
+            Some(key) => add_walk(alloc, map, call, key, out),
+            None => Ok(false),
         },
-        _ => Ok(None),
+        _ => Ok(false),
     }
 }
 
-// The entry of the longest key that begins each key.
-fn longest<'a, Q: Readable<'a>>(
+// The answers about each key.
+fn add_each<'a, Q: Readable<'a>>(
     alloc: Global,
     map: &Map<Q::Owned>,
+    is_longest: bool,
     keys: &'a [Vec<u8>],
-) -> Result<Vec<String>, AllocError> {
-    let mut answers = Vec::new(alloc);
+    out: &mut String,
+) -> Result<bool, AllocError> {
     for key in keys {
         if let Some(key) = Q::read(key) {
-            answers.push(match map.get_longest_common_prefix(key) {
-                Some((front, value)) => words::row(alloc, front.as_bytes(), *value)?,
-                None => String::from_str(alloc, "none")?,
-            })?;
+            add_one(alloc, map, is_longest, key, out)?;
         }
     }
-    Ok(answers)
+    Ok(true)
 }
 
-// How far the keys of the map go with each key.
-fn reaches<'a, Q: Readable<'a>>(
+// The entry of the longest key that begins a key, or how far the keys of the map go with it.
+fn add_one<Q: BorrowedBytes>(
     alloc: Global,
     map: &Map<Q::Owned>,
-    keys: &'a [Vec<u8>],
-) -> Result<Vec<String>, AllocError> {
-    let mut answers = Vec::new(alloc);
-    for key in keys {
-        if let Some(key) = Q::read(key) {
-            answers.push(map.longest_common_prefix_len(key).to_string(alloc)?)?;
-        }
+    is_longest: bool,
+    key: Q,
+    out: &mut String,
+) -> Result<(), AllocError> {
+    if !is_longest {
+        return words::add_number(alloc, out, map.longest_common_prefix_len(key) as u64);
     }
-    Ok(answers)
+    match map.get_longest_common_prefix(key) {
+        Some((front, value)) => words::add_row(alloc, out, front.as_bytes(), *value),
+        None => words::add(out, "none"),
+    }
 }
 
 // The answers of a walk along one key or under it.
-fn walked<Q: BorrowedBytes>(
+fn add_walk<Q: BorrowedBytes>(
     alloc: Global,
     map: &Map<Q::Owned>,
     call: &str,
     key: Q,
-) -> Result<Option<Vec<String>>, AllocError> {
-    let answers = match call {
-        "along" => along(alloc, map, key)?,
-        "along_values" => along_values(alloc, map, key)?,
-        "along_owned" => along_owned(alloc, map, Q::Owned::from_bytes(alloc, key.as_bytes())?)?,
-        "under" => under(alloc, map, key)?,
-        _ => return Ok(None),
+    out: &mut String,
+) -> Result<bool, AllocError> {
+    let added = match call {
+        "along" => add_along(alloc, map, key, out),
+        "along_values" => add_along_values(alloc, map, key, out),
+        "along_owned" => add_along_a_copy(alloc, map, key, out),
+        "under" => add_under(alloc, map, key, out),
+        _ => return Ok(false),
     };
-    Ok(Some(answers))
+    match added {
+        Ok(()) => Ok(true),
+        Err(error) => Err(error),
+    }
 }
 
-fn along<Q: BorrowedBytes>(
+fn add_along<Q: BorrowedBytes>(
     alloc: Global,
     map: &Map<Q::Owned>,
     key: Q,
-) -> Result<Vec<String>, AllocError> {
-    let mut answers = Vec::new(alloc);
+    out: &mut String,
+) -> Result<(), AllocError> {
     for (front, value) in map.common_prefixes(key) {
-        answers.push(words::row(alloc, front.as_bytes(), *value)?)?;
+        words::add_row(alloc, out, front.as_bytes(), *value)?;
     }
-    Ok(answers)
+    Ok(())
 }
 
-fn along_values<Q: BorrowedBytes>(
+fn add_along_values<Q: BorrowedBytes>(
     alloc: Global,
     map: &Map<Q::Owned>,
     key: Q,
-) -> Result<Vec<String>, AllocError> {
-    let mut answers = Vec::new(alloc);
+    out: &mut String,
+) -> Result<(), AllocError> {
     for value in map.common_prefix_values(key) {
-        answers.push(value.to_string(alloc)?)?;
+        words::add_number(alloc, out, *value)?;
     }
-    Ok(answers)
+    Ok(())
 }
 
-fn along_owned<K: Bytes>(alloc: Global, map: &Map<K>, key: K) -> Result<Vec<String>, AllocError> {
-    let mut answers = Vec::new(alloc);
+fn add_along_a_copy<Q: BorrowedBytes>(
+    alloc: Global,
+    map: &Map<Q::Owned>,
+    key: Q,
+    out: &mut String,
+) -> Result<(), AllocError> {
+    let owned = Q::Owned::from_bytes(alloc, key.as_bytes())?;
+    add_along_owned(alloc, map, owned, out)
+}
+
+fn add_along_owned<K: Bytes>(
+    alloc: Global,
+    map: &Map<K>,
+    key: K,
+    out: &mut String,
+) -> Result<(), AllocError> {
     for value in map.common_prefix_values_owned(key) {
-        answers.push(value.to_string(alloc)?)?;
+        words::add_number(alloc, out, *value)?;
     }
-    Ok(answers)
+    Ok(())
 }
 
-fn under<Q: BorrowedBytes>(
+fn add_under<Q: BorrowedBytes>(
     alloc: Global,
     map: &Map<Q::Owned>,
     prefix: Q,
-) -> Result<Vec<String>, AllocError> {
-    let mut answers = Vec::new(alloc);
+    out: &mut String,
+) -> Result<(), AllocError> {
     for entry in map.iter_prefix(prefix) {
         let (key, value) = entry?;
-        answers.push(words::row(alloc, key.as_bytes(), *value)?)?;
+        words::add_row(alloc, out, key.as_bytes(), *value)?;
     }
-    Ok(answers)
+    Ok(())
 }

@@ -79,7 +79,7 @@ pub struct Call<'t> {
 }
 
 /// The calls among the lines of a text.
-pub fn calls<'t>(alloc: Global, text: &'t str) -> Result<Vec<Call<'t>>, AllocError> {
+pub(super) fn calls<'t>(alloc: Global, text: &'t str) -> Result<Vec<Call<'t>>, AllocError> {
     let mut calls = Vec::new(alloc);
     for line in text.lines() {
         let words: Vec<&'t str> = line.split(' ').collect(alloc)?;
@@ -96,36 +96,75 @@ pub fn calls<'t>(alloc: Global, text: &'t str) -> Result<Vec<Call<'t>>, AllocErr
 }
 
 /// The number that some digits write, or 0.
-pub fn number(digits: &[u8]) -> usize {
+pub(super) fn number(digits: &[u8]) -> usize {
     let Ok(text) = str::from_utf8(digits) else {
         return 0;
     };
     text.parse::<usize>().unwrap_or(0)
 }
 
-/// The bytes of a key, written with letters, digits and escapes.
-pub fn written(alloc: Global, bytes: &[u8]) -> Result<String, AllocError> {
-    let mut text = String::new(alloc);
+/// Adds an answer to a line.
+pub(super) fn add(out: &mut String, answer: &str) -> Result<(), AllocError> {
+    out.push(' ')?;
+    out.push_str(answer)
+}
+
+/// Adds a number.
+pub(super) fn add_number(alloc: Global, out: &mut String, number: u64) -> Result<(), AllocError> {
+    let digits = number.to_string(alloc)?;
+    add(out, digits.as_str())
+}
+
+/// Adds `true` or `false`.
+pub(super) fn add_bool(out: &mut String, is_true: bool) -> Result<(), AllocError> {
+    add(out, if is_true { "true" } else { "false" })
+}
+
+/// Adds a value, or `none`.
+pub(super) fn add_value(
+    alloc: Global,
+    out: &mut String,
+    value: Option<u64>,
+) -> Result<(), AllocError> {
+    match value {
+        Some(value) => add_number(alloc, out, value),
+        None => add(out, "none"),
+    }
+}
+
+// The hexadecimal digit of a value below 16.
+fn hexadecimal(value: u8) -> char {
+    match value {
+        0..=9 => char::from(b'0' + value),
+        10..=15 => char::from(b'A' + (value - 10)),
+        _ => '?',
+    }
+}
+
+/// Adds the bytes of a key, written with letters, digits and escapes.
+pub(super) fn add_key(out: &mut String, bytes: &[u8]) -> Result<(), AllocError> {
+    out.push(' ')?;
     for byte in bytes {
         if byte.is_ascii_alphanumeric() {
-            text.push(char::from(*byte))?;
+            out.push(char::from(*byte))?;
         } else {
-            text.push_str(&format!(in alloc; "%{byte:02X}")?)?;
+            out.push('%')?;
+            out.push(hexadecimal(*byte >> 4))?;
+            out.push(hexadecimal(*byte & 15))?;
         }
     }
-    Ok(text)
+    Ok(())
 }
 
-/// An entry, as its key and its value.
-pub fn row(alloc: Global, key: &[u8], value: u64) -> Result<String, AllocError> {
-    let key = written(alloc, key)?;
-    format!(in alloc; "{key}={value}")
-}
-
-/// A value, or `none`.
-pub fn value_or_none(alloc: Global, value: Option<u64>) -> Result<String, AllocError> {
-    match value {
-        Some(value) => value.to_string(alloc),
-        None => String::from_str(alloc, "none"),
-    }
+/// Adds an entry, as its key and its value.
+pub(super) fn add_row(
+    alloc: Global,
+    out: &mut String,
+    key: &[u8],
+    value: u64,
+) -> Result<(), AllocError> {
+    add_key(out, key)?;
+    out.push('=')?;
+    let digits = value.to_string(alloc)?;
+    out.push_str(digits.as_str())
 }

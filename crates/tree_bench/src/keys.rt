@@ -5,7 +5,7 @@ use std::alloc::{AllocError, Global};
 pub type Halves<'a> = (Vec<&'a [u8]>, Vec<&'a [u8]>);
 
 /// The lines of the input that are not empty, by turns in the first list and in the second.
-pub fn read_keys(alloc: Global, input: &[u8]) -> Result<Halves<'_>, AllocError> {
+pub(super) fn read_keys(alloc: Global, input: &[u8]) -> Result<Halves<'_>, AllocError> {
     let mut first = Vec::new(alloc);
     let mut second = Vec::new(alloc);
     for line in input.split(|byte| *byte == b'\n') {
@@ -22,7 +22,7 @@ pub fn read_keys(alloc: Global, input: &[u8]) -> Result<Halves<'_>, AllocError> 
 }
 
 /// Puts the keys in another order, the same each time.
-pub fn shuffle<T>(keys: &mut [T], seed: u64) {
+pub(super) fn shuffle<T>(keys: &mut [T], seed: u64) {
     let mut random = seed;
     for i in 1..keys.len() {
         random ^= random << 13;
@@ -33,7 +33,7 @@ pub fn shuffle<T>(keys: &mut [T], seed: u64) {
 }
 
 /// The first half of each key.
-pub fn halves<'a>(alloc: Global, keys: &[&'a [u8]]) -> Result<Vec<&'a [u8]>, AllocError> {
+pub(super) fn halves<'a>(alloc: Global, keys: &[&'a [u8]]) -> Result<Vec<&'a [u8]>, AllocError> {
     let mut halves = Vec::new(alloc);
     for key in keys {
         halves.push(&key[..key.len() / 2])?;
@@ -76,7 +76,7 @@ fn nearer<'a>(keys: &[&'a [u8]], key: &'a [u8], best: Share<'a>) -> Share<'a> {
 
 /// A prefix of about a tenth of the keys: the nearest to it of the beginnings of eight keys. The
 /// keys are sorted, and the eight lie evenly among them.
-pub fn tenth<'a>(keys: &[&'a [u8]]) -> &'a [u8] {
+pub(super) fn tenth<'a>(keys: &[&'a [u8]]) -> &'a [u8] {
     let mut best: Share<'a> = (&[], keys.len());
     for eighth in 0..8usize {
         if let Some(key) = keys.get(eighth.wrapping_mul(keys.len() / 8)) {

@@ -13,7 +13,7 @@ use memory::memory;
 use patricia_tree::{BorrowedBytes, Bytes, GenericPatriciaMap, PatriciaMap};
 use std::alloc::AllocError;
 use std::env;
-use std::io::{self, Read};
+use std::io::{self, Read as _};
 use std::rt::{Clock, Env, Files};
 use std::time::Instant;
 
@@ -137,68 +137,81 @@ fn report(
     }
 }
 
-fn time_puts<Q: BorrowedBytes>(
+// The calls that only read a map.
+#[derive(Clone, Copy, PartialEq)]
+enum Read {
+    Get,
+    Walk,
+    Values,
+    Under,
+    Longest,
+}
+
+fn ask<Q: BorrowedBytes>(
+    map: &GenericPatriciaMap<Q::Owned, u64>,
+    call: Read,
+    keys: &[Q],
+) -> Result<u64, AllocError> {
+    match call {
+        Read::Get => Ok(found(map, keys)),
+        Read::Walk => walked(map),
+        Read::Values => summed(map),
+        Read::Under => under(map, keys),
+        Read::Longest => Ok(longest(map, keys)),
+    }
+}
+
+// Times a call for each key, or a walk over all entries.
+fn time_read<Q: BorrowedBytes>(
+    rt: &(impl Clock + Print),
+    times: bool,
+    name: &str,
+    map: &GenericPatriciaMap<Q::Owned, u64>,
+    call: Read,
+    keys: &[Q],
+) -> io::Result<()> {
+    let is_walk = call == Read::Walk || call == Read::Values;
+    let calls = if is_walk { map.len() } else { keys.len() };
+    let start = Instant::now(rt)?;
+    let answer = ask(map, call, keys)?;
+    report(rt, times, name, start, calls, answer)
+}
+
+// The calls that change a map.
+#[derive(Clone, Copy, PartialEq)]
+enum Write {
+    Put,
+    Take,
+    Raise,
+}
+
+fn change<Q: BorrowedBytes>(
+    map: &mut GenericPatriciaMap<Q::Owned, u64>,
+    call: Write,
+    keys: &[Q],
+) -> Result<u64, AllocError> {
+    match call {
+        Write::Put => put(map, keys),
+        Write::Take => taken(map, keys),
+        Write::Raise => raised(map),
+    }
+}
+
+// Times a call for each key, or a cursor over all values, and answers what it counted.
+fn time_write<Q: BorrowedBytes>(
     rt: &(impl Clock + Print),
     times: bool,
     name: &str,
     map: &mut GenericPatriciaMap<Q::Owned, u64>,
+    call: Write,
     keys: &[Q],
 ) -> io::Result<u64> {
+    let is_walk = call == Write::Raise;
+    let calls = if is_walk { map.len() } else { keys.len() };
     let start = Instant::now(rt)?;
-    let new = put(map, keys)?;
-    report(rt, times, name, start, keys.len(), new)?;
-    Ok(new)
-}
-
-fn time_gets<Q: BorrowedBytes>(
-    rt: &(impl Clock + Print),
-    times: bool,
-    name: &str,
-    map: &GenericPatriciaMap<Q::Owned, u64>,
-    keys: &[Q],
-) -> io::Result<()> {
-    let start = Instant::now(rt)?;
-    let found = found(map, keys);
-    report(rt, times, name, start, keys.len(), found)
-}
-
-fn time_walks<K: Bytes>(
-    rt: &(impl Clock + Print),
-    times: bool,
-    map: &GenericPatriciaMap<K, u64>,
-) -> io::Result<()> {
-    let start = Instant::now(rt)?;
-    let bytes = walked(map)?;
-    report(rt, times, "walk", start, map.len(), bytes)?;
-    let start = Instant::now(rt)?;
-    let sum = summed(map)?;
-    report(rt, times, "values", start, map.len(), sum)
-}
-
-fn time_raise<K: Bytes>(
-    rt: &(impl Clock + Print),
-    times: bool,
-    map: &mut GenericPatriciaMap<K, u64>,
-) -> io::Result<()> {
-    let len = map.len();
-    let start = Instant::now(rt)?;
-    let raised = raised(map)?;
-    report(rt, times, "values_mut", start, len, raised)
-}
-
-fn time_prefixes<Q: BorrowedBytes>(
-    rt: &(impl Clock + Print),
-    times: bool,
-    map: &GenericPatriciaMap<Q::Owned, u64>,
-    keys: &[Q],
-    halves: &[Q],
-) -> io::Result<()> {
-    let start = Instant::now(rt)?;
-    let entries = under(map, halves)?;
-    report(rt, times, "under", start, halves.len(), entries)?;
-    let start = Instant::now(rt)?;
-    let bytes = longest(map, keys);
-    report(rt, times, "longest", start, keys.len(), bytes)
+    let answer = change(map, call, keys)?;
+    report(rt, times, name, start, calls, answer)?;
+    Ok(answer)
 }
 
 // Copies the map.
@@ -239,17 +252,6 @@ fn time_copies<Q: BorrowedBytes>(
     time_split(rt, times, &mut copy, prefix)
 }
 
-fn time_removes<Q: BorrowedBytes>(
-    rt: &(impl Clock + Print),
-    times: bool,
-    map: &mut GenericPatriciaMap<Q::Owned, u64>,
-    keys: &[Q],
-) -> io::Result<()> {
-    let start = Instant::now(rt)?;
-    let taken = taken(map, keys)?;
-    report(rt, times, "remove", start, keys.len(), taken)
-}
-
 // Looks all keys up, and calls each walk.
 fn time_reads<Q: BorrowedBytes>(
     rt: &(impl Clock + Print),
@@ -259,11 +261,13 @@ fn time_reads<Q: BorrowedBytes>(
     absent: &[Q],
     halves: &[Q],
 ) -> io::Result<()> {
-    time_gets(rt, times, "get", map, present)?;
-    time_gets(rt, times, "get_absent", map, absent)?;
-    time_walks(rt, times, map)?;
     let some = &absent[..halves.len().min(absent.len())];
-    time_prefixes(rt, times, map, some, halves)
+    time_read(rt, times, "get", map, Read::Get, present)?;
+    time_read(rt, times, "get_absent", map, Read::Get, absent)?;
+    time_read(rt, times, "walk", map, Read::Walk, present)?;
+    time_read(rt, times, "values", map, Read::Values, present)?;
+    time_read(rt, times, "under", map, Read::Under, halves)?;
+    time_read(rt, times, "longest", map, Read::Longest, some)
 }
 
 // Fills the map, and answers the memory of a key and the most of it.
@@ -274,7 +278,7 @@ fn fill<Q: BorrowedBytes>(
     keys: &[Q],
 ) -> io::Result<(u64, u64)> {
     let before = memory(rt, "VmRSS:");
-    let count = time_puts(rt, times, "insert", map, keys)?.max(1);
+    let count = time_write(rt, times, "insert", map, Write::Put, keys)?.max(1);
     let after = memory(rt, "VmRSS:");
     let peak = memory(rt, "VmHWM:");
     Ok((
@@ -296,9 +300,9 @@ fn measure<Q: BorrowedBytes>(
     let memory = fill(rt, times, &mut map, present)?;
     shuffle(present, 3);
     time_reads(rt, times, &map, present, absent, halves)?;
-    time_raise(rt, times, &mut map)?;
+    time_write(rt, times, "values_mut", &mut map, Write::Raise, present)?;
     time_copies(rt, times, &map, prefix)?;
-    time_removes(rt, times, &mut map, present)?;
+    time_write(rt, times, "remove", &mut map, Write::Take, present)?;
     Ok(memory)
 }
 
@@ -310,7 +314,7 @@ fn put_sorted(
 ) -> io::Result<()> {
     keys.sort_unstable();
     let mut map = PatriciaMap::new(rt.alloc());
-    time_puts(rt, times, "insert_sorted", &mut map, keys)?;
+    time_write(rt, times, "insert_sorted", &mut map, Write::Put, keys)?;
     Ok(())
 }
 

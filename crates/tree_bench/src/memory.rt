@@ -10,7 +10,7 @@ fn kilobytes(text: &str, name: &str) -> Option<u64> {
 }
 
 /// The bytes that a line of /proc/self/status names, as `VmRSS:`, or 0 where it cannot be read.
-pub fn memory(rt: &(impl Alloc + Files), name: &str) -> u64 {
+pub(super) fn memory(rt: &(impl Alloc + Files), name: &str) -> u64 {
     match fs::read_to_string(rt, "/proc/self/status") {
         Ok(status) => kilobytes(status.as_str(), name)
             .unwrap_or(0)

@@ -2,7 +2,7 @@ use patricia_tree::{BorrowedBytes, GenericPatriciaMap};
 use std::alloc::{AllocError, Global};
 
 // The value of a key, which is its length.
-pub fn value_of<Q: BorrowedBytes>(key: Q) -> u64 {
+pub(super) fn value_of<Q: BorrowedBytes>(key: Q) -> u64 {
     key.as_bytes().len() as u64
 }
 
@@ -18,7 +18,7 @@ fn put<Q: BorrowedBytes>(
 }
 
 // A map of these keys. An insert that is refused is tried once more.
-pub fn map_of<Q: BorrowedBytes>(
+pub(super) fn map_of<Q: BorrowedBytes>(
     alloc: Global,
     keys: &[Q],
 ) -> Result<GenericPatriciaMap<Q::Owned, u64>, AllocError> {
@@ -32,7 +32,7 @@ pub fn map_of<Q: BorrowedBytes>(
 }
 
 // Whether a map has these keys, each with its value, and no other.
-pub fn has_just<Q: BorrowedBytes>(map: &GenericPatriciaMap<Q::Owned, u64>, keys: &[Q]) -> bool {
+pub(super) fn has_just<Q: BorrowedBytes>(map: &GenericPatriciaMap<Q::Owned, u64>, keys: &[Q]) -> bool {
     for key in keys {
         if map.get(*key).copied() != Some(value_of(*key)) {
             return false;

@@ -2,7 +2,6 @@
 use super::helpers::{add, has_more, map_of};
 use patricia_tree::{BorrowedBytes, Bytes, GenericPatriciaMap};
 use std::alloc::AllocError;
-use std::test::Fail;
 
 // Whether each cursor lends nothing before its first step.
 fn lends_nothing<Q: BorrowedBytes>(map: &mut GenericPatriciaMap<Q::Owned, u32>, prefix: Q) -> bool {
@@ -25,7 +24,7 @@ fn lends_one<Q: BorrowedBytes>(
 }
 
 #[test]
-fn before_a_step(rt: HostRuntime) -> Result<(), Fail> {
+fn before_a_step(rt: HostRuntime) -> Result<(), AllocError> {
     let rows = [("bar", 2), ("baz", 3)];
     let mut map = map_of(rt.alloc(), &rows)?;
     assert!(rt; lends_nothing(&mut map, "ba"));
@@ -34,7 +33,7 @@ fn before_a_step(rt: HostRuntime) -> Result<(), Fail> {
 }
 
 #[test]
-fn after_a_step(rt: HostRuntime) -> Result<(), Fail> {
+fn after_a_step(rt: HostRuntime) -> Result<(), AllocError> {
     let rows = [("bar", 2), ("baz", 3)];
     let mut map = map_of(rt.alloc(), &rows)?;
     assert!(rt; lends_one(&mut map, "bar", 2)?);

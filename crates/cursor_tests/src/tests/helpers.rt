@@ -14,7 +14,7 @@ fn put<Q: BorrowedBytes>(
 }
 
 // A map of these entries. An insert that is refused is tried once more.
-pub fn map_of<Q: BorrowedBytes>(
+pub(super) fn map_of<Q: BorrowedBytes>(
     alloc: Global,
     rows: &[(Q, u32)],
 ) -> Result<GenericPatriciaMap<Q::Owned, u32>, AllocError> {
@@ -31,14 +31,14 @@ pub fn map_of<Q: BorrowedBytes>(
 const MORE: u32 = 10;
 
 // Adds to a value, and answers whether it is the one that is due.
-pub fn add(place: &mut u32, due: u32) -> bool {
+pub(super) fn add(place: &mut u32, due: u32) -> bool {
     let is_due = *place == due;
     *place = place.saturating_add(MORE);
     is_due
 }
 
 // Whether a map has these keys and no other, with so much more at those that begin with a prefix.
-pub fn has_more<Q: BorrowedBytes>(
+pub(super) fn has_more<Q: BorrowedBytes>(
     map: &GenericPatriciaMap<Q::Owned, u32>,
     prefix: Q,
     rows: &[(Q, u32)],

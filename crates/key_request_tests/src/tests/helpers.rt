@@ -2,7 +2,7 @@ use patricia_tree::{BorrowedBytes, GenericPatriciaMap};
 use std::alloc::{AllocError, Global};
 
 // The map of some keys, each with its length in bytes.
-pub fn map_of<Q: BorrowedBytes>(
+pub(super) fn map_of<Q: BorrowedBytes>(
     alloc: Global,
     keys: &[Q],
 ) -> Result<GenericPatriciaMap<Q::Owned, u64>, AllocError> {

@@ -13,7 +13,7 @@ fn put<Q: BorrowedBytes>(
 }
 
 // A map of two keys, whose values are 1 and 2.
-pub fn two<Q: BorrowedBytes>(
+pub(super) fn two<Q: BorrowedBytes>(
     alloc: Global,
     first: Q,
     second: Q,
@@ -24,11 +24,13 @@ pub fn two<Q: BorrowedBytes>(
     Ok(map)
 }
 
-// The values of two keys.
-pub fn values_at<Q: BorrowedBytes>(
+// Whether a map has two keys with these values, and no other.
+pub(super) fn has_values<Q: BorrowedBytes>(
     map: &GenericPatriciaMap<Q::Owned, u64>,
-    first: Q,
-    second: Q,
-) -> (Option<u64>, Option<u64>) {
-    (map.get(first).copied(), map.get(second).copied())
+    first: (Q, u64),
+    second: (Q, u64),
+) -> bool {
+    map.get(first.0).copied() == Some(first.1)
+        && map.get(second.0).copied() == Some(second.1)
+        && map.len() == 2
 }

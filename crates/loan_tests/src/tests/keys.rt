@@ -1,36 +1,32 @@
-use super::helpers::{two, values_at};
+use super::helpers::{has_values, two};
 use crate::callers::replace;
-use patricia_tree::{BorrowedBytes, GenericPatriciaMap};
-use std::process::Abort;
-use std::test::Fail;
+use patricia_tree::BorrowedBytes;
+use std::alloc::{AllocError, Global};
 
-// Writes 3 at the second key of a map, 4 at the first, and nothing at one that is not there.
-fn check_writes<Q: BorrowedBytes>(
-    rt: &impl Abort,
-    map: &mut GenericPatriciaMap<Q::Owned, u64>,
+// Whether 3 can be written at the second key of a map of two, 4 at the first, and nothing at one
+// that is not there.
+fn writes<Q: BorrowedBytes>(
+    alloc: Global,
     first: Q,
     second: Q,
     absent: Q,
-) {
-    assert!(rt; replace(map, second, 3));
-    assert!(rt; replace(map, first, 4));
-    assert!(rt; !replace(map, absent, 5));
-    assert_eq!(rt; map.len(), 2);
+) -> Result<bool, AllocError> {
+    let mut map = two(alloc, first, second)?;
+    let is_second_set = replace(&mut map, second, 3);
+    let is_first_set = replace(&mut map, first, 4);
+    let is_absent_set = replace(&mut map, absent, 5);
+    Ok(is_second_set && is_first_set && !is_absent_set && has_values(&map, (first, 4), (second, 3)))
 }
 
 #[test]
-fn texts(rt: HostRuntime) -> Result<(), Fail> {
-    let mut map = two(rt.alloc(), "", "ほげ")?;
-    check_writes(&rt, &mut map, "", "ほげ", "ほ");
-    assert_eq!(rt; values_at(&map, "", "ほげ"), (Some(4), Some(3)));
+fn texts(rt: HostRuntime) -> Result<(), AllocError> {
+    assert!(rt; writes(rt.alloc(), "", "ほげ", "ほ")?);
     Ok(())
 }
 
 #[test]
-fn bytes(rt: HostRuntime) -> Result<(), Fail> {
+fn bytes(rt: HostRuntime) -> Result<(), AllocError> {
     let (foo, foobar, empty): (&[u8], &[u8], &[u8]) = (b"foo", b"foobar", b"");
-    let mut map = two(rt.alloc(), foo, foobar)?;
-    check_writes(&rt, &mut map, foo, foobar, empty);
-    assert_eq!(rt; values_at(&map, foo, foobar), (Some(4), Some(3)));
+    assert!(rt; writes(rt.alloc(), foo, foobar, empty)?);
     Ok(())
 }

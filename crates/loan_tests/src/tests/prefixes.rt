@@ -1,8 +1,7 @@
-use super::helpers::{two, values_at};
+use super::helpers::{has_values, two};
 use crate::callers::replace_longest;
 use patricia_tree::{BorrowedBytes, GenericPatriciaMap};
-use std::process::Abort;
-use std::test::Fail;
+use std::alloc::{AllocError, Global};
 
 // Writes through a loan of the value of the longest key that begins a key, and answers the old one.
 fn lend_longest<Q: BorrowedBytes>(
@@ -24,46 +23,60 @@ fn longest_len<Q: BorrowedBytes>(
     map.with_longest_common_prefix_mut(key, |part, _| part.as_bytes().len())
 }
 
-// Writes 3 at the key that begins the first key, 4 at that of the second, and nothing at the third.
-fn check_loan<Q: BorrowedBytes>(
-    rt: &impl Abort,
+// How a value is written at the longest key that begins a key: through a loan, or by a closure.
+fn written<Q: BorrowedBytes>(
     map: &mut GenericPatriciaMap<Q::Owned, u64>,
-    first: Q,
-    second: Q,
-    third: Q,
-) {
-    assert_eq!(rt; lend_longest(map, first, 3), Some(1));
-    assert_eq!(rt; lend_longest(map, second, 4), Some(2));
-    assert_eq!(rt; lend_longest(map, third, 5), None);
-    assert_eq!(rt; longest_len(map, first), Some(3));
+    by_loan: bool,
+    key: Q,
+    value: u64,
+) -> Option<u64> {
+    if by_loan {
+        lend_longest(map, key, value)
+    } else {
+        replace_longest(map, key, value)
+    }
 }
 
-// The same by a closure.
-fn check_closure<Q: BorrowedBytes>(
-    rt: &impl Abort,
+// Whether 3 can be written at the key that begins the first of some keys, 4 at that of the second,
+// and nothing at the third, in a map of two keys.
+fn writes<Q: BorrowedBytes>(
     map: &mut GenericPatriciaMap<Q::Owned, u64>,
+    by_loan: bool,
     first: Q,
     second: Q,
     third: Q,
-) {
-    assert_eq!(rt; replace_longest(map, first, 3), Some(1));
-    assert_eq!(rt; replace_longest(map, second, 4), Some(2));
-    assert_eq!(rt; replace_longest(map, third, 5), None);
-    assert_eq!(rt; longest_len(map, second), Some(6));
+) -> bool {
+    written(map, by_loan, first, 3) == Some(1)
+        && written(map, by_loan, second, 4) == Some(2)
+        && written(map, by_loan, third, 5).is_none()
+        && longest_len(map, first) == Some(3)
+        && longest_len(map, second) == Some(6)
+}
+
+// The same, and whether both values are there then.
+fn writes_both<Q: BorrowedBytes>(
+    alloc: Global,
+    by_loan: bool,
+    keys: (Q, Q),
+    others: (Q, Q, Q),
+) -> Result<bool, AllocError> {
+    let mut map = two(alloc, keys.0, keys.1)?;
+    Ok(
+        writes(&mut map, by_loan, others.0, others.1, others.2)
+            && has_values(&map, (keys.0, 3), (keys.1, 4)),
+    )
 }
 
 #[test]
-fn texts_by_loan(rt: HostRuntime) -> Result<(), Fail> {
-    let mut map = two(rt.alloc(), "foo", "foobar")?;
-    check_loan(&rt, &mut map, "fooba", "foobarbaz", "fo");
-    assert_eq!(rt; values_at(&map, "foo", "foobar"), (Some(3), Some(4)));
+fn texts_by_loan(rt: HostRuntime) -> Result<(), AllocError> {
+    let (keys, others) = (("foo", "foobar"), ("fooba", "foobarbaz", "fo"));
+    assert!(rt; writes_both(rt.alloc(), true, keys, others)?);
     Ok(())
 }
 
 #[test]
-fn texts_by_closure(rt: HostRuntime) -> Result<(), Fail> {
-    let mut map = two(rt.alloc(), "foo", "foobar")?;
-    check_closure(&rt, &mut map, "fooba", "foobarbaz", "fo");
-    assert_eq!(rt; values_at(&map, "foo", "foobar"), (Some(3), Some(4)));
+fn texts_by_closure(rt: HostRuntime) -> Result<(), AllocError> {
+    let (keys, others) = (("foo", "foobar"), ("fooba", "foobarbaz", "fo"));
+    assert!(rt; writes_both(rt.alloc(), false, keys, others)?);
     Ok(())
 }

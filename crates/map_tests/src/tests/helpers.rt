@@ -2,7 +2,7 @@ use patricia_tree::{BorrowedBytes, GenericPatriciaMap};
 use std::alloc::AllocError;
 
 // Puts a key in with its length in bytes as its value, and answers the old value.
-pub fn put<Q: BorrowedBytes>(
+pub(super) fn put<Q: BorrowedBytes>(
     map: &mut GenericPatriciaMap<Q::Owned, u64>,
     key: Q,
 ) -> Result<Option<u64>, AllocError> {

@@ -1,10 +1,9 @@
 // One call is refused: it must leave the map as it was, and it is made again. `.ci/run` runs these
 // tests with the Nth memory request refused, for each N.
 use super::helpers::put;
-use patricia_tree::{BorrowedBytes, GenericPatriciaMap, PatriciaMap, StringPatriciaMap};
-use std::alloc::AllocError;
+use patricia_tree::{BorrowedBytes, GenericPatriciaMap};
+use std::alloc::{AllocError, Global};
 use std::process::Abort;
-use std::test::Fail;
 
 // Whether the map has these keys, each with its length as its value.
 fn has_all<Q: BorrowedBytes>(map: &GenericPatriciaMap<Q::Owned, u64>, keys: &[Q]) -> bool {
@@ -14,6 +13,16 @@ fn has_all<Q: BorrowedBytes>(map: &GenericPatriciaMap<Q::Owned, u64>, keys: &[Q]
         }
     }
     true
+}
+
+// Whether the map has so many keys, among them these and not this one.
+fn is_as_before<Q: BorrowedBytes>(
+    map: &GenericPatriciaMap<Q::Owned, u64>,
+    before: &[Q],
+    key: Q,
+    len: usize,
+) -> bool {
+    map.len() == len && map.get(key).is_none() && has_all(map, before)
 }
 
 // Puts a new key in with its length as its value, and answers how many refusals there were. A
@@ -29,10 +38,8 @@ fn put_again<Q: BorrowedBytes>(
     let Err(refused) = map.insert(key, value) else {
         return Ok(0);
     };
-    assert_eq!(rt; refused.value, value);
-    assert_eq!(rt; map.len(), len);
-    assert_eq!(rt; map.get(key).copied(), None);
-    assert!(rt; has_all(map, before));
+    assert!(rt; refused.value == value);
+    assert!(rt; is_as_before(map, before, key, len));
     put(map, key)?;
     Ok(1)
 }
@@ -73,14 +80,24 @@ const SHORT: [&[u8]; 40] = [
     b"w", b"x", b"y", b"ha", b"hb", b"ia", b"ib", b"ja", b"jb", b"ka", b"kb",
 ];
 
-#[test]
-fn inserts_refused_in_turn(rt: HostRuntime) -> Result<(), Fail> {
-    let mut map = PatriciaMap::new(rt.alloc());
-    put_all(&rt, &mut map, &LONG)?;
-    put_all(&rt, &mut map, &SHORT)?;
-    assert!(rt; has_all(&map, &LONG));
-    assert_eq!(rt; map.len(), 48);
+// Puts all of these keys into a map, and then the others.
+fn check_inserts<Q: BorrowedBytes>(
+    rt: &impl Abort,
+    alloc: Global,
+    long: &[Q],
+    short: &[Q],
+) -> Result<(), AllocError> {
+    let mut map = GenericPatriciaMap::new(alloc);
+    put_all(rt, &mut map, long)?;
+    put_all(rt, &mut map, short)?;
+    assert!(rt; has_all(&map, long));
+    assert!(rt; map.len() == long.len().saturating_add(short.len()));
     Ok(())
+}
+
+#[test]
+fn inserts_refused_in_turn(rt: HostRuntime) -> Result<(), AllocError> {
+    check_inserts(&rt, rt.alloc(), &LONG, &SHORT)
 }
 
 // Takes a key out, and answers how many refusals there were. A refusal leaves all that is there.
@@ -92,12 +109,11 @@ fn remove_again<Q: BorrowedBytes>(
 ) -> Result<usize, AllocError> {
     let value = Some(key.as_bytes().len() as u64);
     if let Ok(taken) = map.remove(key) {
-        assert_eq!(rt; taken, value);
+        assert!(rt; taken == value);
         return Ok(0);
     }
-    assert_eq!(rt; map.len(), there.len());
-    assert!(rt; has_all(map, there));
-    assert_eq!(rt; map.remove(key)?, value);
+    assert!(rt; map.len() == there.len() && has_all(map, there));
+    assert!(rt; map.remove(key)? == value);
     Ok(1)
 }
 
@@ -144,13 +160,22 @@ const REMOVALS: [&str; 12] = [
     "あいうえおかきくけこさうううううううううううい",
 ];
 
-// A refused insert ends this test, since it is another's matter.
-#[test]
-fn removals_refused_in_turn(rt: HostRuntime) -> Result<(), Fail> {
-    let mut map = StringPatriciaMap::new(rt.alloc());
-    if is_put(&mut map, &REMOVALS) {
-        remove_all(&rt, &mut map, &REMOVALS)?;
+// Puts keys into a map, and takes them out. A refused insert ends this, since it is another's
+// matter.
+fn check_removals<Q: BorrowedBytes>(
+    rt: &impl Abort,
+    alloc: Global,
+    keys: &[Q],
+) -> Result<(), AllocError> {
+    let mut map = GenericPatriciaMap::new(alloc);
+    if is_put(&mut map, keys) {
+        remove_all(rt, &mut map, keys)?;
         assert!(rt; map.is_empty());
     }
     Ok(())
+}
+
+#[test]
+fn removals_refused_in_turn(rt: HostRuntime) -> Result<(), AllocError> {
+    check_removals(&rt, rt.alloc(), &REMOVALS)
 }

@@ -8,52 +8,60 @@ use std::marker::Brand;
 use std::process::Abort;
 use std::sync::ledger::{Blank, Ledger};
 
-// Each call on each key, which is stored or is not.
-fn look_up_all<Q: BorrowedBytes, L: Ledger>(
-    rt: &impl Abort,
+// Whether each call on each key finds it or not.
+fn are_found<Q: BorrowedBytes, L: Ledger>(
     map: &GenericPatriciaMap<Q::Owned, u64>,
     keys: &[Q],
     is_stored: bool,
     blank: Blank,
-)
+) -> bool
     requires name { blank.name ≡ L.name }
     requires parts { blank.parts ≡ L.parts }
     requires some { 0 < L.parts }
 {
     let mut steps: Steps<L> = Steps::new(blank);
     for key in keys {
-        assert!(rt; map.contains_key(*key) == is_stored);
-        assert!(rt; map.get(*key).is_some() == is_stored);
-        assert!(rt; map.get_counted(*key, &mut steps).is_some() == is_stored);
+        if map.contains_key(*key) != is_stored
+            || map.get(*key).is_some() != is_stored
+            || map.get_counted(*key, &mut steps).is_some() != is_stored
+        {
+            return false;
+        }
     }
+    true
 }
 
-fn insert_all<Q: BorrowedBytes>(
-    rt: &impl Abort,
+// Puts each key in, and answers whether each was there or was not.
+fn are_put<Q: BorrowedBytes>(
     map: &mut GenericPatriciaMap<Q::Owned, u64>,
     keys: &[Q],
     is_stored: bool,
-) -> Result<(), AllocError> {
+) -> bool {
     for key in keys {
-        let len = key.as_bytes().len() as u64;
-        let Ok(old) = map.insert(*key, len) else {
-            return Err(AllocError);
-        };
-        assert!(rt; old.is_some() == is_stored);
+        match map.insert(*key, key.as_bytes().len() as u64) {
+            Ok(old) => {
+                if old.is_some() != is_stored {
+                    return false;
+                }
+            }
+            Err(_) => return false,
+        }
     }
-    Ok(())
+    true
 }
 
-fn remove_all<Q: BorrowedBytes>(
-    rt: &impl Abort,
+// Takes each key out, and answers whether each was there or was not.
+fn are_removed<Q: BorrowedBytes>(
     map: &mut GenericPatriciaMap<Q::Owned, u64>,
     keys: &[Q],
     is_stored: bool,
-) -> Result<(), AllocError> {
+) -> Result<bool, AllocError> {
     for key in keys {
-        assert!(rt; map.remove(*key)?.is_some() == is_stored);
+        if map.remove(*key)?.is_some() != is_stored {
+            return Ok(false);
+        }
     }
-    Ok(())
+    Ok(true)
 }
 
 fn has_entry<K: Bytes>(map: &GenericPatriciaMap<K, u64>) -> bool {
@@ -72,27 +80,27 @@ fn has_owned<K: Bytes>(map: GenericPatriciaMap<K, u64>) -> bool {
     map.into_iter().next().is_some()
 }
 
-// Asks the walks over an empty map for an entry.
-fn walk_empty<K: Bytes>(rt: &impl Abort, mut empty: GenericPatriciaMap<K, u64>) {
-    assert!(rt; !has_entry(&empty));
-    assert!(rt; !has_key(&empty));
-    assert!(rt; !has_value(&empty));
-    empty.clear();
-    assert!(rt; !has_owned(empty));
+// Whether no walk over a map gives an entry, nor one over what is left once it is cleared.
+fn is_empty_each_way<K: Bytes>(mut map: GenericPatriciaMap<K, u64>) -> bool {
+    if has_entry(&map) || has_key(&map) || has_value(&map) {
+        return false;
+    }
+    map.clear();
+    !has_owned(map)
 }
 
-// Makes walks, and asks those of an empty map for an entry.
-fn make_walks<K: Bytes>(rt: &impl Abort, alloc: Global, map: GenericPatriciaMap<K, u64>) {
+// Makes walks.
+fn make_walks<K: Bytes>(map: GenericPatriciaMap<K, u64>) {
     drop(map.iter());
     drop(map.keys());
     drop(map.values());
     drop(map.into_iter());
-    walk_empty(rt, GenericPatriciaMap::<K, u64>::new(alloc));
 }
 
-fn clear_whole<K: Bytes>(rt: &impl Abort, mut map: GenericPatriciaMap<K, u64>) {
+// Clears a map, and answers whether it is empty then.
+fn is_cleared<K: Bytes>(mut map: GenericPatriciaMap<K, u64>) -> bool {
     map.clear();
-    assert!(rt; map.is_empty());
+    map.is_empty()
 }
 
 // The keys of a test. No removal of `removed`, in its order, joins labels.
@@ -108,8 +116,14 @@ fn look_up_each<Q: BorrowedBytes>(
     map: &GenericPatriciaMap<Q::Owned, u64>,
     keys: &Keys<'_, Q>,
 ) {
-    look_up_all::<Q, Brand>(rt, map, keys.stored, true, Blank::new(1));
-    look_up_all::<Q, Brand>(rt, map, keys.absent, false, Blank::new(1));
+    assert!(rt; are_found::<Q, Brand>(map, keys.stored, true, Blank::new(1)));
+    assert!(rt; are_found::<Q, Brand>(map, keys.absent, false, Blank::new(1)));
+}
+
+// Whether a map that is not empty has as many keys as are left, and the empty one.
+fn has_left<Q: BorrowedBytes>(map: &GenericPatriciaMap<Q::Owned, u64>, keys: &Keys<'_, Q>) -> bool {
+    let left = keys.stored.len().saturating_sub(keys.removed.len());
+    map.len() == left.saturating_add(1) && !map.is_empty()
 }
 
 fn change_each<Q: BorrowedBytes>(
@@ -117,28 +131,32 @@ fn change_each<Q: BorrowedBytes>(
     map: &mut GenericPatriciaMap<Q::Owned, u64>,
     keys: &Keys<'_, Q>,
 ) -> Result<(), AllocError> {
-    insert_all(rt, map, keys.stored, true)?;
-    remove_all(rt, map, keys.absent, false)?;
-    remove_all(rt, map, keys.removed, true)?;
-    remove_all(rt, map, keys.removed, false)?;
-    insert_all(rt, map, keys.empty, false)?;
-    let left = keys.stored.len().saturating_sub(keys.removed.len());
-    assert_eq!(rt; map.len(), left.saturating_add(1));
-    assert!(rt; !map.is_empty());
+    assert!(rt; are_put(map, keys.stored, true));
+    assert!(rt; are_removed(map, keys.absent, false)?);
+    assert!(rt; are_removed(map, keys.removed, true)?);
+    assert!(rt; are_removed(map, keys.removed, false)?);
+    assert!(rt; are_put(map, keys.empty, false));
+    assert!(rt; has_left(map, keys));
     Ok(())
 }
 
-// Splits by prefixes under which there is nothing. Those that begin a key are left out.
-fn split_all<Q: BorrowedBytes>(
+// Whether a split by a prefix under which there is nothing is made. One that begins a key is left
+// out.
+fn is_split<Q: BorrowedBytes>(map: &mut GenericPatriciaMap<Q::Owned, u64>, prefix: Q) -> bool {
+    map.longest_common_prefix_len(prefix) >= prefix.as_bytes().len()
+        || map.split_by_prefix(prefix).is_ok()
+}
+
+fn are_split<Q: BorrowedBytes>(
     map: &mut GenericPatriciaMap<Q::Owned, u64>,
     prefixes: &[Q],
-) -> Result<(), AllocError> {
+) -> bool {
     for prefix in prefixes {
-        if map.longest_common_prefix_len(*prefix) < prefix.as_bytes().len() {
-            drop(map.split_by_prefix(*prefix)?);
+        if !is_split(map, *prefix) {
+            return false;
         }
     }
-    Ok(())
+    true
 }
 
 // Puts each key in by a call that takes pairs.
@@ -152,29 +170,33 @@ fn extend_all<Q: BorrowedBytes>(
     Ok(())
 }
 
-// Hands the map over by the empty prefix, and takes it back.
-fn hand_over<Q: BorrowedBytes>(
+// Hands the map over by the empty prefix, and takes it back. It answers whether nothing was left.
+fn is_handed_over<Q: BorrowedBytes>(
+    map: &mut GenericPatriciaMap<Q::Owned, u64>,
+    empty: Q,
+) -> Result<bool, AllocError> {
+    let taken = map.split_by_prefix(empty)?;
+    let left = map.clone()?.is_empty();
+    *map = taken;
+    Ok(left)
+}
+
+// Makes a map of the empty key alone by a call that takes pairs, and answers whether it is there.
+fn is_made_of_pairs<Q: BorrowedBytes>(alloc: Global, empty: Q) -> Result<bool, AllocError> {
+    let map = GenericPatriciaMap::from_iter(alloc, iter::once((empty, 1)))?;
+    Ok(map.get(empty).copied() == Some(1))
+}
+
+// The calls with the empty key.
+fn take_whole<Q: BorrowedBytes>(
     rt: &impl Abort,
+    alloc: Global,
     map: &mut GenericPatriciaMap<Q::Owned, u64>,
     empty: &[Q],
 ) -> Result<(), AllocError> {
-    for prefix in empty {
-        let taken = map.split_by_prefix(*prefix)?;
-        assert!(rt; map.clone()?.is_empty());
-        *map = taken;
-    }
-    Ok(())
-}
-
-// Makes a map of the empty key alone by a call that takes pairs.
-fn make_of_pairs<Q: BorrowedBytes>(
-    rt: &impl Abort,
-    alloc: Global,
-    empty: &[Q],
-) -> Result<(), AllocError> {
     for key in empty {
-        let map = GenericPatriciaMap::from_iter(alloc, iter::once((*key, 1)))?;
-        assert_eq!(rt; map.get(*key).copied(), Some(1));
+        assert!(rt; is_handed_over(map, *key)?);
+        assert!(rt; is_made_of_pairs(alloc, *key)?);
     }
     Ok(())
 }
@@ -186,11 +208,10 @@ fn take_each<Q: BorrowedBytes>(
     map: &mut GenericPatriciaMap<Q::Owned, u64>,
     keys: &Keys<'_, Q>,
 ) -> Result<(), AllocError> {
-    split_all(map, keys.absent)?;
+    assert!(rt; are_split(map, keys.absent));
     extend_all(map, keys.stored)?;
-    hand_over(rt, map, keys.empty)?;
-    make_of_pairs(rt, alloc, keys.empty)?;
-    assert_eq!(rt; map.len(), keys.stored.len());
+    take_whole(rt, alloc, map, keys.empty)?;
+    assert!(rt; map.len() == keys.stored.len());
     Ok(())
 }
 
@@ -201,11 +222,12 @@ fn call_all<Q: BorrowedBytes>(
     keys: &Keys<'_, Q>,
 ) -> Result<(), AllocError> {
     let mut map = map_of(alloc, keys.stored)?;
-    clear_whole(rt, map_of(alloc, keys.stored)?);
+    assert!(rt; is_cleared(map_of(alloc, keys.stored)?));
     look_up_each(rt, &map, keys);
     take_each(rt, alloc, &mut map, keys)?;
     change_each(rt, &mut map, keys)?;
-    make_walks(rt, alloc, map);
+    make_walks(map);
+    assert!(rt; is_empty_each_way(GenericPatriciaMap::<Q::Owned, u64>::new(alloc)));
     Ok(())
 }
 

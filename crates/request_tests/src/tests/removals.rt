@@ -1,7 +1,7 @@
 // Of three removals the third alone joins labels. The joined label has more than 30 bytes, so it
 // asks for memory, once.
 use super::helpers::map_of;
-use patricia_tree::BorrowedBytes;
+use patricia_tree::{BorrowedBytes, GenericPatriciaMap};
 use std::alloc::{AllocError, Global};
 use std::process::Abort;
 
@@ -16,7 +16,20 @@ const UPPER: &str = "12345678901234567890ABCDEFGHIJKLMNOPQRST";
 // Four keys, of which one begins the others. Each label has 20 bytes.
 const KEYS: [&str; 4] = [STEM, DIGITS, LOWER, UPPER];
 
-// Makes a map of keys, and takes some out, each with its length in bytes.
+// Takes keys out, and answers whether each had its length in bytes.
+fn are_removed<Q: BorrowedBytes>(
+    map: &mut GenericPatriciaMap<Q::Owned, u64>,
+    keys: &[Q],
+) -> Result<bool, AllocError> {
+    for key in keys {
+        if map.remove(*key)? != Some(key.as_bytes().len() as u64) {
+            return Ok(false);
+        }
+    }
+    Ok(true)
+}
+
+// Makes a map of keys, and takes some out.
 fn remove_some<Q: BorrowedBytes>(
     rt: &impl Abort,
     alloc: Global,
@@ -24,11 +37,8 @@ fn remove_some<Q: BorrowedBytes>(
     removed: &[Q],
 ) -> Result<(), AllocError> {
     let mut map = map_of(alloc, keys)?;
-    assert_eq!(rt; map.len(), keys.len());
-    for key in removed {
-        let len = key.as_bytes().len() as u64;
-        assert_eq!(rt; map.remove(*key)?, Some(len));
-    }
+    assert!(rt; map.len() == keys.len());
+    assert!(rt; are_removed(&mut map, removed)?);
     Ok(())
 }
 

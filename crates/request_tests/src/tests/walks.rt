@@ -2,54 +2,58 @@
 use super::helpers::map_of;
 use patricia_tree::{BorrowedBytes, Bytes, GenericPatriciaMap};
 use std::alloc::{AllocError, Global};
-use std::process::Abort;
 
-fn walk_entries<K: Bytes>(rt: &impl Abort, map: &GenericPatriciaMap<K, u64>, past: bool) {
+// Whether a walk gives as many entries as there are, and past the end none where that is asked.
+fn gives_entries<K: Bytes>(map: &GenericPatriciaMap<K, u64>, past: bool) -> bool {
     let mut walk = map.iter();
     for _ in 0..map.len() {
-        assert!(rt; walk.next().is_some());
+        if walk.next().is_none() {
+            return false;
+        }
     }
-    assert!(rt; !past || walk.next().is_none());
+    !past || walk.next().is_none()
 }
 
-fn walk_keys<K: Bytes>(rt: &impl Abort, map: &GenericPatriciaMap<K, u64>, past: bool) {
+fn gives_keys<K: Bytes>(map: &GenericPatriciaMap<K, u64>, past: bool) -> bool {
     let mut walk = map.keys();
     for _ in 0..map.len() {
-        assert!(rt; walk.next().is_some());
+        if walk.next().is_none() {
+            return false;
+        }
     }
-    assert!(rt; !past || walk.next().is_none());
+    !past || walk.next().is_none()
 }
 
-fn walk_values<K: Bytes>(rt: &impl Abort, map: &GenericPatriciaMap<K, u64>, past: bool) {
+fn gives_values<K: Bytes>(map: &GenericPatriciaMap<K, u64>, past: bool) -> bool {
     let mut walk = map.values();
     for _ in 0..map.len() {
-        assert!(rt; walk.next().is_some());
+        if walk.next().is_none() {
+            return false;
+        }
     }
-    assert!(rt; !past || walk.next().is_none());
+    !past || walk.next().is_none()
 }
 
-fn walk_out<K: Bytes>(rt: &impl Abort, map: GenericPatriciaMap<K, u64>, past: bool) {
+fn gives_owned<K: Bytes>(map: GenericPatriciaMap<K, u64>, past: bool) -> bool {
     let len = map.len();
     let mut walk = map.into_iter();
     for _ in 0..len {
-        assert!(rt; walk.next().is_some());
+        if walk.next().is_none() {
+            return false;
+        }
     }
-    assert!(rt; !past || walk.next().is_none());
+    !past || walk.next().is_none()
 }
 
-// Walks over a map of some keys in each way, and past the end where that is asked.
-fn walk_all<Q: BorrowedBytes>(
-    rt: &impl Abort,
-    alloc: Global,
-    keys: &[Q],
-    past: bool,
-) -> Result<(), AllocError> {
+// Whether each walk over a map of some keys does.
+fn gives_each<Q: BorrowedBytes>(alloc: Global, keys: &[Q], past: bool) -> Result<bool, AllocError> {
     let map = map_of(alloc, keys)?;
-    walk_entries(rt, &map, past);
-    walk_keys(rt, &map, past);
-    walk_values(rt, &map, past);
-    walk_out(rt, map, past);
-    Ok(())
+    Ok(
+        gives_entries(&map, past)
+            && gives_keys(&map, past)
+            && gives_values(&map, past)
+            && gives_owned(map, past),
+    )
 }
 
 const BYTES: [&[u8]; 4] = [
@@ -63,20 +67,24 @@ const TEXTS: [&str; 4] = ["", "あ", "あいうえおかきくけこさしす", 
 
 #[test]
 fn bytes_made(rt: HostRuntime) -> Result<(), AllocError> {
-    walk_all(&rt, rt.alloc(), &BYTES, false)
+    assert!(rt; gives_each(rt.alloc(), &BYTES, false)?);
+    Ok(())
 }
 
 #[test]
 fn bytes_called(rt: HostRuntime) -> Result<(), AllocError> {
-    walk_all(&rt, rt.alloc(), &BYTES, true)
+    assert!(rt; gives_each(rt.alloc(), &BYTES, true)?);
+    Ok(())
 }
 
 #[test]
 fn texts_made(rt: HostRuntime) -> Result<(), AllocError> {
-    walk_all(&rt, rt.alloc(), &TEXTS, false)
+    assert!(rt; gives_each(rt.alloc(), &TEXTS, false)?);
+    Ok(())
 }
 
 #[test]
 fn texts_called(rt: HostRuntime) -> Result<(), AllocError> {
-    walk_all(&rt, rt.alloc(), &TEXTS, true)
+    assert!(rt; gives_each(rt.alloc(), &TEXTS, true)?);
+    Ok(())
 }

@@ -64,7 +64,7 @@ impl<'a> Write for Takes<'a> {
 }
 
 /// The words of a program.
-pub fn list_of(alloc: Global, words: &[&str]) -> Result<Vec<String>, AllocError> {
+pub(super) fn list_of(alloc: Global, words: &[&str]) -> Result<Vec<String>, AllocError> {
     let mut list = Vec::new(alloc);
     for word in words {
         list.push(String::from_str(alloc, word)?)?;
@@ -73,7 +73,7 @@ pub fn list_of(alloc: Global, words: &[&str]) -> Result<Vec<String>, AllocError>
 }
 
 /// Adds a text some times over.
-pub fn add_times(out: &mut Vec<u8>, text: &[u8], times: u32) -> Result<(), AllocError> {
+pub(super) fn add_times(out: &mut Vec<u8>, text: &[u8], times: u32) -> Result<(), AllocError> {
     for _ in 0..times {
         out.extend_from_slice(text)?;
     }
@@ -81,7 +81,7 @@ pub fn add_times(out: &mut Vec<u8>, text: &[u8], times: u32) -> Result<(), Alloc
 }
 
 /// Adds texts in turn.
-pub fn add_all(out: &mut Vec<u8>, texts: &[&[u8]]) -> Result<(), AllocError> {
+pub(super) fn add_all(out: &mut Vec<u8>, texts: &[&[u8]]) -> Result<(), AllocError> {
     for text in texts {
         out.extend_from_slice(text)?;
     }
@@ -89,7 +89,7 @@ pub fn add_all(out: &mut Vec<u8>, texts: &[&[u8]]) -> Result<(), AllocError> {
 }
 
 /// Adds each number from one to before another, between two texts.
-pub fn add_numbers(
+pub(super) fn add_numbers(
     alloc: Global,
     out: &mut Vec<u8>,
     before: &str,

@@ -1,12 +1,9 @@
 // Walks that are dropped half-way, calls of `next` after the end, and keys that outlive the map.
 use super::helpers::map_of;
-use patricia_tree::{BorrowedBytes, Bytes, GenericPatriciaMap, PatriciaMap};
+use patricia_tree::{BorrowedBytes, Bytes, GenericPatriciaMap};
 use std::alloc::{AllocError, Global};
-use std::test::Fail;
 
-fn two(alloc: Global) -> Result<PatriciaMap<u32>, AllocError> {
-    map_of(alloc, &[(b"bar".as_slice(), 2), (b"baz".as_slice(), 3)])
-}
+const TWO: [(&[u8], u32); 2] = [(b"bar", 2), (b"baz", 3)];
 
 // Whether each walk gives an item. Then it is dropped, with the second of two items still to come.
 fn begins_each<K: Bytes>(map: GenericPatriciaMap<K, u32>) -> bool {
@@ -16,9 +13,13 @@ fn begins_each<K: Bytes>(map: GenericPatriciaMap<K, u32>) -> bool {
         && map.into_iter().next().is_some()
 }
 
+fn each_begins<Q: BorrowedBytes>(alloc: Global, rows: &[(Q, u32)]) -> Result<bool, AllocError> {
+    Ok(begins_each(map_of(alloc, rows)?))
+}
+
 #[test]
-fn drops_walks(rt: HostRuntime) -> Result<(), Fail> {
-    assert!(rt; begins_each(two(rt.alloc())?));
+fn drops_walks(rt: HostRuntime) -> Result<(), AllocError> {
+    assert!(rt; each_begins(rt.alloc(), &TWO)?);
     Ok(())
 }
 
@@ -28,9 +29,13 @@ fn gives_two<K: Bytes>(map: GenericPatriciaMap<K, u32>) -> bool {
     walk.next().is_some() && walk.next().is_some() && walk.next().is_none() && walk.next().is_none()
 }
 
+fn two_are_given<Q: BorrowedBytes>(alloc: Global, rows: &[(Q, u32)]) -> Result<bool, AllocError> {
+    Ok(gives_two(map_of(alloc, rows)?))
+}
+
 #[test]
-fn ends_for_good(rt: HostRuntime) -> Result<(), Fail> {
-    assert!(rt; gives_two(two(rt.alloc())?));
+fn ends_for_good(rt: HostRuntime) -> Result<(), AllocError> {
+    assert!(rt; two_are_given(rt.alloc(), &TWO)?);
     Ok(())
 }
 
@@ -55,14 +60,26 @@ fn gives_one_under<Q: BorrowedBytes>(map: &GenericPatriciaMap<Q::Owned, u32>, pr
     walk.next().is_some() && walk.next().is_none() && walk.next().is_none()
 }
 
+// Whether each walk along a key, and one under a prefix, gives one item.
+fn gives_one_each<Q: BorrowedBytes>(
+    alloc: Global,
+    rows: &[(Q, u32)],
+    key: Q,
+    prefix: Q,
+) -> Result<bool, AllocError> {
+    let map = map_of(alloc, rows)?;
+    let owned = Q::Owned::from_bytes(alloc, key.as_bytes())?;
+    Ok(
+        gives_one_entry(&map, key)
+            && gives_one_value(&map, key)
+            && gives_one_owned(&map, owned)
+            && gives_one_under(&map, prefix),
+    )
+}
+
 #[test]
-fn ends_at_prefixes_for_good(rt: HostRuntime) -> Result<(), Fail> {
-    let map = two(rt.alloc())?;
-    let owned = String::from_str(rt.alloc(), "barn")?.into_bytes();
-    assert!(rt; gives_one_entry(&map, b"barn".as_slice()));
-    assert!(rt; gives_one_value(&map, b"barn".as_slice()));
-    assert!(rt; gives_one_owned(&map, owned));
-    assert!(rt; gives_one_under(&map, b"bar".as_slice()));
+fn ends_at_prefixes_for_good(rt: HostRuntime) -> Result<(), AllocError> {
+    assert!(rt; gives_one_each(rt.alloc(), &TWO, b"barn", b"bar")?);
     Ok(())
 }
 
@@ -81,13 +98,32 @@ fn ends_of<Q: BorrowedBytes>(
     }
 }
 
-#[test]
-fn keeps_prefixes_of_a_dropped_map(rt: HostRuntime) -> Result<(), Fail> {
-    let rows = [(b"foo".as_slice(), 1), (b"foobar".as_slice(), 2)];
-    let map = map_of(rt.alloc(), &rows)?;
-    let (longest, shortest) = ends_of(&map, b"foobarbaz".as_slice());
+fn is_same<Q: BorrowedBytes>(found: Option<Q>, wanted: Q) -> bool {
+    match found {
+        Some(found) => found.as_bytes() == wanted.as_bytes(),
+        None => false,
+    }
+}
+
+// Whether a map of two entries hands out their keys for a longer one, and they outlive it.
+fn keeps_prefixes<Q: BorrowedBytes>(
+    alloc: Global,
+    rows: &[(Q, u32)],
+    key: Q,
+) -> Result<bool, AllocError> {
+    let map = map_of(alloc, rows)?;
+    let (longest, shortest) = ends_of(&map, key);
     drop(map);
-    assert_eq!(rt; longest, Some(b"foobar".as_slice()));
-    assert_eq!(rt; shortest, Some(b"foo".as_slice()));
+    match rows {
+        [(first, _), (second, _)] => Ok(is_same(longest, *second) && is_same(shortest, *first)),
+        _ => Ok(false),
+    }
+}
+
+const NESTED: [(&[u8], u32); 2] = [(b"foo", 1), (b"foobar", 2)];
+
+#[test]
+fn keeps_prefixes_of_a_dropped_map(rt: HostRuntime) -> Result<(), AllocError> {
+    assert!(rt; keeps_prefixes(rt.alloc(), &NESTED, b"foobarbaz")?);
     Ok(())
 }

@@ -4,7 +4,7 @@ use std::alloc::{AllocError, Global};
 // What loops over maps is written for any kind of keys, which is much shorter to prove than for one.
 
 // Puts a value in.
-pub fn put<Q: BorrowedBytes>(
+pub(super) fn put<Q: BorrowedBytes>(
     map: &mut GenericPatriciaMap<Q::Owned, u32>,
     key: Q,
     value: u32,
@@ -16,7 +16,7 @@ pub fn put<Q: BorrowedBytes>(
 }
 
 // A map of these entries. An insert that is refused is tried once more.
-pub fn map_of<Q: BorrowedBytes>(
+pub(super) fn map_of<Q: BorrowedBytes>(
     alloc: Global,
     rows: &[(Q, u32)],
 ) -> Result<GenericPatriciaMap<Q::Owned, u32>, AllocError> {
@@ -89,7 +89,7 @@ fn judge_owned<K: Bytes>(
     }
 }
 
-pub fn walk_entries<Q: BorrowedBytes>(
+pub(super) fn walk_entries<Q: BorrowedBytes>(
     map: &GenericPatriciaMap<Q::Owned, u32>,
     rows: &[(Q, u32)],
 ) -> Walked {
@@ -104,7 +104,7 @@ pub fn walk_entries<Q: BorrowedBytes>(
 }
 
 // Compares a walk under a prefix with those of the entries whose keys begin with it.
-pub fn walk_under<Q: BorrowedBytes>(
+pub(super) fn walk_under<Q: BorrowedBytes>(
     map: &GenericPatriciaMap<Q::Owned, u32>,
     prefix: Q,
     rows: &[(Q, u32)],
@@ -122,7 +122,7 @@ pub fn walk_under<Q: BorrowedBytes>(
     ended(Walked::Whole, walk.next().is_none())
 }
 
-pub fn walk_keys<Q: BorrowedBytes>(
+pub(super) fn walk_keys<Q: BorrowedBytes>(
     map: &GenericPatriciaMap<Q::Owned, u32>,
     rows: &[(Q, u32)],
 ) -> Walked {
@@ -136,7 +136,7 @@ pub fn walk_keys<Q: BorrowedBytes>(
     ended(Walked::Whole, walk.next().is_none())
 }
 
-pub fn walk_values<Q: BorrowedBytes>(
+pub(super) fn walk_values<Q: BorrowedBytes>(
     map: &GenericPatriciaMap<Q::Owned, u32>,
     rows: &[(Q, u32)],
 ) -> Walked {
@@ -150,7 +150,7 @@ pub fn walk_values<Q: BorrowedBytes>(
     ended(Walked::Whole, walk.next().is_none())
 }
 
-pub fn walk_out<Q: BorrowedBytes>(
+pub(super) fn walk_out<Q: BorrowedBytes>(
     map: GenericPatriciaMap<Q::Owned, u32>,
     rows: &[(Q, u32)],
 ) -> Walked {

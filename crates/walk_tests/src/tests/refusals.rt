@@ -4,7 +4,6 @@ use super::helpers::{Walked, map_of, walk_entries, walk_keys, walk_out, walk_und
 use patricia_tree::{BorrowedBytes, GenericPatriciaMap};
 use std::alloc::{AllocError, Global};
 use std::process::Abort;
-use std::test::Fail;
 
 // Of two walks one may be refused.
 fn fit(first: Walked, second: Walked) -> bool {
@@ -69,6 +68,18 @@ const PREFIXES: [&[u8]; 9] = [
     b"zebras",
 ];
 
+// Whether of two walks of each sort that borrow a map one at most was refused.
+fn fit_each<Q: BorrowedBytes>(
+    map: &GenericPatriciaMap<Q::Owned, u32>,
+    rows: &[(Q, u32)],
+    prefixes: &[Q],
+) -> bool {
+    fit(walk_entries(map, rows), walk_entries(map, rows))
+        && fit(walk_keys(map, rows), walk_keys(map, rows))
+        && fit(walk_values(map, rows), walk_values(map, rows))
+        && fit_under(map, prefixes, rows)
+}
+
 // Asserts of two walks of each sort that one may be refused.
 fn check_walks<Q: BorrowedBytes>(
     rt: &impl Abort,
@@ -77,17 +88,13 @@ fn check_walks<Q: BorrowedBytes>(
     prefixes: &[Q],
 ) -> Result<(), AllocError> {
     let tree = map_of(alloc, rows)?;
-    assert!(rt; fit(walk_entries(&tree, rows), walk_entries(&tree, rows)));
-    assert!(rt; fit(walk_keys(&tree, rows), walk_keys(&tree, rows)));
-    assert!(rt; fit(walk_values(&tree, rows), walk_values(&tree, rows)));
-    assert!(rt; fit_under(&tree, prefixes, rows));
+    assert!(rt; fit_each(&tree, rows, prefixes));
     let again = map_of(alloc, rows)?;
     assert!(rt; fit(walk_out(tree, rows), walk_out(again, rows)));
     Ok(())
 }
 
 #[test]
-fn walks_refused_in_turn(rt: HostRuntime) -> Result<(), Fail> {
-    check_walks(&rt, rt.alloc(), &ROWS, &PREFIXES)?;
-    Ok(())
+fn walks_refused_in_turn(rt: HostRuntime) -> Result<(), AllocError> {
+    check_walks(&rt, rt.alloc(), &ROWS, &PREFIXES)
 }
