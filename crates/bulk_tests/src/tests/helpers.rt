@@ -32,7 +32,10 @@ pub(super) fn map_of<Q: BorrowedBytes>(
 }
 
 // Whether a map has these keys, each with its value, and no other.
-pub(super) fn has_just<Q: BorrowedBytes>(map: &GenericPatriciaMap<Q::Owned, u64>, keys: &[Q]) -> bool {
+pub(super) fn has_just<Q: BorrowedBytes>(
+    map: &GenericPatriciaMap<Q::Owned, u64>,
+    keys: &[Q],
+) -> bool {
     for key in keys {
         if map.get(*key).copied() != Some(value_of(*key)) {
             return false;
