@@ -1,0 +1,4 @@
+mod helpers;
+mod refusals;
+mod refused;
+mod texts;
