@@ -6,35 +6,34 @@ use Rattle.std.specs.List.{last_or}
 use Rattle.std.specs.Option.{option_map}
 use Rattle.patricia_map.specs.Clones.{AreKept}
 use Rattle.patricia_map.specs.Prefixes.{along, begins, longest}
-use Rattle.patricia_map.specs.Rows.{keys_of}
 use Rattle.patricia_set.specs.Sets as set
-use Rattle.patricia_set.specs.Sets.{KeySet, insert_all, longest_key, IsStoppedAt}
+use Rattle.patricia_set.specs.Sets.{KeySet, insert_all, keys_of, longest_key, IsStoppedAt}
 
--- a filter by keys, over rows and over their keys
-pub filter_keys : {V : Type 0} (p : List ℕ → Bool) (rows : List (List ℕ × V)) → keys_of (filter (λ e. p e.0) rows) ≡ filter p (keys_of rows)
+-- a filter by keys, over entries and over their keys
+pub filter_keys : {V : Type 0} (p : List ℕ → Bool) (entries : List (List ℕ × V)) → keys_of (filter (λ e. p e.0) entries) ≡ filter p (keys_of entries)
 filter_keys p [] = refl
-filter_keys p (e ∷ rows) = elim (p e.0) as (λ b. keys_of (cond b (e ∷ filter (λ e. p e.0) rows) (filter (λ e. p e.0) rows)) ≡ cond b (e.0 ∷ filter p (keys_of rows)) (filter p (keys_of rows))) [
-  | true ↦ ap (λ es. e.0 ∷ es) (filter_keys p rows)
-  | false ↦ filter_keys p rows
+filter_keys p (e ∷ entries) = elim (p e.0) as (λ b. keys_of (cond b (e ∷ filter (λ e. p e.0) entries) (filter (λ e. p e.0) entries)) ≡ cond b (e.0 ∷ filter p (keys_of entries)) (filter p (keys_of entries))) [
+  | true ↦ ap (λ es. e.0 ∷ es) (filter_keys p entries)
+  | false ↦ filter_keys p entries
 ]
 
--- the key of the last row is the last key
-pub last_key : {V : Type 0} (o : Option (List ℕ × V)) (rows : List (List ℕ × V)) → option_map (λ e. e.0) (last_or o rows) ≡ last_or (option_map (λ e. e.0) o) (keys_of rows)
+-- the key of the last entry is the last key
+pub last_key : {V : Type 0} (o : Option (List ℕ × V)) (entries : List (List ℕ × V)) → option_map (λ e. e.0) (last_or o entries) ≡ last_or (option_map (λ e. e.0) o) (keys_of entries)
 last_key o [] = refl
-last_key o (e ∷ rows) = last_key (Some e) rows
+last_key o (e ∷ entries) = last_key (Some e) entries
 
--- the longest row along a key has the longest key
-pub longest_keys : {V : Type 0} (q : List ℕ) (rows : List (List ℕ × V)) → option_map (λ e. e.0) (longest q rows) ≡ longest_key q (keys_of rows)
-longest_keys q rows = last_key None (along q rows) ∙ ap (last_or None) (filter_keys (λ k. begins k q) rows)
+-- the longest entry along a key has the longest key
+pub longest_keys : {V : Type 0} (q : List ℕ) (entries : List (List ℕ × V)) → option_map (λ e. e.0) (longest q entries) ≡ longest_key q (keys_of entries)
+longest_keys q entries = last_key None (along q entries) ∙ ap (last_or None) (filter_keys (λ k. begins k q) entries)
 
--- rows without keys are no rows
-no_keys : {V : Type 0} (rows : List (List ℕ × V)) → keys_of rows ≡ [] → rows ≡ []
+-- entries without keys are no entries
+no_keys : {V : Type 0} (entries : List (List ℕ × V)) → keys_of entries ≡ [] → entries ≡ []
 no_keys [] none = refl
-no_keys (e ∷ rows) none = absurd (cc)
+no_keys (e ∷ entries) none = absurd (cc)
 
--- where rows pass a filter by keys, keys do
-pub some_keys : {V : Type 0} (p : List ℕ → Bool) (rows : List (List ℕ × V)) → filter (λ e. p e.0) rows ≢ [] → filter p (keys_of rows) ≢ []
-some_keys p rows some none = some (no_keys _ (filter_keys p rows ∙ none))
+-- where entries pass a filter by keys, keys do
+pub some_keys : {V : Type 0} (p : List ℕ → Bool) (entries : List (List ℕ × V)) → filter (λ e. p e.0) entries ≢ [] → filter p (keys_of entries) ≢ []
+some_keys p entries some none = some (no_keys _ (filter_keys p entries ∙ none))
 
 -- what holds, holds at an error
 pub at_error : {A E : Type 0} (P : Type 0) (r : Result A E) → P → OnErr r P

@@ -92,7 +92,7 @@ impl<T: Bytes> GenericPatriciaSet<T> {
         ensures part { IfSome result (λ part. Begins (Q.key part) (Q.key key)) }
     {
         match self.map.get_longest_common_prefix(key) {
-            Some(row) => Some(row.0),
+            Some(entry) => Some(entry.0),
             None => None,
         }
     }
@@ -183,7 +183,7 @@ impl<T: Bytes> GenericPatriciaSet<T> {
         ensures { result ≡ keys_under (Q.key prefix) (set.elements self.now) }
     {
         IterPrefix {
-            rows: self.map.iter_prefix(prefix),
+            entries: self.map.iter_prefix(prefix),
         }
     }
 }
@@ -197,7 +197,7 @@ impl<T: Bytes> IntoIterator for GenericPatriciaSet<T> {
 
     fn into_iter(self) -> IntoIter<T> {
         IntoIter {
-            rows: self.map.into_iter(),
+            entries: self.map.into_iter(),
         }
     }
 }

@@ -40,16 +40,16 @@ impl<'a, T: Bytes> FusedIterator for Iter<'a, T> {}
 /// The elements that begin with a prefix, copied. An error is want of memory, and ends the walk.
 #[derive(Drop)]
 pub struct IterPrefix<'a, Q: BorrowedBytes> {
-    pub(super) rows: map::IterPrefix<'a, Q, ()>,
+    pub(super) entries: map::IterPrefix<'a, Q, ()>,
 }
 
 impl<'a, Q: BorrowedBytes> Model for IterPrefix<'a, Q> {
     ghost use Rattle.std.specs.Prelude.{List, ℕ};
-    ghost use Rattle.patricia_map.specs.Rows.{keys_of};
+    ghost use Rattle.patricia_set.specs.Sets.{keys_of};
 
     ghost Value = { List (List ℕ) };
 
-    ghost view = { λ i. keys_of i.rows };
+    ghost view = { λ i. keys_of i.entries };
 }
 
 impl<'a, Q: BorrowedBytes> Iterator for IterPrefix<'a, Q> {
@@ -60,7 +60,7 @@ impl<'a, Q: BorrowedBytes> Iterator for IterPrefix<'a, Q> {
     ghost remaining = { λ elements. at_most (length elements) };
 
     fn next(&mut self) -> Option<Result<Q::Owned, AllocError>> {
-        match self.rows.next()? {
+        match self.entries.next()? {
             Ok((element, _)) => Some(Ok(element)),
             Err(refused) => Some(Err(refused)),
         }
@@ -73,16 +73,16 @@ impl<'a, Q: BorrowedBytes> FusedIterator for IterPrefix<'a, Q> {}
 /// elements that are left are dropped.
 #[derive(Drop)]
 pub struct IntoIter<T: Bytes> {
-    pub(super) rows: map::IntoIter<T, ()>,
+    pub(super) entries: map::IntoIter<T, ()>,
 }
 
 impl<T: Bytes> Model for IntoIter<T> {
     ghost use Rattle.std.specs.Prelude.{List, ℕ};
-    ghost use Rattle.patricia_map.specs.Rows.{keys_of};
+    ghost use Rattle.patricia_set.specs.Sets.{keys_of};
 
     ghost Value = { List (List ℕ) };
 
-    ghost view = { λ i. keys_of i.rows };
+    ghost view = { λ i. keys_of i.entries };
 }
 
 impl<T: Bytes> Iterator for IntoIter<T> {
@@ -93,7 +93,7 @@ impl<T: Bytes> Iterator for IntoIter<T> {
     ghost remaining = { λ elements. at_most (length elements) };
 
     fn next(&mut self) -> Option<Result<T, AllocError>> {
-        match self.rows.next()? {
+        match self.entries.next()? {
             Ok((taken, _)) => Some(Ok(taken)),
             Err(refused) => Some(Err(refused)),
         }

@@ -1,6 +1,6 @@
 use Rattle.std.proofs.Common.{ap, ◌∙◌, not}
 use Rattle.patricia_map.specs.Prefixes.{begins}
-use Rattle.patricia_map.specs.Rows.{keys_of}
+use Rattle.patricia_set.specs.Sets.{keys_of}
 use Rattle.patricia_set.proofs.SetLemmas.{at_error, filter_keys, some_keys}
 use Rattle.patricia_set.proofs.set.GenericPatriciaSet.split_by_prefix.Goals as goal
 

@@ -1,5 +1,5 @@
 use Rattle.std.proofs.Common.{ap}
-use Rattle.patricia_map.specs.Rows.{keys_of}
+use Rattle.patricia_set.specs.Sets.{keys_of}
 use Rattle.patricia_set.proofs.set.GenericPatriciaSetIntoIterator.into_iter.Goals as goal
 
 pub returns : goal.returns
