@@ -1,3 +1,0 @@
-mod BulkLemmas
-mod CursorLemmas
-mod LoanLemmas

@@ -1,5 +1,0 @@
-use Rattle.std.proofs.Common.{rules}
-use Rattle.patricia_map.proofs.map.GenericPatriciaMap.clone.Goals as goal
-
-pub returns-clause-same : goal.returns-clause-same
-returns-clause-same g c = search rules

@@ -1,5 +1,0 @@
-use Rattle.std.proofs.Common.{rules}
-use Rattle.patricia_map.proofs.map.GenericPatriciaMap.contains_key.Goals as goal
-
-pub returns : goal.returns
-returns g c = search rules

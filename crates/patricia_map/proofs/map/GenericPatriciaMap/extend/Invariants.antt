@@ -1,6 +1,0 @@
-use Rattle.std.proofs.Common.{◌≡◌}
-use Rattle.patricia_map.specs.Bulk.{insert_all, by_bytes}
-use Rattle.patricia_map.proofs.map.GenericPatriciaMap.extend.Given as goal
-
-abbrev pub invariant-loop-key : goal.invariant-loop-key
-invariant-loop-key g l = l.self ≡ insert_all l.initial.self (by_bytes g.Q.BorrowedBytes.key l.yielded)

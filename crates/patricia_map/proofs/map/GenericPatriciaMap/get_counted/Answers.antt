@@ -1,4 +1,0 @@
-use Rattle.patricia_map.proofs.map.GenericPatriciaMap.get_counted.Goals as goal
-
-pub returns : goal.returns
-returns g c = rw (← c.self.view_is) c.get_counted.ensures

@@ -1,4 +1,0 @@
-use Rattle.patricia_map.proofs.map.GenericPatriciaMap.insert.Goals as goal
-
-pub returns : goal.returns
-returns g c = rw (← c.self.view_is) c.insert.ensures

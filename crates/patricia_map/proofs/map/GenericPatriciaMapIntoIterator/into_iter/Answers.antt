@@ -1,4 +1,0 @@
-use Rattle.patricia_map.proofs.map.GenericPatriciaMapIntoIterator.into_iter.Goals as goal
-
-pub returns : goal.returns
-returns g c = record { into_iter_gives = rw (← c.self.view_is) c.into_walk.ensures }

@@ -1,6 +1,0 @@
-use Rattle.std.proofs.Common.{◌≡◌, map}
-use Rattle.patricia_set.specs.Sets.{insert_all}
-use Rattle.patricia_set.proofs.set.GenericPatriciaSet.extend.Given as goal
-
-abbrev pub invariant-loop-element : goal.invariant-loop-element
-invariant-loop-element g l = l.self ≡ insert_all l.initial.self (map g.Q.BorrowedBytes.key l.yielded)

@@ -1,9 +1,0 @@
-use Rattle.std.proofs.Common.{ap, ◌∙◌}
-use Rattle.patricia_map.specs.Prefixes.{begins}
-use Rattle.patricia_set.specs.Sets.{keys_of}
-use Rattle.patricia_set.proofs.SetLemmas.{filter_keys}
-use Rattle.patricia_set.proofs.set.GenericPatriciaSet.iter_prefix.Goals as goal
-
-pub returns : goal.returns
-returns g c =
-    rw (← c.self.view_is) (ap keys_of c.iter_prefix.ensures ∙ filter_keys (begins (g.Q.BorrowedBytes.key c.args.prefix)) _)

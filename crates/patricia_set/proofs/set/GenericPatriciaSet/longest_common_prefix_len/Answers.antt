@@ -1,4 +1,0 @@
-use Rattle.patricia_set.proofs.set.GenericPatriciaSet.longest_common_prefix_len.Goals as goal
-
-pub returns : goal.returns
-returns g c = rw (← c.self.view_is) c.longest_common_prefix_len.ensures

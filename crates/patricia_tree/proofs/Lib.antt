@@ -1,0 +1,4 @@
+mod BulkLemmas
+mod CursorLemmas
+mod LoanLemmas
+mod SetLemmas

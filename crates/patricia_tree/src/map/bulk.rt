@@ -1,0 +1,55 @@
+//! Many pairs put in by one call.
+ghost use Rattle.std.specs.Prelude.{IfOk, OnOk, OnErr};
+ghost use Rattle.std.specs.Iterator.{IsFiniteIterable};
+ghost use Rattle.std.specs.FinMap as map;
+ghost use Rattle.patricia_core.specs.Keys.{key_cmp};
+ghost use Rattle.patricia_tree.specs.Bulk.{Extends, IsStoppedAt};
+
+use super::GenericPatriciaMap;
+use patricia_core::keys::{BorrowedBytes, Bytes};
+use std::alloc::{AllocError, Global};
+use std::iter::{IntoIterator, Iterator};
+
+impl<K: Bytes, V: Drop> GenericPatriciaMap<K, V> {
+    /// Puts pairs in, one after the other: of two values for one key the later stays.
+    ///
+    /// The error is want of memory at a new key that is not empty. The pairs before it are in; it
+    /// and the rest are dropped.
+    pub fn extend<Q: BorrowedBytes<Owned = K>, I: IntoIterator<Item = (Q, V)>>(
+        &mut self,
+        pairs: I,
+    ) -> Result<(), AllocError>
+        requires { IsFiniteIterable I.into_iter_gives I.IntoIter.can_next I.IntoIter.remaining pairs }
+        ensures ok { OnOk result
+            (Extends I.into_iter_gives I.IntoIter.next_gives Q.key pairs self.old self.new) }
+        ensures err { OnErr result
+            (IsStoppedAt I.into_iter_gives I.IntoIter.next_gives Q.key pairs self.old self.new) }
+    {
+        let mut rest = pairs.into_iter();
+        while let Some((key, value)) = rest.next() {
+            match self.insert(key, value) {
+                Ok(old) => drop(old),
+                Err(_) => return Err(AllocError),
+            }
+        }
+        Ok(())
+    }
+
+    /// A new map with pairs put in, one after the other: of two values for one key the later stays.
+    ///
+    /// The error is want of memory at a new key that is not empty. All pairs are dropped then.
+    pub fn from_iter<Q: BorrowedBytes<Owned = K>, I: IntoIterator<Item = (Q, V)>>(
+        alloc: Global,
+        pairs: I,
+    ) -> Result<Self, AllocError>
+        requires { IsFiniteIterable I.into_iter_gives I.IntoIter.can_next I.IntoIter.remaining pairs }
+        ensures ok { IfOk result
+            (λ made. Extends I.into_iter_gives I.IntoIter.next_gives Q.key pairs map.empty made) }
+        ensures err { OnErr result ((left : map.FinMap key_cmp V)
+            × IsStoppedAt I.into_iter_gives I.IntoIter.next_gives Q.key pairs map.empty left) }
+    {
+        let mut map = GenericPatriciaMap::new(alloc);
+        map.extend(pairs)?;
+        Ok(map)
+    }
+}

@@ -1,0 +1,80 @@
+//! Loans of one value.
+ghost use Rattle.std.specs.Prelude.{◌≡◌, None, Some, IfSome, IsSome, MatchOption};
+ghost use Rattle.std.specs.Borrow.{sem};
+ghost use Rattle.std.specs.Option.{option_map};
+ghost use Rattle.std.specs.FinMap as map;
+ghost use Rattle.patricia_core.specs.Keys.{Begins};
+ghost use Rattle.patricia_core.specs.Prefixes.{longest};
+
+use super::GenericPatriciaMap;
+use patricia_core::keys::{BorrowedBytes, Bytes};
+
+impl<K: Bytes, V: Drop> GenericPatriciaMap<K, V> {
+    ghost use Rattle.patricia_tree.specs.Loans.{RunsOn, TakesLongest};
+    ghost use Rattle.patricia_tree.specs.Private.Longest.{lends_there, IsLongest};
+
+    // The longest key that begins the key, as a part of it.
+    fn longest_part<Q: BorrowedBytes<Owned = K>>(&self, key: Q) -> Option<Q>
+        ensures { MatchOption result (longest (Q.key key) (map.entries self.now) ≡ None)
+            (λ part. IsLongest self.now (Q.key key) (Q.key part)) }
+    {
+        match self.get_longest_common_prefix(key) {
+            Some(entry) => Some(entry.0),
+            None => None,
+        }
+    }
+
+    // Lends the value at a key that is there.
+    fn value_mut<Q: BorrowedBytes<Owned = K>>(&mut self, key: Q) -> &mut V
+        requires { IsSome (map.get self.old (Q.key key)) }
+        ensures* writes { sem 𝓛 (lends_there K.row V.row K.Bytes self.entry (Q.key key) result) }
+        ensures value { map.get self.old (Q.key key) ≡ Some result.now }
+    {
+        match self.get_mut(key) {
+            Some(value) => value,
+            None => unreachable!(),
+        }
+    }
+
+    /// Lends the value of the longest key that is a beginning of the key, and hands that key out.
+    ///
+    /// The contract does not say what the map is after the loan: that of
+    /// `with_longest_common_prefix_mut` does. It takes no memory.
+    pub fn get_longest_common_prefix_mut<Q: BorrowedBytes<Owned = K>>(
+        &mut self,
+        key: Q,
+    ) -> Option<(Q, &mut V)>
+        ensures row { option_map (λ e. (Q.key e.0, e.1.now)) result
+            ≡ longest (Q.key key) (map.entries self.old) }
+        ensures part { IfSome result (λ e. Begins (Q.key e.0) (Q.key key)) }
+    {
+        match self.longest_part(key) {
+            Some(part) => Some((part, self.value_mut(part))),
+            None => None,
+        }
+    }
+
+    /// Runs a closure on the longest key that is a beginning of the key and a loan of its value.
+    /// Where there is none, it is not run.
+    ///
+    /// The map keeps what the closure leaves there. The key that it is given is a part of the key
+    /// that is passed. It takes no memory.
+    pub fn with_longest_common_prefix_mut<
+        Q: BorrowedBytes<Owned = K>,
+        R,
+        F: FnOnce(Q, &mut V) -> R,
+    >(&mut self, key: Q, f: F) -> Option<R>
+        requires callable { TakesLongest F.FnOnce Q.key f self.old (Q.key key) }
+        ensures { MatchOption result
+            ((longest (Q.key key) (map.entries self.old) ≡ None) × (self.new ≡ self.old))
+            (λ r. RunsOn F.FnOnce Q.key f self.old (Q.key key) r self.new) }
+    {
+        match self.longest_part(key) {
+            Some(part) => {
+                let value = self.value_mut(part);
+                Some(f(part, value))
+            }
+            None => None,
+        }
+    }
+}

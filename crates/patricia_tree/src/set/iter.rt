@@ -1,0 +1,103 @@
+//! Walks over a set, in the order of its elements.
+ghost use Rattle.std.specs.Prelude.{length};
+ghost use Rattle.std.specs.Iterator.{at_most};
+ghost use Rattle.patricia_tree.specs.Walks.{Gives};
+
+use crate::map;
+use patricia_core::keys::{BorrowedBytes, Bytes};
+use std::alloc::AllocError;
+use std::iter::FusedIterator;
+use std::marker::Model;
+
+/// The elements of a set, copied. An error is want of memory, and ends the walk.
+#[derive(Drop)]
+pub struct Iter<'a, T: Bytes> {
+    pub(super) keys: map::Keys<'a, T, ()>,
+}
+
+impl<'a, T: Bytes> Model for Iter<'a, T> {
+    ghost use Rattle.std.specs.Prelude.{List, ℕ};
+
+    ghost Value = { List (List ℕ) };
+
+    ghost view = { λ i. i.keys };
+}
+
+impl<'a, T: Bytes> Iterator for Iter<'a, T> {
+    type Item = Result<T, AllocError>;
+
+    ghost next_gives = { Gives T.key };
+
+    ghost remaining = { λ elements. at_most (length elements) };
+
+    fn next(&mut self) -> Option<Result<T, AllocError>> {
+        self.keys.next()
+    }
+}
+
+impl<'a, T: Bytes> FusedIterator for Iter<'a, T> {}
+
+/// The elements that begin with a prefix, copied. An error is want of memory, and ends the walk.
+#[derive(Drop)]
+pub struct IterPrefix<'a, Q: BorrowedBytes> {
+    pub(super) entries: map::IterPrefix<'a, Q, ()>,
+}
+
+impl<'a, Q: BorrowedBytes> Model for IterPrefix<'a, Q> {
+    ghost use Rattle.std.specs.Prelude.{List, ℕ};
+    ghost use Rattle.patricia_tree.specs.Sets.{keys_of};
+
+    ghost Value = { List (List ℕ) };
+
+    ghost view = { λ i. keys_of i.entries };
+}
+
+impl<'a, Q: BorrowedBytes> Iterator for IterPrefix<'a, Q> {
+    type Item = Result<Q::Owned, AllocError>;
+
+    ghost next_gives = { Gives Q.Owned.key };
+
+    ghost remaining = { λ elements. at_most (length elements) };
+
+    fn next(&mut self) -> Option<Result<Q::Owned, AllocError>> {
+        match self.entries.next()? {
+            Ok((element, _)) => Some(Ok(element)),
+            Err(refused) => Some(Err(refused)),
+        }
+    }
+}
+
+impl<'a, Q: BorrowedBytes> FusedIterator for IterPrefix<'a, Q> {}
+
+/// The elements of a set, taken out. An error is want of memory: it ends the walk, and the
+/// elements that are left are dropped.
+#[derive(Drop)]
+pub struct IntoIter<T: Bytes> {
+    pub(super) entries: map::IntoIter<T, ()>,
+}
+
+impl<T: Bytes> Model for IntoIter<T> {
+    ghost use Rattle.std.specs.Prelude.{List, ℕ};
+    ghost use Rattle.patricia_tree.specs.Sets.{keys_of};
+
+    ghost Value = { List (List ℕ) };
+
+    ghost view = { λ i. keys_of i.entries };
+}
+
+impl<T: Bytes> Iterator for IntoIter<T> {
+    type Item = Result<T, AllocError>;
+
+    ghost next_gives = { Gives T.key };
+
+    ghost remaining = { λ elements. at_most (length elements) };
+
+    fn next(&mut self) -> Option<Result<T, AllocError>> {
+        match self.entries.next()? {
+            Ok((taken, _)) => Some(Ok(taken)),
+            Err(refused) => Some(Err(refused)),
+        }
+    }
+}
+
+impl<T: Bytes> FusedIterator for IntoIter<T> {}
