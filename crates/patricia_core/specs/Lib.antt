@@ -10,4 +10,12 @@ pub use Rattle.patricia_rows.specs.Rows
 pub use Rattle.patricia_rows.specs.ThreeKeys
 pub use Rattle.patricia_rows.specs.Trees
 pub use Rattle.patricia_rows.specs.Walks
+pub use Rattle.patricia_wire_laws.specs.Counts
+pub use Rattle.patricia_wire_laws.specs.Examples
+pub use Rattle.patricia_wire_laws.specs.Faults
+pub use Rattle.patricia_wire_laws.specs.Forests
+pub use Rattle.patricia_wire_laws.specs.Records
+pub use Rattle.patricia_wire_laws.specs.TreeBytes
+pub use Rattle.patricia_wire_laws.specs.WireLaws
+pub use Rattle.patricia_wire_laws.specs.Writings
 pub mod Private

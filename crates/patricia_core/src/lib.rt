@@ -11,3 +11,4 @@ pub use patricia_labels::{Steps, steps};
 pub use patricia_queries::{along, under};
 pub use patricia_rows::laws;
 pub use patricia_walks::{into_walk, walk};
+pub use patricia_wire_laws::laws as wire_laws;

@@ -9,10 +9,14 @@ ghost use Rattle.patricia_rows.specs.Clones.{AreKept};
 ghost use Rattle.patricia_rows.specs.Points.{CountsVisits, Joins};
 ghost use Rattle.patricia_rows.specs.Prefixes.{along, longest, outside, under, IsReach};
 ghost use Rattle.patricia_rows.specs.Walks.{values_of};
+ghost use Rattle.patricia_wire_laws.specs.TreeBytes.{AreTreeBytes};
+ghost use Rattle.patricia_wire_laws.specs.Writings.{TooDeep};
 
 mod cursors;
 
 use patricia_copies::{copy, copy_value};
+pub use patricia_encoder::WireError;
+use patricia_encoder::encode;
 use patricia_inserts::insert;
 use patricia_keys::{BorrowedBytes, Bytes};
 use patricia_labels::Steps;
@@ -308,6 +312,15 @@ impl<K: Bytes, V: Drop> Tree<K, V> {
         ensures { result ≡ under (Q.key prefix) (map.entries self.now) }
     {
         Under::new(self.alloc, self.value.as_ref(), &self.slots, prefix)
+    }
+
+    /// The written form of the keys, with levels in two bytes. The values are no part of it. The
+    /// error is want of memory, or that a record would lie deeper than two bytes can tell.
+    pub fn tree_bytes(&self) -> Result<Vec<u8>, WireError>
+        ensures ok { IfOk result (λ b. AreTreeBytes K.item 2 b.items (map.entries self.now)) }
+        ensures too_deep { result ≡ Err WireError.TooDeep → TooDeep K.item 2 (map.keys self.now) }
+    {
+        encode::<K, V>(self.alloc, &self.value, &self.slots)
     }
 
     /// A walk over the entries in key order. Making it takes no memory.

@@ -16,3 +16,11 @@ pub use Rattle.patricia_core.specs.TextKind
 pub use Rattle.patricia_core.specs.ThreeKeys
 pub use Rattle.patricia_core.specs.Trees
 pub use Rattle.patricia_core.specs.Walks
+pub use Rattle.patricia_core.specs.Counts
+pub use Rattle.patricia_core.specs.Examples
+pub use Rattle.patricia_core.specs.Faults
+pub use Rattle.patricia_core.specs.Forests
+pub use Rattle.patricia_core.specs.Records
+pub use Rattle.patricia_core.specs.TreeBytes
+pub use Rattle.patricia_core.specs.WireLaws
+pub use Rattle.patricia_core.specs.Writings

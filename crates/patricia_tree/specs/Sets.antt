@@ -22,6 +22,10 @@ contains s k = map.contains_key s k
 abbrev pub elements : KeySet → List (List ℕ)
 elements s = map.keys s
 
+-- the elements as rows, each with nothing as its value
+abbrev pub rows : KeySet → List (List ℕ × Unit {0})
+rows s = map.entries s
+
 -- the keys of the entries of a map
 abbrev pub keys_of : {V : Type 0} → List (List ℕ × V) → List (List ℕ)
 keys_of entries = list_map (λ e. e.0) entries

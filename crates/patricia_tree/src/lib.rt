@@ -3,8 +3,10 @@
 
 pub mod map;
 pub mod set;
+pub mod wire;
 
 pub use map::{GenericPatriciaMap, PatriciaMap, StringPatriciaMap};
 pub use patricia_core::Steps;
 pub use patricia_core::keys::{BorrowedBytes, Bytes};
 pub use set::{GenericPatriciaSet, PatriciaSet, StringPatriciaSet};
+pub use wire::WireError;

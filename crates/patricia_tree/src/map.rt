@@ -9,6 +9,8 @@ ghost use Rattle.patricia_core.specs.Keys.{AreSingle, Begins, IsValid};
 ghost use Rattle.patricia_core.specs.Points.{CountsVisits, Joins};
 ghost use Rattle.patricia_core.specs.Prefixes.{along, longest, outside, under, IsReach};
 ghost use Rattle.patricia_core.specs.Walks.{values_of};
+ghost use Rattle.patricia_core.specs.TreeBytes.{AreTreeBytes};
+ghost use Rattle.patricia_core.specs.Writings.{TooDeep};
 
 mod bulk;
 mod cursors;
@@ -25,6 +27,7 @@ use patricia_core::Steps;
 use patricia_core::keys::{BorrowedBytes, Bytes};
 pub use patricia_core::tree::Refused;
 use patricia_core::tree::Tree;
+use patricia_core::tree::WireError;
 pub use prefixes::{CommonPrefixValues, CommonPrefixValuesOwned, CommonPrefixesIter, IterPrefix};
 use std::alloc::{AllocError, Global};
 use std::iter::IntoIterator;
@@ -259,6 +262,20 @@ impl<K: Bytes, V: Drop> GenericPatriciaMap<K, V> {
         Ok(GenericPatriciaMap {
             tree: self.tree.split(prefix)?,
         })
+    }
+
+    /// The tree bytes: the written form of the keys, which is the same for each map with these keys,
+    /// whatever its history.
+    ///
+    /// A key stands in the bytes as its pieces, which it shares with the keys that begin alike. The
+    /// values are no part of them: whoever stores a map stores the values beside them, in key order.
+    /// The error is `TooDeep` where a record would lie deeper than level 65,535, which takes keys of
+    /// more than that many bytes; or it is want of memory.
+    pub fn tree_bytes(&self) -> Result<Vec<u8>, WireError>
+        ensures ok { IfOk result (λ b. AreTreeBytes K.item 2 b.items (map.entries self.now)) }
+        ensures too_deep { result ≡ Err WireError.TooDeep → TooDeep K.item 2 (map.keys self.now) }
+    {
+        self.tree.tree_bytes()
     }
 
     /// Each key is a valid key of its kind, so its bytes are bytes. This says so, and does nothing.

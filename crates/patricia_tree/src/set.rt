@@ -4,6 +4,8 @@ ghost use Rattle.std.specs.Option.{option_map};
 ghost use Rattle.patricia_tree.specs.Keys.{Begins};
 ghost use Rattle.patricia_tree.specs.Points.{Joins};
 ghost use Rattle.patricia_tree.specs.Prefixes.{IsReach};
+ghost use Rattle.patricia_tree.specs.TreeBytes.{AreTreeBytes};
+ghost use Rattle.patricia_tree.specs.Writings.{TooDeep};
 ghost use Rattle.patricia_tree.specs.Sets as set;
 ghost use Rattle.patricia_tree.specs.Sets.{keys_under, keys_outside, longest_key};
 
@@ -14,6 +16,7 @@ mod iter;
 use crate::map::GenericPatriciaMap;
 pub use iter::{IntoIter, Iter, IterPrefix};
 use patricia_core::keys::{BorrowedBytes, Bytes};
+use patricia_core::tree::WireError;
 use std::alloc::{AllocError, Global};
 use std::iter::IntoIterator;
 use std::marker::Model;
@@ -167,6 +170,19 @@ impl<T: Bytes> GenericPatriciaSet<T> {
         Ok(GenericPatriciaSet {
             map: self.map.split_by_prefix(prefix)?,
         })
+    }
+
+    /// The tree bytes: the written form of the elements, which is the same for each set with these
+    /// elements, whatever its history.
+    ///
+    /// They are those of a map with these keys. The error is `TooDeep` where a record would lie
+    /// deeper than level 65,535, which takes elements of more than that many bytes; or it is want of
+    /// memory.
+    pub fn tree_bytes(&self) -> Result<Vec<u8>, WireError>
+        ensures ok { IfOk result (λ b. AreTreeBytes T.item 2 b.items (set.rows self.now)) }
+        ensures too_deep { result ≡ Err WireError.TooDeep → TooDeep T.item 2 (set.elements self.now) }
+    {
+        self.map.tree_bytes()
     }
 
     /// The elements in their order.

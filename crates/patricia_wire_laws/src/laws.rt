@@ -1,8 +1,8 @@
 //! Laws of the wire form that hold for every key kind and every width of levels, as contracts of
 //! functions that do nothing.
-ghost use Rattle.patricia_wire_laws.specs.Laws.{HasOneWriting, HasOneKeySet, HasOneMeaning, MeansMap, WritingMeansRows, IsWrittenOrTooDeep, IsNeverBoth};
-ghost use Rattle.patricia_wire_laws.specs.Laws.{CountsFronts, CountsPoints, HasFewRecords, HasOneTightTree, HasOneKeyList, HoldsKeysOfMap};
-ghost use Rattle.patricia_wire_laws.specs.Laws.{HasOneFirstFault, HasNoFaultWhereMeant};
+ghost use Rattle.patricia_wire_laws.specs.WireLaws.{HasOneWriting, HasOneKeySet, HasOneMeaning, MeansMap, WritingMeansRows, IsWrittenOrTooDeep, IsNeverBoth};
+ghost use Rattle.patricia_wire_laws.specs.WireLaws.{CountsFronts, CountsPoints, HasFewRecords, HasOneTightTree, HasOneKeyList, HoldsKeysOfMap};
+ghost use Rattle.patricia_wire_laws.specs.WireLaws.{HasOneFirstFault, HasNoFaultWhereMeant};
 
 use patricia_keys::Bytes;
 

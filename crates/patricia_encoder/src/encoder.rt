@@ -1,0 +1,72 @@
+//! Tree bytes.
+ghost use Rattle.std.specs.Prelude.{◌≡◌, ◌++◌, OnOk, IfOk, Any};
+ghost use Rattle.patricia_rows.specs.Rows.{own, keys_of, IsRow};
+ghost use Rattle.patricia_nodes.specs.Private.Plans.{IsWhole, row_of, entries_of};
+ghost use Rattle.patricia_wire_laws.specs.TreeBytes.{AreTreeBytes};
+ghost use Rattle.patricia_wire_laws.specs.Writings.{TooDeep};
+
+use crate::record::{HEAD, Record};
+use crate::records::Records;
+use patricia_keys::Bytes;
+use patricia_nodes::slots::Slots;
+use std::alloc::{AllocError, Global};
+use thiserror::Error;
+
+/// Why a tree was not written.
+#[derive(Clone, Copy, Debug, PartialEq, Eq, Error)]
+pub enum WireError {
+    /// Memory ran out.
+    #[error("out of memory")]
+    Memory,
+    /// A record would lie deeper than two bytes can tell.
+    #[error("tree deeper than level 65535")]
+    TooDeep,
+}
+
+impl From<AllocError> for WireError {
+    fn from(_: AllocError) -> WireError {
+        WireError::Memory
+    }
+}
+
+// How many bytes the writing has. The error says as well that it would be too deep.
+fn size<K: Bytes, V>(alloc: Global, slots: &Slots<V>) -> Result<usize, WireError>
+    requires whole { IsWhole slots.now }
+    requires row { IsRow K.item (row_of slots.now) }
+{
+    let mut records = Records::new(alloc, slots);
+    let mut size = HEAD;
+    while let Some(record) = records.next::<K>()? {
+        size = size.saturating_add(HEAD + record.label.len());
+    }
+    Ok(size)
+}
+
+/// The tree bytes of the empty key's value and the nodes.
+pub fn encode<K: Bytes, V>(
+    alloc: Global,
+    value: &Option<V>,
+    slots: &Slots<V>,
+) -> Result<Vec<u8>, WireError>
+    requires whole { IsWhole slots.now }
+    requires row { IsRow K.item (row_of slots.now) }
+    ensures ok { IfOk result (λ b.
+        AreTreeBytes K.item 2 b.items (own value.now ++ entries_of slots.now)) }
+    ensures too_deep { result ≡ Err WireError.TooDeep
+        → TooDeep K.item 2 (keys_of (own value.now ++ entries_of slots.now)) }
+{
+    let root = Record {
+        level: 0,
+        label: &[],
+        value: value.is_some(),
+        child: slots.root.get().is_some(),
+        sibling: false,
+    };
+    let mut out = Vec::with_capacity(alloc, size::<K, V>(alloc, slots)?)?;
+    root.write(&mut out)?;
+    let mut records = Records::new(alloc, slots);
+    while let Some(record) = records.next::<K>()? {
+        record.write(&mut out)?;
+    }
+    Ok(out)
+}
