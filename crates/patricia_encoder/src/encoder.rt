@@ -24,6 +24,11 @@ pub enum WireError {
 }
 
 impl From<AllocError> for WireError {
+    ghost use Rattle.std.specs.Prelude.{◌≡◌};
+    ghost use Rattle.patricia_encoder.specs.declared.encoder.WireError.TheVariants.{Memory};
+
+    ghost from_gives = { λ _ e. e ≡ Memory };
+
     fn from(_: AllocError) -> WireError {
         WireError::Memory
     }

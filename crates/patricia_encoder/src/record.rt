@@ -1,5 +1,6 @@
 //! A record of the written form.
 ghost use Rattle.std.specs.Prelude.{◌≡◌, ◌≤◌, ◌++◌, length, OnOk};
+ghost use Rattle.patricia_wire_laws.specs.Records as records;
 ghost use Rattle.patricia_wire_laws.specs.Records.{clean_flags, clean_spelling};
 
 use std::alloc::AllocError;
@@ -27,16 +28,18 @@ impl<'a> Model for Record<'a> {
     ghost Value = { records.Record };
 
     ghost view = { λ r. record {
-        level = r.level;
-        label = r.label.now;
-        value = r.value;
-        child = r.child;
-        sibling = r.sibling;
+      level = r.level;
+      label = r.label.now;
+      value = r.value;
+      child = r.child;
+      sibling = r.sibling;
     } };
 }
 
 // The number where the mark is set, else 0.
-fn where_set(mark: bool, number: u8) -> u8 {
+fn where_set(mark: bool, number: u8) -> u8
+    ensures { result ≡ records.where_set mark number }
+{
     if mark { number } else { 0 }
 }
 
@@ -45,7 +48,9 @@ impl<'a> Record<'a> {
     fn flags(&self) -> u8
         ensures { result ≡ clean_flags self.now }
     {
-        where_set(self.value, 1 + 2) + where_set(self.child, 4 + 8) + where_set(self.sibling, 16 + 32)
+        where_set(self.value, 1 + 2)
+            + where_set(self.child, 4 + 8)
+            + where_set(self.sibling, 16 + 32)
     }
 
     /// Writes the record behind what is there. The error is want of memory.

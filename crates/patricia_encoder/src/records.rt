@@ -1,14 +1,15 @@
 //! The records of a tree, one after the other.
-ghost use Rattle.std.specs.Prelude.{◌≡◌};
-ghost use Rattle.patricia_rows.specs.Rows.{IsRow};
-ghost use Rattle.patricia_nodes.specs.Private.Plans.{IsWhole, row_of};
+ghost use Rattle.std.specs.Prelude.{◌≡◌, ◌≢◌, ◌<◌, ◌≤◌, ◌^◌, [], length, drop, Some, IfOk};
+ghost use Rattle.patricia_keys.specs.Keys.{IsValid};
+ghost use Rattle.patricia_encoder.specs.Private.Pieces.{IsPiece};
+ghost use Rattle.patricia_encoder.specs.Private.Lefts.{SomeLeft, Takes, Gives, IsDeep, IsStart};
 
 use crate::encoder::WireError;
 use crate::record::{LONGEST, Record};
 use patricia_keys::Bytes;
 use patricia_labels::link::{Link, NodeId};
-use patricia_nodes::slots::Slots;
-use std::alloc::{AllocError, Global};
+use patricia_nodes::slots::{Node, Slots};
+use std::alloc::Global;
 
 /// How far a tree is written below its root.
 #[derive(Drop)]
@@ -18,14 +19,18 @@ pub struct Records<'a, V> {
     level: usize,
     // the row whose first node is next
     next: Link,
-    // so many bytes of its label are written; where there are any, its siblings wait
+    // so many bytes of its label are written; where there are any, its siblings wait already
     skipped: usize,
     // the rows that wait, each with its level
     stack: Vec<(usize, Link)>,
 }
 
 // How many bytes of a label have room in a record: as many whole items as fit.
-fn room<K: Bytes>(label: &[u8]) -> usize {
+fn room<K: Bytes>(label: &[u8]) -> usize
+    requires valid { IsValid K.item label.now }
+    requires filled { label.now ≢ [] }
+    ensures { IsPiece K.item label.now result }
+{
     if label.len() <= LONGEST {
         label.len()
     } else {
@@ -33,10 +38,20 @@ fn room<K: Bytes>(label: &[u8]) -> usize {
     }
 }
 
+// The label of a node behind its first bytes.
+fn label_behind<V>(node: &Node<V>, skipped: usize) -> &[u8]
+    requires { skipped ≤ length node.now.label }
+    ensures rest { result.now ≡ drop skipped node.now.label }
+    ensures counted { length node.now.label < 2 ^ 64 }
+{
+    &node.label.as_slice()[skipped..]
+}
+
 impl<'a, V> Records<'a, V> {
     /// The records below the root.
     pub fn new(alloc: Global, slots: &'a Slots<V>) -> Self
-        requires whole { IsWhole slots.now }
+        ensures nodes { result.slots.now ≡ slots.now }
+        ensures start { IsStart result }
     {
         Records {
             slots,
@@ -47,43 +62,51 @@ impl<'a, V> Records<'a, V> {
         }
     }
 
-    // Puts a row with the level of the record that is next to those that wait.
-    fn wait(&mut self, row: Link) -> Result<(), AllocError> {
-        self.stack.push((self.level, row))?;
-        Ok(())
-    }
-
     // Takes the record of what is left of the node that is next.
-    fn take<K: Bytes>(&mut self, id: NodeId) -> Result<Record<'a>, WireError> {
+    fn take<K: Bytes>(&mut self, id: NodeId) -> Result<Record<'a>, WireError>
+        requires left { SomeLeft K.item self.old }
+        requires next { self.old.next ≡ Some id }
+        ensures ok { IfOk result (λ r. Takes K.item self.old r self.new) }
+        ensures too_deep { result ≡ Err WireError.TooDeep → IsDeep K.item self.old }
+    {
+        let node = &self.slots.nodes[id.index()];
         let Ok(level) = u16::try_from(self.level) else {
             return Err(WireError::TooDeep);
         };
-        let node = &self.slots.nodes[id.index()];
-        let left = &node.label.as_slice()[self.skipped..];
-        let n = room::<K>(left);
-        let begins = self.skipped == 0;
-        let ends = n == left.len();
-        if begins {
-            self.wait(node.sibling)?;
-        }
+        let left = label_behind(node, self.skipped);
+        let beside = if self.skipped == 0 {
+            node.sibling
+        } else {
+            Link::none()
+        };
+        self.stack
+            .push((self.level, beside))
+            .map_err(|_| WireError::Memory)?;
         self.level += 1;
-        if ends {
+        let n = room::<K>(left);
+        let (value, child) = if n == left.len() {
             self.next = node.child;
             self.skipped = 0;
+            (node.value.is_some(), node.child.get().is_some())
         } else {
             self.skipped += n;
-        }
+            (false, true)
+        };
         Ok(Record {
             level,
             label: &left[..n],
-            value: ends && node.value.is_some(),
-            child: !ends || node.child.get().is_some(),
-            sibling: begins && node.sibling.get().is_some(),
+            value,
+            child,
+            sibling: beside.get().is_some(),
         })
     }
 
     /// The next record, or `None` behind the last.
-    pub fn next<K: Bytes>(&mut self) -> Result<Option<Record<'a>>, WireError> {
+    pub fn next<K: Bytes>(&mut self) -> Result<Option<Record<'a>>, WireError>
+        requires { SomeLeft K.item self.old }
+        ensures ok { IfOk result (λ found. Gives K.item self.old found self.new) }
+        ensures too_deep { result ≡ Err WireError.TooDeep → IsDeep K.item self.old }
+    {
         loop {
             if let Some(id) = self.next.get() {
                 return Ok(Some(self.take::<K>(id)?));

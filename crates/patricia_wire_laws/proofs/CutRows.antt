@@ -66,7 +66,7 @@ module _ (item : List ℕ → Type 0) (kind : IsKeyKind item) where
       record { first = b.first; second = b.second; first_item = b.first_item; second_item = b.second_item; first_begins = b.first_begins; second_begins = rw (← same) f.2; less = b.less }
 
   module _ {V : Type 0} where
-    before_row_left : (k l : List ℕ) (s : Row V) → IsValid item l → l ≢ [] → Begins l k → IsBeforeRow item k s → IsBeforeRow item l s
+    pub before_row_left : (k l : List ℕ) (s : Row V) → IsValid item l → l ≢ [] → Begins l k → IsBeforeRow item k s → IsBeforeRow item l s
     before_row_left k l end valid filled begun b = tt
     before_row_left k l (node m v c s) valid filled begun b = before_left k l m valid filled begun b
 
@@ -79,7 +79,7 @@ module _ (item : List ℕ → Type 0) (kind : IsKeyKind item) where
       pub ok : IsRowWithin item (Some 255) (node label value child s)
       pub same : entries (node label value child s) ≡ prefixed k (own v ++ entries c) ++ entries s
 
-    chain : (n : ℕ) (k : List ℕ) (v : Option V) (c s : Row V) → length k ≤ n → IsValid item k → k ≢ [] → ((l : List ℕ) → EarnsWithin item (Some 255) l v c) → IsRowWithin item (Some 255) c → IsRowWithin item (Some 255) s → IsBeforeRow item k s → Chain k v c s
+    pub chain : (n : ℕ) (k : List ℕ) (v : Option V) (c s : Row V) → length k ≤ n → IsValid item k → k ≢ [] → ((l : List ℕ) → EarnsWithin item (Some 255) l v c) → IsRowWithin item (Some 255) c → IsRowWithin item (Some 255) s → IsBeforeRow item k s → Chain k v c s
     chain zero [] v c s h valid filled earns okc oks before = absurd (filled refl)
     chain zero (x ∷ k) v c s h valid filled earns okc oks before = absurd (omega arith)
     chain (suc n) k v c s h valid filled earns okc oks before =
@@ -120,7 +120,7 @@ module _ (item : List ℕ → Type 0) (kind : IsKeyKind item) where
         go p [] e below = last p e
         go p (x ∷ r) e below = more p (below (λ none. cc))
 
-    earns_on : (l m : List ℕ) (v : Option V) (c c' : Row V) → IsRow item c → EarnsWithin item None l v c → width c' ≡ width c → EarnsWithin item (Some 255) m v c'
+    pub earns_on : (l m : List ℕ) (v : Option V) (c c' : Row V) → IsRow item c → EarnsWithin item None l v c → width c' ≡ width c → EarnsWithin item (Some 255) m v c'
     earns_on l m (Some v) c c' ok earns e = tt
     earns_on l m None end c' ok earns e = absurd earns
     earns_on l m None (node l1 v1 c1 end) c' ok earns e = let f = first_of item l1 ok.valid ok.filled in absurd (earns f.0 f.1 f.2 tt)

@@ -19,18 +19,18 @@ use Rattle.patricia_wire_laws.proofs.Spellings.{positive}
 use Rattle.patricia_wire_laws.proofs.TightRows.{within_writable, within_apart}
 
 module _ (P : Record → Type 0) where
-  any_here : (x : Record) (xs : List Record) → P x → Any P (x ∷ xs)
+  pub any_here : (x : Record) (xs : List Record) → P x → Any P (x ∷ xs)
   any_here x xs p = (0, x, omega arith, refl, p)
 
   any_there : (x : Record) (xs : List Record) → Any P xs → Any P (x ∷ xs)
   any_there x xs (k, y, h, e, p) = (suc k, y, omega arith, e, p)
 
-  any_left : (xs ys : List Record) → Any P xs → Any P (xs ++ ys)
+  pub any_left : (xs ys : List Record) → Any P xs → Any P (xs ++ ys)
   any_left [] ys (k, y, h, e, p) = absurd (omega arith)
   any_left (x ∷ xs) ys (zero, y, h, e, p) = (0, y, omega arith, e, p)
   any_left (x ∷ xs) ys (suc k, y, h, e, p) = any_there x (xs ++ ys) (any_left xs ys (k, y, omega arith, e, p))
 
-  any_right : (xs ys : List Record) → Any P ys → Any P (xs ++ ys)
+  pub any_right : (xs ys : List Record) → Any P ys → Any P (xs ++ ys)
   any_right [] ys a = a
   any_right (x ∷ xs) ys a = any_there x (xs ++ ys) (any_right xs ys a)
 

@@ -1,0 +1,81 @@
+-- The records that are left to be written.
+use Rattle.std.specs.Prelude.{◌≡◌, ℕ, ◌+◌, ◌<◌, ◌≤◌, List, [], ◌∷◌, ◌++◌, Option, Some, None, Any}
+use Rattle.patricia_rows.specs.Rows.{Row}
+use Rattle.patricia_nodes.specs.declared.slots.Node.{Node}
+use Rattle.patricia_nodes.specs.declared.slots.Slots.{Slots}
+use Rattle.patricia_nodes.specs.Private.Plans.{plan_at, row_of, IsPlan}
+use Rattle.patricia_walks.specs.Private.Positions.{row_at}
+use Rattle.patricia_wire_laws.specs.Records.{Record}
+use Rattle.patricia_encoder.specs.declared.records.Records.{Records}
+use Rattle.patricia_encoder.specs.Private.Pieces.{AreRecords, behind, weight}
+
+-- one of the records lies deeper than two bytes can tell
+abbrev pub HasDeep : List Record → Type 0
+HasDeep R = Any (λ r. 65536 ≤ r.level) R
+
+module _ {V : Type 0} where
+  abbrev pub nodes_of : Records V → List (Node V)
+  nodes_of p = p.slots.now.nodes.items
+
+  -- the row that is next
+  abbrev pub next_row : Records V → Row V
+  next_row p = behind p.skipped (row_at (nodes_of p) p.next)
+
+  -- the weight of the rows that wait, and of all that is left
+  abbrev pub weight_waiting : List (Node V) → List (ℕ × Option ℕ) → ℕ
+  weight_waiting nodes [] = 0
+  weight_waiting nodes (f ∷ fs) = weight (row_at nodes f.1) + weight_waiting nodes fs
+
+  abbrev pub weight_left : Records V → ℕ
+  weight_left p = weight (next_row p) + weight_waiting (nodes_of p) p.stack.items
+
+  -- nothing is taken: the first row is next, and no row waits
+  pub record IsStart (p : Records V) : Type 0 where
+    pub level : p.level ≡ 1
+    pub next : p.next ≡ p.slots.now.root
+    pub skipped : p.skipped ≡ 0
+    pub stack : p.stack.items ≡ []
+
+module _ (item : List ℕ → Type 0) {V : Type 0} where
+  -- these are the records of a row that waits
+  abbrev pub Waits : List (Node V) → ℕ × Option ℕ → List Record → Type 0
+  Waits nodes f R = IsPlan nodes f.1 (plan_at nodes f.1) × AreRecords item f.0 (row_at nodes f.1) R
+
+  -- and of all rows that wait, the last of which comes first
+  abbrev pub AllWait : List (Node V) → List (ℕ × Option ℕ) → List Record → Type 0
+  AllWait nodes [] R = R ≡ []
+  AllWait nodes (f ∷ fs) R =
+      (first last : List Record) × AllWait nodes fs first × Waits nodes f last × (R ≡ first ++ last)
+
+  -- these records are left
+  pub record AreLeft (p : Records V) (R : List Record) : Type 0 where
+    pub plan : IsPlan (nodes_of p) p.next (plan_at (nodes_of p) p.next)
+    pub here : List Record
+    pub waiting : List Record
+    pub are_here : AreRecords item p.level (next_row p) here
+    pub are_waiting : AllWait (nodes_of p) p.stack.items waiting
+    pub is : R ≡ here ++ waiting
+
+  -- some records are left
+  abbrev pub SomeLeft : Records V → Type 0
+  SomeLeft p = (R : List Record) × AreLeft p R
+
+  -- whatever was left, the record was the first of it, and the rest is left now
+  pub record Takes (old : Records V) (r : Record) (new : Records V) : Type 0 where
+    pub left : (R : List Record) → AreLeft old R → (rest : List Record) × (R ≡ r ∷ rest) × AreLeft new rest
+    pub less : weight_left new < weight_left old
+
+  -- the first record was taken, or there was none
+  abbrev pub Gives : Records V → Option Record → Records V → Type 0
+  Gives old None new = (R : List Record) → AreLeft old R → R ≡ []
+  Gives old (Some r) new = Takes old r new
+
+  -- whatever was left, one of it lies too deep
+  abbrev pub IsDeep : Records V → Type 0
+  IsDeep p = (R : List Record) → AreLeft p R → HasDeep R
+
+  -- of the records of the nodes all but these are left
+  abbrev pub IsAt : Slots V → Records V → List Record → Type 0
+  IsAt slots p written =
+      (R : List Record) → AreRecords item 1 (row_of slots) R
+      → (rest : List Record) × (R ≡ written ++ rest) × AreLeft p rest
