@@ -1,6 +1,6 @@
 -- How taking a record changes what is left.
 use Rattle.std.proofs.Common.{◌≡◌, ◌≢◌, ℕ, zero, suc, ◌+◌, ◌<◌, ◌≤◌, true, false, List, [], ◌∷◌, ◌++◌, length, take, drop, get_or, Option, Some, None, refl, sym, ap, subst, ◌∙◌, arith, take_all, drop-drop, length-drop, append-nil, append_assoc}
-use Rattle.std.specs.Prelude.{Bool, is_some}
+use Rattle.std.specs.Prelude.{Bool, is_some, Result, Err, vec_len}
 use Rattle.patricia_keys.specs.Keys.{IsKeyKind, IsValid}
 use Rattle.patricia_rows.specs.Rows.{Row, end, node, IsRow}
 use Rattle.patricia_nodes.specs.declared.slots.Node.{Node}
@@ -13,8 +13,8 @@ use Rattle.patricia_wire_laws.specs.Private.WrittenRows.{has_node}
 use Rattle.patricia_wire_laws.proofs.WrittenOrDeep.{any_here, any_left}
 use Rattle.patricia_encoder.specs.declared.records.Records.{Records}
 use Rattle.patricia_encoder.specs.Private.Pieces.{IsPiece, AreRecords, behind, weight}
-use Rattle.patricia_encoder.specs.Private.Lefts.{nodes_of, next_row, weight_waiting, weight_left, Waits, AllWait, AreLeft, SomeLeft, HasDeep, IsDeep, Takes}
-use Rattle.patricia_encoder.proofs.PieceLemmas.{Off, off_whole, off_part, first_record}
+use Rattle.patricia_encoder.specs.Private.Lefts.{nodes_of, next_row, weight_waiting, weight_left, Waits, AllWait, AreLeft, SomeLeft, HasDeep, IsDeep, GoesBack, Takes}
+use Rattle.patricia_encoder.proofs.PieceLemmas.{Off, off_whole, off_part, first_record, no_records}
 
 module _ {V : Type 0} where
   plan_link : (q : Plan V) → is_some (head q) ≡ has_node (row q)
@@ -179,3 +179,50 @@ module _ (item : List ℕ → Type 0) (kind : IsKeyKind item) {V : Type 0} (p : 
               );
           less = omega (arith, ap weight beside.row_is, ap weight below.next_is, ap (λ nodes. weight_waiting nodes q.stack.items) kept, ap (weight_waiting (nodes_of p)) stack, weight_waiting-snoc item (nodes_of p) p.stack.items (p.level, at), below.lighter);
         })
+
+module _ {V : Type 0} where
+  row_none : (nodes : List (Node V)) → row_at nodes None ≡ end
+  row_none nodes = ap row (plan_is nodes None Nil (record { stands = tt; at_is = refl; fits = omega arith }))
+
+  behind_end : (m : ℕ) (r : Row V) → r ≡ end → behind m r ≡ end
+  behind_end zero r e = e
+  behind_end (suc m) end e = refl
+  behind_end (suc m) (node l v c s) e = absurd (cc)
+
+-- an error that is handed on is the same error
+pub err_again : {A B E : Type 0} (x : Result A E) (e d : E) → x ≡ Err e → ◌≡◌ {A = Result B E} (Err e) (Err d) → x ≡ Err d
+err_again x e d is again = (let same : e ≡ d = cc in is ∙ ap Err same)
+
+-- where no row is next
+module _ (item : List ℕ → Type 0) (kind : IsKeyKind item) {V : Type 0} (p : Records V) (next : p.next ≡ None) where
+  nothing : next_row p ≡ end
+  nothing = behind_end p.skipped (row_at (nodes_of p) p.next) (ap (row_at (nodes_of p)) next ∙ row_none (nodes_of p))
+
+  none_here : (R : List Record) (a : AreLeft item p R) → R ≡ a.waiting
+  none_here R a = a.is ∙ ap (λ h. h ++ a.waiting) (no_records item kind p.level a.here (subst (λ r. AreRecords item p.level r a.here) nothing a.are_here))
+
+  -- nothing is left where no row waits either
+  pub ended : p.stack.items ≡ [] → (R : List Record) → AreLeft item p R → R ≡ []
+  ended none R a = none_here R a ∙ subst (λ l. AllWait item (nodes_of p) l a.waiting) none a.are_waiting
+
+  -- and else the row that waits last is next
+  module _ (q : Records V) (level : ℕ) (at : Option ℕ) (stack : p.stack.items ≡ q.stack.items ++ (level, at) ∷ []) (kept : nodes_of q ≡ nodes_of p) (level_is : q.level ≡ level) (next_is : q.next ≡ at) (skipped : q.skipped ≡ 0) where
+    back : (R : List Record) → AreLeft item p R → AreLeft item q R
+    back R a =
+        let last = all_wait-last item (nodes_of p) q.stack.items (level, at) a.waiting (subst (λ l. AllWait item (nodes_of p) l a.waiting) stack a.are_waiting) in
+        record {
+          plan = rw (kept, next_is) last.waits.0;
+          here = last.here;
+          waiting = last.waiting;
+          are_here = rw (kept, level_is, next_is, skipped) last.waits.1;
+          are_waiting = rw kept last.all;
+          is = none_here R a ∙ last.is;
+        }
+
+    back_weight : weight_left q ≡ weight_left p
+    back_weight =
+        let here : next_row q ≡ row_at (nodes_of p) at = rw (kept, next_is, skipped) refl in
+        omega (arith, ap weight nothing, ap weight here, ap (λ nodes. weight_waiting nodes q.stack.items) kept, ap (weight_waiting (nodes_of p)) stack, weight_waiting-snoc item (nodes_of p) q.stack.items (level, at))
+
+    pub goes_back : vec_len q.stack < vec_len p.stack → GoesBack item p q
+    goes_back fewer = record { left = back; same = back_weight; fewer = fewer }

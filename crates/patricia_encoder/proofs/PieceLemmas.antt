@@ -94,6 +94,10 @@ module _ (item : List ℕ → Type 0) (kind : IsKeyKind item) {V : Type 0} where
   pub some_records : (d : ℕ) (r : Row V) → IsRow item r → (R : List Record) × AreRecords item d r R
   some_records d r ok = let c = cut_row item kind r ok in (records_of d c.row, record { row_ok = ok; cut = c.row; cut_ok = c.ok; same = c.same; is = refl })
 
+  -- no node has no record
+  pub no_records : (d : ℕ) (R : List Record) → AreRecords item {V = V} d end R → R ≡ []
+  no_records d R a = a.is ∙ ap (records_of d) (same_row item kind (Some 255) a.cut end a.cut_ok tt a.same)
+
   -- the records behind the first: those below it and those beside it
   pub record Off (d : ℕ) (first : Record) (under beside : Row V) (R : List Record) : Type 0 where
     pub below_records : List Record

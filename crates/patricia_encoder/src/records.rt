@@ -1,8 +1,8 @@
 //! The records of a tree, one after the other.
-ghost use Rattle.std.specs.Prelude.{◌≡◌, ◌≢◌, ◌<◌, ◌≤◌, ◌^◌, [], length, drop, Some, IfOk};
+ghost use Rattle.std.specs.Prelude.{◌≡◌, ◌≢◌, ◌<◌, ◌≤◌, ◌^◌, [], length, drop, Some, None, false, IfOk, IsTrue};
 ghost use Rattle.patricia_keys.specs.Keys.{IsValid};
 ghost use Rattle.patricia_encoder.specs.Private.Pieces.{IsPiece};
-ghost use Rattle.patricia_encoder.specs.Private.Lefts.{SomeLeft, Takes, Gives, IsDeep, IsStart};
+ghost use Rattle.patricia_encoder.specs.Private.Lefts.{SomeLeft, Takes, Gives, GoesBack, IsDeep, IsOver, IsStart};
 
 use crate::encoder::WireError;
 use crate::record::{LONGEST, Record};
@@ -101,6 +101,21 @@ impl<'a, V> Records<'a, V> {
         })
     }
 
+    // Goes back to the row that waits last, if there is one.
+    fn back<K: Bytes>(&mut self) -> bool
+        requires over { self.old.next ≡ None }
+        ensures step { IsTrue result → GoesBack K.item self.old self.new }
+        ensures over { result ≡ false → IsOver K.item self.old }
+    {
+        let Some(waiting) = self.stack.pop() else {
+            return false;
+        };
+        self.level = waiting.0;
+        self.next = waiting.1;
+        self.skipped = 0;
+        true
+    }
+
     /// The next record, or `None` behind the last.
     pub fn next<K: Bytes>(&mut self) -> Result<Option<Record<'a>>, WireError>
         requires { SomeLeft K.item self.old }
@@ -109,13 +124,14 @@ impl<'a, V> Records<'a, V> {
     {
         loop {
             if let Some(id) = self.next.get() {
-                return Ok(Some(self.take::<K>(id)?));
+                return match self.take::<K>(id) {
+                    Ok(record) => Ok(Some(record)),
+                    Err(error) => Err(error),
+                };
             }
-            let Some((level, row)) = self.stack.pop() else {
+            if !self.back::<K>() {
                 return Ok(None);
-            };
-            self.level = level;
-            self.next = row;
+            }
         }
     }
 }

@@ -1,5 +1,5 @@
 -- The records that are left to be written.
-use Rattle.std.specs.Prelude.{◌≡◌, ℕ, ◌+◌, ◌<◌, ◌≤◌, List, [], ◌∷◌, ◌++◌, Option, Some, None, Any}
+use Rattle.std.specs.Prelude.{◌≡◌, ℕ, ◌+◌, ◌<◌, ◌≤◌, List, [], ◌∷◌, ◌++◌, Option, Some, None, Any, vec_len}
 use Rattle.patricia_rows.specs.Rows.{Row}
 use Rattle.patricia_nodes.specs.declared.slots.Node.{Node}
 use Rattle.patricia_nodes.specs.declared.slots.Slots.{Slots}
@@ -65,9 +65,19 @@ module _ (item : List ℕ → Type 0) {V : Type 0} where
     pub left : (R : List Record) → AreLeft old R → (rest : List Record) × (R ≡ r ∷ rest) × AreLeft new rest
     pub less : weight_left new < weight_left old
 
+  -- nothing was left
+  abbrev pub IsOver : Records V → Type 0
+  IsOver p = (R : List Record) → AreLeft p R → R ≡ []
+
+  -- what is left is what was left, and one row less waits
+  pub record GoesBack (old new : Records V) : Type 0 where
+    pub left : (R : List Record) → AreLeft old R → AreLeft new R
+    pub same : weight_left new ≡ weight_left old
+    pub fewer : vec_len new.stack < vec_len old.stack
+
   -- the first record was taken, or there was none
   abbrev pub Gives : Records V → Option Record → Records V → Type 0
-  Gives old None new = (R : List Record) → AreLeft old R → R ≡ []
+  Gives old None new = IsOver old
   Gives old (Some r) new = Takes old r new
 
   -- whatever was left, one of it lies too deep
