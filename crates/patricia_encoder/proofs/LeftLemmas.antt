@@ -1,8 +1,8 @@
 -- How taking a record changes what is left.
-use Rattle.std.proofs.Common.{◌≡◌, ◌≢◌, ℕ, zero, suc, ◌+◌, ◌<◌, ◌≤◌, true, false, List, [], ◌∷◌, ◌++◌, length, take, drop, get_or, Option, Some, None, refl, sym, ap, subst, ◌∙◌, arith, take_all, drop-drop, length-drop, append-nil, append_assoc}
-use Rattle.std.specs.Prelude.{Bool, is_some, Result, Err, vec_len}
+use Rattle.std.proofs.Common.{◌≡◌, ◌≢◌, ℕ, zero, suc, ◌+◌, ◌<◌, ◌≤◌, true, false, List, [], ◌∷◌, ◌++◌, length, take, drop, get_or, Option, Some, None, refl, sym, ap, subst, ◌∙◌, arith, take_all, drop-drop, length-take, length-drop, append-nil, append_assoc}
+use Rattle.std.specs.Prelude.{Bool, is_some, Result, Ok, Err, IsErrAnd, vec_len}
 use Rattle.patricia_keys.specs.Keys.{IsKeyKind, IsValid}
-use Rattle.patricia_rows.specs.Rows.{Row, end, node, IsRow}
+use Rattle.patricia_rows.specs.Rows.{Row, end, node}
 use Rattle.patricia_nodes.specs.declared.slots.Node.{Node}
 use Rattle.patricia_nodes.specs.Private.Plans.{Plan, Nil, Cell, head, row, plan_at, IsPlan}
 use Rattle.patricia_nodes.proofs.PlanLemmas.{plan_is}
@@ -157,8 +157,8 @@ module _ (item : List ℕ → Type 0) (kind : IsKeyKind item) {V : Type 0} (p : 
 
     -- both together are the step
     pub taken : (r : Record) (at : Option ℕ) (under : Row V) → Beside at → q.stack.items ≡ p.stack.items ++ (p.level, at) ∷ [] → Below r.value r.child under
-        → r.level ≡ p.level → r.label ≡ take k (drop p.skipped n.label) → r.sibling ≡ is_some at → Takes item p r q
-    taken r at under beside stack below level_is label_is sibling_is =
+        → r.level ≡ p.level → r.label ≡ take k (drop p.skipped n.label) → r.sibling ≡ is_some at → p.level < 65536 → Takes item p r q
+    taken r at under beside stack below level_is label_is sibling_is shallow =
         let b = row_at (nodes_of p) at in
         let first : Record = record { level = p.level; label = take k (drop p.skipped n.label); value = r.value; child = r.child; sibling = has_node b } in
         let same : first ≡ r = λ i. record { level = sym level_is i; label = sym label_is i; value = r.value; child = r.child; sibling = sym (sibling_is ∙ has_link (nodes_of p) at beside.stands) i } in
@@ -178,6 +178,8 @@ module _ (item : List ℕ → Type 0) (kind : IsKeyKind item) {V : Type 0} (p : 
                 },
               );
           less = omega (arith, ap weight beside.row_is, ap weight below.next_is, ap (λ nodes. weight_waiting nodes q.stack.items) kept, ap (weight_waiting (nodes_of p)) stack, weight_waiting-snoc item (nodes_of p) p.stack.items (p.level, at), below.lighter);
+          fits = omega (arith, length-take k (drop p.skipped n.label), piece.fits);
+          shallow = shallow;
         })
 
 module _ {V : Type 0} where
@@ -190,8 +192,9 @@ module _ {V : Type 0} where
   behind_end (suc m) (node l v c s) e = absurd (cc)
 
 -- an error that is handed on is the same error
-pub err_again : {A B E : Type 0} (x : Result A E) (e d : E) → x ≡ Err e → ◌≡◌ {A = Result B E} (Err e) (Err d) → x ≡ Err d
-err_again x e d is again = (let same : e ≡ d = cc in is ∙ ap Err same)
+pub err_from : {A B E : Type 0} (x : Result A E) (y : Result B E) (e d : E) → x ≡ Err e → IsErrAnd y (λ f. f ≡ e) → y ≡ Err d → x ≡ Err d
+err_from x (Ok b) e d is same again = absurd (cc)
+err_from x (Err f) e d is same again = (let found : f ≡ d = cc in is ∙ ap Err (sym same ∙ found))
 
 -- where no row is next
 module _ (item : List ℕ → Type 0) (kind : IsKeyKind item) {V : Type 0} (p : Records V) (next : p.next ≡ None) where

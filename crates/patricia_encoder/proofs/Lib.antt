@@ -1,2 +1,3 @@
+pub mod EncodeLemmas
 pub mod LeftLemmas
 pub mod PieceLemmas

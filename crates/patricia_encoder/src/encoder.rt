@@ -1,9 +1,10 @@
 //! Tree bytes.
-ghost use Rattle.std.specs.Prelude.{◌≡◌, ◌++◌, OnOk, IfOk, Any};
+ghost use Rattle.std.specs.Prelude.{◌≡◌, ◌++◌, IfOk};
 ghost use Rattle.patricia_rows.specs.Rows.{own, keys_of, IsRow};
 ghost use Rattle.patricia_nodes.specs.Private.Plans.{IsWhole, row_of, entries_of};
 ghost use Rattle.patricia_wire_laws.specs.TreeBytes.{AreTreeBytes};
 ghost use Rattle.patricia_wire_laws.specs.Writings.{TooDeep};
+ghost use Rattle.patricia_encoder.specs.Private.Lefts.{AreDeep};
 
 use crate::record::{HEAD, Record};
 use crate::records::Records;
@@ -38,6 +39,7 @@ impl From<AllocError> for WireError {
 fn size<K: Bytes, V>(alloc: Global, slots: &Slots<V>) -> Result<usize, WireError>
     requires whole { IsWhole slots.now }
     requires row { IsRow K.item (row_of slots.now) }
+    ensures { result ≡ Err WireError.TooDeep → AreDeep K.item slots.now }
 {
     let mut records = Records::new(alloc, slots);
     let mut size = HEAD;

@@ -124,10 +124,7 @@ impl<'a, V> Records<'a, V> {
     {
         loop {
             if let Some(id) = self.next.get() {
-                return match self.take::<K>(id) {
-                    Ok(record) => Ok(Some(record)),
-                    Err(error) => Err(error),
-                };
+                return Ok(Some(self.take::<K>(id)?));
             }
             if !self.back::<K>() {
                 return Ok(None);

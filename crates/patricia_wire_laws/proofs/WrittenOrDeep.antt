@@ -22,7 +22,7 @@ module _ (P : Record → Type 0) where
   pub any_here : (x : Record) (xs : List Record) → P x → Any P (x ∷ xs)
   any_here x xs p = (0, x, omega arith, refl, p)
 
-  any_there : (x : Record) (xs : List Record) → Any P xs → Any P (x ∷ xs)
+  pub any_there : (x : Record) (xs : List Record) → Any P xs → Any P (x ∷ xs)
   any_there x xs (k, y, h, e, p) = (suc k, y, omega arith, e, p)
 
   pub any_left : (xs ys : List Record) → Any P xs → Any P (xs ++ ys)

@@ -1,5 +1,5 @@
 -- What the laws of the wire form say, each in one sentence.
-use Rattle.std.specs.Prelude.{◌≡◌, ◌⊎◌, ℕ, List, length, All}
+use Rattle.std.specs.Prelude.{◌≡◌, ◌↔◌, ◌⊎◌, ℕ, List, length, All}
 use Rattle.std.specs.FinMap as map
 use Rattle.patricia_keys.specs.Keys.{IsValid, key_cmp}
 use Rattle.patricia_rows.specs.Rows.{keys_of}
@@ -8,6 +8,7 @@ use Rattle.patricia_wire_laws.specs.Records.{Record}
 use Rattle.patricia_wire_laws.specs.Forests.{Root}
 use Rattle.patricia_wire_laws.specs.Writings.{Means, IsTight, Canon, TooDeep}
 use Rattle.patricia_wire_laws.specs.Counts.{LabelsAreFronts, RecordsArePoints, AreFew}
+use Rattle.patricia_wire_laws.specs.TreeBytes.{AreTreeBytes}
 use Rattle.patricia_wire_laws.specs.Faults.{Fault, IsFirst, Stands}
 
 module _ (item : List ℕ → Type 0) where
@@ -93,3 +94,16 @@ module _ (item : List ℕ → Type 0) where
   HasNoFaultWhereMeant V =
       (w : ℕ) (b : List ℕ) (values : List V) (M : List (List ℕ × V)) (f : Fault) (o : ℕ)
       → Means item w b values M → Stands item w b (length values) f o → ⊥
+
+  -- two maps have equal tree bytes exactly where they have the same keys
+  abbrev pub TellsKeySets : Type 0 → Type 0 → Type 0
+  TellsKeySets V W =
+      (w : ℕ) (b c : List ℕ) (rows : List (List ℕ × V)) (others : List (List ℕ × W))
+      → AreTreeBytes item w b rows → AreTreeBytes item w c others
+      → (b ≡ c) ↔ (keys_of rows ≡ keys_of others)
+
+  -- the values have no part in the tree bytes
+  abbrev pub DependsOnKeysAlone : Type 0 → Type 0 → Type 0
+  DependsOnKeysAlone V W =
+      (w : ℕ) (b : List ℕ) (rows : List (List ℕ × V)) (others : List (List ℕ × W))
+      → keys_of rows ≡ keys_of others → AreTreeBytes item w b rows ↔ AreTreeBytes item w b others

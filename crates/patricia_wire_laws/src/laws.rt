@@ -2,7 +2,7 @@
 //! functions that do nothing.
 ghost use Rattle.patricia_wire_laws.specs.WireLaws.{HasOneWriting, HasOneKeySet, HasOneMeaning, MeansMap, WritingMeansRows, IsWrittenOrTooDeep, IsNeverBoth};
 ghost use Rattle.patricia_wire_laws.specs.WireLaws.{CountsFronts, CountsPoints, HasFewRecords, HasOneTightTree, HasOneKeyList, HoldsKeysOfMap};
-ghost use Rattle.patricia_wire_laws.specs.WireLaws.{HasOneFirstFault, HasNoFaultWhereMeant};
+ghost use Rattle.patricia_wire_laws.specs.WireLaws.{HasOneFirstFault, HasNoFaultWhereMeant, TellsKeySets, DependsOnKeysAlone};
 
 use patricia_keys::Bytes;
 
@@ -61,4 +61,11 @@ pub fn one_key_list<K: Bytes>()
 pub fn one_first_fault<K: Bytes, V>()
     ensures one { HasOneFirstFault K.item }
     ensures none { HasNoFaultWhereMeant K.item V }
+{}
+
+/// Two maps or sets have equal tree bytes exactly where they have the same keys, whatever their
+/// values and histories are.
+pub fn tree_bytes_are_keys<K: Bytes, V, W>()
+    ensures equal { TellsKeySets K.item V W }
+    ensures values { DependsOnKeysAlone K.item V W }
 {}

@@ -1,5 +1,5 @@
 -- The records that are left to be written.
-use Rattle.std.specs.Prelude.{◌≡◌, ℕ, ◌+◌, ◌<◌, ◌≤◌, List, [], ◌∷◌, ◌++◌, Option, Some, None, Any, vec_len}
+use Rattle.std.specs.Prelude.{◌≡◌, ℕ, ◌+◌, ◌<◌, ◌≤◌, List, [], ◌∷◌, ◌++◌, length, Option, Some, None, Any, vec_len}
 use Rattle.patricia_rows.specs.Rows.{Row}
 use Rattle.patricia_nodes.specs.declared.slots.Node.{Node}
 use Rattle.patricia_nodes.specs.declared.slots.Slots.{Slots}
@@ -64,6 +64,8 @@ module _ (item : List ℕ → Type 0) {V : Type 0} where
   pub record Takes (old : Records V) (r : Record) (new : Records V) : Type 0 where
     pub left : (R : List Record) → AreLeft old R → (rest : List Record) × (R ≡ r ∷ rest) × AreLeft new rest
     pub less : weight_left new < weight_left old
+    pub fits : length r.label ≤ 255
+    pub shallow : r.level < 65536
 
   -- nothing was left
   abbrev pub IsOver : Records V → Type 0
@@ -89,3 +91,7 @@ module _ (item : List ℕ → Type 0) {V : Type 0} where
   IsAt slots p written =
       (R : List Record) → AreRecords item 1 (row_of slots) R
       → (rest : List Record) × (R ≡ written ++ rest) × AreLeft p rest
+
+  -- and one of the records of the nodes lies too deep
+  abbrev pub AreDeep : Slots V → Type 0
+  AreDeep slots = (R : List Record) → AreRecords item 1 (row_of slots) R → HasDeep R

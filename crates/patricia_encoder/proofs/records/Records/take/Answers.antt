@@ -1,4 +1,4 @@
-use Rattle.std.proofs.Common.{◌≡◌, ◌<◌, ◌++◌, ◌∷◌, [], refl, sym, ap, subst, ◌∙◌, arith, take, drop, length, length-drop}
+use Rattle.std.proofs.Common.{◌≡◌, ◌<◌, ◌++◌, ◌∷◌, [], sym, ap, subst, ◌∙◌, arith, take, drop, length, length-drop}
 use Rattle.std.specs.Prelude.{is_some, is_ok, true}
 use Rattle.patricia_rows.specs.Rows.{end, node}
 use Rattle.patricia_walks.specs.Private.Positions.{row_at}
@@ -7,7 +7,7 @@ use Rattle.patricia_keys.specs.Keys.{IsValid}
 use Rattle.patricia_nodes.proofs.SeekLemmas.{head_within}
 use Rattle.patricia_encoder.specs.Private.Pieces.{IsPiece}
 use Rattle.patricia_encoder.specs.Private.Lefts.{nodes_of}
-use Rattle.patricia_encoder.proofs.LeftLemmas.{label_left, first_deep, Beside, beside_first, beside_later, Below, below_whole, below_part, taken}
+use Rattle.patricia_encoder.proofs.LeftLemmas.{label_left, first_deep, Beside, beside_first, beside_later, below_whole, below_part, taken}
 use Rattle.patricia_encoder.proofs.records.Records.take.Goals as goal
 use Rattle.patricia_encoder.proofs.records.Records.take.Goals.{then-self-eq0, else-self-eq0, then-n-left, else-n-left}
 
@@ -71,6 +71,7 @@ returns-clause-ok g c =
     let r : Record = record { level = c.in-Ok.level; label = take k c.label_behind-left.result.now; value = c.if-n-left.value.0; child = c.if-n-left.value.1; sibling = c.is_some-2.result } in
     let pushed : is_ok c.push.result ≡ true = sym c.map_err.ensures.variant ∙ ap is_ok c.in_ok-map_err.was in
     let stack : c.push.new.self.items ≡ p.stack.items ++ (p.level, at) ∷ [] = rw pushed at c.push.ensures.items in
+    let shallow = (let e = c.in-Ok.ensures in e.0) in
     let level_is = (let e = c.in-Ok.ensures in e.1) in
     let label_is = ap (take k) label in
     let sibling_is = c.is_some-2.ensures ∙ ap is_some c.get-2.ensures in
@@ -82,7 +83,7 @@ returns-clause-ok g c =
           let child = ap (λ v. v.1) w.value-is ∙ w.is_some-then-n-left.ensures ∙ ap is_some w.get.ensures in
           let under = row_at (nodes_of p) n.child in
           let below = below_whole item kind p c.args.id n left.plan c.requires.next reads q k piece kept level (w.if-n-left.true ∙ ap length label) (ap (λ s. s.next) w.self-is) (ap (λ s. s.skipped) w.self-is) in
-          taken item kind p c.args.id n left.plan c.requires.next reads q k piece kept level r at under beside (ap (λ s. s.stack.items) w.self-is ∙ stack) (rw (value, child) below) level_is label_is sibling_is
+          taken item kind p c.args.id n left.plan c.requires.next reads q k piece kept level r at under beside (ap (λ s. s.stack.items) w.self-is ∙ stack) (rw (value, child) below) level_is label_is sibling_is shallow
       | else-n-left w ↦
           let kept = ap nodes_of w.self-is in
           let level = ap (λ s. s.level) w.self-is in
@@ -91,5 +92,5 @@ returns-clause-ok g c =
           let under = node (drop k (drop p.skipped n.label)) n.value (row_at (nodes_of p) n.child) end in
           let short : k < length (drop p.skipped n.label) = omega (arith, piece.within, ap length label, w.if-n-left.false) in
           let below = below_part item kind p c.args.id n left.plan c.requires.next reads q k piece kept level short (ap (λ s. s.next) w.self-is) (ap (λ s. s.skipped) w.self-is) in
-          taken item kind p c.args.id n left.plan c.requires.next reads q k piece kept level r at under beside (ap (λ s. s.stack.items) w.self-is ∙ stack) (rw (value, child) below) level_is label_is sibling_is
+          taken item kind p c.args.id n left.plan c.requires.next reads q k piece kept level r at under beside (ap (λ s. s.stack.items) w.self-is ∙ stack) (rw (value, child) below) level_is label_is sibling_is shallow
     ]
