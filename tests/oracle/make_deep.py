@@ -4,10 +4,11 @@
 
 bytes.in has 8,000 keys, each a beginning of the next, and text.in 30,000 keys of one character.
 They are put in from the last to the first, looked up, asked for what is under and along the last,
-listed, and taken out, the byte keys from the longest, so that each removal goes down to the last
-node, and the texts from the least. Then they are put in again and copied, the tree is split at the
-key in the middle, which drops the copy, what was taken is copied, and the two maps are dropped at
-the end. Each NAME.out is the answer by model.py.
+listed, written, and taken out, the byte keys from the longest, so that each removal goes down to the
+last node, and the texts from the least. Then they are put in again and copied, the tree is split at
+the key in the middle, which drops the copy, what was taken is copied and written, and the two maps
+are dropped at the end. The byte keys end with one so long that its tree is too deep to be written.
+Each NAME.out is the answer by model.py.
 """
 import os
 import sys
@@ -16,6 +17,7 @@ from make_cases import write
 
 NESTED = [b'a' * n for n in range(1, 8001)]
 CHARACTERS = [chr(0x4E00 + n).encode() for n in range(30000)]
+TOO_LONG = b'a' * (255 * 65535 + 1)
 
 
 def two_maps(keys):
@@ -32,18 +34,19 @@ def script(keys, removals):
     look_ups = [b'get\t' + key for key in (keys[0], keys[-1], past)]
     queries = [b'longest\t' + past, b'reach\t' + past, b'under\t' + keys[-1], b'along\t' + past]
     removes = [b'remove\t' + key for key in removals]
-    asked = [*look_ups, *queries, b'len', b'list']
-    lines = [*inserts, *asked, *removes, b'len', b'list', *inserts, b'len', *two_maps(keys)]
+    asked = [*look_ups, *queries, b'len', b'list', b'wire']
+    again = [*inserts, b'len', *two_maps(keys), b'wire']
+    lines = [*inserts, *asked, *removes, b'len', b'list', *again]
     return b''.join(line + b'\n' for line in lines)
 
 
 def main(folder):
-    for kind, keys, removals in (
-        ('bytes', NESTED, NESTED[::-1]),
-        ('text', CHARACTERS, CHARACTERS),
+    for kind, keys, removals, end in (
+        ('bytes', NESTED, NESTED[::-1], b'clear\ninsert\t%s\t1\nwire\n' % TOO_LONG),
+        ('text', CHARACTERS, CHARACTERS, b''),
     ):
         path = os.path.join(folder, kind)
-        data = script(keys, removals)
+        data = script(keys, removals) + end
         write(path + '.in', data)
         write(path + '.out', answer(kind, data))
 

@@ -18,7 +18,8 @@ LONG = b'bcd' * 20
 
 # What changes the map, and its list; questions about prefixes, some of which find no row; and what
 # changes the two maps, by a prefix that ends a key, one in a label, one in a label of more than 30
-# bytes, one that leaves one of two children, one under which there is nothing, and the empty one.
+# bytes, one that leaves one of two children, one under which there is nothing, and the empty one;
+# and what writes the tree.
 SCRIPTS = [
     b'insert\t\t1\ninsert\tab\t2\ninsert\tac\t3\ninsert\tab\t4\nget\tac\nlist\n'
     b'remove\tab\nlen\nlist\nremove\t\nclear\nlist\n',
@@ -28,6 +29,8 @@ SCRIPTS = [
     b'list\nswap\nlist\nswap\nsplit\t%s\nlen\nswap\nlist\ncopy\nremove\t%s\nlist\nswap\n'
     b'get\t%s\nsplit\tb\nlen\nsplit\t%s\nlen\nswap\nsplit\t\nlen\nswap\nlist\n'
     % (LONG, LONG[:33], LONG, LONG, LONG[:3]),
+    b'wire\ninsert\t\t1\nwire\ninsert\tab\t2\ninsert\tac\t30\ninsert\tacd\t4\nwire\nlist\n'
+    b'remove\tab\nwire\nlist\n',
 ]
 
 ERRORS = [b'ptree: read failed\n', b'ptree: out of memory\n']
@@ -69,7 +72,7 @@ def may_be_refused(m, line):
         return fields[0] != b'' and bool(under(m, fields[0]))
     if word == b'copy':
         return bool(m)
-    return False
+    return word == b'wire'
 
 
 def is_allowed(kind, data, output):

@@ -44,8 +44,11 @@ WEIGHTS = {b'insert': 40, b'remove': 16, b'get': 8, b'len': 2, b'list': 2, b'cle
            b'under': 5, b'along': 5, b'longest': 6, b'reach': 6}
 # each word with its weight among the others, where the two maps change too
 ALL_WEIGHTS = {**WEIGHTS, b'insert': 80, b'list': 4, b'split': 40, b'swap': 25, b'copy': 10}
+# and where the tree is written often, too
+WIRE_WEIGHTS = {**ALL_WEIGHTS, b'insert': 160, b'split': 10, b'swap': 15, b'wire': 40}
 FIELDS = {b'insert': 2, b'remove': 1, b'get': 1, b'len': 0, b'list': 0, b'clear': 0,
-          b'under': 1, b'along': 1, b'longest': 1, b'reach': 1, b'split': 1, b'swap': 0, b'copy': 0}
+          b'under': 1, b'along': 1, b'longest': 1, b'reach': 1, b'split': 1, b'swap': 0, b'copy': 0,
+          b'wire': 0}
 NUMBERS = [b'0', b'1', b'007', b'18446744073709551615', b'00018446744073709551615']
 FAULTY = [b'', b'put\ta', b'get', b'len\t', b'insert\ta', b'insert\ta\t', b'insert\ta\tx',
           b'insert\ta\t-1', b'insert\ta\t18446744073709551616', b'get\ta\tb', b'Get\ta',
@@ -79,11 +82,11 @@ def command(rng, word, known, make, n):
     return b'\t'.join([word, b''.join(key), number][:1 + FIELDS[word]])
 
 
-def script_of_all(rng, kind, shape, size):
+def script_of_all(rng, kind, shape, size, weights=ALL_WEIGHTS):
     """`size` command lines, among them at least one of each word, and lists of both maps."""
     make, known = key_maker(rng, kind, shape), [[]]
-    more = rng.choices(list(ALL_WEIGHTS), ALL_WEIGHTS.values(), k=size - len(ALL_WEIGHTS))
-    words = rng.sample([*ALL_WEIGHTS, *more], k=size)
+    more = rng.choices(list(weights), weights.values(), k=size - len(weights))
+    words = rng.sample([*weights, *more], k=size)
     out = [command(rng, word, known, make, n) for n, word in enumerate(words)]
     return b''.join(line + b'\n' for line in [*out, b'list', b'swap', b'list'])
 

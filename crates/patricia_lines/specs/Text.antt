@@ -42,7 +42,8 @@ word_of field =
     else (if bytes_eq field (codes "swap") then Some Words.Swap
     else (if bytes_eq field (codes "copy") then Some Words.Copy
     else (if bytes_eq field (codes "clear") then Some Words.Clear
-    else None))))))))))))
+    else (if bytes_eq field (codes "wire") then Some Words.Wire
+    else None)))))))))))))
 
 -- a key, or the fault of a field that spells none
 abbrev pub readable : Option (List ℕ) → Result (List ℕ) Fault
@@ -89,6 +90,7 @@ said_after spelling Words.Split fields = keyed (λ key. Commands.Split key) (key
 said_after spelling Words.Swap fields = alone Commands.Swap fields
 said_after spelling Words.Copy fields = alone Commands.Copy fields
 said_after spelling Words.Clear fields = alone Commands.Clear fields
+said_after spelling Words.Wire fields = alone Commands.Wire fields
 
 -- what the fields of a line say, the first of which is its word
 abbrev pub said_by : Spelling → List (List ℕ) → Said

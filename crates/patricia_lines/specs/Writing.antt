@@ -1,7 +1,7 @@
 -- The lines that an output has for faults and replies.
 use Rattle.std.specs.Prelude.{ℕ, List, [], ◌∷◌, ◌++◌, length, map, codes, Ok, Err}
 use Rattle.std.specs.Fmt.{decimal}
-use Rattle.std.specs.List.{concat}
+use Rattle.std.specs.List.{concat, join_by}
 use Rattle.patricia_machine.specs.declared.command.Reply.{Reply}
 use Rattle.patricia_machine.specs.declared.command.Reply.TheVariants as Replies
 use Rattle.patricia_lines.specs.declared.reading.Fault.{Fault}
@@ -32,6 +32,20 @@ fault_number Faults.BadKey = 4
 abbrev pub fault_line : Fault → List ℕ
 fault_line fault = number_line (codes "fault") (fault_number fault)
 
+-- numbers in decimal, with a comma between each two
+abbrev pub joined_by_commas : List ℕ → List ℕ
+joined_by_commas numbers = join_by decimal (codes ",") numbers
+
+-- numbers joined so, or - where there is none
+abbrev pub joined_or_dash : List ℕ → List ℕ
+joined_or_dash [] = codes "-"
+joined_or_dash (number ∷ numbers) = joined_by_commas (number ∷ numbers)
+
+-- the tree bytes, and the values
+abbrev pub wire_line : List ℕ → List ℕ → List ℕ
+wire_line bytes values =
+    codes "wire " ++ joined_by_commas bytes ++ 32 ∷ joined_or_dash values ++ 10 ∷ []
+
 -- the lines of a reply
 abbrev pub reply_lines : {K : Type 0} → Spelling → (K → List ℕ) → Reply K ℕ → List ℕ
 reply_lines spelling key_of Replies.None = codes "none\n"
@@ -42,6 +56,8 @@ reply_lines spelling key_of (Replies.Count n) = number_line (codes "count") n
 reply_lines spelling key_of (Replies.Rows rows) =
     number_line (codes "rows") (length rows.items) ++ row_lines spelling key_of rows.items
 reply_lines spelling key_of Replies.Done = codes "ok\n"
+reply_lines spelling key_of (Replies.Wire bytes values) = wire_line bytes.items values.items
+reply_lines spelling key_of Replies.TooDeep = codes "too deep\n"
 reply_lines spelling key_of Replies.NoMemory = codes "no memory\n"
 
 -- for each line that was read, in turn, the line of its fault, or the lines of the next reply

@@ -40,6 +40,7 @@ enum Word {
     Swap,
     Copy,
     Clear,
+    Wire,
 }
 
 // The number that a field writes.
@@ -89,6 +90,8 @@ fn first_word(field: &[u8]) -> Option<Word>
         Some(Word::Copy)
     } else if field == b"clear".as_slice() {
         Some(Word::Clear)
+    } else if field == b"wire".as_slice() {
+        Some(Word::Wire)
     } else {
         None
     }
@@ -143,6 +146,7 @@ fn command<'a, Q: Spelled<'a>>(word: Word, fields: &[&'a [u8]]) -> Reading<Q>
         Word::Swap => alone(Command::Swap, fields),
         Word::Copy => alone(Command::Copy, fields),
         Word::Clear => alone(Command::Clear, fields),
+        Word::Wire => alone(Command::Wire, fields),
     }
 }
 

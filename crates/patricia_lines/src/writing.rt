@@ -4,6 +4,7 @@ ghost use Rattle.std.specs.Prelude.{◌≡◌, ℕ, List, [], ◌∷◌, ◌++�
 ghost use Rattle.std.specs.Fmt.{decimal};
 ghost use Rattle.patricia_lines.specs.Text.{Said, said_with};
 ghost use Rattle.patricia_lines.specs.Writing.{number_line, row_line, row_lines, fault_line};
+ghost use Rattle.patricia_lines.specs.Writing.{joined_by_commas, joined_or_dash, wire_line};
 ghost use Rattle.patricia_lines.specs.Writing.{reply_lines, output_of};
 
 use crate::reading::{Fault, Reading};
@@ -12,13 +13,19 @@ use patricia_machine::Reply;
 use patricia_tree::Bytes;
 use std::alloc::{AllocError, Global};
 
+fn write_decimal(alloc: Global, out: &mut Vec<u8>, n: u64) -> Result<(), AllocError>
+    ensures { OnOk result (out.new.items ≡ out.old.items ++ decimal n) }
+{
+    let text = n.to_string(alloc)?;
+    out.extend_from_slice(text.as_bytes())
+}
+
 // Ends a line with a space and a number.
 fn write_number(alloc: Global, out: &mut Vec<u8>, n: u64) -> Result<(), AllocError>
     ensures { OnOk result (out.new.items ≡ out.old.items ++ number_line [] n) }
 {
-    let text = n.to_string(alloc)?;
     out.push(b' ')?;
-    out.extend_from_slice(text.as_bytes())?;
+    write_decimal(alloc, out, n)?;
     out.push(b'\n')?;
     Ok(())
 }
@@ -41,9 +48,8 @@ fn write_longest(
     ensures { OnOk result (out.new.items
         ≡ out.old.items ++ number_line (codes "some" ++ 32 ∷ decimal length) value) }
 {
-    let text = length.to_string(alloc)?;
     out.extend_from_slice(b"some ")?;
-    out.extend_from_slice(text.as_bytes())?;
+    write_decimal(alloc, out, length)?;
     write_number(alloc, out, value)
 }
 
@@ -70,6 +76,48 @@ fn write_rows<'a, Q: Spelled<'a>>(
     for row in rows {
         write_row::<Q>(alloc, out, row)?;
     }
+    Ok(())
+}
+
+fn write_joined(alloc: Global, out: &mut Vec<u8>, numbers: &[u64]) -> Result<(), AllocError>
+    ensures { OnOk result (out.new.items ≡ out.old.items ++ joined_by_commas numbers.now) }
+{
+    let Some((first, others)) = numbers.split_first() else {
+        return Ok(());
+    };
+    write_decimal(alloc, out, *first)?;
+    for number in others {
+        out.push(b',')?;
+        write_decimal(alloc, out, *number)?;
+    }
+    Ok(())
+}
+
+fn write_joined_or_dash(alloc: Global, out: &mut Vec<u8>, numbers: &[u64]) -> Result<(), AllocError>
+    ensures { OnOk result (out.new.items ≡ out.old.items ++ joined_or_dash numbers.now) }
+{
+    if numbers.is_empty() {
+        out.extend_from_slice(b"-")
+    } else {
+        write_joined(alloc, out, numbers)
+    }
+}
+
+// The tree bytes, and the values.
+fn write_wire(
+    alloc: Global,
+    out: &mut Vec<u8>,
+    bytes: &[u8],
+    values: &[u64],
+) -> Result<(), AllocError>
+    ensures { OnOk result (out.new.items ≡ out.old.items ++ wire_line bytes.now values.now) }
+{
+    let numbers: Vec<u64> = bytes.iter().map(|byte| u64::from(*byte)).collect(alloc)?;
+    out.extend_from_slice(b"wire ")?;
+    write_joined(alloc, out, &numbers)?;
+    out.push(b' ')?;
+    write_joined_or_dash(alloc, out, values)?;
+    out.push(b'\n')?;
     Ok(())
 }
 
@@ -103,6 +151,8 @@ fn write_reply<'a, Q: Spelled<'a>>(
             write_rows::<Q>(alloc, out, rows)
         }
         Reply::Done => out.extend_from_slice(b"ok\n"),
+        Reply::Wire(bytes, values) => write_wire(alloc, out, bytes, values),
+        Reply::TooDeep => out.extend_from_slice(b"too deep\n"),
         Reply::NoMemory => out.extend_from_slice(b"no memory\n"),
     }
 }

@@ -6,6 +6,7 @@ use Rattle.patricia_tree.specs.Clones.{IsKept}
 use Rattle.patricia_tree.specs.Keys.{key_cmp}
 use Rattle.patricia_tree.specs.Points.{Joins}
 use Rattle.patricia_tree.specs.Prefixes.{under, outside, along, longest, IsReach}
+use Rattle.patricia_tree.specs.Writings.{Canon, TooDeep}
 use Rattle.patricia_machine.specs.declared.command.Command.{Command}
 use Rattle.patricia_machine.specs.declared.command.Command.TheVariants as Commands
 use Rattle.patricia_machine.specs.declared.command.Reply.{Reply}
@@ -44,6 +45,7 @@ with_key key_of (Commands.Split prefix) = Commands.Split (key_of prefix)
 with_key key_of Commands.Swap = Commands.Swap
 with_key key_of Commands.Copy = Commands.Copy
 with_key key_of Commands.Clear = Commands.Clear
+with_key key_of Commands.Wire = Commands.Wire
 
 -- rows with the bytes of each key in the key's place
 abbrev pub rows_of : {K V : Type 0} → (K → List ℕ) → List (K × V) → List (List ℕ × V)
@@ -135,6 +137,18 @@ abbrev pub Clears : {K V : Type 0} → State V → Reply K V → State V → Typ
 Clears old Replies.Done new = new ≡ record old { main = map.empty }
 Clears old _ new = ⊥
 
+-- a wire replies the writing of the keys, its levels in two bytes, and the values in key order;
+-- it is too deep only where the keys are, and for memory it may fail at any time
+abbrev pub Writes :
+    {K V : Type 0} → (List ℕ → Type 0) → State V → Reply K V → State V → Type 0
+Writes item old (Replies.Wire bytes values) new =
+    Canon item 2 bytes.items (map.keys old.main)
+    × (values.items ≡ map.values old.main)
+    × (new ≡ old)
+Writes item old Replies.TooDeep new = TooDeep item 2 (map.keys old.main) × (new ≡ old)
+Writes item old Replies.NoMemory new = new ≡ old
+Writes item old _ new = ⊥
+
 -- the relation of each command;
 -- keys are made of such items, and key_of gives the bytes of a row's key
 abbrev pub Step :
@@ -156,6 +170,7 @@ Step item key_of old (Commands.Split prefix) reply new = Splits old prefix reply
 Step item key_of old Commands.Swap reply new = Swaps old reply new
 Step item key_of old Commands.Copy reply new = Copies old reply new
 Step item key_of old Commands.Clear reply new = Clears old reply new
+Step item key_of old Commands.Wire reply new = Writes item old reply new
 
 -- the machine may reply so to the commands in turn, with one reply for each
 abbrev pub Run :

@@ -5,10 +5,11 @@ ghost use Rattle.std.specs.FinMap as map;
 ghost use Rattle.patricia_tree.specs.Prefixes.{along, under};
 ghost use Rattle.patricia_machine.specs.Machine.{Inserts, Gets, Removes, Counts, Shows};
 ghost use Rattle.patricia_machine.specs.Machine.{FindsLongest, Reaches, Splits, Swaps, Copies, Clears};
+ghost use Rattle.patricia_machine.specs.Machine.{Writes};
 ghost use Rattle.patricia_machine.specs.Machine.{Step, Run, KeepsClones, empty_state, rows_of, with_key};
 
 use crate::command::{Command, Reply};
-use patricia_tree::{BorrowedBytes, Bytes, GenericPatriciaMap};
+use patricia_tree::{BorrowedBytes, Bytes, GenericPatriciaMap, WireError};
 use std::alloc::{AllocError, Global};
 use std::marker::Model;
 use std::mem;
@@ -80,6 +81,20 @@ fn rows_along<Q: BorrowedBytes, V: Copy>(
         rows.push((Bytes::from_bytes(alloc, prefix.as_bytes())?, *value))?;
     }
     Ok(rows)
+}
+
+// The values of a map, in key order.
+fn values<K: Bytes, V: Copy>(
+    alloc: Global,
+    entries: &GenericPatriciaMap<K, V>,
+) -> Result<Vec<V>, AllocError>
+    ensures { IfOk result (λ values. values.items ≡ map.values entries.now) }
+{
+    let mut values = Vec::new(alloc);
+    for value in entries.values() {
+        values.push(*value?)?;
+    }
+    Ok(values)
 }
 
 impl<K: Bytes, V: Copy> Bench<K, V> {
@@ -225,6 +240,21 @@ impl<K: Bytes, V: Copy> Bench<K, V> {
         Reply::Done
     }
 
+    // Writes the tree.
+    fn wire(&self) -> Reply<K, V>
+        ensures { Writes K.item self.now result self.now }
+    {
+        let bytes = match self.main.tree_bytes() {
+            Ok(bytes) => bytes,
+            Err(WireError::TooDeep) => return Reply::TooDeep,
+            Err(WireError::Memory) => return Reply::NoMemory,
+        };
+        match values(self.alloc, &self.main) {
+            Ok(values) => Reply::Wire(bytes, values),
+            Err(_) => Reply::NoMemory,
+        }
+    }
+
     /// Does one command. Each clone of a value is asked to be that value.
     pub fn step<Q: BorrowedBytes<Owned = K>>(&mut self, command: Command<Q, V>) -> Reply<K, V>
         requires { KeepsClones V.is_clone }
@@ -244,6 +274,7 @@ impl<K: Bytes, V: Copy> Bench<K, V> {
             Command::Swap => self.swap(),
             Command::Copy => self.copy(),
             Command::Clear => self.clear(),
+            Command::Wire => self.wire(),
         }
     }
 }

@@ -16,6 +16,7 @@ pub enum Command<Q, V> {
     Swap,
     Copy,
     Clear,
+    Wire,
 }
 
 /// What a bench replies.
@@ -28,5 +29,9 @@ pub enum Reply<K, V> {
     Count(usize),
     Rows(Vec<(K, V)>),
     Done,
+    /// The tree bytes, and the values in key order.
+    Wire(Vec<u8>, Vec<V>),
+    /// The tree is deeper than the levels of tree bytes go.
+    TooDeep,
     NoMemory,
 }

@@ -7,6 +7,17 @@ use std::alloc::Global;
 use std::process::Abort;
 use std::test::Fail;
 
+// The value or the count that a reply has, the number of its rows, or that of its tree bytes.
+fn number<K: Bytes>(reply: &Reply<K, u32>) -> Option<u32> {
+    match reply {
+        Reply::Some(value) | Reply::Longest(_, value) => Some(*value),
+        Reply::Count(count) => u32::try_from(*count).ok(),
+        Reply::Rows(rows) => u32::try_from(rows.len()).ok(),
+        Reply::Wire(bytes, _) => u32::try_from(bytes.len()).ok(),
+        _ => None,
+    }
+}
+
 // Asserts that a run of a new bench replies with these numbers, over keys of any kind.
 fn check_numbers<K: Bytes, Q: BorrowedBytes<Owned = K>>(
     rt: &impl Abort,
@@ -17,43 +28,55 @@ fn check_numbers<K: Bytes, Q: BorrowedBytes<Owned = K>>(
     let mut bench: Bench<K, u32> = Bench::new(alloc);
     let mut numbers = Vec::new(alloc);
     for reply in run(&mut bench, commands)? {
-        numbers.push(match reply {
-            Reply::Some(value) => Some(value),
-            Reply::Longest(_, value) => Some(value),
-            Reply::Count(count) => u32::try_from(count).ok(),
-            Reply::Rows(rows) => u32::try_from(rows.len()).ok(),
-            _ => None,
-        })?;
+        numbers.push(number(&reply))?;
     }
     assert_eq!(rt; numbers.as_slice(), wanted);
     Ok(())
 }
 
-// Two inserts of a key, and what is then there.
-fn commands<Q: Copy>(key: Q, beginning: Q) -> [Command<Q, u32>; 9] {
+// Each of the commands, over a key that is put in and a beginning of it.
+fn commands<Q: Copy>(key: Q, beginning: Q) -> [Command<Q, u32>; 18] {
     [
         Command::Insert(key, 1),
         Command::Insert(key, 2),
         Command::Get(key),
         Command::Get(beginning),
         Command::Len,
+        Command::List,
         Command::Under(beginning),
         Command::Along(beginning),
         Command::Longest(key),
         Command::Reach(beginning),
+        Command::Wire,
+        Command::Copy,
+        Command::Split(beginning),
+        Command::Wire,
+        Command::Swap,
+        Command::Remove(key),
+        Command::Clear,
+        Command::Len,
     ]
 }
 
-const NUMBERS: [Option<u32>; 9] = [
+const NUMBERS: [Option<u32>; 18] = [
     None,
     Some(1),
     Some(2),
     None,
+    Some(1),
     Some(1),
     Some(1),
     Some(0),
     Some(2),
     Some(2),
+    Some(11),
+    None,
+    None,
+    Some(4),
+    None,
+    Some(2),
+    None,
+    Some(0),
 ];
 
 #[test]

@@ -129,6 +129,16 @@ fn answers_for_each_kind(rt: HostRuntime) -> Result<(), AllocError> {
     check_answer(&rt, alloc, "text", text, output)
 }
 
+// Want of memory that is not real meets the contracts of a wire. So its whole answer is asked for.
+#[test]
+fn wires_for_each_kind(rt: HostRuntime) -> Result<(), AllocError> {
+    let alloc = rt.alloc();
+    let text = b"wire\ninsert\ta\t7\nwire\nwire\tx\n".as_slice();
+    let output = b"wire 0,0,0,0 -\nnone\nwire 12,0,0,0,3,1,0,1,97 7\nfault 2\n".as_slice();
+    check_answer(&rt, alloc, "bytes", text, output)?;
+    check_answer(&rt, alloc, "text", text, output)
+}
+
 // Asserts the status 1, what was written and the error line of a short run.
 fn check_failure(
     rt: &impl Abort,
