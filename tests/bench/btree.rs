@@ -130,6 +130,20 @@ fn tenth<'a>(keys: &[&'a [u8]]) -> &'a [u8] {
     best.0
 }
 
+// Copies the bytes of all keys, one key after the other, and says how many there are for 1,000
+// entries.
+fn time_tree(times: bool, map: &Map) {
+    let start = Instant::now();
+    let mut bytes = Vec::new();
+    for key in map.keys() {
+        bytes.extend_from_slice(key);
+    }
+    report(times, "tree_bytes", start, map.len(), map.len() as u64);
+    if times {
+        println!("tree_size {}", bytes.len() * 1000 / map.len().max(1));
+    }
+}
+
 // The bytes that a line of /proc/self/status names.
 fn memory(name: &str) -> u64 {
     let status = std::fs::read_to_string("/proc/self/status").unwrap();
@@ -180,6 +194,7 @@ fn measure(times: bool, present: &mut [&[u8]], absent: &[&[u8]], prefix: &[u8]) 
     report(times, "under", start, some.len(), under(&map, some));
     let start = Instant::now();
     report(times, "longest", start, some.len(), longest(&map, some));
+    time_tree(times, &map);
     let (count, start) = (map.len(), Instant::now());
     report(times, "values_mut", start, count, raised(&mut map));
     time_copies(times, &map, prefix);

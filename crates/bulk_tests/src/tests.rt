@@ -4,3 +4,4 @@ mod copies;
 mod helpers;
 mod pairs;
 mod splits;
+mod trees;

@@ -2,7 +2,8 @@
 //!
 //! The input has a key a line. The keys of every other line are put in, the rest are only asked
 //! for. With the word `times` each line of the output has nanoseconds a call or an entry, or bytes
-//! a key; `share` has the thousandths of the entries that `split_by_prefix` takes out.
+//! a key; `tree_size` has the tree bytes of 1,000 entries, and `share` the thousandths of the entries
+//! that `split_by_prefix` takes out.
 #![tactic(auto)]
 
 mod keys;
@@ -252,6 +253,24 @@ fn time_copies<Q: BorrowedBytes>(
     time_split(rt, times, &mut copy, prefix)
 }
 
+// Writes the tree bytes, and says how many there are for 1,000 entries.
+fn time_tree<K: Bytes>(
+    rt: &(impl Clock + Print),
+    times: bool,
+    map: &GenericPatriciaMap<K, u64>,
+) -> io::Result<()> {
+    let start = Instant::now(rt)?;
+    let Ok(bytes) = map.tree_bytes() else {
+        return Err(io::Error::from(AllocError));
+    };
+    report(rt, times, "tree_bytes", start, map.len(), map.len() as u64)?;
+    if times {
+        let entries = map.len().max(1) as u128;
+        println!(rt; "tree_size {}", bytes.len() as u128 * 1000 / entries)?;
+    }
+    Ok(())
+}
+
 // Looks all keys up, and calls each walk.
 fn time_reads<Q: BorrowedBytes>(
     rt: &(impl Clock + Print),
@@ -300,6 +319,7 @@ fn measure<Q: BorrowedBytes>(
     let memory = fill(rt, times, &mut map, present)?;
     shuffle(present, 3);
     time_reads(rt, times, &map, present, absent, halves)?;
+    time_tree(rt, times, &map)?;
     time_write(rt, times, "values_mut", &mut map, Write::Raise, present)?;
     time_copies(rt, times, &map, prefix)?;
     time_write(rt, times, "remove", &mut map, Write::Take, present)?;
