@@ -78,7 +78,6 @@ def deep():
     yield 'bytes size +a*%d' % (PIECE * DEEPEST)
     yield 'bytes size +a*%d +b' % (PIECE * DEEPEST + 1)
     yield 'text size +a*%d +a*%d.b' % (PIECE * DEEPEST - 1, PIECE * DEEPEST - 2)
-    yield 'text size +a*%d /b -a*%d' % ((PIECE * DEEPEST + 1,) * 2)
     yield from both('size', '^a*300', '-a*300')
 
 
@@ -87,7 +86,7 @@ def some_key(rng, kind, keys):
     items = ['a', 'b', 'é', 'あ', 'い', '🌏', '🍔'] if kind == 'text' else ['a', 'b', '%0', '%128', '%255']
     parts = [rng.choice(keys)] if keys and rng.random() < 0.6 else []
     for _ in range(rng.randrange(3)):
-        often = rng.choice([1] * 9 + [2, 3, 30, 63, 85, 127, 255])
+        often = rng.choice([1] * 30 + [2, 3, 4, 30, 63, 85, 86, 255])
         parts.append(rng.choice(items) + ('*%d' % often if often > 1 else ''))
     return '.'.join(parts) or '*'
 
@@ -101,7 +100,7 @@ def some_line(rng):
             key = rng.choice(keys)
         keys += [key] if key != '*' else []
         steps.append(sign + key + ('=%d' % rng.randrange(1000) if sign == '+' else ''))
-    return ' '.join([kind, rng.choice(['tree', 'tree', 'json']), *steps])
+    return ' '.join([kind, rng.choice(['tree', 'tree', 'tree', 'json']), *steps])
 
 
 def main():

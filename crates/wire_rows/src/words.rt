@@ -27,13 +27,17 @@ impl<'a> Readable<'a> for &'a str {
     }
 }
 
+// The number that some digits write, or 0.
+fn number(digits: &str) -> usize {
+    digits.parse::<usize>().unwrap_or(0)
+}
+
 // The bytes that a part of a key stands for.
 fn part(alloc: Global, text: &str) -> Result<Vec<u8>, AllocError> {
     let (text, times) = text.split_once('*').unwrap_or((text, "1"));
-    let times = times.parse::<usize>().unwrap_or(0);
     match text.strip_prefix('%') {
-        Some(number) => [number.parse::<u8>().unwrap_or(0)].repeat(alloc, times),
-        None => text.as_bytes().repeat(alloc, times),
+        Some(byte) => number(byte).to_le_bytes()[..1].repeat(alloc, number(times)),
+        None => text.as_bytes().repeat(alloc, number(times)),
     }
 }
 
@@ -67,7 +71,7 @@ fn read_step<'t>(alloc: Global, word: &'t str) -> Result<Step<'t>, AllocError> {
     Ok(Step {
         sign,
         key: key(alloc, text)?,
-        value: value.parse::<u64>().unwrap_or(0),
+        value: number(value) as u64,
     })
 }
 
