@@ -1,9 +1,9 @@
 -- Laws of the array of the bytes and the values, of floating-point numbers in values, and of an
 -- array of two.
-use Rattle.std.proofs.Common.{◌≡◌, ℕ, ◌≤◌, ◌<◌, suc, List, [], ◌∷◌, length, zero, subst, refl, sym, ap, ◌∙◌, arith, map, false, Bool, drop, get_or}
+use Rattle.std.proofs.Common.{◌≡◌, ℕ, ◌≤◌, ◌<◌, suc, List, [], ◌∷◌, length, zero, subst, refl, sym, ap, ◌∙◌, arith, map, false, Bool, drop, get_or, rules}
 use Rattle.std.specs.Prelude.{◌||◌}
 use Rattle.serde_json.specs.Data.{Data, number, unsigned, Items, item, no_items, depth, items_depth}
-use Rattle.serde_json.specs.View.{items_of, items_view, members_of, view}
+use Rattle.serde_json.specs.View.{items_of, items_view, members_of, number_view, view}
 use Rattle.serde_json.proofs.Views.{view-Array, view-Object}
 use Rattle.serde_json.specs.Written.{has_float, items_have_float, members_have_float}
 use Rattle.std.specs.List.{list_any, remove, AllByRecursion}
@@ -11,7 +11,8 @@ use Rattle.std.proofs.lemmas.List.{at_drop_all}
 use Rattle.std.specs.BTreeMap.{BTreeMap}
 use Rattle.std.specs.Prelude.{String, Vec}
 use Rattle.std.specs.declared.alloc.Global.{Global}
-use Rattle.serde_json.specs.declared.value.Value.{Value, Array, Object}
+use Rattle.serde_json.specs.declared.number.Number.{Number as NumberOf}
+use Rattle.serde_json.specs.declared.value.Value.{Value, Array, Number, Object, the_lemmas}
 use Rattle.patricia_json.specs.Pairs.{pair_data, numbers_of}
 
 -- the bytes are whole numbers, and nest nothing
@@ -85,3 +86,7 @@ number_at [] bs i v h at same small = absurd (omega arith)
 number_at (x ∷ vs) [] i v h at same small = cc
 number_at (x ∷ vs) (b ∷ bs) zero v h at same small = (b, small.0, ap view at ∙ cc)
 number_at (x ∷ vs) (b ∷ bs) (suc i) v h at same small = number_at vs bs i v (omega arith) at (cc) small.1
+
+-- a number is viewed as a number
+pub view-Number : (n : NumberOf) → view (Number n) ≡ number (number_view n)
+view-Number n = search (rules, the_lemmas)

@@ -3,8 +3,9 @@
 
 mod debug;
 
-use patricia_tree::{BorrowedBytes, GenericPatriciaSet, PatriciaSet, StringPatriciaSet};
+use patricia_tree::{BorrowedBytes, GenericPatriciaSet};
 use std::alloc::{AllocError, Global};
+use std::fmt::Debug;
 
 // A set of these elements.
 fn set_of<Q: BorrowedBytes>(
@@ -19,7 +20,11 @@ fn set_of<Q: BorrowedBytes>(
 }
 
 // Prints the longest element that begins each key, and how far any element goes with it.
-fn longest(rt: &impl Print, set: &StringPatriciaSet, keys: &[&str]) -> anyhow::Result<()> {
+fn longest<Q: BorrowedBytes + Debug>(
+    rt: &impl Print,
+    set: &GenericPatriciaSet<Q::Owned>,
+    keys: &[Q],
+) -> anyhow::Result<()> {
     for key in keys {
         let found = set.get_longest_common_prefix(*key);
         let reach = set.longest_common_prefix_len(*key);
@@ -29,14 +34,28 @@ fn longest(rt: &impl Print, set: &StringPatriciaSet, keys: &[&str]) -> anyhow::R
 }
 
 // Prints what a split leaves and what it takes out.
-fn split(rt: &impl Print, mut set: StringPatriciaSet, prefix: &str) -> anyhow::Result<()> {
+fn split<Q: BorrowedBytes + Debug>(
+    rt: &impl Print,
+    mut set: GenericPatriciaSet<Q::Owned>,
+    prefix: Q,
+) -> anyhow::Result<()>
+where
+    Q::Owned: Debug,
+{
     let taken = set.split_by_prefix(prefix)?;
     println!(rt; "split {prefix:?}: {set:?} {taken:?}")?;
     Ok(())
 }
 
 // Takes elements out, and prints each answer.
-fn remove(rt: &impl Print, mut set: StringPatriciaSet, elements: &[&str]) -> anyhow::Result<()> {
+fn remove<Q: BorrowedBytes + Debug>(
+    rt: &impl Print,
+    mut set: GenericPatriciaSet<Q::Owned>,
+    elements: &[Q],
+) -> anyhow::Result<()>
+where
+    Q::Owned: Debug,
+{
     for element in elements {
         let was_there = set.remove(*element)?;
         println!(rt; "remove {element:?}: {was_there} {set:?}")?;
@@ -45,7 +64,11 @@ fn remove(rt: &impl Print, mut set: StringPatriciaSet, elements: &[&str]) -> any
 }
 
 // Puts elements in, and prints each answer.
-fn insert(rt: &impl Print, mut set: StringPatriciaSet, elements: &[&str]) -> anyhow::Result<()> {
+fn insert<Q: BorrowedBytes + Debug>(
+    rt: &impl Print,
+    mut set: GenericPatriciaSet<Q::Owned>,
+    elements: &[Q],
+) -> anyhow::Result<()> {
     for element in elements {
         let is_new = set.insert(*element)?;
         println!(rt; "insert {element:?}: {is_new} {}", set.len())?;
@@ -54,7 +77,14 @@ fn insert(rt: &impl Print, mut set: StringPatriciaSet, elements: &[&str]) -> any
 }
 
 // Prints the elements of a set that is read to its end, and those under a prefix.
-fn walk(rt: &impl Print, set: StringPatriciaSet, prefix: &str) -> anyhow::Result<()> {
+fn walk<Q: BorrowedBytes + Debug>(
+    rt: &impl Print,
+    set: GenericPatriciaSet<Q::Owned>,
+    prefix: Q,
+) -> anyhow::Result<()>
+where
+    Q::Owned: Debug,
+{
     for element in set.iter_prefix(prefix) {
         println!(rt; "under {prefix:?}: {:?}", element?)?;
     }

@@ -3,7 +3,7 @@ use Rattle.std.specs.List.{list_any}
 use Rattle.std.specs.Prelude.{◌||◌}
 use Rattle.serde_json.specs.Written.{has_float}
 use Rattle.serde_json.specs.View.{view}
-use Rattle.patricia_json.proofs.PairLemmas.{array_float, object_float}
+use Rattle.patricia_json.proofs.PairLemmas.{array_float, object_float, view-Number}
 use Rattle.patricia_json.proofs.json.+holds_float.Goals as goal
 
 pub returns-after-loop-item : goal.returns-after-loop-item
@@ -24,3 +24,6 @@ loop-member-preserved t c = record {
   ends = tt;
   left = c.loop-member.invariant.left ∙ (ap (list_any (λ v. has_float (view v))) c.in-Some.ensures.steps ∙ ap (λ b. b || list_any (λ v. has_float (view v)) c.next.new.self) (sym c.if-holds_float-2.ensures));
 }
+
+pub returns-in-Number : goal.returns-in-Number
+returns-in-Number t c = c.is_f64.ensures ∙ sym (ap has_float (ap view c.in-Number.is ∙ view-Number c.in-Number.n))

@@ -7,3 +7,6 @@ pub returns-in_err-extend-clause-err : goal.returns-in_err-extend-clause-err
 returns-in_err-extend-clause-err g c =
     at_error ((left : KeySet) × IsStoppedAt g.I.IntoIterator.into_iter_gives g.I.IntoIter.Iterator.next_gives g.Q.BorrowedBytes.key c.args.elements set.empty left) _
     (c.extend.new.self, rw (← c.new-set.ensures) c.in_err-extend.ensures.err)
+
+pub returns-clause-ok : goal.returns-clause-ok
+returns-clause-ok g c = rw (← c.new-set.ensures) c.in_ok-extend.ensures.ok
