@@ -3,9 +3,8 @@
 
 mod debug;
 
-use patricia_tree::{BorrowedBytes, GenericPatriciaSet};
+use patricia_tree::{BorrowedBytes, GenericPatriciaSet, PatriciaSet, StringPatriciaSet};
 use std::alloc::{AllocError, Global};
-use std::fmt::Debug;
 
 // A set of these elements.
 fn set_of<Q: BorrowedBytes>(
@@ -20,11 +19,7 @@ fn set_of<Q: BorrowedBytes>(
 }
 
 // Prints the longest element that begins each key, and how far any element goes with it.
-fn longest<Q: BorrowedBytes + Debug>(
-    rt: &impl Print,
-    set: &GenericPatriciaSet<Q::Owned>,
-    keys: &[Q],
-) -> anyhow::Result<()> {
+fn longest(rt: &impl Print, set: &StringPatriciaSet, keys: &[&str]) -> anyhow::Result<()> {
     for key in keys {
         let found = set.get_longest_common_prefix(*key);
         let reach = set.longest_common_prefix_len(*key);
@@ -34,28 +29,14 @@ fn longest<Q: BorrowedBytes + Debug>(
 }
 
 // Prints what a split leaves and what it takes out.
-fn split<Q: BorrowedBytes + Debug>(
-    rt: &impl Print,
-    mut set: GenericPatriciaSet<Q::Owned>,
-    prefix: Q,
-) -> anyhow::Result<()>
-where
-    Q::Owned: Debug,
-{
+fn split(rt: &impl Print, mut set: StringPatriciaSet, prefix: &str) -> anyhow::Result<()> {
     let taken = set.split_by_prefix(prefix)?;
     println!(rt; "split {prefix:?}: {set:?} {taken:?}")?;
     Ok(())
 }
 
 // Takes elements out, and prints each answer.
-fn remove<Q: BorrowedBytes + Debug>(
-    rt: &impl Print,
-    mut set: GenericPatriciaSet<Q::Owned>,
-    elements: &[Q],
-) -> anyhow::Result<()>
-where
-    Q::Owned: Debug,
-{
+fn remove(rt: &impl Print, mut set: StringPatriciaSet, elements: &[&str]) -> anyhow::Result<()> {
     for element in elements {
         let was_there = set.remove(*element)?;
         println!(rt; "remove {element:?}: {was_there} {set:?}")?;
@@ -64,11 +45,7 @@ where
 }
 
 // Puts elements in, and prints each answer.
-fn insert<Q: BorrowedBytes + Debug>(
-    rt: &impl Print,
-    mut set: GenericPatriciaSet<Q::Owned>,
-    elements: &[Q],
-) -> anyhow::Result<()> {
+fn insert(rt: &impl Print, mut set: StringPatriciaSet, elements: &[&str]) -> anyhow::Result<()> {
     for element in elements {
         let is_new = set.insert(*element)?;
         println!(rt; "insert {element:?}: {is_new} {}", set.len())?;
@@ -77,14 +54,7 @@ fn insert<Q: BorrowedBytes + Debug>(
 }
 
 // Prints the elements of a set that is read to its end, and those under a prefix.
-fn walk<Q: BorrowedBytes + Debug>(
-    rt: &impl Print,
-    set: GenericPatriciaSet<Q::Owned>,
-    prefix: Q,
-) -> anyhow::Result<()>
-where
-    Q::Owned: Debug,
-{
+fn walk(rt: &impl Print, set: StringPatriciaSet, prefix: &str) -> anyhow::Result<()> {
     for element in set.iter_prefix(prefix) {
         println!(rt; "under {prefix:?}: {:?}", element?)?;
     }

@@ -3,6 +3,3 @@ use Rattle.patricia_tree.proofs.map.GenericPatriciaMap.from_iter.Goals as goal
 
 pub returns-in_err-extend-clause-err : goal.returns-in_err-extend-clause-err
 returns-in_err-extend-clause-err g c = of_some_at_error _ _ c.extend.new.self (rw (← c.new-map.ensures) c.in_err-extend.ensures.err)
-
-pub returns-clause-ok : goal.returns-clause-ok
-returns-clause-ok g c = rw (← c.new-map.ensures) c.in_ok-extend.ensures.ok
