@@ -18,7 +18,7 @@ fn value_of(item: Option<u64>) -> Value
 
 // The values of these items.
 #[tactic(auto, using(crate::proofs::ValueLemmas::no_float_more))]
-pub fn values_of(alloc: Global, items: &[Option<u64>]) -> Result<Vec<Value>, AllocError>
+pub(super) fn values_of(alloc: Global, items: &[Option<u64>]) -> Result<Vec<Value>, AllocError>
     ensures { IfOk result (λ values. HaveNoFloat values.items) }
 {
     let mut values: Vec<Value> = Vec::with_capacity(alloc, items.len())?;
@@ -29,7 +29,7 @@ pub fn values_of(alloc: Global, items: &[Option<u64>]) -> Result<Vec<Value>, All
 }
 
 // Whether the values are these.
-pub fn are_values(values: &[Value], items: &[Option<u64>]) -> bool {
+pub(super) fn are_values(values: &[Value], items: &[Option<u64>]) -> bool {
     for (value, item) in values.iter().zip(items) {
         if value.as_u64() != *item || value.is_null() != item.is_none() {
             return false;
