@@ -8,6 +8,7 @@ use Rattle.patricia_nodes.specs.Private.Plans.{Plan, Nil, Cell, head, row, plan_
 use Rattle.patricia_nodes.proofs.PlanLemmas.{plan_is}
 use Rattle.patricia_nodes.proofs.SeekLemmas.{Opened, opened}
 use Rattle.patricia_walks.specs.Private.Positions.{row_at}
+use Rattle.patricia_walks.proofs.PositionLemmas.{row_none}
 use Rattle.patricia_wire_laws.specs.Records.{Record}
 use Rattle.patricia_wire_laws.specs.Private.WrittenRows.{has_node}
 use Rattle.patricia_wire_laws.proofs.WrittenOrDeep.{any_here, any_left}
@@ -183,9 +184,6 @@ module _ (item : List ℕ → Type 0) (kind : IsKeyKind item) {V : Type 0} (p : 
         })
 
 module _ {V : Type 0} where
-  row_none : (nodes : List (Node V)) → row_at nodes None ≡ end
-  row_none nodes = ap row (plan_is nodes None Nil (record { stands = tt; at_is = refl; fits = omega arith }))
-
   behind_end : (m : ℕ) (r : Row V) → r ≡ end → behind m r ≡ end
   behind_end zero r e = e
   behind_end (suc m) end e = refl
