@@ -13,17 +13,18 @@ use Rattle.patricia_rows.proofs.ValidLemmas.{keys_valid}
 use Rattle.patricia_wire_laws.specs.Records.{Record}
 use Rattle.patricia_wire_laws.specs.Forests.{Root}
 use Rattle.patricia_wire_laws.specs.Writings.{Means}
-use Rattle.patricia_wire_laws.proofs.JoinedRows.{joined}
+use Rattle.patricia_wire_laws.specs.Private.WrittenRows.{joined}
+use Rattle.patricia_wire_laws.proofs.JoinedRows.{joined_is}
 use Rattle.patricia_wire_laws.proofs.RowTrees.{Nothing, stands_tree}
 
 module _ (item : List ℕ → Type 0) (kind : IsKeyKind item) where
   pub keys_of_tree : (R : List Record) (S : List (List ℕ)) → Root item R S → (m : map.FinMap key_cmp Nothing) × (map.keys m ≡ S) × All (IsValid item) S
   keys_of_tree R S root =
       let tree = stands_tree item R S root in
-      let row = joined item kind tree.row tree.ok in
+      let row = joined_is item kind tree.row tree.ok in
       let inside = row.same in
-      let same = keys_map item kind tree.value row.row row.ok ∙ (λ i. keys_of (own tree.value ++ inside i)) ∙ tree.keys in
-      (map_of tree.value row.row, same, subst (All (IsValid item)) same (keys_valid item kind tree.value row.row row.ok))
+      let same = keys_map item kind tree.value (joined tree.row) row.ok ∙ (λ i. keys_of (own tree.value ++ inside i)) ∙ tree.keys in
+      (map_of tree.value (joined tree.row), same, subst (All (IsValid item)) same (keys_valid item kind tree.value (joined tree.row) row.ok))
 
 -- the order of entries is that of their keys
 below-keys : {V W : Type 0} (k : List ℕ) (xs : List (List ℕ × V)) (ys : List (List ℕ × W)) → keys_of xs ≡ keys_of ys → below_all key_cmp k xs ≡ below_all key_cmp k ys

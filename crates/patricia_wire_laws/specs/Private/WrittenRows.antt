@@ -1,5 +1,5 @@
 -- The records of a row of nodes.
-use Rattle.std.specs.Prelude.{◌≡◌, ℕ, ◌+◌, ◌≤◌, ◌≢◌, ◌⊎◌, Bool, true, false, List, [], ◌∷◌, ◌++◌, length, Option, is_some}
+use Rattle.std.specs.Prelude.{◌≡◌, ℕ, ◌+◌, ◌≤◌, ◌≢◌, ◌⊎◌, Bool, true, false, List, [], ◌∷◌, ◌++◌, length, Option, Some, None, is_some}
 use Rattle.patricia_keys.specs.Keys.{IsValid}
 use Rattle.patricia_rows.specs.Rows.{Row, end, node, IsBeforeRow}
 use Rattle.patricia_wire_laws.specs.Records.{Record}
@@ -29,6 +29,19 @@ module _ {V : Type 0} where
   -- the records of a tree: the root's, with the value of the empty key, and those of its row
   abbrev pub tree_records : Option V → Row V → List Record
   tree_records value row = record_of 0 [] value row end ∷ records_of 1 row
+
+  -- a node over its children and beside its siblings: one without value takes a lone child in
+  abbrev pub over : List ℕ → Option V → Row V → Row V → Row V
+  over label (Some value) child sibling = node label (Some value) child sibling
+  over label None end sibling = node label None end sibling
+  over label None (node l v c end) sibling = node (label ++ l) v c sibling
+  over label None (node l v c (node m w b s)) sibling =
+      node label None (node l v c (node m w b s)) sibling
+
+  -- the row in memory: each lone child of a node without value is taken in
+  abbrev pub joined : Row V → Row V
+  joined end = end
+  joined (node label value child sibling) = over label value (joined child) (joined sibling)
 
 -- a row whose records are a tree: labels are valid keys of 1 to 255 bytes, first items rise,
 -- and each node has a value or a child

@@ -1,0 +1,2 @@
+-- What the calls of this crate promise each other: a reader need not believe it.
+pub mod Growing
