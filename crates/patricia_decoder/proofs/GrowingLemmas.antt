@@ -1,6 +1,7 @@
 -- How a tree grows: a record is opened, joined to the one before it, laid as a node, or linked.
 use Rattle.std.proofs.Common.{◌≡◌, ◌≢◌, ◌⊎◌, inl, inr, ℕ, zero, suc, ◌+◌, ◌<◌, Bool, true, false, List, [], ◌∷◌, ◌++◌, length, Option, Some, None, slice_get, set, refl, sym, ap, subst, ◌∙◌, arith, append-nil, append_assoc, length-set, length-append}
 use Rattle.std.specs.Prelude.{is_some, All, map}
+use Rattle.std.specs.Option.{option_to_list}
 use Rattle.std.proofs.lemmas.Bool.Decides.{nat_tests}
 use Rattle.std.proofs.lemmas.Option.{slice_get_within}
 use Rattle.std.proofs.lemmas.List.Elements.{All-nil, All-cons, All-head, All-tail}
@@ -14,12 +15,8 @@ use Rattle.patricia_nodes.proofs.WriteLemmas.{get-set_same, get-set_other, get-p
 use Rattle.patricia_wire_laws.specs.Records.{Record}
 use Rattle.patricia_wire_laws.specs.Forests.{IsInner}
 use Rattle.patricia_wire_laws.specs.Private.WrittenRows.{has_node, record_of, records_of, tree_records, over, joined, IsWritable}
+use Rattle.patricia_decoder.specs.Private.Builds.{link_if, gap_if}
 use Rattle.patricia_decoder.specs.Private.Growing.{Gap, IsLater, Hangs, Unlaid, IsBeside, AreBeside, IsGrown, IsOpenBeside, IsOpenAt, IsOpenWithin}
-
--- the value, where there is one
-abbrev pub given : {V : Type 0} → Option V → List V
-given None = []
-given (Some x) = x ∷ []
 
 same_or : (i k : ℕ) → (i ≡ k) ⊎ (i ≢ k)
 same_or zero zero = inl refl
@@ -39,19 +36,19 @@ module _ {V : Type 0} where
   values_of-prefixed p [] = refl
   values_of-prefixed p (x ∷ xs) = ap (λ r. x.1 ∷ r) (values_of-prefixed p xs)
 
-  values_of-own : (v : Option V) → values_of (own v) ≡ given v
+  values_of-own : (v : Option V) → values_of (own v) ≡ option_to_list v
   values_of-own None = refl
   values_of-own (Some x) = refl
 
   -- the values of a tree, and of a node with what is below it and beside it
-  pub values_inside : (v : Option V) (c : Row V) → values_of (own v ++ entries c) ≡ given v ++ values_of (entries c)
+  pub values_inside : (v : Option V) (c : Row V) → values_of (own v ++ entries c) ≡ option_to_list v ++ values_of (entries c)
   values_inside v c = values_of-append (own v) (entries c) ∙ ap (λ k. k ++ values_of (entries c)) (values_of-own v)
 
-  values_of-node : (l : List ℕ) (v : Option V) (c s : Row V) → values_of (entries (node l v c s)) ≡ given v ++ (values_of (entries c) ++ values_of (entries s))
+  values_of-node : (l : List ℕ) (v : Option V) (c s : Row V) → values_of (entries (node l v c s)) ≡ option_to_list v ++ (values_of (entries c) ++ values_of (entries s))
   values_of-node l v c s =
       values_of-append (prefixed l (own v ++ entries c)) (entries s)
       ∙ ap (λ k. k ++ values_of (entries s)) (values_of-prefixed l (own v ++ entries c) ∙ values_inside v c)
-      ∙ append_assoc (given v) (values_of (entries c)) (values_of (entries s))
+      ∙ append_assoc (option_to_list v) (values_of (entries c)) (values_of (entries s))
 
   -- a label that takes in what has taken a child in
   over_over : (l m : List ℕ) (v : Option V) (c s : Row V) → over l None (over m v c end) s ≡ over (l ++ m) v c s
@@ -93,7 +90,7 @@ module _ (item : List ℕ → Type 0) {V : Type 0} where
     -- a record whose row is due is opened
     pub opened : (Allowed : Row V → Type 0) (level : ℕ) (gaps : List Gap) (R : List Record) (vs : List V) → IsOpenAt item nodes root value Allowed level gaps R vs
         → (r : Record) (x : Option V) → IsInner item level r → is_some x ≡ r.value → ((c s : Row V) → has_node s ≡ r.sibling → Allowed (node r.label x c s))
-        → IsOpenWithin item nodes root value (record { label = r.label; value = x; child = r.child; sibling = r.sibling; below = level + 1; level = level; own_label = r.label }) gaps (R ++ (r ∷ [])) (vs ++ given x)
+        → IsOpenWithin item nodes root value (record { label = r.label; value = x; child = r.child; sibling = r.sibling; below = level + 1; level = level; own_label = r.label }) gaps (R ++ (r ∷ [])) (vs ++ option_to_list x)
     opened Allowed level gaps R vs goes r x inner vm allowed later is_later plan c s stands at is_row wc ws cm sm rises R2 vs2 ids n beside =
         let written = node r.label x c s in
         let grown = goes later is_later plan written (record { stands = stands; at_is = sym at; same = is_row; writable = inner_row level r x c s inner vm cm wc ws rises }) refl (allowed c s sm) R2 vs2 ids n beside in
@@ -101,13 +98,13 @@ module _ (item : List ℕ → Type 0) {V : Type 0} where
         let same = inner_record level r x c s inner vm cm sm in
         let records : (R ++ (r ∷ [])) ++ (below ++ R2) ≡ R ++ (records_of level written ++ R2) = append_assoc R (r ∷ []) (below ++ R2) ∙ ap (λ h. R ++ (h ∷ (below ++ R2))) (sym same) in
         let inside = values_of (entries c) ++ values_of (entries s) in
-        let values : (vs ++ given x) ++ (inside ++ vs2) ≡ vs ++ (values_of (entries written) ++ vs2) = append_assoc vs (given x) (inside ++ vs2) ∙ ap (λ l. vs ++ l) (sym (append_assoc (given x) inside vs2)) ∙ ap (λ l. vs ++ (l ++ vs2)) (sym (values_of-node r.label x c s)) in
+        let values : (vs ++ option_to_list x) ++ (inside ++ vs2) ≡ vs ++ (values_of (entries written) ++ vs2) = append_assoc vs (option_to_list x) (inside ++ vs2) ∙ ap (λ l. vs ++ l) (sym (append_assoc (option_to_list x) inside vs2)) ∙ ap (λ l. vs ++ (l ++ vs2)) (sym (values_of-node r.label x c s)) in
         regrown later root value _ _ _ _ _ _ _ _ records values (λ at. refl) refl grown
 
     -- a record is joined to the one before it, which has no value, where it is its lone child
     pub joined_in : (u : Unlaid V) (gaps : List Gap) (R : List Record) (vs : List V) → IsOpenWithin item nodes root value u gaps R vs → u.value ≡ None → u.child ≡ true
         → (r : Record) (x : Option V) → IsInner item u.below r → is_some x ≡ r.value → r.sibling ≡ false
-        → IsOpenWithin item nodes root value (record { label = u.label ++ r.label; value = x; child = r.child; sibling = u.sibling; below = u.below + 1; level = u.level; own_label = u.own_label }) gaps (R ++ (r ∷ [])) (vs ++ given x)
+        → IsOpenWithin item nodes root value (record { label = u.label ++ r.label; value = x; child = r.child; sibling = u.sibling; below = u.below + 1; level = u.level; own_label = u.own_label }) gaps (R ++ (r ∷ [])) (vs ++ option_to_list x)
     joined_in u gaps R vs goes none lone r x inner vm alone later is_later plan c s stands at is_row wc ws cm sm rises R2 vs2 ids n beside =
         let over_one = node r.label x c end in
         let is_over : row plan ≡ over u.label u.value (joined over_one) (joined s) = is_row ∙ sym (over_over u.label r.label x (joined c) (joined s)) ∙ ap (λ v. over u.label v (joined over_one) (joined s)) (sym none) in
@@ -119,20 +116,10 @@ module _ (item : List ℕ → Type 0) {V : Type 0} where
             append_assoc R (r ∷ []) ((under ++ others) ++ R2) ∙ ap (λ l. R ++ (r ∷ ((l ++ others) ++ R2))) (sym (append-nil under)) ∙ ap (λ h. R ++ (h ∷ (((under ++ []) ++ others) ++ R2))) (sym same) in
         let inside = values_of (entries c) in
         let beyond = values_of (entries s) in
-        let one_value : values_of (entries over_one) ≡ given x ++ inside = values_of-node r.label x c end ∙ ap (λ l. given x ++ l) (append-nil inside) in
-        let values : (vs ++ given x) ++ ((inside ++ beyond) ++ vs2) ≡ vs ++ ((values_of (entries over_one) ++ beyond) ++ vs2) =
-            append_assoc vs (given x) ((inside ++ beyond) ++ vs2) ∙ ap (λ l. vs ++ l) (sym (append_assoc (given x) (inside ++ beyond) vs2) ∙ ap (λ l. l ++ vs2) (sym (append_assoc (given x) inside beyond))) ∙ ap (λ l. vs ++ ((l ++ beyond) ++ vs2)) (sym one_value) in
+        let one_value : values_of (entries over_one) ≡ option_to_list x ++ inside = values_of-node r.label x c end ∙ ap (λ l. option_to_list x ++ l) (append-nil inside) in
+        let values : (vs ++ option_to_list x) ++ ((inside ++ beyond) ++ vs2) ≡ vs ++ ((values_of (entries over_one) ++ beyond) ++ vs2) =
+            append_assoc vs (option_to_list x) ((inside ++ beyond) ++ vs2) ∙ ap (λ l. vs ++ l) (sym (append_assoc (option_to_list x) (inside ++ beyond) vs2) ∙ ap (λ l. l ++ vs2) (sym (append_assoc (option_to_list x) inside beyond))) ∙ ap (λ l. vs ++ ((l ++ beyond) ++ vs2)) (sym one_value) in
         regrown later root value _ _ _ _ _ _ _ _ records values (λ at. refl) refl grown
-
--- the number of the node behind the last, where there is one
-abbrev pub link_if : Bool → ℕ → Option ℕ
-link_if true n = Some n
-link_if false n = None
-
--- the gap beside a node, where it has a sibling
-abbrev pub gap_if : Bool → ℕ → List ℕ → ℕ → List Gap
-gap_if true level label id = record { level = level; label = label; id = id } ∷ []
-gap_if false level label id = []
 
 -- no node past the last waits
 abbrev pub AreWithin : ℕ → List Gap → Type 0

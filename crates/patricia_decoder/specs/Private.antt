@@ -1,2 +1,4 @@
 -- What the calls of this crate promise each other: a reader need not believe it.
+pub mod Builds
 pub mod Growing
+pub mod Steps

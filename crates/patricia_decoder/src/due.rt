@@ -1,0 +1,107 @@
+//! What is due while records are read, and the rules that the next record must keep.
+ghost use Rattle.std.specs.Prelude.{◌≡◌, ◌≢◌, ◌≤◌, [], IfSome, None, Some, IfErr, OnOk, IsTrue, ◌↔◌};
+ghost use Rattle.patricia_keys.specs.Keys.{IsValid, IsFirstItem};
+ghost use Rattle.patricia_rows.specs.Rows.{IsBefore};
+ghost use Rattle.patricia_decoder.specs.Private.Steps.{IsAfter, IsOutOfOrder, BreaksFirst, BreaksNone};
+
+use crate::error::DecodeError;
+use crate::record::Record;
+use patricia_keys::Bytes;
+use std::marker::Model;
+
+/// A record that is due.
+#[derive(Drop)]
+pub struct Due<'a> {
+    pub level: u32,
+    // the label of the sibling before it, if there is one
+    pub after: Option<&'a [u8]>,
+}
+
+impl<'a> Model for Due<'a> {
+    ghost use Rattle.std.specs.Option.{option_copied};
+    ghost use Rattle.patricia_wire_laws.specs.Private.Readings as readings;
+
+    ghost Value = { readings.Due };
+
+    ghost view = { λ d. record { level = d.level; after = option_copied d.after } };
+}
+
+// The first item of a label: the fewest bytes at its front that are valid.
+fn first_item<K: Bytes>(label: &[u8]) -> &[u8]
+    requires valid { IsValid K.item label.now }
+    requires filled { label.now ≢ [] }
+    ensures { IsFirstItem K.item label.now result.now }
+{
+    let mut n = 1;
+    while !K::is_valid_bytes(&label[..n]) {
+        n += 1;
+    }
+    &label[..n]
+}
+
+// Whether the first item of a label comes before that of another.
+fn comes_before<K: Bytes>(label: &[u8], other: &[u8]) -> bool
+    requires valid { IsValid K.item label.now }
+    requires filled { label.now ≢ [] }
+    requires other_valid { IsValid K.item other.now }
+    requires other_filled { other.now ≢ [] }
+    ensures { IsTrue result ↔ IsBefore K.item label.now other.now }
+{
+    first_item::<K>(label) < first_item::<K>(other)
+}
+
+impl<'a> Due<'a> {
+    // Whether a valid label breaks the order of siblings.
+    fn is_out_of_order<K: Bytes>(&self, label: &[u8]) -> bool
+        requires after { IsAfter K.item self.now }
+        requires valid { IsValid K.item label.now }
+        requires filled { self.now.level ≢ 0 → label.now ≢ [] }
+        ensures { IsTrue result ↔ IsOutOfOrder K.item self.now label.now }
+    {
+        match self.after {
+            Some(before) => !comes_before::<K>(before, label),
+            None => false,
+        }
+    }
+
+    /// Looks at the record that comes, where this one is due and so many values are left. The
+    /// rules are tried in the order of their faults.
+    pub fn check<K: Bytes>(
+        &self,
+        record: &Record<'_>,
+        left: usize,
+        offset: usize,
+    ) -> Result<(), DecodeError>
+        requires after { IsAfter K.item self.now }
+        ensures kept { OnOk result (BreaksNone K.item self.now left record.now) }
+        ensures broken { IfErr result (λ e.
+            BreaksFirst K.item self.now left record.now offset e) }
+    {
+        let root = self.level == 0;
+        if record.level as u32 != self.level {
+            return Err(DecodeError::Level(offset));
+        }
+        if root && !record.label.is_empty() {
+            return Err(DecodeError::RootLabel(offset));
+        }
+        if root && record.sibling {
+            return Err(DecodeError::RootSibling(offset));
+        }
+        if !root && record.label.is_empty() {
+            return Err(DecodeError::EmptyLabel(offset));
+        }
+        if !K::is_valid_bytes(record.label) {
+            return Err(DecodeError::InvalidLabel(offset));
+        }
+        if self.is_out_of_order::<K>(record.label) {
+            return Err(DecodeError::SiblingOrder(offset));
+        }
+        if !root && !record.value && !record.child {
+            return Err(DecodeError::NoValueNoChild(offset));
+        }
+        if record.value && left == 0 {
+            return Err(DecodeError::TooFewValues(offset));
+        }
+        Ok(())
+    }
+}
