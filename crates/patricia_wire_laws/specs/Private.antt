@@ -1,3 +1,4 @@
 -- What the encoder and the decoder stand on: a reader need not believe it.
+pub mod Readings
 pub mod RowLaws
 pub mod WrittenRows
