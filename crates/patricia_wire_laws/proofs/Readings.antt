@@ -359,3 +359,37 @@ module _ (item : List ℕ → Type 0) where
 
   pub unfinished : (n : ℕ) (before : List Record) (due : Due) (waiting : List Due) → IsRead item n before (due ∷ waiting) → IsUnfinished item before
   unfinished n before due waiting read = unfinished_with n before (due ∷ waiting) read due waiting refl
+
+  -- the label that is given is that of the sibling before
+  pub after_given : (n : ℕ) (before : List Record) (due : Due) (waiting : List Due) → IsRead item n before (due ∷ waiting) → (l : List ℕ) → due.after ≡ Some l → (x : Record) × IsLastUpTo before due.level x × (x.level ≡ due.level) × (x.label ≡ l)
+  after_given n before due waiting read l given = go (let h = held n before (due ∷ waiting) read in h.state)
+    where
+      fresh : (f : Due) → due ≡ f → IsFresh before f → ⊥
+      fresh f same (root b d none) = (let no : Some l ≡ None = sym given ∙ ap (λ (g : Due). g.after) same ∙ none in cc)
+      fresh f same (child ahead r b c d none) = (let no : Some l ≡ None = sym given ∙ ap (λ (g : Due). g.after) same ∙ none in cc)
+
+      go : IsState before (due ∷ waiting) → (x : Record) × IsLastUpTo before due.level x × (x.level ≡ due.level) × (x.label ≡ l)
+      go (down f V same new all) = absurd (fresh f (cc) new)
+      go (back ahead r b leaf all) =
+          let first = All-head (IsBehind before) due waiting all in
+          let label : Some first.sibling.label ≡ Some l = sym first.label ∙ given in
+          (first.sibling, up_to before first.sibling first.waiting due.level first.level, first.level, cc)
+
+  -- and the label of the sibling before is given
+  pub after_is : (n : ℕ) (before : List Record) (due : Due) (waiting : List Due) → IsRead item n before (due ∷ waiting) → (x : Record) → IsLastUpTo before due.level x → x.level ≡ due.level → due.after ≡ Some x.label
+  after_is n before due waiting read x up level = go (let h = held n before (due ∷ waiting) read in h.state)
+    where
+      fresh : (f : Due) → due ≡ f → IsFresh before f → ⊥
+      fresh f same (root b d none) = nil_split up.ahead x up.after (sym b ∙ up.is)
+      fresh f same (child ahead r b c d none) =
+          let depth : due.level ≡ r.level + 1 = ap (λ (g : Due). g.level) same ∙ d in
+          let last : IsLastUpTo before due.level r = record { ahead = ahead; after = []; is = b; level = omega (arith, depth); deeper = All-nil (λ y. due.level < y.level) } in
+          let one = one_up_to before due.level x r up last in
+          omega (arith, depth, level, ap (λ (h : Record). h.level) one)
+
+      go : IsState before (due ∷ waiting) → due.after ≡ Some x.label
+      go (down f V same new all) = absurd (fresh f (cc) new)
+      go (back ahead r b leaf all) =
+          let first = All-head (IsBehind before) due waiting all in
+          let one = one_up_to before due.level first.sibling x (up_to before first.sibling first.waiting due.level first.level) up in
+          first.label ∙ ap (λ (h : Record). Some h.label) one
