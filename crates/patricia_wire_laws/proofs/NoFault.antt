@@ -18,7 +18,8 @@ use Rattle.patricia_wire_laws.proofs.OneMeaning.{row_of}
 use Rattle.patricia_wire_laws.proofs.Spellings.{record_same, one_list, length-high_first}
 use Rattle.patricia_wire_laws.proofs.RowTrees.{Nothing, StandsTree, stands_tree}
 
-not_empty : (w : ℕ) (r : Record) (b c : List ℕ) → Spells w r b → [] ≡ b ++ c → ⊥
+-- the bytes of a record are some
+pub not_empty : (w : ℕ) (r : Record) (b c : List ℕ) → Spells w r b → [] ≡ b ++ c → ⊥
 not_empty w r b c p e = let h : [] ≡ (p.flags ∷ after_flags w r) ++ c = e ∙ ap (λ l. l ++ c) p.is in cc
 
 -- records that are read from the front of a spelling are the first of its records
@@ -33,7 +34,7 @@ prefix w (x ∷ P) (r ∷ R) b read rest p e q =
     (more.0, (λ i. sym head i ∷ tail i), more.2)
 
 -- a record needs its bytes
-enough : (w : ℕ) (r : Record) (b rest : List ℕ) → Spells w r b → IsCutShort w (b ++ rest) → ⊥
+pub enough : (w : ℕ) (r : Record) (b rest : List ℕ) → Spells w r b → IsCutShort w (b ++ rest) → ⊥
 enough w r b rest p short =
     let whole : b ++ rest ≡ (p.flags ∷ after_flags w r) ++ rest = ap (λ l. l ++ rest) p.is in
     let len = ap length whole in

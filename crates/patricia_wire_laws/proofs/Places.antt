@@ -12,11 +12,13 @@ use Rattle.patricia_wire_laws.proofs.RowTrees.{Nothing}
 use Rattle.patricia_wire_laws.proofs.TightRows.{EndsLow, ends_low}
 
 module _ (P : Record → Type 0) where
-  All-left : (xs ys : List Record) → All P (xs ++ ys) → All P xs
+  -- what each of a list keeps, the front of the list keeps
+  pub All-left : (xs ys : List Record) → All P (xs ++ ys) → All P xs
   All-left [] ys a = All-nil P
   All-left (x ∷ xs) ys a = All-cons P x xs (All-head P x (xs ++ ys) a) (All-left xs ys (All-tail P x (xs ++ ys) a))
 
-  All-middle : (xs : List Record) (y : Record) (ys : List Record) → All P (xs ++ (y ∷ ys)) → P y
+  -- and so does each one of it
+  pub All-middle : (xs : List Record) (y : Record) (ys : List Record) → All P (xs ++ (y ∷ ys)) → P y
   All-middle [] y ys a = All-head P y ys a
   All-middle (x ∷ xs) y ys a = All-middle xs y ys (All-tail P x (xs ++ (y ∷ ys)) a)
 
@@ -82,7 +84,8 @@ module _ {V : Type 0} where
   is_child d end ahead r after e = absurd (nil_split ahead r after e)
   is_child d (node l v c s) ahead r after e = refl
 
-  low_head : (d : ℕ) (l : List ℕ) (v : Option V) (c s : Row V) → EndsLow (record_of d l v c s ∷ records_of (d + 1) c)
+  -- the last of a node and its children has no child
+  pub low_head : (d : ℕ) (l : List ℕ) (v : Option V) (c s : Row V) → EndsLow (record_of d l v c s ∷ records_of (d + 1) c)
   low_head d l v end s = refl
   low_head d l v (node m w b t) s = ends_low (d + 1) (node m w b t)
 
@@ -92,7 +95,7 @@ module _ {V : Type 0} where
   met P d C (node m w b t) there all = (record_of d m w b t, refl, All-middle P C (record_of d m w b t) (records_of (d + 1) b ++ records_of d t) all)
 
   -- no record of a row waits behind the row
-  waited : (d : ℕ) (row : Row V) (between : List Record) (y : Record) (rest : List Record) → records_of d row ≡ between ++ (y ∷ rest) → Waits y rest → ⊥
+  pub waited : (d : ℕ) (row : Row V) (between : List Record) (y : Record) (rest : List Record) → records_of d row ≡ between ++ (y ∷ rest) → Waits y rest → ⊥
   waited d end between y rest e w = nil_split between y rest e
   waited d (node l v c s) between y rest e w = elim (place d l v c s between y rest e) [
     | here a b f ↦
