@@ -125,7 +125,7 @@ module _ (item : List ℕ → Type 0) {V : Type 0} where
 abbrev pub AreWithin : ℕ → List Gap → Type 0
 AreWithin n gaps = All (λ g. g.id < n) gaps
 
-not_at : (n : ℕ) (gaps : List Gap) → AreWithin n gaps → All (λ g. g.id ≢ n) gaps
+pub not_at : (n : ℕ) (gaps : List Gap) → AreWithin n gaps → All (λ g. g.id ≢ n) gaps
 not_at n [] all = All-nil (λ g. g.id ≢ n)
 not_at n (g ∷ gaps) all = All-cons (λ g. g.id ≢ n) g gaps (λ e. omega (arith, e, All-head (λ g. g.id < n) g gaps all)) (not_at n gaps (All-tail (λ g. g.id < n) g gaps all))
 
@@ -174,7 +174,7 @@ module _ (item : List ℕ → Type 0) {V : Type 0} (nodes : List (Node V)) (root
       R, vs, ids, n, beside, refl, refl, λ at. omega arith, omega arith)
 
   -- an open node is laid over the row that is below it
-  laid : (u : Unlaid V) (gaps : List Gap) (R : List Record) (vs : List V) → IsOpenWithin item nodes root value u gaps R vs → AreWithin (length nodes) gaps
+  pub laid : (u : Unlaid V) (gaps : List Gap) (R : List Record) (vs : List V) → IsOpenWithin item nodes root value u gaps R vs → AreWithin (length nodes) gaps
       → (later : List (Node V)) → IsLater (nodes ++ laid_node u ∷ []) (laid_gaps u gaps) later
       → (plan : Plan V) (c : Row V) → Hangs item later (link_if u.child (length nodes + 1)) plan c → has_node c ≡ u.child
       → ((s : Row V) → over u.label u.value (joined c) s ≡ node u.label u.value (joined c) s)

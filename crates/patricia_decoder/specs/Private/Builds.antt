@@ -117,18 +117,18 @@ module _ {V : Type 0} where
     pub label : new.label ≡ old.label
     pub waiting : new.waiting ≡ old.waiting
 
-module _ (item : List ℕ → Type 0) {V : Type 0} where
-  -- a record that keeps all rules, where this one is due
-  pub record Suits (before : List Record) (due : Due) (r : Record) : Type 0 where
-    pub root : before ≡ [] → (r.level ≡ 0) × (r.label ≡ []) × (r.sibling ≡ false)
-    pub inner : before ≢ [] → IsInner item due.level r
-    pub order : (l : List ℕ) → due.after ≡ Some l → IsBefore item l r.label
-
   -- these nodes wait
   pub record Wait (b : Builder V) (below : ℕ) (waiting others : List Gap) : Type 0 where
     pub ids_are : ids waiting ≡ reverse b.waiting.items
     pub fall : Fall below others
 
+-- a record that keeps all rules, where this one is due
+pub record Suits (item : List ℕ → Type 0) (before : List Record) (due : Due) (r : Record) : Type 0 where
+  pub root : before ≡ [] → (r.level ≡ 0) × (r.label ≡ []) × (r.sibling ≡ false)
+  pub inner : before ≢ [] → IsInner item due.level r
+  pub order : (l : List ℕ) → due.after ≡ Some l → IsBefore item l r.label
+
+module _ (item : List ℕ → Type 0) {V : Type 0} where
   -- what the nodes stand for, by where the record that comes belongs: these records are read, these
   -- are due, and these values are taken
   abbrev pub IsBuiltAs : Next → Builder V → List Record → List Due → List V → Type 0
@@ -170,5 +170,5 @@ module _ (item : List ℕ → Type 0) {V : Type 0} where
   abbrev pub Adds : Builder V → Record → Option V → Builder V → Type 0
   Adds old r value new =
       (R : List Record) (due : Due) (waiting : List Due) (vs : List V)
-      → IsBuilt old R (due ∷ waiting) vs → Suits R due r → is_some value ≡ r.value
+      → IsBuilt old R (due ∷ waiting) vs → Suits item R due r → is_some value ≡ r.value
       → IsBuilt new (R ++ (r ∷ [])) (due_behind r ++ waiting) (vs ++ option_to_list value)
