@@ -20,7 +20,7 @@ use Rattle.patricia_decoder.specs.Private.Growing.{Gap, Unlaid, IsOpenBeside, Is
 use Rattle.patricia_decoder.specs.Private.Builds.{link_if, number_if, gap_if, ids, dues, Fall, count_of, IsNew, Keeps, Lays, HasLinked, Opens, ClosesAs, Prepares, AddsRoot, Suits, Wait, IsBuiltAs, IsBuilt, Adds}
 use Rattle.patricia_decoder.proofs.GrowingLemmas.{AreWithin, not_at, laid_node, opened, joined_in, laid_above, laid_alone, linked_beside}
 
-some_snoc : (R : List Record) (r : Record) → R ++ (r ∷ []) ≢ []
+pub some_snoc : (R : List Record) (r : Record) → R ++ (r ∷ []) ≢ []
 some_snoc [] r e = cc
 some_snoc (x ∷ R) r e = cc
 
@@ -47,7 +47,7 @@ dues_next true level label n gaps = refl
 dues_next false level label n gaps = refl
 
 -- what is due behind a record
-due_next : (r : Record) (level n : ℕ) (gaps : List Gap) → r.level ≡ level → due_behind r ++ dues gaps ≡ due_where r.child (record { level = level + 1; after = None }) ++ dues (gap_if r.sibling level r.label n ++ gaps)
+pub due_next : (r : Record) (level n : ℕ) (gaps : List Gap) → r.level ≡ level → due_behind r ++ dues gaps ≡ due_where r.child (record { level = level + 1; after = None }) ++ dues (gap_if r.sibling level r.label n ++ gaps)
 due_next r level n gaps e =
     append_assoc (due_where r.child (record { level = r.level + 1; after = None })) (due_where r.sibling (record { level = r.level; after = Some r.label })) (dues gaps)
     ∙ (λ i. due_where r.child (record { level = e i + 1; after = None }) ++ (due_where r.sibling (record { level = e i; after = Some r.label }) ++ dues gaps))

@@ -1,2 +1,4 @@
 pub mod BuildLemmas
+pub mod CheckLemmas
+pub mod EndLemmas
 pub mod GrowingLemmas

@@ -1,8 +1,8 @@
 //! What is due while records are read, and the rules that the next record must keep.
-ghost use Rattle.std.specs.Prelude.{◌≡◌, ◌≢◌, ◌≤◌, [], IfSome, None, Some, IfErr, OnOk, IsTrue, ◌↔◌};
+ghost use Rattle.std.specs.Prelude.{ℕ, ◌≡◌, ◌≢◌, ◌≤◌, [], IfSome, None, Some, IfErr, OnOk, IsTrue, ◌↔◌};
 ghost use Rattle.patricia_keys.specs.Keys.{IsValid, IsFirstItem};
 ghost use Rattle.patricia_rows.specs.Rows.{IsBefore};
-ghost use Rattle.patricia_decoder.specs.Private.Steps.{IsAfter, IsOutOfOrder, BreaksFirst, BreaksNone};
+ghost use Rattle.patricia_decoder.specs.Private.Steps.{IsAfter, IsOutOfOrder, BreaksFirst, BreaksNone, BreaksNoneBelow, KeepsLabel, BreaksLabel};
 
 use crate::error::DecodeError;
 use crate::record::Record;
@@ -64,6 +64,43 @@ impl<'a> Due<'a> {
         }
     }
 
+    // Whether the record lies where it is due, and is labelled as the root or another record is.
+    fn check_place<K: Bytes>(&self, record: &Record<'_>, offset: usize) -> Result<(), DecodeError>
+        ensures kept { OnOk result ((left : ℕ) → BreaksNoneBelow K.item self.now left record.now 7) }
+        ensures broken { IfErr result (λ e. (left : ℕ) → BreaksFirst K.item self.now left record.now offset e) }
+    {
+        let root = self.level == 0;
+        if record.level as u32 != self.level {
+            return Err(DecodeError::Level(offset));
+        }
+        if root & !record.label.is_empty() {
+            return Err(DecodeError::RootLabel(offset));
+        }
+        if root & record.sibling {
+            return Err(DecodeError::RootSibling(offset));
+        }
+        if !root & record.label.is_empty() {
+            return Err(DecodeError::EmptyLabel(offset));
+        }
+        Ok(())
+    }
+
+    // Whether the label is valid and in order.
+    fn check_label<K: Bytes>(&self, label: &[u8], offset: usize) -> Result<(), DecodeError>
+        requires after { IsAfter K.item self.now }
+        requires filled { self.now.level ≢ 0 → label.now ≢ [] }
+        ensures kept { OnOk result (KeepsLabel K.item self.now label.now) }
+        ensures broken { IfErr result (λ e. BreaksLabel K.item self.now label.now offset e) }
+    {
+        if !K::is_valid_bytes(label) {
+            return Err(DecodeError::InvalidLabel(offset));
+        }
+        if self.is_out_of_order::<K>(label) {
+            return Err(DecodeError::SiblingOrder(offset));
+        }
+        Ok(())
+    }
+
     /// Looks at the record that comes, where this one is due and so many values are left. The
     /// rules are tried in the order of their faults.
     pub fn check<K: Bytes>(
@@ -77,29 +114,12 @@ impl<'a> Due<'a> {
         ensures broken { IfErr result (λ e.
             BreaksFirst K.item self.now left record.now offset e) }
     {
-        let root = self.level == 0;
-        if record.level as u32 != self.level {
-            return Err(DecodeError::Level(offset));
-        }
-        if root && !record.label.is_empty() {
-            return Err(DecodeError::RootLabel(offset));
-        }
-        if root && record.sibling {
-            return Err(DecodeError::RootSibling(offset));
-        }
-        if !root && record.label.is_empty() {
-            return Err(DecodeError::EmptyLabel(offset));
-        }
-        if !K::is_valid_bytes(record.label) {
-            return Err(DecodeError::InvalidLabel(offset));
-        }
-        if self.is_out_of_order::<K>(record.label) {
-            return Err(DecodeError::SiblingOrder(offset));
-        }
-        if !root && !record.value && !record.child {
+        self.check_place::<K>(record, offset)?;
+        self.check_label::<K>(record.label, offset)?;
+        if (self.level != 0) & !record.value & !record.child {
             return Err(DecodeError::NoValueNoChild(offset));
         }
-        if record.value && left == 0 {
+        if record.value & (left == 0) {
             return Err(DecodeError::TooFewValues(offset));
         }
         Ok(())

@@ -34,7 +34,7 @@ numbered-number too_few_values = refl
 numbered-number trailing_bytes = refl
 numbered-number too_many_values = refl
 
-number_same : (f g : Fault) → number f ≡ number g → f ≡ g
+pub number_same : (f g : Fault) → number f ≡ number g → f ≡ g
 number_same f g e = sym (numbered-number f) ∙ ap numbered e ∙ numbered-number g
 
 pub one_first : (item : List ℕ → Type 0) (w : ℕ) (b : List ℕ) (n : ℕ) (f g : Fault) (o p : ℕ) → IsFirst item w b n f o → IsFirst item w b n g p → (f ≡ g) × (o ≡ p)

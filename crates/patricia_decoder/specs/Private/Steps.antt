@@ -1,5 +1,5 @@
 -- What the steps of the reader say.
-use Rattle.std.specs.Prelude.{◌≡◌, ◌≢◌, ℕ, ◌+◌, ◌<◌, ◌≤◌, Bool, true, List, [], ◌∷◌, ◌++◌, length, drop, reverse, Option, Some, None}
+use Rattle.std.specs.Prelude.{◌≡◌, ◌≢◌, ◌⊎◌, ℕ, ◌+◌, ◌<◌, ◌≤◌, Bool, true, List, [], ◌∷◌, ◌++◌, length, drop, reverse, Option, Some, None}
 use Rattle.patricia_keys.specs.Keys.{IsValid}
 use Rattle.patricia_rows.specs.Rows.{IsBefore}
 use Rattle.patricia_wire_laws.specs.Records.{Record, Spells, SpellAll}
@@ -66,6 +66,15 @@ module _ (item : List ℕ → Type 0) where
     pub names : (end : ℕ) → named end e ≡ Some (fault, offset)
     pub breaks : Breaks item due left r fault
     pub first : BreaksNoneBelow due left r (number fault)
+
+  -- a label is valid and not out of order; or the error names which of the two it is not
+  abbrev pub KeepsLabel : Due → List ℕ → Type 0
+  KeepsLabel due label = IsValid item label × (IsOutOfOrder due label → ⊥)
+
+  abbrev pub BreaksLabel : Due → List ℕ → ℕ → DecodeError → Type 0
+  BreaksLabel due label offset e =
+      ((e ≡ InvalidLabel offset) × (IsValid item label → ⊥))
+      ⊎ ((e ≡ SiblingOrder offset) × IsValid item label × IsOutOfOrder due label)
 
   -- these records are read, and these are due, the next first
   pub record IsReading (n : ℕ) (p : Reader) (before : List Record) (due : List Due) : Type 0 where
