@@ -22,6 +22,7 @@ use Rattle.patricia_wire_laws.proofs.Spellings.{clean_spells, clean_spell_all}
 abbrev pub each_passes : (Fault → Bool) → Bool
 each_passes t = t truncated && (t level && (t root_label && (t root_sibling && (t empty_label && (t invalid_label && (t sibling_order && (t no_value_no_child && (t too_few_values && (t trailing_bytes && t too_many_values)))))))))
 
+-- where each passes, one does
 passes : (t : Fault → Bool) → each_passes t ≡ true → (f : Fault) → t f ≡ true
 passes t all f = go f
   where
@@ -50,6 +51,7 @@ passes t all f = go f
     go trailing_bytes = first_so (t trailing_bytes) _ (second_so (t too_few_values) _ from_few)
     go too_many_values = second_so (t trailing_bytes) _ (second_so (t too_few_values) _ from_few)
 
+-- a list is empty
 abbrev pub is_nil : List ℕ → Bool
 is_nil [] = true
 is_nil (x ∷ l) = false
@@ -62,6 +64,7 @@ some_is : (l : List ℕ) → not (is_nil l) ≡ true → l ≢ []
 some_is [] test = absurd (cc)
 some_is (x ∷ l) test = λ none. cc
 
+-- a mark that is clear is not set
 clear_is : (m : Bool) → not m ≡ true → m ≡ true → ⊥
 clear_is true test set = cc
 clear_is false test set = cc
@@ -93,6 +96,7 @@ module _ (item : List ℕ → Type 0) (tests : LabelTests item) where
   keeps due left r trailing_bytes = true
   keeps due left r too_many_values = true
 
+  -- a rule that is kept is not broken
   kept : (due : Due) (left : ℕ) (r : Record) (f : Fault) → keeps due left r f ≡ true → Breaks item due left r f → ⊥
   kept due left r truncated test b = b
   kept due left r level test b = b (eqb-true r.level due.level test)
@@ -145,9 +149,11 @@ module _ (item : List ℕ → Type 0) (tests : LabelTests item) where
         | inr held ↦ kept due left r g held h
       ]
 
+-- no two labels pass a test that all fail
 pub none_ordered : (item : List ℕ → Type 0) (l m : List ℕ) → false ≡ true → IsBefore item l m
 none_ordered item l m test = absurd (cc)
 
+-- the empty label is valid
 pub empty_valid : (item : List ℕ → Type 0) (l : List ℕ) → is_nil l ≡ true → IsValid item l
 empty_valid item l test = subst (IsValid item) (sym (nil_is l test)) (IsValid-nil item)
 
@@ -164,6 +170,7 @@ no_tests item = record {
 abbrev pub are_ordered : List ℕ → List ℕ → Bool
 are_ordered l m = (are_bytes l && nat_lt 0 (length l)) && ((are_bytes m && nat_lt 0 (length m)) && nat_lt (get_or l 0 0) (get_or m 0 0))
 
+-- so they are, if they are not empty
 pub bytes_ordered : (l m : List ℕ) → are_ordered l m ≡ true → IsBefore IsByteItem l m
 bytes_ordered l m test =
     let one = first_so (are_bytes l && nat_lt 0 (length l)) _ test in
@@ -189,8 +196,8 @@ first_of_bytes w n left before due waiting r rest f read count rooms room broken
     (reads_clean w before (clean_spelling w r ++ rest) rooms) (clean_spells w r (byte_room w r room)) broken test
 
 -- the root is due
-abbrev pub root_due : Due
-root_due = record { level = 0; after = None }
+abbrev pub the_root : Due
+the_root = record { level = 0; after = None }
 
 -- a root with a child and no value
 abbrev pub opened : Record
@@ -200,8 +207,9 @@ opened = record { level = 0; label = []; value = false; child = true; sibling = 
 abbrev pub first_child : Due
 first_child = record { level = 1; after = None }
 
+-- and the root is read, whatever the keys and the values
 pub opened_read : (item : List ℕ → Type 0) (n : ℕ) → IsRead item n (opened ∷ []) (first_child ∷ [])
-opened_read item n = read_one item (no_tests item) n n [] root_due [] opened nothing (omega arith) refl
+opened_read item n = read_one item (no_tests item) n n [] the_root [] opened nothing (omega arith) refl
 
 -- the first fault of a record of byte keys behind such a root
 pub first_below : (n : ℕ) (r : Record) (rest : List ℕ) (f : Fault) → has_room 2 r ≡ true → Breaks IsByteItem first_child n r f → keeps_before IsByteItem byte_tests first_child n r f ≡ true → IsFirst IsByteItem 2 (clean_spellings 2 (opened ∷ []) ++ (clean_spelling 2 r ++ rest)) n f 4

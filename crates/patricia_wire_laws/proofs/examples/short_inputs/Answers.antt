@@ -8,7 +8,7 @@ use Rattle.patricia_rows.specs.Rows.{end}
 use Rattle.patricia_wire_laws.proofs.ReadingsFirst.{first_cut_short, first_trailing, first_too_many}
 use Rattle.patricia_wire_laws.proofs.RowTrees.{Nothing, tree_of}
 use Rattle.patricia_wire_laws.proofs.Spellings.{set, clear, clean_spell_all}
-use Rattle.patricia_wire_laws.proofs.TestedReadings.{root_due, no_tests, byte_tests, read_one, reads_clean, first_broken, first_of_bytes}
+use Rattle.patricia_wire_laws.proofs.TestedReadings.{the_root, no_tests, byte_tests, read_one, reads_clean, first_broken, first_of_bytes}
 use Rattle.patricia_wire_laws.proofs.TestedRows.{byte_room, byte_rooms}
 use Rattle.patricia_wire_laws.proofs.examples.short_inputs.Goals as goal
 
@@ -42,22 +42,22 @@ empty_tree : Root IsByteItem (bare 0 false ∷ []) []
 empty_tree = tree_of IsByteItem {V = Nothing} None end tt
 
 empty_read : (n : ℕ) → IsRead IsByteItem n (bare 0 false ∷ []) []
-empty_read n = read_one IsByteItem (no_tests IsByteItem) n n [] root_due [] (bare 0 false) nothing (omega arith) refl
+empty_read n = read_one IsByteItem (no_tests IsByteItem) n n [] the_root [] (bare 0 false) nothing (omega arith) refl
 
 pub returns-clause-empty : goal.returns-clause-empty
-returns-clause-empty c = first_cut_short IsByteItem 0 2 [] [] root_due [] 0 [] nothing (reads_clean 2 [] [] refl) (inl (omega arith))
+returns-clause-empty c = first_cut_short IsByteItem 0 2 [] [] the_root [] 0 [] nothing (reads_clean 2 [] [] refl) (inl (omega arith))
 
 pub returns-clause-level : goal.returns-clause-level
-returns-clause-level c = first_of_bytes 2 0 0 [] root_due [] (bare 1 false) [] level nothing refl refl refl (λ same. cc) refl
+returns-clause-level c = first_of_bytes 2 0 0 [] the_root [] (bare 1 false) [] level nothing refl refl refl (λ same. cc) refl
 
 pub returns-clause-label : goal.returns-clause-label
-returns-clause-label c = first_broken IsByteItem byte_tests 2 _ 1 1 [] root_due [] 0 labelled (2 ∷ 1 ∷ 0 ∷ 0 ∷ 97 ∷ []) [] root_label nothing refl (reads_clean 2 [] _ refl) labelled_spelled (refl, λ none. cc) refl
+returns-clause-label c = first_broken IsByteItem byte_tests 2 _ 1 1 [] the_root [] 0 labelled (2 ∷ 1 ∷ 0 ∷ 0 ∷ 97 ∷ []) [] root_label nothing refl (reads_clean 2 [] _ refl) labelled_spelled (refl, λ none. cc) refl
 
 pub returns-clause-sibling : goal.returns-clause-sibling
-returns-clause-sibling c = first_broken IsByteItem byte_tests 2 _ 0 0 [] root_due [] 0 followed (32 ∷ 0 ∷ 0 ∷ 0 ∷ []) [] root_sibling nothing refl (reads_clean 2 [] _ refl) followed_spelled (refl, refl) refl
+returns-clause-sibling c = first_broken IsByteItem byte_tests 2 _ 0 0 [] the_root [] 0 followed (32 ∷ 0 ∷ 0 ∷ 0 ∷ []) [] root_sibling nothing refl (reads_clean 2 [] _ refl) followed_spelled (refl, refl) refl
 
 pub returns-clause-few : goal.returns-clause-few
-returns-clause-few c = first_of_bytes 2 0 0 [] root_due [] (bare 0 true) [] too_few_values nothing refl refl refl (refl, refl) refl
+returns-clause-few c = first_of_bytes 2 0 0 [] the_root [] (bare 0 true) [] too_few_values nothing refl refl refl (refl, refl) refl
 
 pub returns-clause-trailing : goal.returns-clause-trailing
 returns-clause-trailing c = first_trailing IsByteItem 0 2 _ (bare 0 false ∷ []) 4 (0 ∷ []) [] (empty_read 0) (reads_clean 2 (bare 0 false ∷ []) (0 ∷ []) refl) empty_tree (λ none. cc)
