@@ -46,6 +46,7 @@ one_last (a ∷ []) [] r s e = absurd (cc)
 one_last (a ∷ c ∷ A) [] r s e = absurd (cc)
 one_last (a ∷ A) (b ∷ B) r s e = (let tails : A ++ (r ∷ []) ≡ B ++ (s ∷ []) = cc in one_last A B r s tails)
 
+-- a list with a last record is not empty
 no_last : (A : List Record) (r : Record) → [] ≡ A ++ (r ∷ []) → ⊥
 no_last A r e = nil_split A r [] e
 
@@ -132,6 +133,7 @@ record IsHeld (before : List Record) (D : List Due) : Type 0 where
   falls : Fall D
   waits : (x : Record) → IsWaiting before x → HasLevel x.level D
 
+-- a level of a list lies under what its levels lie under
 has_under : (d k : ℕ) (D : List Due) → All (λ (x : Due). x.level < k) D → HasLevel d D → d < k
 has_under d k [] all has = absurd has
 has_under d k (e ∷ D) all has = elim has [
@@ -139,6 +141,7 @@ has_under d k (e ∷ D) all has = elim has [
   | inr later ↦ has_under d k D (All-tail (λ (x : Due). x.level < k) e D all) later
 ]
 
+-- it is one of a longer list, too
 has_later : (d : ℕ) (X D : List Due) → HasLevel d D → HasLevel d (X ++ D)
 has_later d [] D has = has
 has_later d (e ∷ X) D has = inr (has_later d X D has)
@@ -175,6 +178,7 @@ held_due before e W h = go h.state
         let due : IsDue (ahead ++ (r ∷ [])) x.level = beside ahead r x leaf (subst (λ B. IsLastWaiting B x) b waiting) in
         subst (λ B. IsDue B e.level) (sym b) (subst (IsDue (ahead ++ (r ∷ []))) first.level due)
 
+-- behind the next, siblings alone are due
 rest_behind : (before : List Record) (e : Due) (W : List Due) → IsState before (e ∷ W) → All (IsBehind before) W
 rest_behind before e W (down f V same new all) = subst (All (IsBehind before)) (let tails : V ≡ W = cc in tails) all
 rest_behind before e W (back ahead r b leaf all) = All-tail (IsBehind before) e W all
@@ -198,6 +202,7 @@ still_waits before r x w deep = record {
     all [] a = All-cons (λ y. x.level < y.level) r [] deep a
     all (z ∷ Z) a = All-cons (λ y. x.level < y.level) z (Z ++ (r ∷ [])) (All-head (λ y. x.level < y.level) z Z a) (all Z (All-tail (λ y. x.level < y.level) z Z a))
 
+-- what was due behind a deeper record still is
 still_behind : (before : List Record) (r : Record) (D : List Due) → All (λ (x : Due). x.level < r.level) D → All (IsBehind before) D → All (IsBehind (before ++ (r ∷ []))) D
 still_behind before r [] low all = All-nil (IsBehind (before ++ (r ∷ [])))
 still_behind before r (e ∷ D) low all =
@@ -207,75 +212,88 @@ still_behind before r (e ∷ D) low all =
     (record { sibling = first.sibling; waiting = still_waits before r first.sibling first.waiting (omega (arith, first.level, under)); inner = first.inner; level = first.level; label = first.label })
     (still_behind before r D (All-tail (λ (x : Due). x.level < r.level) e D low) (All-tail (IsBehind before) e D all))
 
--- one record more, at the level that is due
-held_more : (before : List Record) (r : Record) (e : Due) (W : List Due) → IsHeld before (e ∷ W) → r.level ≡ e.level → (before ≡ [] → r.sibling ≡ true → ⊥) → IsHeld (before ++ (r ∷ [])) (due_behind r ++ W)
-held_more before r e W h same alone = record { state = state r.child r.sibling refl refl; falls = falls r.child r.sibling; waits = waits }
-  where
-    after : List Record
-    after = before ++ (r ∷ [])
+module _ (before : List Record) (r : Record) (e : Due) (W : List Due) (h : IsHeld before (e ∷ W)) (same : r.level ≡ e.level) (alone : before ≡ [] → r.sibling ≡ true → ⊥) where
+  abbrev after : List Record
+  after = before ++ (r ∷ [])
 
-    first : Due
-    first = record { level = r.level + 1; after = None }
+  abbrev first : Due
+  first = record { level = r.level + 1; after = None }
 
-    second : Due
-    second = record { level = r.level; after = Some r.label }
+  abbrev second : Due
+  second = record { level = r.level; after = Some r.label }
 
-    low : All (λ (x : Due). x.level < r.level) W
-    low = subst (λ k. All (λ (x : Due). x.level < k) W) (sym same) h.falls.0
+  -- what waits lies above the record
+  low : All (λ (x : Due). x.level < r.level) W
+  low = subst (λ k. All (λ (x : Due). x.level < k) W) (sym same) h.falls.0
 
-    lower : (D : List Due) → All (λ (x : Due). x.level < r.level) D → All (λ (x : Due). x.level < r.level + 1) D
-    lower [] all = All-nil (λ (x : Due). x.level < r.level + 1)
-    lower (d ∷ D) all = All-cons (λ (x : Due). x.level < r.level + 1) d D (omega (arith, All-head (λ (x : Due). x.level < r.level) d D all)) (lower D (All-tail (λ (x : Due). x.level < r.level) d D all))
+  -- and above its child
+  lower : (D : List Due) → All (λ (x : Due). x.level < r.level) D → All (λ (x : Due). x.level < r.level + 1) D
+  lower [] all = All-nil (λ (x : Due). x.level < r.level + 1)
+  lower (d ∷ D) all = All-cons (λ (x : Due). x.level < r.level + 1) d D (omega (arith, All-head (λ (x : Due). x.level < r.level) d D all)) (lower D (All-tail (λ (x : Due). x.level < r.level) d D all))
 
-    rest : All (IsBehind after) W
-    rest = still_behind before r W low (rest_behind before e W h.state)
+  -- a record with a sibling is not the root
+  inner : r.sibling ≡ true → 0 < r.level
+  inner s = elim (inner_due before e W h.state) [
+    | inl b ↦ absurd (alone b s)
+    | inr more ↦ omega (arith, more, same)
+  ]
 
-    inner : r.sibling ≡ true → 0 < r.level
-    inner s = elim (inner_due before e W h.state) [
-      | inl b ↦ absurd (alone b s)
-      | inr more ↦ omega (arith, more, same)
-    ]
+  rest : All (IsBehind after) W
+  rest = still_behind before r W low (rest_behind before e W h.state)
 
-    siblings : (s : Bool) → r.sibling ≡ s → All (IsBehind after) (due_where s second ++ W)
-    siblings false e = rest
-    siblings true e = All-cons (IsBehind after) second W (record { sibling = r; waiting = record { ahead = before; after = []; is = refl; waits = (e, All-nil (λ y. r.level < y.level)) }; inner = inner e; level = refl; label = refl }) rest
+  -- its sibling is due, and then what was due behind it
+  siblings : (s : Bool) → r.sibling ≡ s → All (IsBehind after) (due_where s second ++ W)
+  siblings false clear = rest
+  siblings true set =
+      All-cons (IsBehind after) second W
+      (record { sibling = r; waiting = record { ahead = before; after = []; is = refl; waits = (set, All-nil (λ y. r.level < y.level)) }; inner = inner set; level = refl; label = refl })
+      rest
 
-    state : (c s : Bool) → r.child ≡ c → r.sibling ≡ s → IsState after ((due_where c first ++ due_where s second) ++ W)
-    state false s e f = back before r refl e (siblings s f)
-    state true s e f = down first (due_where s second ++ W) refl (child before r refl e refl refl) (siblings s f)
+  -- its child is due first, if it has one
+  more_state : (c s : Bool) → r.child ≡ c → r.sibling ≡ s → IsState after ((due_where c first ++ due_where s second) ++ W)
+  more_state false s leaf mark = back before r refl leaf (siblings s mark)
+  more_state true s parent mark = down first (due_where s second ++ W) refl (child before r refl parent refl refl) (siblings s mark)
 
-    falls : (c s : Bool) → Fall ((due_where c first ++ due_where s second) ++ W)
-    falls false false = h.falls.1
-    falls false true = (low, h.falls.1)
-    falls true false = (lower W low, h.falls.1)
-    falls true true = (All-cons (λ (x : Due). x.level < r.level + 1) second W (omega arith) (lower W low), (low, h.falls.1))
+  -- the levels fall
+  more_falls : (c s : Bool) → Fall ((due_where c first ++ due_where s second) ++ W)
+  more_falls false false = h.falls.1
+  more_falls false true = (low, h.falls.1)
+  more_falls true false = (lower W low, h.falls.1)
+  more_falls true true = (All-cons (λ (x : Due). x.level < r.level + 1) second W (omega arith) (lower W low), (low, h.falls.1))
 
-    own : (c s : Bool) → s ≡ true → HasLevel r.level ((due_where c first ++ due_where s second) ++ W)
-    own c false e = absurd (cc)
-    own false true e = inl refl
-    own true true e = inr (inl refl)
+  -- the level of its sibling is due
+  own : (c s : Bool) → s ≡ true → HasLevel r.level ((due_where c first ++ due_where s second) ++ W)
+  own c false set = absurd (cc)
+  own false true set = inl refl
+  own true true set = inr (inl refl)
 
-    waits : (x : Record) → IsWaiting after x → HasLevel x.level (due_behind r ++ W)
-    waits x w = elim (back_split before r w.ahead (x ∷ w.after) w.is) [
-      | inl none ↦ absurd (let no = none.0 in cc)
-      | inr split ↦ go split.0 split.1 split.2
-    ]
-      where
-        go : (Y : List Record) → x ∷ w.after ≡ Y ++ (r ∷ []) → before ≡ w.ahead ++ Y → HasLevel x.level (due_behind r ++ W)
-        go [] e f =
-            let head : r ≡ x = cc in
-            subst (λ (z : Record). HasLevel z.level (due_behind r ++ W)) head (own r.child r.sibling (ap (λ (z : Record). z.sibling) head ∙ w.waits.0))
-        go (y ∷ Y) e f =
-            let head : x ≡ y = cc in
-            let tails : w.after ≡ Y ++ (r ∷ []) = cc in
-            let all = subst (All (λ z. x.level < z.level)) tails w.waits.1 in
-            let deep = All-middle (λ z. x.level < z.level) Y r [] all in
-            let kept = h.waits in
-            elim (kept x (record { ahead = w.ahead; after = Y; is = f ∙ ap (λ z. w.ahead ++ (z ∷ Y)) (sym head); waits = (w.waits.0, All-left (λ z. x.level < z.level) Y (r ∷ []) all) })) [
-              | inl level ↦ absurd (omega (arith, level, deep, same))
-              | inr later ↦ has_later x.level (due_behind r) W later
-            ]
+  -- what waits behind it is it, or waited before
+  more_place : (x : Record) (A Z Y : List Record) → Waits x Z → x ∷ Z ≡ Y ++ (r ∷ []) → before ≡ A ++ Y → HasLevel x.level (due_behind r ++ W)
+  more_place x A Z [] w split is =
+      let head : r ≡ x = cc in
+      subst (λ (z : Record). HasLevel z.level (due_behind r ++ W)) head (own r.child r.sibling (ap (λ (z : Record). z.sibling) head ∙ w.0))
+  more_place x A Z (y ∷ Y) w split is =
+      let head : x ≡ y = cc in
+      let tails : Z ≡ Y ++ (r ∷ []) = cc in
+      let all = subst (All (λ z. x.level < z.level)) tails w.1 in
+      let deep = All-middle (λ z. x.level < z.level) Y r [] all in
+      let kept = h.waits in
+      elim (kept x (record { ahead = A; after = Y; is = is ∙ ap (λ z. A ++ (z ∷ Y)) (sym head); waits = (w.0, All-left (λ z. x.level < z.level) Y (r ∷ []) all) })) [
+        | inl level ↦ absurd (omega (arith, level, deep, same))
+        | inr later ↦ has_later x.level (due_behind r) W later
+      ]
 
+  more_waits : (x : Record) → IsWaiting after x → HasLevel x.level (due_behind r ++ W)
+  more_waits x w = elim (back_split before r w.ahead (x ∷ w.after) w.is) [
+    | inl none ↦ absurd (let gone = none.0 in cc)
+    | inr split ↦ more_place x w.ahead w.after split.0 w.waits split.1 split.2
+  ]
+
+  -- one record more, at the level that is due
+  held_more : IsHeld after (due_behind r ++ W)
+  held_more = record { state = more_state r.child r.sibling refl refl; falls = more_falls r.child r.sibling; waits = more_waits }
+
+-- the last record of a list that ends low has no child
 ends_at : (A : List Record) (r : Record) → EndsLow (A ++ (r ∷ [])) → r.child ≡ false
 ends_at [] r low = low
 ends_at (a ∷ []) r low = low

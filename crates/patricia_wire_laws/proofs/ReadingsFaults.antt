@@ -12,10 +12,12 @@ use Rattle.patricia_wire_laws.proofs.Readings.{same_number, one_due, is_due, roo
 marks_more : (before : List Record) (r : Record) → value_marks (before ++ (r ∷ [])) ≡ value_marks before + where_set r.value 1
 marks_more before r = omega (arith, sum_by-append (λ (x : Record). where_set x.value 1) before (r ∷ []))
 
+-- a value mark that is one too many comes where no value is left
 none_left : (value : Bool) (left : ℕ) → left < where_set value 1 → (value ≡ true) × (left ≡ 0)
 none_left false left less = absurd (omega (arith, less))
 none_left true left less = (refl, omega (arith, less))
 
+-- a value mark counts for one
 mark_counts : (value : Bool) → value ≡ true → where_set value 1 ≡ 1
 mark_counts true e = refl
 mark_counts false e = absurd (cc)
@@ -37,6 +39,7 @@ module _ (item : List ℕ → Type 0) (n left : ℕ) (before : List Record) (due
   breaks_fault read count same trailing_bytes b = b
   breaks_fault read count same too_many_values b = b
 
+  -- and the other way round
   fault_breaks : IsRead item n before (due ∷ waiting) → left + value_marks before ≡ n → r.level ≡ due.level → (f : Fault) → IsFaulty item before r n f → Breaks item due left r f
   fault_breaks read count same truncated h = h
   fault_breaks read count same level h = absurd (h (subst (IsDue before) (sym same) (is_due item n before due waiting read)))
@@ -66,6 +69,7 @@ module _ (item : List ℕ → Type 0) (n left : ℕ) (before : List Record) (due
   under_level trailing_bytes less h = omega (arith, less)
   under_level too_many_values less h = omega (arith, less)
 
+  -- where the level is not the one that is due, that is the first fault
   other_level : IsRead item n before (due ∷ waiting) → r.level ≢ due.level → (f : Fault) → Breaks item due left r f → ((g : Fault) → number g < number f → Breaks item due left r g → ⊥) → (IsFaulty item before r n f) × ((g : Fault) → number g < number f → IsFaulty item before r n g → ⊥)
   other_level read other truncated b lower = absurd b
   other_level read other level b lower = (λ given. other (one_due before r.level due.level given (is_due item n before due waiting read)), under_level)

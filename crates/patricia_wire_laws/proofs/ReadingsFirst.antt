@@ -15,6 +15,7 @@ data IsAligned (w : ℕ) (P Q : List Record) (x y : List ℕ) : Type 0 where
   further : (Y : List Record) (z : List ℕ) → Q ≡ P ++ Y → SpellAll w Y z → x ≡ z ++ y → IsAligned w P Q x y
   nearer : (s : Record) (S : List Record) (one others : List ℕ) → P ≡ Q ++ (s ∷ S) → Spells w s one → y ≡ one ++ others → IsAligned w P Q x y
 
+-- so they are
 align : (w : ℕ) (P Q : List Record) (p q x y : List ℕ) → SpellAll w P p → SpellAll w Q q → p ++ x ≡ q ++ y → IsAligned w P Q x y
 align w [] Q p q x y a b e = further Q q refl b (ap (λ l. l ++ x) (sym a) ∙ e)
 align w (s ∷ P) [] p q x y a b e = nearer s P a.first (a.rest ++ x) refl a.spelled (ap (λ l. l ++ y) (sym b) ∙ sym e ∙ ap (λ l. l ++ x) a.joined ∙ append_assoc a.first a.rest x)
@@ -27,6 +28,7 @@ align w (r ∷ P) (s ∷ Q) p q x y a b e =
     go head (further Y z f spelled g) = further Y z (λ i. sym head i ∷ f i) spelled g
     go head (nearer t S one others f spelled g) = nearer t S one others (λ i. head i ∷ f i) spelled g
 
+-- records have bytes
 some_bytes : (w : ℕ) (y : Record) (Y : List Record) (z : List ℕ) → SpellAll w (y ∷ Y) z → 0 < length z
 some_bytes w y Y [] s = absurd (not_empty w y s.first s.rest s.spelled s.joined)
 some_bytes w y Y (c ∷ z) s = omega arith

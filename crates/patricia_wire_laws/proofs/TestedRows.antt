@@ -72,10 +72,10 @@ module _ (item : List ℕ → Type 0) (kind : IsKeyKind item) where
   }
 
 -- each member is a byte
-abbrev are_bytes : List ℕ → Bool
+abbrev pub are_bytes : List ℕ → Bool
 are_bytes l = list_all (λ b. nat_lt b 256) l
 
-byte_valid : (l : List ℕ) → are_bytes l ≡ true → IsValid IsByteItem l
+pub byte_valid : (l : List ℕ) → are_bytes l ≡ true → IsValid IsByteItem l
 byte_valid [] test = ([], tt, refl)
 byte_valid (b ∷ l) test =
     let rest = byte_valid l (second_so _ _ test) in
@@ -94,11 +94,11 @@ abbrev pub is_writable : Row Nothing → Bool
 is_writable end = true
 is_writable (node l v c s) = is_label l && ((is_some v || has_node c) && (is_before l s && (is_writable c && is_writable s)))
 
-either : (a b : Bool) → (a || b) ≡ true → (a ≡ true) ⊎ (b ≡ true)
+pub either : (a b : Bool) → (a || b) ≡ true → (a ≡ true) ⊎ (b ≡ true)
 either true b e = inl refl
 either false b e = inr e
 
-filled_of : (l : List ℕ) → nat_lt 0 (length l) ≡ true → l ≢ []
+pub filled_of : (l : List ℕ) → nat_lt 0 (length l) ≡ true → l ≢ []
 filled_of l test none = let some = ltb-true 0 (length l) test in omega (arith, ap length none)
 
 rises : (l : List ℕ) (s : Row Nothing) → IsValid IsByteItem l → l ≢ [] → is_before l s ≡ true → IsWritable IsByteItem s → IsBeforeRow IsByteItem l s
@@ -128,7 +128,7 @@ byte_writable (node l v c s) test =
     }
 
 -- a record can be spelled
-abbrev has_room : ℕ → Record → Bool
+abbrev pub has_room : ℕ → Record → Bool
 has_room w r = nat_lt r.level (256 ^ w) && (nat_lt (length r.label) 256 && are_bytes r.label)
 
 are_bytes-all : (l : List ℕ) → are_bytes l ≡ true → All (λ b. b < 256) l

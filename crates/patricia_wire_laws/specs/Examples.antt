@@ -1,4 +1,4 @@
--- Worked writings: keys in order, and the bytes that they are written as.
+-- Worked writings: keys in order, and the bytes that they are written as. Inputs with a fault.
 use Rattle.std.specs.Prelude.{ℕ, List, [], ◌∷◌, ◌++◌, replicate}
 
 -- no keys
@@ -113,3 +113,15 @@ a_written = 12 ∷ 0 ∷ 0 ∷ 0 ∷ 3 ∷ 1 ∷ 0 ∷ 1 ∷ 97 ∷ []
 abbrev pub falling_siblings : List ℕ
 falling_siblings =
     12 ∷ 0 ∷ 0 ∷ 0 ∷ 51 ∷ 1 ∷ 0 ∷ 1 ∷ 98 ∷ 3 ∷ 1 ∷ 0 ∷ 1 ∷ 97 ∷ []
+
+-- a root with a child, and these bytes behind it
+abbrev pub behind_root : List ℕ → List ℕ
+behind_root rest = 12 ∷ 0 ∷ 0 ∷ 0 ∷ rest
+
+-- the first two bytes of a character of four, as a label
+abbrev pub half_written : List ℕ
+half_written = behind_root (3 ∷ 2 ∷ 0 ∷ 1 ∷ 240 ∷ 159 ∷ [])
+
+-- a record with an empty label, and behind it one that lies three levels too deep
+abbrev pub hollow_then_deep : List ℕ
+hollow_then_deep = behind_root (12 ∷ 0 ∷ 0 ∷ 1 ∷ 3 ∷ 1 ∷ 0 ∷ 5 ∷ 97 ∷ [])
