@@ -1,6 +1,6 @@
 -- A record that is added to what is built.
 use Rattle.std.proofs.Common.{◌≡◌, ◌≢◌, ℕ, ◌+◌, ◌<◌, ◌≤◌, Bool, true, false, List, [], ◌∷◌, ◌++◌, length, Option, Some, None, slice_get, get_or, set, refl, sym, ap, subst, ◌∙◌, arith, append-nil, append_assoc, length-append, length-set}
-use Rattle.std.specs.Prelude.{is_some, All, map, reverse}
+use Rattle.std.specs.Prelude.{is_some, All, map, reverse, Result, Ok, Err, OnOk}
 use Rattle.std.specs.Option.{option_to_list}
 use Rattle.std.proofs.lemmas.Option.{slice_get-get_or}
 use Rattle.std.proofs.lemmas.List.{reverse-append}
@@ -19,6 +19,11 @@ use Rattle.patricia_decoder.specs.declared.builder.Next.TheVariants.{Root, Below
 use Rattle.patricia_decoder.specs.Private.Growing.{Gap, Unlaid, IsOpenBeside, IsOpenAt, IsOpenWithin}
 use Rattle.patricia_decoder.specs.Private.Builds.{link_if, number_if, gap_if, ids, dues, Fall, count_of, IsNew, Keeps, Lays, HasLinked, Opens, ClosesAs, Prepares, AddsRoot, Suits, Wait, IsBuiltAs, IsBuilt, Adds}
 use Rattle.patricia_decoder.proofs.GrowingLemmas.{AreWithin, not_at, laid_node, opened, joined_in, laid_above, laid_alone, linked_beside}
+
+-- what follows of an answer that is no error
+pub on_ok : {T E P Q : Type 0} (r : Result T E) → (P → Q) → OnOk r P → OnOk r Q
+on_ok (Ok x) f h = f h
+on_ok (Err e) f h = tt
 
 pub some_snoc : (R : List Record) (r : Record) → R ++ (r ∷ []) ≢ []
 some_snoc [] r e = cc

@@ -1,10 +1,12 @@
 -- The rules of a record, tried in the order of their faults.
 use Rattle.std.proofs.Common.{◌≡◌, ◌≢◌, ◌⊎◌, inl, inr, ℕ, zero, suc, ◌+◌, ◌<◌, ◌≤◌, true, false, List, [], ◌∷◌, ◌++◌, length, take, drop, length-take, length-append, take-append-drop, take_all, Option, Some, None, refl, sym, ap, subst, ◌∙◌, arith, append-nil}
-use Rattle.std.specs.Prelude.{◌↔◌, Bool, ◌&&◌, not, eqb, ◌==◌}
+use Rattle.std.specs.Prelude.{◌↔◌, Result, Ok, Err, IfErr, IsErrAnd, Bool, ◌&&◌, not, eqb, ◌==◌}
 use Rattle.std.proofs.lemmas.Bool.{cases_lt}
 use Rattle.std.proofs.lemmas.Bool.Decides.{nat_tests}
 use Rattle.std.proofs.lemmas.List.{nil_from_length}
-use Rattle.std.specs.declared.cmp.Ordering.TheVariants.{Less}
+use Rattle.std.specs.declared.cmp.Ordering.TheVariants.{Less, Equal, Greater}
+use Rattle.std.specs.declared.cmp.Ordering.{Ordering}
+use Rattle.std.proofs.Common.{is_lt}
 use Rattle.patricia_keys.specs.Keys.{IsKeyKind, IsValid, IsFirstItem, Begins, AreItems, key_cmp}
 use Rattle.patricia_keys.proofs.KeyLemmas.{begins_same, first_of, IsValid-item, IsValid-nil}
 use Rattle.patricia_rows.specs.Rows.{IsBefore}
@@ -12,7 +14,8 @@ use Rattle.patricia_wire_laws.specs.Records.{Record}
 use Rattle.patricia_wire_laws.specs.Faults.{Fault, number, truncated, level, root_label, root_sibling, empty_label, invalid_label, sibling_order, no_value_no_child, too_few_values, trailing_bytes, too_many_values}
 use Rattle.patricia_wire_laws.specs.Private.Readings.{Due, Breaks}
 use Rattle.patricia_wire_laws.proofs.FirstFault.{number_same}
-use Rattle.patricia_decoder.specs.Private.Steps.{BreaksNone, BreaksNoneBelow}
+use Rattle.patricia_decoder.specs.Private.Steps.{named, BreaksNone, BreaksNoneBelow, BreaksFirst, BreaksLabel, KeepsLabel}
+use Rattle.patricia_decoder.specs.declared.error.DecodeError.{DecodeError}
 
 module _ (item : List ℕ → Type 0) (due : Due) (left : ℕ) (r : Record) where
   pub below_level : BreaksNoneBelow item due left r 3
@@ -176,3 +179,38 @@ one_more_not item label n some within fewest valid fails = record {
     | inr no_less ↦ fails (subst (λ k. IsValid item (take k label)) (omega (arith, less, no_less)) here)
   ];
 }
+
+-- an error that is handed on
+pub handed_on : {T E : Type 0} (P : E → Type 0) (out : Result T E) (e : E) → IsErrAnd out (λ x. x ≡ e) → P e → IfErr out P
+handed_on P (Ok x) e is h = tt
+handed_on P (Err x) e is h = subst P (sym is) h
+
+module _ (item : List ℕ → Type 0) (due : Due) (left : ℕ) (r : Record) where
+  pub broken_label : BreaksNoneBelow item due left r 7 → (offset : ℕ) (e : DecodeError) → BreaksLabel item due r.label offset e → BreaksFirst item due left r offset e
+  broken_label below offset e broken = elim broken [
+    | inl b ↦ (let is = b.0 in record { fault = invalid_label; names = λ end. ap (named end) is; breaks = b.1; first = below })
+    | inr b ↦ (let is = b.0 in let valid = b.1 in record { fault = sibling_order; names = λ end. ap (named end) is; breaks = b.2; first = kept_next item due left r invalid_label below (λ h. h valid) })
+  ]
+
+  pub kept_label : BreaksNoneBelow item due left r 7 → KeepsLabel item due r.label → BreaksNoneBelow item due left r 9
+  kept_label below kept = kept_next item due left r sibling_order (kept_next item due left r invalid_label below (λ h. h kept.0)) (λ (l, is, not_before). not_before (kept.1 l is))
+
+  pub breaks_marks : (not (eqb due.level 0) && not r.value) && not r.child ≡ true → Breaks item due left r no_value_no_child
+  breaks_marks t =
+      let outer = both (not (eqb due.level 0) && not r.value) (not r.child) t in
+      let inner = level_some due.level (not r.value) outer.0 in
+      (inner.0, not_true r.value inner.1, not_true r.child outer.1)
+
+  pub kept_marks : BreaksNoneBelow item due left r 9 → (not (eqb due.level 0) && not r.value) && not r.child ≡ false → BreaksNoneBelow item due left r 10
+  kept_marks below f = kept_next item due left r no_value_no_child below (λ (some, no_value, no_child). (
+    let h : true ≡ false = (λ i. (sym (test_other due.level 0 some) i && not (sym no_value i)) && not (sym no_child i)) ∙ f in
+    cc
+  ))
+
+  pub breaks_values : r.value && eqb left 0 ≡ true → Breaks item due left r too_few_values
+  breaks_values t = (let parts = both r.value (eqb left 0) t in (parts.0, tested left 0 parts.1))
+
+pub is_less : (o : Ordering) → is_lt o ≡ true → o ≡ Less
+is_less Less e = refl
+is_less Equal e = absurd (cc)
+is_less Greater e = absurd (cc)

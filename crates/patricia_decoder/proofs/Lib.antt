@@ -2,3 +2,5 @@ pub mod BuildLemmas
 pub mod CheckLemmas
 pub mod EndLemmas
 pub mod GrowingLemmas
+pub mod ReadLemmas
+pub mod ReaderLemmas

@@ -1,8 +1,8 @@
 //! What is due while records are read, and the rules that the next record must keep.
-ghost use Rattle.std.specs.Prelude.{ℕ, ◌≡◌, ◌≢◌, ◌≤◌, [], IfSome, None, Some, IfErr, OnOk, IsTrue, ◌↔◌};
+ghost use Rattle.std.specs.Prelude.{ℕ, false, ◌≡◌, ◌≢◌, ◌≤◌, [], IfSome, None, Some, IfErr, OnOk, IsTrue, ◌↔◌};
 ghost use Rattle.patricia_keys.specs.Keys.{IsValid, IsFirstItem};
 ghost use Rattle.patricia_rows.specs.Rows.{IsBefore};
-ghost use Rattle.patricia_decoder.specs.Private.Steps.{IsAfter, IsOutOfOrder, BreaksFirst, BreaksNone, BreaksNoneBelow, KeepsLabel, BreaksLabel};
+ghost use Rattle.patricia_decoder.specs.Private.Steps.{IsAfter, IsInOrder, IsOutOfOrder, BreaksFirst, BreaksNoneBelow, Keeps, KeepsLabel, BreaksLabel};
 
 use crate::error::DecodeError;
 use crate::record::Record;
@@ -47,7 +47,9 @@ fn comes_before<K: Bytes>(label: &[u8], other: &[u8]) -> bool
     requires other_filled { other.now ≢ [] }
     ensures { IsTrue result ↔ IsBefore K.item label.now other.now }
 {
-    first_item::<K>(label) < first_item::<K>(other)
+    first_item::<K>(label)
+        .cmp(first_item::<K>(other))
+        .is_lt()
 }
 
 impl<'a> Due<'a> {
@@ -56,7 +58,8 @@ impl<'a> Due<'a> {
         requires after { IsAfter K.item self.now }
         requires valid { IsValid K.item label.now }
         requires filled { self.now.level ≢ 0 → label.now ≢ [] }
-        ensures { IsTrue result ↔ IsOutOfOrder K.item self.now label.now }
+        ensures out { IsTrue result ↔ IsOutOfOrder K.item self.now label.now }
+        ensures in_order { result ≡ false → IsInOrder K.item self.now label.now }
     {
         match self.after {
             Some(before) => !comes_before::<K>(before, label),
@@ -110,7 +113,7 @@ impl<'a> Due<'a> {
         offset: usize,
     ) -> Result<(), DecodeError>
         requires after { IsAfter K.item self.now }
-        ensures kept { OnOk result (BreaksNone K.item self.now left record.now) }
+        ensures kept { OnOk result (Keeps K.item self.now left record.now) }
         ensures broken { IfErr result (λ e.
             BreaksFirst K.item self.now left record.now offset e) }
     {

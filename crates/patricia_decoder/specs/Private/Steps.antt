@@ -1,5 +1,5 @@
 -- What the steps of the reader say.
-use Rattle.std.specs.Prelude.{◌≡◌, ◌≢◌, ◌⊎◌, ℕ, ◌+◌, ◌<◌, ◌≤◌, Bool, true, List, [], ◌∷◌, ◌++◌, length, drop, reverse, Option, Some, None}
+use Rattle.std.specs.Prelude.{◌≡◌, ◌≢◌, ◌⊎◌, ℕ, ◌+◌, ◌<◌, ◌≤◌, Bool, true, List, [], ◌∷◌, ◌++◌, length, drop, reverse, All, Option, Some, None}
 use Rattle.patricia_keys.specs.Keys.{IsValid}
 use Rattle.patricia_rows.specs.Rows.{IsBefore}
 use Rattle.patricia_wire_laws.specs.Records.{Record, Spells, SpellAll}
@@ -52,6 +52,10 @@ module _ (item : List ℕ → Type 0) where
   IsOutOfOrder due label =
       (l : List ℕ) × (due.after ≡ Some l) × (IsBefore item l label → ⊥)
 
+  -- a sibling's label comes behind that of the sibling before it
+  abbrev pub IsInOrder : Due → List ℕ → Type 0
+  IsInOrder due label = (l : List ℕ) → due.after ≡ Some l → IsBefore item l label
+
   -- the record breaks no rule
   abbrev pub BreaksNone : Due → ℕ → Record → Type 0
   BreaksNone due left r = (f : Fault) → Breaks item due left r f → ⊥
@@ -67,20 +71,26 @@ module _ (item : List ℕ → Type 0) where
     pub breaks : Breaks item due left r fault
     pub first : BreaksNoneBelow due left r (number fault)
 
-  -- a label is valid and not out of order; or the error names which of the two it is not
+  -- a label is valid and in order; or the error names which of the two it is not
   abbrev pub KeepsLabel : Due → List ℕ → Type 0
-  KeepsLabel due label = IsValid item label × (IsOutOfOrder due label → ⊥)
+  KeepsLabel due label = IsValid item label × IsInOrder due label
 
   abbrev pub BreaksLabel : Due → List ℕ → ℕ → DecodeError → Type 0
   BreaksLabel due label offset e =
       ((e ≡ InvalidLabel offset) × (IsValid item label → ⊥))
       ⊎ ((e ≡ SiblingOrder offset) × IsValid item label × IsOutOfOrder due label)
 
+  -- the record keeps all rules
+  pub record Keeps (due : Due) (left : ℕ) (r : Record) : Type 0 where
+    pub rules : BreaksNone due left r
+    pub label : KeepsLabel due r.label
+
   -- these records are read, and these are due, the next first
   pub record IsReading (n : ℕ) (p : Reader) (before : List Record) (due : List Due) : Type 0 where
     pub read : IsRead item n before due
     pub reads : Reads 2 p.bytes.now before p.offset (drop p.offset p.bytes.now)
     pub due_is : reverse p.due.items ≡ due
+    pub after : All IsAfter due
 
   -- some records are read, and so many values are left
   pub record HasRead (p : Reader) (left : ℕ) : Type 0 where
@@ -96,16 +106,18 @@ module _ (item : List ℕ → Type 0) where
     pub fits : length r.label ≤ 255
     pub reading :
         (n : ℕ) (before : List Record) (due : List Due) → IsReading n old before due → left + value_marks before ≡ n
-        → (next : Due) × (waiting : List Due) × (due ≡ next ∷ waiting) × BreaksNone next left r
+        → (next : Due) × (waiting : List Due) × (due ≡ next ∷ waiting) × Keeps next left r
         × IsReading n new (before ++ (r ∷ [])) (due_behind r ++ waiting)
 
-  -- nothing is due
-  abbrev pub IsOver : Reader → Type 0
-  IsOver p = (n : ℕ) (before : List Record) (due : List Due) → IsReading n p before due → due ≡ []
+  -- nothing is due, whatever was read
+  abbrev pub Ends : Reader → Reader → Type 0
+  Ends old new =
+      (n : ℕ) (before : List Record) (due : List Due) → IsReading n old before due
+      → (due ≡ []) × IsReading n new before []
 
   -- a record is read, or nothing is due
   abbrev pub Goes : ℕ → Reader → Option Record → Reader → Type 0
-  Goes left old None new = IsOver old × (new ≡ old)
+  Goes left old None new = Ends old new
   Goes left old (Some r) new = GoesOn left old r new
 
   -- the bytes are refused, whatever was read

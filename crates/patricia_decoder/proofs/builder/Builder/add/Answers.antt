@@ -1,7 +1,7 @@
 use Rattle.std.proofs.Common.{◌≡◌, sym, subst, ◌∙◌, true}
 use Rattle.patricia_wire_laws.specs.Records.{Record}
 use Rattle.patricia_decoder.specs.Private.Builds.{AddsRoot, Prepares, ClosesAs}
-use Rattle.patricia_decoder.proofs.BuildLemmas.{added}
+use Rattle.patricia_decoder.proofs.BuildLemmas.{added, on_ok}
 use Rattle.patricia_decoder.proofs.EndLemmas.{root_added}
 use Rattle.patricia_decoder.proofs.builder.Builder.add.Goals as goal
 
@@ -15,4 +15,4 @@ returns g c =
     let r = c.args.record.now in
     let view = c.record.view_is in
     let prepared = subst (λ (r : Record). Prepares c.args.self.now.next c.args.self.now r.sibling c.prepare.new.self) view c.in_ok-prepare.ensures in
-    ok_only (λ closes. added g.K.Bytes.item c.args.self.now c.prepare.new.self c.open.new.self c.close.new.self r c.args.value c.in_default.not-Root prepared c.in_ok-open.ensures (subst (λ (r : Record). ClosesAs c.open.new.self c.args.value r.child c.close.new.self) view closes)) c.close.ensures
+    on_ok c.close.result (λ closes. added g.K.Bytes.item c.args.self.now c.prepare.new.self c.open.new.self c.close.new.self r c.args.value c.in_default.not-Root prepared c.in_ok-open.ensures (subst (λ (r : Record). ClosesAs c.open.new.self c.args.value r.child c.close.new.self) view closes)) c.close.ensures
