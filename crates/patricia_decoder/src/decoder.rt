@@ -5,8 +5,11 @@ ghost use Rattle.patricia_nodes.specs.Private.Plans.{IsWhole, row_of, entries_of
 ghost use Rattle.patricia_wire_laws.specs.Writings.{Means};
 ghost use Rattle.patricia_decoder.specs.Refusals.{IsRefusal};
 
+use crate::builder::Builder;
 use crate::error::DecodeError;
+use crate::reader::Reader;
 use patricia_keys::Bytes;
+use patricia_labels::link::Link;
 use patricia_nodes::slots::Slots;
 use std::alloc::Global;
 
@@ -29,5 +32,20 @@ pub fn decode<K: Bytes, V: Drop>(
         Means K.item 2 bytes.now values.items (own d.value ++ entries_of d.slots)) }
     ensures first_fault { IfErr result (λ e. IsRefusal K.item 2 bytes.now (length values.items) e) }
 {
-    Err(DecodeError::Memory)
+    let mut values = values.into_iter();
+    let mut reader = Reader::new(alloc, bytes)?;
+    let mut builder = Builder::new(alloc);
+    while let Some(record) = reader.next::<K>(values.len())? {
+        let value = if record.value { values.next() } else { None };
+        builder.add::<K>(&record, value)?;
+    }
+    reader.finish::<K>(values.len())?;
+    Ok(Decoded {
+        value: builder.value,
+        slots: Slots {
+            nodes: builder.nodes,
+            root: builder.root,
+            free: Link::none(),
+        },
+    })
 }
