@@ -1,23 +1,22 @@
 -- A record that is added to what is built.
 use Rattle.std.proofs.Common.{◌≡◌, ◌≢◌, ℕ, ◌+◌, ◌<◌, ◌≤◌, Bool, true, false, List, [], ◌∷◌, ◌++◌, length, Option, Some, None, slice_get, get_or, set, refl, sym, ap, subst, ◌∙◌, arith, append-nil, append_assoc, length-append, length-set}
-use Rattle.std.specs.Prelude.{is_some, All, map, reverse, Result, Ok, Err, OnOk}
+use Rattle.std.specs.Prelude.{is_some, reverse, Result, Ok, Err, OnOk}
 use Rattle.std.specs.Option.{option_to_list}
 use Rattle.std.proofs.lemmas.Option.{slice_get-get_or}
 use Rattle.std.proofs.lemmas.List.{reverse-append}
 use Rattle.std.proofs.lemmas.List.Elements.{All-nil, All-cons}
-use Rattle.patricia_rows.specs.Rows.{Row, end, node, own, entries, IsBefore, IsBeforeRow}
-use Rattle.patricia_rows.specs.Walks.{values_of}
+use Rattle.patricia_rows.specs.Rows.{Row, end, node, IsBeforeRow}
 use Rattle.patricia_nodes.specs.declared.slots.Node.{Node}
 use Rattle.patricia_nodes.specs.Private.Plans.{linked}
 use Rattle.patricia_wire_laws.specs.Records.{Record}
 use Rattle.patricia_wire_laws.specs.Forests.{IsInner}
 use Rattle.patricia_wire_laws.specs.Private.Readings.{Due, due_where, due_behind}
-use Rattle.patricia_wire_laws.specs.Private.WrittenRows.{has_node, record_of, records_of, tree_records, over, joined}
+use Rattle.patricia_wire_laws.specs.Private.WrittenRows.{has_node, over, joined}
 use Rattle.patricia_decoder.specs.declared.builder.Builder.{Builder}
 use Rattle.patricia_decoder.specs.declared.builder.Next.{Next}
 use Rattle.patricia_decoder.specs.declared.builder.Next.TheVariants.{Root, Below, Within, Beside}
 use Rattle.patricia_decoder.specs.Private.Growing.{Gap, Unlaid, IsOpenBeside, IsOpenAt, IsOpenWithin}
-use Rattle.patricia_decoder.specs.Private.Builds.{link_if, number_if, gap_if, ids, dues, Fall, count_of, IsNew, Keeps, Lays, HasLinked, Opens, ClosesAs, Prepares, AddsRoot, Suits, Wait, IsBuiltAs, IsBuilt, Adds}
+use Rattle.patricia_decoder.specs.Private.Builds.{link_if, number_if, gap_if, ids, dues, Fall, count_of, Lays, HasLinked, Opens, ClosesAs, Prepares, Suits, Wait, IsBuiltAs, IsBuilt, Adds}
 use Rattle.patricia_decoder.proofs.GrowingLemmas.{AreWithin, not_at, laid_node, opened, joined_in, laid_above, laid_alone, linked_beside}
 
 -- what follows of an answer that is no error
@@ -139,7 +138,7 @@ module _ (item : List ℕ → Type 0) {V : Type 0} where
         gaps = gap_if o.node.sibling o.node.level o.node.own_label (count_of b) ++ o.gaps;
         goes = at_same _ new.nodes.items _ new.root _ new.value _ _ _ _ _ (laid_is b new o.node (Some x) true o.label o.value o.child_is lays) lays.keeps.root lays.keeps.value
             (laid_above item b.nodes.items b.root b.value o.node o.gaps R vs o.goes (within (count_of b) o.gaps o.wait.fall) o.child_is (λ w. Unit {0})
-              (λ c t s. subst (λ v. over o.node.label v (joined c) s ≡ node o.node.label v (joined c) s) (sym o.value) refl));
+            (λ c t s. subst (λ v. over o.node.label v (joined c) s ≡ node o.node.label v (joined c) s) (sym o.value) refl));
         wait = laid_wait b new o.node (Some x) true o.gaps lays o.wait;
         due_is = o.due_is;
         label = lays.label;
@@ -227,11 +226,11 @@ module _ (item : List ℕ → Type 0) {V : Type 0} where
       let tails : waiting ≡ dues gaps = (let e = built.due_is in cc) in
       let inner = subst (λ (d : Due). IsInner item d.level r) head (suits.inner built.some) in
       let goes = at_same _ mid.nodes.items _ mid.root _ mid.value HasTwo u.below gaps R vs (laid_is b mid u None true built.label built.value built.child lays) lays.keeps.root lays.keeps.value
-          (laid_above item b.nodes.items b.root b.value u built.gaps R vs built.goes (within (count_of b) built.gaps built.wait.fall) built.child HasTwo
-            (λ c two s. subst (λ v. over u.label v (joined c) s ≡ node u.label v (joined c) s) (sym built.value) (kept_two u.label c s two))) in
+      (laid_above item b.nodes.items b.root b.value u built.gaps R vs built.goes (within (count_of b) built.gaps built.wait.fall) built.child HasTwo
+      (λ c two s. subst (λ v. over u.label v (joined c) s ≡ node u.label v (joined c) s) (sym built.value) (kept_two u.label c s two))) in
       let wait = laid_wait b mid u None true built.gaps lays (record { ids_are = built.wait.ids_are; fall = built.wait.fall }) in
       subst (λ w. IsOpened new x r.child (R ++ (r ∷ [])) (due_behind r ++ w) (vs ++ option_to_list x)) (sym tails)
-        (opens_at mid new HasTwo u.below gaps R vs goes wait lays.label r x inner vm (λ c s e. e ∙ many) o)
+      (opens_at mid new HasTwo u.below gaps R vs goes wait lays.label r x inner vm (λ c s e. e ∙ many) o)
 
   -- the node that waits last is linked, and a record is opened beside it
   opens_beside : (b mid new : Builder V) (due : Due) (waiting : List Due) (R : List Record) (vs : List V) → IsBuiltAs item Beside b R (due ∷ waiting) vs → (r : Record) (x : Option V) → Suits item R due r → is_some x ≡ r.value → HasLinked b mid → Opens mid r new
@@ -253,7 +252,7 @@ module _ (item : List ℕ → Type 0) {V : Type 0} where
           let count : count_of mid ≡ count_of b = ap length nodes ∙ length-set b.nodes.items g.id now in
           let inner = subst (λ (d : Due). IsInner item d.level r) head (suits.inner built.some) in
           let goes_at = at_same _ mid.nodes.items _ mid.root _ mid.value (IsBeforeRow item g.label) g.level gaps R vs nodes link.keeps.root link.keeps.value
-              (linked_beside item b.nodes.items b.root b.value g gaps R vs goes n there (not_at g.id gaps (within g.id gaps wait.fall.1))) in
+          (linked_beside item b.nodes.items b.root b.value g gaps R vs goes n there (not_at g.id gaps (within g.id gaps wait.fall.1))) in
           let wait_mid : Wait mid (count_of mid) gaps gaps = record { ids_are = others; fall = subst (λ k. Fall k gaps) (sym count) (fall_up g.id (count_of b) gaps (omega (arith, wait.fall.0)) wait.fall.1) } in
           let opened = opens_at mid new (IsBeforeRow item g.label) g.level gaps R vs goes_at wait_mid (ap (λ l. l.items) link.label ∙ built.label) r x inner vm (λ c s e. suits.order g.label (ap (λ (d : Due). d.after) head)) o in
           subst (λ w. IsOpened new x r.child (R ++ (r ∷ [])) (due_behind r ++ w) (vs ++ option_to_list x)) (sym tails) opened
@@ -272,7 +271,7 @@ module _ (item : List ℕ → Type 0) {V : Type 0} where
           let tails : waiting ≡ dues b.gaps = (let e = b.due_is in cc) in
           let inside = subst (λ (d : Due). IsInner item d.level r) head (suits.inner b.some) in
           subst (λ w. IsOpened open_now x r.child (R ++ (r ∷ [])) (due_behind r ++ w) (vs ++ option_to_list x)) (sym tails)
-            (opens_at old open_now (λ w. Unit {0}) b.level b.gaps R vs b.goes b.wait b.label r x inside vm (λ c s e. tt) (at p o))
+          (opens_at old open_now (λ w. Unit {0}) b.level b.gaps R vs b.goes b.wait b.label r x inside vm (λ c s e. tt) (at p o))
       by Within not p b = within_by r.sibling refl p b
         where
           within_by : (m : Bool) → r.sibling ≡ m → Prepares Within old m mid → IsBuiltAs item Within old R (due ∷ waiting) vs → IsOpened open_now x r.child (R ++ (r ∷ [])) (due_behind r ++ waiting) (vs ++ option_to_list x)

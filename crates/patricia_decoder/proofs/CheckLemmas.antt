@@ -1,5 +1,5 @@
 -- The rules of a record, tried in the order of their faults.
-use Rattle.std.proofs.Common.{◌≡◌, ◌≢◌, ◌⊎◌, inl, inr, ℕ, zero, suc, ◌+◌, ◌<◌, ◌≤◌, true, false, List, [], ◌∷◌, ◌++◌, length, take, drop, length-take, length-append, take-append-drop, take_all, Option, Some, None, refl, sym, ap, subst, ◌∙◌, arith, append-nil}
+use Rattle.std.proofs.Common.{◌≡◌, ◌≢◌, inl, inr, ℕ, zero, suc, ◌+◌, ◌<◌, ◌≤◌, true, false, List, [], ◌∷◌, ◌++◌, length, take, drop, length-take, length-append, take-append-drop, take_all, refl, sym, ap, subst, ◌∙◌, arith, append-nil}
 use Rattle.std.specs.Prelude.{◌↔◌, Result, Ok, Err, IfErr, IsErrAnd, Bool, ◌&&◌, not, eqb, ◌==◌}
 use Rattle.std.proofs.lemmas.Bool.{cases_lt}
 use Rattle.std.proofs.lemmas.Bool.Decides.{nat_tests}
@@ -7,8 +7,8 @@ use Rattle.std.proofs.lemmas.List.{nil_from_length}
 use Rattle.std.specs.declared.cmp.Ordering.TheVariants.{Less, Equal, Greater}
 use Rattle.std.specs.declared.cmp.Ordering.{Ordering}
 use Rattle.std.proofs.Common.{is_lt}
-use Rattle.patricia_keys.specs.Keys.{IsKeyKind, IsValid, IsFirstItem, Begins, AreItems, key_cmp}
-use Rattle.patricia_keys.proofs.KeyLemmas.{begins_same, first_of, IsValid-item, IsValid-nil}
+use Rattle.patricia_keys.specs.Keys.{IsKeyKind, IsValid, IsFirstItem, Begins, key_cmp}
+use Rattle.patricia_keys.proofs.KeyLemmas.{begins_same, first_of, IsValid-item}
 use Rattle.patricia_rows.specs.Rows.{IsBefore}
 use Rattle.patricia_wire_laws.specs.Records.{Record}
 use Rattle.patricia_wire_laws.specs.Faults.{Fault, number, truncated, level, root_label, root_sibling, empty_label, invalid_label, sibling_order, no_value_no_child, too_few_values, trailing_bytes, too_many_values}
@@ -91,10 +91,10 @@ module _ (item : List ℕ → Type 0) (kind : IsKeyKind item) where
       | inr second ↦ (
         λ less. record { first = i; second = j; first_item = first.0; second_item = second.0; first_begins = first.1; second_begins = second.1; less = less },
         λ before. (
-          let same = begins_same item kind i before.first a first.0 before.first_item first.1 before.first_begins in
-          let also = begins_same item kind j before.second b second.0 before.second_item second.1 before.second_begins in
-          (λ k. key_cmp (same k) (also k)) ∙ before.less
-        ),
+            let same = begins_same item kind i before.first a first.0 before.first_item first.1 before.first_begins in
+            let also = begins_same item kind j before.second b second.0 before.second_item second.1 before.second_begins in
+            (λ k. key_cmp (same k) (also k)) ∙ before.less
+            ),
       )
     ]
   ]
@@ -167,7 +167,7 @@ module _ (item : List ℕ → Type 0) (due : Due) (left : ℕ) (r : Record) wher
 
 -- one byte more, where so many are not valid
 pub one_more_not : (item : List ℕ → Type 0) (label : List ℕ) (n : ℕ) → 1 ≤ n → n ≤ length label → ((m : ℕ) → 1 ≤ m → m < n → IsValid item (take m label) → ⊥) → IsValid item label → (IsValid item (take n label) → ⊥)
-    → record {some : 1 ≤ n + 1; within : n + 1 ≤ length label; fewest : (m : ℕ) → 1 ≤ m → m < n + 1 → IsValid item (take m label) → ⊥}
+    → record { some : 1 ≤ n + 1; within : n + 1 ≤ length label; fewest : (m : ℕ) → 1 ≤ m → m < n + 1 → IsValid item (take m label) → ⊥ }
 one_more_not item label n some within fewest valid fails = record {
   some = omega arith;
   within = elim (cases_lt n (length label)) [
@@ -203,9 +203,9 @@ module _ (item : List ℕ → Type 0) (due : Due) (left : ℕ) (r : Record) wher
 
   pub kept_marks : BreaksNoneBelow item due left r 9 → (not (eqb due.level 0) && not r.value) && not r.child ≡ false → BreaksNoneBelow item due left r 10
   kept_marks below f = kept_next item due left r no_value_no_child below (λ (some, no_value, no_child). (
-    let h : true ≡ false = (λ i. (sym (test_other due.level 0 some) i && not (sym no_value i)) && not (sym no_child i)) ∙ f in
-    cc
-  ))
+      let h : true ≡ false = (λ i. (sym (test_other due.level 0 some) i && not (sym no_value i)) && not (sym no_child i)) ∙ f in
+      cc
+      ))
 
   pub breaks_values : r.value && eqb left 0 ≡ true → Breaks item due left r too_few_values
   breaks_values t = (let parts = both r.value (eqb left 0) t in (parts.0, tested left 0 parts.1))

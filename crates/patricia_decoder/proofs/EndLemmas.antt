@@ -1,27 +1,27 @@
 -- Where building begins, and what stands at its end.
-use Rattle.std.proofs.Common.{◌≡◌, ◌≢◌, ℕ, ◌+◌, Bool, true, false, List, [], ◌∷◌, ◌++◌, length, Option, Some, None, slice_get, refl, sym, ap, subst, ◌∙◌, arith, append-nil}
+use Rattle.std.proofs.Common.{◌≡◌, ℕ, ◌+◌, Bool, true, false, List, [], ◌∷◌, ◌++◌, length, Option, Some, None, refl, sym, ap, subst, ◌∙◌, arith, append-nil}
 use Rattle.std.specs.Prelude.{is_some, reverse}
 use Rattle.std.specs.Option.{option_to_list}
 use Rattle.std.proofs.lemmas.Bool.Decides.{nat_tests}
 use Rattle.patricia_keys.specs.Keys.{IsKeyKind}
-use Rattle.patricia_rows.specs.Rows.{Row, end, node, own, entries, keys_of, IsRow}
+use Rattle.patricia_rows.specs.Rows.{Row, end, own, entries, keys_of, IsRow}
 use Rattle.patricia_rows.specs.Walks.{values_of}
 use Rattle.patricia_nodes.specs.declared.slots.Node.{Node}
 use Rattle.patricia_nodes.specs.declared.slots.Slots.{Slots}
-use Rattle.patricia_nodes.specs.Private.Plans.{Plan, Nil, row, head, size, count, below, linked, plan_at, row_of, entries_of, IsPlan, IsWhole}
+use Rattle.patricia_nodes.specs.Private.Plans.{Plan, Nil, row, size, count, below, row_of, entries_of, IsPlan, IsWhole}
 use Rattle.patricia_nodes.proofs.PlanLemmas.{plan_is}
 use Rattle.patricia_wire_laws.specs.Records.{Record, SpellAll}
 use Rattle.patricia_wire_laws.specs.Forests.{Root}
 use Rattle.patricia_wire_laws.specs.Writings.{Means}
-use Rattle.patricia_wire_laws.specs.Private.Readings.{Due, due_where, due_behind}
-use Rattle.patricia_wire_laws.specs.Private.WrittenRows.{has_node, record_of, records_of, tree_records, joined}
+use Rattle.patricia_wire_laws.specs.Private.Readings.{due_where, due_behind}
+use Rattle.patricia_wire_laws.specs.Private.WrittenRows.{has_node, record_of, records_of, joined}
 use Rattle.patricia_wire_laws.proofs.JoinedRows.{joined_is}
 use Rattle.patricia_wire_laws.proofs.RowTrees.{tree_of}
 use Rattle.patricia_decoder.specs.declared.builder.Builder.{Builder}
 use Rattle.patricia_decoder.specs.declared.builder.Next.{Next}
 use Rattle.patricia_decoder.specs.declared.builder.Next.TheVariants as next
-use Rattle.patricia_decoder.specs.Private.Growing.{Gap, Hangs, AreBeside, IsGrown, IsLater, IsOpenBeside, IsOpenAt}
-use Rattle.patricia_decoder.specs.Private.Builds.{dues, gap_if, count_of, IsNew, AddsRoot, Suits, IsBuiltAs, IsBuilt, Adds}
+use Rattle.patricia_decoder.specs.Private.Growing.{Gap, Hangs, AreBeside, IsGrown, IsOpenBeside, IsOpenAt}
+use Rattle.patricia_decoder.specs.Private.Builds.{dues, gap_if, count_of, AddsRoot, IsBuiltAs, IsBuilt, Adds}
 use Rattle.patricia_decoder.proofs.GrowingLemmas.{values_inside}
 use Rattle.patricia_decoder.proofs.BuildLemmas.{some_snoc, due_next}
 

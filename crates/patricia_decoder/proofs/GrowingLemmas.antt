@@ -1,22 +1,20 @@
 -- How a tree grows: a record is opened, joined to the one before it, laid as a node, or linked.
 use Rattle.std.proofs.Common.{◌≡◌, ◌≢◌, ◌⊎◌, inl, inr, ℕ, zero, suc, ◌+◌, ◌<◌, Bool, true, false, List, [], ◌∷◌, ◌++◌, length, Option, Some, None, slice_get, set, refl, sym, ap, subst, ◌∙◌, arith, append-nil, append_assoc, length-set, length-append}
-use Rattle.std.specs.Prelude.{is_some, All, map}
+use Rattle.std.specs.Prelude.{is_some, All}
 use Rattle.std.specs.Option.{option_to_list}
 use Rattle.std.proofs.lemmas.Bool.Decides.{nat_tests}
 use Rattle.std.proofs.lemmas.Option.{slice_get_within}
 use Rattle.std.proofs.lemmas.List.Elements.{All-nil, All-cons, All-head, All-tail}
-use Rattle.patricia_keys.specs.Keys.{IsKeyKind}
 use Rattle.patricia_rows.specs.Rows.{Row, end, node, prefixed, own, entries, IsBeforeRow}
 use Rattle.patricia_rows.specs.Walks.{values_of}
 use Rattle.patricia_nodes.specs.declared.slots.Node.{Node}
 use Rattle.patricia_nodes.specs.Private.Plans.{Plan, Nil, Cell, row, head, size, count, below, one, linked, Stands}
-use Rattle.patricia_nodes.proofs.PlanLemmas.{one-same}
 use Rattle.patricia_nodes.proofs.WriteLemmas.{get-set_same, get-set_other, get-push_same, get-push_other}
 use Rattle.patricia_wire_laws.specs.Records.{Record}
 use Rattle.patricia_wire_laws.specs.Forests.{IsInner}
-use Rattle.patricia_wire_laws.specs.Private.WrittenRows.{has_node, record_of, records_of, tree_records, over, joined, IsWritable}
+use Rattle.patricia_wire_laws.specs.Private.WrittenRows.{has_node, record_of, records_of, over, joined, IsWritable}
 use Rattle.patricia_decoder.specs.Private.Builds.{link_if, gap_if}
-use Rattle.patricia_decoder.specs.Private.Growing.{Gap, IsLater, Hangs, Unlaid, IsBeside, AreBeside, IsGrown, IsOpenBeside, IsOpenAt, IsOpenWithin}
+use Rattle.patricia_decoder.specs.Private.Growing.{Gap, IsLater, Hangs, Unlaid, AreBeside, IsGrown, IsOpenBeside, IsOpenAt, IsOpenWithin}
 
 same_or : (i k : ℕ) → (i ≡ k) ⊎ (i ≢ k)
 same_or zero zero = inl refl
@@ -113,12 +111,12 @@ module _ (item : List ℕ → Type 0) {V : Type 0} where
         let others = records_of u.level s in
         let same = inner_record u.below r x c end inner vm cm (sym alone) in
         let records : (R ++ (r ∷ [])) ++ ((under ++ others) ++ R2) ≡ R ++ ((records_of u.below over_one ++ others) ++ R2) =
-            append_assoc R (r ∷ []) ((under ++ others) ++ R2) ∙ ap (λ l. R ++ (r ∷ ((l ++ others) ++ R2))) (sym (append-nil under)) ∙ ap (λ h. R ++ (h ∷ (((under ++ []) ++ others) ++ R2))) (sym same) in
+        append_assoc R (r ∷ []) ((under ++ others) ++ R2) ∙ ap (λ l. R ++ (r ∷ ((l ++ others) ++ R2))) (sym (append-nil under)) ∙ ap (λ h. R ++ (h ∷ (((under ++ []) ++ others) ++ R2))) (sym same) in
         let inside = values_of (entries c) in
         let beyond = values_of (entries s) in
         let one_value : values_of (entries over_one) ≡ option_to_list x ++ inside = values_of-node r.label x c end ∙ ap (λ l. option_to_list x ++ l) (append-nil inside) in
         let values : (vs ++ option_to_list x) ++ ((inside ++ beyond) ++ vs2) ≡ vs ++ ((values_of (entries over_one) ++ beyond) ++ vs2) =
-            append_assoc vs (option_to_list x) ((inside ++ beyond) ++ vs2) ∙ ap (λ l. vs ++ l) (sym (append_assoc (option_to_list x) (inside ++ beyond) vs2) ∙ ap (λ l. l ++ vs2) (sym (append_assoc (option_to_list x) inside beyond))) ∙ ap (λ l. vs ++ ((l ++ beyond) ++ vs2)) (sym one_value) in
+        append_assoc vs (option_to_list x) ((inside ++ beyond) ++ vs2) ∙ ap (λ l. vs ++ l) (sym (append_assoc (option_to_list x) (inside ++ beyond) vs2) ∙ ap (λ l. l ++ vs2) (sym (append_assoc (option_to_list x) inside beyond))) ∙ ap (λ l. vs ++ ((l ++ beyond) ++ vs2)) (sym one_value) in
         regrown later root value _ _ _ _ _ _ _ _ records values (λ at. refl) refl grown
 
 -- no node past the last waits
@@ -166,12 +164,38 @@ module _ (item : List ℕ → Type 0) {V : Type 0} (nodes : List (Node V)) (root
   split_beside later l o v child true level gaps R vs ids n within sibling at none beside =
       let b = beside.beside in
       let same : Some b.waiting ≡ Some (linked l v child sibling) = sym b.at ∙ at in
-      let is : b.waiting ≡ linked l v child sibling = cc in
-      (beside.plan, beside.written, subst (λ (w : Node V). Hangs item later w.sibling beside.plan beside.written) is b.hangs, b.there, b.rises,
-      beside.other_records, beside.other_values, beside.other_ids, beside.other_size, beside.others, beside.records, beside.values, beside.numbers, beside.sizes)
-  split_beside later l o v child false level gaps R vs ids n within sibling at none beside =
-      (Nil, end, record { stands = tt; at_is = none (not_at (length nodes) gaps within); same = refl; writable = tt }, refl, tt,
-      R, vs, ids, n, beside, refl, refl, λ at. omega arith, omega arith)
+      let is : b.waiting ≡ linked l v child sibling = cc in (
+        beside.plan,
+        beside.written,
+        subst (λ (w : Node V). Hangs item later w.sibling beside.plan beside.written) is b.hangs,
+        b.there,
+        b.rises,
+        beside.other_records,
+        beside.other_values,
+        beside.other_ids,
+        beside.other_size,
+        beside.others,
+        beside.records,
+        beside.values,
+        beside.numbers,
+        beside.sizes,
+      )
+  split_beside later l o v child false level gaps R vs ids n within sibling at none beside = (
+    Nil,
+    end,
+    record { stands = tt; at_is = none (not_at (length nodes) gaps within); same = refl; writable = tt },
+    refl,
+    tt,
+    R,
+    vs,
+    ids,
+    n,
+    beside,
+    refl,
+    refl,
+    λ at. omega arith,
+    omega arith,
+  )
 
   -- an open node is laid over the row that is below it
   pub laid : (u : Unlaid V) (gaps : List Gap) (R : List Record) (vs : List V) → IsOpenWithin item nodes root value u gaps R vs → AreWithin (length nodes) gaps
@@ -183,7 +207,7 @@ module _ (item : List ℕ → Type 0) {V : Type 0} (nodes : List (Node V)) (root
   laid u gaps R vs goes within later is_later plan c hangs cm kept R2 vs2 ids n beside =
       let here = is_later (length nodes) (laid_node u) (get-push_same nodes (laid_node u)) in
       let (side, s, hangs2, sm, rises, R3, vs3, ids3, n3, others, records, values, numbers, sizes) =
-          split_beside later u.label u.own_label u.value (link_if u.child (length nodes + 1)) u.sibling u.level gaps R2 vs2 ids n within here.0 here.1 here.2 beside in
+      split_beside later u.label u.own_label u.value (link_if u.child (length nodes + 1)) u.sibling u.level gaps R2 vs2 ids n within here.0 here.1 here.2 beside in
       let cell = Cell (length nodes) u.label u.value plan side in
       let stands : Stands later cell = (here.1 ∙ ap (λ h. Some (linked u.label u.value h here.0)) hangs.at_is ∙ ap (λ h. Some (linked u.label u.value (head plan) h)) hangs2.at_is, hangs.stands, hangs2.stands) in
       let is_row : row cell ≡ over u.label u.value (joined c) (joined s) = ap (λ r. node u.label u.value r (row side)) hangs.same ∙ ap (λ r. node u.label u.value (joined c) r) hangs2.same ∙ sym (kept (joined s)) in

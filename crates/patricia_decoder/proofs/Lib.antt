@@ -1,5 +1,6 @@
 pub mod BuildLemmas
 pub mod CheckLemmas
+pub mod DecodeLemmas
 pub mod EndLemmas
 pub mod GrowingLemmas
 pub mod ReadLemmas

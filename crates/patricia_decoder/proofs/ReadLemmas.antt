@@ -1,10 +1,9 @@
 -- A record at the front of bytes.
-use Rattle.std.proofs.Common.{◌≡◌, ◌≢◌, ℕ, zero, suc, ◌+◌, ◌-◌, ◌*◌, ◌<◌, ◌≤◌, ◌/◌, ◌%◌, true, false, List, [], ◌∷◌, ◌++◌, length, take, drop, get_or, refl, sym, ap, subst, ◌∙◌, arith, take-append-drop, take_all}
-use Rattle.std.specs.Prelude.{◌↔◌, Bool, not, nat_eq, bit_and, IsTrue, IsBitSet, All, slice_range}
+use Rattle.std.proofs.Common.{◌≡◌, ◌≢◌, ℕ, suc, ◌+◌, ◌-◌, ◌*◌, ◌<◌, ◌≤◌, ◌/◌, ◌%◌, List, [], ◌∷◌, ◌++◌, length, take, drop, get_or, sym, ap, subst, ◌∙◌, arith, take-append-drop, take_all}
+use Rattle.std.specs.Prelude.{◌↔◌, not, nat_eq, bit_and, IsTrue, All, slice_range}
 use Rattle.std.specs.Int.{bytes_high_first}
 use Rattle.std.proofs.lemmas.Bool.Decides.{nat_tests}
 use Rattle.std.proofs.lemmas.List.Elements.{All-from_get_or, All-take}
-use Rattle.patricia_wire_laws.specs.Records.{Record, Spells}
 use Rattle.patricia_decoder.specs.Private.Steps.{Fronts}
 
 -- a test of a bit

@@ -1,13 +1,13 @@
 -- Records that are read one after the other, and what is refused.
-use Rattle.std.proofs.Common.{◌≡◌, ◌≢◌, ◌⊎◌, inl, inr, ℕ, ◌+◌, ◌-◌, ◌<◌, ◌≤◌, Bool, true, false, List, [], ◌∷◌, ◌++◌, length, take, drop, Option, Some, None, refl, sym, ap, subst, ◌∙◌, arith, append-nil, append_assoc, length-append, length-drop, take_all, take-append-drop}
+use Rattle.std.proofs.Common.{◌≡◌, ◌≢◌, ℕ, ◌+◌, ◌-◌, ◌<◌, ◌≤◌, Bool, true, false, List, [], ◌∷◌, ◌++◌, length, take, drop, Some, None, refl, sym, ap, subst, ◌∙◌, arith, append-nil, append_assoc, length-append, length-drop, take_all}
 use Rattle.std.specs.Prelude.{reverse, All}
 use Rattle.std.proofs.lemmas.List.{reverse-append, nil_from_length}
 use Rattle.std.proofs.lemmas.List.Elements.{All-nil, All-cons, All-head, All-tail, All-append}
 use Rattle.patricia_keys.specs.Keys.{IsValid}
 use Rattle.patricia_wire_laws.specs.Records.{Record, Spells, SpellAll}
 use Rattle.patricia_wire_laws.specs.Forests.{Root}
-use Rattle.patricia_wire_laws.specs.Faults.{Fault, number, truncated, level, root_label, root_sibling, empty_label, invalid_label, sibling_order, no_value_no_child, too_few_values, trailing_bytes, too_many_values, value_marks, IsFirst, IsCutShort, Reads}
-use Rattle.patricia_wire_laws.specs.Private.Readings.{Due, due_where, child_due, sibling_due, due_behind, IsRead, Breaks, nothing, one_more}
+use Rattle.patricia_wire_laws.specs.Faults.{Fault, truncated, level, root_label, root_sibling, empty_label, invalid_label, sibling_order, no_value_no_child, too_few_values, trailing_bytes, too_many_values, value_marks, IsFirst, IsCutShort, Reads}
+use Rattle.patricia_wire_laws.specs.Private.Readings.{Due, due_where, child_due, sibling_due, due_behind, IsRead, one_more}
 use Rattle.patricia_wire_laws.proofs.Readings.{same_number}
 use Rattle.patricia_wire_laws.proofs.ReadingsFaults.{faulty, faultless}
 use Rattle.patricia_wire_laws.proofs.ReadingsFirst.{first_in_record, first_cut_short, first_trailing, first_too_many}
@@ -15,7 +15,7 @@ use Rattle.patricia_decoder.specs.declared.error.DecodeError.{DecodeError}
 use Rattle.patricia_decoder.specs.declared.error.DecodeError.TheVariants.{Memory, Truncated, Level, RootLabel, RootSibling, EmptyLabel, InvalidLabel, SiblingOrder, NoValueNoChild, TooFewValues, TrailingBytes, TooManyValues}
 use Rattle.patricia_decoder.specs.declared.reader.Reader.{Reader}
 use Rattle.patricia_decoder.specs.Refusals.{IsRefusal}
-use Rattle.patricia_decoder.specs.Private.Steps.{Fronts, named, sibling_then_child, IsStart, IsAfter, BreaksFirst, BreaksNone, Keeps, IsReading, HasRead, GoesOn, Ends, Goes, IsRefused}
+use Rattle.patricia_decoder.specs.Private.Steps.{Fronts, named, sibling_then_child, IsAfter, BreaksFirst, Keeps, IsReading, Ends}
 
 module _ (item : List ℕ → Type 0) (p : Reader) (n : ℕ) where
   -- bytes are left behind the tree
@@ -23,15 +23,16 @@ module _ (item : List ℕ → Type 0) (p : Reader) (n : ℕ) where
   refused_behind R E reading tree less =
       first_trailing item n 2 p.bytes.now R p.offset (drop p.offset p.bytes.now) E reading.read reading.reads tree (λ none. omega (arith, less, ap length none, length-drop p.offset p.bytes.now))
 
-  -- values are left behind it
+  -- all bytes are read
+  pub spelled_all : (R : List Record) (due : List Due) → IsReading item n p R due → length p.bytes.now ≤ p.offset → SpellAll 2 R p.bytes.now
+  spelled_all R due reading over =
+      let none = nil_from_length (drop p.offset p.bytes.now) (omega (arith, over, length-drop p.offset p.bytes.now)) in
+      subst (SpellAll 2 R) (sym (append-nil reading.reads.read) ∙ ap (λ l. reading.reads.read ++ l) (sym none) ∙ reading.reads.joined) reading.reads.spelled
+
+  -- values are left behind the tree
   pub refused_values : (R : List Record) (E : List (List ℕ)) → IsReading item n p R [] → Root item R E → length p.bytes.now ≤ p.offset → value_marks R < n → IsFirst item 2 p.bytes.now n too_many_values (length p.bytes.now)
   refused_values R E reading tree over less =
       first_too_many item n 2 p.bytes.now R E reading.read (spelled_all R [] reading over) tree less
-    where
-      spelled_all : (R : List Record) (due : List Due) → IsReading item n p R due → length p.bytes.now ≤ p.offset → SpellAll 2 R p.bytes.now
-      spelled_all R due reading over =
-          let none = nil_from_length (drop p.offset p.bytes.now) (omega (arith, over, length-drop p.offset p.bytes.now)) in
-          subst (SpellAll 2 R) (sym (append-nil reading.reads.read) ∙ ap (λ l. reading.reads.read ++ l) (sym none) ∙ reading.reads.joined) reading.reads.spelled
 
 parts : (a b : Fault × ℕ) → Some a ≡ Some b → (a.0 ≡ b.0) × (a.1 ≡ b.1)
 parts a b is = (let e : a ≡ b = cc in (ap (λ x. x.0) e, ap (λ x. x.1) e))
@@ -105,7 +106,7 @@ module _ (item : List ℕ → Type 0) where
       refused_record e b =
           let fault = faulty item n left before d (reverse others) r read_on count b.fault b.breaks b.first in
           refusal_of item 2 p.bytes.now n e b.fault p.offset (b.names (length p.bytes.now))
-            (first_in_record item n 2 p.bytes.now before d (reverse others) p.offset r front.first front.rest b.fault read_on (subst (Reads 2 p.bytes.now before p.offset) is_front reading.reads) front.spelled fault.0 fault.1)
+          (first_in_record item n 2 p.bytes.now before d (reverse others) p.offset r front.first front.rest b.fault read_on (subst (Reads 2 p.bytes.now before p.offset) is_front reading.reads) front.spelled fault.0 fault.1)
 
       -- it is read
       pub read_next : (q : Reader) → Keeps item d left r → q.bytes.now ≡ p.bytes.now → q.offset ≡ p.offset + (4 + length r.label) → q.due.items ≡ others ++ sibling_then_child r → IsReading item n q (before ++ (r ∷ [])) (due_behind r ++ reverse others)
@@ -136,9 +137,9 @@ module _ (item : List ℕ → Type 0) where
 
           sibling_after : (b : Bool) → r.sibling ≡ b → All (IsAfter item) (due_where b (record { level = r.level; after = Some r.label }))
           sibling_after true many = All-cons (IsAfter item) (record { level = r.level; after = Some r.label }) [] (λ l is.
-            let same : r.label ≡ l = cc in
-            let inner : d.level ≢ 0 = λ z. keeps.rules root_sibling (z, many) in
-            (subst (IsValid item) same keeps.label.0, (λ none. keeps.rules empty_label (inner, same ∙ none)), λ z. inner (sym at_level ∙ z))) (All-nil (IsAfter item))
+              let same : r.label ≡ l = cc in
+              let inner : d.level ≢ 0 = λ z. keeps.rules root_sibling (z, many) in
+              (subst (IsValid item) same keeps.label.0, (λ none. keeps.rules empty_label (inner, same ∙ none)), λ z. inner (sym at_level ∙ z))) (All-nil (IsAfter item))
           sibling_after false alone = All-nil (IsAfter item)
 
     pub went_on : (q : Reader) (left : ℕ) (r : Record) → Fronts r (take (length p.bytes.now - p.offset) (drop p.offset p.bytes.now)) → left + value_marks before ≡ n → Keeps item d left r → q.bytes.now ≡ p.bytes.now → q.offset ≡ p.offset + (4 + length r.label) → q.due.items ≡ others ++ sibling_then_child r

@@ -139,11 +139,7 @@ impl<V: Drop> Builder<V> {
     }
 
     /// Adds a record with its value.
-    pub fn add<K: Bytes>(
-        &mut self,
-        record: &Record<'_>,
-        value: Option<V>,
-    ) -> Result<(), AllocError>
+    pub fn add<K: Bytes>(&mut self, record: &Record<'_>, value: Option<V>) -> Result<(), AllocError>
         requires { CanAdd self.old }
         ensures { OnOk result (Adds K.item self.old record.now value self.new) }
     {

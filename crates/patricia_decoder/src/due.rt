@@ -47,9 +47,7 @@ fn comes_before<K: Bytes>(label: &[u8], other: &[u8]) -> bool
     requires other_filled { other.now ≢ [] }
     ensures { IsTrue result ↔ IsBefore K.item label.now other.now }
 {
-    first_item::<K>(label)
-        .cmp(first_item::<K>(other))
-        .is_lt()
+    first_item::<K>(label).cmp(first_item::<K>(other)).is_lt()
 }
 
 impl<'a> Due<'a> {

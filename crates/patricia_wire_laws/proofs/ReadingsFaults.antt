@@ -9,7 +9,7 @@ use Rattle.patricia_wire_laws.specs.Faults.{Fault, truncated, level, root_label,
 use Rattle.patricia_wire_laws.proofs.Readings.{same_number, one_due, is_due, root_due, first_due, after_given, after_is}
 
 -- one value more, where the mark is set
-marks_more : (before : List Record) (r : Record) → value_marks (before ++ (r ∷ [])) ≡ value_marks before + where_set r.value 1
+pub marks_more : (before : List Record) (r : Record) → value_marks (before ++ (r ∷ [])) ≡ value_marks before + where_set r.value 1
 marks_more before r = omega (arith, sum_by-append (λ (x : Record). where_set x.value 1) before (r ∷ []))
 
 -- a value mark that is one too many comes where no value is left

@@ -1,12 +1,12 @@
 -- What the steps of the builder say.
-use Rattle.std.specs.Prelude.{◌≡◌, ◌≢◌, ℕ, ◌+◌, ◌<◌, ◌≤◌, Bool, true, false, List, [], ◌∷◌, ◌++◌, length, map, reverse, Option, Some, None, is_some, slice_get, slice_set}
+use Rattle.std.specs.Prelude.{◌≡◌, ◌≢◌, ℕ, ◌+◌, ◌<◌, Bool, true, false, List, [], ◌∷◌, ◌++◌, length, map, reverse, Option, Some, None, is_some, slice_get, slice_set}
 use Rattle.std.specs.Option.{option_to_list}
-use Rattle.patricia_rows.specs.Rows.{Row, IsBefore}
+use Rattle.patricia_rows.specs.Rows.{IsBefore}
 use Rattle.patricia_nodes.specs.declared.slots.Node.{Node}
 use Rattle.patricia_nodes.specs.Private.Plans.{linked}
 use Rattle.patricia_wire_laws.specs.Records.{Record}
 use Rattle.patricia_wire_laws.specs.Forests.{IsInner}
-use Rattle.patricia_wire_laws.specs.Private.Readings.{Due, due_where, due_behind}
+use Rattle.patricia_wire_laws.specs.Private.Readings.{Due, due_behind}
 use Rattle.patricia_decoder.specs.declared.builder.Builder.{Builder}
 use Rattle.patricia_decoder.specs.declared.builder.Next.{Next}
 use Rattle.patricia_decoder.specs.declared.builder.Next.TheVariants.{Root, Below, Within, Beside}

@@ -1,6 +1,6 @@
 -- Trees that grow node by node: what is open in them is filled later.
-use Rattle.std.specs.Prelude.{◌≡◌, ◌≢◌, ℕ, ◌+◌, ◌<◌, Bool, true, false, List, [], ◌∷◌, ◌++◌, length, Option, Some, None, All, slice_get, map}
-use Rattle.patricia_rows.specs.Rows.{Row, end, node, own, entries, IsBeforeRow}
+use Rattle.std.specs.Prelude.{◌≡◌, ◌≢◌, ℕ, ◌+◌, Bool, true, List, [], ◌∷◌, ◌++◌, length, Option, Some, All, slice_get}
+use Rattle.patricia_rows.specs.Rows.{Row, own, entries, IsBeforeRow}
 use Rattle.patricia_rows.specs.Walks.{values_of}
 use Rattle.patricia_nodes.specs.declared.slots.Node.{Node}
 use Rattle.patricia_nodes.specs.Private.Plans.{Plan, row, head, size, count, below, linked, Stands}
@@ -28,7 +28,6 @@ module _ {V : Type 0} where
     pub at_is : at ≡ head plan
     pub same : row plan ≡ joined written
     pub writable : IsWritable item written
-
 
 -- a node that is not laid, the next one: its label so far, its value, whether it has a child and a sibling,
 -- the levels of these, and the label that comes before its sibling's

@@ -1,8 +1,8 @@
 -- What the steps of the reader say.
-use Rattle.std.specs.Prelude.{◌≡◌, ◌≢◌, ◌⊎◌, ℕ, ◌+◌, ◌<◌, ◌≤◌, Bool, true, List, [], ◌∷◌, ◌++◌, length, drop, reverse, All, Option, Some, None}
+use Rattle.std.specs.Prelude.{◌≡◌, ◌≢◌, ◌⊎◌, ℕ, ◌+◌, ◌<◌, ◌≤◌, List, [], ◌∷◌, ◌++◌, length, drop, reverse, All, Option, Some, None}
 use Rattle.patricia_keys.specs.Keys.{IsValid}
 use Rattle.patricia_rows.specs.Rows.{IsBefore}
-use Rattle.patricia_wire_laws.specs.Records.{Record, Spells, SpellAll}
+use Rattle.patricia_wire_laws.specs.Records.{Record, Spells}
 use Rattle.patricia_wire_laws.specs.Forests.{Root}
 use Rattle.patricia_wire_laws.specs.Faults.{Fault, number, truncated, level, root_label, root_sibling, empty_label, invalid_label, sibling_order, no_value_no_child, too_few_values, trailing_bytes, too_many_values, value_marks, Reads}
 use Rattle.patricia_wire_laws.specs.Private.Readings.{Due, child_due, sibling_due, due_behind, IsRead, Breaks}

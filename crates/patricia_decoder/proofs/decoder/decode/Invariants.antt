@@ -1,4 +1,4 @@
-use Rattle.std.proofs.Common.{◌≡◌, ℕ, ◌+◌, ◌-◌, ◌≤◌, List, ◌++◌, length}
+use Rattle.std.proofs.Common.{◌≡◌, ◌-◌, List, ◌++◌, length}
 use Rattle.std.specs.Vec.Iter.{into_iter_items, into_iter_len}
 use Rattle.patricia_wire_laws.specs.Records.{Record}
 use Rattle.patricia_wire_laws.specs.Faults.{value_marks}

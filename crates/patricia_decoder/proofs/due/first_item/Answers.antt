@@ -1,4 +1,3 @@
-use Rattle.std.proofs.Common.{◌≡◌, inl, inr, arith}
 use Rattle.patricia_decoder.proofs.CheckLemmas.{fewest_item, one_more_not}
 use Rattle.patricia_decoder.proofs.due.first_item.Goals as goal
 

@@ -1,4 +1,4 @@
-use Rattle.std.proofs.Common.{◌≡◌, ◌≢◌, ℕ, ◌+◌, ◌-◌, ◌<◌, ◌≤◌, [], length, take}
+use Rattle.std.proofs.Common.{ℕ, ◌-◌, ◌<◌, ◌≤◌, length, take}
 use Rattle.patricia_keys.specs.Keys.{IsValid}
 use Rattle.patricia_decoder.proofs.due.first_item.Given as goal
 

@@ -1,4 +1,4 @@
-use Rattle.std.proofs.Common.{◌≡◌, sym, subst, ◌∙◌, true}
+use Rattle.std.proofs.Common.{subst}
 use Rattle.patricia_wire_laws.specs.Records.{Record}
 use Rattle.patricia_decoder.specs.Private.Builds.{AddsRoot, Prepares, ClosesAs}
 use Rattle.patricia_decoder.proofs.BuildLemmas.{added, on_ok}

@@ -1,4 +1,4 @@
-use Rattle.std.proofs.Common.{refl, ap, sym, ◌∙◌}
+use Rattle.std.proofs.Common.{refl, sym}
 use Rattle.std.specs.Option.{option_copied}
 use Rattle.patricia_wire_laws.specs.Records.{Record}
 use Rattle.patricia_wire_laws.specs.Private.Readings.{Due}
@@ -11,41 +11,41 @@ returns-then-record-self-clause-broken g c left =
     let due : Due = record { level = c.self.inside.level; after = option_copied c.self.inside.after } in
     let r : Record = record { level = c.record.inside.level; label = c.record.inside.label.now; value = c.record.inside.value; child = c.record.inside.child; sibling = c.record.inside.sibling } in
     rw (sym c.self.view_is, sym c.record.view_is) (record {
-  fault = level;
-  names = λ end. refl;
-  breaks = c.if-record-self.true;
-  first = below_level g.K.Bytes.item due left r;
-})
+      fault = level;
+      names = λ end. refl;
+      breaks = c.if-record-self.true;
+      first = below_level g.K.Bytes.item due left r;
+    })
 
 pub returns-then-root-is_empty-clause-broken : goal.returns-then-root-is_empty-clause-broken
 returns-then-root-is_empty-clause-broken g c left =
     let due : Due = record { level = c.self.inside.level; after = option_copied c.self.inside.after } in
     let r : Record = record { level = c.record.inside.level; label = c.record.inside.label.now; value = c.record.inside.value; child = c.record.inside.child; sibling = c.record.inside.sibling } in
     rw (sym c.self.view_is, sym c.record.view_is) (record {
-  fault = root_label;
-  names = λ end. refl;
-  breaks = breaks_root_label g.K.Bytes.item due left r c.is_empty.result c.is_empty.ensures c.if-root-is_empty.true;
-  first = kept_level g.K.Bytes.item due left r c.if-record-self.false;
-})
+      fault = root_label;
+      names = λ end. refl;
+      breaks = breaks_root_label g.K.Bytes.item due left r c.is_empty.result c.is_empty.ensures c.if-root-is_empty.true;
+      first = kept_level g.K.Bytes.item due left r c.if-record-self.false;
+    })
 
 pub returns-then-root-record-clause-broken : goal.returns-then-root-record-clause-broken
 returns-then-root-record-clause-broken g c left =
     let due : Due = record { level = c.self.inside.level; after = option_copied c.self.inside.after } in
     let r : Record = record { level = c.record.inside.level; label = c.record.inside.label.now; value = c.record.inside.value; child = c.record.inside.child; sibling = c.record.inside.sibling } in
     rw (sym c.self.view_is, sym c.record.view_is) (record {
-  fault = root_sibling;
-  names = λ end. refl;
-  breaks = breaks_root_sibling g.K.Bytes.item due left r c.if-root-record.true;
-  first = kept_root_label g.K.Bytes.item due left r c.if-record-self.false c.is_empty.result c.is_empty.ensures c.if-root-is_empty.false;
-})
+      fault = root_sibling;
+      names = λ end. refl;
+      breaks = breaks_root_sibling g.K.Bytes.item due left r c.if-root-record.true;
+      first = kept_root_label g.K.Bytes.item due left r c.if-record-self.false c.is_empty.result c.is_empty.ensures c.if-root-is_empty.false;
+    })
 
 pub returns-then-root-is_empty-2-clause-broken : goal.returns-then-root-is_empty-2-clause-broken
 returns-then-root-is_empty-2-clause-broken g c left =
     let due : Due = record { level = c.self.inside.level; after = option_copied c.self.inside.after } in
     let r : Record = record { level = c.record.inside.level; label = c.record.inside.label.now; value = c.record.inside.value; child = c.record.inside.child; sibling = c.record.inside.sibling } in
     rw (sym c.self.view_is, sym c.record.view_is) (record {
-  fault = empty_label;
-  names = λ end. refl;
-  breaks = breaks_empty_label g.K.Bytes.item due left r c.is_empty-2.result c.is_empty-2.ensures c.if-root-is_empty-2.true;
-  first = kept_root_sibling g.K.Bytes.item due left r (kept_root_label g.K.Bytes.item due left r c.if-record-self.false c.is_empty.result c.is_empty.ensures c.if-root-is_empty.false) c.if-root-record.false;
-})
+      fault = empty_label;
+      names = λ end. refl;
+      breaks = breaks_empty_label g.K.Bytes.item due left r c.is_empty-2.result c.is_empty-2.ensures c.if-root-is_empty-2.true;
+      first = kept_root_sibling g.K.Bytes.item due left r (kept_root_label g.K.Bytes.item due left r c.if-record-self.false c.is_empty.result c.is_empty.ensures c.if-root-is_empty.false) c.if-root-record.false;
+    })

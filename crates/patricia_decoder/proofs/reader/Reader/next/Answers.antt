@@ -1,9 +1,9 @@
-use Rattle.std.proofs.Common.{length, refl, arith, sym, ap, ◌∙◌, ◌++◌, [], append-nil, append_assoc}
+use Rattle.std.proofs.Common.{length, refl, arith, sym, ap, ◌∙◌, append-nil}
 use Rattle.std.proofs.lemmas.List.{nil_from_length}
 use Rattle.patricia_wire_laws.specs.Records.{Record}
-use Rattle.patricia_decoder.specs.Private.Steps.{IsRefused, GoesOn}
+use Rattle.patricia_decoder.specs.Private.Steps.{IsRefused}
 use Rattle.patricia_decoder.proofs.CheckLemmas.{handed_on}
-use Rattle.patricia_decoder.proofs.ReaderLemmas.{ended, next_due, after_next, refused_cut, refused_record, went_on}
+use Rattle.patricia_decoder.proofs.ReaderLemmas.{ended, after_next, refused_cut, refused_record, went_on}
 use Rattle.patricia_decoder.proofs.reader.Reader.next.Goals as goal
 
 pub returns-in_default-clause-ok : goal.returns-in_default-clause-ok
@@ -18,7 +18,7 @@ returns-in_default-read-clause-refused g c n before due reading count =
 
 pub check-requires : goal.check-requires
 check-requires g c = record {
-  after = after_next g.K.Bytes.item c.args.self.now c.in-Some.due c.pop.new.self.items c.in-Some.ensures.items c.requires.n c.requires.before c.requires.due c.requires.reading
+  after = after_next g.K.Bytes.item c.args.self.now c.in-Some.due c.pop.new.self.items c.in-Some.ensures.items c.requires.n c.requires.before c.requires.due c.requires.reading;
 }
 
 pub returns-in_err-check-clause-refused : goal.returns-in_err-check-clause-refused

@@ -1,4 +1,4 @@
-use Rattle.std.proofs.Common.{◌+◌, arith}
+use Rattle.std.proofs.Common.{arith}
 use Rattle.patricia_decoder.proofs.ReadLemmas.{fronts}
 use Rattle.patricia_decoder.proofs.record.Record.read.Goals as goal
 
