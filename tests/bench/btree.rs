@@ -130,8 +130,19 @@ fn tenth<'a>(keys: &[&'a [u8]]) -> &'a [u8] {
     best.0
 }
 
-// Copies the bytes of all keys, one key after the other, and says how many there are for 1,000
-// entries.
+// A map of keys that stand one after the other. For each key there is where it ends, and its value.
+fn from_copy(bytes: &[u8], ends: &[(usize, u64)]) -> Map {
+    let mut begin = 0;
+    let rows = ends.iter().map(|(end, value)| {
+        let key = bytes[begin..*end].to_vec();
+        begin = *end;
+        (key, *value)
+    });
+    rows.collect()
+}
+
+// Copies the bytes of all keys, one key after the other, says how many there are for 1,000 entries,
+// and makes a map of them.
 fn time_tree(times: bool, map: &Map) {
     let start = Instant::now();
     let mut bytes = Vec::new();
@@ -142,6 +153,14 @@ fn time_tree(times: bool, map: &Map) {
     if times {
         println!("tree_size {}", bytes.len() * 1000 / map.len().max(1));
     }
+    let mut ends = Vec::new();
+    for (key, value) in map {
+        let begin = ends.last().map_or(0, |(end, _)| *end);
+        ends.push((begin + key.len(), *value));
+    }
+    let start = Instant::now();
+    let read = from_copy(&bytes, &ends);
+    report(times, "from_wire", start, read.len(), read.len() as u64);
 }
 
 // The bytes that a line of /proc/self/status names.

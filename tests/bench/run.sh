@@ -29,7 +29,8 @@ for kind in titles domains hex; do
     echo "| $count $kind | the map | std's ordered map | ratio |"
     echo "|---|---|---|---|"
     awk '
-        function rate(program) { return size[program] / (best[program, "tree_bytes"] > 0 ? best[program, "tree_bytes"] : 1) }
+        # a million bytes or entries a second: so many for 1,000 entries, over the nanoseconds of one
+        function rate(count, program, name) { return count / (best[program, name] > 0 ? best[program, name] : 1) }
         $2 == "keys" { next }
         $2 == "share" { share = $3; next }
         $2 == "tree_size" { size[$1] = $3; next }
@@ -41,9 +42,10 @@ for kind in titles domains hex; do
                 printf "| %s | %d | %d | %.2f |\n", names[i], map, btree, map / (btree > 0 ? btree : 1)
             }
             printf "\nsplit_by_prefix takes out %d of 1,000 entries.\n", share
-            # a million bytes a second: bytes of 1,000 entries over the nanoseconds of one
             printf "tree_bytes writes %d bytes for 1,000 entries, %d million a second; the copy %d, %d million a second.\n",
-                size["map"], rate("map"), size["btree"], rate("btree")
+                size["map"], rate(size["map"], "map", "tree_bytes"), size["btree"], rate(size["btree"], "btree", "tree_bytes")
+            printf "from_wire reads %d million bytes a second and makes %.2f million entries; insert_sorted makes %.2f million a second.\n",
+                rate(size["map"], "map", "from_wire"), rate(1000, "map", "from_wire"), rate(1000, "map", "insert_sorted")
         }' "$room/figures"
     echo
 done

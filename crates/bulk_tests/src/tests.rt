@@ -3,5 +3,6 @@
 mod copies;
 mod helpers;
 mod pairs;
+mod readings;
 mod splits;
 mod trees;

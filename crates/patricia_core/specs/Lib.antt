@@ -10,6 +10,7 @@ pub use Rattle.patricia_rows.specs.Rows
 pub use Rattle.patricia_rows.specs.ThreeKeys
 pub use Rattle.patricia_rows.specs.Trees
 pub use Rattle.patricia_rows.specs.Walks
+pub use Rattle.patricia_decoder.specs.Refusals
 pub use Rattle.patricia_wire_laws.specs.Counts
 pub use Rattle.patricia_wire_laws.specs.Examples
 pub use Rattle.patricia_wire_laws.specs.Faults

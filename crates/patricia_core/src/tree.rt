@@ -10,11 +10,14 @@ ghost use Rattle.patricia_rows.specs.Points.{CountsVisits, Joins};
 ghost use Rattle.patricia_rows.specs.Prefixes.{along, longest, outside, under, IsReach};
 ghost use Rattle.patricia_rows.specs.Walks.{values_of};
 ghost use Rattle.patricia_wire_laws.specs.TreeBytes.{AreTreeBytes};
-ghost use Rattle.patricia_wire_laws.specs.Writings.{TooDeep};
+ghost use Rattle.patricia_wire_laws.specs.Writings.{Means, TooDeep};
+ghost use Rattle.patricia_decoder.specs.Refusals.{IsRefusal};
 
 mod cursors;
 
 use patricia_copies::{copy, copy_value};
+pub use patricia_decoder::DecodeError;
+use patricia_decoder::{Decoded, decode};
 pub use patricia_encoder::WireError;
 use patricia_encoder::encode;
 use patricia_inserts::insert;
@@ -321,6 +324,24 @@ impl<K: Bytes, V: Drop> Tree<K, V> {
         ensures too_deep { result ≡ Err WireError.TooDeep → TooDeep K.item 2 (map.keys self.now) }
     {
         encode::<K, V>(self.alloc, &self.value, &self.slots)
+    }
+
+    /// The tree of the rows that the bytes mean with the values, which are in key order. Where it is
+    /// refused the values are dropped.
+    pub fn from_wire(alloc: Global, bytes: &[u8], values: Vec<V>) -> Result<Self, DecodeError>
+        ensures ok { IfOk result (λ t. Means K.item 2 bytes.now values.items (map.entries t)) }
+        ensures refused { IfErr result (λ e. IsRefusal K.item 2 bytes.now (length values.items) e) }
+    {
+        let given = values.len();
+        let Decoded { value, slots } = decode::<K, V>(alloc, bytes, values)?;
+        let count = if value.is_some() { given - 1 } else { given };
+        Ok(Tree {
+            alloc,
+            value,
+            slots,
+            count,
+            kind: PhantomData,
+        })
     }
 
     /// A walk over the entries in key order. Making it takes no memory.

@@ -43,7 +43,8 @@ word_of field =
     else (if bytes_eq field (codes "copy") then Some Words.Copy
     else (if bytes_eq field (codes "clear") then Some Words.Clear
     else (if bytes_eq field (codes "wire") then Some Words.Wire
-    else None)))))))))))))
+    else (if bytes_eq field (codes "reload") then Some Words.Reload
+    else None))))))))))))))
 
 -- a key, or the fault of a field that spells none
 abbrev pub readable : Option (List ℕ) → Result (List ℕ) Fault
@@ -91,6 +92,7 @@ said_after spelling Words.Swap fields = alone Commands.Swap fields
 said_after spelling Words.Copy fields = alone Commands.Copy fields
 said_after spelling Words.Clear fields = alone Commands.Clear fields
 said_after spelling Words.Wire fields = alone Commands.Wire fields
+said_after spelling Words.Reload fields = alone Commands.Reload fields
 
 -- what the fields of a line say, the first of which is its word
 abbrev pub said_by : Spelling → List (List ℕ) → Said

@@ -41,6 +41,7 @@ enum Word {
     Copy,
     Clear,
     Wire,
+    Reload,
 }
 
 // The number that a field writes.
@@ -92,6 +93,8 @@ fn first_word(field: &[u8]) -> Option<Word>
         Some(Word::Clear)
     } else if field == b"wire".as_slice() {
         Some(Word::Wire)
+    } else if field == b"reload".as_slice() {
+        Some(Word::Reload)
     } else {
         None
     }
@@ -147,6 +150,7 @@ fn command<'a, Q: Spelled<'a>>(word: Word, fields: &[&'a [u8]]) -> Reading<Q>
         Word::Copy => alone(Command::Copy, fields),
         Word::Clear => alone(Command::Clear, fields),
         Word::Wire => alone(Command::Wire, fields),
+        Word::Reload => alone(Command::Reload, fields),
     }
 }
 

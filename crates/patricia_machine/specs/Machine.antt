@@ -46,6 +46,7 @@ with_key key_of Commands.Swap = Commands.Swap
 with_key key_of Commands.Copy = Commands.Copy
 with_key key_of Commands.Clear = Commands.Clear
 with_key key_of Commands.Wire = Commands.Wire
+with_key key_of Commands.Reload = Commands.Reload
 
 -- rows with the bytes of each key in the key's place
 abbrev pub rows_of : {K V : Type 0} → (K → List ℕ) → List (K × V) → List (List ℕ × V)
@@ -149,6 +150,15 @@ Writes item old Replies.TooDeep new = TooDeep item 2 (map.keys old.main) × (new
 Writes item old Replies.NoMemory new = new ≡ old
 Writes item old _ new = ⊥
 
+-- a reload writes main and makes it anew of what it wrote, so it changes nothing; it is too deep
+-- exactly where the keys are, and for memory it may fail at any time
+abbrev pub Reloads :
+    {K V : Type 0} → (List ℕ → Type 0) → State V → Reply K V → State V → Type 0
+Reloads item old Replies.Done new = (TooDeep item 2 (map.keys old.main) → ⊥) × (new ≡ old)
+Reloads item old Replies.TooDeep new = TooDeep item 2 (map.keys old.main) × (new ≡ old)
+Reloads item old Replies.NoMemory new = new ≡ old
+Reloads item old _ new = ⊥
+
 -- the relation of each command;
 -- keys are made of such items, and key_of gives the bytes of a row's key
 abbrev pub Step :
@@ -171,6 +181,7 @@ Step item key_of old Commands.Swap reply new = Swaps old reply new
 Step item key_of old Commands.Copy reply new = Copies old reply new
 Step item key_of old Commands.Clear reply new = Clears old reply new
 Step item key_of old Commands.Wire reply new = Writes item old reply new
+Step item key_of old Commands.Reload reply new = Reloads item old reply new
 
 -- the machine may reply so to the commands in turn, with one reply for each
 abbrev pub Run :

@@ -3,12 +3,15 @@
 ghost use Rattle.std.specs.Prelude.{◌≡◌, ◌≢◌, [], length, IfOk, OnErr, map as list_map};
 ghost use Rattle.std.specs.FinMap as map;
 ghost use Rattle.patricia_tree.specs.Prefixes.{along, under};
+ghost use Rattle.patricia_tree.specs.TreeBytes.{AreTreeBytes};
+ghost use Rattle.patricia_tree.specs.Writings.{TooDeep};
 ghost use Rattle.patricia_machine.specs.Machine.{Inserts, Gets, Removes, Counts, Shows};
 ghost use Rattle.patricia_machine.specs.Machine.{FindsLongest, Reaches, Splits, Swaps, Copies, Clears};
-ghost use Rattle.patricia_machine.specs.Machine.{Writes};
+ghost use Rattle.patricia_machine.specs.Machine.{Writes, Reloads};
 ghost use Rattle.patricia_machine.specs.Machine.{Step, Run, KeepsClones, empty_state, rows_of, with_key};
 
 use crate::command::{Command, Reply};
+use patricia_tree::wire::laws;
 use patricia_tree::{BorrowedBytes, Bytes, GenericPatriciaMap, WireError};
 use std::alloc::{AllocError, Global};
 use std::marker::Model;
@@ -95,6 +98,18 @@ fn values<K: Bytes, V: Copy>(
         values.push(*value?)?;
     }
     Ok(values)
+}
+
+// The tree bytes of a map, and its values in key order.
+fn written<K: Bytes, V: Copy>(
+    alloc: Global,
+    entries: &GenericPatriciaMap<K, V>,
+) -> Result<(Vec<u8>, Vec<V>), WireError>
+    ensures bytes { IfOk result (λ w. AreTreeBytes K.item 2 w.0.items (map.entries entries.now)) }
+    ensures values { IfOk result (λ w. w.1.items ≡ map.values entries.now) }
+    ensures too_deep { result ≡ Err WireError.TooDeep → TooDeep K.item 2 (map.keys entries.now) }
+{
+    Ok((entries.tree_bytes()?, values(alloc, entries)?))
 }
 
 impl<K: Bytes, V: Copy> Bench<K, V> {
@@ -244,13 +259,29 @@ impl<K: Bytes, V: Copy> Bench<K, V> {
     fn wire(&self) -> Reply<K, V>
         ensures { Writes K.item self.now result self.now }
     {
-        let bytes = match self.main.tree_bytes() {
-            Ok(bytes) => bytes,
+        match written(self.alloc, &self.main) {
+            Ok((bytes, values)) => Reply::Wire(bytes, values),
+            Err(WireError::TooDeep) => Reply::TooDeep,
+            Err(WireError::Memory) => Reply::NoMemory,
+        }
+    }
+
+    // Writes the tree and makes the map anew of what was written.
+    fn reload(&mut self) -> Reply<K, V>
+        ensures { Reloads K.item self.old result self.new }
+    {
+        let (bytes, values) = match written(self.alloc, &self.main) {
+            Ok(written) => written,
             Err(WireError::TooDeep) => return Reply::TooDeep,
             Err(WireError::Memory) => return Reply::NoMemory,
         };
-        match values(self.alloc, &self.main) {
-            Ok(values) => Reply::Wire(bytes, values),
+        laws::tree_bytes_read_back::<K, V>();
+        match GenericPatriciaMap::from_wire(self.alloc, &bytes, values) {
+            Ok(read) => {
+                self.main = read;
+                Reply::Done
+            }
+            // what was written has no fault, so this is want of memory (`meant_is_never_faulty`)
             Err(_) => Reply::NoMemory,
         }
     }
@@ -275,6 +306,7 @@ impl<K: Bytes, V: Copy> Bench<K, V> {
             Command::Copy => self.copy(),
             Command::Clear => self.clear(),
             Command::Wire => self.wire(),
+            Command::Reload => self.reload(),
         }
     }
 }

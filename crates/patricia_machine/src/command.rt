@@ -17,6 +17,7 @@ pub enum Command<Q, V> {
     Copy,
     Clear,
     Wire,
+    Reload,
 }
 
 /// What a bench replies.

@@ -9,4 +9,4 @@ pub use map::{GenericPatriciaMap, PatriciaMap, StringPatriciaMap};
 pub use patricia_core::Steps;
 pub use patricia_core::keys::{BorrowedBytes, Bytes};
 pub use set::{GenericPatriciaSet, PatriciaSet, StringPatriciaSet};
-pub use wire::WireError;
+pub use wire::{DecodeError, WireError};

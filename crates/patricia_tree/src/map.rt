@@ -10,7 +10,8 @@ ghost use Rattle.patricia_core.specs.Points.{CountsVisits, Joins};
 ghost use Rattle.patricia_core.specs.Prefixes.{along, longest, outside, under, IsReach};
 ghost use Rattle.patricia_core.specs.Walks.{values_of};
 ghost use Rattle.patricia_core.specs.TreeBytes.{AreTreeBytes};
-ghost use Rattle.patricia_core.specs.Writings.{TooDeep};
+ghost use Rattle.patricia_core.specs.Refusals.{IsRefusal};
+ghost use Rattle.patricia_core.specs.Writings.{Means, TooDeep};
 
 mod bulk;
 mod cursors;
@@ -26,7 +27,7 @@ pub use lent::{GivesBack, Lent};
 use patricia_core::Steps;
 use patricia_core::keys::{BorrowedBytes, Bytes};
 pub use patricia_core::tree::Refused;
-use patricia_core::tree::{Tree, WireError};
+use patricia_core::tree::{DecodeError, Tree, WireError};
 pub use prefixes::{CommonPrefixValues, CommonPrefixValuesOwned, CommonPrefixesIter, IterPrefix};
 use std::alloc::{AllocError, Global};
 use std::iter::IntoIterator;
@@ -275,6 +276,25 @@ impl<K: Bytes, V: Drop> GenericPatriciaMap<K, V> {
         ensures too_deep { result ≡ Err WireError.TooDeep → TooDeep K.item 2 (map.keys self.now) }
     {
         self.tree.tree_bytes()
+    }
+
+    /// The map that tree bytes are the written form of, with these values, in key order.
+    ///
+    /// Any writing of a whole tree is read, be it of a `tree_bytes` or of the Rust crate: of the flags
+    /// only the three marks are looked at, and a label may be cut where it need not be. The map that
+    /// is made has the one shape of its keys: labels that were cut are joined again, and so are
+    /// nodes without value that have one child. Its `tree_bytes` may be fewer than it was read from.
+    ///
+    /// The error says what is wrong with the bytes, or with the number of values, and where: it is
+    /// the first fault that stands in them. A whole tree with the right number of values has none,
+    /// so it is refused for want of memory alone. On a refusal the values are dropped.
+    pub fn from_wire(alloc: Global, bytes: &[u8], values: Vec<V>) -> Result<Self, DecodeError>
+        ensures ok { IfOk result (λ m. Means K.item 2 bytes.now values.items (map.entries m)) }
+        ensures refused { IfErr result (λ e. IsRefusal K.item 2 bytes.now (length values.items) e) }
+    {
+        Ok(GenericPatriciaMap {
+            tree: Tree::from_wire(alloc, bytes, values)?,
+        })
     }
 
     /// Each key is a valid key of its kind, so its bytes are bytes. This says so, and does nothing.

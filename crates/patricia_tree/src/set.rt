@@ -1,11 +1,12 @@
 //! A set whose elements, byte strings or texts, share their common prefixes.
-ghost use Rattle.std.specs.Prelude.{◌≡◌, ◌≢◌, ◌↔◌, [], None, false, not, IsTrue, IfSome, IfOk, OnOk, OnErr};
+ghost use Rattle.std.specs.Prelude.{◌≡◌, ◌≢◌, ◌↔◌, [], length, None, false, not, IsTrue, IfSome, IfOk, OnOk, IfErr, OnErr};
 ghost use Rattle.std.specs.Option.{option_map};
 ghost use Rattle.patricia_tree.specs.Keys.{Begins};
 ghost use Rattle.patricia_tree.specs.Points.{Joins};
 ghost use Rattle.patricia_tree.specs.Prefixes.{IsReach};
 ghost use Rattle.patricia_tree.specs.TreeBytes.{AreTreeBytes};
-ghost use Rattle.patricia_tree.specs.Writings.{TooDeep};
+ghost use Rattle.patricia_tree.specs.Refusals.{IsRefusal};
+ghost use Rattle.patricia_tree.specs.Writings.{Means, TooDeep};
 ghost use Rattle.patricia_tree.specs.Sets as set;
 ghost use Rattle.patricia_tree.specs.Sets.{keys_under, keys_outside, longest_key};
 
@@ -16,7 +17,7 @@ mod iter;
 use crate::map::GenericPatriciaMap;
 pub use iter::{IntoIter, Iter, IterPrefix};
 use patricia_core::keys::{BorrowedBytes, Bytes};
-use patricia_core::tree::WireError;
+use patricia_core::tree::{DecodeError, WireError};
 use std::alloc::{AllocError, Global};
 use std::iter::IntoIterator;
 use std::marker::Model;
@@ -183,6 +184,21 @@ impl<T: Bytes> GenericPatriciaSet<T> {
         ensures too_deep { result ≡ Err WireError.TooDeep → TooDeep T.item 2 (set.elements self.now) }
     {
         self.map.tree_bytes()
+    }
+
+    /// The set that tree bytes are the written form of, with a nothing for each element.
+    ///
+    /// Any writing of a whole tree is read, be it of a `tree_bytes` or of the Rust crate, and the set
+    /// that is made has the one shape of its elements, as with `from_wire` of a map. The error is the
+    /// first fault that stands in the bytes or in the number of nothings. A whole tree with the right
+    /// number has none, so it is refused for want of memory alone.
+    pub fn from_wire(alloc: Global, bytes: &[u8], values: Vec<()>) -> Result<Self, DecodeError>
+        ensures ok { IfOk result (λ s. Means T.item 2 bytes.now values.items (set.rows s)) }
+        ensures refused { IfErr result (λ e. IsRefusal T.item 2 bytes.now (length values.items) e) }
+    {
+        Ok(GenericPatriciaSet {
+            map: GenericPatriciaMap::from_wire(alloc, bytes, values)?,
+        })
     }
 
     /// The elements in their order.

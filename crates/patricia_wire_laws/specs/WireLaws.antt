@@ -95,6 +95,18 @@ module _ (item : List ℕ → Type 0) where
       (w : ℕ) (b : List ℕ) (values : List V) (M : List (List ℕ × V)) (f : Fault) (o : ℕ)
       → Means item w b values M → Stands item w b (length values) f o → ⊥
 
+  -- so such bytes and values have no first fault: for want of memory alone are they refused
+  abbrev pub HasNoFirstFaultWhereMeant : Type 0 → Type 0
+  HasNoFirstFaultWhereMeant V =
+      (w : ℕ) (b : List ℕ) (values : List V) (M : List (List ℕ × V)) (f : Fault) (o : ℕ)
+      → Means item w b values M → IsFirst item w b (length values) f o → ⊥
+
+  -- the tree bytes of rows, with the values of the rows in turn, mean these rows and no others
+  abbrev pub ReadsBack : Type 0 → Type 0
+  ReadsBack V =
+      (w : ℕ) (b : List ℕ) (rows M : List (List ℕ × V))
+      → AreTreeBytes item w b rows → Means item w b (values_of rows) M → M ≡ rows
+
   -- two maps have equal tree bytes exactly where they have the same keys
   abbrev pub TellsKeySets : Type 0 → Type 0 → Type 0
   TellsKeySets V W =

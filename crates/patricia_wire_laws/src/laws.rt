@@ -2,7 +2,8 @@
 //! functions that do nothing.
 ghost use Rattle.patricia_wire_laws.specs.WireLaws.{HasOneWriting, HasOneKeySet, HasOneMeaning, MeansMap, WritingMeansRows, IsWrittenOrTooDeep, IsNeverBoth};
 ghost use Rattle.patricia_wire_laws.specs.WireLaws.{CountsFronts, CountsPoints, HasFewRecords, HasOneTightTree, HasOneKeyList, HoldsKeysOfMap};
-ghost use Rattle.patricia_wire_laws.specs.WireLaws.{HasOneFirstFault, HasNoFaultWhereMeant, TellsKeySets, DependsOnKeysAlone};
+ghost use Rattle.patricia_wire_laws.specs.WireLaws.{HasOneFirstFault, HasNoFaultWhereMeant, HasNoFirstFaultWhereMeant};
+ghost use Rattle.patricia_wire_laws.specs.WireLaws.{ReadsBack, TellsKeySets, DependsOnKeysAlone};
 
 use patricia_keys::Bytes;
 
@@ -68,4 +69,16 @@ pub fn one_first_fault<K: Bytes, V>()
 pub fn tree_bytes_are_keys<K: Bytes, V, W>()
     ensures equal { TellsKeySets K.item V W }
     ensures values { DependsOnKeysAlone K.item V W }
+{}
+
+/// What is decoded from tree bytes and the values that belong to them, in key order, is the rows
+/// that were written: the same keys with the same values.
+pub fn tree_bytes_read_back<K: Bytes, V>()
+    ensures { ReadsBack K.item V }
+{}
+
+/// Bytes and values that mean rows have no first fault, so decoding them is refused for want of
+/// memory alone.
+pub fn meant_is_never_faulty<K: Bytes, V>()
+    ensures { HasNoFirstFaultWhereMeant K.item V }
 {}

@@ -12,7 +12,7 @@ mod memory;
 use keys::{halves, read_keys, shuffle, tenth};
 use memory::memory;
 use patricia_tree::{BorrowedBytes, Bytes, GenericPatriciaMap, PatriciaMap};
-use std::alloc::AllocError;
+use std::alloc::{AllocError, Global};
 use std::env;
 use std::io::{self, Read as _};
 use std::rt::{Clock, Env, Files};
@@ -253,9 +253,35 @@ fn time_copies<Q: BorrowedBytes>(
     time_split(rt, times, &mut copy, prefix)
 }
 
-// Writes the tree bytes, and says how many there are for 1,000 entries.
+// The values in key order.
+fn values_of<K: Bytes>(
+    alloc: Global,
+    map: &GenericPatriciaMap<K, u64>,
+) -> Result<Vec<u64>, AllocError> {
+    let mut values = Vec::new(alloc);
+    for value in map.values() {
+        values.push(*value?)?;
+    }
+    Ok(values)
+}
+
+// Makes a map of tree bytes and values.
+fn time_from_wire<K: Bytes>(
+    rt: &(impl AllocGlobal + Clock + Print),
+    times: bool,
+    bytes: &[u8],
+    values: Vec<u64>,
+) -> io::Result<()> {
+    let start = Instant::now(rt)?;
+    let Ok(map) = GenericPatriciaMap::<K, u64>::from_wire(rt.alloc(), bytes, values) else {
+        return Err(io::Error::from(AllocError));
+    };
+    report(rt, times, "from_wire", start, map.len(), map.len() as u64)
+}
+
+// Writes the tree bytes, says how many there are for 1,000 entries, and reads them.
 fn time_tree<K: Bytes>(
-    rt: &(impl Clock + Print),
+    rt: &(impl AllocGlobal + Clock + Print),
     times: bool,
     map: &GenericPatriciaMap<K, u64>,
 ) -> io::Result<()> {
@@ -268,7 +294,7 @@ fn time_tree<K: Bytes>(
         let entries = map.len().max(1) as u128;
         println!(rt; "tree_size {}", bytes.len() as u128 * 1000 / entries)?;
     }
-    Ok(())
+    time_from_wire::<K>(rt, times, &bytes, values_of(rt.alloc(), map)?)
 }
 
 // Looks all keys up, and calls each walk.

@@ -1,0 +1,4 @@
+mod chains;
+mod claims;
+mod decimals;
+mod helpers;
