@@ -19,7 +19,7 @@ LONG = b'bcd' * 20
 # What changes the map, and its list; questions about prefixes, some of which find no row; and what
 # changes the two maps, by a prefix that ends a key, one in a label, one in a label of more than 30
 # bytes, one that leaves one of two children, one under which there is nothing, and the empty one;
-# and what writes the tree.
+# what writes the tree; and what reads again what it wrote, a label of 300 bytes among it.
 SCRIPTS = [
     b'insert\t\t1\ninsert\tab\t2\ninsert\tac\t3\ninsert\tab\t4\nget\tac\nlist\n'
     b'remove\tab\nlen\nlist\nremove\t\nclear\nlist\n',
@@ -31,6 +31,8 @@ SCRIPTS = [
     % (LONG, LONG[:33], LONG, LONG, LONG[:3]),
     b'wire\ninsert\t\t1\nwire\ninsert\tab\t2\ninsert\tac\t30\ninsert\tacd\t4\nwire\nlist\n'
     b'remove\tab\nwire\nlist\n',
+    b'reload\ninsert\t\t1\nreload\ninsert\tab\t2\ninsert\t%s\t30\ninsert\tac\t4\nreload\nlist\n'
+    b'remove\tab\nreload\ninsert\tabc\t5\nlist\nclear\nreload\nlist\n' % (LONG * 5),
 ]
 
 ERRORS = [b'ptree: read failed\n', b'ptree: out of memory\n']
@@ -72,7 +74,7 @@ def may_be_refused(m, line):
         return fields[0] != b'' and bool(under(m, fields[0]))
     if word == b'copy':
         return bool(m)
-    return word == b'wire'
+    return word in (b'wire', b'reload')
 
 
 def is_allowed(kind, data, output):

@@ -46,9 +46,11 @@ WEIGHTS = {b'insert': 40, b'remove': 16, b'get': 8, b'len': 2, b'list': 2, b'cle
 ALL_WEIGHTS = {**WEIGHTS, b'insert': 80, b'list': 4, b'split': 40, b'swap': 25, b'copy': 10}
 # and where the tree is written often, too
 WIRE_WEIGHTS = {**ALL_WEIGHTS, b'insert': 160, b'split': 10, b'swap': 15, b'wire': 40}
+# and where it is written and read again, too, between questions and changes
+RELOAD_WEIGHTS = {**WIRE_WEIGHTS, b'wire': 10, b'remove': 40, b'reload': 40}
 FIELDS = {b'insert': 2, b'remove': 1, b'get': 1, b'len': 0, b'list': 0, b'clear': 0,
           b'under': 1, b'along': 1, b'longest': 1, b'reach': 1, b'split': 1, b'swap': 0, b'copy': 0,
-          b'wire': 0}
+          b'wire': 0, b'reload': 0}
 NUMBERS = [b'0', b'1', b'007', b'18446744073709551615', b'00018446744073709551615']
 FAULTY = [b'', b'put\ta', b'get', b'len\t', b'insert\ta', b'insert\ta\t', b'insert\ta\tx',
           b'insert\ta\t-1', b'insert\ta\t18446744073709551616', b'get\ta\tb', b'Get\ta',

@@ -280,10 +280,10 @@ impl<K: Bytes, V: Drop> GenericPatriciaMap<K, V> {
 
     /// The map that tree bytes are the written form of, with these values, in key order.
     ///
-    /// Any writing of a whole tree is read, be it of a `tree_bytes` or of another library that
-    /// writes such trees: of the flags only the three marks are looked at, and a label may be cut
-    /// where none has to be. The map that is made has the one shape of its keys, so such labels are
-    /// joined again, and its `tree_bytes` may be fewer bytes than it was read from.
+    /// Any writing of a whole tree is read, be it of a `tree_bytes` or of the Rust crate: of the flags
+    /// only the three marks are looked at, and a label may be cut where it need not be. The map that
+    /// is made has the one shape of its keys: labels that were cut are joined again, and so are
+    /// nodes without value that have one child. Its `tree_bytes` may be fewer than it was read from.
     ///
     /// The error says what is wrong with the bytes, or with the number of values, and where: it is
     /// the first fault that stands in them. A whole tree with the right number of values has none,

@@ -188,11 +188,10 @@ impl<T: Bytes> GenericPatriciaSet<T> {
 
     /// The set that tree bytes are the written form of, with a nothing for each element.
     ///
-    /// Any writing of a whole tree is read, be it of a `tree_bytes` or of another library that
-    /// writes such trees, and the set that is made has the one shape of its elements, as with
-    /// `from_wire` of a map. The error is the first fault that stands in the bytes or in the number
-    /// of nothings. A whole tree with the right number has none, so it is refused for want of memory
-    /// alone.
+    /// Any writing of a whole tree is read, be it of a `tree_bytes` or of the Rust crate, and the set
+    /// that is made has the one shape of its elements, as with `from_wire` of a map. The error is the
+    /// first fault that stands in the bytes or in the number of nothings. A whole tree with the right
+    /// number has none, so it is refused for want of memory alone.
     pub fn from_wire(alloc: Global, bytes: &[u8], values: Vec<()>) -> Result<Self, DecodeError>
         ensures ok { IfOk result (λ s. Means T.item 2 bytes.now values.items (set.rows s)) }
         ensures refused { IfErr result (λ e. IsRefusal T.item 2 bytes.now (length values.items) e) }

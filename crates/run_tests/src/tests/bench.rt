@@ -35,7 +35,7 @@ fn check_numbers<K: Bytes, Q: BorrowedBytes<Owned = K>>(
 }
 
 // Each of the commands, over a key that is put in and a beginning of it.
-fn commands<Q: Copy>(key: Q, beginning: Q) -> [Command<Q, u32>; 18] {
+fn commands<Q: Copy>(key: Q, beginning: Q) -> [Command<Q, u32>; 19] {
     [
         Command::Insert(key, 1),
         Command::Insert(key, 2),
@@ -48,6 +48,7 @@ fn commands<Q: Copy>(key: Q, beginning: Q) -> [Command<Q, u32>; 18] {
         Command::Longest(key),
         Command::Reach(beginning),
         Command::Wire,
+        Command::Reload,
         Command::Copy,
         Command::Split(beginning),
         Command::Wire,
@@ -58,7 +59,7 @@ fn commands<Q: Copy>(key: Q, beginning: Q) -> [Command<Q, u32>; 18] {
     ]
 }
 
-const NUMBERS: [Option<u32>; 18] = [
+const NUMBERS: [Option<u32>; 19] = [
     None,
     Some(1),
     Some(2),
@@ -70,6 +71,7 @@ const NUMBERS: [Option<u32>; 18] = [
     Some(2),
     Some(2),
     Some(11),
+    None,
     None,
     None,
     Some(4),
@@ -88,4 +90,29 @@ fn runs_over_texts(rt: HostRuntime) -> Result<(), Fail> {
 fn runs_over_bytes(rt: HostRuntime) -> Result<(), Fail> {
     let commands = commands(b"foo".as_slice(), b"fo".as_slice());
     check_numbers(&rt, rt.alloc(), &commands, &NUMBERS)
+}
+
+#[test]
+fn replies_to_each_command_once(rt: HostRuntime) -> Result<(), Fail> {
+    let key = b"foo".as_slice();
+    let commands: [Command<&[u8], u32>; 15] = [
+        Command::Insert(key, 1),
+        Command::Get(key),
+        Command::Remove(key),
+        Command::Len,
+        Command::List,
+        Command::Under(key),
+        Command::Along(key),
+        Command::Longest(key),
+        Command::Reach(key),
+        Command::Split(key),
+        Command::Swap,
+        Command::Copy,
+        Command::Clear,
+        Command::Wire,
+        Command::Reload,
+    ];
+    let mut bench: Bench<Vec<u8>, u32> = Bench::new(rt.alloc());
+    assert_eq!(&rt; run(&mut bench, &commands)?.len(), 15);
+    Ok(())
 }

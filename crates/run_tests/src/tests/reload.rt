@@ -1,0 +1,62 @@
+//! A reload of one entry. `.ci/run` counts the memory requests of `made`; with the next one refused
+//! `reloaded` fails, and with each request refused in turn `refused_in_turn` passes.
+
+use patricia_run::{Bench, Command, Reply};
+use std::alloc::Global;
+use std::process::Abort;
+use std::test::Fail;
+
+// Puts a=2 in, which is tried once more where it is refused.
+fn put(rt: &impl Abort, bench: &mut Bench<Vec<u8>, u32>) {
+    if let Reply::NoMemory = bench.step(Command::Insert(b"a".as_slice(), 2)) {
+        let again = bench.step(Command::Insert(b"a".as_slice(), 2));
+        assert!(rt; matches!(again, Reply::None));
+    }
+}
+
+// Asserts that a=2 is the one entry.
+fn check_entry(rt: &impl Abort, bench: &mut Bench<Vec<u8>, u32>) {
+    let value = bench.step(Command::Get(b"a".as_slice()));
+    assert!(rt; matches!(value, Reply::Some(2)));
+    let count = bench.step(Command::<&[u8], u32>::Len);
+    assert!(rt; matches!(count, Reply::Count(1)));
+}
+
+// A bench with a=2.
+fn bench_of_one(rt: &impl Abort, alloc: Global) -> Bench<Vec<u8>, u32> {
+    let mut bench = Bench::new(alloc);
+    put(rt, &mut bench);
+    check_entry(rt, &mut bench);
+    bench
+}
+
+#[test]
+fn made(rt: HostRuntime) -> Result<(), Fail> {
+    let mut bench = bench_of_one(&rt, rt.alloc());
+    check_entry(&rt, &mut bench);
+    Ok(())
+}
+
+#[test]
+fn reloaded(rt: HostRuntime) -> Result<(), Fail> {
+    let mut bench = bench_of_one(&rt, rt.alloc());
+    let reply = bench.step(Command::<&[u8], u32>::Reload);
+    check_entry(&rt, &mut bench);
+    assert!(&rt; matches!(reply, Reply::Done));
+    Ok(())
+}
+
+#[test]
+fn refused_in_turn(rt: HostRuntime) -> Result<(), Fail> {
+    let mut bench = bench_of_one(&rt, rt.alloc());
+    let reply = bench.step(Command::<&[u8], u32>::Reload);
+    check_entry(&rt, &mut bench);
+    if let Reply::NoMemory = reply {
+        let again = bench.step(Command::<&[u8], u32>::Reload);
+        assert!(&rt; matches!(again, Reply::Done));
+        check_entry(&rt, &mut bench);
+    } else {
+        assert!(&rt; matches!(reply, Reply::Done));
+    }
+    Ok(())
+}
