@@ -16,19 +16,19 @@ ghost use Rattle.patricia_core.specs.Writings.{Means, TooDeep};
 mod bulk;
 mod cursors;
 mod debug;
-mod iter;
 mod lent;
 mod loans;
-mod prefixes;
 
 pub use cursors::{IterMut, IterPrefixMut, ValueCursor, ValuesMut};
-pub use iter::{IntoIter, Iter, Keys, Values};
 pub use lent::{GivesBack, Lent};
 use patricia_core::Steps;
 use patricia_core::keys::{BorrowedBytes, Bytes};
 pub use patricia_core::tree::Refused;
 use patricia_core::tree::{DecodeError, Tree, WireError};
-pub use prefixes::{CommonPrefixValues, CommonPrefixValuesOwned, CommonPrefixesIter, IterPrefix};
+pub use patricia_iterators::entries::{IntoIter, Iter, Keys, Values};
+pub use patricia_iterators::prefixes::{
+    CommonPrefixValues, CommonPrefixValuesOwned, CommonPrefixesIter, IterPrefix,
+};
 use std::alloc::{AllocError, Global};
 use std::iter::IntoIterator;
 use std::marker::Model;
@@ -166,9 +166,7 @@ impl<K: Bytes, V: Drop> GenericPatriciaMap<K, V> {
     ) -> CommonPrefixesIter<'_, Q, V>
         ensures { result ≡ along (Q.key key) (map.entries self.now) }
     {
-        CommonPrefixesIter {
-            along: self.tree.along(key),
-        }
+        CommonPrefixesIter::new(self.tree.along(key))
     }
 
     /// The values of the same entries. Neither this nor the walk takes memory.
@@ -178,9 +176,7 @@ impl<K: Bytes, V: Drop> GenericPatriciaMap<K, V> {
     ) -> CommonPrefixValues<'_, Q, V>
         ensures { result ≡ values_of (along (Q.key key) (map.entries self.now)) }
     {
-        CommonPrefixValues {
-            along: self.tree.along(key),
-        }
+        CommonPrefixValues::new(self.tree.along(key))
     }
 
     /// The values of the same entries, for a key that the walk owns. Neither this nor the walk takes
@@ -188,9 +184,7 @@ impl<K: Bytes, V: Drop> GenericPatriciaMap<K, V> {
     pub fn common_prefix_values_owned(&self, key: K) -> CommonPrefixValuesOwned<'_, K, V>
         ensures { result ≡ values_of (along (K.key key) (map.entries self.now)) }
     {
-        CommonPrefixValuesOwned {
-            along: self.tree.along_owned(key),
-        }
+        CommonPrefixValuesOwned::new(self.tree.along_owned(key))
     }
 
     /// Puts a value in and answers the old one, or `None` for a new key.
@@ -309,36 +303,28 @@ impl<K: Bytes, V: Drop> GenericPatriciaMap<K, V> {
     pub fn iter(&self) -> Iter<'_, K, V>
         ensures { result ≡ map.entries self.now }
     {
-        Iter {
-            walk: self.tree.walk(),
-        }
+        Iter::new(self.tree.walk())
     }
 
     /// The entries whose key begins with the prefix, in key order. Making it takes no memory.
     pub fn iter_prefix<Q: BorrowedBytes<Owned = K>>(&self, prefix: Q) -> IterPrefix<'_, Q, V>
         ensures { result ≡ under (Q.key prefix) (map.entries self.now) }
     {
-        IterPrefix {
-            under: self.tree.under(prefix),
-        }
+        IterPrefix::new(self.tree.under(prefix))
     }
 
     /// The keys in order.
     pub fn keys(&self) -> Keys<'_, K, V>
         ensures { result ≡ map.keys self.now }
     {
-        Keys {
-            walk: self.tree.walk(),
-        }
+        Keys::new(self.tree.walk())
     }
 
     /// The values in the order of their keys.
     pub fn values(&self) -> Values<'_, K, V>
         ensures { result ≡ map.values self.now }
     {
-        Values {
-            walk: self.tree.walk(),
-        }
+        Values::new(self.tree.walk())
     }
 }
 
@@ -350,9 +336,7 @@ impl<K: Bytes, V: Drop> IntoIterator for GenericPatriciaMap<K, V> {
     ghost into_iter_gives = { λ m rows. rows ≡ map.entries m };
 
     fn into_iter(self) -> IntoIter<K, V> {
-        IntoIter {
-            walk: self.tree.into_walk(),
-        }
+        IntoIter::new(self.tree.into_walk())
     }
 }
 

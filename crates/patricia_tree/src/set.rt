@@ -12,12 +12,11 @@ ghost use Rattle.patricia_tree.specs.Sets.{keys_under, keys_outside, longest_key
 
 mod bulk;
 mod debug;
-mod iter;
 
 use crate::map::GenericPatriciaMap;
-pub use iter::{IntoIter, Iter, IterPrefix};
 use patricia_core::keys::{BorrowedBytes, Bytes};
 use patricia_core::tree::{DecodeError, WireError};
+pub use patricia_iterators::elements::{IntoIter, Iter, IterPrefix};
 use std::alloc::{AllocError, Global};
 use std::iter::IntoIterator;
 use std::marker::Model;
@@ -205,18 +204,14 @@ impl<T: Bytes> GenericPatriciaSet<T> {
     pub fn iter(&self) -> Iter<'_, T>
         ensures { result ≡ set.elements self.now }
     {
-        Iter {
-            keys: self.map.keys(),
-        }
+        Iter::new(self.map.keys())
     }
 
     /// The elements that begin with the prefix, in their order. Making it takes no memory.
     pub fn iter_prefix<Q: BorrowedBytes<Owned = T>>(&self, prefix: Q) -> IterPrefix<'_, Q>
         ensures { result ≡ keys_under (Q.key prefix) (set.elements self.now) }
     {
-        IterPrefix {
-            entries: self.map.iter_prefix(prefix),
-        }
+        IterPrefix::new(self.map.iter_prefix(prefix))
     }
 }
 
@@ -228,9 +223,7 @@ impl<T: Bytes> IntoIterator for GenericPatriciaSet<T> {
     ghost into_iter_gives = { λ s elements. elements ≡ set.elements s };
 
     fn into_iter(self) -> IntoIter<T> {
-        IntoIter {
-            entries: self.map.into_iter(),
-        }
+        IntoIter::new(self.map.into_iter())
     }
 }
 

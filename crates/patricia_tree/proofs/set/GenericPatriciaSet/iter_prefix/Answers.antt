@@ -6,4 +6,4 @@ use Rattle.patricia_tree.proofs.set.GenericPatriciaSet.iter_prefix.Goals as goal
 
 pub returns : goal.returns
 returns g c =
-    rw (← c.self.view_is) (ap keys_of c.iter_prefix.ensures ∙ filter_keys (begins (g.Q.BorrowedBytes.key c.args.prefix)) _)
+    rw (← c.self.view_is) (c.new.ensures ∙ ap keys_of c.iter_prefix.ensures ∙ filter_keys (begins (g.Q.BorrowedBytes.key c.args.prefix)) _)
