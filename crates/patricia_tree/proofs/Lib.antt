@@ -1,4 +1,3 @@
 mod BulkLemmas
-mod CursorLemmas
 mod LoanLemmas
 mod SetLemmas

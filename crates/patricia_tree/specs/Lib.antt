@@ -1,9 +1,7 @@
 pub mod Bulk
-pub mod Lends
 pub mod Loans
 pub mod Private
 pub mod Sets
-pub mod Steps
 pub use Rattle.patricia_core.specs.ByteKind
 pub use Rattle.patricia_core.specs.Clones
 pub use Rattle.patricia_core.specs.Cursors
@@ -25,3 +23,5 @@ pub use Rattle.patricia_core.specs.Refusals
 pub use Rattle.patricia_core.specs.TreeBytes
 pub use Rattle.patricia_core.specs.WireLaws
 pub use Rattle.patricia_core.specs.Writings
+pub use Rattle.patricia_lent.specs.Lends
+pub use Rattle.patricia_lent.specs.Steps

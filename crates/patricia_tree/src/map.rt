@@ -16,11 +16,9 @@ ghost use Rattle.patricia_core.specs.Writings.{Means, TooDeep};
 mod bulk;
 mod cursors;
 mod debug;
-mod lent;
 mod loans;
 
-pub use cursors::{IterMut, IterPrefixMut, ValueCursor, ValuesMut};
-pub use lent::{GivesBack, Lent};
+pub use cursors::{IterMut, IterPrefixMut, ValuesMut};
 use patricia_core::Steps;
 use patricia_core::keys::{BorrowedBytes, Bytes};
 pub use patricia_core::tree::Refused;
@@ -29,6 +27,8 @@ pub use patricia_iterators::entries::{IntoIter, Iter, Keys, Values};
 pub use patricia_iterators::prefixes::{
     CommonPrefixValues, CommonPrefixValuesOwned, CommonPrefixesIter, IterPrefix,
 };
+pub use patricia_lent::lent::{GivesBack, Lent};
+pub use patricia_lent::values::ValueCursor;
 use std::alloc::{AllocError, Global};
 use std::iter::IntoIterator;
 use std::marker::Model;

@@ -1,16 +1,12 @@
 //! Cursors: walks that lend the values of a map one at a time, in key order.
 ghost use Rattle.std.specs.Prelude.{◌≡◌, [], None};
 
-mod entries;
-mod prefixes;
-mod values;
-
 use super::GenericPatriciaMap;
-use super::lent::{GivesBack, Lent};
 use patricia_core::cursor::{Cursor, PrefixCursor};
 use patricia_core::keys::{BorrowedBytes, Bytes};
 use patricia_core::tree::Tree;
-pub use values::ValueCursor;
+use patricia_lent::lent::{GivesBack, Lent};
+use patricia_lent::values::ValueCursor;
 
 /// A cursor over the entries of a map.
 pub type IterMut<'a, K, V> = Lent<'a, GenericPatriciaMap<K, V>, Cursor<K, V>>;
@@ -59,10 +55,7 @@ impl<K: Bytes, V: Drop> GenericPatriciaMap<K, V> {
         ensures start { result.at ≡ record { map = self.old; prefix = []; last = None } }
     {
         let tree = self.tree.take();
-        Lent {
-            home: self,
-            at: tree.into_cursor(),
-        }
+        Lent::new(self, tree.into_cursor())
     }
 
     /// A cursor over the values, in the order of their keys. Making it takes no memory.
@@ -71,10 +64,7 @@ impl<K: Bytes, V: Drop> GenericPatriciaMap<K, V> {
         ensures start { result.at ≡ record { map = self.old; prefix = []; last = None } }
     {
         let tree = self.tree.take();
-        Lent {
-            home: self,
-            at: ValueCursor::new(tree.into_cursor()),
-        }
+        Lent::new(self, ValueCursor::new(tree.into_cursor()))
     }
 
     /// A cursor over the entries whose key begins with the prefix, in key order. Making it takes
@@ -87,9 +77,6 @@ impl<K: Bytes, V: Drop> GenericPatriciaMap<K, V> {
         ensures start { result.at ≡ record { map = self.old; prefix = Q.key prefix; last = None } }
     {
         let tree = self.tree.take();
-        Lent {
-            home: self,
-            at: tree.into_prefix_cursor(prefix),
-        }
+        Lent::new(self, tree.into_prefix_cursor(prefix))
     }
 }

@@ -1,0 +1,2 @@
+mod CursorLemmas
+pub mod FoundLemmas

@@ -1,0 +1,20 @@
+use Rattle.std.proofs.Common.{◌≡◌, ap, ◌∙◌}
+use Rattle.patricia_rows.specs.Cursors.{stepped, written}
+use Rattle.patricia_lent.specs.Private.Nexts.{IsNext}
+use Rattle.patricia_lent.proofs.CursorLemmas.{match_some, written_next}
+use Rattle.patricia_lent.proofs.entries.Lent+M+Cursor+K+V.next_with.Goals as goal
+
+pub returns-clause-ok : goal.returns-clause-ok
+returns-clause-ok g c =
+    let s = c.args.self.now.at in
+    let next = match_some _ (λ key. IsNext s (g.K.Bytes.key key) × (c.go_on.new.self.at ≡ stepped s)) c.in_ok-key.field-0 c.in-Some.key c.in_ok-key.ensures.ok c.in-Some.is in
+    let is_next = next.0.is_next _ (rw (← next.1) c.there-value.ensures.value) in
+    record {
+      key = c.in-Some.key;
+      shown = _;
+      left = _;
+      is_next = is_next;
+      met = c.f.ensures;
+      put_in = ap (λ t. written t c.f.new.arg3) next.1;
+      map_is = ap (λ t. (written t c.f.new.arg3).map) next.1 ∙ written_next s _ _ _ is_next;
+    }

@@ -1,0 +1,3 @@
+pub mod Lends
+pub mod Private
+pub mod Steps

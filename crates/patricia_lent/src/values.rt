@@ -1,0 +1,153 @@
+//! A cursor over the values of a map.
+ghost use Rattle.std.specs.Prelude.{◌≡◌, ◌≢◌, ◌↔◌, None, Some, false, IfOk, OnOk, OnErr, IsSome, IsTrue, MatchOption};
+ghost use Rattle.std.specs.Borrow.{sem};
+ghost use Rattle.std.specs.Option.{option_copied_mut, option_map};
+ghost use Rattle.patricia_rows.specs.Cursors.{last_value, next_key, next_row, next_value, stepped};
+
+use crate::lent::{GivesBack, Lent};
+use patricia_cursors::cursor::Cursor;
+use patricia_keys::Bytes;
+use std::alloc::AllocError;
+use std::marker::Model;
+
+/// A cursor over the entries of a map, of which the values alone are handed out.
+#[derive(Drop)]
+pub struct ValueCursor<K: Bytes, V> {
+    cursor: Cursor<K, V>,
+}
+
+impl<K: Bytes, V> Model for ValueCursor<K, V> {
+    ghost use Rattle.patricia_rows.specs.Cursors.{Standing, standing_code};
+
+    ghost Value = { Standing V };
+
+    ghost coded = { standing_code V.code };
+
+    ghost view = { λ c. c.cursor };
+}
+
+impl<K: Bytes, V: Drop> ValueCursor<K, V> {
+    ghost use Rattle.patricia_lent.specs.Private.ValueLends.{lends_value};
+
+    /// The same cursor, which hands out the values alone.
+    pub fn new(cursor: Cursor<K, V>) -> Self
+        ensures { result ≡ cursor }
+    {
+        ValueCursor { cursor }
+    }
+
+    /// The same cursor, which hands out the keys too.
+    pub fn into_cursor(self) -> Cursor<K, V>
+        ensures { result ≡ self }
+    {
+        self.cursor
+    }
+
+    // Goes on to the next value, and answers whether there is one.
+    fn advance(&mut self) -> Result<bool, AllocError>
+        ensures found { IfOk result (λ found. IsTrue found ↔ (next_key self.old ≢ None)) }
+        ensures stepped { OnOk result (self.new ≡ stepped self.old) }
+        ensures unchanged { OnErr result (self.new ≡ self.old) }
+        ensures only_left { OnErr result (next_key self.old ≢ None) }
+    {
+        self.cursor.pass()
+    }
+
+    // Lends the value that it went on to last.
+    fn value(&mut self) -> Option<&mut V>
+        ensures* writes { sem 𝓛 (lends_value K.row V.row K.Bytes self.entry result) }
+        ensures value { option_copied_mut result ≡ last_value self.old }
+    {
+        self.cursor.value()
+    }
+}
+
+impl<'a, M: Drop, K: Bytes, V: Drop> Lent<'a, M, ValueCursor<K, V>>
+where
+    ValueCursor<K, V>: GivesBack<M>,
+{
+    ghost use Rattle.patricia_lent.specs.Lends.{lends_last_value};
+    ghost use Rattle.patricia_lent.specs.Private.ValueLends.{lends_there};
+    ghost use Rattle.patricia_lent.specs.Private.Nexts.{IsNextValue};
+    ghost use Rattle.patricia_lent.specs.Steps.{StepsWithValue, TakesNextValue};
+
+    /// Goes on to the next value and answers whether there is one. `value` lends it.
+    ///
+    /// The error is want of memory: nothing is changed, and the next call tries the same value. No
+    /// key is built.
+    pub fn advance(&mut self) -> Result<bool, AllocError>
+        ensures home { self.new.home.ghost_name ≡ self.old.home.ghost_name }
+        ensures found { IfOk result (λ found. IsTrue found ↔ (next_row self.old.at ≢ None)) }
+        ensures stepped { OnOk result (self.new.at ≡ stepped self.old.at) }
+        ensures unchanged { OnErr result (self.new.at ≡ self.old.at) }
+        ensures only_left { OnErr result (next_row self.old.at ≢ None) }
+    {
+        self.at.advance()
+    }
+
+    /// Lends the value that it went on to last, or answers `None` where it has not gone on yet.
+    pub fn value(&mut self) -> Option<&mut V>
+        ensures* writes { sem 𝓛 (lends_last_value M.row K.row V.row K.Bytes self.entry result) }
+        ensures value { option_copied_mut result ≡ last_value self.old.at }
+    {
+        self.at.value()
+    }
+
+    // The same as `advance`, which says what value it is.
+    fn go_on(&mut self) -> Result<bool, AllocError>
+        ensures home { self.new.home.ghost_name ≡ self.old.home.ghost_name }
+        ensures some { IfOk result (λ found. IsTrue found → IsNextValue self.old.at) }
+        ensures none { IfOk result (λ found. found ≡ false → next_row self.old.at ≡ None) }
+        ensures stepped { OnOk result (self.new.at ≡ stepped self.old.at) }
+        ensures unchanged { OnErr result (self.new.at ≡ self.old.at) }
+        ensures only_left { OnErr result (next_row self.old.at ≢ None) }
+    {
+        if self.advance()? { Ok(true) } else { Ok(false) }
+    }
+
+    // Lends the value that it went on to last.
+    fn there(&mut self) -> &mut V
+        requires { IsSome (last_value self.old.at) }
+        ensures* writes { sem 𝓛 (lends_there M.row K.row V.row K.Bytes self.entry result) }
+        ensures value { last_value self.old.at ≡ Some result.now }
+    {
+        match self.value() {
+            Some(value) => value,
+            None => unreachable!(),
+        }
+    }
+
+    /// Goes on to the next value and lends it, or answers `None` at the end.
+    ///
+    /// The error is want of memory, as for `advance`. The contract does not say what the map is
+    /// after the loan: those of `next_with`, and of `advance` and `value`, do.
+    pub fn next(&mut self) -> Result<Option<&mut V>, AllocError>
+        ensures value { IfOk result (λ v. option_copied_mut v ≡ next_value self.old.at) }
+        ensures only_left { OnErr result (next_row self.old.at ≢ None) }
+    {
+        if self.go_on()? {
+            Ok(Some(self.there()))
+        } else {
+            Ok(None)
+        }
+    }
+
+    /// Goes on to the next value and runs a closure on a loan of it. At the end it is not run.
+    ///
+    /// The error is want of memory, as for `advance`, and the closure is not run.
+    pub fn next_with<R, F: FnOnce(&mut V) -> R>(&mut self, f: F) -> Result<Option<R>, AllocError>
+        requires callable { TakesNextValue F.FnOnce f self.old.at }
+        ensures home { self.new.home.ghost_name ≡ self.old.home.ghost_name }
+        ensures ok { IfOk result (λ r. MatchOption r
+            ((next_row self.old.at ≡ None) × (self.new.at ≡ self.old.at))
+            (λ r. StepsWithValue F.FnOnce f self.old.at r self.new.at)) }
+        ensures unchanged { OnErr result (self.new.at ≡ self.old.at) }
+        ensures only_left { OnErr result (next_row self.old.at ≢ None) }
+    {
+        if !self.go_on()? {
+            return Ok(None);
+        }
+        let value = self.there();
+        Ok(Some(f(value)))
+    }
+}
