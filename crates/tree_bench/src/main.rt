@@ -12,7 +12,7 @@ mod memory;
 use keys::{halves, read_keys, shuffle, tenth};
 use memory::memory;
 use patricia_tree::{BorrowedBytes, Bytes, GenericPatriciaMap, PatriciaMap};
-use std::alloc::{AllocError, Global};
+use std::alloc::AllocError;
 use std::env;
 use std::io::{self, Read as _};
 use std::rt::{Clock, Env, Files};
@@ -139,7 +139,7 @@ fn report(
 }
 
 // The calls that only read a map.
-#[derive(Clone, Copy, PartialEq)]
+#[derive(Clone, Copy)]
 enum Read {
     Get,
     Walk,
@@ -171,7 +171,7 @@ fn time_read<Q: BorrowedBytes>(
     call: Read,
     keys: &[Q],
 ) -> io::Result<()> {
-    let is_walk = call == Read::Walk || call == Read::Values;
+    let is_walk = matches!(call, Read::Walk | Read::Values);
     let calls = if is_walk { map.len() } else { keys.len() };
     let start = Instant::now(rt)?;
     let answer = ask(map, call, keys)?;
@@ -179,7 +179,7 @@ fn time_read<Q: BorrowedBytes>(
 }
 
 // The calls that change a map.
-#[derive(Clone, Copy, PartialEq)]
+#[derive(Clone, Copy)]
 enum Write {
     Put,
     Take,
@@ -207,7 +207,7 @@ fn time_write<Q: BorrowedBytes>(
     call: Write,
     keys: &[Q],
 ) -> io::Result<u64> {
-    let is_walk = call == Write::Raise;
+    let is_walk = matches!(call, Write::Raise);
     let calls = if is_walk { map.len() } else { keys.len() };
     let start = Instant::now(rt)?;
     let answer = change(map, call, keys)?;
@@ -264,16 +264,15 @@ fn time_copies<Q: BorrowedBytes>(
     time_part(rt, times, start, &mut copy, prefix)
 }
 
-// The values in key order.
-fn values_of<K: Bytes>(
-    alloc: Global,
+// Adds the values in key order.
+fn push_values<K: Bytes>(
+    values: &mut Vec<u64>,
     map: &GenericPatriciaMap<K, u64>,
-) -> Result<Vec<u64>, AllocError> {
-    let mut values = Vec::new(alloc);
+) -> Result<(), AllocError> {
     for value in map.values() {
         values.push(*value?)?;
     }
-    Ok(values)
+    Ok(())
 }
 
 // Makes a map of tree bytes and values.
@@ -322,7 +321,8 @@ fn time_reading<K: Bytes>(
     map: &GenericPatriciaMap<K, u64>,
     bytes: &[u8],
 ) -> io::Result<()> {
-    let values = values_of(rt.alloc(), map)?;
+    let mut values = Vec::new(rt.alloc());
+    push_values(&mut values, map)?;
     time_from_wire::<K>(rt, times, bytes, values)
 }
 
