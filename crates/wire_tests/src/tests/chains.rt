@@ -68,10 +68,15 @@ fn check_longer<Q: BorrowedBytes>(
     map: &mut GenericPatriciaMap<Q::Owned, u64>,
     longer: Q,
 ) {
-    assert!(rt; map.get(longer).is_none());
-    assert!(rt; map.insert(longer, 65_536).is_ok());
-    assert!(rt; has(map, 65_536, longer, 65_536));
+    let is_new = map.get(longer).is_none();
+    let is_put = map.insert(longer, 65_536).is_ok();
+    assert!(rt; is_new & is_put & has(map, 65_536, longer, 65_536));
     assert!(rt; tree_len(map).err() == Some(WireError::TooDeep));
+}
+
+// Whether this is what is split from a map of 65,536 keys by a prefix of 1,000 bytes.
+fn is_part<Q: BorrowedBytes>(part: GenericPatriciaMap<Q::Owned, u64>, longer: Q) -> bool {
+    has(&part, 64_537, longer, 65_536)
 }
 
 // A map of 65,536 keys is parted by a prefix of 1,000 bytes.
@@ -81,8 +86,8 @@ fn check_split<Q: BorrowedBytes>(
     prefix: Q,
     longer: Q,
 ) -> Result<(), AllocError> {
-    let part = map.split_by_prefix(prefix)?;
-    assert!(rt; has(&part, 64_537, longer, 65_536) & (map.len() == 999));
+    let is_right = is_part(map.split_by_prefix(prefix)?, longer);
+    assert!(rt; is_right & (map.len() == 999));
     Ok(())
 }
 
