@@ -70,13 +70,15 @@ fn run_over(
     (status, progress)
 }
 
+// Whether what was written and read is the same.
+fn is_same(got: End<'_>, wanted: End<'_>) -> bool {
+    (got.output == wanted.output) & (got.errors == wanted.errors) & (got.read == wanted.read)
+}
+
 // Asserts what a run came to.
 fn check_end(rt: &impl Abort, got: End<'_>, wanted: End<'_>) {
     assert_eq!(rt; got.status, wanted.status);
-    assert_eq!(rt; got.output.len(), wanted.output.len());
-    assert!(rt; got.output == wanted.output);
-    assert_eq!(rt; got.errors, wanted.errors);
-    assert_eq!(rt; got.read, wanted.read);
+    assert!(rt; is_same(got, wanted));
 }
 
 // Asserts what a run over such streams comes to, with these words.
@@ -317,20 +319,26 @@ fn is_answer(output: &[u8]) -> bool {
     false
 }
 
+// The line of a run that wants memory.
+fn failure_line(read: Progress) -> &'static str {
+    match read {
+        Progress::Ended => OUT_OF_MEMORY,
+        _ => READ_FAILED,
+    }
+}
+
+fn is_failure(end: End<'_>) -> bool {
+    let line = failure_line(end.read);
+    (end.status == 1) & end.output.is_empty() & (end.errors == line.as_bytes())
+}
+
 // Asserts what a run comes to of which one memory request may be refused.
 fn check_refused(rt: &impl Abort, end: End<'_>) {
     if end.status == 0 {
-        assert!(rt; is_answer(end.output));
-        assert!(rt; end.errors.is_empty());
+        assert!(rt; is_answer(end.output) & end.errors.is_empty());
         return;
     }
-    assert_eq!(rt; end.status, 1);
-    assert!(rt; end.output.is_empty());
-    let line = match end.read {
-        Progress::Ended => OUT_OF_MEMORY,
-        _ => READ_FAILED,
-    };
-    assert_eq!(rt; end.errors, line.as_bytes());
+    assert!(rt; is_failure(end));
 }
 
 // Runs the program, with room for what is written.
