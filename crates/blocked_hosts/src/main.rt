@@ -3,6 +3,7 @@
 
 use patricia_tree::StringPatriciaSet;
 use std::alloc::{AllocError, Global};
+use std::io;
 
 const LISTED: [&str; 4] = [
     "ads.example.com",
@@ -31,19 +32,32 @@ fn reversed(alloc: Global, domain: &str) -> Result<String, AllocError> {
     Ok(name)
 }
 
-fn main(rt: HostRuntime) -> anyhow::Result<()> {
-    let mut listed = StringPatriciaSet::new(rt.alloc());
+fn list_all(alloc: Global, listed: &mut StringPatriciaSet) -> Result<(), AllocError> {
     for domain in LISTED {
-        let name = reversed(rt.alloc(), domain)?;
+        let name = reversed(alloc, domain)?;
         listed.insert(name.as_str())?;
     }
+    Ok(())
+}
+
+fn answer(rt: &impl Print, listed: &StringPatriciaSet, host: &str, name: &str) -> io::Result<()> {
+    match listed.get_longest_common_prefix(name) {
+        Some(entry) => println!(rt; "{host}: blocked by {entry}"),
+        None => println!(rt; "{host}: passes"),
+    }
+}
+
+fn answer_all(rt: &(impl AllocGlobal + Print), listed: &StringPatriciaSet) -> anyhow::Result<()> {
     println!(rt; "{listed:?}")?;
     for host in HOSTS {
         let name = reversed(rt.alloc(), host)?;
-        match listed.get_longest_common_prefix(name.as_str()) {
-            Some(entry) => println!(rt; "{host}: blocked by {entry}")?,
-            None => println!(rt; "{host}: passes")?,
-        }
+        answer(rt, listed, host, name.as_str())?;
     }
     Ok(())
+}
+
+fn main(rt: HostRuntime) -> anyhow::Result<()> {
+    let mut listed = StringPatriciaSet::new(rt.alloc());
+    list_all(rt.alloc(), &mut listed)?;
+    answer_all(&rt, &listed)
 }

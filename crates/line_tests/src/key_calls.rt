@@ -12,21 +12,40 @@ pub(super) fn answer<'a, Q: Readable<'a>>(
     arguments: &'a [Vec<u8>],
     out: &mut String,
 ) -> Result<(), AllocError> {
-    match (call, arguments) {
-        ("floor", _) => add_floors::<Q::Owned>(alloc, arguments, out),
-        ("copy", _) => add_copies::<Q::Owned>(alloc, arguments, out),
-        ("common", [key, bytes]) => match Q::read(key) {
-            Some(key) => add_common(alloc, key, bytes, out),
-            None => words::add(out, "none"),
-        },
-        ("first", [key, bytes]) => match Q::read(key) {
-            Some(key) => add_first(key, bytes, out),
-            None => words::add(out, "none"),
-        },
-        ("halves", [key, number]) => match Q::read(key) {
-            Some(key) => add_halves(key, words::number(number), out),
-            None => words::add(out, "none"),
-        },
+    match call {
+        "floor" => add_floors::<Q::Owned>(alloc, arguments, out),
+        "copy" => add_copies::<Q::Owned>(alloc, arguments, out),
+        _ => answer_pair::<Q>(alloc, call, arguments, out),
+    }
+}
+
+// The calls of a key with one argument.
+fn answer_pair<'a, Q: Readable<'a>>(
+    alloc: Global,
+    call: &str,
+    arguments: &'a [Vec<u8>],
+    out: &mut String,
+) -> Result<(), AllocError> {
+    let [key, argument] = arguments else {
+        return words::add(out, "unknown");
+    };
+    match Q::read(key) {
+        Some(key) => answer_key(alloc, call, key, argument, out),
+        None => words::add(out, "none"),
+    }
+}
+
+fn answer_key<Q: BorrowedBytes>(
+    alloc: Global,
+    call: &str,
+    key: Q,
+    argument: &[u8],
+    out: &mut String,
+) -> Result<(), AllocError> {
+    match call {
+        "common" => add_common(alloc, key, argument, out),
+        "first" => add_first(key, argument, out),
+        "halves" => add_halves(key, words::number(argument), out),
         _ => words::add(out, "unknown"),
     }
 }

@@ -16,23 +16,6 @@ use std::alloc::{AllocError, Global};
 use std::io::{self, Read};
 use words::{Call, Readable};
 
-// Adds the answers to a call over keys of one kind.
-fn answer<'a, Q: Readable<'a>>(
-    alloc: Global,
-    map: &mut GenericPatriciaMap<Q::Owned, u64>,
-    call: &'a Call<'_>,
-    out: &mut String,
-) -> Result<(), AllocError> {
-    let arguments = call.arguments.as_slice();
-    if map_calls::answer::<Q>(alloc, map, call.name, arguments, out)?
-        || whole_calls::answer::<Q>(alloc, map, call.name, arguments, out)?
-        || prefix_calls::answer::<Q>(alloc, map, call.name, arguments, out)?
-    {
-        return Ok(());
-    }
-    key_calls::answer::<Q>(alloc, call.name, arguments, out)
-}
-
 // The answers to a call, each after a space, or a space where there is none.
 fn answers<'a, Q: Readable<'a>>(
     alloc: Global,
@@ -40,11 +23,22 @@ fn answers<'a, Q: Readable<'a>>(
     call: &'a Call<'_>,
 ) -> Result<String, AllocError> {
     let mut out = String::new(alloc);
-    answer::<Q>(alloc, map, call, &mut out)?;
+    map_calls::answer::<Q>(alloc, map, call.name, &call.arguments, &mut out)?;
     if out.is_empty() {
         out.push(' ')?;
     }
     Ok(out)
+}
+
+// Writes a call with its answers.
+fn write_answer<'a, Q: Readable<'a>>(
+    rt: &impl Print,
+    alloc: Global,
+    map: &mut GenericPatriciaMap<Q::Owned, u64>,
+    call: &'a Call<'_>,
+) -> io::Result<()> {
+    let answers = answers::<Q>(alloc, map, call)?;
+    println!(rt; "{}:{}", call.line, answers.as_str())
 }
 
 // Writes the calls of one kind with their answers.
@@ -57,18 +51,21 @@ fn write_answers<'a, Q: Readable<'a>>(
     let mut map: GenericPatriciaMap<Q::Owned, u64> = GenericPatriciaMap::new(alloc);
     for call in calls {
         if call.kind == kind {
-            let answers = answers::<Q>(alloc, &mut map, call)?;
-            println!(rt; "{}:{}", call.line, answers.as_str())?;
+            write_answer::<Q>(rt, alloc, &mut map, call)?;
         }
     }
     Ok(())
 }
 
+// Writes the calls of a text with their answers, those of bytes first.
+fn write_all(rt: &impl Print, alloc: Global, text: &str) -> io::Result<()> {
+    let calls = words::calls(alloc, text)?;
+    write_answers::<&[u8]>(rt, alloc, "bytes", &calls)?;
+    write_answers::<&str>(rt, alloc, "text", &calls)
+}
+
 fn main(rt: HostRuntime) -> io::Result<()> {
-    let alloc = rt.alloc();
-    let mut text = String::new(alloc);
+    let mut text = String::new(rt.alloc());
     rt.stdin().read_to_string(&mut text)?;
-    let calls = words::calls(alloc, &text)?;
-    write_answers::<&[u8]>(&rt, alloc, "bytes", &calls)?;
-    write_answers::<&str>(&rt, alloc, "text", &calls)
+    write_all(&rt, rt.alloc(), &text)
 }

@@ -1,5 +1,6 @@
 //! The calls of a map.
 
+use crate::whole_calls;
 use crate::words::{self, Readable};
 use patricia_tree::{BorrowedBytes, Bytes, GenericPatriciaMap};
 use std::alloc::{AllocError, Global};
@@ -7,56 +8,59 @@ use std::mem;
 
 type Map<K> = GenericPatriciaMap<K, u64>;
 
-/// Adds the answers to a call, and answers whether it is one of these.
+/// Adds the answers to a call.
 pub(super) fn answer<'a, Q: Readable<'a>>(
     alloc: Global,
     map: &mut Map<Q::Owned>,
     call: &str,
     arguments: &'a [Vec<u8>],
     out: &mut String,
-) -> Result<bool, AllocError> {
+) -> Result<(), AllocError> {
     match call {
-        "insert" => add_inserts::<Q>(alloc, map, arguments, out)?,
-        "extend" | "from_iter" => {
-            put_pairs::<Q>(alloc, map, arguments, call == "extend")?;
-            add_rows(alloc, map, out)?;
-        }
-        "get" | "contains" | "remove" => {
-            for key in arguments {
-                if let Some(key) = Q::read(key) {
-                    add_one(alloc, map, call, key, out)?;
-                }
-            }
-        }
-        _ => return answer_whole(alloc, map, call, out),
-    }
-    Ok(true)
-}
-
-// The calls without arguments.
-fn answer_whole<K: Bytes>(
-    alloc: Global,
-    map: &mut Map<K>,
-    call: &str,
-    out: &mut String,
-) -> Result<bool, AllocError> {
-    let added = match call {
-        "len" => words::add_number(alloc, out, map.len() as u64),
-        "empty" => words::add_bool(out, map.is_empty()),
+        "insert" => add_inserts::<Q>(alloc, map, arguments, out),
+        "extend" | "from_iter" => add_pairs::<Q>(alloc, map, call, arguments, out),
+        "get" | "contains" | "remove" => add_each::<Q>(alloc, map, call, arguments, out),
         "clear" => {
             map.clear();
             Ok(())
         }
+        "take" => take(alloc, map, out),
+        _ => answer_whole::<Q>(alloc, map, call, arguments, out),
+    }
+}
+
+// The calls without arguments that leave the map as it is.
+fn answer_whole<'a, Q: Readable<'a>>(
+    alloc: Global,
+    map: &mut Map<Q::Owned>,
+    call: &str,
+    arguments: &'a [Vec<u8>],
+    out: &mut String,
+) -> Result<(), AllocError> {
+    match call {
+        "len" => words::add_number(alloc, out, map.len() as u64),
+        "empty" => words::add_bool(out, map.is_empty()),
         "iter" => add_rows(alloc, map, out),
         "keys" => add_keys(map, out),
         "values" => add_values(alloc, map, out),
-        "take" => take(alloc, map, out),
-        _ => return Ok(false),
-    };
-    match added {
-        Ok(()) => Ok(true),
-        Err(error) => Err(error),
+        _ => whole_calls::answer::<Q>(alloc, map, call, arguments, out),
     }
+}
+
+// The answer about each key.
+fn add_each<'a, Q: Readable<'a>>(
+    alloc: Global,
+    map: &mut Map<Q::Owned>,
+    call: &str,
+    keys: &'a [Vec<u8>],
+    out: &mut String,
+) -> Result<(), AllocError> {
+    for key in keys {
+        if let Some(key) = Q::read(key) {
+            add_one(alloc, map, call, key, out)?;
+        }
+    }
+    Ok(())
 }
 
 // The arguments are keys, each with its value after it.
@@ -73,6 +77,18 @@ fn pairs<'a, Q: Readable<'a>>(
         }
     }
     Ok(pairs)
+}
+
+// The entries once pairs are put into the map, or once it is made anew of them.
+fn add_pairs<'a, Q: Readable<'a>>(
+    alloc: Global,
+    map: &mut Map<Q::Owned>,
+    call: &str,
+    arguments: &'a [Vec<u8>],
+    out: &mut String,
+) -> Result<(), AllocError> {
+    put_pairs::<Q>(alloc, map, arguments, call == "extend")?;
+    add_rows(alloc, map, out)
 }
 
 // Puts pairs into the map, or makes it anew of them.
@@ -120,6 +136,16 @@ fn add_one<Q: BorrowedBytes>(
     }
 }
 
+/// Adds an entry that a walk gives.
+pub(super) fn add_entry<K: Bytes>(
+    alloc: Global,
+    entry: Result<(K, &u64), AllocError>,
+    out: &mut String,
+) -> Result<(), AllocError> {
+    let (key, value) = entry?;
+    words::add_row(alloc, out, key.as_bytes(), *value)
+}
+
 /// Adds the entries of a map.
 pub(super) fn add_rows<K: Bytes>(
     alloc: Global,
@@ -127,8 +153,7 @@ pub(super) fn add_rows<K: Bytes>(
     out: &mut String,
 ) -> Result<(), AllocError> {
     for entry in map {
-        let (key, value) = entry?;
-        words::add_row(alloc, out, key.as_bytes(), *value)?;
+        add_entry(alloc, entry, out)?;
     }
     Ok(())
 }

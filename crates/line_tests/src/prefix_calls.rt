@@ -1,27 +1,26 @@
 //! The calls of a map about beginnings of keys.
 
 use crate::words::{self, Readable};
+use crate::{key_calls, map_calls};
 use patricia_tree::{BorrowedBytes, Bytes, GenericPatriciaMap};
 use std::alloc::{AllocError, Global};
 
 type Map<K> = GenericPatriciaMap<K, u64>;
 
-/// Adds the answers to a call, and answers whether it is one of these.
+/// Adds the answers to a call.
 pub(super) fn answer<'a, Q: Readable<'a>>(
     alloc: Global,
     map: &Map<Q::Owned>,
     call: &str,
     arguments: &'a [Vec<u8>],
     out: &mut String,
-) -> Result<bool, AllocError> {
-    match (call, arguments) {
-        ("longest", keys) => add_each::<Q>(alloc, map, true, keys, out),
-        ("reach", keys) => add_each::<Q>(alloc, map, false, keys, out),
-        (_, [key]) => match Q::read(key) {
-            Some(key) => add_walk(alloc, map, call, key, out),
-            None => Ok(false),
-        },
-        _ => Ok(false),
+) -> Result<(), AllocError> {
+    match call {
+        "longest" | "reach" => add_each::<Q>(alloc, map, call == "longest", arguments, out),
+        "along" | "along_values" | "along_owned" | "under" => {
+            add_walk::<Q>(alloc, map, call, arguments, out)
+        }
+        _ => key_calls::answer::<Q>(alloc, call, arguments, out),
     }
 }
 
@@ -32,13 +31,13 @@ fn add_each<'a, Q: Readable<'a>>(
     is_longest: bool,
     keys: &'a [Vec<u8>],
     out: &mut String,
-) -> Result<bool, AllocError> {
+) -> Result<(), AllocError> {
     for key in keys {
         if let Some(key) = Q::read(key) {
             add_one(alloc, map, is_longest, key, out)?;
         }
     }
-    Ok(true)
+    Ok(())
 }
 
 // The entry of the longest key that begins a key, or how far the keys of the map go with it.
@@ -58,24 +57,35 @@ fn add_one<Q: BorrowedBytes>(
     }
 }
 
+// The answers of a walk, whose argument is one key.
+fn add_walk<'a, Q: Readable<'a>>(
+    alloc: Global,
+    map: &Map<Q::Owned>,
+    call: &str,
+    arguments: &'a [Vec<u8>],
+    out: &mut String,
+) -> Result<(), AllocError> {
+    if let [key] = arguments
+        && let Some(key) = Q::read(key)
+    {
+        return add_walked(alloc, map, call, key, out);
+    }
+    words::add(out, "unknown")
+}
+
 // The answers of a walk along one key or under it.
-fn add_walk<Q: BorrowedBytes>(
+fn add_walked<Q: BorrowedBytes>(
     alloc: Global,
     map: &Map<Q::Owned>,
     call: &str,
     key: Q,
     out: &mut String,
-) -> Result<bool, AllocError> {
-    let added = match call {
+) -> Result<(), AllocError> {
+    match call {
         "along" => add_along(alloc, map, key, out),
         "along_values" => add_along_values(alloc, map, key, out),
         "along_owned" => add_along_a_copy(alloc, map, key, out),
-        "under" => add_under(alloc, map, key, out),
-        _ => return Ok(false),
-    };
-    match added {
-        Ok(()) => Ok(true),
-        Err(error) => Err(error),
+        _ => add_under(alloc, map, key, out),
     }
 }
 
@@ -132,8 +142,7 @@ fn add_under<Q: BorrowedBytes>(
     out: &mut String,
 ) -> Result<(), AllocError> {
     for entry in map.iter_prefix(prefix) {
-        let (key, value) = entry?;
-        words::add_row(alloc, out, key.as_bytes(), *value)?;
+        map_calls::add_entry(alloc, entry, out)?;
     }
     Ok(())
 }

@@ -1,44 +1,43 @@
 //! The calls that make a map of a part of a map, or of the whole.
 
-use crate::map_calls;
 use crate::words::{self, Readable};
-use patricia_tree::{BorrowedBytes, Bytes, GenericPatriciaMap};
+use crate::{map_calls, prefix_calls};
+use patricia_tree::{Bytes, GenericPatriciaMap};
 use std::alloc::{AllocError, Global};
+use std::mem;
 
 type Map<K> = GenericPatriciaMap<K, u64>;
 
-/// Adds the answers to a call, and answers whether it is one of these.
+/// Adds the answers to a call.
 pub(super) fn answer<'a, Q: Readable<'a>>(
     alloc: Global,
     map: &mut Map<Q::Owned>,
     call: &str,
     arguments: &'a [Vec<u8>],
     out: &mut String,
-) -> Result<bool, AllocError> {
-    match (call, arguments) {
-        ("clone", []) => add_clone(alloc, map, out),
-        ("split" | "split_off", [prefix]) => match Q::read(prefix) {
-            Some(prefix) => add_split(alloc, map, prefix, call == "split_off", out),
-            None => Ok(false),
-        },
-        _ => Ok(false),
+) -> Result<(), AllocError> {
+    match call {
+        "clone" => add_clone(alloc, map, out),
+        "split" | "split_off" => add_split::<Q>(alloc, map, call, arguments, out),
+        _ => prefix_calls::answer::<Q>(alloc, map, call, arguments, out),
     }
 }
 
-// What was taken, and what is left. The calls go on with what is left, or with what was taken.
-fn add_split<Q: BorrowedBytes>(
+// What a split takes, and what it leaves. The argument is one prefix.
+fn add_split<'a, Q: Readable<'a>>(
     alloc: Global,
     map: &mut Map<Q::Owned>,
-    prefix: Q,
-    is_taken: bool,
+    call: &str,
+    arguments: &'a [Vec<u8>],
     out: &mut String,
-) -> Result<bool, AllocError> {
-    let taken = map.split_by_prefix(prefix)?;
-    add_both(alloc, &taken, map, out)?;
-    if is_taken {
-        *map = taken;
+) -> Result<(), AllocError> {
+    if let [prefix] = arguments
+        && let Some(prefix) = Q::read(prefix)
+    {
+        let mut taken = map.split_by_prefix(prefix)?;
+        return add_parts(alloc, &mut taken, map, call == "split_off", out);
     }
-    Ok(true)
+    words::add(out, "unknown")
 }
 
 // The copy, and what was copied. The calls go on with the copy.
@@ -46,11 +45,24 @@ fn add_clone<K: Bytes>(
     alloc: Global,
     map: &mut Map<K>,
     out: &mut String,
-) -> Result<bool, AllocError> {
-    let copy = map.clone()?;
-    add_both(alloc, &copy, map, out)?;
-    *map = copy;
-    Ok(true)
+) -> Result<(), AllocError> {
+    let mut copy = map.clone()?;
+    add_parts(alloc, &mut copy, map, true, out)
+}
+
+// What was taken, and the map. The calls go on with the map, or with what was taken.
+fn add_parts<K: Bytes>(
+    alloc: Global,
+    taken: &mut Map<K>,
+    map: &mut Map<K>,
+    is_taken: bool,
+    out: &mut String,
+) -> Result<(), AllocError> {
+    add_both(alloc, taken, map, out)?;
+    if is_taken {
+        mem::swap(taken, map);
+    }
+    Ok(())
 }
 
 // The rows of two maps, with a word between that is no row.

@@ -78,19 +78,39 @@ pub struct Call<'t> {
     pub arguments: Vec<Vec<u8>>,
 }
 
+// Adds the call that the words of a line are, if they are one.
+fn push_call<'t>(
+    alloc: Global,
+    calls: &mut Vec<Call<'t>>,
+    line: &'t str,
+    words: &[&'t str],
+) -> Result<(), AllocError> {
+    if let [kind, name, words @ ..] = words {
+        let arguments = arguments(alloc, words)?;
+        calls.push(Call {
+            line,
+            kind,
+            name,
+            arguments,
+        })?;
+    }
+    Ok(())
+}
+
+fn push_line<'t>(
+    alloc: Global,
+    calls: &mut Vec<Call<'t>>,
+    line: &'t str,
+) -> Result<(), AllocError> {
+    let words: Vec<&'t str> = line.split(' ').collect(alloc)?;
+    push_call(alloc, calls, line, &words)
+}
+
 /// The calls among the lines of a text.
 pub(super) fn calls<'t>(alloc: Global, text: &'t str) -> Result<Vec<Call<'t>>, AllocError> {
     let mut calls = Vec::new(alloc);
     for line in text.lines() {
-        let words: Vec<&'t str> = line.split(' ').collect(alloc)?;
-        if let [kind, name, words @ ..] = words.as_slice() {
-            calls.push(Call {
-                line,
-                kind,
-                name,
-                arguments: arguments(alloc, words)?,
-            })?;
-        }
+        push_line(alloc, &mut calls, line)?;
     }
     Ok(calls)
 }

@@ -1,4 +1,5 @@
 mod helpers;
+mod listings;
 mod long_keys;
 mod refusals;
 mod refused_text;

@@ -1,4 +1,4 @@
-//! Tests of commands.
+//! Tests of commands, and of the program over its words and streams.
 #![tactic(auto)]
 
 #[cfg(test)]

@@ -1,4 +1,6 @@
-//! Tests of what no contract says: values from outside.
+//! Tests of what no contract says: values from outside, statuses, failing streams and refused memory.
 
 mod bench;
+mod helpers;
 mod reload;
+mod serve;

@@ -4,19 +4,29 @@ use std::alloc::{AllocError, Global};
 /// Some lines of the input, and the others.
 pub type Halves<'a> = (Vec<&'a [u8]>, Vec<&'a [u8]>);
 
+// Puts a line that is not empty into the second list where that is shorter, or else into the first.
+fn push_line<'a>(
+    first: &mut Vec<&'a [u8]>,
+    second: &mut Vec<&'a [u8]>,
+    line: &'a [u8],
+) -> Result<(), AllocError> {
+    if line.is_empty() {
+        return Ok(());
+    }
+    if first.len() == second.len() {
+        first.push(line)?;
+    } else {
+        second.push(line)?;
+    }
+    Ok(())
+}
+
 /// The lines of the input that are not empty, by turns in the first list and in the second.
 pub(super) fn read_keys(alloc: Global, input: &[u8]) -> Result<Halves<'_>, AllocError> {
     let mut first = Vec::new(alloc);
     let mut second = Vec::new(alloc);
     for line in input.split(|byte| *byte == b'\n') {
-        if line.is_empty() {
-            continue;
-        }
-        if first.len() == second.len() {
-            first.push(line)?;
-        } else {
-            second.push(line)?;
-        }
+        push_line(&mut first, &mut second, line)?;
     }
     Ok((first, second))
 }

@@ -12,7 +12,7 @@ mod memory;
 use keys::{halves, read_keys, shuffle, tenth};
 use memory::memory;
 use patricia_tree::{BorrowedBytes, Bytes, GenericPatriciaMap, PatriciaMap};
-use std::alloc::{AllocError, Global};
+use std::alloc::AllocError;
 use std::env;
 use std::io::{self, Read as _};
 use std::rt::{Clock, Env, Files};
@@ -139,7 +139,7 @@ fn report(
 }
 
 // The calls that only read a map.
-#[derive(Clone, Copy, PartialEq)]
+#[derive(Clone, Copy)]
 enum Read {
     Get,
     Walk,
@@ -171,7 +171,7 @@ fn time_read<Q: BorrowedBytes>(
     call: Read,
     keys: &[Q],
 ) -> io::Result<()> {
-    let is_walk = call == Read::Walk || call == Read::Values;
+    let is_walk = matches!(call, Read::Walk | Read::Values);
     let calls = if is_walk { map.len() } else { keys.len() };
     let start = Instant::now(rt)?;
     let answer = ask(map, call, keys)?;
@@ -179,7 +179,7 @@ fn time_read<Q: BorrowedBytes>(
 }
 
 // The calls that change a map.
-#[derive(Clone, Copy, PartialEq)]
+#[derive(Clone, Copy)]
 enum Write {
     Put,
     Take,
@@ -207,7 +207,7 @@ fn time_write<Q: BorrowedBytes>(
     call: Write,
     keys: &[Q],
 ) -> io::Result<u64> {
-    let is_walk = call == Write::Raise;
+    let is_walk = matches!(call, Write::Raise);
     let calls = if is_walk { map.len() } else { keys.len() };
     let start = Instant::now(rt)?;
     let answer = change(map, call, keys)?;
@@ -215,31 +215,41 @@ fn time_write<Q: BorrowedBytes>(
     Ok(answer)
 }
 
-// Copies the map.
-fn time_clone<K: Bytes>(
+// A line on a split, and how many of 1,000 entries it takes out.
+fn report_split(
     rt: &(impl Clock + Print),
     times: bool,
-    map: &GenericPatriciaMap<K, u64>,
-) -> io::Result<GenericPatriciaMap<K, u64>> {
-    let start = Instant::now(rt)?;
-    let copy = map.clone()?;
-    report(rt, times, "clone", start, map.len(), copy.len() as u64)?;
-    Ok(copy)
+    start: Instant,
+    count: usize,
+    whole: usize,
+) -> io::Result<()> {
+    report(rt, times, "split_by_prefix", start, count, count as u64)?;
+    println!(rt; "share {}", count as u128 * 1000 / whole.max(1) as u128)
 }
 
-// Takes the entries out that begin with the prefix, and says how many of 1,000 these are.
+// Takes the entries out that begin with the prefix.
 fn time_split<Q: BorrowedBytes>(
     rt: &(impl Clock + Print),
     times: bool,
     map: &mut GenericPatriciaMap<Q::Owned, u64>,
     prefix: Q,
 ) -> io::Result<()> {
-    let whole = map.len().max(1) as u128;
+    let whole = map.len();
     let start = Instant::now(rt)?;
     let part = map.split_by_prefix(prefix)?;
-    let count = part.len();
-    report(rt, times, "split_by_prefix", start, count, count as u64)?;
-    println!(rt; "share {}", count as u128 * 1000 / whole)
+    report_split(rt, times, start, part.len(), whole)
+}
+
+// A line on the copy, out of which a part is then taken.
+fn time_part<Q: BorrowedBytes>(
+    rt: &(impl Clock + Print),
+    times: bool,
+    start: Instant,
+    copy: &mut GenericPatriciaMap<Q::Owned, u64>,
+    prefix: Q,
+) -> io::Result<()> {
+    report(rt, times, "clone", start, copy.len(), copy.len() as u64)?;
+    time_split(rt, times, copy, prefix)
 }
 
 // Copies the map, and takes a part out of the copy.
@@ -249,20 +259,20 @@ fn time_copies<Q: BorrowedBytes>(
     map: &GenericPatriciaMap<Q::Owned, u64>,
     prefix: Q,
 ) -> io::Result<()> {
-    let mut copy = time_clone(rt, times, map)?;
-    time_split(rt, times, &mut copy, prefix)
+    let start = Instant::now(rt)?;
+    let mut copy = map.clone()?;
+    time_part(rt, times, start, &mut copy, prefix)
 }
 
-// The values in key order.
-fn values_of<K: Bytes>(
-    alloc: Global,
+// Adds the values in key order.
+fn push_values<K: Bytes>(
+    values: &mut Vec<u64>,
     map: &GenericPatriciaMap<K, u64>,
-) -> Result<Vec<u64>, AllocError> {
-    let mut values = Vec::new(alloc);
+) -> Result<(), AllocError> {
     for value in map.values() {
         values.push(*value?)?;
     }
-    Ok(values)
+    Ok(())
 }
 
 // Makes a map of tree bytes and values.
@@ -279,40 +289,99 @@ fn time_from_wire<K: Bytes>(
     report(rt, times, "from_wire", start, map.len(), map.len() as u64)
 }
 
-// Writes the tree bytes, says how many there are for 1,000 entries, and reads them.
+fn tree_bytes<K: Bytes>(map: &GenericPatriciaMap<K, u64>) -> Result<Vec<u8>, AllocError> {
+    match map.tree_bytes() {
+        Ok(bytes) => Ok(bytes),
+        Err(_) => Err(AllocError),
+    }
+}
+
+// A line on the tree bytes, and how many there are for 1,000 entries.
+fn report_tree(
+    rt: &(impl Clock + Print),
+    times: bool,
+    start: Instant,
+    entries: usize,
+    bytes: usize,
+) -> io::Result<()> {
+    report(rt, times, "tree_bytes", start, entries, entries as u64)?;
+    if !times {
+        return Ok(());
+    }
+    println!(rt;
+        "tree_size {}",
+        bytes as u128 * 1000 / entries.max(1) as u128
+    )
+}
+
+// Reads the tree bytes with the values of the map.
+fn time_reading<K: Bytes>(
+    rt: &(impl AllocGlobal + Clock + Print),
+    times: bool,
+    map: &GenericPatriciaMap<K, u64>,
+    bytes: &[u8],
+) -> io::Result<()> {
+    let mut values = Vec::new(rt.alloc());
+    push_values(&mut values, map)?;
+    time_from_wire::<K>(rt, times, bytes, values)
+}
+
+// Writes the tree bytes, and reads them.
 fn time_tree<K: Bytes>(
     rt: &(impl AllocGlobal + Clock + Print),
     times: bool,
     map: &GenericPatriciaMap<K, u64>,
 ) -> io::Result<()> {
     let start = Instant::now(rt)?;
-    let Ok(bytes) = map.tree_bytes() else {
-        return Err(io::Error::from(AllocError));
-    };
-    report(rt, times, "tree_bytes", start, map.len(), map.len() as u64)?;
-    if times {
-        let entries = map.len().max(1) as u128;
-        println!(rt; "tree_size {}", bytes.len() as u128 * 1000 / entries)?;
-    }
-    time_from_wire::<K>(rt, times, &bytes, values_of(rt.alloc(), map)?)
+    let bytes = tree_bytes(map)?;
+    report_tree(rt, times, start, map.len(), bytes.len())?;
+    time_reading(rt, times, map, &bytes)
 }
 
-// Looks all keys up, and calls each walk.
-fn time_reads<Q: BorrowedBytes>(
+// Looks all keys up.
+fn time_gets<Q: BorrowedBytes>(
     rt: &(impl Clock + Print),
     times: bool,
     map: &GenericPatriciaMap<Q::Owned, u64>,
     present: &[Q],
     absent: &[Q],
+) -> io::Result<()> {
+    time_read(rt, times, "get", map, Read::Get, present)?;
+    time_read(rt, times, "get_absent", map, Read::Get, absent)
+}
+
+// Calls each walk over all entries.
+fn time_walks<Q: BorrowedBytes>(
+    rt: &(impl Clock + Print),
+    times: bool,
+    map: &GenericPatriciaMap<Q::Owned, u64>,
+    present: &[Q],
+) -> io::Result<()> {
+    time_read(rt, times, "walk", map, Read::Walk, present)?;
+    time_read(rt, times, "values", map, Read::Values, present)
+}
+
+// Calls the walk under each prefix, and looks for the longest keys that begin as many keys.
+fn time_prefixes<Q: BorrowedBytes>(
+    rt: &(impl Clock + Print),
+    times: bool,
+    map: &GenericPatriciaMap<Q::Owned, u64>,
+    absent: &[Q],
     halves: &[Q],
 ) -> io::Result<()> {
     let some = &absent[..halves.len().min(absent.len())];
-    time_read(rt, times, "get", map, Read::Get, present)?;
-    time_read(rt, times, "get_absent", map, Read::Get, absent)?;
-    time_read(rt, times, "walk", map, Read::Walk, present)?;
-    time_read(rt, times, "values", map, Read::Values, present)?;
     time_read(rt, times, "under", map, Read::Under, halves)?;
     time_read(rt, times, "longest", map, Read::Longest, some)
+}
+
+// The bytes of each of so many keys, and the most of them, since the process had so many.
+fn memory_since(rt: &(impl Files + Alloc), before: u64, count: u64) -> (u64, u64) {
+    let after = memory(rt, "VmRSS:");
+    let peak = memory(rt, "VmHWM:");
+    (
+        after.saturating_sub(before) / count.max(1),
+        peak.saturating_sub(before) / count.max(1),
+    )
 }
 
 // Fills the map, and answers the memory of a key and the most of it.
@@ -323,13 +392,53 @@ fn fill<Q: BorrowedBytes>(
     keys: &[Q],
 ) -> io::Result<(u64, u64)> {
     let before = memory(rt, "VmRSS:");
-    let count = time_write(rt, times, "insert", map, Write::Put, keys)?.max(1);
-    let after = memory(rt, "VmRSS:");
-    let peak = memory(rt, "VmHWM:");
-    Ok((
-        after.saturating_sub(before) / count,
-        peak.saturating_sub(before) / count,
-    ))
+    let count = time_write(rt, times, "insert", map, Write::Put, keys)?;
+    Ok(memory_since(rt, before, count))
+}
+
+// Calls each method that leaves the map as it is, for all keys in turn.
+fn time_reads<Q: BorrowedBytes>(
+    rt: &(impl AllocGlobal + Clock + Print),
+    times: bool,
+    map: &GenericPatriciaMap<Q::Owned, u64>,
+    present: &[Q],
+    absent: &[Q],
+    halves: &[Q],
+) -> io::Result<()> {
+    time_gets(rt, times, map, present, absent)?;
+    time_walks(rt, times, map, present)?;
+    time_prefixes(rt, times, map, absent, halves)?;
+    time_tree(rt, times, map)
+}
+
+// Calls each method that changes a map that is filled, for all keys in turn.
+fn time_changes<Q: BorrowedBytes>(
+    rt: &(impl AllocGlobal + Clock + Print),
+    times: bool,
+    map: &mut GenericPatriciaMap<Q::Owned, u64>,
+    present: &[Q],
+    prefix: Q,
+) -> io::Result<u64> {
+    time_write(rt, times, "values_mut", map, Write::Raise, present)?;
+    time_copies(rt, times, map, prefix)?;
+    time_write(rt, times, "remove", map, Write::Take, present)
+}
+
+// Fills the map, calls each method, and answers the memory of a key and the most of it.
+fn measure_map<Q: BorrowedBytes>(
+    rt: &(impl AllocGlobal + Clock + Files + Print),
+    times: bool,
+    map: &mut GenericPatriciaMap<Q::Owned, u64>,
+    present: &mut [Q],
+    absent: &[Q],
+    halves: &[Q],
+    prefix: Q,
+) -> io::Result<(u64, u64)> {
+    let memory = fill(rt, times, map, present)?;
+    shuffle(present, 3);
+    time_reads(rt, times, map, present, absent, halves)?;
+    time_changes(rt, times, map, present, prefix)?;
+    Ok(memory)
 }
 
 // Calls each method for all keys in turn, and answers the memory of a key and the most of it.
@@ -342,14 +451,7 @@ fn measure<Q: BorrowedBytes>(
     prefix: Q,
 ) -> io::Result<(u64, u64)> {
     let mut map: GenericPatriciaMap<Q::Owned, u64> = GenericPatriciaMap::new(rt.alloc());
-    let memory = fill(rt, times, &mut map, present)?;
-    shuffle(present, 3);
-    time_reads(rt, times, &map, present, absent, halves)?;
-    time_tree(rt, times, &map)?;
-    time_write(rt, times, "values_mut", &mut map, Write::Raise, present)?;
-    time_copies(rt, times, &map, prefix)?;
-    time_write(rt, times, "remove", &mut map, Write::Take, present)?;
-    Ok(memory)
+    measure_map(rt, times, &mut map, present, absent, halves, prefix)
 }
 
 // Puts the keys in in their order.
@@ -364,7 +466,10 @@ fn put_sorted(
     Ok(())
 }
 
-fn report_memory(rt: &impl Print, memory: (u64, u64)) -> io::Result<()> {
+fn report_memory(rt: &impl Print, times: bool, memory: (u64, u64)) -> io::Result<()> {
+    if !times {
+        return Ok(());
+    }
     println!(rt; "memory {}", memory.0)?;
     println!(rt; "peak {}", memory.1)
 }
@@ -383,6 +488,20 @@ fn prepare<'k>(present: &mut [&'k [u8]], absent: &mut [&'k [u8]]) -> &'k [u8] {
     prefix
 }
 
+// Measures the calls, and then inserts in the keys' order.
+fn measure_both<'k>(
+    rt: &(impl AllocGlobal + Clock + Files + Print),
+    times: bool,
+    present: &mut [&'k [u8]],
+    absent: &[&'k [u8]],
+    halves: &[&'k [u8]],
+    prefix: &'k [u8],
+) -> io::Result<()> {
+    let memory = measure(rt, times, present, absent, halves, prefix)?;
+    put_sorted(rt, times, present)?;
+    report_memory(rt, times, memory)
+}
+
 // Measures the calls with the keys of one half put in.
 fn measure_halves<'k>(
     rt: &(impl AllocGlobal + Clock + Files + Print),
@@ -393,12 +512,7 @@ fn measure_halves<'k>(
     let prefix = prepare(present, absent);
     println!(rt; "keys {}", present.len())?;
     let halves = halves(rt.alloc(), &absent[..absent.len().min(100_000)])?;
-    let memory = measure(rt, times, present, absent, &halves, prefix)?;
-    put_sorted(rt, times, present)?;
-    if times {
-        report_memory(rt, memory)?;
-    }
-    Ok(())
+    measure_both(rt, times, present, absent, &halves, prefix)
 }
 
 // Whether the program's word is `times`.
@@ -406,12 +520,26 @@ fn is_timed(rt: &(impl Alloc + Env)) -> io::Result<bool> {
     Ok(env::args(rt)?.skip(1).any(|word| word.as_str() == "times"))
 }
 
-fn run(rt: &(impl AllocGlobal + Clock + Env + Files + Input + Print)) -> io::Result<()> {
-    let times = is_timed(rt)?;
+fn read_input(rt: &(impl AllocGlobal + Input)) -> io::Result<Vec<u8>> {
     let mut input: Vec<u8> = Vec::new(rt.alloc());
     rt.reader().read_to_end(&mut input)?;
-    let (mut present, mut absent) = read_keys(rt.alloc(), &input)?;
+    Ok(input)
+}
+
+// Measures the calls with the keys of an input.
+fn run_on(
+    rt: &(impl AllocGlobal + Clock + Files + Print),
+    times: bool,
+    input: &[u8],
+) -> io::Result<()> {
+    let (mut present, mut absent) = read_keys(rt.alloc(), input)?;
     measure_halves(rt, times, &mut present, &mut absent)
+}
+
+fn run(rt: &(impl AllocGlobal + Clock + Env + Files + Input + Print)) -> io::Result<()> {
+    let times = is_timed(rt)?;
+    let input = read_input(rt)?;
+    run_on(rt, times, &input)
 }
 
 fn main(rt: HostRuntime) -> io::Result<()> {

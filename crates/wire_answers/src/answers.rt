@@ -5,6 +5,11 @@ use patricia_tree::wire::{DecodeError, WireError};
 use patricia_tree::{Bytes, GenericPatriciaMap, GenericPatriciaSet};
 use std::alloc::{AllocError, Global};
 
+fn add_wire_fault(alloc: Global, fault: WireError, out: &mut String) -> Result<(), AllocError> {
+    let text = fault.to_string(alloc)?;
+    out.push_str(&text)
+}
+
 // Adds the bytes that a map or a set is written as again.
 fn add_tree(
     alloc: Global,
@@ -14,13 +19,43 @@ fn add_tree(
     out.push_str(" wire ")?;
     match tree {
         Ok(bytes) => words::add_bytes(alloc, out, &bytes),
-        Err(fault) => out.push_str(&fault.to_string(alloc)?),
+        Err(fault) => add_wire_fault(alloc, fault, out),
     }
 }
 
 fn add_fault(alloc: Global, fault: DecodeError, out: &mut String) -> Result<(), AllocError> {
+    let text = fault.to_string(alloc)?;
     out.push(' ')?;
-    out.push_str(&fault.to_string(alloc)?)
+    out.push_str(&text)
+}
+
+fn add_row(alloc: Global, key: &[u8], value: u64, out: &mut String) -> Result<(), AllocError> {
+    out.push(' ')?;
+    words::add_bytes(alloc, out, key)?;
+    let digits = value.to_string(alloc)?;
+    out.push('=')?;
+    out.push_str(&digits)
+}
+
+// Adds an entry that a walk gives.
+fn add_entry<K: Bytes>(
+    alloc: Global,
+    entry: Result<(K, &u64), AllocError>,
+    out: &mut String,
+) -> Result<(), AllocError> {
+    let (key, value) = entry?;
+    add_row(alloc, key.as_bytes(), *value, out)
+}
+
+// Adds an element that a walk gives.
+fn add_element<K: Bytes>(
+    alloc: Global,
+    element: Result<K, AllocError>,
+    out: &mut String,
+) -> Result<(), AllocError> {
+    let element = element?;
+    out.push(' ')?;
+    words::add_bytes(alloc, out, element.as_bytes())
 }
 
 // Adds the rows of a map, and its bytes.
@@ -30,11 +65,7 @@ fn add_map<K: Bytes>(
     out: &mut String,
 ) -> Result<(), AllocError> {
     for entry in map.iter() {
-        let (key, value) = entry?;
-        out.push(' ')?;
-        words::add_bytes(alloc, out, key.as_bytes())?;
-        out.push('=')?;
-        out.push_str(&value.to_string(alloc)?)?;
+        add_entry(alloc, entry, out)?;
     }
     add_tree(alloc, map.tree_bytes(), out)
 }
@@ -46,8 +77,7 @@ fn add_set<K: Bytes>(
     out: &mut String,
 ) -> Result<(), AllocError> {
     for element in set.iter() {
-        out.push(' ')?;
-        words::add_bytes(alloc, out, element?.as_bytes())?;
+        add_element(alloc, element, out)?;
     }
     add_tree(alloc, set.tree_bytes(), out)
 }
@@ -66,6 +96,15 @@ fn add_map_read<K: Bytes>(
     }
 }
 
+// So many times nothing.
+fn nothings(alloc: Global, count: usize) -> Result<Vec<()>, AllocError> {
+    let mut nothings = Vec::new(alloc);
+    for _ in 0..count {
+        nothings.push(())?;
+    }
+    Ok(nothings)
+}
+
 // Adds what a set has that is read with so many values.
 fn add_set_read<K: Bytes>(
     alloc: Global,
@@ -74,11 +113,7 @@ fn add_set_read<K: Bytes>(
     out: &mut String,
 ) -> Result<(), AllocError> {
     out.push_str(" set")?;
-    let mut values = Vec::new(alloc);
-    for _ in 0..count {
-        values.push(())?;
-    }
-    match GenericPatriciaSet::<K>::from_wire(alloc, tree, values) {
+    match GenericPatriciaSet::<K>::from_wire(alloc, tree, nothings(alloc, count)?) {
         Ok(set) => add_set(alloc, &set, out),
         Err(fault) => add_fault(alloc, fault, out),
     }

@@ -16,34 +16,50 @@ use std::alloc::{AllocError, Global};
 use std::io::{self, Read};
 use words::Call;
 
-// What a call over keys of one kind asks for.
-fn asked<K: Bytes>(alloc: Global, call: &mut Call<'_>) -> Result<String, AllocError> {
-    let mut out = String::new(alloc);
+// Adds what a call over keys of one kind asks for.
+fn add_asked<K: Bytes>(
+    alloc: Global,
+    call: &mut Call<'_>,
+    out: &mut String,
+) -> Result<(), AllocError> {
     match call.name {
-        "read" => answers::add::<K>(alloc, &call.tree, &call.values, &mut out)?,
-        "cuts" => sweeps::add_cuts::<K>(alloc, &call.tree, &call.values, &mut out)?,
-        _ => sweeps::add_changes::<K>(alloc, &mut call.tree, &call.values, &mut out)?,
+        "read" => answers::add::<K>(alloc, &call.tree, &call.values, out),
+        "cuts" => sweeps::add_cuts::<K>(alloc, &call.tree, &call.values, out),
+        _ => sweeps::add_changes::<K>(alloc, &mut call.tree, &call.values, out),
     }
-    Ok(out)
 }
 
 // Writes a call with what it asks for.
 fn write_answer<K: Bytes>(rt: &impl Print, alloc: Global, call: &mut Call<'_>) -> io::Result<()> {
-    let answer = asked::<K>(alloc, call)?;
-    println!(rt; "{}: {}", call.line, answer.as_str())
+    let mut out = String::new(alloc);
+    add_asked::<K>(alloc, call, &mut out)?;
+    println!(rt; "{}: {}", call.line, out.as_str())
+}
+
+fn write_call(rt: &impl Print, alloc: Global, call: &mut Call<'_>) -> io::Result<()> {
+    match call.kind {
+        "bytes" => write_answer::<Vec<u8>>(rt, alloc, call),
+        _ => write_answer::<String>(rt, alloc, call),
+    }
+}
+
+fn write_line(rt: &impl Print, alloc: Global, line: &str) -> io::Result<()> {
+    match words::read_call(alloc, line)? {
+        Some(mut call) => write_call(rt, alloc, &mut call),
+        None => Ok(()),
+    }
+}
+
+// Writes the calls among the lines of a text.
+fn write_all(rt: &impl Print, alloc: Global, text: &str) -> io::Result<()> {
+    for line in text.lines() {
+        write_line(rt, alloc, line)?;
+    }
+    Ok(())
 }
 
 fn main(rt: HostRuntime) -> io::Result<()> {
-    let alloc = rt.alloc();
-    let mut text = String::new(alloc);
+    let mut text = String::new(rt.alloc());
     rt.stdin().read_to_string(&mut text)?;
-    for line in text.lines() {
-        if let Some(mut call) = words::read_call(alloc, line)? {
-            match call.kind {
-                "bytes" => write_answer::<Vec<u8>>(&rt, alloc, &mut call)?,
-                _ => write_answer::<String>(&rt, alloc, &mut call)?,
-            }
-        }
-    }
-    Ok(())
+    write_all(&rt, rt.alloc(), &text)
 }

@@ -33,7 +33,34 @@ fn sum_with(sum: u32, byte: u8) -> u32 {
     sum
 }
 
-// The sum of what is read where one byte is each other byte in turn, each with a byte 10 behind it.
+fn sum_with_all(sum: u32, bytes: &[u8]) -> u32 {
+    let mut sum = sum;
+    for byte in bytes {
+        sum = sum_with(sum, *byte);
+    }
+    sum
+}
+
+// The sum with what is read from the bytes, and a byte 10 behind it.
+fn sum_with_answer<K: Bytes>(
+    alloc: Global,
+    tree: &[u8],
+    values: &[u64],
+    sum: u32,
+) -> Result<u32, AllocError> {
+    let mut answer = String::new(alloc);
+    answers::add::<K>(alloc, tree, values, &mut answer)?;
+    answer.push('\n')?;
+    Ok(sum_with_all(sum, answer.as_bytes()))
+}
+
+fn set(tree: &mut [u8], at: usize, byte: u8) {
+    if let Some(place) = tree.get_mut(at) {
+        *place = byte;
+    }
+}
+
+// The sum of what is read where one byte is each other byte in turn.
 fn changes_at<K: Bytes>(
     alloc: Global,
     tree: &mut [u8],
@@ -45,23 +72,25 @@ fn changes_at<K: Bytes>(
         return Ok(!sum);
     };
     for byte in 0..=u8::MAX {
-        if byte == old {
-            continue;
-        }
-        if let Some(place) = tree.get_mut(at) {
-            *place = byte;
-        }
-        let mut answer = String::new(alloc);
-        answers::add::<K>(alloc, tree, values, &mut answer)?;
-        answer.push('\n')?;
-        for byte in answer.as_bytes() {
-            sum = sum_with(sum, *byte);
+        if byte != old {
+            set(tree, at, byte);
+            sum = sum_with_answer::<K>(alloc, tree, values, sum)?;
         }
     }
-    if let Some(place) = tree.get_mut(at) {
-        *place = old;
-    }
+    set(tree, at, old);
     Ok(!sum)
+}
+
+fn add_changes_at<K: Bytes>(
+    alloc: Global,
+    tree: &mut [u8],
+    values: &[u64],
+    at: usize,
+    out: &mut String,
+) -> Result<(), AllocError> {
+    let sum = changes_at::<K>(alloc, tree, values, at)?;
+    let digits = sum.to_string(alloc)?;
+    out.push_str(&digits)
 }
 
 /// Adds for each byte the sum of what is read where it is another.
@@ -75,7 +104,7 @@ pub(super) fn add_changes<K: Bytes>(
         if at > 0 {
             out.push(' ')?;
         }
-        out.push_str(&changes_at::<K>(alloc, tree, values, at)?.to_string(alloc)?)?;
+        add_changes_at::<K>(alloc, tree, values, at, out)?;
     }
     Ok(())
 }

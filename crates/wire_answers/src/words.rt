@@ -14,10 +14,10 @@ pub struct Call<'t> {
 
 // The numbers of a word, or `None` where it is none of numbers.
 fn numbers(alloc: Global, word: &str) -> Result<Option<Vec<u64>>, AllocError> {
-    let mut numbers = Vec::new(alloc);
     if word == "-" {
-        return Ok(Some(numbers));
+        return Ok(Some(Vec::new(alloc)));
     }
+    let mut numbers = Vec::new(alloc);
     for digits in word.split(',') {
         let Ok(number) = digits.parse::<u64>() else {
             return Ok(None);
@@ -27,13 +27,10 @@ fn numbers(alloc: Global, word: &str) -> Result<Option<Vec<u64>>, AllocError> {
     Ok(Some(numbers))
 }
 
-// The bytes of a word, or `None` where it is none of bytes.
-fn bytes(alloc: Global, word: &str) -> Result<Option<Vec<u8>>, AllocError> {
-    let Some(numbers) = numbers(alloc, word)? else {
-        return Ok(None);
-    };
+// These numbers as bytes, or `None` where one is too large.
+fn bytes_of(alloc: Global, numbers: &[u64]) -> Result<Option<Vec<u8>>, AllocError> {
     let mut bytes = Vec::new(alloc);
-    for number in &numbers {
+    for number in numbers {
         if *number > 255 {
             return Ok(None);
         }
@@ -42,19 +39,27 @@ fn bytes(alloc: Global, word: &str) -> Result<Option<Vec<u8>>, AllocError> {
     Ok(Some(bytes))
 }
 
-/// The call that a line is, or `None` where it is none.
-pub(super) fn read_call<'t>(alloc: Global, line: &'t str) -> Result<Option<Call<'t>>, AllocError> {
-    let words: Vec<&'t str> = line.split(' ').collect(alloc)?;
-    let [
-        kind @ ("bytes" | "text"),
-        name @ ("read" | "cuts" | "changes"),
-        tree,
-        values,
-    ] = words.as_slice()
-    else {
+// The bytes of a word, or `None` where it is none of bytes.
+fn bytes(alloc: Global, word: &str) -> Result<Option<Vec<u8>>, AllocError> {
+    match numbers(alloc, word)? {
+        Some(numbers) => bytes_of(alloc, &numbers),
+        None => Ok(None),
+    }
+}
+
+// The call with these words for its tree and its values.
+fn call_with<'t>(
+    alloc: Global,
+    line: &'t str,
+    kind: &'t str,
+    name: &'t str,
+    tree: &str,
+    values: &str,
+) -> Result<Option<Call<'t>>, AllocError> {
+    let Some(tree) = bytes(alloc, tree)? else {
         return Ok(None);
     };
-    let (Some(tree), Some(values)) = (bytes(alloc, tree)?, numbers(alloc, values)?) else {
+    let Some(values) = numbers(alloc, values)? else {
         return Ok(None);
     };
     Ok(Some(Call {
@@ -66,6 +71,27 @@ pub(super) fn read_call<'t>(alloc: Global, line: &'t str) -> Result<Option<Call<
     }))
 }
 
+fn is_call(kind: &str, name: &str) -> bool {
+    matches!(kind, "bytes" | "text") && matches!(name, "read" | "cuts" | "changes")
+}
+
+/// The call that a line is, or `None` where it is none.
+pub(super) fn read_call<'t>(alloc: Global, line: &'t str) -> Result<Option<Call<'t>>, AllocError> {
+    let words: Vec<&'t str> = line.split(' ').collect(alloc)?;
+    match words.as_slice() {
+        [kind, name, tree, values] if is_call(kind, name) => {
+            call_with(alloc, line, kind, name, tree, values)
+        }
+        _ => Ok(None),
+    }
+}
+
+fn push_number(alloc: Global, out: &mut String, before: &str, byte: u8) -> Result<(), AllocError> {
+    let digits = byte.to_string(alloc)?;
+    out.push_str(before)?;
+    out.push_str(&digits)
+}
+
 /// Adds bytes with commas between, or `-` where there is none.
 pub(super) fn add_bytes(alloc: Global, out: &mut String, bytes: &[u8]) -> Result<(), AllocError> {
     if bytes.is_empty() {
@@ -73,8 +99,7 @@ pub(super) fn add_bytes(alloc: Global, out: &mut String, bytes: &[u8]) -> Result
     }
     let mut before = "";
     for byte in bytes {
-        out.push_str(before)?;
-        out.push_str(&byte.to_string(alloc)?)?;
+        push_number(alloc, out, before, *byte)?;
         before = ",";
     }
     Ok(())

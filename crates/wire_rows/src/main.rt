@@ -13,14 +13,16 @@ use std::alloc::{AllocError, Global};
 use std::io::{self, Read};
 use words::{Call, Readable};
 
-// The answers to a call over keys of one kind.
-fn answers<'a, Q: Readable<'a>>(alloc: Global, call: &'a Call<'_>) -> Result<String, AllocError> {
-    let mut out = String::new(alloc);
-    words::add(&mut out, "map")?;
-    steps::answer_map::<Q>(alloc, call.name, &call.steps, &mut out)?;
-    words::add(&mut out, "set")?;
-    steps::answer_set::<Q>(alloc, call.name, &call.steps, &mut out)?;
-    Ok(out)
+// Adds the answers to a call over keys of one kind.
+fn add_answers<'a, Q: Readable<'a>>(
+    alloc: Global,
+    call: &'a Call<'_>,
+    out: &mut String,
+) -> Result<(), AllocError> {
+    words::add(out, "map")?;
+    steps::answer_map::<Q>(alloc, call.name, &call.steps, out)?;
+    words::add(out, "set")?;
+    steps::answer_set::<Q>(alloc, call.name, &call.steps, out)
 }
 
 // Writes a call with its answers.
@@ -29,20 +31,29 @@ fn write_answers<'a, Q: Readable<'a>>(
     alloc: Global,
     call: &'a Call<'_>,
 ) -> io::Result<()> {
-    let answers = answers::<Q>(alloc, call)?;
-    println!(rt; "{}:{}", call.line, answers.as_str())
+    let mut out = String::new(alloc);
+    add_answers::<Q>(alloc, call, &mut out)?;
+    println!(rt; "{}:{}", call.line, out.as_str())
+}
+
+fn write_call(rt: &impl Print, alloc: Global, call: &Call<'_>) -> io::Result<()> {
+    match call.kind {
+        "bytes" => write_answers::<&[u8]>(rt, alloc, call),
+        "text" => write_answers::<&str>(rt, alloc, call),
+        _ => Ok(()),
+    }
+}
+
+// Writes the calls of a text with their answers.
+fn write_all(rt: &impl Print, alloc: Global, text: &str) -> io::Result<()> {
+    for call in &words::calls(alloc, text)? {
+        write_call(rt, alloc, call)?;
+    }
+    Ok(())
 }
 
 fn main(rt: HostRuntime) -> io::Result<()> {
-    let alloc = rt.alloc();
-    let mut text = String::new(alloc);
+    let mut text = String::new(rt.alloc());
     rt.stdin().read_to_string(&mut text)?;
-    for call in &words::calls(alloc, &text)? {
-        match call.kind {
-            "bytes" => write_answers::<&[u8]>(&rt, alloc, call)?,
-            "text" => write_answers::<&str>(&rt, alloc, call)?,
-            _ => {}
-        }
-    }
-    Ok(())
+    write_all(&rt, rt.alloc(), &text)
 }

@@ -17,6 +17,39 @@ fn put<Q: BorrowedBytes>(
     }
 }
 
+fn take<Q: BorrowedBytes>(
+    map: &mut GenericPatriciaMap<Q::Owned, u64>,
+    key: Q,
+) -> Result<(), AllocError> {
+    map.remove(key)?;
+    Ok(())
+}
+
+// Adds what a split takes out.
+fn add_split<Q: BorrowedBytes>(
+    alloc: Global,
+    map: &mut GenericPatriciaMap<Q::Owned, u64>,
+    prefix: Q,
+    call: &str,
+    out: &mut String,
+) -> Result<(), AllocError> {
+    let part = map.split_by_prefix(prefix)?;
+    trees::add_map(alloc, &part, call, out)
+}
+
+// Puts each beginning of a key into a map, but the empty one.
+fn put_fronts<'a, Q: Readable<'a>>(
+    map: &mut GenericPatriciaMap<Q::Owned, u64>,
+    step: &'a Step<'_>,
+) -> Result<(), AllocError> {
+    for n in 1..=step.key.len() {
+        if let Some(key) = step.front::<Q>(n) {
+            put(map, key, step.value)?;
+        }
+    }
+    Ok(())
+}
+
 // Makes a step of a map, and adds what a split takes out.
 fn step_map<'a, Q: Readable<'a>>(
     alloc: Global,
@@ -29,18 +62,23 @@ fn step_map<'a, Q: Readable<'a>>(
         return Ok(());
     };
     match step.sign {
-        "+" => put(map, key, step.value)?,
-        "-" => {
-            map.remove(key)?;
-        }
-        "/" => trees::add_map(alloc, &map.split_by_prefix(key)?, call, out)?,
-        _ => {
-            for n in 1..=step.key.len() {
-                if let Some(key) = step.front::<Q>(n) {
-                    put(map, key, step.value)?;
-                }
-            }
-        }
+        "+" => put(map, key, step.value),
+        "-" => take(map, key),
+        "/" => add_split(alloc, map, key, call, out),
+        _ => put_fronts::<Q>(map, step),
+    }
+}
+
+// Makes the steps of a map in turn.
+fn step_all<'a, Q: Readable<'a>>(
+    alloc: Global,
+    map: &mut GenericPatriciaMap<Q::Owned, u64>,
+    call: &str,
+    steps: &'a [Step<'_>],
+    out: &mut String,
+) -> Result<(), AllocError> {
+    for step in steps {
+        step_map::<Q>(alloc, map, call, step, out)?;
     }
     Ok(())
 }
@@ -53,10 +91,49 @@ pub(super) fn answer_map<'a, Q: Readable<'a>>(
     out: &mut String,
 ) -> Result<(), AllocError> {
     let mut map: GenericPatriciaMap<Q::Owned, u64> = GenericPatriciaMap::new(alloc);
-    for step in steps {
-        step_map::<Q>(alloc, &mut map, call, step, out)?;
-    }
+    step_all::<Q>(alloc, &mut map, call, steps, out)?;
     trees::add_map(alloc, &map, call, out)
+}
+
+fn put_element<Q: BorrowedBytes>(
+    set: &mut GenericPatriciaSet<Q::Owned>,
+    key: Q,
+) -> Result<(), AllocError> {
+    set.insert(key)?;
+    Ok(())
+}
+
+fn take_element<Q: BorrowedBytes>(
+    set: &mut GenericPatriciaSet<Q::Owned>,
+    key: Q,
+) -> Result<(), AllocError> {
+    set.remove(key)?;
+    Ok(())
+}
+
+// Adds what a split of a set takes out.
+fn add_split_set<Q: BorrowedBytes>(
+    alloc: Global,
+    set: &mut GenericPatriciaSet<Q::Owned>,
+    prefix: Q,
+    call: &str,
+    out: &mut String,
+) -> Result<(), AllocError> {
+    let part = set.split_by_prefix(prefix)?;
+    trees::add_set(alloc, &part, call, out)
+}
+
+// Puts each beginning of a key into a set, but the empty one.
+fn put_front_elements<'a, Q: Readable<'a>>(
+    set: &mut GenericPatriciaSet<Q::Owned>,
+    step: &'a Step<'_>,
+) -> Result<(), AllocError> {
+    for n in 1..=step.key.len() {
+        if let Some(key) = step.front::<Q>(n) {
+            put_element(set, key)?;
+        }
+    }
+    Ok(())
 }
 
 // Makes a step of a set, and adds what a split takes out.
@@ -71,20 +148,23 @@ fn step_set<'a, Q: Readable<'a>>(
         return Ok(());
     };
     match step.sign {
-        "+" => {
-            set.insert(key)?;
-        }
-        "-" => {
-            set.remove(key)?;
-        }
-        "/" => trees::add_set(alloc, &set.split_by_prefix(key)?, call, out)?,
-        _ => {
-            for n in 1..=step.key.len() {
-                if let Some(key) = step.front::<Q>(n) {
-                    set.insert(key)?;
-                }
-            }
-        }
+        "+" => put_element(set, key),
+        "-" => take_element(set, key),
+        "/" => add_split_set(alloc, set, key, call, out),
+        _ => put_front_elements::<Q>(set, step),
+    }
+}
+
+// Makes the steps of a set in turn.
+fn step_all_of_set<'a, Q: Readable<'a>>(
+    alloc: Global,
+    set: &mut GenericPatriciaSet<Q::Owned>,
+    call: &str,
+    steps: &'a [Step<'_>],
+    out: &mut String,
+) -> Result<(), AllocError> {
+    for step in steps {
+        step_set::<Q>(alloc, set, call, step, out)?;
     }
     Ok(())
 }
@@ -97,8 +177,6 @@ pub(super) fn answer_set<'a, Q: Readable<'a>>(
     out: &mut String,
 ) -> Result<(), AllocError> {
     let mut set: GenericPatriciaSet<Q::Owned> = GenericPatriciaSet::new(alloc);
-    for step in steps {
-        step_set::<Q>(alloc, &mut set, call, step, out)?;
-    }
+    step_all_of_set::<Q>(alloc, &mut set, call, steps, out)?;
     trees::add_set(alloc, &set, call, out)
 }

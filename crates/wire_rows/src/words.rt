@@ -41,10 +41,15 @@ fn part(alloc: Global, text: &str) -> Result<Vec<u8>, AllocError> {
     }
 }
 
+fn push_part(alloc: Global, key: &mut Vec<u8>, text: &str) -> Result<(), AllocError> {
+    let part = part(alloc, text)?;
+    key.extend_from_slice(&part)
+}
+
 fn key(alloc: Global, text: &str) -> Result<Vec<u8>, AllocError> {
     let mut key = Vec::new(alloc);
     for text in text.split('.') {
-        key.extend_from_slice(&part(alloc, text)?)?;
+        push_part(alloc, &mut key, text)?;
     }
     Ok(key)
 }
@@ -92,19 +97,39 @@ fn steps<'t>(alloc: Global, words: &[&'t str]) -> Result<Vec<Step<'t>>, AllocErr
     Ok(steps)
 }
 
+// Adds the call that the words of a line are, if they are one.
+fn push_call<'t>(
+    alloc: Global,
+    calls: &mut Vec<Call<'t>>,
+    line: &'t str,
+    words: &[&'t str],
+) -> Result<(), AllocError> {
+    if let [kind, name, words @ ..] = words {
+        let steps = steps(alloc, words)?;
+        calls.push(Call {
+            line,
+            kind,
+            name,
+            steps,
+        })?;
+    }
+    Ok(())
+}
+
+fn push_line<'t>(
+    alloc: Global,
+    calls: &mut Vec<Call<'t>>,
+    line: &'t str,
+) -> Result<(), AllocError> {
+    let words: Vec<&'t str> = line.split(' ').collect(alloc)?;
+    push_call(alloc, calls, line, &words)
+}
+
 /// The calls among the lines of a text.
 pub(super) fn calls<'t>(alloc: Global, text: &'t str) -> Result<Vec<Call<'t>>, AllocError> {
     let mut calls = Vec::new(alloc);
     for line in text.lines() {
-        let words: Vec<&'t str> = line.split(' ').collect(alloc)?;
-        if let [kind, name, words @ ..] = words.as_slice() {
-            calls.push(Call {
-                line,
-                kind,
-                name,
-                steps: steps(alloc, words)?,
-            })?;
-        }
+        push_line(alloc, &mut calls, line)?;
     }
     Ok(calls)
 }
@@ -115,12 +140,23 @@ pub(super) fn add(out: &mut String, answer: &str) -> Result<(), AllocError> {
     out.push_str(answer)
 }
 
+/// Adds a number.
+pub(super) fn add_number(alloc: Global, out: &mut String, number: u64) -> Result<(), AllocError> {
+    let digits = number.to_string(alloc)?;
+    add(out, &digits)
+}
+
+fn push_number(alloc: Global, out: &mut String, before: &str, byte: u8) -> Result<(), AllocError> {
+    let digits = byte.to_string(alloc)?;
+    out.push_str(before)?;
+    out.push_str(&digits)
+}
+
 /// Adds numbers with commas between, as one answer.
 pub(super) fn add_numbers(alloc: Global, out: &mut String, bytes: &[u8]) -> Result<(), AllocError> {
     let mut before = " ";
     for byte in bytes {
-        out.push_str(before)?;
-        out.push_str(&byte.to_string(alloc)?)?;
+        push_number(alloc, out, before, *byte)?;
         before = ",";
     }
     Ok(())

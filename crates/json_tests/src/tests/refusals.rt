@@ -1,5 +1,8 @@
 // One memory request is refused: the call that it is for answers so, and is made again. `.ci/run`
 // runs this test with the Nth memory request refused, for each N.
+ghost use Rattle.std.specs.Prelude.{IfOk};
+ghost use Rattle.patricia_json.specs.Pairs.{HaveNoFloat};
+
 use super::helpers::{are_values, values_of};
 use patricia_json::{JsonError, pair_from_json, pair_to_json};
 use serde_json::Value;
@@ -13,49 +16,67 @@ const BYTES: &[u8] = &[3, 0, 0, 0, 255];
 
 const ITEMS: &[Option<u64>] = &[Some(u64::MAX), None, Some(7), Some(8), Some(9)];
 
-// Writes the text, and answers how many refusals there were.
-fn write_again(rt: &impl Abort, alloc: Global) -> Result<usize, AllocError> {
-    let (values, refusals) = match values_of(alloc, ITEMS) {
-        Ok(values) => (values, 0),
-        Err(_) => (values_of(alloc, ITEMS)?, 1),
-    };
-    if let Ok(text) = pair_to_json(alloc, BYTES, values) {
-        assert_eq!(rt; text.as_str(), TEXT);
-        return Ok(refusals);
+// The values, and how many refusals there were.
+fn values_again(alloc: Global) -> Result<(Vec<Value>, usize), AllocError>
+    ensures { IfOk result (λ made. HaveNoFloat made.0.items) }
+{
+    if let Ok(values) = values_of(alloc, ITEMS) {
+        return Ok((values, 0));
     }
-    let text = pair_to_json(alloc, BYTES, values_of(alloc, ITEMS)?)?;
-    assert_eq!(rt; text.as_str(), TEXT);
-    Ok(refusals + 1)
+    Ok((values_of(alloc, ITEMS)?, 1))
 }
 
-// Whether the bytes and the values are those of the text.
-fn are_right(bytes: &[u8], values: &[Value]) -> bool {
-    bytes == BYTES && are_values(values, ITEMS)
+// The text, and how many refusals there were.
+fn text_again(alloc: Global, values: Vec<Value>) -> Result<(String, usize), AllocError>
+    requires { HaveNoFloat values.items }
+{
+    if let Ok(text) = pair_to_json(alloc, BYTES, values) {
+        return Ok((text, 0));
+    }
+    let values = values_of(alloc, ITEMS)?;
+    Ok((pair_to_json(alloc, BYTES, values)?, 1))
+}
+
+// Writes the text, and answers how many refusals there were.
+fn write_again(rt: &impl Abort, alloc: Global) -> Result<usize, AllocError> {
+    let (values, refusals) = values_again(alloc)?;
+    let (text, more) = text_again(alloc, values)?;
+    assert_eq!(rt; text.as_str(), TEXT);
+    Ok(refusals.saturating_add(more))
+}
+
+// Reads the text, and answers whether the bytes and the values are right.
+fn is_right(alloc: Global) -> Result<bool, JsonError> {
+    let (bytes, values) = pair_from_json(alloc, TEXT)?;
+    Ok(bytes.as_slice() == BYTES && are_values(&values, ITEMS))
 }
 
 // Reads the text, and answers how many refusals there were.
 fn read_again(rt: &impl Abort, alloc: Global) -> Result<usize, JsonError> {
-    match pair_from_json(alloc, TEXT) {
-        Ok((bytes, values)) => {
-            assert!(rt; are_right(&bytes, &values));
-            return Ok(0);
+    let (holds, refusals) = match is_right(alloc) {
+        Ok(holds) => (holds, 0),
+        Err(fault) => {
+            assert_eq!(rt; fault, JsonError::Memory);
+            (is_right(alloc)?, 1)
         }
-        Err(fault) => assert_eq!(rt; fault, JsonError::Memory),
-    }
-    let (bytes, values) = pair_from_json(alloc, TEXT)?;
-    assert!(rt; are_right(&bytes, &values));
-    Ok(1)
+    };
+    assert!(rt; holds);
+    Ok(refusals)
+}
+
+// The fault of a text that is no pair.
+fn fault(alloc: Global) -> Option<JsonError> {
+    pair_from_json(alloc, "[[3,256],[7]]").err()
 }
 
 // Reads a text that is no pair, and answers how many refusals there were.
 fn refuse_again(rt: &impl Abort, alloc: Global) -> usize {
-    let text = "[[3,256],[7]]";
-    let fault = pair_from_json(alloc, text).err();
-    if fault == Some(JsonError::Json) {
+    let first = fault(alloc);
+    if first == Some(JsonError::Json) {
         return 0;
     }
-    assert_eq!(rt; fault, Some(JsonError::Memory));
-    assert_eq!(rt; pair_from_json(alloc, text).err(), Some(JsonError::Json));
+    assert_eq!(rt; first, Some(JsonError::Memory));
+    assert_eq!(rt; fault(alloc), Some(JsonError::Json));
     1
 }
 

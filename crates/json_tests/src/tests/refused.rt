@@ -1,5 +1,13 @@
 use patricia_json::{JsonError, pair_from_json};
+use std::alloc::{AllocError, Global};
+use std::process::Abort;
 use std::test::Fail;
+
+// Asserts that a text is no pair.
+fn check_no_pair(rt: &impl Abort, alloc: Global, text: &str) {
+    let fault = pair_from_json(alloc, text).err();
+    assert_eq!(rt; fault, Some(JsonError::Json), "{text}");
+}
 
 const NO_PAIRS: [&str; 14] = [
     "",
@@ -21,8 +29,7 @@ const NO_PAIRS: [&str; 14] = [
 #[test]
 fn no_pairs(rt: HostRuntime) {
     for text in NO_PAIRS {
-        let read = pair_from_json(rt.alloc(), text);
-        assert_eq!(rt; read.err(), Some(JsonError::Json), "{text}");
+        check_no_pair(&rt, rt.alloc(), text);
     }
 }
 
@@ -38,37 +45,87 @@ const FLOATS: [&str; 8] = [
     "1e999",
 ];
 
+// Asserts that a floating-point number between two texts makes no pair.
+fn check_float(
+    rt: &impl Abort,
+    alloc: Global,
+    before: &str,
+    float: &str,
+    after: &str,
+) -> Result<(), AllocError> {
+    let text = format!(in alloc; "{before}{float}{after}")?;
+    check_no_pair(rt, alloc, &text);
+    Ok(())
+}
+
+// As a byte, as a value, and within a value.
+const PLACES: [(&str, &str); 3] = [
+    ("[[", "],[]]"),
+    ("[[1],[2,", "]]"),
+    ("[[1],[[{\"k\":[", "]}],2]]"),
+];
+
+fn check_places(rt: &impl Abort, alloc: Global, float: &str) -> Result<(), AllocError> {
+    for (before, after) in &PLACES {
+        check_float(rt, alloc, before, float, after)?;
+    }
+    Ok(())
+}
+
 #[test]
 fn floats_as_bytes_and_in_values(rt: HostRuntime) -> Result<(), Fail> {
     for float in FLOATS {
-        for text in [
-            format!(in rt.alloc(); "[[{float}],[]]")?,
-            format!(in rt.alloc(); "[[1],[2,{float}]]")?,
-            format!(in rt.alloc(); "[[1],[[{{\"k\":[{float}]}}],2]]")?,
-        ] {
-            let read = pair_from_json(rt.alloc(), &text);
-            assert_eq!(rt; read.err(), Some(JsonError::Json), "{text}");
-        }
+        check_places(&rt, rt.alloc(), float)?;
     }
+    Ok(())
+}
+
+// A pair with a value of so many nested arrays.
+fn nested(alloc: Global, depth: usize) -> Result<String, AllocError> {
+    let opened = "[".repeat(alloc, depth)?;
+    let closed = "]".repeat(alloc, depth)?;
+    format!(in alloc; "[[1],[{opened}{closed}]]")
+}
+
+// Asserts how so many nested arrays are refused.
+fn check_nested(
+    rt: &impl Abort,
+    alloc: Global,
+    depth: usize,
+    fault: Option<JsonError>,
+) -> Result<(), AllocError> {
+    let text = nested(alloc, depth)?;
+    assert_eq!(rt; pair_from_json(alloc, &text).err(), fault);
     Ok(())
 }
 
 #[test]
 fn nested_too_deep(rt: HostRuntime) -> Result<(), Fail> {
-    for (depth, fault) in [(125usize, None), (126, Some(JsonError::Json))] {
-        let opened = "[".repeat(rt.alloc(), depth)?;
-        let closed = "]".repeat(rt.alloc(), depth)?;
-        let text = format!(in rt.alloc(); "[[1],[{opened}{closed}]]")?;
-        assert_eq!(rt; pair_from_json(rt.alloc(), &text).err(), fault);
-    }
+    check_nested(&rt, rt.alloc(), 125, None)?;
+    check_nested(&rt, rt.alloc(), 126, Some(JsonError::Json))?;
+    Ok(())
+}
+
+// Asserts the text of an error.
+fn check_text(
+    rt: &impl Abort,
+    alloc: Global,
+    fault: JsonError,
+    wanted: &str,
+) -> Result<(), AllocError> {
+    let text = fault.to_string(alloc)?;
+    assert_eq!(rt; text.as_str(), wanted);
     Ok(())
 }
 
 #[test]
 fn texts_of_errors(rt: HostRuntime) -> Result<(), Fail> {
-    let memory = JsonError::Memory.to_string(rt.alloc())?;
-    assert_eq!(rt; memory.as_str(), "out of memory");
-    let json = JsonError::Json.to_string(rt.alloc())?;
-    assert_eq!(rt; json.as_str(), "not the JSON of a wire pair");
+    check_text(&rt, rt.alloc(), JsonError::Memory, "out of memory")?;
+    check_text(
+        &rt,
+        rt.alloc(),
+        JsonError::Json,
+        "not the JSON of a wire pair",
+    )?;
     Ok(())
 }

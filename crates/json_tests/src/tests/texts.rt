@@ -33,12 +33,30 @@ const PAIRS: [(&str, &[u8], &[Option<u64>]); 5] = [
     ("[[],[]]", b"", &[]),
 ];
 
+// The text of the bytes and the values.
+fn written(alloc: Global, bytes: &[u8], items: &[Option<u64>]) -> Result<String, AllocError> {
+    let values = values_of(alloc, items)?;
+    pair_to_json(alloc, bytes, values)
+}
+
+// Asserts that the bytes and the values are written as a text, and read from it.
+fn check_pair(
+    rt: &impl Abort,
+    alloc: Global,
+    text: &str,
+    bytes: &[u8],
+    items: &[Option<u64>],
+) -> Result<(), Fail> {
+    let json = written(alloc, bytes, items)?;
+    assert_eq!(rt; json.as_str(), text);
+    assert!(rt; is_read_as(alloc, text, bytes, items)?);
+    Ok(())
+}
+
 #[test]
 fn written_and_read(rt: HostRuntime) -> Result<(), Fail> {
     for (text, bytes, items) in &PAIRS {
-        let values = values_of(rt.alloc(), items)?;
-        assert_eq!(rt; pair_to_json(rt.alloc(), bytes, values)?.as_str(), *text);
-        assert!(rt; is_read_as(rt.alloc(), text, bytes, items)?);
+        check_pair(&rt, rt.alloc(), text, bytes, items)?;
     }
     Ok(())
 }
@@ -56,20 +74,27 @@ fn rewritten(alloc: Global, text: &str) -> Result<String, Fail> {
     Ok(pair_to_json(alloc, &bytes, values)?)
 }
 
+// Asserts what a text is written as once it is read.
+fn check_rewritten(rt: &impl Abort, alloc: Global, text: &str, wanted: &str) -> Result<(), Fail> {
+    let json = rewritten(alloc, text)?;
+    assert_eq!(rt; json.as_str(), wanted);
+    Ok(())
+}
+
 #[test]
 fn values_of_each_kind(rt: HostRuntime) -> Result<(), Fail> {
     for text in [
         "[[1],[true,false,\"a\\\"b\",[],{},[[null],{\"k\":[1]}]]]",
         "[[],[18446744073709551615,-9223372036854775808]]",
     ] {
-        assert_eq!(rt; rewritten(rt.alloc(), text)?.as_str(), text);
+        check_rewritten(&rt, rt.alloc(), text, text)?;
     }
     Ok(())
 }
 
 #[test]
 fn the_later_of_two_members_stays(rt: HostRuntime) -> Result<(), Fail> {
-    let text = rewritten(rt.alloc(), "[[],[{\"b\":1,\"a\":2,\"b\":3}]]")?;
-    assert_eq!(rt; text.as_str(), "[[],[{\"a\":2,\"b\":3}]]");
+    let text = "[[],[{\"b\":1,\"a\":2,\"b\":3}]]";
+    check_rewritten(&rt, rt.alloc(), text, "[[],[{\"a\":2,\"b\":3}]]")?;
     Ok(())
 }

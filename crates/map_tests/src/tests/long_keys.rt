@@ -17,6 +17,19 @@ fn put_one<Q: BorrowedBytes>(
     Ok(())
 }
 
+// Puts in a text that is some characters.
+fn put_long_text(
+    rt: &impl Abort,
+    alloc: Global,
+    map: &mut StringPatriciaMap<u64>,
+    character: &str,
+    times: usize,
+) -> Result<(), AllocError> {
+    let key = character.repeat(alloc, times)?;
+    let longer = format!(in alloc; "{key}ん")?;
+    put_one(rt, map, key.as_str(), longer.as_str())
+}
+
 // Puts in texts of one character, each of so many bytes or a little less.
 fn put_long_texts(
     rt: &impl Abort,
@@ -26,9 +39,7 @@ fn put_long_texts(
 ) -> Result<(), AllocError> {
     for bytes in 252..514usize {
         let times = bytes.checked_div(character.len()).unwrap_or(0);
-        let key = character.repeat(alloc, times)?;
-        let longer = format!(in alloc; "{key}ん")?;
-        put_one(rt, map, key.as_str(), longer.as_str())?;
+        put_long_text(rt, alloc, map, character, times)?;
     }
     Ok(())
 }
@@ -36,12 +47,20 @@ fn put_long_texts(
 // Characters of each width, and how many keys there are once the texts of each are in.
 const CHARACTERS: [(&str, usize); 4] = [("a", 262), ("ß", 393), ("あ", 481), ("🌏", 547)];
 
-#[test]
-fn long_texts_of_each_width(rt: HostRuntime) -> Result<(), AllocError> {
-    let mut map = StringPatriciaMap::new(rt.alloc());
+fn put_each_width(
+    rt: &impl Abort,
+    alloc: Global,
+    map: &mut StringPatriciaMap<u64>,
+) -> Result<(), AllocError> {
     for (character, len) in &CHARACTERS {
-        put_long_texts(&rt, rt.alloc(), &mut map, character)?;
+        put_long_texts(rt, alloc, map, character)?;
         assert!(rt; map.len() == *len);
     }
     Ok(())
+}
+
+#[test]
+fn long_texts_of_each_width(rt: HostRuntime) -> Result<(), AllocError> {
+    let mut map = StringPatriciaMap::new(rt.alloc());
+    put_each_width(&rt, rt.alloc(), &mut map)
 }

@@ -80,7 +80,20 @@ const SHORT: [&[u8]; 40] = [
     b"w", b"x", b"y", b"ha", b"hb", b"ia", b"ib", b"ja", b"jb", b"ka", b"kb",
 ];
 
-// Puts all of these keys into a map, and then the others.
+// Puts all of these keys into an empty map, and then the others.
+fn put_both<Q: BorrowedBytes>(
+    rt: &impl Abort,
+    map: &mut GenericPatriciaMap<Q::Owned, u64>,
+    long: &[Q],
+    short: &[Q],
+) -> Result<(), AllocError> {
+    put_all(rt, map, long)?;
+    put_all(rt, map, short)?;
+    assert!(rt; has_all(map, long));
+    assert!(rt; map.len() == long.len().saturating_add(short.len()));
+    Ok(())
+}
+
 fn check_inserts<Q: BorrowedBytes>(
     rt: &impl Abort,
     alloc: Global,
@@ -88,11 +101,7 @@ fn check_inserts<Q: BorrowedBytes>(
     short: &[Q],
 ) -> Result<(), AllocError> {
     let mut map = GenericPatriciaMap::new(alloc);
-    put_all(rt, &mut map, long)?;
-    put_all(rt, &mut map, short)?;
-    assert!(rt; has_all(&map, long));
-    assert!(rt; map.len() == long.len().saturating_add(short.len()));
-    Ok(())
+    put_both(rt, &mut map, long, short)
 }
 
 #[test]
@@ -160,19 +169,27 @@ const REMOVALS: [&str; 12] = [
     "あいうえおかきくけこさうううううううううううい",
 ];
 
-// Puts keys into a map, and takes them out. A refused insert ends this, since it is another's
+// Puts keys into an empty map, and takes them out. A refused insert ends this, since it is another's
 // matter.
+fn put_and_remove<Q: BorrowedBytes>(
+    rt: &impl Abort,
+    map: &mut GenericPatriciaMap<Q::Owned, u64>,
+    keys: &[Q],
+) -> Result<(), AllocError> {
+    if is_put(map, keys) {
+        remove_all(rt, map, keys)?;
+        assert!(rt; map.is_empty());
+    }
+    Ok(())
+}
+
 fn check_removals<Q: BorrowedBytes>(
     rt: &impl Abort,
     alloc: Global,
     keys: &[Q],
 ) -> Result<(), AllocError> {
     let mut map = GenericPatriciaMap::new(alloc);
-    if is_put(&mut map, keys) {
-        remove_all(rt, &mut map, keys)?;
-        assert!(rt; map.is_empty());
-    }
-    Ok(())
+    put_and_remove(rt, &mut map, keys)
 }
 
 #[test]

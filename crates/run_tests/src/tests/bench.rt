@@ -3,34 +3,49 @@
 use patricia_run::run::run;
 use patricia_run::{Bench, Command, Reply};
 use patricia_tree::{BorrowedBytes, Bytes};
-use std::alloc::Global;
+use std::alloc::{AllocError, Global};
 use std::process::Abort;
-use std::test::Fail;
 
 // The value or the count that a reply has, the number of its rows, or that of its tree bytes.
 fn number<K: Bytes>(reply: &Reply<K, u32>) -> Option<u32> {
-    match reply {
-        Reply::Some(value) | Reply::Longest(_, value) => Some(*value),
-        Reply::Count(count) => u32::try_from(*count).ok(),
-        Reply::Rows(rows) => u32::try_from(rows.len()).ok(),
-        Reply::Wire(bytes, _) => u32::try_from(bytes.len()).ok(),
-        _ => None,
+    let count = match reply {
+        Reply::Some(value) | Reply::Longest(_, value) => return Some(*value),
+        Reply::Count(count) => *count,
+        Reply::Rows(rows) => rows.len(),
+        Reply::Wire(bytes, _) => bytes.len(),
+        _ => return None,
+    };
+    u32::try_from(count).ok()
+}
+
+// Whether replies have these numbers.
+fn are_numbers<K: Bytes>(replies: &[Reply<K, u32>], numbers: &[Option<u32>]) -> bool {
+    for (reply, wanted) in replies.iter().zip(numbers) {
+        if number(reply) != *wanted {
+            return false;
+        }
     }
+    replies.len() == numbers.len()
+}
+
+// What a new bench replies.
+fn replies<Q: BorrowedBytes>(
+    alloc: Global,
+    commands: &[Command<Q, u32>],
+) -> Result<Vec<Reply<Q::Owned, u32>>, AllocError> {
+    let mut bench: Bench<Q::Owned, u32> = Bench::new(alloc);
+    run(&mut bench, commands)
 }
 
 // Asserts that a run of a new bench replies with these numbers, over keys of any kind.
-fn check_numbers<K: Bytes, Q: BorrowedBytes<Owned = K>>(
+fn check_numbers<Q: BorrowedBytes>(
     rt: &impl Abort,
     alloc: Global,
     commands: &[Command<Q, u32>],
     wanted: &[Option<u32>],
-) -> Result<(), Fail> {
-    let mut bench: Bench<K, u32> = Bench::new(alloc);
-    let mut numbers = Vec::new(alloc);
-    for reply in run(&mut bench, commands)? {
-        numbers.push(number(&reply))?;
-    }
-    assert_eq!(rt; numbers.as_slice(), wanted);
+) -> Result<(), AllocError> {
+    let replies = replies(alloc, commands)?;
+    assert!(rt; are_numbers(&replies, wanted));
     Ok(())
 }
 
@@ -82,37 +97,37 @@ const NUMBERS: [Option<u32>; 19] = [
 ];
 
 #[test]
-fn runs_over_texts(rt: HostRuntime) -> Result<(), Fail> {
+fn runs_over_texts(rt: HostRuntime) -> Result<(), AllocError> {
     check_numbers(&rt, rt.alloc(), &commands("foo", "fo"), &NUMBERS)
 }
 
 #[test]
-fn runs_over_bytes(rt: HostRuntime) -> Result<(), Fail> {
+fn runs_over_bytes(rt: HostRuntime) -> Result<(), AllocError> {
     let commands = commands(b"foo".as_slice(), b"fo".as_slice());
     check_numbers(&rt, rt.alloc(), &commands, &NUMBERS)
 }
 
+const EACH_ONCE: [Command<&[u8], u32>; 15] = [
+    Command::Insert(b"foo", 1),
+    Command::Get(b"foo"),
+    Command::Remove(b"foo"),
+    Command::Len,
+    Command::List,
+    Command::Under(b"foo"),
+    Command::Along(b"foo"),
+    Command::Longest(b"foo"),
+    Command::Reach(b"foo"),
+    Command::Split(b"foo"),
+    Command::Swap,
+    Command::Copy,
+    Command::Clear,
+    Command::Wire,
+    Command::Reload,
+];
+
 #[test]
-fn replies_to_each_command_once(rt: HostRuntime) -> Result<(), Fail> {
-    let key = b"foo".as_slice();
-    let commands: [Command<&[u8], u32>; 15] = [
-        Command::Insert(key, 1),
-        Command::Get(key),
-        Command::Remove(key),
-        Command::Len,
-        Command::List,
-        Command::Under(key),
-        Command::Along(key),
-        Command::Longest(key),
-        Command::Reach(key),
-        Command::Split(key),
-        Command::Swap,
-        Command::Copy,
-        Command::Clear,
-        Command::Wire,
-        Command::Reload,
-    ];
-    let mut bench: Bench<Vec<u8>, u32> = Bench::new(rt.alloc());
-    assert_eq!(&rt; run(&mut bench, &commands)?.len(), 15);
+fn replies_to_each_command_once(rt: HostRuntime) -> Result<(), AllocError> {
+    let replies = replies(rt.alloc(), &EACH_ONCE)?;
+    assert!(&rt; replies.len() == 15);
     Ok(())
 }

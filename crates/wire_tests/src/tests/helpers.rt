@@ -6,15 +6,19 @@ fn push_record(tree: &mut Vec<u8>, flags: u8, level: u16) -> Result<(), AllocErr
     tree.extend_from_slice(&[flags, 1, high, low, b'a'])
 }
 
+fn push_chain(tree: &mut Vec<u8>, flags: u8, last: u8) -> Result<(), AllocError> {
+    tree.extend_from_slice(&[12, 0, 0, 0])?;
+    for level in 1..u16::MAX {
+        push_record(tree, flags, level)?;
+    }
+    push_record(tree, last, u16::MAX)
+}
+
 // A chain: a root, and below it a record for each level that can be written. All but the last have
 // the same flags.
 pub(super) fn chain(alloc: Global, flags: u8, last: u8) -> Result<Vec<u8>, AllocError> {
     let mut tree = Vec::new(alloc);
-    tree.extend_from_slice(&[12, 0, 0, 0])?;
-    for level in 1..u16::MAX {
-        push_record(&mut tree, flags, level)?;
-    }
-    push_record(&mut tree, last, u16::MAX)?;
+    push_chain(&mut tree, flags, last)?;
     Ok(tree)
 }
 

@@ -70,13 +70,36 @@ fn run_over(
     (status, progress)
 }
 
+// Whether what was written and read is the same.
+fn is_same(got: End<'_>, wanted: End<'_>) -> bool {
+    (got.output == wanted.output) & (got.errors == wanted.errors) & (got.read == wanted.read)
+}
+
 // Asserts what a run came to.
 fn check_end(rt: &impl Abort, got: End<'_>, wanted: End<'_>) {
     assert_eq!(rt; got.status, wanted.status);
-    assert_eq!(rt; got.output.len(), wanted.output.len());
-    assert!(rt; got.output == wanted.output);
-    assert_eq!(rt; got.errors, wanted.errors);
-    assert_eq!(rt; got.read, wanted.read);
+    assert!(rt; is_same(got, wanted));
+}
+
+// Asserts what a run over such streams comes to, with these words.
+fn check_words(
+    rt: &impl Abort,
+    alloc: Global,
+    words: &[String],
+    text: &[u8],
+    streams: Streams,
+    wanted: End<'_>,
+) {
+    let mut output = Vec::new(alloc);
+    let mut errors = Vec::new(alloc);
+    let (status, read) = run_over(alloc, words, text, streams, &mut output, &mut errors);
+    let got = End {
+        status,
+        output: &output,
+        errors: &errors,
+        read,
+    };
+    check_end(rt, got, wanted);
 }
 
 // Asserts what a run over such streams comes to.
@@ -89,16 +112,7 @@ fn check_run(
     wanted: End<'_>,
 ) -> Result<(), AllocError> {
     let words = list_of(alloc, words)?;
-    let mut output = Vec::new(alloc);
-    let mut errors = Vec::new(alloc);
-    let (status, read) = run_over(alloc, &words, text, streams, &mut output, &mut errors);
-    let got = End {
-        status,
-        output: &output,
-        errors: &errors,
-        read,
-    };
-    check_end(rt, got, wanted);
+    check_words(rt, alloc, &words, text, streams, wanted);
     Ok(())
 }
 
@@ -132,11 +146,9 @@ fn answers_for_each_kind(rt: HostRuntime) -> Result<(), AllocError> {
 // Want of memory that is not real meets the contracts of a wire. So its whole answer is asked for.
 #[test]
 fn wires_for_each_kind(rt: HostRuntime) -> Result<(), AllocError> {
-    let alloc = rt.alloc();
     let text = b"wire\ninsert\ta\t7\nwire\nwire\tx\n".as_slice();
     let output = b"wire 0,0,0,0 -\nnone\nwire 12,0,0,0,3,1,0,1,97 7\nfault 2\n".as_slice();
-    check_answer(&rt, alloc, "bytes", text, output)?;
-    check_answer(&rt, alloc, "text", text, output)
+    check_answers(&rt, rt.alloc(), text, output)
 }
 
 // Asserts the status 1, what was written and the error line of a short run.
@@ -161,45 +173,50 @@ fn check_failure(
     check_run(rt, alloc, &["bytes"], text, streams, end)
 }
 
+const FAILS: Streams = Streams {
+    read_failure: Some(ErrorKind::Other),
+    ..SOUND
+};
+
+const STARVED: Streams = Streams {
+    read_failure: Some(ErrorKind::OutOfMemory),
+    ..SOUND
+};
+
+const MUTE: Streams = Streams {
+    error_room: 0,
+    ..FAILS
+};
+
+const FULL: Streams = Streams { room: 0, ..SOUND };
+
+const SMALL: Streams = Streams { room: 3, ..SOUND };
+
+const CURT: Streams = Streams {
+    error_room: 5,
+    ..SMALL
+};
+
+const STUCK: Streams = Streams {
+    fails_to_flush: true,
+    ..SOUND
+};
+
 // Want of memory while the input is read counts as a failure to read.
 #[test]
 fn failures_to_read(rt: HostRuntime) -> Result<(), AllocError> {
-    let alloc = rt.alloc();
-    let fails = Streams {
-        read_failure: Some(ErrorKind::Other),
-        ..SOUND
-    };
-    check_failure(&rt, alloc, fails, "", READ_FAILED)?;
-    let mute = Streams {
-        error_room: 0,
-        ..fails
-    };
-    check_failure(&rt, alloc, mute, "", "")?;
-    let starved = Streams {
-        read_failure: Some(ErrorKind::OutOfMemory),
-        ..SOUND
-    };
-    check_failure(&rt, alloc, starved, "", READ_FAILED)
+    check_failure(&rt, rt.alloc(), FAILS, "", READ_FAILED)?;
+    check_failure(&rt, rt.alloc(), MUTE, "", "")?;
+    check_failure(&rt, rt.alloc(), STARVED, "", READ_FAILED)
 }
 
 // An answer that was not taken whole, or not flushed, is a failure to write.
 #[test]
 fn failures_to_write(rt: HostRuntime) -> Result<(), AllocError> {
-    let alloc = rt.alloc();
-    let full = Streams { room: 0, ..SOUND };
-    check_failure(&rt, alloc, full, "", WRITE_FAILED)?;
-    let small = Streams { room: 3, ..SOUND };
-    check_failure(&rt, alloc, small, "non", WRITE_FAILED)?;
-    let curt = Streams {
-        error_room: 5,
-        ..small
-    };
-    check_failure(&rt, alloc, curt, "non", "ptree")?;
-    let stuck = Streams {
-        fails_to_flush: true,
-        ..SOUND
-    };
-    check_failure(&rt, alloc, stuck, "none\nsome 7\n", WRITE_FAILED)
+    check_failure(&rt, rt.alloc(), FULL, "", WRITE_FAILED)?;
+    check_failure(&rt, rt.alloc(), SMALL, "non", WRITE_FAILED)?;
+    check_failure(&rt, rt.alloc(), CURT, "non", "ptree")?;
+    check_failure(&rt, rt.alloc(), STUCK, "none\nsome 7\n", WRITE_FAILED)
 }
 
 // Asserts that words are refused before the input is asked for anything.
@@ -224,42 +241,57 @@ fn check_usage(
     check_run(rt, alloc, words, b"len\n".as_slice(), streams, end)
 }
 
+// Words that are refused, how much room there is for the line of usage, and what is written of it.
+const REFUSED_WORDS: [(&[&str], usize, &str); 6] = [
+    (&[], 100, USAGE),
+    (&["Bytes"], 100, USAGE),
+    (&["texts"], 100, USAGE),
+    (&[""], 100, USAGE),
+    (&["text", "bytes"], 100, USAGE),
+    (&["bytes", "bytes"], 0, ""),
+];
+
 #[test]
 fn usage(rt: HostRuntime) -> Result<(), AllocError> {
-    let alloc = rt.alloc();
-    check_usage(&rt, alloc, &[], 100, USAGE)?;
-    check_usage(&rt, alloc, &["Bytes"], 100, USAGE)?;
-    check_usage(&rt, alloc, &["texts"], 100, USAGE)?;
-    check_usage(&rt, alloc, &[""], 100, USAGE)?;
-    check_usage(&rt, alloc, &["text", "bytes"], 100, USAGE)?;
-    check_usage(&rt, alloc, &["bytes", "bytes"], 0, "")
+    for (words, error_room, errors) in &REFUSED_WORDS {
+        check_usage(&rt, rt.alloc(), words, *error_room, errors)?;
+    }
+    Ok(())
 }
 
 // More than 65,535 commands: more than 20,000 entries, many looks at no key, and a long key.
-fn large_input(alloc: Global, long: &[u8]) -> Result<Vec<u8>, AllocError> {
-    let mut input = Vec::new(alloc);
-    add_numbers(alloc, &mut input, "insert\t", (10_000, 30_100), "\t7\n")?;
-    add_times(&mut input, b"get\t\n", 45_500)?;
-    add_all(&mut input, &[b"insert\t", long, b"\t8\nlist\n"])?;
-    Ok(input)
+fn add_large_input(alloc: Global, input: &mut Vec<u8>, long: &[u8]) -> Result<(), AllocError> {
+    add_numbers(alloc, input, "insert\t", (10_000, 30_100), "\t7\n")?;
+    add_times(input, b"get\t\n", 45_500)?;
+    add_all(input, &[b"insert\t", long, b"\t8\nlist\n"])
 }
 
 // What the large input is answered. The numbers are in key order, since they are of one length.
-fn large_output(alloc: Global, long: &[u8]) -> Result<Vec<u8>, AllocError> {
-    let mut output = Vec::new(alloc);
-    add_times(&mut output, b"none\n", 20_100 + 45_500 + 1)?;
-    add_all(&mut output, &[b"rows 20101\n"])?;
-    add_numbers(alloc, &mut output, "", (10_000, 30_100), " 7\n")?;
-    add_all(&mut output, &[long, b" 8\n"])?;
-    Ok(output)
+fn add_large_output(alloc: Global, output: &mut Vec<u8>, long: &[u8]) -> Result<(), AllocError> {
+    add_times(output, b"none\n", 20_100 + 45_500 + 1)?;
+    add_all(output, &[b"rows 20101\n"])?;
+    add_numbers(alloc, output, "", (10_000, 30_100), " 7\n")?;
+    add_all(output, &[long, b" 8\n"])
+}
+
+// Asserts the answer to an input, over keys of each kind.
+fn check_answers(
+    rt: &impl Abort,
+    alloc: Global,
+    text: &[u8],
+    output: &[u8],
+) -> Result<(), AllocError> {
+    check_answer(rt, alloc, "bytes", text, output)?;
+    check_answer(rt, alloc, "text", text, output)
 }
 
 // Asserts the answer to the large input, over keys of each kind.
 fn check_large(rt: &impl Abort, alloc: Global, long: &[u8]) -> Result<(), AllocError> {
-    let input = large_input(alloc, long)?;
-    let output = large_output(alloc, long)?;
-    check_answer(rt, alloc, "bytes", &input, &output)?;
-    check_answer(rt, alloc, "text", &input, &output)
+    let mut input = Vec::new(alloc);
+    add_large_input(alloc, &mut input, long)?;
+    let mut output = Vec::new(alloc);
+    add_large_output(alloc, &mut output, long)?;
+    check_answers(rt, alloc, &input, &output)
 }
 
 // Of an input and an answer of near half a million bytes each, nothing is cut.
@@ -287,20 +319,45 @@ fn is_answer(output: &[u8]) -> bool {
     false
 }
 
+// The line of a run that wants memory.
+fn failure_line(read: Progress) -> &'static str {
+    match read {
+        Progress::Ended => OUT_OF_MEMORY,
+        _ => READ_FAILED,
+    }
+}
+
+fn is_failure(end: End<'_>) -> bool {
+    let line = failure_line(end.read);
+    (end.status == 1) & end.output.is_empty() & (end.errors == line.as_bytes())
+}
+
 // Asserts what a run comes to of which one memory request may be refused.
 fn check_refused(rt: &impl Abort, end: End<'_>) {
     if end.status == 0 {
-        assert!(rt; is_answer(end.output));
-        assert!(rt; end.errors.is_empty());
+        assert!(rt; is_answer(end.output) & end.errors.is_empty());
         return;
     }
-    assert_eq!(rt; end.status, 1);
-    assert!(rt; end.output.is_empty());
-    let line = match end.read {
-        Progress::Ended => OUT_OF_MEMORY,
-        _ => READ_FAILED,
+    assert!(rt; is_failure(end));
+}
+
+// Runs the program, with room for what is written.
+fn run_with_room(
+    rt: &impl Abort,
+    alloc: Global,
+    words: &[String],
+    output: &mut Vec<u8>,
+    errors: &mut Vec<u8>,
+) {
+    let text = b"insert\tab\t1\ninsert\tac\t2\nremove\tab\nlist\nclear\nlen\n".as_slice();
+    let (status, read) = run_over(alloc, words, text, SOUND, output, errors);
+    let end = End {
+        status,
+        output,
+        errors,
+        read,
     };
-    assert_eq!(rt; end.errors, line.as_bytes());
+    check_refused(rt, end);
 }
 
 // The words and the room for what is written are asked for before the run. Where one of these
@@ -309,15 +366,7 @@ fn run_refused(rt: &impl Abort, alloc: Global) -> Result<(), AllocError> {
     let words = list_of(alloc, &["text"])?;
     let mut output = Vec::with_capacity(alloc, 100)?;
     let mut errors = Vec::with_capacity(alloc, 100)?;
-    let text = b"insert\tab\t1\ninsert\tac\t2\nremove\tab\nlist\nclear\nlen\n".as_slice();
-    let (status, read) = run_over(alloc, &words, text, SOUND, &mut output, &mut errors);
-    let end = End {
-        status,
-        output: &output,
-        errors: &errors,
-        read,
-    };
-    check_refused(rt, end);
+    run_with_room(rt, alloc, &words, &mut output, &mut errors);
     Ok(())
 }
 

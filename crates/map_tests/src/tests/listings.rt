@@ -7,7 +7,6 @@ ghost use Rattle.patricia_tree.specs.Prefixes.{along, under};
 use patricia_tree::{BorrowedBytes, Bytes, GenericPatriciaMap};
 use std::alloc::{AllocError, Global};
 use std::process::Abort;
-use std::test::Fail;
 
 // Every entry of a map, for any kind of keys.
 fn listed<K: Bytes, V: Copy + Drop>(
@@ -128,6 +127,30 @@ fn check_values(
     Ok(())
 }
 
+// Asserts what is listed of a map of four entries.
+fn check_all<K: Bytes>(
+    rt: &impl Abort,
+    alloc: Global,
+    tree: &GenericPatriciaMap<K, u32>,
+) -> Result<(), AllocError> {
+    check_values(rt, listed_values(alloc, tree), &[9, 8, 2, 1])?;
+    check_len(rt, listed_keys(alloc, tree), 4)?;
+    check_len(rt, listed(alloc, tree), 4)
+}
+
+// Asserts what is listed along a key and under a prefix.
+fn check_some<Q: BorrowedBytes>(
+    rt: &impl Abort,
+    alloc: Global,
+    tree: &GenericPatriciaMap<Q::Owned, u32>,
+    key: Q,
+    prefix: Q,
+) -> Result<(), AllocError> {
+    check_len(rt, listed_along(alloc, tree, key), 3)?;
+    check_values(rt, mapped_along(alloc, tree, key), &[9, 8, 2])?;
+    check_len(rt, listed_under(alloc, tree, prefix), 2)
+}
+
 // Asserts what is listed of a map of four entries and a key.
 fn check_four<Q: BorrowedBytes>(
     rt: &impl Abort,
@@ -136,12 +159,8 @@ fn check_four<Q: BorrowedBytes>(
     key: Q,
     prefix: Q,
 ) -> Result<(), AllocError> {
-    check_values(rt, listed_values(alloc, &tree), &[9, 8, 2, 1])?;
-    check_len(rt, listed_keys(alloc, &tree), 4)?;
-    check_len(rt, listed(alloc, &tree), 4)?;
-    check_len(rt, listed_along(alloc, &tree, key), 3)?;
-    check_values(rt, mapped_along(alloc, &tree, key), &[9, 8, 2])?;
-    check_len(rt, listed_under(alloc, &tree, prefix), 2)?;
+    check_all(rt, alloc, &tree)?;
+    check_some(rt, alloc, &tree, key, prefix)?;
     check_len(rt, taken(alloc, tree), 4)
 }
 
@@ -159,15 +178,10 @@ fn map_of<Q: BorrowedBytes>(
     Ok(map)
 }
 
+const ROWS: [(&[u8], u32); 4] = [(b"foo", 1), (b"bar", 2), (b"", 9), (b"ba", 8)];
+
 #[test]
-fn lists_four(rt: HostRuntime) -> Result<(), Fail> {
-    let rows = [
-        (b"foo".as_slice(), 1),
-        (b"bar".as_slice(), 2),
-        (b"".as_slice(), 9),
-        (b"ba".as_slice(), 8),
-    ];
-    let tree = map_of(rt.alloc(), &rows)?;
-    check_four(&rt, rt.alloc(), tree, b"bars".as_slice(), b"b".as_slice())?;
-    Ok(())
+fn lists_four(rt: HostRuntime) -> Result<(), AllocError> {
+    let tree = map_of(rt.alloc(), &ROWS)?;
+    check_four(&rt, rt.alloc(), tree, b"bars".as_slice(), b"b".as_slice())
 }

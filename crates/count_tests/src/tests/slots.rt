@@ -1,10 +1,22 @@
 // Nodes that removals and splits free are used again, so that the vector of nodes grows no further.
 // A copy has no free node.
-use patricia_core::keys::BorrowedBytes;
+use patricia_core::keys::{BorrowedBytes, Bytes};
 use patricia_core::tree::Tree;
 use std::alloc::AllocError;
 use std::process::Abort;
 use std::test::Fail;
+
+// Puts a key in, and answers whether it is new.
+fn is_put<Q: BorrowedBytes>(
+    tree: &mut Tree<Q::Owned, usize>,
+    key: Q,
+    value: usize,
+) -> Result<bool, AllocError> {
+    match tree.insert(key, value) {
+        Ok(old) => Ok(old.is_none()),
+        Err(_) => Err(AllocError),
+    }
+}
 
 // Puts keys in, each with its place as its value.
 fn put_all<Q: BorrowedBytes>(
@@ -13,10 +25,7 @@ fn put_all<Q: BorrowedBytes>(
     keys: &[Q],
 ) -> Result<(), AllocError> {
     for (n, key) in keys.iter().enumerate() {
-        let Ok(old) = tree.insert(*key, n) else {
-            return Err(AllocError);
-        };
-        assert!(rt; old.is_none());
+        assert!(rt; is_put(tree, *key, n)?);
     }
     Ok(())
 }
@@ -33,6 +42,17 @@ fn remove_all<Q: BorrowedBytes>(
     Ok(())
 }
 
+// Puts keys in and takes them out.
+fn put_and_remove<Q: BorrowedBytes>(
+    rt: &impl Abort,
+    tree: &mut Tree<Q::Owned, usize>,
+    keys: &[Q],
+) -> Result<(), AllocError> {
+    put_all(rt, tree, keys)?;
+    assert!(rt; tree.len() == keys.len());
+    remove_all(rt, tree, keys)
+}
+
 // Puts keys in and takes them out, so often. After each round the vector has so many nodes.
 fn repeat<Q: BorrowedBytes>(
     rt: &impl Abort,
@@ -42,11 +62,8 @@ fn repeat<Q: BorrowedBytes>(
     slots: usize,
 ) -> Result<(), AllocError> {
     for _ in 0..rounds {
-        put_all(rt, tree, keys)?;
-        assert_eq!(rt; tree.len(), keys.len());
-        remove_all(rt, tree, keys)?;
-        assert!(rt; tree.is_empty());
-        assert_eq!(rt; tree.slots(), slots);
+        put_and_remove(rt, tree, keys)?;
+        assert!(rt; tree.is_empty() & (tree.slots() == slots));
     }
     Ok(())
 }
@@ -61,14 +78,24 @@ fn one_node(rt: HostRuntime) -> Result<(), Fail> {
 
 // The node that the second key divides is joined again, and the keys of a row are freed from its
 // ends and its middle. The empty key has no node.
+const KEYS: [&str; 11] = [
+    "foobar", "foobaz", "い", "", "あ", "あう", "う", "foo", "え", "お", "fox",
+];
+
 #[test]
 fn many_nodes(rt: HostRuntime) -> Result<(), Fail> {
     let mut tree = Tree::new(rt.alloc());
-    let keys = [
-        "foobar", "foobaz", "い", "", "あ", "あう", "う", "foo", "え", "お", "fox",
-    ];
-    repeat(&rt, &mut tree, &keys, 1_000, 12)?;
+    repeat(&rt, &mut tree, &KEYS, 1_000, 12)?;
     Ok(())
+}
+
+// Takes those under a prefix out at once, and answers into how many nodes.
+fn split_slots<Q: BorrowedBytes>(
+    tree: &mut Tree<Q::Owned, usize>,
+    prefix: Q,
+) -> Result<usize, AllocError> {
+    let part = tree.split(prefix)?;
+    Ok(part.slots())
 }
 
 // Puts keys in, and takes those under a prefix out at once, into so many nodes.
@@ -80,12 +107,12 @@ fn split_out<Q: BorrowedBytes>(
     slots: usize,
 ) -> Result<(), AllocError> {
     put_all(rt, tree, keys)?;
-    assert_eq!(rt; tree.split(prefix)?.slots(), slots);
+    assert!(rt; split_slots(tree, prefix)? == slots);
     Ok(())
 }
 
-// The prefix takes all keys but the first, which is removed, or cleared away.
-fn split_often<Q: BorrowedBytes>(
+// The prefix takes all keys but the first, which is removed.
+fn split_and_remove<Q: BorrowedBytes>(
     rt: &impl Abort,
     tree: &mut Tree<Q::Owned, usize>,
     keys: &[Q],
@@ -97,11 +124,32 @@ fn split_often<Q: BorrowedBytes>(
         remove_all(rt, tree, first)?;
         assert!(rt; tree.is_empty());
     }
-    assert_eq!(rt; tree.slots(), 4);
+    Ok(())
+}
+
+// The prefix takes all keys but the first, which is cleared away.
+fn split_and_clear<Q: BorrowedBytes>(
+    rt: &impl Abort,
+    tree: &mut Tree<Q::Owned, usize>,
+    keys: &[Q],
+    prefix: Q,
+) -> Result<(), AllocError> {
     for _ in 0..1_000 {
         split_out(rt, tree, keys, prefix, 3)?;
         tree.clear();
     }
+    Ok(())
+}
+
+fn split_often<Q: BorrowedBytes>(
+    rt: &impl Abort,
+    tree: &mut Tree<Q::Owned, usize>,
+    keys: &[Q],
+    prefix: Q,
+) -> Result<(), AllocError> {
+    split_and_remove(rt, tree, keys, prefix)?;
+    assert!(rt; tree.slots() == 4);
+    split_and_clear(rt, tree, keys, prefix)?;
     assert!(rt; tree.slots() <= 4);
     Ok(())
 }
@@ -113,7 +161,13 @@ fn split_nodes(rt: HostRuntime) -> Result<(), Fail> {
     Ok(())
 }
 
-// Puts keys in, takes one out, and asserts how many nodes a copy has.
+// How many nodes a copy has.
+fn copy_slots<K: Bytes>(tree: &Tree<K, usize>) -> Result<usize, AllocError> {
+    let copy = tree.clone()?;
+    Ok(copy.slots())
+}
+
+// Puts keys in, takes one out, and asserts how many nodes a copy has. The tree is cleared.
 fn check_copy<Q: BorrowedBytes>(
     rt: &impl Abort,
     tree: &mut Tree<Q::Owned, usize>,
@@ -123,17 +177,20 @@ fn check_copy<Q: BorrowedBytes>(
 ) -> Result<(), AllocError> {
     put_all(rt, tree, keys)?;
     assert!(rt; tree.remove(removed)?.is_some());
-    assert_eq!(rt; tree.clone()?.slots(), slots);
+    assert!(rt; copy_slots(tree)? == slots);
+    tree.clear();
     Ok(())
+}
+
+fn check_copies(rt: &impl Abort, tree: &mut Tree<String, usize>) -> Result<(), AllocError> {
+    check_copy(rt, tree, &["a", "b", "c"], "b", 2)?;
+    check_copy(rt, tree, &["foobar", "foobaz", "", "あ"], "foobaz", 2)?;
+    check_copy(rt, tree, &["foo"], "foo", 0)
 }
 
 #[test]
 fn copied_nodes(rt: HostRuntime) -> Result<(), Fail> {
     let mut tree = Tree::new(rt.alloc());
-    check_copy(&rt, &mut tree, &["a", "b", "c"], "b", 2)?;
-    tree.clear();
-    check_copy(&rt, &mut tree, &["foobar", "foobaz", "", "あ"], "foobaz", 2)?;
-    tree.clear();
-    check_copy(&rt, &mut tree, &["foo"], "foo", 0)?;
+    check_copies(&rt, &mut tree)?;
     Ok(())
 }

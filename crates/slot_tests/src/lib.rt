@@ -1,5 +1,0 @@
-//! Tests of how many nodes the vector of a tree has.
-#![tactic(auto)]
-
-#[cfg(test)]
-mod tests;
