@@ -1,7 +1,5 @@
-//! Callers of the cursors of a map, and tests of these cursors.
+//! Tests of the cursors of a map.
 #![tactic(auto)]
 
-pub mod callers;
-pub mod kept;
 #[cfg(test)]
 mod tests;

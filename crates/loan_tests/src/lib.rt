@@ -1,6 +1,5 @@
-//! Callers of the calls that lend one value, and tests of these calls.
+//! Tests of the calls that lend one value.
 #![tactic(auto)]
 
-pub mod callers;
 #[cfg(test)]
 mod tests;

@@ -3,8 +3,20 @@
 
 mod debug;
 
-use patricia_tree::{BorrowedBytes, GenericPatriciaSet, PatriciaSet, StringPatriciaSet};
+use patricia_tree::{BorrowedBytes, GenericPatriciaSet, StringPatriciaSet};
 use std::alloc::{AllocError, Global};
+use std::io;
+
+// Puts these elements in.
+fn put_all<Q: BorrowedBytes>(
+    set: &mut GenericPatriciaSet<Q::Owned>,
+    elements: &[Q],
+) -> Result<(), AllocError> {
+    for element in elements {
+        set.insert(*element)?;
+    }
+    Ok(())
+}
 
 // A set of these elements.
 fn set_of<Q: BorrowedBytes>(
@@ -12,56 +24,133 @@ fn set_of<Q: BorrowedBytes>(
     elements: &[Q],
 ) -> Result<GenericPatriciaSet<Q::Owned>, AllocError> {
     let mut set = GenericPatriciaSet::new(alloc);
-    for element in elements {
-        set.insert(*element)?;
-    }
+    put_all(&mut set, elements)?;
     Ok(set)
 }
 
-// Prints the longest element that begins each key, and how far any element goes with it.
-fn longest(rt: &impl Print, set: &StringPatriciaSet, keys: &[&str]) -> anyhow::Result<()> {
+// Prints the longest element that begins a key, and how far any element goes with it.
+fn print_longest(rt: &impl Print, set: &StringPatriciaSet, key: &str) -> io::Result<()> {
+    let found = set.get_longest_common_prefix(key);
+    let reach = set.longest_common_prefix_len(key);
+    println!(rt; "longest {key:?}: {found:?}, reach {reach}")
+}
+
+// The same of each key.
+fn longest(rt: &impl Print, set: &StringPatriciaSet, keys: &[&str]) -> io::Result<()> {
     for key in keys {
-        let found = set.get_longest_common_prefix(*key);
-        let reach = set.longest_common_prefix_len(*key);
-        println!(rt; "longest {key:?}: {found:?}, reach {reach}")?;
+        print_longest(rt, set, key)?;
     }
     Ok(())
 }
 
-// Prints what a split leaves and what it takes out.
-fn split(rt: &impl Print, mut set: StringPatriciaSet, prefix: &str) -> anyhow::Result<()> {
+// Prints two sets.
+fn print_split(
+    rt: &impl Print,
+    prefix: &str,
+    set: &StringPatriciaSet,
+    taken: &StringPatriciaSet,
+) -> io::Result<()> {
+    println!(rt; "split {prefix:?}: {set:?} {taken:?}")
+}
+
+// Splits a set, and prints what that leaves and what it takes out.
+fn split_set(rt: &impl Print, set: &mut StringPatriciaSet, prefix: &str) -> anyhow::Result<()> {
     let taken = set.split_by_prefix(prefix)?;
-    println!(rt; "split {prefix:?}: {set:?} {taken:?}")?;
+    print_split(rt, prefix, set, &taken)?;
     Ok(())
+}
+
+fn split(rt: &impl Print, alloc: Global, elements: &[&str], prefix: &str) -> anyhow::Result<()> {
+    split_set(rt, &mut set_of(alloc, elements)?, prefix)
+}
+
+// Prints whether an element was there, and what is left.
+fn print_removal(
+    rt: &impl Print,
+    set: &StringPatriciaSet,
+    element: &str,
+    was_there: bool,
+) -> io::Result<()> {
+    println!(rt; "remove {element:?}: {was_there} {set:?}")
 }
 
 // Takes elements out, and prints each answer.
-fn remove(rt: &impl Print, mut set: StringPatriciaSet, elements: &[&str]) -> anyhow::Result<()> {
+fn remove_all(
+    rt: &impl Print,
+    set: &mut StringPatriciaSet,
+    elements: &[&str],
+) -> anyhow::Result<()> {
     for element in elements {
         let was_there = set.remove(*element)?;
-        println!(rt; "remove {element:?}: {was_there} {set:?}")?;
+        print_removal(rt, set, element, was_there)?;
     }
     Ok(())
+}
+
+fn remove(
+    rt: &impl Print,
+    alloc: Global,
+    elements: &[&str],
+    removed: &[&str],
+) -> anyhow::Result<()> {
+    remove_all(rt, &mut set_of(alloc, elements)?, removed)
+}
+
+// Prints whether an element is new, and how many there are.
+fn print_insert(rt: &impl Print, element: &str, is_new: bool, len: usize) -> io::Result<()> {
+    println!(rt; "insert {element:?}: {is_new} {len}")
 }
 
 // Puts elements in, and prints each answer.
-fn insert(rt: &impl Print, mut set: StringPatriciaSet, elements: &[&str]) -> anyhow::Result<()> {
+fn insert_all(
+    rt: &impl Print,
+    set: &mut StringPatriciaSet,
+    elements: &[&str],
+) -> anyhow::Result<()> {
     for element in elements {
         let is_new = set.insert(*element)?;
-        println!(rt; "insert {element:?}: {is_new} {}", set.len())?;
+        print_insert(rt, element, is_new, set.len())?;
     }
     Ok(())
 }
 
-// Prints the elements of a set that is read to its end, and those under a prefix.
-fn walk(rt: &impl Print, set: StringPatriciaSet, prefix: &str) -> anyhow::Result<()> {
+fn insert(
+    rt: &impl Print,
+    alloc: Global,
+    elements: &[&str],
+    inserted: &[&str],
+) -> anyhow::Result<()> {
+    insert_all(rt, &mut set_of(alloc, elements)?, inserted)
+}
+
+// Prints an element under a prefix.
+fn print_under(rt: &impl Print, prefix: &str, element: &str) -> io::Result<()> {
+    println!(rt; "under {prefix:?}: {element:?}")
+}
+
+// Prints the elements under a prefix.
+fn walk_under(rt: &impl Print, set: &StringPatriciaSet, prefix: &str) -> anyhow::Result<()> {
     for element in set.iter_prefix(prefix) {
-        println!(rt; "under {prefix:?}: {:?}", element?)?;
-    }
-    for element in set {
-        println!(rt; "item {:?}", element?)?;
+        print_under(rt, prefix, &element?)?;
     }
     Ok(())
+}
+
+fn print_item(rt: &impl Print, element: &str) -> io::Result<()> {
+    println!(rt; "item {element:?}")
+}
+
+// Prints the elements of a set that is read to its end.
+fn walk_out(rt: &impl Print, set: StringPatriciaSet) -> anyhow::Result<()> {
+    for element in set {
+        print_item(rt, &element?)?;
+    }
+    Ok(())
+}
+
+fn walk(rt: &impl Print, set: StringPatriciaSet, prefix: &str) -> anyhow::Result<()> {
+    walk_under(rt, &set, prefix)?;
+    walk_out(rt, set)
 }
 
 const NUMBERS: [&str; 5] = ["123", "123456", "1234_67", "123abc", "123def"];
@@ -70,24 +159,27 @@ const ASKED: [&str; 7] = ["", "12", "123", "1234", "123456", "1234_6", "12345678
 
 const WORDS: [&str; 3] = ["foo", "bar", "baz"];
 
+fn splits(rt: &impl Print, alloc: Global) -> anyhow::Result<()> {
+    split(rt, alloc, &["rust", "ruby", "python", "erlang"], "ru")?;
+    for prefix in ["bazz", "for", "qux", ""] {
+        split(rt, alloc, &WORDS, prefix)?;
+    }
+    Ok(())
+}
+
+const LONGER: [&str; 4] = ["123", "123456", "123abc", "123def"];
+
+fn changes(rt: &impl Print, alloc: Global) -> anyhow::Result<()> {
+    remove(rt, alloc, &LONGER, &["123def", "123456", "123", "123"])?;
+    insert(rt, alloc, &["foo"], &["foo", "", "fo", ""])?;
+    remove(rt, alloc, &["foo"], &["foo", "foo"])
+}
+
 fn main(rt: HostRuntime) -> anyhow::Result<()> {
     let alloc = rt.alloc();
     longest(&rt, &set_of(alloc, &NUMBERS)?, &ASKED)?;
-    split(
-        &rt,
-        set_of(alloc, &["rust", "ruby", "python", "erlang"])?,
-        "ru",
-    )?;
-    for prefix in ["bazz", "for", "qux", ""] {
-        split(&rt, set_of(alloc, &WORDS)?, prefix)?;
-    }
-    remove(
-        &rt,
-        set_of(alloc, &["123", "123456", "123abc", "123def"])?,
-        &["123def", "123456", "123", "123"],
-    )?;
-    insert(&rt, set_of(alloc, &["foo"])?, &["foo", "", "fo", ""])?;
-    remove(&rt, set_of(alloc, &["foo"])?, &["foo", "foo"])?;
+    splits(&rt, alloc)?;
+    changes(&rt, alloc)?;
     walk(&rt, set_of(alloc, &WORDS)?, "ba")?;
     debug::show(&rt, alloc)
 }

@@ -1,37 +1,48 @@
-use super::helpers::{has_just, map_of};
+use super::helpers::{Came, has_just, judged, map_of, refused};
 use patricia_tree::{BorrowedBytes, GenericPatriciaMap};
 use std::alloc::{AllocError, Global};
 use std::process::Abort;
-use std::test::Fail;
 
-// Copies a map of the keys, and answers how many refusals there were. A refusal leaves the map as it
-// was, and so does a copy.
+// Copies a map of the keys. A refusal leaves the map as it was, and so does a copy.
+fn copy<Q: BorrowedBytes>(map: &GenericPatriciaMap<Q::Owned, u64>, keys: &[Q]) -> Came {
+    match map.clone() {
+        Ok(copy) => judged(has_just(&copy, keys)),
+        Err(_) => refused(has_just(map, keys)),
+    }
+}
+
+// The same, and once more where it is refused. It answers how many refusals there were.
 fn copy_again<Q: BorrowedBytes>(
     rt: &impl Abort,
     map: &GenericPatriciaMap<Q::Owned, u64>,
     keys: &[Q],
-) -> Result<usize, AllocError> {
-    if let Ok(copy) = map.clone() {
-        assert!(rt; has_just(&copy, keys));
-        return Ok(0);
+) -> usize {
+    let first = copy(map, keys);
+    if first == Came::Right {
+        return 0;
     }
-    assert!(rt; has_just(map, keys));
-    let copy = map.clone()?;
-    assert!(rt; has_just(&copy, keys));
-    Ok(1)
+    assert!(rt; first == Came::Refused);
+    assert!(rt; copy(map, keys) == Came::Right);
+    1
 }
 
 // Copies a map of the keys twice. At most one of these calls is refused.
+fn check_both<Q: BorrowedBytes>(
+    rt: &impl Abort,
+    map: &GenericPatriciaMap<Q::Owned, u64>,
+    keys: &[Q],
+) {
+    let refusals = copy_again(rt, map, keys).saturating_add(copy_again(rt, map, keys));
+    assert!(rt; refusals <= 1);
+    assert!(rt; has_just(map, keys));
+}
+
 fn check_copies<Q: BorrowedBytes>(
     rt: &impl Abort,
     alloc: Global,
     keys: &[Q],
 ) -> Result<(), AllocError> {
-    let map = map_of(alloc, keys)?;
-    let first = copy_again(rt, &map, keys)?;
-    let second = copy_again(rt, &map, keys)?;
-    assert!(rt; first.saturating_add(second) <= 1);
-    assert!(rt; has_just(&map, keys));
+    check_both(rt, &map_of(alloc, keys)?, keys);
     Ok(())
 }
 
@@ -46,7 +57,6 @@ const KEYS: [&[u8]; 6] = [
 ];
 
 #[test]
-fn refused_in_turn(rt: HostRuntime) -> Result<(), Fail> {
-    check_copies(&rt, rt.alloc(), &KEYS)?;
-    Ok(())
+fn refused_in_turn(rt: HostRuntime) -> Result<(), AllocError> {
+    check_copies(&rt, rt.alloc(), &KEYS)
 }

@@ -17,17 +17,26 @@ fn put<Q: BorrowedBytes>(
     }
 }
 
-// A map of these keys. An insert that is refused is tried once more.
+// Puts keys in. An insert that is refused is tried once more.
+fn put_all<Q: BorrowedBytes>(
+    map: &mut GenericPatriciaMap<Q::Owned, u64>,
+    keys: &[Q],
+) -> Result<(), AllocError> {
+    for key in keys {
+        if put(map, *key).is_err() {
+            put(map, *key)?;
+        }
+    }
+    Ok(())
+}
+
+// A map of these keys.
 pub(super) fn map_of<Q: BorrowedBytes>(
     alloc: Global,
     keys: &[Q],
 ) -> Result<GenericPatriciaMap<Q::Owned, u64>, AllocError> {
     let mut map = GenericPatriciaMap::new(alloc);
-    for key in keys {
-        if put(&mut map, *key).is_err() {
-            put(&mut map, *key)?;
-        }
-    }
+    put_all(&mut map, keys)?;
     Ok(map)
 }
 
@@ -42,4 +51,25 @@ pub(super) fn has_just<Q: BorrowedBytes>(
         }
     }
     map.len() == keys.len()
+}
+
+// What a call that may be refused comes to.
+#[derive(Clone, Copy, PartialEq)]
+pub(super) enum Came {
+    // it did what is due
+    Right,
+    // memory ran out, and nothing was changed
+    Refused,
+    // it did something else
+    Wrong,
+}
+
+// What a call comes to that was not refused.
+pub(super) fn judged(is_right: bool) -> Came {
+    if is_right { Came::Right } else { Came::Wrong }
+}
+
+// What a call comes to that was refused.
+pub(super) fn refused(is_kept: bool) -> Came {
+    if is_kept { Came::Refused } else { Came::Wrong }
 }

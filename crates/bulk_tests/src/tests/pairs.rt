@@ -2,7 +2,6 @@ use super::helpers::{has_just, value_of};
 use patricia_tree::{BorrowedBytes, GenericPatriciaMap};
 use std::alloc::{AllocError, Global};
 use std::process::Abort;
-use std::test::Fail;
 
 // Keys, each with its value.
 fn pairs_of<Q: BorrowedBytes>(alloc: Global, keys: &[Q]) -> Result<Vec<(Q, u64)>, AllocError> {
@@ -21,22 +20,31 @@ fn pairs_again<Q: BorrowedBytes>(alloc: Global, keys: &[Q]) -> Result<Vec<(Q, u6
     }
 }
 
-// Puts pairs into an empty map by one call. Where it is refused, the pairs before the refused one
-// are in, and it is made again with the others.
+// Puts pairs of the keys in by one call.
+fn extend<Q: BorrowedBytes>(
+    alloc: Global,
+    map: &mut GenericPatriciaMap<Q::Owned, u64>,
+    keys: &[Q],
+) -> Result<(), AllocError> {
+    map.extend(pairs_again(alloc, keys)?)
+}
+
+// Puts pairs into an empty map. Where that is refused, the pairs before the refused one are in, and
+// it is made again with the others.
 fn extend_again<Q: BorrowedBytes>(
     rt: &impl Abort,
     alloc: Global,
     map: &mut GenericPatriciaMap<Q::Owned, u64>,
     keys: &[Q],
 ) -> Result<(), AllocError> {
-    if map.extend(pairs_again(alloc, keys)?).is_ok() {
+    if extend(alloc, map, keys).is_ok() {
         return Ok(());
     }
     let Some((before, others)) = keys.split_at_checked(map.len()) else {
         return Err(AllocError);
     };
     assert!(rt; has_just(map, before));
-    map.extend(pairs_of(alloc, others)?)
+    extend(alloc, map, others)
 }
 
 fn check_extend<Q: BorrowedBytes>(
@@ -86,8 +94,7 @@ const KEYS: [&str; 10] = [
 ];
 
 #[test]
-fn refused_in_turn(rt: HostRuntime) -> Result<(), Fail> {
+fn refused_in_turn(rt: HostRuntime) -> Result<(), AllocError> {
     check_extend(&rt, rt.alloc(), &KEYS)?;
-    check_from_iter(&rt, rt.alloc(), &KEYS)?;
-    Ok(())
+    check_from_iter(&rt, rt.alloc(), &KEYS)
 }

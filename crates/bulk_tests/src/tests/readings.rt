@@ -1,8 +1,7 @@
-use super::helpers::{has_just, value_of};
+use super::helpers::{Came, has_just, judged, value_of};
 use patricia_tree::{BorrowedBytes, Bytes, DecodeError, GenericPatriciaMap, GenericPatriciaSet};
 use std::alloc::{AllocError, Global};
 use std::process::Abort;
-use std::test::Fail;
 
 // The value of each key.
 fn values_of<Q: BorrowedBytes>(alloc: Global, keys: &[Q]) -> Result<Vec<u64>, AllocError> {
@@ -21,27 +20,39 @@ fn values_again<Q: BorrowedBytes>(alloc: Global, keys: &[Q]) -> Result<Vec<u64>,
     }
 }
 
-// Reads a map of the keys, and answers how many refusals there were. After one it is read anew.
+fn judge_map<Q: BorrowedBytes>(
+    read: Result<GenericPatriciaMap<Q::Owned, u64>, DecodeError>,
+    keys: &[Q],
+) -> Came {
+    match read {
+        Ok(map) => judged(has_just(&map, keys)),
+        Err(DecodeError::Memory) => Came::Refused,
+        Err(_) => Came::Wrong,
+    }
+}
+
+// Reads a map of the keys.
+fn read_map<Q: BorrowedBytes>(alloc: Global, keys: &[Q], tree: &[u8]) -> Came {
+    match values_again(alloc, keys) {
+        Ok(values) => judge_map(GenericPatriciaMap::from_wire(alloc, tree, values), keys),
+        Err(_) => Came::Wrong,
+    }
+}
+
+// The same, and once more where it is refused. It answers how many refusals there were.
 fn read_map_again<Q: BorrowedBytes>(
     rt: &impl Abort,
     alloc: Global,
     keys: &[Q],
     tree: &[u8],
-) -> Result<usize, DecodeError> {
-    let values = values_again(alloc, keys)?;
-    match GenericPatriciaMap::<Q::Owned, u64>::from_wire(alloc, tree, values) {
-        Ok(map) => {
-            assert!(rt; has_just(&map, keys));
-            Ok(0)
-        }
-        Err(fault) => {
-            assert_eq!(rt; fault, DecodeError::Memory);
-            let values = values_of(alloc, keys)?;
-            let map = GenericPatriciaMap::<Q::Owned, u64>::from_wire(alloc, tree, values)?;
-            assert!(rt; has_just(&map, keys));
-            Ok(1)
-        }
+) -> usize {
+    let first = read_map(alloc, keys, tree);
+    if first == Came::Right {
+        return 0;
     }
+    assert!(rt; first == Came::Refused);
+    assert!(rt; read_map(alloc, keys, tree) == Came::Right);
+    1
 }
 
 // The fault of a map that is read with the values of the keys, if it is refused.
@@ -54,21 +65,30 @@ fn fault_of<Q: BorrowedBytes>(
     Ok(GenericPatriciaMap::<Q::Owned, u64>::from_wire(alloc, tree, values).err())
 }
 
-// Reads a map with a fault, and answers how many refusals there were.
+// Reads a map with a fault.
+fn refuse<Q: BorrowedBytes>(alloc: Global, keys: &[Q], tree: &[u8], fault: DecodeError) -> Came {
+    match fault_of(alloc, keys, tree) {
+        Ok(Some(DecodeError::Memory)) => Came::Refused,
+        Ok(Some(found)) => judged(found == fault),
+        _ => Came::Wrong,
+    }
+}
+
+// The same, and once more where memory ran out. It answers how many refusals there were.
 fn refuse_again<Q: BorrowedBytes>(
     rt: &impl Abort,
     alloc: Global,
     keys: &[Q],
     tree: &[u8],
     fault: DecodeError,
-) -> Result<usize, AllocError> {
-    let first = fault_of(alloc, keys, tree)?;
-    if first == Some(fault) {
-        return Ok(0);
+) -> usize {
+    let first = refuse(alloc, keys, tree, fault);
+    if first == Came::Right {
+        return 0;
     }
-    assert_eq!(rt; first, Some(DecodeError::Memory));
-    assert_eq!(rt; fault_of(alloc, keys, tree)?, Some(fault));
-    Ok(1)
+    assert!(rt; first == Came::Refused);
+    assert!(rt; refuse(alloc, keys, tree, fault) == Came::Right);
+    1
 }
 
 // Whether a set has these elements and no other.
@@ -98,42 +118,47 @@ fn read_set<K: Bytes>(
     GenericPatriciaSet::from_wire(alloc, tree, nothings(alloc, count)?)
 }
 
-// Reads a set, and answers how many refusals there were. After one it is read anew.
+fn judge_set<Q: BorrowedBytes>(
+    read: Result<GenericPatriciaSet<Q::Owned>, DecodeError>,
+    elements: &[Q],
+) -> Came {
+    match read {
+        Ok(set) => judged(has_elements(&set, elements)),
+        Err(DecodeError::Memory) => Came::Refused,
+        Err(_) => Came::Wrong,
+    }
+}
+
+// Reads a set, and once more where it is refused. It answers how many refusals there were.
 fn read_set_again<Q: BorrowedBytes>(
     rt: &impl Abort,
     alloc: Global,
     elements: &[Q],
     tree: &[u8],
-) -> Result<usize, DecodeError> {
-    match read_set::<Q::Owned>(alloc, tree, elements.len()) {
-        Ok(set) => {
-            assert!(rt; has_elements(&set, elements));
-            Ok(0)
-        }
-        Err(fault) => {
-            assert_eq!(rt; fault, DecodeError::Memory);
-            let set = read_set::<Q::Owned>(alloc, tree, elements.len())?;
-            assert!(rt; has_elements(&set, elements));
-            Ok(1)
-        }
+) -> usize {
+    let first = judge_set(read_set(alloc, tree, elements.len()), elements);
+    if first == Came::Right {
+        return 0;
     }
+    assert!(rt; first == Came::Refused);
+    assert!(rt; judge_set(read_set(alloc, tree, elements.len()), elements) == Came::Right);
+    1
 }
 
-// Reads a map and a set twice, and a map with a value too few. At most one of these calls is refused.
+// Reads a map twice, a set, and a map with a value too few. At most one of these calls is refused.
 fn check_readings<Q: BorrowedBytes>(
     rt: &impl Abort,
     alloc: Global,
     keys: &[Q],
     tree: &[u8],
     fault: DecodeError,
-) -> Result<(), Fail> {
+) {
     let fewer = keys.get(1..).unwrap_or(keys);
-    let refusals = read_map_again(rt, alloc, keys, tree)?
-        .saturating_add(read_map_again(rt, alloc, keys, tree)?)
-        .saturating_add(read_set_again(rt, alloc, keys, tree)?)
-        .saturating_add(refuse_again(rt, alloc, fewer, tree, fault)?);
+    let refusals = read_map_again(rt, alloc, keys, tree)
+        .saturating_add(read_map_again(rt, alloc, keys, tree))
+        .saturating_add(read_set_again(rt, alloc, keys, tree))
+        .saturating_add(refuse_again(rt, alloc, fewer, tree, fault));
     assert!(rt; refusals <= 1);
-    Ok(())
 }
 
 // In key order.
@@ -153,7 +178,7 @@ const TREE: &[u8] =
     b"\x0f\0\0\0<\x01\0\x01a\x0f\x01\0\x02b?\x01\0\x03c\x0c\x1e\0\x04dddddddddddddddddddddddddddddd\x03\x06\0\x05dddddd\x03\x01\0\x03d\x0f\x03\0\x01\xe3\x81\x82\x03\x03\0\x02\xe3\x81\xae";
 
 #[test]
-fn refused_in_turn(rt: HostRuntime) -> Result<(), Fail> {
+fn refused_in_turn(rt: HostRuntime) -> Result<(), AllocError> {
     let last = TREE.len().saturating_sub(7);
     check_readings(
         &rt,
@@ -161,5 +186,6 @@ fn refused_in_turn(rt: HostRuntime) -> Result<(), Fail> {
         &KEYS,
         TREE,
         DecodeError::TooFewValues(last),
-    )
+    );
+    Ok(())
 }

@@ -1,8 +1,7 @@
-use super::helpers::{has_just, map_of, value_of};
+use super::helpers::{Came, has_just, judged, map_of, refused, value_of};
 use patricia_tree::{BorrowedBytes, Bytes, GenericPatriciaMap};
 use std::alloc::{AllocError, Global};
 use std::process::Abort;
-use std::test::Fail;
 
 // Whether a map has those of the keys that begin with a prefix, or those that do not.
 fn has_part<Q: BorrowedBytes>(
@@ -42,25 +41,45 @@ fn are_parted<Q: BorrowedBytes>(
         && has_part(left, keys, prefix, false)
 }
 
-// Takes the keys under a prefix out, and answers how many refusals there were. A refusal leaves the
-// map as it was.
+// Takes the keys under a prefix out. A refusal leaves the map as it was.
+fn split<Q: BorrowedBytes>(
+    map: &mut GenericPatriciaMap<Q::Owned, u64>,
+    keys: &[Q],
+    prefix: Q,
+) -> Came {
+    match map.split_by_prefix(prefix) {
+        Ok(taken) => judged(are_parted(&taken, map, keys, prefix)),
+        Err(_) => refused(has_just(map, keys)),
+    }
+}
+
+// The same, and once more where it is refused. It answers how many refusals there were.
 fn split_again<Q: BorrowedBytes>(
     rt: &impl Abort,
     map: &mut GenericPatriciaMap<Q::Owned, u64>,
     keys: &[Q],
     prefix: Q,
-) -> Result<usize, AllocError> {
-    if let Ok(taken) = map.split_by_prefix(prefix) {
-        assert!(rt; are_parted(&taken, map, keys, prefix));
-        return Ok(0);
+) -> usize {
+    let first = split(map, keys, prefix);
+    if first == Came::Right {
+        return 0;
     }
-    assert!(rt; has_just(map, keys));
-    let taken = map.split_by_prefix(prefix)?;
-    assert!(rt; are_parted(&taken, map, keys, prefix));
-    Ok(1)
+    assert!(rt; first == Came::Refused);
+    assert!(rt; split(map, keys, prefix) == Came::Right);
+    1
 }
 
-// Parts a map of the keys by each prefix. At most one of these calls is refused.
+// Parts a map of the keys by a prefix.
+fn split_anew<Q: BorrowedBytes>(
+    rt: &impl Abort,
+    alloc: Global,
+    keys: &[Q],
+    prefix: Q,
+) -> Result<usize, AllocError> {
+    Ok(split_again(rt, &mut map_of(alloc, keys)?, keys, prefix))
+}
+
+// The same by each prefix. At most one of these calls is refused.
 fn check_splits<Q: BorrowedBytes>(
     rt: &impl Abort,
     alloc: Global,
@@ -69,8 +88,7 @@ fn check_splits<Q: BorrowedBytes>(
 ) -> Result<(), AllocError> {
     let mut refusals: usize = 0;
     for prefix in prefixes {
-        let mut map = map_of(alloc, keys)?;
-        refusals = refusals.saturating_add(split_again(rt, &mut map, keys, *prefix)?);
+        refusals = refusals.saturating_add(split_anew(rt, alloc, keys, *prefix)?);
     }
     assert!(rt; refusals <= 1);
     Ok(())
@@ -98,7 +116,6 @@ const PREFIXES: [&str; 6] = [
 ];
 
 #[test]
-fn refused_in_turn(rt: HostRuntime) -> Result<(), Fail> {
-    check_splits(&rt, rt.alloc(), &KEYS, &PREFIXES)?;
-    Ok(())
+fn refused_in_turn(rt: HostRuntime) -> Result<(), AllocError> {
+    check_splits(&rt, rt.alloc(), &KEYS, &PREFIXES)
 }

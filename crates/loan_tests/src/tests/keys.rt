@@ -1,5 +1,5 @@
 use super::helpers::{has_values, two};
-use crate::callers::replace;
+use loan_callers::loans::replace;
 use patricia_tree::BorrowedBytes;
 use std::alloc::{AllocError, Global};
 

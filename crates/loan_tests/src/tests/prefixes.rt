@@ -1,5 +1,5 @@
 use super::helpers::{has_values, two};
-use crate::callers::replace_longest;
+use loan_callers::loans::replace_longest;
 use patricia_tree::{BorrowedBytes, GenericPatriciaMap};
 use std::alloc::{AllocError, Global};
 

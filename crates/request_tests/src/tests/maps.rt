@@ -126,15 +126,24 @@ fn has_left<Q: BorrowedBytes>(map: &GenericPatriciaMap<Q::Owned, u64>, keys: &Ke
     map.len() == left.saturating_add(1) && !map.is_empty()
 }
 
+fn remove_each<Q: BorrowedBytes>(
+    rt: &impl Abort,
+    map: &mut GenericPatriciaMap<Q::Owned, u64>,
+    keys: &Keys<'_, Q>,
+) -> Result<(), AllocError> {
+    assert!(rt; are_removed(map, keys.absent, false)?);
+    assert!(rt; are_removed(map, keys.removed, true)?);
+    assert!(rt; are_removed(map, keys.removed, false)?);
+    Ok(())
+}
+
 fn change_each<Q: BorrowedBytes>(
     rt: &impl Abort,
     map: &mut GenericPatriciaMap<Q::Owned, u64>,
     keys: &Keys<'_, Q>,
 ) -> Result<(), AllocError> {
     assert!(rt; are_put(map, keys.stored, true));
-    assert!(rt; are_removed(map, keys.absent, false)?);
-    assert!(rt; are_removed(map, keys.removed, true)?);
-    assert!(rt; are_removed(map, keys.removed, false)?);
+    remove_each(rt, map, keys)?;
     assert!(rt; are_put(map, keys.empty, false));
     assert!(rt; has_left(map, keys));
     Ok(())
@@ -215,27 +224,45 @@ fn take_each<Q: BorrowedBytes>(
     Ok(())
 }
 
+// Makes each call on a map that stays.
+fn call_each<Q: BorrowedBytes>(
+    rt: &impl Abort,
+    alloc: Global,
+    map: &mut GenericPatriciaMap<Q::Owned, u64>,
+    keys: &Keys<'_, Q>,
+) -> Result<(), AllocError> {
+    look_up_each(rt, map, keys);
+    take_each(rt, alloc, map, keys)?;
+    change_each(rt, map, keys)
+}
+
+// Makes a map, and then each call.
+fn call_one<Q: BorrowedBytes>(
+    rt: &impl Abort,
+    alloc: Global,
+    keys: &Keys<'_, Q>,
+) -> Result<(), AllocError> {
+    let mut map = map_of(alloc, keys.stored)?;
+    call_each(rt, alloc, &mut map, keys)?;
+    make_walks(map);
+    Ok(())
+}
+
 // Makes two maps, and then each call.
 fn call_all<Q: BorrowedBytes>(
     rt: &impl Abort,
     alloc: Global,
     keys: &Keys<'_, Q>,
 ) -> Result<(), AllocError> {
-    let mut map = map_of(alloc, keys.stored)?;
+    call_one(rt, alloc, keys)?;
     assert!(rt; is_cleared(map_of(alloc, keys.stored)?));
-    look_up_each(rt, &map, keys);
-    take_each(rt, alloc, &mut map, keys)?;
-    change_each(rt, &mut map, keys)?;
-    make_walks(map);
     assert!(rt; is_empty_each_way(GenericPatriciaMap::<Q::Owned, u64>::new(alloc)));
     Ok(())
 }
 
-fn have_same_len<K: Bytes>(
-    map: &GenericPatriciaMap<K, u64>,
-    other: &GenericPatriciaMap<K, u64>,
-) -> bool {
-    map.len() == other.len()
+// Makes a map, and answers how many keys it has.
+fn made_len<Q: BorrowedBytes>(alloc: Global, keys: &[Q]) -> Result<usize, AllocError> {
+    Ok(map_of(alloc, keys)?.len())
 }
 
 // Makes two maps.
@@ -244,9 +271,8 @@ fn make<Q: BorrowedBytes>(
     alloc: Global,
     keys: &Keys<'_, Q>,
 ) -> Result<(), AllocError> {
-    let map = map_of(alloc, keys.stored)?;
-    let full = map_of(alloc, keys.stored)?;
-    assert!(rt; have_same_len(&map, &full));
+    let len = made_len(alloc, keys.stored)?;
+    assert!(rt; made_len(alloc, keys.stored)? == len);
     Ok(())
 }
 

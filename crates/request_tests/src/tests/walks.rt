@@ -6,43 +6,39 @@ use std::alloc::{AllocError, Global};
 // Whether a walk gives as many entries as there are, and past the end none where that is asked.
 fn gives_entries<K: Bytes>(map: &GenericPatriciaMap<K, u64>, past: bool) -> bool {
     let mut walk = map.iter();
+    let mut gives_all = true;
     for _ in 0..map.len() {
-        if walk.next().is_none() {
-            return false;
-        }
+        gives_all &= walk.next().is_some();
     }
-    !past || walk.next().is_none()
+    gives_all && (!past || walk.next().is_none())
 }
 
 fn gives_keys<K: Bytes>(map: &GenericPatriciaMap<K, u64>, past: bool) -> bool {
     let mut walk = map.keys();
+    let mut gives_all = true;
     for _ in 0..map.len() {
-        if walk.next().is_none() {
-            return false;
-        }
+        gives_all &= walk.next().is_some();
     }
-    !past || walk.next().is_none()
+    gives_all && (!past || walk.next().is_none())
 }
 
 fn gives_values<K: Bytes>(map: &GenericPatriciaMap<K, u64>, past: bool) -> bool {
     let mut walk = map.values();
+    let mut gives_all = true;
     for _ in 0..map.len() {
-        if walk.next().is_none() {
-            return false;
-        }
+        gives_all &= walk.next().is_some();
     }
-    !past || walk.next().is_none()
+    gives_all && (!past || walk.next().is_none())
 }
 
 fn gives_owned<K: Bytes>(map: GenericPatriciaMap<K, u64>, past: bool) -> bool {
     let len = map.len();
     let mut walk = map.into_iter();
+    let mut gives_all = true;
     for _ in 0..len {
-        if walk.next().is_none() {
-            return false;
-        }
+        gives_all &= walk.next().is_some();
     }
-    !past || walk.next().is_none()
+    gives_all && (!past || walk.next().is_none())
 }
 
 // Whether each walk over a map of some keys does.

@@ -4,7 +4,6 @@ use patricia_tree::{BorrowedBytes, Bytes, GenericPatriciaSet};
 use std::alloc::{AllocError, Global};
 use std::iter;
 use std::process::Abort;
-use std::test::Fail;
 
 // Questions about an element of the set, or about what is none.
 fn ask<Q: BorrowedBytes>(
@@ -19,8 +18,16 @@ fn ask<Q: BorrowedBytes>(
     drop(set.iter_prefix(element));
 }
 
-// Changes that leave the set as it is. The empty element is there.
-fn change<Q: BorrowedBytes>(
+// Whether there is nothing under a prefix to take out.
+fn splits_nothing<Q: BorrowedBytes>(
+    set: &mut GenericPatriciaSet<Q::Owned>,
+    prefix: Q,
+) -> Result<bool, AllocError> {
+    Ok(set.split_by_prefix(prefix)?.is_empty())
+}
+
+// Changes of one element that leave the set as it is.
+fn change_one<Q: BorrowedBytes>(
     rt: &impl Abort,
     set: &mut GenericPatriciaSet<Q::Owned>,
     there: Q,
@@ -28,16 +35,37 @@ fn change<Q: BorrowedBytes>(
 ) -> Result<(), AllocError> {
     assert!(rt; !set.insert(there)?);
     assert!(rt; !set.remove(absent)?);
-    set.extend(iter::once(there))?;
-    assert!(rt; set.split_by_prefix(absent)?.is_empty());
     Ok(())
+}
+
+// The same, and changes by one call. The empty element is there.
+fn change<Q: BorrowedBytes>(
+    rt: &impl Abort,
+    set: &mut GenericPatriciaSet<Q::Owned>,
+    there: Q,
+    absent: Q,
+) -> Result<(), AllocError> {
+    change_one(rt, set, there, absent)?;
+    set.extend(iter::once(there))?;
+    assert!(rt; splits_nothing(set, absent)?);
+    Ok(())
+}
+
+// Whether a copy of a set is empty.
+fn is_copy_empty<K: Bytes>(set: &GenericPatriciaSet<K>) -> Result<bool, AllocError> {
+    Ok(set.clone()?.is_empty())
+}
+
+// Whether a walk over a set gives nothing.
+fn gives_none<K: Bytes>(set: &GenericPatriciaSet<K>) -> bool {
+    set.iter().next().is_none()
 }
 
 // A copy of an empty set, and a walk over it.
 fn look_at_none<K: Bytes>(rt: &impl Abort, set: &GenericPatriciaSet<K>) -> Result<(), AllocError> {
     assert!(rt; set.is_empty());
-    assert!(rt; set.clone()?.is_empty());
-    assert!(rt; set.iter().next().is_none());
+    assert!(rt; is_copy_empty(set)?);
+    assert!(rt; gives_none(set));
     Ok(())
 }
 
@@ -67,13 +95,34 @@ fn clear<K: Bytes>(rt: &impl Abort, mut set: GenericPatriciaSet<K>) {
 // Calls on a set that the empty prefix leaves empty.
 fn empty<Q: BorrowedBytes>(
     rt: &impl Abort,
-    mut set: GenericPatriciaSet<Q::Owned>,
+    set: &mut GenericPatriciaSet<Q::Owned>,
     none: Q,
 ) -> Result<(), AllocError> {
     clear(rt, set.split_by_prefix(none)?);
-    look_at_none(rt, &set)?;
-    in_and_out(rt, &mut set, none)?;
+    look_at_none(rt, set)?;
+    in_and_out(rt, set, none)
+}
+
+// A walk that takes an empty set.
+fn walk_out<K: Bytes>(rt: &impl Abort, set: GenericPatriciaSet<K>) {
     assert!(rt; set.into_iter().next().is_none());
+}
+
+// Questions about each element of the set and changes, and questions about what is none.
+fn call_each<Q: BorrowedBytes>(
+    rt: &impl Abort,
+    set: &mut GenericPatriciaSet<Q::Owned>,
+    there: &[Q],
+    absent: &[Q],
+    other: Q,
+) -> Result<(), AllocError> {
+    for element in there {
+        ask(rt, set, *element, true);
+        change(rt, set, *element, other)?;
+    }
+    for element in absent {
+        ask(rt, set, *element, false);
+    }
     Ok(())
 }
 
@@ -82,23 +131,17 @@ const TEXTS: [&str; 4] = ["", "あい", "あいろ", "xxxxxxxxxxxxxxxxxxxxyyyyyy
 const ABSENT: [&str; 3] = ["あ", "xxxxxxxxxxxxxxxxxxxxyyyyyyyyyyyyyyyyyyyyz", "y"];
 
 #[test]
-fn texts_made(rt: HostRuntime) -> Result<(), Fail> {
+fn texts_made(rt: HostRuntime) -> Result<(), AllocError> {
     let set = set_of(rt.alloc(), &TEXTS)?;
     assert!(rt; set.len() == 4);
     Ok(())
 }
 
 #[test]
-fn texts_called(rt: HostRuntime) -> Result<(), Fail> {
+fn texts_called(rt: HostRuntime) -> Result<(), AllocError> {
     let mut set = set_of(rt.alloc(), &TEXTS)?;
-    for element in &TEXTS {
-        ask(&rt, &set, *element, true);
-        change(&rt, &mut set, *element, "y")?;
-    }
-    for element in &ABSENT {
-        ask(&rt, &set, *element, false);
-    }
-    empty(&rt, set, "")?;
-    make_one(rt.alloc(), "")?;
-    Ok(())
+    call_each(&rt, &mut set, &TEXTS, &ABSENT, "y")?;
+    empty(&rt, &mut set, "")?;
+    walk_out(&rt, set);
+    make_one(rt.alloc(), "")
 }

@@ -5,7 +5,6 @@ use patricia_tree::{BorrowedBytes, GenericPatriciaMap};
 use std::alloc::{AllocError, Global};
 use std::fmt::{Debug, Error, Result as Written, Write};
 use std::process::Abort;
-use std::test::Fail;
 
 // Compares what is written with a text.
 #[derive(Drop)]
@@ -48,47 +47,75 @@ fn check<D: Debug>(rt: &impl Abort, value: &D, text: &str) {
     assert!(rt; first || second);
 }
 
-// A map of these keys, each with its length. An insert that is refused is tried once more.
-fn map_of<Q: BorrowedBytes>(
-    alloc: Global,
+// Puts keys in, each with its length. An insert that is refused is tried once more.
+fn put_all<Q: BorrowedBytes>(
+    map: &mut GenericPatriciaMap<Q::Owned, usize>,
     keys: &[Q],
-) -> Result<GenericPatriciaMap<Q::Owned, usize>, AllocError> {
-    let mut map = GenericPatriciaMap::new(alloc);
+) -> Result<(), AllocError> {
     for key in keys {
         let len = key.as_bytes().len();
         if map.insert(*key, len).is_err() && map.insert(*key, len).is_err() {
             return Err(AllocError);
         }
     }
+    Ok(())
+}
+
+// A map of these keys.
+fn map_of<Q: BorrowedBytes>(
+    alloc: Global,
+    keys: &[Q],
+) -> Result<GenericPatriciaMap<Q::Owned, usize>, AllocError> {
+    let mut map = GenericPatriciaMap::new(alloc);
+    put_all(&mut map, keys)?;
     Ok(map)
+}
+
+// The Debug text of a set of these elements.
+fn check_set<Q: BorrowedBytes>(
+    rt: &impl Abort,
+    alloc: Global,
+    elements: &[Q],
+    text: &str,
+) -> Result<(), AllocError>
+where
+    Q::Owned: Debug,
+{
+    check(rt, &set_of(alloc, elements)?, text);
+    Ok(())
+}
+
+// That of a map of these keys.
+fn check_map<Q: BorrowedBytes>(
+    rt: &impl Abort,
+    alloc: Global,
+    keys: &[Q],
+    text: &str,
+) -> Result<(), AllocError>
+where
+    Q::Owned: Debug,
+{
+    check(rt, &map_of(alloc, keys)?, text);
+    Ok(())
 }
 
 const BYTES: [&[u8]; 3] = [b"foo", b"bar", b""];
 
 const TEXTS: [&str; 3] = ["a\"\\", "あ\n", ""];
 
+const SET_OF_BYTES: &str = "{[], [98, 97, 114], [102, 111, 111]}";
+
+const SET_OF_TEXTS: &str = "{\"\", \"a\\\"\\\\\", \"あ\\n\"}";
+
+const MAP_OF_BYTES: &str = "{[]: 0, [98, 97, 114]: 3, [102, 111, 111]: 3}";
+
+const MAP_OF_TEXTS: &str = "{\"\": 0, \"a\\\"\\\\\": 3, \"あ\\n\": 4}";
+
 #[test]
-fn texts_refused_in_turn(rt: HostRuntime) -> Result<(), Fail> {
+fn texts_refused_in_turn(rt: HostRuntime) -> Result<(), AllocError> {
     let alloc = rt.alloc();
-    check(
-        &rt,
-        &set_of(alloc, &BYTES)?,
-        "{[], [98, 97, 114], [102, 111, 111]}",
-    );
-    check(
-        &rt,
-        &set_of(alloc, &TEXTS)?,
-        "{\"\", \"a\\\"\\\\\", \"あ\\n\"}",
-    );
-    check(
-        &rt,
-        &map_of(alloc, &BYTES)?,
-        "{[]: 0, [98, 97, 114]: 3, [102, 111, 111]: 3}",
-    );
-    check(
-        &rt,
-        &map_of(alloc, &TEXTS)?,
-        "{\"\": 0, \"a\\\"\\\\\": 3, \"あ\\n\": 4}",
-    );
-    Ok(())
+    check_set(&rt, alloc, &BYTES, SET_OF_BYTES)?;
+    check_set(&rt, alloc, &TEXTS, SET_OF_TEXTS)?;
+    check_map(&rt, alloc, &BYTES, MAP_OF_BYTES)?;
+    check_map(&rt, alloc, &TEXTS, MAP_OF_TEXTS)
 }

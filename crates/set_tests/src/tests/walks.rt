@@ -3,7 +3,6 @@ use super::helpers::set_of;
 use patricia_tree::{BorrowedBytes, Bytes, GenericPatriciaSet};
 use std::alloc::{AllocError, Global};
 use std::process::Abort;
-use std::test::Fail;
 
 // How a walk compares with the elements that it should give.
 #[derive(Clone, Copy, PartialEq)]
@@ -76,7 +75,36 @@ fn fit(first: Walked, second: Walked) -> bool {
         && (first == Walked::Whole || second == Walked::Whole)
 }
 
-// Each walk twice: over everything, and over what begins with the prefix, the first `under`.
+// Each walk twice: over everything, and over what begins with the prefix, the first elements.
+fn check_walks<Q: BorrowedBytes>(
+    rt: &impl Abort,
+    set: &GenericPatriciaSet<Q::Owned>,
+    elements: &[Q],
+    first: &[Q],
+    prefix: Q,
+) {
+    assert!(rt; fit(walk(set, elements), walk(set, elements)));
+    assert!(rt;
+        fit(
+            walk_under(set, prefix, first),
+            walk_under(set, prefix, first)
+        )
+    );
+}
+
+// A walk that takes a set, twice.
+fn check_walks_out<Q: BorrowedBytes>(
+    rt: &impl Abort,
+    alloc: Global,
+    elements: &[Q],
+) -> Result<(), AllocError> {
+    let first = walk_out(set_of(alloc, elements)?, elements);
+    let second = walk_out(set_of(alloc, elements)?, elements);
+    assert!(rt; fit(first, second));
+    Ok(())
+}
+
+// Each walk, of which those under the prefix give the first `under`.
 fn check_each<Q: BorrowedBytes>(
     rt: &impl Abort,
     alloc: Global,
@@ -84,22 +112,9 @@ fn check_each<Q: BorrowedBytes>(
     under: usize,
     prefix: Q,
 ) -> Result<(), AllocError> {
-    let set = set_of(alloc, elements)?;
     let first = elements.get(..under).unwrap_or(elements);
-    assert!(rt; fit(walk(&set, elements), walk(&set, elements)));
-    assert!(rt;
-        fit(
-            walk_under(&set, prefix, first),
-            walk_under(&set, prefix, first)
-        )
-    );
-    assert!(rt;
-        fit(
-            walk_out(set, elements),
-            walk_out(set_of(alloc, elements)?, elements)
-        )
-    );
-    Ok(())
+    check_walks(rt, &set_of(alloc, elements)?, elements, first, prefix);
+    check_walks_out(rt, alloc, elements)
 }
 
 // In key order. The first three begin with "ba", and two labels have more than 30 bytes.
@@ -113,7 +128,6 @@ const ELEMENTS: [&[u8]; 6] = [
 ];
 
 #[test]
-fn walks_refused_in_turn(rt: HostRuntime) -> Result<(), Fail> {
-    check_each(&rt, rt.alloc(), &ELEMENTS, 3, b"ba".as_slice())?;
-    Ok(())
+fn walks_refused_in_turn(rt: HostRuntime) -> Result<(), AllocError> {
+    check_each(&rt, rt.alloc(), &ELEMENTS, 3, b"ba".as_slice())
 }

@@ -1,7 +1,7 @@
 use Rattle.std.proofs.Common.{rules, ◌≡◌, sym, ap, ◌∙◌}
 use Rattle.patricia_tree.specs.Cursors.{stepped, last_value}
-use Rattle.cursor_tests.proofs.FirstLemmas.{start, no_row, same_map, put_first}
-use Rattle.cursor_tests.proofs.callers.set_first.Goals as goal
+use Rattle.loan_callers.proofs.FirstLemmas.{start, no_row, same_map, put_first}
+use Rattle.loan_callers.proofs.cursors.set_first.Goals as goal
 
 pub returns-in-Some-clause-put : goal.returns-in-Some-clause-put
 returns-in-Some-clause-put g c found =
