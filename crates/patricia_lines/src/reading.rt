@@ -7,6 +7,7 @@ ghost use Rattle.patricia_machine.specs.Machine.{with_key};
 ghost use Rattle.patricia_lines.specs.Text.{number_of, word_of, key_alone, alone, lines_of};
 ghost use Rattle.patricia_lines.specs.Text.{said_after, said_by, said_of, said_with, all_said};
 ghost use Rattle.patricia_lines.specs.Text.{without_last_empty};
+ghost use Rattle.patricia_lines.specs.declared.reading.Word.TheVariants as Words;
 
 use crate::spelling::Spelled;
 use patricia_machine::Command;
@@ -123,20 +124,28 @@ fn alone<'a, Q: Spelled<'a>>(command: Command<Q, u64>, fields: &[&'a [u8]]) -> R
     }
 }
 
+// The insert of a key and a number.
+fn insert<'a, Q: Spelled<'a>>(fields: &[&'a [u8]]) -> Reading<Q>
+    ensures { said_with Q.key result
+        ≡ said_after Q.spelling Words.Insert (map (λ f. f.now) fields.now) }
+{
+    match fields {
+        [key, value] => {
+            let value = number(value).ok_or(Fault::BadNumber)?;
+            let key = Q::read(key).ok_or(Fault::BadKey)?;
+            Ok(Command::Insert(key, value))
+        }
+        _ => Err(Fault::FieldCount),
+    }
+}
+
 // The command of the fields after a word.
 fn command<'a, Q: Spelled<'a>>(word: Word, fields: &[&'a [u8]]) -> Reading<Q>
     ensures { said_with Q.key result
         ≡ said_after Q.spelling word (map (λ f. f.now) fields.now) }
 {
     match word {
-        Word::Insert => match fields {
-            [key, value] => {
-                let value = number(value).ok_or(Fault::BadNumber)?;
-                let key = Q::read(key).ok_or(Fault::BadKey)?;
-                Ok(Command::Insert(key, value))
-            }
-            _ => Err(Fault::FieldCount),
-        },
+        Word::Insert => insert(fields),
         Word::Get => Ok(Command::Get(only_key(fields)?)),
         Word::Remove => Ok(Command::Remove(only_key(fields)?)),
         Word::Len => alone(Command::Len, fields),

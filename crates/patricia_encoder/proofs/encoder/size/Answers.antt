@@ -1,4 +1,4 @@
-use Rattle.std.proofs.Common.{[]}
+use Rattle.std.proofs.Common.{[], rules}
 use Rattle.patricia_encoder.proofs.EncodeLemmas.{at_start, some_left, at_next, deep_left}
 use Rattle.patricia_encoder.proofs.LeftLemmas.{err_from}
 use Rattle.patricia_encoder.proofs.encoder.size.Goals as goal
@@ -20,3 +20,6 @@ loop-records-preserved g c =
     let taken = rw c.in-Some.is at c.in_ok-record.ensures.ok in
     let at = at_next g.K.Bytes.item g.met.K.Bytes.lawful c.args.slots.now c.loop-records.records c.next.new.self counted.0 _ counted.1 taken in
     record { some = some_left g.K.Bytes.item g.met.K.Bytes.lawful c.args.slots.now c.next.new.self _ c.requires.row at; at = (_, at) }
+
+pub returns : goal.returns
+returns g c = search rules

@@ -1,6 +1,5 @@
-use Rattle.std.proofs.Common.{arith}
-use Rattle.std.proofs.lemmas.Grind.{common_steps}
+use Rattle.std.proofs.Common.{rules}
 use Rattle.patricia_lines.proofs.reading.command.Goals as goal
 
-pub returns-in_err-key-in-len2 : goal.returns-in_err-key-in-len2
-returns-in_err-key-in-len2 g c = grind (arith, common_steps)
+pub returns-in-Reload : goal.returns-in-Reload
+returns-in-Reload g c = search rules

@@ -1,4 +1,4 @@
-use Rattle.std.proofs.Common.{◌≡◌, ◌<◌, ◌++◌, ◌∷◌, [], sym, ap, subst, ◌∙◌, arith, take, drop, length, length-drop}
+use Rattle.std.proofs.Common.{◌≡◌, ◌<◌, ◌++◌, ◌∷◌, [], sym, ap, subst, ◌∙◌, arith, take, drop, length, length-drop, rules}
 use Rattle.std.specs.Prelude.{is_some, is_ok, true}
 use Rattle.patricia_rows.specs.Rows.{end, node}
 use Rattle.patricia_walks.specs.Private.Positions.{row_at}
@@ -94,3 +94,6 @@ returns-clause-ok g c =
           let below = below_part item kind p c.args.id n left.plan c.requires.next reads q k piece kept level short (ap (λ s. s.next) w.self-is) (ap (λ s. s.skipped) w.self-is) in
           taken item kind p c.args.id n left.plan c.requires.next reads q k piece kept level r at under beside (ap (λ s. s.stack.items) w.self-is ∙ stack) (rw (value, child) below) level_is label_is sibling_is shallow
     ]
+
+pub returns-in_err-map_err-clause-too_deep : goal.returns-in_err-map_err-clause-too_deep
+returns-in_err-map_err-clause-too_deep g c = search rules

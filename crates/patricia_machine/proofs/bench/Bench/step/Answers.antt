@@ -6,3 +6,6 @@ returns-in-Len g c = search rules
 
 pub returns-in-Insert : goal.returns-in-Insert
 returns-in-Insert g c = search rules
+
+pub returns-in-Wire : goal.returns-in-Wire
+returns-in-Wire g c = search rules
