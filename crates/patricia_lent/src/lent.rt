@@ -22,7 +22,7 @@ pub struct Lent<'a, M: Drop, C: GivesBack<M>> {
 }
 
 impl<'a, M: Drop, C: GivesBack<M>> Lent<'a, M, C> {
-    /// A cursor that is put back here.
+    /// A cursor over what is lent to it, which is put back here once the cursor is dropped.
     pub fn new(home: &'a mut M, at: C) -> Self
         ensures home { result.home.ghost_name ≡ home.entry.ghost_name }
         ensures at { result.at ≡ at }
