@@ -1,0 +1,4 @@
+use Rattle.patricia_lent.proofs.values.Lent+M+ValueCursor+K+V.advance.Goals as goal
+
+pub returns-clause-stepped : goal.returns-clause-stepped
+returns-clause-stepped g c = c.advance.ensures.stepped
