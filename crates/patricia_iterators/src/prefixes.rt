@@ -90,7 +90,7 @@ impl<'a, Q: BorrowedBytes, V> FusedIterator for CommonPrefixValues<'a, Q, V> {}
 /// The values of the same entries, for a key that the walk owns.
 #[derive(Drop)]
 pub struct CommonPrefixValuesOwned<'a, K: Bytes, V> {
-    along: AlongOwned<'a, K, V>,
+    walk: AlongOwned<'a, K, V>,
 }
 
 impl<'a, K: Bytes, V> Model for CommonPrefixValuesOwned<'a, K, V> {
@@ -98,15 +98,15 @@ impl<'a, K: Bytes, V> Model for CommonPrefixValuesOwned<'a, K, V> {
 
     ghost Value = { List V };
 
-    ghost view = { λ i. i.along };
+    ghost view = { λ i. i.walk };
 }
 
 impl<'a, K: Bytes, V> CommonPrefixValuesOwned<'a, K, V> {
     /// The values of a walk along a key that it owns.
-    pub fn new(along: AlongOwned<'a, K, V>) -> Self
-        ensures { result ≡ along.entry }
+    pub fn new(walk: AlongOwned<'a, K, V>) -> Self
+        ensures { result ≡ walk.entry }
     {
-        CommonPrefixValuesOwned { along }
+        CommonPrefixValuesOwned { walk }
     }
 }
 
@@ -118,7 +118,7 @@ impl<'a, K: Bytes, V> Iterator for CommonPrefixValuesOwned<'a, K, V> {
     ghost remaining = { λ values. at_most (length values) };
 
     fn next(&mut self) -> Option<&'a V> {
-        self.along.next_value()
+        self.walk.next_value()
     }
 }
 
