@@ -1,11 +1,14 @@
 -- Rows that are copied, one after the other.
-use Rattle.std.proofs.Common.{◌≡◌, ℕ, suc, ◌+◌, ◌≤◌, List, [], ◌∷◌, ◌++◌, length, get_or, Option, Some, None, sym, ap, ◌∙◌, arith, length-append}
+use Rattle.std.proofs.Common.{◌≡◌, ℕ, suc, ◌+◌, ◌<◌, ◌≤◌, List, [], ◌∷◌, ◌++◌, length, get_or, Option, Some, None, slice_get, sym, ap, ◌∙◌, arith, length-append}
 use Rattle.std.proofs.lemmas.List.{append-nil}
+use Rattle.std.proofs.lemmas.Option.{slice_get_within}
+use Rattle.std.specs.Prelude.{IfSome}
+use Rattle.patricia_rows.specs.Clones.{IsKept}
 use Rattle.patricia_nodes.specs.declared.slots.Node.{Node}
 use Rattle.patricia_nodes.specs.Private.Plans.{Plan, Nil, Cell, linked, head, row}
 use Rattle.patricia_nodes.specs.Private.Growth.{tops, numbered, laid, IsTopRow}
 use Rattle.patricia_nodes.proofs.PlanLemmas.{node_is}
-use Rattle.patricia_nodes.proofs.GrowthLemmas.{laid_next}
+use Rattle.patricia_nodes.proofs.GrowthLemmas.{opens_top, laid_next}
 use Rattle.patricia_copies.specs.Private.Copies.{RowKept}
 
 module _ {V : Type 0} where
@@ -21,6 +24,22 @@ module _ {V : Type 0} (is_clone : V → V → Type 0) where
     pub copied : to ++ laid (length to) rest ≡ to0 ++ laid (length to0) w
     pub counted : length to + length (tops rest) ≡ length to0 + length (tops w)
     pub kept : RowKept is_clone (row w) → RowKept is_clone (row rest)
+
+  module _ {from to0 : List (Node V)} {w : Plan V} {at : Option ℕ} {id : ℕ} {to : List (Node V)} (m : Copying from to0 w at to) (e : at ≡ Some id) where
+    next_node : (l : List ℕ) × (v : Option V) × (c : Plan V) × (d : Plan V) × (m.rest ≡ Cell id l v c d) × (slice_get from id ≡ Some (linked l v (head c) (head d)))
+    next_node = opens_top from id m.rest (rw e at m.top)
+
+    -- the next node is there
+    pub copying_within : id < length from
+    copying_within = slice_get_within from id _ next_node.5
+
+    -- there is room for it
+    pub copying_room : length to < length to0 + length (tops w)
+    copying_room = omega (arith, m.counted, ap (λ p. length (tops p)) next_node.4)
+
+    -- and clones of its value are the same
+    pub copying_kept : RowKept is_clone (row w) → (n : Node V) → n ≡ get_or from id n → IfSome n.value (IsKept is_clone)
+    copying_kept kept n reads = rw (node_is from id n _ next_node.5 reads) (rw next_node.4 at m.kept kept).0
 
   module _ (from to0 : List (Node V)) (w : Plan V) (id : ℕ) (to : List (Node V)) (m : Copying from to0 w (Some id) to) (n : Node V) (reads : n ≡ get_or from id n) where
     -- one node more is copied

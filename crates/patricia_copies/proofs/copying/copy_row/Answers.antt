@@ -1,8 +1,24 @@
 use Rattle.std.proofs.Common.{suc, Some, length, sym, ap, ◌∙◌, arith}
 use Rattle.patricia_nodes.proofs.GrowthLemmas.{number_none, number_some}
-use Rattle.patricia_copies.proofs.CopyLemmas.{copying_next, copying_done}
+use Rattle.patricia_copies.proofs.CopyLemmas.{copying_within, copying_room, copying_kept, copying_next, copying_done}
 use Rattle.patricia_copies.proofs.copying.copy_row.Goals as goal
 use Rattle.patricia_copies.proofs.copying.copy_row.Goals.{in-None, in-Some-get}
+
+pub offset_bounds-from-index : goal.offset_bounds-from-index
+offset_bounds-from-index g c =
+    omega (arith, copying_within g.V.Clone.is_clone (c.loop-id.invariant.copying c.requires.row.0 c.requires.row.1) (sym c.get.ensures ∙ c.in-Some.is))
+
+pub bounds-from-index : goal.bounds-from-index
+bounds-from-index g c =
+    omega (arith, copying_within g.V.Clone.is_clone (c.loop-id.invariant.copying c.requires.row.0 c.requires.row.1) (sym c.get.ensures ∙ c.in-Some.is))
+
+pub copy_node-requires : goal.copy_node-requires
+copy_node-requires g c =
+    copying_kept g.V.Clone.is_clone (c.loop-id.invariant.copying c.requires.row.0 c.requires.row.1) (sym c.get.ensures ∙ c.in-Some.is) c.requires.row.2 _ (rw c.index.ensures at c.index-from-index.is)
+
+pub push_reserved-requires : goal.push_reserved-requires
+push_reserved-requires g c =
+    omega (arith, c.requires.row.3, copying_room g.V.Clone.is_clone (c.loop-id.invariant.copying c.requires.row.0 c.requires.row.1) (sym c.get.ensures ∙ c.in-Some.is))
 
 pub loop-id-preserved : goal.loop-id-preserved
 loop-id-preserved g c = record {

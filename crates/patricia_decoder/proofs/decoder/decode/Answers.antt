@@ -25,6 +25,11 @@ loop-builder-init g c = record {
   bytes = refl;
 }
 
+pub next-requires : goal.next-requires
+next-requires g c =
+    let inv = c.loop-builder.invariant in
+    record { n = _; before = inv.before; due = inv.due; reading = inv.reading; counted = counted _ inv.taken _ inv.before c.len.result inv.split inv.marks (c.len.ensures ∙ inv.left) }
+
 pub add-requires : goal.add-requires
 add-requires g c =
     let inv = c.loop-builder.invariant in

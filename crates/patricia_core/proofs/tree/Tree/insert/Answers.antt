@@ -59,3 +59,12 @@ returns-in-Ok-Some-clause-ok g c =
 pub returns-in-Err-clause-only_new : goal.returns-in-Err-clause-only_new
 returns-in-Err-clause-only_new g c =
     rw (← c.self.view_is) (get_filled g.K.Bytes.item g.met.K.Bytes.lawful _ _ _ c.self.invariant.tree.row_ok (λ none. absurd (false≢true (c.if-is_empty.ensures.1 none))) ∙ c.in-Err.ensures.only_new)
+
+pub overflow_add-self : goal.overflow_add-self
+overflow_add-self g c = omega (arith, c.self.invariant.tree.fits)
+
+pub invariant_of-self-in-Err : goal.invariant_of-self-in-Err
+invariant_of-self-in-Err g c = record { whole = c.in-Err.ensures.whole; tree = rw c.in-Err.ensures.unchanged c.self.invariant.tree }
+
+pub returns-in-Err-clause-unchanged : goal.returns-in-Err-clause-unchanged
+returns-in-Err-clause-unchanged g c = rw c.in-Err.ensures.unchanged c.self.view_is

@@ -60,3 +60,14 @@ returns-in-Err-clause-joins g c =
     let row = row_of c.self.inside.slots in
     let q = g.Q.BorrowedBytes.key c.args.key in
     rw (← c.self.view_is) (subst (λ S. Joins g.K.Bytes.item S q) (sym (keys_map g.K.Bytes.item g.met.K.Bytes.lawful v row c.self.invariant.tree.row_ok)) (joins_root g.K.Bytes.item v (entries row) q c.in-Err.ensures.joins))
+
+pub overflow_sub-self : goal.overflow_sub-self
+overflow_sub-self g c =
+    let found = sym c.in-Ok-Some.ensures.old ∙ c.in-Ok-Some.field-0-is in
+    omega (arith, c.self.invariant.tree.counted, remove_present g.K.Bytes.item g.met.K.Bytes.lawful (c.self.inside.value) (row_of c.self.inside.slots) (row_of c.remove.new.slots) _ c.in-Ok-Some.old c.self.invariant.tree.row_ok c.in-Ok-Some.ensures.ok found)
+
+pub invariant_of-self-in-Err : goal.invariant_of-self-in-Err
+invariant_of-self-in-Err g c = record { whole = c.in-Err.ensures.whole; tree = rw c.in-Err.ensures.unchanged c.self.invariant.tree }
+
+pub returns-in-Err-clause-unchanged : goal.returns-in-Err-clause-unchanged
+returns-in-Err-clause-unchanged g c = rw c.in-Err.ensures.unchanged c.self.view_is
