@@ -2,3 +2,6 @@ mod chains;
 mod claims;
 mod decimals;
 mod helpers;
+mod refusals;
+mod refused;
+mod texts;

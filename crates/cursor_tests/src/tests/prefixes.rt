@@ -1,3 +1,4 @@
+// Loans of the value of the longest key that begins a key.
 use super::helpers::{has_values, two};
 use loan_callers::loans::replace_longest;
 use patricia_tree::{BorrowedBytes, GenericPatriciaMap};
@@ -5,10 +6,10 @@ use std::alloc::{AllocError, Global};
 
 // Writes through a loan of the value of the longest key that begins a key, and answers the old one.
 fn lend_longest<Q: BorrowedBytes>(
-    map: &mut GenericPatriciaMap<Q::Owned, u64>,
+    map: &mut GenericPatriciaMap<Q::Owned, u32>,
     key: Q,
-    value: u64,
-) -> Option<u64> {
+    value: u32,
+) -> Option<u32> {
     let (_, place) = map.get_longest_common_prefix_mut(key)?;
     let old = *place;
     *place = value;
@@ -17,7 +18,7 @@ fn lend_longest<Q: BorrowedBytes>(
 
 // How long the key is that is handed out.
 fn longest_len<Q: BorrowedBytes>(
-    map: &mut GenericPatriciaMap<Q::Owned, u64>,
+    map: &mut GenericPatriciaMap<Q::Owned, u32>,
     key: Q,
 ) -> Option<usize> {
     map.with_longest_common_prefix_mut(key, |part, _| part.as_bytes().len())
@@ -25,11 +26,11 @@ fn longest_len<Q: BorrowedBytes>(
 
 // How a value is written at the longest key that begins a key: through a loan, or by a closure.
 fn written<Q: BorrowedBytes>(
-    map: &mut GenericPatriciaMap<Q::Owned, u64>,
+    map: &mut GenericPatriciaMap<Q::Owned, u32>,
     by_loan: bool,
     key: Q,
-    value: u64,
-) -> Option<u64> {
+    value: u32,
+) -> Option<u32> {
     if by_loan {
         lend_longest(map, key, value)
     } else {
@@ -40,7 +41,7 @@ fn written<Q: BorrowedBytes>(
 // Whether 3 can be written at the key that begins the first of some keys, 4 at that of the second,
 // and nothing at the third, in a map of two keys.
 fn writes<Q: BorrowedBytes>(
-    map: &mut GenericPatriciaMap<Q::Owned, u64>,
+    map: &mut GenericPatriciaMap<Q::Owned, u32>,
     by_loan: bool,
     first: Q,
     second: Q,

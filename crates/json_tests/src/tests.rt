@@ -1,4 +1,0 @@
-mod helpers;
-mod refusals;
-mod refused;
-mod texts;

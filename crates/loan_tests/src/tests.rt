@@ -1,3 +1,0 @@
-mod helpers;
-mod keys;
-mod prefixes;
