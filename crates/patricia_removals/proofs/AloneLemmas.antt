@@ -92,6 +92,12 @@ module _ {V : Type 0} where
   spares_top (InChild id l v d ∷ fs) x e = absurd (cc)
   spares_top (InSibling id l v c ∷ fs) x e = spares_top fs (Cell id l v c x) e
 
+  -- the second node of a row is there
+  pub second_within : (nodes : List (Node V)) (at : Option ℕ) (p : Plan V) (a b : ℕ) (n : Node V) → IsPlan nodes at p → at ≡ Some a → n ≡ get_or nodes a n → n.sibling ≡ Some b → b < length nodes
+  second_within nodes at p a b n w is reads next =
+      let o = opened nodes at p a n w is reads in
+      head_within nodes n.sibling o.sibling b o.sibling_plan next
+
   -- the two nodes of a row, as they are read
   pub pair_is : (nodes : List (Node V)) (at : Option ℕ) (p : Plan V) (a b : ℕ) (n m : Node V) → IsPlan nodes at p → at ≡ Some a → n ≡ get_or nodes a n → n.sibling ≡ Some b → m ≡ get_or nodes b m → m.sibling ≡ None → IsPair p a b
   pair_is nodes at p a b n m w is reads next reads' last =

@@ -1,4 +1,5 @@
-use Rattle.std.proofs.Common.{◌++◌, [], ◌∷◌, None, length, refl, sym, ap, subst, ◌∙◌}
+use Rattle.std.proofs.Common.{◌++◌, [], ◌∷◌, None, length, refl, sym, arith, ap, subst, ◌∙◌}
+use Rattle.std.proofs.lemmas.Grind.{common_steps}
 use Rattle.std.specs.Option.{option_to_list}
 use Rattle.std.specs.Vec.Iter.{into_iter_items, into_iter_len}
 use Rattle.patricia_wire_laws.specs.Records.{Record}
@@ -29,6 +30,16 @@ pub next-requires : goal.next-requires
 next-requires g c =
     let inv = c.loop-builder.invariant in
     record { n = _; before = inv.before; due = inv.due; reading = inv.reading; counted = counted _ inv.taken _ inv.before c.len.result inv.split inv.marks (c.len.ensures ∙ inv.left) }
+
+pub returns-in_err-record-clause-first_fault : goal.returns-in_err-record-clause-first_fault
+returns-in_err-record-clause-first_fault g c =
+    let inv = c.loop-builder.invariant in
+    let bytes = ap (λ b. b.now) inv.bytes ∙ c.in_ok-reader.ensures.bytes in
+    let count = counted _ inv.taken _ inv.before c.len.result inv.split inv.marks (c.len.ensures ∙ inv.left) in
+    let refused = c.in_err-record.ensures.refused _ inv.before inv.due inv.reading count in
+    handed_on (λ e. IsRefusal g.K.Bytes.item 2 c.args.bytes.now (length c.args.values.items) e) c.from_residual-in_err-record.result c.in_err-record.field-0.0 c.from_residual-in_err-record.ensures.1
+    (subst (λ b. IsRefusal g.K.Bytes.item 2 b (length c.args.values.items) c.in_err-record.field-0.0) bytes
+    (subst (λ l. IsRefusal g.K.Bytes.item 2 c.loop-builder.reader.bytes.now (length l) c.in_err-record.field-0.0) c.into_iter-values.ensures.rest refused))
 
 pub add-requires : goal.add-requires
 add-requires g c =
@@ -121,3 +132,6 @@ returns-clause-means g c =
     let values = sym c.into_iter-values.ensures.rest ∙ all_taken _ inv.taken _ c.len-2.result inv.split (c.len-2.ensures ∙ inv.left) over.1 in
     let finish = finished g.K.Bytes.item g.met.K.Bytes.lawful c.next.new.self _ inv.before on.1 over.0 c.args.bytes.now bytes (record { nodes = c.loop-builder.builder.nodes; root = c.loop-builder.builder.root; free = c.none.result }) c.loop-builder.builder.value inv.taken c.args.values.items tree c.none.ensures values in
     finish.means
+
+pub loop-builder-smaller : goal.loop-builder-smaller
+loop-builder-smaller g c = grind (arith, common_steps)

@@ -1,6 +1,15 @@
-use Rattle.std.proofs.Common.{sym, ◌∙◌}
-use Rattle.patricia_removals.proofs.AloneLemmas.{pair_is, pair_not}
+use Rattle.std.proofs.Common.{sym, ◌∙◌, arith}
+use Rattle.patricia_nodes.proofs.SeekLemmas.{head_within}
+use Rattle.patricia_removals.proofs.AloneLemmas.{second_within, pair_is, pair_not}
 use Rattle.patricia_removals.proofs.removal.pair.Goals as goal
+
+pub index-requires-2 : goal.index-requires-2
+index-requires-2 g c =
+    omega (arith, c.index.ensures, head_within _ _ _ _ c.requires.1 (sym c.get.ensures ∙ c.in-Some.is))
+
+pub index-requires-4 : goal.index-requires-4
+index-requires-4 g c =
+    omega (arith, c.index-3.ensures, second_within _ _ c.requires.0 c.in-Some.first c.in-Some-get.second c.index-2.result.now c.requires.1 (sym c.get.ensures ∙ c.in-Some.is) (rw c.index.ensures at c.index-2.ensures) (sym c.get-2.ensures ∙ c.in-Some-get.is))
 
 pub returns-in-None : goal.returns-in-None
 returns-in-None g c p w =

@@ -79,9 +79,3 @@ returns-then-is_empty-clause-unchanged g c = tt
 
 pub returns-then-is_empty-clause-only_begun : goal.returns-then-is_empty-clause-only_begun
 returns-then-is_empty-clause-only_begun g c = tt
-
-pub invariant_of-self-in-Err : goal.invariant_of-self-in-Err
-invariant_of-self-in-Err g c = rw c.in-Err.ensures.unchanged c.self-2.invariant
-
-pub returns-in-Err-clause-unchanged : goal.returns-in-Err-clause-unchanged
-returns-in-Err-clause-unchanged g c = rw c.in-Err.ensures.unchanged c.self-2.view_is
