@@ -17,7 +17,7 @@ enum Part {
     Halves,
 }
 
-// What is done between calls, outside their times.
+// What is done between calls, outside their times. Two of these have a line, and so a name.
 #[derive(Clone, Copy)]
 enum Between {
     Collect,
