@@ -1,34 +1,51 @@
 //! The keys of the input, and their order.
 use std::alloc::{AllocError, Global};
 
-/// Some lines of the input, and the others.
-pub type Halves<'a> = (Vec<&'a [u8]>, Vec<&'a [u8]>);
+/// The keys that are put in and those that are only asked for, the first halves of some of the
+/// latter, and a prefix of about a tenth of the former; and the memory that a key took, and the
+/// most of it.
+#[derive(Drop)]
+pub(super) struct Lists<Q> {
+    pub(super) present: Vec<Q>,
+    pub(super) absent: Vec<Q>,
+    pub(super) halves: Vec<Q>,
+    pub(super) prefix: Q,
+    pub(super) memory: (u64, u64),
+}
+
+fn push<'k>(list: &mut Vec<&'k [u8]>, key: &'k [u8]) -> Result<(), AllocError> {
+    list.push(key)?;
+    Ok(())
+}
 
 // Puts a line that is not empty into the second list where that is shorter, or else into the first.
-fn push_line<'a>(
-    first: &mut Vec<&'a [u8]>,
-    second: &mut Vec<&'a [u8]>,
-    line: &'a [u8],
-) -> Result<(), AllocError> {
+fn push_line<'k>(lists: &mut Lists<&'k [u8]>, line: &'k [u8]) -> Result<(), AllocError> {
     if line.is_empty() {
-        return Ok(());
-    }
-    if first.len() == second.len() {
-        first.push(line)?;
+        Ok(())
+    } else if lists.present.len() == lists.absent.len() {
+        push(&mut lists.present, line)
     } else {
-        second.push(line)?;
+        push(&mut lists.absent, line)
+    }
+}
+
+// Puts in the lines of the input that are not empty.
+fn push_lines<'k>(lists: &mut Lists<&'k [u8]>, input: &'k [u8]) -> Result<(), AllocError> {
+    for line in input.split(|byte| *byte == b'\n') {
+        push_line(lists, line)?;
     }
     Ok(())
 }
 
-/// The lines of the input that are not empty, by turns in the first list and in the second.
-pub(super) fn read_keys(alloc: Global, input: &[u8]) -> Result<Halves<'_>, AllocError> {
-    let mut first = Vec::new(alloc);
-    let mut second = Vec::new(alloc);
-    for line in input.split(|byte| *byte == b'\n') {
-        push_line(&mut first, &mut second, line)?;
+// Lists with no keys.
+fn no_lists<'k>(alloc: Global) -> Lists<&'k [u8]> {
+    Lists {
+        present: Vec::new(alloc),
+        absent: Vec::new(alloc),
+        halves: Vec::new(alloc),
+        prefix: &[],
+        memory: (0, 0),
     }
-    Ok((first, second))
 }
 
 /// Puts the keys in another order, the same each time.
@@ -42,13 +59,12 @@ pub(super) fn shuffle<T>(keys: &mut [T], seed: u64) {
     }
 }
 
-/// The first half of each key.
-pub(super) fn halves<'a>(alloc: Global, keys: &[&'a [u8]]) -> Result<Vec<&'a [u8]>, AllocError> {
-    let mut halves = Vec::new(alloc);
-    for key in keys {
-        halves.push(&key[..key.len() / 2])?;
+// Adds the first half of each of up to 100,000 keys.
+fn push_halves<'k>(halves: &mut Vec<&'k [u8]>, keys: &[&'k [u8]]) -> Result<(), AllocError> {
+    for key in &keys[..keys.len().min(100_000)] {
+        push(halves, &key[..key.len() / 2])?;
     }
-    Ok(halves)
+    Ok(())
 }
 
 // How many keys begin with a prefix.
@@ -84,9 +100,9 @@ fn nearer<'a>(keys: &[&'a [u8]], key: &'a [u8], best: Share<'a>) -> Share<'a> {
     nearest
 }
 
-/// A prefix of about a tenth of the keys: the nearest to it of the beginnings of eight keys. The
-/// keys are sorted, and the eight lie evenly among them.
-pub(super) fn tenth<'a>(keys: &[&'a [u8]]) -> &'a [u8] {
+// A prefix of about a tenth of the keys: the nearest to it of the beginnings of eight keys. The
+// keys are sorted, and the eight lie evenly among them.
+fn tenth<'a>(keys: &[&'a [u8]]) -> &'a [u8] {
     let mut best: Share<'a> = (&[], keys.len());
     for eighth in 0..8usize {
         if let Some(key) = keys.get(eighth.wrapping_mul(keys.len() / 8)) {
@@ -94,4 +110,26 @@ pub(super) fn tenth<'a>(keys: &[&'a [u8]]) -> &'a [u8] {
         }
     }
     best.0
+}
+
+// Brings the keys into the order in which they are put in and asked for, after a prefix is chosen.
+fn arrange(lists: &mut Lists<&[u8]>) {
+    lists.present.sort_unstable();
+    lists.prefix = tenth(&lists.present);
+    shuffle(&mut lists.present, 1);
+    shuffle(&mut lists.absent, 2);
+}
+
+// Puts in the keys of the input and what is made of them.
+fn fill_lists<'k>(lists: &mut Lists<&'k [u8]>, input: &'k [u8]) -> Result<(), AllocError> {
+    push_lines(lists, input)?;
+    arrange(lists);
+    push_halves(&mut lists.halves, &lists.absent)
+}
+
+/// The keys of the input, in the order in which they are put in and asked for.
+pub(super) fn read_lists(alloc: Global, input: &[u8]) -> Result<Lists<&[u8]>, AllocError> {
+    let mut lists = no_lists(alloc);
+    fill_lists(&mut lists, input)?;
+    Ok(lists)
 }

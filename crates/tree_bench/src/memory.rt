@@ -2,11 +2,16 @@
 use std::fs;
 use std::rt::Files;
 
+// The number before the first `kB` of a text.
+fn number(text: &str) -> Option<u64> {
+    let (number, _) = text.trim_start().split_once(" kB")?;
+    number.parse::<u64>().ok()
+}
+
 // The number of kilobytes that a line of a text names.
 fn kilobytes(text: &str, name: &str) -> Option<u64> {
     let (_, behind) = text.split_once(name)?;
-    let (number, _) = behind.trim_start().split_once(" kB")?;
-    number.parse::<u64>().ok()
+    number(behind)
 }
 
 /// The bytes that a line of /proc/self/status names, as `VmRSS:`, or 0 where it cannot be read.
@@ -17,4 +22,15 @@ pub(super) fn memory(rt: &(impl Alloc + Files), name: &str) -> u64 {
             .wrapping_mul(1024),
         Err(_) => 0,
     }
+}
+
+/// The bytes of each of so many keys, and the most of them, since the process had so many.
+pub(super) fn memory_since(rt: &(impl Alloc + Files), before: u64, count: usize) -> (u64, u64) {
+    let keys = count.max(1) as u64;
+    let after = memory(rt, "VmRSS:");
+    let peak = memory(rt, "VmHWM:");
+    (
+        after.saturating_sub(before) / keys,
+        peak.saturating_sub(before) / keys,
+    )
 }

@@ -5,10 +5,12 @@
 //! and the last answer is about what is left. Other lines are left out.
 #![tactic(auto)]
 
+mod made;
 mod steps;
 mod trees;
 mod words;
 
+use patricia_tree::{GenericPatriciaMap, GenericPatriciaSet};
 use std::alloc::{AllocError, Global};
 use std::io::{self, Read};
 use words::{Call, Readable};
@@ -20,9 +22,9 @@ fn add_answers<'a, Q: Readable<'a>>(
     out: &mut String,
 ) -> Result<(), AllocError> {
     words::add(out, "map")?;
-    steps::answer_map::<Q>(alloc, call.name, &call.steps, out)?;
+    steps::answer::<Q, GenericPatriciaMap<Q::Owned, u64>>(alloc, call.name, &call.steps, out)?;
     words::add(out, "set")?;
-    steps::answer_set::<Q>(alloc, call.name, &call.steps, out)
+    steps::answer::<Q, GenericPatriciaSet<Q::Owned>>(alloc, call.name, &call.steps, out)
 }
 
 // Writes a call with its answers.

@@ -1,8 +1,9 @@
 //! What is answered about the tree bytes of a map or a set.
 
+use crate::made::Written;
 use crate::words;
 use patricia_tree::wire::{WireError, pair_from_json, pair_to_json};
-use patricia_tree::{Bytes, GenericPatriciaMap, GenericPatriciaSet};
+use patricia_tree::{Bytes, GenericPatriciaMap};
 use std::alloc::{AllocError, Global};
 
 // The number of records, and the deepest level.
@@ -117,8 +118,8 @@ fn add_walked(
     add_value(values, &digits)
 }
 
-// Adds the values of a map with commas between.
-fn add_values<K: Bytes>(
+/// Adds the values of a map with commas between.
+pub(super) fn add_values<K: Bytes>(
     alloc: Global,
     map: &GenericPatriciaMap<K, u64>,
     values: &mut String,
@@ -129,34 +130,22 @@ fn add_values<K: Bytes>(
     Ok(())
 }
 
-// Adds nothing so many times with commas between.
-fn add_nulls(count: usize, values: &mut String) -> Result<(), AllocError> {
+/// Adds nothing so many times with commas between.
+pub(super) fn add_nulls(count: usize, values: &mut String) -> Result<(), AllocError> {
     for _ in 0..count {
         add_value(values, "null")?;
     }
     Ok(())
 }
 
-/// Adds what a call asks for about a map.
-pub(super) fn add_map<K: Bytes>(
+/// Adds what a call asks for about a map or a set.
+pub(super) fn add_made<M: Written>(
     alloc: Global,
-    map: &GenericPatriciaMap<K, u64>,
+    made: &M,
     call: &str,
     out: &mut String,
 ) -> Result<(), AllocError> {
     let mut values = String::new(alloc);
-    add_values(alloc, map, &mut values)?;
-    add(alloc, map.tree_bytes(), &values, call, out)
-}
-
-/// Adds what a call asks for about a set, whose values are nothing.
-pub(super) fn add_set<K: Bytes>(
-    alloc: Global,
-    set: &GenericPatriciaSet<K>,
-    call: &str,
-    out: &mut String,
-) -> Result<(), AllocError> {
-    let mut values = String::new(alloc);
-    add_nulls(set.len(), &mut values)?;
-    add(alloc, set.tree_bytes(), &values, call, out)
+    made.add_values(alloc, &mut values)?;
+    add(alloc, made.tree(), &values, call, out)
 }

@@ -1,0 +1,262 @@
+//! The calls of a map that are timed.
+use patricia_tree::map::ValuesMut;
+use patricia_tree::{BorrowedBytes, Bytes, GenericPatriciaMap};
+use std::alloc::{AllocError, Global};
+use std::mem;
+
+/// A call for each of some keys.
+#[derive(Clone, Copy)]
+pub(super) enum Each {
+    Put,
+    Get,
+    Under,
+    Longest,
+    Take,
+}
+
+// Whether the key is new, as a number.
+fn put<Q: BorrowedBytes>(
+    map: &mut GenericPatriciaMap<Q::Owned, u64>,
+    key: Q,
+    value: u64,
+) -> Result<u64, AllocError> {
+    match map.insert(key, value) {
+        Ok(old) => Ok(u64::from(old.is_none())),
+        Err(_) => Err(AllocError),
+    }
+}
+
+// 1 for what a walk gives.
+fn one<T: Drop>(item: Result<T, AllocError>) -> Result<u64, AllocError> {
+    item?;
+    Ok(1)
+}
+
+// How many entries there are under a prefix.
+fn under<Q: BorrowedBytes>(
+    map: &GenericPatriciaMap<Q::Owned, u64>,
+    prefix: Q,
+) -> Result<u64, AllocError> {
+    let mut entries: u64 = 0;
+    for entry in map.iter_prefix(prefix) {
+        entries = entries.wrapping_add(one(entry)?);
+    }
+    Ok(entries)
+}
+
+// The length of the longest key that begins a key.
+fn longest<Q: BorrowedBytes>(map: &GenericPatriciaMap<Q::Owned, u64>, key: Q) -> u64 {
+    match map.get_longest_common_prefix(key) {
+        Some((prefix, _)) => prefix.as_bytes().len() as u64,
+        None => 0,
+    }
+}
+
+// Whether a key was there that is taken out, as a number.
+fn taken<Q: BorrowedBytes>(
+    map: &mut GenericPatriciaMap<Q::Owned, u64>,
+    key: Q,
+) -> Result<u64, AllocError> {
+    let old = map.remove(key)?;
+    Ok(u64::from(old.is_some()))
+}
+
+// Makes a call for one key, which puts the value in if it puts one in.
+fn call_one<Q: BorrowedBytes>(
+    map: &mut GenericPatriciaMap<Q::Owned, u64>,
+    call: Each,
+    key: Q,
+    value: u64,
+) -> Result<u64, AllocError> {
+    match call {
+        Each::Put => put(map, key, value),
+        Each::Get => Ok(u64::from(map.get(key).is_some())),
+        Each::Under => under(map, key),
+        Each::Longest => Ok(longest(map, key)),
+        Each::Take => taken(map, key),
+    }
+}
+
+/// The sum of what the call answers for the keys. `Put` gives each key the sum so far.
+pub(super) fn call_each<Q: BorrowedBytes>(
+    map: &mut GenericPatriciaMap<Q::Owned, u64>,
+    call: Each,
+    keys: &[Q],
+) -> Result<u64, AllocError> {
+    let mut sum: u64 = 0;
+    for key in keys {
+        sum = sum.wrapping_add(call_one(map, call, *key, sum)?);
+    }
+    Ok(sum)
+}
+
+/// A call on a whole map.
+#[derive(Clone, Copy)]
+pub(super) enum Whole {
+    Walk,
+    Values,
+    Raise,
+    Write,
+    Read,
+    Copy,
+    Split,
+}
+
+/// A map, and what calls make of it.
+#[derive(Drop)]
+pub(super) struct Maps<K: Bytes> {
+    alloc: Global,
+    pub(super) map: GenericPatriciaMap<K, u64>,
+    pub(super) copy: GenericPatriciaMap<K, u64>,
+    pub(super) part: GenericPatriciaMap<K, u64>,
+    pub(super) tree: Vec<u8>,
+    values: Vec<u64>,
+}
+
+/// Empty maps.
+pub(super) fn no_maps<K: Bytes>(alloc: Global) -> Maps<K> {
+    Maps {
+        alloc,
+        map: GenericPatriciaMap::new(alloc),
+        copy: GenericPatriciaMap::new(alloc),
+        part: GenericPatriciaMap::new(alloc),
+        tree: Vec::new(alloc),
+        values: Vec::new(alloc),
+    }
+}
+
+fn key_len<K: Bytes>(entry: Result<(K, &u64), AllocError>) -> Result<u64, AllocError> {
+    let (key, _) = entry?;
+    Ok(key.as_bytes().len() as u64)
+}
+
+// Adds the lengths of all keys.
+fn walked<K: Bytes>(map: &GenericPatriciaMap<K, u64>) -> Result<u64, AllocError> {
+    let mut bytes: u64 = 0;
+    for entry in map.iter() {
+        bytes = bytes.wrapping_add(key_len(entry)?);
+    }
+    Ok(bytes)
+}
+
+// Adds all values.
+fn summed<K: Bytes>(map: &GenericPatriciaMap<K, u64>) -> Result<u64, AllocError> {
+    let mut sum: u64 = 0;
+    for value in map.values() {
+        sum = sum.wrapping_add(*value?);
+    }
+    Ok(sum)
+}
+
+// Adds 1 to so many values that a cursor lends, and counts them.
+fn raise_values<K: Bytes>(
+    cursor: &mut ValuesMut<'_, K, u64>,
+    len: usize,
+) -> Result<u64, AllocError> {
+    let mut raised: u64 = 0;
+    for _ in 0..len {
+        let step = cursor.next_with(|value| {
+            *value = value.wrapping_add(1);
+        })?;
+        raised = raised.wrapping_add(u64::from(step.is_some()));
+    }
+    Ok(raised)
+}
+
+// Adds 1 to each value, and counts them.
+fn raised<K: Bytes>(map: &mut GenericPatriciaMap<K, u64>) -> Result<u64, AllocError> {
+    let len = map.len();
+    raise_values(&mut map.values_mut(), len)
+}
+
+// Writes the tree bytes, and counts the entries.
+fn written<K: Bytes>(
+    map: &GenericPatriciaMap<K, u64>,
+    tree: &mut Vec<u8>,
+) -> Result<u64, AllocError> {
+    match map.tree_bytes() {
+        Ok(bytes) => {
+            *tree = bytes;
+            Ok(map.len() as u64)
+        }
+        Err(_) => Err(AllocError),
+    }
+}
+
+// Makes a map of tree bytes and values, and counts its entries.
+fn read<K: Bytes>(
+    alloc: Global,
+    tree: &[u8],
+    values: Vec<u64>,
+    map: &mut GenericPatriciaMap<K, u64>,
+) -> Result<u64, AllocError> {
+    match GenericPatriciaMap::from_wire(alloc, tree, values) {
+        Ok(made) => {
+            *map = made;
+            Ok(map.len() as u64)
+        }
+        Err(_) => Err(AllocError),
+    }
+}
+
+// Copies a map, and counts the entries.
+fn copied<K: Bytes>(
+    map: &GenericPatriciaMap<K, u64>,
+    copy: &mut GenericPatriciaMap<K, u64>,
+) -> Result<u64, AllocError> {
+    *copy = map.clone()?;
+    Ok(copy.len() as u64)
+}
+
+// Takes the entries out that begin with a prefix, and counts them.
+fn parted<Q: BorrowedBytes>(
+    map: &mut GenericPatriciaMap<Q::Owned, u64>,
+    prefix: Q,
+    part: &mut GenericPatriciaMap<Q::Owned, u64>,
+) -> Result<u64, AllocError> {
+    *part = map.split_by_prefix(prefix)?;
+    Ok(part.len() as u64)
+}
+
+/// What the call answers on the map, on its copy for `Split`. What it makes is kept.
+pub(super) fn call_whole<Q: BorrowedBytes>(
+    maps: &mut Maps<Q::Owned>,
+    call: Whole,
+    prefix: Q,
+) -> Result<u64, AllocError> {
+    match call {
+        Whole::Walk => walked(&maps.map),
+        Whole::Values => summed(&maps.map),
+        Whole::Raise => raised(&mut maps.map),
+        Whole::Write => written(&maps.map, &mut maps.tree),
+        Whole::Read => {
+            let values = mem::replace(&mut maps.values, Vec::new(maps.alloc));
+            read(maps.alloc, &maps.tree, values, &mut maps.copy)
+        }
+        Whole::Copy => copied(&maps.map, &mut maps.copy),
+        Whole::Split => parted(&mut maps.copy, prefix, &mut maps.part),
+    }
+}
+
+// Adds the values of a map in key order.
+fn push_values<K: Bytes>(
+    values: &mut Vec<u64>,
+    map: &GenericPatriciaMap<K, u64>,
+) -> Result<(), AllocError> {
+    for value in map.values() {
+        values.push(*value?)?;
+    }
+    Ok(())
+}
+
+/// Makes what `Read` asks for besides the tree bytes.
+pub(super) fn collect<K: Bytes>(maps: &mut Maps<K>) -> Result<(), AllocError> {
+    push_values(&mut maps.values, &maps.map)
+}
+
+/// Drops what calls have made.
+pub(super) fn forget<K: Bytes>(maps: &mut Maps<K>) {
+    maps.copy = GenericPatriciaMap::new(maps.alloc);
+    maps.part = GenericPatriciaMap::new(maps.alloc);
+    maps.tree = Vec::new(maps.alloc);
+}

@@ -1,0 +1,164 @@
+//! The steps of a measurement, one after the other.
+use crate::calls::{Each, Maps, Whole, call_each, call_whole, collect, forget};
+use crate::keys::Lists;
+use crate::lines::{Sheet, report, report_share};
+use patricia_tree::{BorrowedBytes, Bytes, GenericPatriciaMap};
+use std::io;
+use std::rt::Clock;
+use std::time::Instant;
+
+// A part of the keys.
+#[derive(Clone, Copy)]
+enum Part {
+    Present,
+    Absent,
+    // as many absent ones as there are halves
+    Few,
+    Halves,
+}
+
+// What is done between calls, outside their times. Two of these have a line, and so a name.
+#[derive(Clone, Copy)]
+enum Between {
+    Collect,
+    Forget,
+    Share,
+    Size,
+}
+
+#[derive(Clone, Copy)]
+enum Step {
+    Each(Each, Part),
+    Whole(Whole),
+    Between(Between),
+}
+
+const STEPS: [(&str, Step); 17] = [
+    ("get", Step::Each(Each::Get, Part::Present)),
+    ("get_absent", Step::Each(Each::Get, Part::Absent)),
+    ("walk", Step::Whole(Whole::Walk)),
+    ("values", Step::Whole(Whole::Values)),
+    ("under", Step::Each(Each::Under, Part::Halves)),
+    ("longest", Step::Each(Each::Longest, Part::Few)),
+    ("tree_bytes", Step::Whole(Whole::Write)),
+    ("tree_size", Step::Between(Between::Size)),
+    ("", Step::Between(Between::Collect)),
+    ("from_wire", Step::Whole(Whole::Read)),
+    ("", Step::Between(Between::Forget)),
+    ("values_mut", Step::Whole(Whole::Raise)),
+    ("clone", Step::Whole(Whole::Copy)),
+    ("split_by_prefix", Step::Whole(Whole::Split)),
+    ("share", Step::Between(Between::Share)),
+    ("", Step::Between(Between::Forget)),
+    ("remove", Step::Each(Each::Take, Part::Present)),
+];
+
+fn part_of<Q>(lists: &Lists<Q>, part: Part) -> &[Q] {
+    let absent = lists.absent.as_slice();
+    match part {
+        Part::Present => &lists.present,
+        Part::Absent => absent,
+        Part::Few => absent.get(..lists.halves.len()).unwrap_or(absent),
+        Part::Halves => &lists.halves,
+    }
+}
+
+/// Times a call for each key.
+pub(super) fn time_each<R: Clock + Print, Q: BorrowedBytes>(
+    sheet: &Sheet<'_, R>,
+    name: &str,
+    map: &mut GenericPatriciaMap<Q::Owned, u64>,
+    call: Each,
+    keys: &[Q],
+) -> io::Result<()> {
+    let start = Instant::now(sheet.rt)?;
+    let answer = call_each(map, call, keys)?;
+    report(sheet, name, start, keys.len(), answer)
+}
+
+// Over how many entries a call goes that answers a number.
+fn entries_of<K: Bytes>(maps: &Maps<K>, call: Whole) -> usize {
+    match call {
+        Whole::Split => maps.part.len(),
+        _ => maps.map.len(),
+    }
+}
+
+// Times a call on a whole map.
+fn time_whole<R: Clock + Print, Q: BorrowedBytes>(
+    sheet: &Sheet<'_, R>,
+    name: &str,
+    maps: &mut Maps<Q::Owned>,
+    call: Whole,
+    prefix: Q,
+) -> io::Result<()> {
+    let start = Instant::now(sheet.rt)?;
+    let answer = call_whole(maps, call, prefix)?;
+    report(sheet, name, start, entries_of(maps, call), answer)
+}
+
+// A line on what a split took out.
+fn report_part<R: Print, K: Bytes>(
+    sheet: &Sheet<'_, R>,
+    name: &str,
+    maps: &Maps<K>,
+) -> io::Result<()> {
+    let part = maps.part.len();
+    report_share(sheet, name, part, maps.copy.len().saturating_add(part))
+}
+
+// A line on the tree bytes, where times are asked for.
+fn report_size<R: Print, K: Bytes>(
+    sheet: &Sheet<'_, R>,
+    name: &str,
+    maps: &Maps<K>,
+) -> io::Result<()> {
+    if !sheet.times {
+        return Ok(());
+    }
+    report_share(sheet, name, maps.tree.len(), maps.map.len())
+}
+
+fn pass<R: Print, K: Bytes>(
+    sheet: &Sheet<'_, R>,
+    name: &str,
+    maps: &mut Maps<K>,
+    between: Between,
+) -> io::Result<()> {
+    match between {
+        Between::Collect => collect(maps)?,
+        Between::Forget => forget(maps),
+        Between::Share => report_part(sheet, name, maps)?,
+        Between::Size => report_size(sheet, name, maps)?,
+    }
+    Ok(())
+}
+
+// Makes a step.
+fn time_step<R: Clock + Print, Q: BorrowedBytes>(
+    sheet: &Sheet<'_, R>,
+    name: &str,
+    maps: &mut Maps<Q::Owned>,
+    step: Step,
+    lists: &Lists<Q>,
+) -> io::Result<()> {
+    match step {
+        Step::Each(call, part) => {
+            time_each(sheet, name, &mut maps.map, call, part_of(lists, part))
+        }
+        Step::Whole(call) => time_whole(sheet, name, maps, call, lists.prefix),
+        Step::Between(between) => pass(sheet, name, maps, between),
+    }
+}
+
+/// Makes each step on a map that is filled.
+pub(super) fn time_steps<R: Clock + Print, Q: BorrowedBytes>(
+    sheet: &Sheet<'_, R>,
+    maps: &mut Maps<Q::Owned>,
+    lists: &Lists<Q>,
+) -> io::Result<()> {
+    for (name, step) in &STEPS {
+        time_step(sheet, name, maps, *step, lists)?;
+    }
+    Ok(())
+}
