@@ -1,4 +1,4 @@
-//! Tests whose memory requests are counted: the key traits, beginnings of keys, and loans.
+//! Tests whose memory requests are counted: the key traits, beginnings of keys, loans, and sets.
 #![tactic(auto)]
 
 #[cfg(test)]

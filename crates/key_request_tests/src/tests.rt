@@ -4,3 +4,4 @@ mod helpers;
 mod keys;
 mod loans;
 mod prefixes;
+mod sets;
