@@ -3,8 +3,14 @@
     python3 -B tests/oracle/answer_lines.py < crates/line_tests/stdin > crates/line_tests/stdout
 """
 import sys
+import unicodedata
 from urllib.parse import unquote_to_bytes
+from answer_readings import read
+from answer_wire import tree_bytes
 from model import common, first_item, floor_boundary, is_valid, rows
+
+
+KINDS = 'bytes', 'text', 'bytes_set', 'text_set'
 
 
 def argument(word):
@@ -64,7 +70,7 @@ def map_answers(m, call, words):
     return None
 
 
-def whole_answers(m, call, words):
+def whole_answers(m, call, words, row=row):
     """The answers to a call that makes a part or the whole anew, or None for another call."""
     if call not in ('split', 'split_off', 'clone'):
         return None
@@ -113,23 +119,147 @@ def key_answers(kind, call, words):
     return ['unknown']
 
 
+ESCAPES = {'"': '\\"', '\\': '\\\\', '\t': '\\t', '\n': '\\n', '\r': '\\r', '\0': '\\0'}
+
+
+def debug_character(c):
+    if c in ESCAPES:
+        return ESCAPES[c]
+    is_printed = c == ' ' or unicodedata.category(c)[0] not in 'CZ'
+    return c if is_printed else '\\u{%x}' % ord(c)
+
+
+def debug_key(key, kind, is_wide):
+    """The Debug text of a key, of bytes or of a text."""
+    if kind == 'text':
+        return '"%s"' % ''.join(map(debug_character, key.decode()))
+    return braces('[]', list(map(str, key)), is_wide)
+
+
+def braces(pair, items, is_wide):
+    """The Debug text of items between braces, in one line or in a line for each."""
+    if not is_wide or not items:
+        return pair[0] + ', '.join(items) + pair[1]
+    return pair[0] + '\n' + ''.join('    %s,\n' % item.replace('\n', '\n    ') for item in items) + pair[1]
+
+
+def tree_answers(m, kind, call, words):
+    """The tree bytes of a map or of a set, or what is read from some; None for another call."""
+    keys_kind, is_set = kind.split('_')[0], kind.endswith('_set')
+    if call == 'tree':
+        return [written(tree_bytes(list(m), keys_kind))]
+    if call != 'read':
+        return None
+    values = [0] * int(words[1]) if is_set else list(map(int, words[1:]))
+    keys, fault = read(words[0], len(values), keys_kind)
+    if fault:
+        return [fault]
+    m.clear()
+    m.update(zip(keys, values))
+    return list(map(element if is_set else row, rows(m)))
+
+
+def debug_answers(m, kind, call):
+    """The Debug text of a map or of a set, or None for another call."""
+    if call not in ('debug', 'wide'):
+        return None
+    is_wide = call == 'wide'
+    items = []
+    for key, value in rows(m):
+        text = debug_key(key, kind.split('_')[0], is_wide)
+        items.append(text if kind.endswith('_set') else '%s: %d' % (text, value))
+    return [braces('{}', items, is_wide)]
+
+
+def element(entry):
+    """An element of a set, which is a dictionary too."""
+    return written(entry[0])
+
+
+def listed(m):
+    return list(map(element, rows(m)))
+
+
+def changed_set(m, call, words):
+    """The answers to a call that changes a set element by element, or None for another call."""
+    if call in ('extend', 'from_iter'):
+        if call == 'from_iter':
+            m.clear()
+        m.update((word, 0) for word in words)
+        return listed(m)
+    answers = []
+    if call == 'insert':
+        for word in words:
+            answers.append(truth(word not in m))
+            m[word] = 0
+        return answers
+    if call == 'remove':
+        return [truth(m.pop(word, None) is not None) for word in words]
+    if call in ('take', 'clear'):
+        answers = listed(m) if call == 'take' else []
+        m.clear()
+        return answers
+    return None
+
+
+def asked_set(m, kind, call, words):
+    """The answers to a question about a set."""
+    if call in ('len', 'empty', 'iter'):
+        return {'len': [str(len(m))], 'empty': [truth(not m)], 'iter': listed(m)}[call]
+    if call == 'contains':
+        return [truth(word in m) for word in words]
+    if call == 'reach':
+        return [str(max((common(key, k, kind) for k in m), default=0)) for key in words]
+    if call == 'longest':
+        along = [[k for k in m if key.startswith(k)] for key in words]
+        return [written(max(found, key=len)) if found else 'none' for found in along]
+    if call == 'under':
+        return [element(e) for prefix in words for e in rows(m) if e[0].startswith(prefix)]
+    return ['unknown' for _ in words]
+
+
+def set_answers(m, kind, call, words):
+    """The answers to a call on a set, which it changes."""
+    found = changed_set(m, call, words)
+    if found is None:
+        found = whole_answers(m, call, words, element)
+    if found is None:
+        found = tree_answers(m, kind, call, words)
+    if found is None:
+        found = debug_answers(m, kind, call)
+    return asked_set(m, kind.split('_')[0], call, words) if found is None else found
+
+
+def answers(m, kind, call, words):
+    """The answers to a call on a map or on a set, which it changes."""
+    if kind.endswith('_set'):
+        return set_answers(m, kind, call, words)
+    found = map_answers(m, call, words)
+    if found is None:
+        found = whole_answers(m, call, words)
+    if found is None:
+        found = tree_answers(m, kind, call, words)
+    if found is None:
+        found = debug_answers(m, kind, call)
+    if found is None:
+        found = prefix_answers(m, kind, call, words)
+    return key_answers(kind, call, words) if found is None else found
+
+
+def calls(lines, kind):
+    """The calls among lines that are of one kind: the line, the call and its arguments."""
+    for line in lines:
+        its_kind, *rest = line.split(' ')
+        if its_kind == kind and rest:
+            yield line, rest[0], [argument(word) for word in rest[1:]]
+
+
 def main():
     lines = sys.stdin.read().split('\n')[:-1]
-    for kind in 'bytes', 'text':
+    for kind in KINDS:
         m = {}
-        for line in lines:
-            its_kind, *rest = line.split(' ')
-            if its_kind != kind or not rest:
-                continue
-            words = [argument(word) for word in rest[1:]]
-            answers = map_answers(m, rest[0], words)
-            if answers is None:
-                answers = whole_answers(m, rest[0], words)
-            if answers is None:
-                answers = prefix_answers(m, kind, rest[0], words)
-            if answers is None:
-                answers = key_answers(kind, rest[0], words)
-            print(line + ': ' + ' '.join(answers))
+        for line, call, words in calls(lines, kind):
+            print(line + ': ' + ' '.join(answers(m, kind, call, words)))
 
 
 if __name__ == '__main__':

@@ -13,15 +13,14 @@ pub(super) fn answer<'a, Q: Readable<'a>>(
     out: &mut String,
 ) -> Result<(), AllocError> {
     match call {
-        "floor" => add_floors::<Q::Owned>(alloc, arguments, out),
+        "floor" => add_floors::<Q::Owned>(arguments, out),
         "copy" => add_copies::<Q::Owned>(alloc, arguments, out),
-        _ => answer_pair::<Q>(alloc, call, arguments, out),
+        _ => answer_pair::<Q>(call, arguments, out),
     }
 }
 
 // The calls of a key with one argument.
 fn answer_pair<'a, Q: Readable<'a>>(
-    alloc: Global,
     call: &str,
     arguments: &'a [Vec<u8>],
     out: &mut String,
@@ -30,20 +29,19 @@ fn answer_pair<'a, Q: Readable<'a>>(
         return words::add(out, "unknown");
     };
     match Q::read(key) {
-        Some(key) => answer_key(alloc, call, key, argument, out),
+        Some(key) => answer_key(call, key, argument, out),
         None => words::add(out, "none"),
     }
 }
 
 fn answer_key<Q: BorrowedBytes>(
-    alloc: Global,
     call: &str,
     key: Q,
     argument: &[u8],
     out: &mut String,
 ) -> Result<(), AllocError> {
     match call {
-        "common" => add_common(alloc, key, argument, out),
+        "common" => add_common(key, argument, out),
         "first" => add_first(key, argument, out),
         "halves" => add_halves(key, words::number(argument), out),
         _ => words::add(out, "unknown"),
@@ -51,13 +49,9 @@ fn answer_key<Q: BorrowedBytes>(
 }
 
 // How many bytes of each argument are whole items.
-fn add_floors<K: Bytes>(
-    alloc: Global,
-    arguments: &[Vec<u8>],
-    out: &mut String,
-) -> Result<(), AllocError> {
+fn add_floors<K: Bytes>(arguments: &[Vec<u8>], out: &mut String) -> Result<(), AllocError> {
     for bytes in arguments {
-        words::add_number(alloc, out, K::floor_boundary(bytes) as u64)?;
+        words::add_number(out, K::floor_boundary(bytes) as u64)?;
     }
     Ok(())
 }
@@ -83,15 +77,10 @@ fn add_copies<K: Bytes>(
 }
 
 // The length in common, the rest as both calls give it, and whether it is empty.
-fn add_common<Q: BorrowedBytes>(
-    alloc: Global,
-    key: Q,
-    bytes: &[u8],
-    out: &mut String,
-) -> Result<(), AllocError> {
+fn add_common<Q: BorrowedBytes>(key: Q, bytes: &[u8], out: &mut String) -> Result<(), AllocError> {
     let (rest, len) = key.strip_common_prefix_and_len(bytes);
     let again = key.strip_common_prefix(bytes);
-    words::add_number(alloc, out, len as u64)?;
+    words::add_number(out, len as u64)?;
     words::add_key(out, rest.as_bytes())?;
     words::add_key(out, again.as_bytes())?;
     words::add_bool(out, rest.is_empty())

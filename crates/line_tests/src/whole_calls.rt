@@ -17,15 +17,14 @@ pub(super) fn answer<'a, Q: Readable<'a>>(
     out: &mut String,
 ) -> Result<(), AllocError> {
     match call {
-        "clone" => add_clone(alloc, map, out),
-        "split" | "split_off" => add_split::<Q>(alloc, map, call, arguments, out),
+        "clone" => add_clone(map, out),
+        "split" | "split_off" => add_split::<Q>(map, call, arguments, out),
         _ => prefix_calls::answer::<Q>(alloc, map, call, arguments, out),
     }
 }
 
 // What a split takes, and what it leaves. The argument is one prefix.
 fn add_split<'a, Q: Readable<'a>>(
-    alloc: Global,
     map: &mut Map<Q::Owned>,
     call: &str,
     arguments: &'a [Vec<u8>],
@@ -35,30 +34,25 @@ fn add_split<'a, Q: Readable<'a>>(
         && let Some(prefix) = Q::read(prefix)
     {
         let mut taken = map.split_by_prefix(prefix)?;
-        return add_parts(alloc, &mut taken, map, call == "split_off", out);
+        return add_parts(&mut taken, map, call == "split_off", out);
     }
     words::add(out, "unknown")
 }
 
 // The copy, and what was copied. The calls go on with the copy.
-fn add_clone<K: Bytes>(
-    alloc: Global,
-    map: &mut Map<K>,
-    out: &mut String,
-) -> Result<(), AllocError> {
+fn add_clone<K: Bytes>(map: &mut Map<K>, out: &mut String) -> Result<(), AllocError> {
     let mut copy = map.clone()?;
-    add_parts(alloc, &mut copy, map, true, out)
+    add_parts(&mut copy, map, true, out)
 }
 
 // What was taken, and the map. The calls go on with the map, or with what was taken.
 fn add_parts<K: Bytes>(
-    alloc: Global,
     taken: &mut Map<K>,
     map: &mut Map<K>,
     is_taken: bool,
     out: &mut String,
 ) -> Result<(), AllocError> {
-    add_both(alloc, taken, map, out)?;
+    add_both(taken, map, out)?;
     if is_taken {
         mem::swap(taken, map);
     }
@@ -66,13 +60,8 @@ fn add_parts<K: Bytes>(
 }
 
 // The rows of two maps, with a word between that is no row.
-fn add_both<K: Bytes>(
-    alloc: Global,
-    first: &Map<K>,
-    second: &Map<K>,
-    out: &mut String,
-) -> Result<(), AllocError> {
-    map_calls::add_rows(alloc, first, out)?;
+fn add_both<K: Bytes>(first: &Map<K>, second: &Map<K>, out: &mut String) -> Result<(), AllocError> {
+    map_calls::add_rows(first, out)?;
     words::add(out, "and")?;
-    map_calls::add_rows(alloc, second, out)
+    map_calls::add_rows(second, out)
 }

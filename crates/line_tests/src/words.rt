@@ -5,12 +5,26 @@
 
 use patricia_tree::BorrowedBytes;
 use std::alloc::{AllocError, Global};
+use std::fmt::{Debug, Write};
 use std::str;
 
 /// A key that can be read from bytes.
 pub trait Readable<'a>: BorrowedBytes {
     /// The key of these bytes, or `None` where they are no key.
     fn read(bytes: &'a [u8]) -> Option<Self>;
+}
+
+/// Adds the Debug text of a value, in a line for each entry where that is wanted.
+pub(super) fn add_debug<D: Debug>(
+    value: &D,
+    is_wide: bool,
+    out: &mut String,
+) -> Result<(), AllocError> {
+    out.push(' ')?;
+    if is_wide {
+        return write!(out, "{value:#?}");
+    }
+    write!(out, "{value:?}")
 }
 
 impl<'a> Readable<'a> for &'a [u8] {
@@ -130,9 +144,9 @@ pub(super) fn add(out: &mut String, answer: &str) -> Result<(), AllocError> {
 }
 
 /// Adds a number.
-pub(super) fn add_number(alloc: Global, out: &mut String, number: u64) -> Result<(), AllocError> {
-    let digits = number.to_string(alloc)?;
-    add(out, digits.as_str())
+pub(super) fn add_number(out: &mut String, number: u64) -> Result<(), AllocError> {
+    out.push(' ')?;
+    write!(out, "{number}")
 }
 
 /// Adds `true` or `false`.
@@ -141,13 +155,9 @@ pub(super) fn add_bool(out: &mut String, is_true: bool) -> Result<(), AllocError
 }
 
 /// Adds a value, or `none`.
-pub(super) fn add_value(
-    alloc: Global,
-    out: &mut String,
-    value: Option<u64>,
-) -> Result<(), AllocError> {
+pub(super) fn add_value(out: &mut String, value: Option<u64>) -> Result<(), AllocError> {
     match value {
-        Some(value) => add_number(alloc, out, value),
+        Some(value) => add_number(out, value),
         None => add(out, "none"),
     }
 }
@@ -177,14 +187,13 @@ pub(super) fn add_key(out: &mut String, bytes: &[u8]) -> Result<(), AllocError> 
 }
 
 /// Adds an entry, as its key and its value.
-pub(super) fn add_row(
-    alloc: Global,
-    out: &mut String,
-    key: &[u8],
-    value: u64,
-) -> Result<(), AllocError> {
+pub(super) fn add_row(out: &mut String, key: &[u8], value: u64) -> Result<(), AllocError> {
     add_key(out, key)?;
     out.push('=')?;
-    let digits = value.to_string(alloc)?;
-    out.push_str(digits.as_str())
+    write!(out, "{value}")
+}
+
+/// What a call comes to that was refused, or was not.
+pub(super) fn outcome(is_whole: bool) -> Result<(), AllocError> {
+    if is_whole { Ok(()) } else { Err(AllocError) }
 }

@@ -1,5 +1,5 @@
-//! Tests of inserts, look-ups and removals in maps of bytes and of texts, and of what `for` over each
-//! walk lists, by the contracts of walks.
+//! Tests of long keys in maps of texts, of the text of a refusal, and of what `for` over each walk
+//! lists, by the contracts of walks.
 #![tactic(auto)]
 
 #[cfg(test)]

@@ -1,4 +1,4 @@
-//! Tests of walks over small and large maps.
+//! Tests of how walks end, and of keys that outlive their map.
 #![tactic(auto)]
 
 #[cfg(test)]

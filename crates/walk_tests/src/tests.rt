@@ -1,3 +1,2 @@
 mod ends;
 mod helpers;
-mod refusals;

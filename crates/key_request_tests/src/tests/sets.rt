@@ -1,9 +1,29 @@
-// Calls that take no memory: `.ci/run` counts the requests of both tests, which must be as many.
-use super::helpers::set_of;
+// Calls of a set.
 use patricia_tree::{BorrowedBytes, Bytes, GenericPatriciaSet};
 use std::alloc::{AllocError, Global};
 use std::iter;
 use std::process::Abort;
+
+// Puts elements in.
+fn put_all<Q: BorrowedBytes>(
+    set: &mut GenericPatriciaSet<Q::Owned>,
+    elements: &[Q],
+) -> Result<(), AllocError> {
+    for element in elements {
+        set.insert(*element)?;
+    }
+    Ok(())
+}
+
+// A set of these elements.
+fn set_of<Q: BorrowedBytes>(
+    alloc: Global,
+    elements: &[Q],
+) -> Result<GenericPatriciaSet<Q::Owned>, AllocError> {
+    let mut set = GenericPatriciaSet::new(alloc);
+    put_all(&mut set, elements)?;
+    Ok(set)
+}
 
 // Questions about an element of the set, or about what is none.
 fn ask<Q: BorrowedBytes>(

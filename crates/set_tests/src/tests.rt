@@ -1,5 +1,0 @@
-mod calls;
-mod frees;
-mod helpers;
-mod texts;
-mod walks;
