@@ -1,10 +1,8 @@
-use Rattle.std.proofs.Common.{sym, ap, subst, ◌∙◌, arith, rules}
-use Rattle.std.proofs.lemmas.Grind.{common_steps}
-use Rattle.patricia_nodes.specs.Private.Plans.{row_of}
-use Rattle.std.specs.FinMap.{find, put}
+use Rattle.std.proofs.Common.{sym, ap, subst, ◌∙◌, rules}
+use Rattle.std.specs.FinMap.{find}
 use Rattle.patricia_keys.specs.Keys.{key_cmp}
 use Rattle.patricia_rows.specs.Rows.{entries, IsRow}
-use Rattle.std.proofs.lemmas.Result.{IfOk-weaker, on_ok_weaker, on_err_weaker}
+use Rattle.std.proofs.lemmas.Result.{on_ok_weaker, on_err_weaker}
 use Rattle.patricia_nodes.proofs.SeekLemmas.{find_none}
 use Rattle.patricia_inserts.proofs.PutLemmas.{put_or_same}
 use Rattle.patricia_nodes.proofs.PlanLemmas.{not_some}
@@ -52,26 +50,3 @@ returns-then-is_err-clause-refused g c = search rules
 
 pub returns-then-is_err-clause-unchanged : goal.returns-then-is_err-clause-unchanged
 returns-then-is_err-clause-unchanged g c = search rules
-
-pub returns-then-is_some-clause-old : goal.returns-then-is_some-clause-old
-returns-then-is_some-clause-old g c =
-    IfOk-weaker c.insert_at.result _ _ (λ old finds. finds _ c.seek-place.ensures) c.insert_at.ensures.old
-
-pub returns-then-is_some-clause-ok : goal.returns-then-is_some-clause-ok
-returns-then-is_some-clause-ok g c =
-    on_ok_weaker c.insert_at.result (λ puts. (puts _ c.seek-place.ensures).put_is) c.insert_at.ensures.ok
-
-pub returns-clause-old : goal.returns-clause-old
-returns-clause-old g c =
-    IfOk-weaker c.insert_at-2.result _ _ (λ old finds. finds _ c.seek-place-2.ensures ∙ ap (λ r. find key_cmp (g.Q.BorrowedBytes.key c.args.key) (entries r)) c.ensure_room.ensures.row) c.insert_at-2.ensures.old
-
-pub returns-clause-ok : goal.returns-clause-ok
-returns-clause-ok g c =
-    on_ok_weaker c.insert_at-2.result (λ puts. (puts _ c.seek-place-2.ensures).put_is ∙ ap (λ r. put key_cmp (g.Q.BorrowedBytes.key c.args.key) c.args.value (entries r)) c.ensure_room.ensures.row) c.insert_at-2.ensures.ok
-
-pub returns-clause-unchanged : goal.returns-clause-unchanged
-returns-clause-unchanged g c =
-    on_err_weaker c.insert_at-2.result (λ same. ap (λ s. row_of s) same ∙ c.ensure_room.ensures.row) c.insert_at-2.ensures.unchanged
-
-pub insert_at-requires-clause-room : goal.insert_at-requires-clause-room
-insert_at-requires-clause-room g c = grind (arith, common_steps)
