@@ -3,11 +3,12 @@
 
     tests/must_fail.py [CRATE..]
 
-Each edit of crates/*/must-fail (or of the crates named) is applied to a copy of the repository, and
-the crate is checked there. Edits of functions that differ in their file or their name are tried in
-one check: a function is proved from its own code and from the contracts of those that it calls, so
-an edit opens goals of the function in which it stands, and of no other. Where it opens none there,
-and where it changes a file of specs/, it is tried alone.
+Each edit of crates/*/must-fail (or of the crates named) is applied to a copy of the repository (a
+folder beside it, of hard links), and the crate is checked there. Edits of functions that differ in
+their file or their name are tried in one check: a function is proved from its own code and from the
+contracts of those that it calls, so an edit of code opens goals of the function in which it stands,
+and of no other. Where it opens none there, and where it changes a contract or a file of specs/, it
+is tried alone.
 
 An edit is good if a goal fails by its meaning. One that is refused only because a proof file names
 what the edit took away shows nothing of the contract: these are listed at the end, with those that
@@ -47,6 +48,12 @@ def function_at(text, place):
     return names[-1] if names else None
 
 
+def is_in_code(text, place):
+    """Whether a place of a text is in a function's code, and not in what it promises."""
+    heads = list(FUNCTION.finditer(text, 0, place))
+    return bool(heads) and '{\n' in text[heads[-1].start():place]
+
+
 class Edit:
     """A change of lines: the file of each, what is there, and what is put there."""
 
@@ -75,14 +82,14 @@ class Edit:
         return texts
 
     def functions(self, folder):
-        """The file and the name of each function that it changes, or None where others may change."""
+        """The file and the name of each function whose code it changes, or None where it changes more."""
         found = set()
         for file, old, _ in self.changes:
             text = read(os.path.join(folder, file))
-            name = function_at(text, text.find(old) + len(old))
-            if not file.startswith('src/') or not name:
+            place = text.find(old) + len(old)
+            if not file.startswith('src/') or not is_in_code(text, place):
                 return None
-            found.add((file, name))
+            found.add((file, function_at(text, place)))
         return found
 
 
@@ -92,8 +99,10 @@ def packs(edits, folder):
     for edit in edits:
         functions = edit.functions(folder)
         for pack in made if functions else []:
+            if not pack['texts'] or not pack['functions'] or functions & pack['functions']:
+                continue
             texts = edit.applied(pack['texts'], folder)
-            if pack['functions'] and not functions & pack['functions'] and texts:
+            if texts:
                 pack['edits'].append(edit)
                 pack['functions'] |= functions
                 pack['texts'] = texts

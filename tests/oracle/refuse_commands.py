@@ -8,11 +8,9 @@ it writes what the plain model allows: its own answer, in which at most one comm
 for memory, is answered `no memory` and changes nothing. With no request refused, the answer is the
 model's own. The last line says how many runs there were.
 """
-import os
-import subprocess
 import sys
-import tempfile
-from model import Maps, along, answer, line_answer, lines, rows, under
+from model import Maps, along, answer, joins, line_answer, lines, rows, under
+from refused_run import run
 
 LONG = b'bcd' * 20
 
@@ -40,30 +38,13 @@ ERRORS = [b'ptree: read failed\n', b'ptree: out of memory\n']
 MOST_REQUESTS = 5000
 
 
-def is_point(keys, prefix):
-    """Whether a prefix is one of the keys, or keys part after it."""
-    rests = [key[len(prefix):] for key in keys if key.startswith(prefix)]
-    return b'' in rests or len({rest[:1] for rest in rests}) > 1
-
-
-def joins(m, key):
-    """Whether some prefix ends to be a point when a key is removed, though other keys begin so."""
-    rest = [other for other in m if other != key]
-    prefixes = [key[:n] for n in range(1, len(key) + 1)]
-    return any(
-        is_point(m, prefix) and not is_point(rest, prefix)
-        for prefix in prefixes
-        if any(other.startswith(prefix) for other in rest)
-    )
-
-
-def may_be_refused(m, line):
+def may_be_refused(m, kind, line):
     """Whether a command may find no memory."""
     word, *fields = line.split(b'\t')
     if word == b'insert':
         return fields[0] != b'' and fields[0] not in m
     if word == b'remove':
-        return joins(m, fields[0])
+        return joins(m, fields[0], kind)
     if word == b'list':
         return bool(rows(m))
     if word == b'under':
@@ -83,7 +64,7 @@ def is_allowed(kind, data, output):
     for line in lines(data):
         if rest[:1] == [b'no memory']:
             refusals += 1
-            if refusals > 1 or not may_be_refused(maps.main, line):
+            if refusals > 1 or not may_be_refused(maps.main, kind, line):
                 return False
             rest = rest[1:]
             continue
@@ -94,20 +75,10 @@ def is_allowed(kind, data, output):
     return not rest and (not output or output.endswith(b'\n'))
 
 
-def run(program, shim, kind, data, n):
-    """A run's status, output and error line, and whether a request was refused."""
-    with tempfile.NamedTemporaryFile() as log:
-        env = {**os.environ, 'REFUSE_AT': str(n), 'REFUSE_LOG': log.name, 'LD_PRELOAD': shim}
-        ran = subprocess.run([program, kind], input=data, env=env, capture_output=True, timeout=60)
-        said = log.read()
-    assert b' refused=' in said, 'the shim was not loaded'
-    return ran.returncode, ran.stdout, ran.stderr, b' refused=1' in said
-
-
 def check(program, shim, kind, data):
     """Runs until no request is refused, and gives how many were."""
     for n in range(1, MOST_REQUESTS):
-        status, output, errors, is_refused = run(program, shim, kind, data, n)
+        status, output, errors, is_refused = run([program, kind], shim, data, n)
         told = '%s, request %d: status %d, %r, %r' % (kind, n, status, output, errors)
         if not is_refused:
             assert (status, output, errors) == (0, answer(kind, data), b''), told

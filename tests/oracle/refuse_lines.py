@@ -12,16 +12,15 @@ more. Any other call says what entries it left, and is made again, with the answ
 refused. A call that puts many pairs in is refused at one of them, and leaves those before it: in some
 run one is left. With no request refused the answers are the model's own.
 """
-import os
-import subprocess
 import sys
-import tempfile
 from answer_lines import answers, calls, element, row, written
-from model import is_valid, points, rows
-
-LONG = 'bcd' * 20
+from model import is_valid, joins, rows
+from refused_run import run
 
 MOST_REQUESTS = 10000
+
+# A key that is copied, of more than 30 bytes.
+LONG = 'bcd' * 20
 
 
 def texts(keys):
@@ -29,9 +28,14 @@ def texts(keys):
     return [written(key.encode()) or '*' for key in keys]
 
 
+def numbered(keys):
+    """The same, each with its value behind it."""
+    return ['%s %d' % (word, n) for n, word in enumerate(texts(keys), 1)]
+
+
 def pairs(keys):
-    """Keys as the words of a line, each with its value behind it."""
-    return ' '.join('%s %d' % (word, n) for n, word in enumerate(texts(keys), 1))
+    """The same in a line."""
+    return ' '.join(numbered(keys))
 
 
 def one_by_one(call, words):
@@ -60,8 +64,8 @@ MANY = (
     'ha hb ia ib ja jb ka kb'
 ).split()
 
-# Four removals join labels to one of more than 30 bytes: the third and the ninth that of a leaf
-# that is left alone, the fourth that of an only child, the sixth that of a node with children.
+# Of texts four removals join labels to one of more than 30 bytes: the third and the ninth that of
+# a leaf that is left alone, the fourth that of an only child, the sixth that of a node with children.
 JOINED = [
     'あいうえおかきくけこさ',
     'いろいろいろ',
@@ -92,6 +96,7 @@ BEGINNINGS = [
     'zebras',
 ]
 
+# Two part behind 20 bytes, and the last goes on behind 48.
 PARTED = ['', 'a', 'ab', 'x' * 20 + 'y' * 20, 'x' * 20 + 'z' * 20, 'い' * 16, 'い' * 16 + 'ろ']
 
 # The empty one, one of a row, one with nothing under it, one that leaves one of two children, so
@@ -127,8 +132,8 @@ TREE = written(
 )
 
 MAP_SCRIPTS = [
-    [*one_by_one('insert', ['%s 7' % word for word in texts(CUT)]), 'take', 'len'],
-    ['extend ' + pairs(CUT), *['insert %s 7' % key for key in MANY], 'len', 'iter'],
+    [*one_by_one('insert', numbered(CUT)), 'take', 'len'],
+    ['extend ' + pairs(CUT), *['insert ' + word for word in numbered(MANY)], 'len', 'iter'],
     ['from_iter ' + pairs(JOINED), 'remove い z', 'insert x 7', *one_by_one('remove', texts(JOINED)),
      'remove x', 'len'],
     ['from_iter ' + pairs(WALKED), 'iter', 'keys', 'values', *['under ' + word for word in texts(BEGINNINGS)],
@@ -173,13 +178,6 @@ def lists(call, answered):
         n = answered.index('and')
         return [(0, n), (n + 1, len(answered))]
     return []
-
-
-def joins(m, key, kind):
-    """Whether keys part no more after a front of some keys when a key is removed."""
-    rest = [other for other in m if other != key]
-    lost = set(points(m, kind)) - set(points(rest, kind))
-    return any(other.startswith(front) for front in lost for other in rest)
 
 
 def put_in(kind, words):
@@ -263,23 +261,13 @@ def is_kept(lines, seen):
     return any(got.startswith(line + ': refused ') and not got.startswith(line + ': refused again') for got in seen)
 
 
-def run(program, shim, data, n):
-    """A run's status, output and error line, and whether a request was refused."""
-    with tempfile.NamedTemporaryFile() as log:
-        env = {**os.environ, 'REFUSE_AT': str(n), 'REFUSE_LOG': log.name, 'LD_PRELOAD': shim}
-        ran = subprocess.run([program], input=data, env=env, capture_output=True, timeout=60)
-        said = log.read()
-    assert b' refused=' in said, 'the shim was not loaded'
-    return ran.returncode, ran.stdout, ran.stderr, b' refused=1' in said
-
-
 def check(program, shim, kind, script):
     """Runs until no request is refused, and gives how many were, and how many in a call."""
     lines = ['%s %s' % (kind, line) for line in script]
     data = ''.join(line + '\n' for line in lines).encode()
     seen = []
     for n in range(1, MOST_REQUESTS):
-        status, output, errors, is_refused = run(program, shim, data, n)
+        status, output, errors, is_refused = run([program], shim, data, n)
         told = '%s, request %d: status %d, %r, %r' % (kind, n, status, output.decode()[-2000:], errors)
         if status == 0:
             assert is_allowed(lines, kind, output, is_refused) and errors == b'', told

@@ -68,7 +68,7 @@ impl<K: Bytes, V: Drop> Cursor<K, V> {
         ensures unchanged { OnErr result (self.new ≡ self.old) }
         ensures only_left { OnErr result (next_key self.old ≢ None) }
     {
-        self.trail.advance(self.alloc)
+        self.trail.advance::<K>(self.alloc)
     }
 
     /// Goes on to the next entry, and answers whether there is one. The error is want of memory.

@@ -40,7 +40,8 @@ impl<K: Bytes, V: Drop> ValueCursor<K, V> {
     pub fn into_cursor(self) -> Cursor<K, V>
         ensures { result ≡ self }
     {
-        self.cursor
+        let ValueCursor { cursor } = self;
+        cursor
     }
 
     // Goes on to the next value, and answers whether there is one.

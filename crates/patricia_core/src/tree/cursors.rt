@@ -76,6 +76,7 @@ impl<K: Bytes, V: Drop> Tree<K, V> {
     pub fn from_prefix_cursor<Q: BorrowedBytes<Owned = K>>(cursor: PrefixCursor<Q, V>) -> Self
         ensures { result ≡ cursor.map }
     {
-        made_of(cursor.into_parts())
+        let parts = cursor.into_parts();
+        made_of(parts)
     }
 }
