@@ -9,11 +9,14 @@ from answer_readings import read
 from answer_wire import tree_bytes
 from model import common, first_item, floor_boundary, is_valid, rows
 
-
 KINDS = 'bytes', 'text', 'bytes_set', 'text_set'
+
+# Characters that a Debug text writes with a letter.
+ESCAPES = {'"': '\\"', '\\': '\\\\', '\t': '\\t', '\n': '\\n', '\r': '\\r', '\0': '\\0'}
 
 
 def argument(word):
+    """The bytes that a word stands for."""
     text, star, times = word.partition('*')
     return unquote_to_bytes(text) * (int(times or 0) if star else 1)
 
@@ -24,14 +27,17 @@ def written(key):
 
 
 def shown(value):
+    """A value, or that there is none."""
     return 'none' if value is None else str(value)
 
 
 def truth(flag):
+    """The word for a truth value."""
     return 'true' if flag else 'false'
 
 
 def row(entry):
+    """An entry of a map."""
     return '%s=%d' % (written(entry[0]), entry[1])
 
 
@@ -70,7 +76,7 @@ def map_answers(m, call, words):
     return None
 
 
-def whole_answers(m, call, words, row=row):
+def whole_answers(m, call, words, shown_entry=row):
     """The answers to a call that makes a part or the whole anew, or None for another call."""
     if call not in ('split', 'split_off', 'clone'):
         return None
@@ -79,7 +85,7 @@ def whole_answers(m, call, words, row=row):
     left = dict(m) if call == 'clone' else {k: v for k, v in m.items() if k not in made}
     m.clear()
     m.update(left if call == 'split' else made)
-    return [*map(row, rows(made)), 'and', *map(row, rows(left))]
+    return [*map(shown_entry, rows(made)), 'and', *map(shown_entry, rows(left))]
 
 
 def prefix_answers(m, kind, call, words):
@@ -119,10 +125,8 @@ def key_answers(kind, call, words):
     return ['unknown']
 
 
-ESCAPES = {'"': '\\"', '\\': '\\\\', '\t': '\\t', '\n': '\\n', '\r': '\\r', '\0': '\\0'}
-
-
 def debug_character(c):
+    """A character in a Debug text."""
     if c in ESCAPES:
         return ESCAPES[c]
     is_printed = c == ' ' or unicodedata.category(c)[0] not in 'CZ'
@@ -177,6 +181,7 @@ def element(entry):
 
 
 def listed(m):
+    """The elements of a set."""
     return list(map(element, rows(m)))
 
 

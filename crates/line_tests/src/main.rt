@@ -6,7 +6,8 @@
 //! are left out.
 //!
 //! A call that finds no memory answers `refused` and what the map or the set then has, and behind
-//! `again` what it answers when it is made once more.
+//! `again` what it answers when it is made once more. A list of entries that is refused is written
+//! once more behind `refused` alone.
 #![tactic(auto)]
 
 mod key_calls;
@@ -130,7 +131,7 @@ where
     Ok(())
 }
 
-// Writes the calls of a text with their answers, those of bytes first.
+// Writes the calls of a text with their answers, kind by kind.
 fn write_all(rt: &impl Print, alloc: Global, text: &str) -> io::Result<()> {
     let calls = words::calls(alloc, text)?;
     let mut out = String::with_capacity(alloc, ROOM)?;

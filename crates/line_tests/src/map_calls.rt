@@ -59,7 +59,7 @@ where
     }
 }
 
-// The calls without arguments that leave the map as it is.
+// The calls without arguments that leave the map as it is, and those of the other files.
 fn answer_whole<'a, Q: Readable<'a>>(
     alloc: Global,
     map: &mut Map<Q::Owned>,

@@ -26,6 +26,7 @@ module _ {V : Type 0} (is_clone : V → V → Type 0) where
     pub kept : RowKept is_clone (row w) → RowKept is_clone (row rest)
 
   module _ {from to0 : List (Node V)} {w : Plan V} {at : Option ℕ} {id : ℕ} {to : List (Node V)} (m : Copying from to0 w at to) (e : at ≡ Some id) where
+    -- the next node, with what it has and what comes behind it
     next_node : (l : List ℕ) × (v : Option V) × (c : Plan V) × (d : Plan V) × (m.rest ≡ Cell id l v c d) × (slice_get from id ≡ Some (linked l v (head c) (head d)))
     next_node = opens_top from id m.rest (rw e at m.top)
 

@@ -26,6 +26,7 @@ enum Between {
     Size,
 }
 
+// What a line of the output tells of: a call for each key, a call for all, or none.
 #[derive(Clone, Copy)]
 enum Step {
     Each(Each, Part),
@@ -119,6 +120,7 @@ fn report_size<R: Print, K: Bytes>(
     report_share(sheet, name, maps.tree.len(), maps.map.len())
 }
 
+// Does what is done between calls.
 fn pass<R: Print, K: Bytes>(
     sheet: &Sheet<'_, R>,
     name: &str,

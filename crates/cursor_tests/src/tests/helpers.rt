@@ -6,9 +6,9 @@ fn put<Q: BorrowedBytes>(
     map: &mut GenericPatriciaMap<Q::Owned, u32>,
     key: Q,
     value: u32,
-) -> Result<Option<u32>, AllocError> {
+) -> Result<(), AllocError> {
     match map.insert(key, value) {
-        Ok(old) => Ok(old),
+        Ok(_) => Ok(()),
         Err(_) => Err(AllocError),
     }
 }
@@ -33,10 +33,7 @@ pub(super) fn two<Q: BorrowedBytes>(
     first: Q,
     second: Q,
 ) -> Result<GenericPatriciaMap<Q::Owned, u32>, AllocError> {
-    let mut map = GenericPatriciaMap::new(alloc);
-    put(&mut map, first, 1)?;
-    put(&mut map, second, 2)?;
-    Ok(map)
+    map_of(alloc, &[(first, 1), (second, 2)])
 }
 
 // How much is added to a value that is lent.
