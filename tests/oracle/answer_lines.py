@@ -1,6 +1,7 @@
-"""What `line_tests` must answer, by the plain model of model.py.
+"""What `line_tests` and `set_line_tests` must answer, by the plain model of model.py.
 
     python3 -B tests/oracle/answer_lines.py < crates/line_tests/stdin > crates/line_tests/stdout
+    python3 -B tests/oracle/answer_lines.py < crates/set_line_tests/stdin > crates/set_line_tests/stdout
 """
 import sys
 import unicodedata

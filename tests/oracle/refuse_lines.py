@@ -1,16 +1,17 @@
-"""Runs `line_tests` with the Nth memory request refused, for N = 1, 2, .. until none is refused.
+"""Runs a program with the Nth memory request refused, for N = 1, 2, .. until none is refused.
 
-    python3 -B tests/oracle/refuse_lines.py PROGRAM SHIM
+    python3 -B tests/oracle/refuse_lines.py PROGRAM SHIM maps|sets
 
-PROGRAM is `line_tests`, and SHIM is tests/refusal/refuse.c as a shared library. Each of SCRIPTS is
-run alone. At first a run may end with a status that is not 0 and no answers, since the program reads
-its input to its end before it answers. From the first call on that is refused, each run ends with 0.
-Such a run writes the answers of the plain model, and in at most one of its lines a refusal may stand,
-at a place where the model allows it, behind what the call had answered before: a walk of some entries
-may be refused before its last, and a Debug text before its end. A list in an answer is then made once
-more. Any other call says what entries it left, and is made again, with the answer of one that was not
-refused. A call that puts many pairs in is refused at one of them, and leaves those before it: in some
-run one is left. With no request refused the answers are the model's own.
+PROGRAM is `line_tests`, which answers calls of maps, or `set_line_tests`, which answers those of sets.
+SHIM is tests/refusal/refuse.c as a shared library. Each script is run alone. At first a run may end
+with a status that is not 0 and no answers, since the program reads its input to its end before it
+answers. From the first call on that is refused, each run ends with 0. Such a run writes the answers of
+the plain model, and in at most one of its lines a refusal may stand, at a place where the model allows
+it, behind what the call had answered before: a walk of some entries may be refused before its last, and
+a Debug text before its end. A list in an answer is then made once more. Any other call says what
+entries it left, and is made again, with the answer of one that was not refused. A call that puts many
+pairs in is refused at one of them, and leaves those before it: in some run one is left. With no request
+refused the answers are the model's own.
 """
 import sys
 from answer_lines import answers, calls, element, row, written
@@ -160,8 +161,8 @@ SET_SCRIPTS = [
     ['insert x', 'read %s 7' % TREE, 'read %s 7' % TREE, 'read %s 6' % TREE, 'iter'],
 ]
 
-SCRIPTS = [(kind, script) for kind in ('bytes', 'text') for script in MAP_SCRIPTS]
-SCRIPTS += [(kind, script) for kind in ('bytes_set', 'text_set') for script in SET_SCRIPTS]
+# The kinds of keys, and the scripts for each.
+SCRIPTS = {'maps': (('bytes', 'text'), MAP_SCRIPTS), 'sets': (('bytes_set', 'text_set'), SET_SCRIPTS)}
 
 
 def text_of(answered):
@@ -280,8 +281,9 @@ def check(program, shim, kind, script):
     raise AssertionError('no end')
 
 
-def main(program, shim):
-    counts = [check(program, shim, kind, script) for kind, script in SCRIPTS]
+def main(program, shim, name):
+    kinds, scripts = SCRIPTS[name]
+    counts = [check(program, shim, kind, script) for kind in kinds for script in scripts]
     assert min(answering for _, answering in counts) > 0, 'no request of a call'
     print(
         '%s: passed with each of %d requests refused, %d of them in calls'

@@ -1,6 +1,7 @@
 //! The functions of the key traits.
 
-use crate::words::{self, Readable};
+use line_words::answers::Answers;
+use line_words::calls::{self, Readable};
 use patricia_tree::{BorrowedBytes, Bytes};
 use std::alloc::{AllocError, Global};
 use std::cmp::Ordering;
@@ -26,11 +27,11 @@ fn answer_pair<'a, Q: Readable<'a>>(
     out: &mut String,
 ) -> Result<(), AllocError> {
     let [key, argument] = arguments else {
-        return words::add(out, "unknown");
+        return out.add("unknown");
     };
     match Q::read(key) {
         Some(key) => answer_key(call, key, argument, out),
-        None => words::add(out, "none"),
+        None => out.add("none"),
     }
 }
 
@@ -43,15 +44,15 @@ fn answer_key<Q: BorrowedBytes>(
     match call {
         "common" => add_common(key, argument, out),
         "first" => add_first(key, argument, out),
-        "halves" => add_halves(key, words::number(argument), out),
-        _ => words::add(out, "unknown"),
+        "halves" => add_halves(key, calls::number(argument), out),
+        _ => out.add("unknown"),
     }
 }
 
 // How many bytes of each argument are whole items.
 fn add_floors<K: Bytes>(arguments: &[Vec<u8>], out: &mut String) -> Result<(), AllocError> {
     for bytes in arguments {
-        words::add_number(out, K::floor_boundary(bytes) as u64)?;
+        out.add_number(K::floor_boundary(bytes) as u64)?;
     }
     Ok(())
 }
@@ -59,10 +60,10 @@ fn add_floors<K: Bytes>(arguments: &[Vec<u8>], out: &mut String) -> Result<(), A
 // The bytes of a key made of an argument.
 fn add_copy<K: Bytes>(alloc: Global, bytes: &[u8], out: &mut String) -> Result<(), AllocError> {
     if !K::is_valid_bytes(bytes) {
-        return words::add(out, "none");
+        return out.add("none");
     }
     let key = K::from_bytes(alloc, bytes)?;
-    words::add_key(out, key.as_bytes())
+    out.add_key(key.as_bytes())
 }
 
 fn add_copies<K: Bytes>(
@@ -80,33 +81,33 @@ fn add_copies<K: Bytes>(
 fn add_common<Q: BorrowedBytes>(key: Q, bytes: &[u8], out: &mut String) -> Result<(), AllocError> {
     let (rest, len) = key.strip_common_prefix_and_len(bytes);
     let again = key.strip_common_prefix(bytes);
-    words::add_number(out, len as u64)?;
-    words::add_key(out, rest.as_bytes())?;
-    words::add_key(out, again.as_bytes())?;
-    words::add_bool(out, rest.is_empty())
+    out.add_number(len as u64)?;
+    out.add_key(rest.as_bytes())?;
+    out.add_key(again.as_bytes())?;
+    out.add_bool(rest.is_empty())
 }
 
 // The order of the first items.
 fn add_first<Q: BorrowedBytes>(key: Q, bytes: &[u8], out: &mut String) -> Result<(), AllocError> {
     if !Q::Owned::is_valid_bytes(bytes) {
-        return words::add(out, "none");
+        return out.add("none");
     }
     let order = match key.cmp_first_item(bytes) {
         Ordering::Less => "less",
         Ordering::Equal => "equal",
         Ordering::Greater => "greater",
     };
-    words::add(out, order)
+    out.add(order)
 }
 
 // The first bytes of a key and the others, where the first are whole items.
 fn add_halves<Q: BorrowedBytes>(key: Q, n: usize, out: &mut String) -> Result<(), AllocError> {
     let Some(front) = key.as_bytes().get(..n) else {
-        return words::add(out, "none");
+        return out.add("none");
     };
     if !Q::Owned::is_valid_bytes(front) {
-        return words::add(out, "none");
+        return out.add("none");
     }
-    words::add_key(out, key.keep_n_prefix(n).as_bytes())?;
-    words::add_key(out, key.strip_n_prefix(n).as_bytes())
+    out.add_key(key.keep_n_prefix(n).as_bytes())?;
+    out.add_key(key.strip_n_prefix(n).as_bytes())
 }

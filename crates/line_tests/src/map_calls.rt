@@ -1,7 +1,9 @@
 //! The calls of a map.
 
-use crate::words::{self, Readable};
-use crate::{tree_calls, whole_calls};
+use crate::asked;
+use line_words::answering::{Answering, Listed, add_entries, add_refusal};
+use line_words::answers::{Answers, is_still_whole, outcome};
+use line_words::calls::{self, Readable};
 use patricia_tree::{BorrowedBytes, Bytes, GenericPatriciaMap};
 use std::alloc::{AllocError, Global};
 use std::fmt::Debug;
@@ -9,92 +11,68 @@ use std::mem;
 
 type Map<K> = GenericPatriciaMap<K, u64>;
 
-/// Adds the answers to a call. A call that is refused is made once more, behind what it left.
-pub(super) fn answer_again<'a, Q: Readable<'a>>(
-    alloc: Global,
-    map: &mut Map<Q::Owned>,
-    call: &str,
-    arguments: &'a [Vec<u8>],
-    out: &mut String,
-) -> Result<(), AllocError>
-where
-    Q::Owned: Debug,
-{
-    if answer::<Q>(alloc, map, call, arguments, out).is_ok() {
-        return Ok(());
-    }
-    add_refusal(map, out)?;
-    answer::<Q>(alloc, map, call, arguments, out)
+/// A map that answers calls.
+#[derive(Drop)]
+pub(super) struct MapCalls<K: Bytes> {
+    map: Map<K>,
 }
 
-// Adds the entries that a refused call left.
-fn add_refusal<K: Bytes>(map: &Map<K>, out: &mut String) -> Result<(), AllocError> {
-    words::add(out, "refused")?;
-    add_rows(map, out)?;
-    words::add(out, "again")
-}
-
-// The answers to a call.
-fn answer<'a, Q: Readable<'a>>(
-    alloc: Global,
-    map: &mut Map<Q::Owned>,
-    call: &str,
-    arguments: &'a [Vec<u8>],
-    out: &mut String,
-) -> Result<(), AllocError>
-where
-    Q::Owned: Debug,
-{
-    match call {
-        "insert" => add_inserts::<Q>(map, arguments, out),
-        "extend" | "from_iter" => add_pairs::<Q>(alloc, map, call, arguments, out),
-        "get" | "contains" | "remove" => add_each::<Q>(map, call, arguments, out),
-        "clear" => {
-            map.clear();
-            Ok(())
-        }
-        "take" => take(alloc, map, out),
-        "read" => add_read(alloc, map, arguments, out),
-        _ => answer_whole::<Q>(alloc, map, call, arguments, out),
-    }
-}
-
-// The calls without arguments that leave the map as it is, and those of the other files.
-fn answer_whole<'a, Q: Readable<'a>>(
-    alloc: Global,
-    map: &mut Map<Q::Owned>,
-    call: &str,
-    arguments: &'a [Vec<u8>],
-    out: &mut String,
-) -> Result<(), AllocError>
-where
-    Q::Owned: Debug,
-{
-    match call {
-        "len" => words::add_number(out, map.len() as u64),
-        "empty" => words::add_bool(out, map.is_empty()),
-        "iter" => add_rows(map, out),
-        "keys" => add_keys(map, out),
-        "values" => add_values(map, out),
-        "tree" => tree_calls::add_tree(map.tree_bytes(), out),
-        "debug" | "wide" => words::add_debug(map, call == "wide", out),
-        _ => whole_calls::answer::<Q>(alloc, map, call, arguments, out),
-    }
-}
-
-// The answer about each key.
-fn add_each<'a, Q: Readable<'a>>(
-    map: &mut Map<Q::Owned>,
-    call: &str,
-    keys: &'a [Vec<u8>],
-    out: &mut String,
-) -> Result<(), AllocError> {
-    for key in keys {
-        if let Some(key) = Q::read(key) {
-            add_one(map, call, key, out)?;
+impl<K: Bytes> Listed for MapCalls<K> {
+    fn empty(alloc: Global) -> Self {
+        MapCalls {
+            map: GenericPatriciaMap::new(alloc),
         }
     }
-    Ok(())
+
+    fn copied(&self) -> Result<Self, AllocError> {
+        let map = self.map.clone()?;
+        Ok(MapCalls { map })
+    }
+
+    fn add_walked(&self, out: &mut String) -> Result<(), AllocError> {
+        let mut is_whole = true;
+        for entry in &self.map {
+            is_whole = is_still_whole(is_whole, asked::add_entry(entry, out), out)?;
+        }
+        outcome(is_whole)
+    }
+}
+
+impl<'a, Q: Readable<'a>> Answering<'a, Q> for MapCalls<Q::Owned>
+where
+    Q::Owned: Debug,
+{
+    fn split(&mut self, prefix: Q) -> Result<Self, AllocError> {
+        let map = self.map.split_by_prefix(prefix)?;
+        Ok(MapCalls { map })
+    }
+
+    fn answer(
+        &mut self,
+        alloc: Global,
+        call: &str,
+        arguments: &'a [Vec<u8>],
+        out: &mut String,
+    ) -> Result<(), AllocError> {
+        match call {
+            "insert" => add_inserts::<Q>(self, arguments, out),
+            "remove" => add_removals::<Q>(&mut self.map, arguments, out),
+            "extend" | "from_iter" => {
+                put_pairs::<Q>(alloc, &mut self.map, arguments, call == "extend")?;
+                add_entries(self, out)
+            }
+            "read" => add_read(alloc, self, arguments, out),
+            "take" => add_taken(
+                mem::replace(&mut self.map, GenericPatriciaMap::new(alloc)),
+                out,
+            ),
+            "clear" => {
+                self.map.clear();
+                Ok(())
+            }
+            _ => asked::answer::<Q>(alloc, &self.map, call, arguments, out),
+        }
+    }
 }
 
 // The arguments are keys, each with its value after it.
@@ -107,7 +85,7 @@ fn pairs<'a, Q: Readable<'a>>(
         if let [key, value] = pair
             && let Some(key) = Q::read(key)
         {
-            pairs.push((key, words::number(value) as u64))?;
+            pairs.push((key, calls::number(value) as u64))?;
         }
     }
     Ok(pairs)
@@ -122,18 +100,6 @@ fn pairs_again<'a, Q: Readable<'a>>(
         Ok(pairs) => Ok(pairs),
         Err(_) => pairs::<Q>(alloc, arguments),
     }
-}
-
-// The entries once pairs are put into the map, or once it is made anew of them.
-fn add_pairs<'a, Q: Readable<'a>>(
-    alloc: Global,
-    map: &mut Map<Q::Owned>,
-    call: &str,
-    arguments: &'a [Vec<u8>],
-    out: &mut String,
-) -> Result<(), AllocError> {
-    put_pairs::<Q>(alloc, map, arguments, call == "extend")?;
-    add_rows(map, out)
 }
 
 // Puts pairs into the map, or makes it anew of them.
@@ -152,7 +118,7 @@ fn put_pairs<'a, Q: Readable<'a>>(
 }
 
 fn add_inserts<'a, Q: Readable<'a>>(
-    map: &mut Map<Q::Owned>,
+    asked: &mut MapCalls<Q::Owned>,
     arguments: &'a [Vec<u8>],
     out: &mut String,
 ) -> Result<(), AllocError> {
@@ -160,7 +126,7 @@ fn add_inserts<'a, Q: Readable<'a>>(
         if let [key, value] = pair
             && let Some(key) = Q::read(key)
         {
-            add_insert(map, key, words::number(value) as u64, out)?;
+            add_insert(asked, key, calls::number(value) as u64, out)?;
         }
     }
     Ok(())
@@ -168,121 +134,88 @@ fn add_inserts<'a, Q: Readable<'a>>(
 
 // A refusal hands the value back, and that very value is then put in.
 fn add_insert<Q: BorrowedBytes>(
-    map: &mut Map<Q::Owned>,
+    asked: &mut MapCalls<Q::Owned>,
     key: Q,
     value: u64,
     out: &mut String,
 ) -> Result<(), AllocError> {
-    match map.insert(key, value) {
-        Ok(old) => words::add_value(out, old),
+    match asked.map.insert(key, value) {
+        Ok(old) => out.add_value(old),
         Err(refused) => {
-            add_refusal(map, out)?;
-            add_last_insert(map, key, refused.value, out)
+            add_refusal(asked, out)?;
+            add_last_insert(asked, key, refused.value, out)
         }
     }
 }
 
 fn add_last_insert<Q: BorrowedBytes>(
-    map: &mut Map<Q::Owned>,
+    asked: &mut MapCalls<Q::Owned>,
     key: Q,
     value: u64,
     out: &mut String,
 ) -> Result<(), AllocError> {
-    match map.insert(key, value) {
-        Ok(old) => words::add_value(out, old),
+    match asked.map.insert(key, value) {
+        Ok(old) => out.add_value(old),
         Err(_) => Err(AllocError),
     }
 }
 
-// The answer of a call on one key.
-fn add_one<Q: BorrowedBytes>(
+fn add_removals<'a, Q: Readable<'a>>(
     map: &mut Map<Q::Owned>,
-    call: &str,
-    key: Q,
+    keys: &'a [Vec<u8>],
     out: &mut String,
 ) -> Result<(), AllocError> {
-    match call {
-        "get" => words::add_value(out, map.get(key).copied()),
-        "contains" => words::add_bool(out, map.contains_key(key)),
-        _ => words::add_value(out, map.remove(key)?),
+    for key in keys {
+        if let Some(key) = Q::read(key) {
+            out.add_value(map.remove(key)?)?;
+        }
     }
+    Ok(())
 }
 
-/// Adds an entry that a walk gives.
-pub(super) fn add_entry<K: Bytes>(
-    entry: Result<(K, &u64), AllocError>,
-    out: &mut String,
-) -> Result<(), AllocError> {
-    let (key, value) = entry?;
-    words::add_row(out, key.as_bytes(), *value)
-}
-
-/// Adds the entries of a map, and once more behind `refused` where a step is refused.
-pub(super) fn add_rows<K: Bytes>(map: &Map<K>, out: &mut String) -> Result<(), AllocError> {
-    if add_walked(map, out).is_ok() {
-        return Ok(());
+// The arguments are numbers.
+fn values(alloc: Global, arguments: &[Vec<u8>]) -> Result<Vec<u64>, AllocError> {
+    let mut values = Vec::new(alloc);
+    for value in arguments {
+        values.push(calls::number(value) as u64)?;
     }
-    words::add(out, "refused")?;
-    add_walked(map, out)
+    Ok(values)
 }
 
-// A refused step ends a walk, so that nothing is added behind it.
-fn add_walked<K: Bytes>(map: &Map<K>, out: &mut String) -> Result<(), AllocError> {
-    let mut is_whole = true;
-    for entry in map {
-        is_whole = add_entry(entry, out).is_ok() && is_whole;
+// The same. What is refused here is none of the library's, and asked for once more.
+fn values_again(alloc: Global, arguments: &[Vec<u8>]) -> Result<Vec<u64>, AllocError> {
+    match values(alloc, arguments) {
+        Ok(values) => Ok(values),
+        Err(_) => values(alloc, arguments),
     }
-    words::outcome(is_whole)
-}
-
-fn add_key<K: Bytes>(key: Result<K, AllocError>, out: &mut String) -> Result<(), AllocError> {
-    words::add_key(out, key?.as_bytes())
-}
-
-fn add_keys<K: Bytes>(map: &Map<K>, out: &mut String) -> Result<(), AllocError> {
-    let mut is_whole = true;
-    for key in map.keys() {
-        is_whole = add_key(key, out).is_ok() && is_whole;
-    }
-    words::outcome(is_whole)
-}
-
-fn add_number(value: Result<&u64, AllocError>, out: &mut String) -> Result<(), AllocError> {
-    words::add_number(out, *value?)
-}
-
-fn add_values<K: Bytes>(map: &Map<K>, out: &mut String) -> Result<(), AllocError> {
-    let mut is_whole = true;
-    for value in map.values() {
-        is_whole = add_number(value, out).is_ok() && is_whole;
-    }
-    words::outcome(is_whole)
 }
 
 // The entries of a map that is read, or the fault.
 fn add_read<K: Bytes>(
     alloc: Global,
-    map: &mut Map<K>,
+    asked: &mut MapCalls<K>,
     arguments: &[Vec<u8>],
     out: &mut String,
 ) -> Result<(), AllocError> {
-    if tree_calls::read_map(alloc, map, arguments, out)? {
-        return add_rows(map, out);
+    let [tree, others @ ..] = arguments else {
+        return Ok(());
+    };
+    match GenericPatriciaMap::from_wire(alloc, tree, values_again(alloc, others)?) {
+        Ok(map) => {
+            asked.map = map;
+            add_entries(asked, out)
+        }
+        Err(fault) => out.add_fault(fault),
     }
-    Ok(())
 }
 
-// Takes the entries out, and leaves an empty map. A refused step drops those that are left.
-fn take<K: Bytes>(alloc: Global, map: &mut Map<K>, out: &mut String) -> Result<(), AllocError> {
-    add_taken(mem::replace(map, GenericPatriciaMap::new(alloc)), out)
-}
-
+// A refused step drops the entries that are left.
 fn add_taken<K: Bytes>(map: Map<K>, out: &mut String) -> Result<(), AllocError> {
     let mut is_whole = true;
     for entry in map {
-        is_whole = add_owned(entry, out).is_ok() && is_whole;
+        is_whole = is_still_whole(is_whole, add_owned(entry, out), out)?;
     }
-    words::outcome(is_whole)
+    outcome(is_whole)
 }
 
 fn add_owned<K: Bytes>(
@@ -290,5 +223,5 @@ fn add_owned<K: Bytes>(
     out: &mut String,
 ) -> Result<(), AllocError> {
     let (key, value) = entry?;
-    words::add_row(out, key.as_bytes(), value)
+    out.add_row(key.as_bytes(), value)
 }

@@ -1,7 +1,8 @@
 //! The calls of a map about beginnings of keys.
 
-use crate::words::{self, Readable};
-use crate::{key_calls, map_calls};
+use crate::{asked, key_calls};
+use line_words::answers::{Answers, is_still_whole, outcome};
+use line_words::calls::Readable;
 use patricia_tree::{BorrowedBytes, Bytes, GenericPatriciaMap};
 use std::alloc::{AllocError, Global};
 
@@ -47,11 +48,11 @@ fn add_one<Q: BorrowedBytes>(
     out: &mut String,
 ) -> Result<(), AllocError> {
     if !is_longest {
-        return words::add_number(out, map.longest_common_prefix_len(key) as u64);
+        return out.add_number(map.longest_common_prefix_len(key) as u64);
     }
     match map.get_longest_common_prefix(key) {
-        Some((front, value)) => words::add_row(out, front.as_bytes(), *value),
-        None => words::add(out, "none"),
+        Some((front, value)) => out.add_row(front.as_bytes(), *value),
+        None => out.add("none"),
     }
 }
 
@@ -68,7 +69,7 @@ fn add_walk<'a, Q: Readable<'a>>(
     {
         return add_walked(alloc, map, call, key, out);
     }
-    words::add(out, "unknown")
+    out.add("unknown")
 }
 
 // The answers of a walk along one key or under it.
@@ -93,7 +94,7 @@ fn add_along<Q: BorrowedBytes>(
     out: &mut String,
 ) -> Result<(), AllocError> {
     for (front, value) in map.common_prefixes(key) {
-        words::add_row(out, front.as_bytes(), *value)?;
+        out.add_row(front.as_bytes(), *value)?;
     }
     Ok(())
 }
@@ -104,7 +105,7 @@ fn add_along_values<Q: BorrowedBytes>(
     out: &mut String,
 ) -> Result<(), AllocError> {
     for value in map.common_prefix_values(key) {
-        words::add_number(out, *value)?;
+        out.add_number(*value)?;
     }
     Ok(())
 }
@@ -121,7 +122,7 @@ fn add_along_a_copy<Q: BorrowedBytes>(
 
 fn add_along_owned<K: Bytes>(map: &Map<K>, key: K, out: &mut String) -> Result<(), AllocError> {
     for value in map.common_prefix_values_owned(key) {
-        words::add_number(out, *value)?;
+        out.add_number(*value)?;
     }
     Ok(())
 }
@@ -134,7 +135,7 @@ fn add_under<Q: BorrowedBytes>(
 ) -> Result<(), AllocError> {
     let mut is_whole = true;
     for entry in map.iter_prefix(prefix) {
-        is_whole = map_calls::add_entry(entry, out).is_ok() && is_whole;
+        is_whole = is_still_whole(is_whole, asked::add_entry(entry, out), out)?;
     }
-    words::outcome(is_whole)
+    outcome(is_whole)
 }
