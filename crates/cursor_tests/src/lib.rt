@@ -1,4 +1,4 @@
-//! Tests of the cursors of a map, and of the calls that lend one value.
+//! Tests of the cursors of a map.
 #![tactic(auto)]
 
 #[cfg(test)]

@@ -1,7 +1,7 @@
+//! Tests of cursors that lend all, that are dropped before, and of which a step is refused.
+
 mod ends;
 mod helpers;
-mod keys;
 mod lends;
-mod prefixes;
 mod refusals;
 mod runs;

@@ -1,4 +1,4 @@
-//! Tests of reading a map or a set from its tree bytes, and of the JSON of such bytes and values.
+//! Tests of reading a map or a set from its tree bytes, one of them through JSON and back.
 #![tactic(auto)]
 
 #[cfg(test)]

@@ -1,4 +1,4 @@
-// Cursors that are dropped before they have lent all, or anything.
+//! Cursors that are dropped before they have lent all, or anything.
 use super::helpers::{add, has_more, map_of};
 use patricia_tree::{BorrowedBytes, Bytes, GenericPatriciaMap};
 use std::alloc::AllocError;

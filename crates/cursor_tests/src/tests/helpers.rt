@@ -1,3 +1,4 @@
+//! Maps of some entries, and what is added to values that are lent.
 use patricia_tree::{BorrowedBytes, GenericPatriciaMap};
 use std::alloc::{AllocError, Global};
 
@@ -27,15 +28,6 @@ pub(super) fn map_of<Q: BorrowedBytes>(
     Ok(map)
 }
 
-// A map of two keys, whose values are 1 and 2.
-pub(super) fn two<Q: BorrowedBytes>(
-    alloc: Global,
-    first: Q,
-    second: Q,
-) -> Result<GenericPatriciaMap<Q::Owned, u32>, AllocError> {
-    map_of(alloc, &[(first, 1), (second, 2)])
-}
-
 // How much is added to a value that is lent.
 const MORE: u32 = 10;
 
@@ -60,15 +52,4 @@ pub(super) fn has_more<Q: BorrowedBytes>(
         }
     }
     map.len() == rows.len()
-}
-
-// Whether a map has two keys with these values, and no other.
-pub(super) fn has_values<Q: BorrowedBytes>(
-    map: &GenericPatriciaMap<Q::Owned, u32>,
-    first: (Q, u32),
-    second: (Q, u32),
-) -> bool {
-    map.get(first.0).copied() == Some(first.1)
-        && map.get(second.0).copied() == Some(second.1)
-        && map.len() == 2
 }

@@ -1,4 +1,4 @@
-// Loans of the values of a map in key order.
+//! Loans of the values of a map in key order.
 use super::runs::check_all;
 use std::alloc::AllocError;
 

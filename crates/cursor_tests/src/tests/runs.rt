@@ -1,4 +1,4 @@
-// Runs of cursors over maps, each of whose steps may be refused and is then made once more.
+//! Runs of cursors over maps, each of whose steps may be refused and is then made once more.
 use super::helpers::{add, has_more, map_of};
 use patricia_tree::map::{IterMut, IterPrefixMut, ValuesMut};
 use patricia_tree::{BorrowedBytes, Bytes, GenericPatriciaMap};

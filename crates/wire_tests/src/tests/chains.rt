@@ -1,4 +1,4 @@
-// Trees as deep as can be written. `.ci/run` runs these tests under a call stack of 512 KiB, too.
+//! Trees as deep as can be written. `.ci/run` runs these tests under a call stack of 512 KiB, too.
 use super::helpers::{chain, numbers};
 use patricia_tree::{
     BorrowedBytes, Bytes, DecodeError, GenericPatriciaMap, PatriciaMap, WireError,

@@ -1,4 +1,4 @@
-// Inputs that claim much and hold little. `.ci/run` asks that no request of this test is large.
+//! Inputs that claim much and hold little. `.ci/run` asks that no request of this test is large.
 use patricia_tree::{DecodeError, PatriciaSet};
 use std::alloc::{AllocError, Global};
 use std::process::Abort;

@@ -1,3 +1,4 @@
+//! Ten thousand keys, through tree bytes, JSON and back.
 use patricia_tree::wire::{WireError, pair_from_json, pair_to_json};
 use patricia_tree::{Bytes, GenericPatriciaMap, PatriciaMap};
 use serde_json::Value;

@@ -1,4 +1,4 @@
-// Loans of the value of a key.
+//! Loans of the value of a key.
 use super::helpers::{has_values, two};
 use loan_callers::loans::replace;
 use patricia_tree::BorrowedBytes;

@@ -1,3 +1,4 @@
+//! Texts that are no pair, and the texts of errors.
 use patricia_json::{JsonError, pair_from_json};
 use std::alloc::{AllocError, Global};
 use std::process::Abort;

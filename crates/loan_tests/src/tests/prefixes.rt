@@ -1,4 +1,4 @@
-// Loans of the value of the longest key that begins a key.
+//! Loans of the value of the longest key that begins a key.
 use super::helpers::{has_values, two};
 use loan_callers::loans::replace_longest;
 use patricia_tree::{BorrowedBytes, GenericPatriciaMap};

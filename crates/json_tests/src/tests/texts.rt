@@ -1,3 +1,4 @@
+//! Pairs that are written and read.
 use super::helpers::{are_values, values_of};
 use patricia_json::{JsonError, pair_from_json, pair_to_json};
 use std::alloc::{AllocError, Global};
