@@ -1,32 +1,39 @@
 #!/usr/bin/env python3
-"""Says for each must-fail edit which goals it leaves open.
+"""Tries the must-fail edits: each must leave a goal open in the function that it turns.
 
-    tests/must_fail.py [CRATE..]
+    tests/must_fail.py [CRATE..]                   over the libraries that rt ci left
+    tests/must_fail.py --beside FOLDER LOG         over those that an rt ci makes in that folder meanwhile,
+                                                   each crate once the log says that it is proved
 
-Each edit of crates/*/must-fail (or of the crates named) is applied to a copy of the repository (a
-folder beside it, of hard links), and the crate is checked there. Edits of functions that differ in
-their file or their name are tried in one check: a function is proved from its own code and from the
-contracts of those that it calls, so an edit of code opens goals of the function in which it stands,
-and of no other. Where it opens none there, and where it changes a contract or a file of specs/, it
-is tried alone.
+It tries the edits of crates/*/must-fail (or of the crates named), those of different functions in one check.
+A function is proved from its own code and from the promises of those that it calls. So an edit of code opens
+goals of the function in which it stands, and of no other. And an edit of a promise, or of a definition in
+specs/, opens goals of the function that promises it alone, where nothing else names the function or the word.
+Any other edit is tried by itself, and so is one that opens no goal in its function.
 
-An edit is good if a goal fails by its meaning. One that is refused only because a proof file names
-what the edit took away shows nothing of the contract: these are listed at the end, with those that
-are proved and those that do not apply, and the status is 1. Four crates are tried side by side.
+An edit is good if a goal fails by its meaning. One that is refused only because a proof file names what
+the edit took away shows nothing: these are listed, with those that are proved and those that do not apply.
+The last line sums all: 'N passed, M failed'.
 """
 import os
 import re
-import shutil
 import subprocess
 import sys
 import tempfile
+import time
 from concurrent.futures import ThreadPoolExecutor
+from typing import NamedTuple
 
 ROOT = os.path.dirname(os.path.dirname(os.path.abspath(__file__)))
 SIDE_BY_SIDE = 4
-SAID = re.compile(r'(?:note: )?\S+:\d+:\d+:')
-NAMES = re.compile(r'(\./)?proofs/.*(has no field|is not in scope|has no `|was not admitted)')
-FUNCTION = re.compile(r'^ *(?:pub(?:\([a-z]+\))? )?fn (\w+)', re.M)
+MOST_IN_ONE = 16
+FEW = 9
+SAID = re.compile(r'(?:note: )?(?:\./)?(\S+?):(\d+):\d+: (.*)')
+NAMES = re.compile('has no field|is not in scope|has no `|was not admitted|is no name|operand is missing'
+                   '|expected the end|cannot continue')
+FUNCTION = re.compile(r'^( *)(?:pub(?:\([a-z]+\))? )?fn (\w+)')
+DEFINED = re.compile(r'^ *(?:abbrev )?(?:pub )?(\w+) : ')
+PARTS = 'src', 'specs', 'proofs'
 
 
 def read(path):
@@ -34,24 +41,61 @@ def read(path):
         return file.read()
 
 
-def replace(path, text):
-    """Writes a file anew: other copies may share the one that was there."""
-    if os.path.exists(path):
-        os.remove(path)
-    with open(path, 'w', encoding='utf-8') as file:
-        file.write(text)
+class Function(NamedTuple):
+    """A function: its module, the type and the trait to which it belongs (or its module again), its name."""
+    module: str
+    owner: str
+    name: str
+
+    def marks(self):
+        """By which it is told from the other functions that are tried with it."""
+        return {(self.module, self.name), (self.owner, self.name)}
 
 
-def function_at(text, place):
-    """The name of the function that stands at a place of a text, or none."""
-    names = FUNCTION.findall(text, 0, place)
-    return names[-1] if names else None
+def type_name(text):
+    """The name that the prover gives a type."""
+    text = re.sub(r"'\w+,? ?", '', text.strip())
+    if text.startswith('&'):
+        return 'Ref' + type_name(text[1:])
+    if text.startswith('['):
+        return 'Slice' + type_name(text[1:-1])
+    name, _, of = text.partition('<')
+    if '<' in of:
+        return '+'.join([name, *re.findall(r'\w+', of)])
+    return name.capitalize() + 'U8' * (of == 'u8>') if name.islower() or of == 'u8>' else name
 
 
-def is_in_code(text, place):
-    """Whether a place of a text is in a function's code, and not in what it promises."""
-    heads = list(FUNCTION.finditer(text, 0, place))
-    return bool(heads) and '{\n' in text[heads[-1].start():place]
+def owner_in(head):
+    """The name of the type and the trait of an impl's head, or of a trait."""
+    trait = re.match(r'(?:pub )?trait (\w+)', head)
+    if trait:
+        return trait[1]
+    depth, rest = 0, head.removeprefix('impl')
+    for at, sign in enumerate(rest):
+        depth += (sign == '<') - (sign == '>')
+        if depth == 0 and sign in '> ':
+            rest = rest[at + 1:].split(' where ')[0].strip()
+            break
+    trait, _, of = rest.rpartition(' for ')
+    trait, _, given = trait.strip().partition('<')
+    return type_name(of) + ('' if trait == 'Drop' else trait + ''.join(re.findall(r'(\w+)<', given)))
+
+
+def function_at(file, lines, number):
+    """The function in which a line of a file stands, and whether the line is in its code."""
+    found = in_code = None
+    module = file.removeprefix('src/').removesuffix('.rt')
+    around = module.split('/')[-1]
+    for n, line in enumerate(lines[:number]):
+        head = FUNCTION.match(line)
+        if re.match('impl|(pub )?trait', line):
+            around = owner_in(' '.join(x.strip() for x in lines[n:n + 3]).split('{')[0])
+        if head:
+            found = Function(module, around if head[1] else module.split('/')[-1], head[2])
+            in_code = line.endswith('{') and not line.startswith(' ' * 9)
+        elif found and line.strip() == '{':
+            in_code = True
+    return found, bool(in_code)
 
 
 class Edit:
@@ -71,147 +115,262 @@ class Edit:
             elif word == 'new':
                 self.changes.append((file, old, rest))
 
-    def applied(self, texts, folder):
+    def applied(self, texts, crate):
         """These texts of a crate's files with the change made, or None where it does not apply."""
         texts = dict(texts)
         for file, old, new in self.changes:
-            text = texts.get(file) or read(os.path.join(folder, file))
+            text = texts[file] if file in texts else crate.texts.get(file, '')
             if text.count(old) != 1:
                 return None
             texts[file] = text.replace(old, new)
         return texts
 
-    def functions(self, folder):
-        """The file and the name of each function whose code it changes, or None where it changes more."""
+    def functions(self, crate):
+        """The functions that it turns, or none where others may rest on what it turns."""
         found = set()
         for file, old, _ in self.changes:
-            text = read(os.path.join(folder, file))
-            place = text.find(old) + len(old)
-            if not file.startswith('src/') or not is_in_code(text, place):
-                return None
-            found.add((file, function_at(text, place)))
+            text = crate.texts.get(file, '')
+            line = text[:text.find(old) + len(old)].count('\n') + 1
+            turned = crate.turned_at(file, text.split('\n'), line)
+            if not turned:
+                return set()
+            found |= turned
         return found
 
 
-def packs(edits, folder):
-    """The edits in lists, each to be tried in one check."""
+class Crate:
+    """A crate of crates.txt, with the texts of its files."""
+
+    def __init__(self, name, uses):
+        self.name = name
+        self.folder = os.path.join(ROOT, 'crates', name)
+        self.uses = uses
+        self.texts = {}
+        for part in PARTS:
+            for at, _, files in os.walk(os.path.join(self.folder, part)):
+                paths = [os.path.join(at, x) for x in files]
+                self.texts.update({os.path.relpath(x, self.folder): read(x) for x in paths})
+        sources = [(x, text.split('\n')) for x, text in self.texts.items() if x.startswith('src/')]
+        self.heads = [function_at(x, lines, n + 1)[0] for x, lines in sources
+                      for n, line in enumerate(lines) if FUNCTION.match(line)]
+
+    def edits(self):
+        """The edits of its folder must-fail, where nothing else stands."""
+        there = os.path.join(self.folder, 'must-fail')
+        names = sorted(os.listdir(there)) if os.path.isdir(there) else []
+        return [Edit(os.path.join(there, x)) for x in names if not x.endswith('.md')]
+
+    def turned_at(self, file, lines, number):
+        """The functions that a change of this line turns, or none where others may rest on it."""
+        if not file.startswith('src/'):
+            heads = [DEFINED.match(x) for x in lines[:number]]
+            words = [x[1] for x in heads if x]
+            return self.promised_by(words[-1]) if words else set()
+        function, in_code = function_at(file, lines, number)
+        return {function} if function and (in_code or self.is_named_once(function)) else set()
+
+    def is_named_once(self, function):
+        """Whether no text but its own line and its own proof names a function."""
+        word, own = re.compile(r'\b%s\b' % function.name), '/%s/' % function.name
+        return sum(len(word.findall(text)) for path, text in self.texts.items() if own not in path) == 1
+
+    def promised_by(self, word):
+        """The functions that promise a word, or none where another definition or a proof names it."""
+        found = set()
+        for path, text in self.texts.items():
+            lines = text.split('\n')
+            for n, line in enumerate(lines):
+                is_its_own = re.match(r' *(abbrev |pub |(ghost )?use )*(Rattle.*{.*)?\b%s\b' % word, line)
+                if re.search(r'\b%s\b' % word, line) and not is_its_own:
+                    function, in_code = function_at(path, lines, n + 1)
+                    if in_code or not function or not path.startswith('src/'):
+                        return set()
+                    found.add(function)
+        return found
+
+    def path_to(self, function):
+        """A function's path, with its module's where others have its name."""
+        others = [x for x in self.heads if x[1:] == function[1:]]
+        module = function.module.split('/') if len(others) > 1 else []
+        return '::'.join([*module, *(x for x in function[1:] if x != 'lib')])
+
+    def below(self, crates):
+        """The names of the repository's crates on which this one stands."""
+        own = [x for x in self.uses if x in crates]
+        return {*own, *(x for name in own for x in crates[name].below(crates))}
+
+
+def all_crates():
+    """The crates of crates.txt, by their names."""
+    lines = [x.partition(':') for x in read(os.path.join(ROOT, 'crates.txt')).split('\n')]
+    return {name: Crate(name, uses.split()) for name, colon, uses in lines if colon and name[0] != '#'}
+
+
+class Check:
+    """What a check of a crate says with other texts in place of its own."""
+
+    def __init__(self, words, crate, texts, functions):
+        self.texts = {**crate.texts, **texts}
+        only = [x for function in sorted(functions) for x in ('--only', crate.path_to(function))]
+        with tempfile.TemporaryDirectory(prefix='must-fail-') as room:
+            for path, text in self.texts.items():
+                os.makedirs(os.path.dirname(os.path.join(room, path)), exist_ok=True)
+                with open(os.path.join(room, path), 'w', encoding='utf-8') as file:
+                    file.write(text)
+            ran = subprocess.run([*words, *only], cwd=room, stdin=subprocess.DEVNULL, stdout=subprocess.PIPE,
+                                 stderr=subprocess.STDOUT, encoding='utf-8', errors='replace')
+        lines = ran.stdout.rstrip().split('\n')
+        self.last = lines[-1]
+        self.said = [x for x in map(SAID.match, lines) if x]
+
+    def is_refused(self):
+        """Whether the prover came to an end, and did not prove all."""
+        only = re.match(r'only=(\d+) proved=(\d+)', self.last)
+        return only[1] != only[2] if only else self.last.startswith('logic=not-proved')
+
+    def marks_of(self, line):
+        """The marks of the function of which a line tells, by where it stands."""
+        file, number, _ = line.groups()
+        if file.startswith('src/') and file in self.texts:
+            function, _ = function_at(file, self.texts[file].split('\n'), int(number))
+            return function.marks() if function else set()
+        *module, owner, name, _ = [''] * 3 + file.removeprefix('proofs/').split('/')
+        name = name.removeprefix('+')
+        return {('/'.join(filter(None, module)), name), (owner or 'lib', name)}
+
+    def goals(self, marks):
+        """The goals that fail by their meaning: those of functions with these marks, or all where none is given."""
+        if not self.is_refused():
+            return []
+        told = [x for x in self.said if re.match('note: |.*: error', x[0]) and not NAMES.search(x[3])]
+        told = [x for x in told if not marks or marks & self.marks_of(x)]
+        return ['%s:%s %s' % (x[1], x[2], (re.search('`([^`]*)`', x[3]) or [0, x[3]])[1][:80]) for x in told]
+
+
+def marks_of(functions):
+    return {mark for function in functions for mark in function.marks()}
+
+
+def packs(edits, crate):
+    """The edits in lists, each to be tried in one check, with the functions that they turn."""
     made = []
     for edit in edits:
-        functions = edit.functions(folder)
-        for pack in made if functions else []:
-            if not pack['texts'] or not pack['functions'] or functions & pack['functions']:
-                continue
-            texts = edit.applied(pack['texts'], folder)
-            if texts:
-                pack['edits'].append(edit)
-                pack['functions'] |= functions
-                pack['texts'] = texts
+        functions = edit.functions(crate)
+        for pack, turned, texts in made if functions else []:
+            both = edit.applied(texts, crate)
+            is_apart = turned and not marks_of(functions) & marks_of(turned)
+            if is_apart and both and len(pack) < MOST_IN_ONE:
+                pack.append(edit)
+                turned |= functions
+                texts.update(both)
                 break
         else:
-            texts = edit.applied({}, folder)
-            made.append({'edits': [edit], 'functions': functions, 'texts': texts})
+            made.append(([edit], functions, edit.applied({}, crate) or {}))
     return made
 
 
-def check(folder):
-    """Whether the crate is proved, and the lines that say what failed."""
-    words = ['rt', 'check', '--jobs', '1']
-    ran = subprocess.run(words, cwd=folder, stdin=subprocess.DEVNULL, stdout=subprocess.PIPE,
-                         stderr=subprocess.STDOUT, encoding='utf-8', errors='replace')
-    told = [x for x in ran.stdout.split('\n') if SAID.match(x)]
-    told = [x for x in told if ': error' in x or x.startswith('note: ')]
-    return ran.returncode == 0, told
+def checked(words, crate, texts, functions):
+    """What a check says of these functions, or of all where one of them has a name that the prover does not know."""
+    check = Check(words, crate, texts, functions)
+    if functions and check.last.startswith('rattle: error'):
+        return Check(words, crate, texts, ())
+    return check
 
 
-def tried(texts, folder):
-    """What a check says with these texts in place of the crate's own."""
-    kept = {file: read(os.path.join(folder, file)) for file in texts}
-    for file, text in texts.items():
-        replace(os.path.join(folder, file), text)
-    said = check(folder)
-    for file, text in kept.items():
-        replace(os.path.join(folder, file), text)
-    return said
-
-
-def owner(line, texts):
-    """The file and the name of the function of which a line tells."""
-    path, at = re.match(r'(?:note: )?(?:\./)?(\S+?):(\d+):', line).groups()
-    if path.startswith('src/') and path in texts:
-        before = '\n'.join(texts[path].split('\n')[:int(at)])
-        return path, function_at(before, len(before))
-    parts = path.split('/')
-    for n in range(len(parts) - 2, 0, -1):
-        file = 'src/%s.rt' % '/'.join(parts[1:n])
-        if parts[0] == 'proofs' and file in texts:
-            return file, parts[-2]
-    return path, None
-
-
-def goal(line):
-    """The name of the goal in a line, with its place."""
-    place = re.match(r'(?:note: )?(?:\./)?(\S+?:\d+):', line)[1]
-    found = re.search(r'\(`([^`]*)`\)', line) or re.search(r'error: `([^`]*)`', line)
-    return '%s %s' % (place, found[1] if found else line.split(': ', 2)[-1][:80])
-
-
-def alone(edit, folder):
+def alone(words, edit, crate):
     """What an edit leaves open by itself, and why it is no good, if it is none."""
-    texts = edit.applied({}, folder)
+    texts = edit.applied({}, crate)
     if texts is None:
-        return [], 'does not apply'
-    is_proved, told = tried(texts, folder)
-    goals = [goal(line) for line in told if not NAMES.match(line)]
-    if is_proved:
-        return [], 'is proved'
-    return goals, None if goals else 'is refused by %d missing names alone' % len(told)
+        return [], 'DOES NOT APPLY'
+    functions = edit.functions(crate)
+    check = checked(words, crate, texts, functions)
+    goals = check.goals(marks_of(functions))
+    if goals:
+        return goals, None
+    if not check.is_refused():
+        return [], 'NOT REFUSED: %s' % check.last[:100]
+    return [], 'REFUSED BY NAMES ALONE: it says little of the contract: %s' % '; '.join(x[0] for x in check.said[:2])
 
 
-def judged(pack, folder):
+def judged(words, pack, functions, texts, crate):
     """The same for each edit of a pack."""
-    if len(pack['edits']) > 1:
-        _, told = tried(pack['texts'], folder)
-        told = [line for line in told if not NAMES.match(line)]
-    for edit in pack['edits']:
-        goals = []
-        if len(pack['edits']) > 1:
-            own = edit.functions(folder)
-            goals = [goal(line) for line in told if owner(line, pack['texts']) in own]
-        yield edit, *((goals, None) if goals else alone(edit, folder))
+    check = checked(words, crate, texts, functions) if len(pack) > 1 else None
+    for edit in pack:
+        goals = check.goals(marks_of(edit.functions(crate))) if check else []
+        yield edit, *((goals, None) if goals else alone(words, edit, crate))
 
 
-def copied(crate, room):
-    """A copy of the repository for the edits of a crate. Files that nobody writes to are shared."""
-    copy = os.path.join(room, crate)
-    shutil.copytree(ROOT, copy, copy_function=os.link,
-                    ignore=shutil.ignore_patterns('.git', 'incremental'))
-    return os.path.join(copy, 'crates', crate)
+class Libraries:
+    """Where the crates' built libraries lie, and the log that says which are proved, if they are made meanwhile."""
+
+    def __init__(self, crates, folder, log=None):
+        self.crates = crates
+        self.folder = folder
+        self.log = log
+        started = subprocess.run(['rt', 'doc'], stdout=subprocess.PIPE, encoding='utf-8', check=True).stdout
+        self.kit = os.path.dirname(started.strip())
+
+    def built(self, name):
+        if name in self.crates:
+            return os.path.join(self.folder, 'crates', name, 'out', 'rlib', name + '.rlib')
+        return '%s/rlibs/%s.rlib' % (self.kit, name)
+
+    def are_there(self, crate):
+        """Whether a crate is proved, and what stands below it, once that is known."""
+        while self.log:
+            text = read(self.log)
+            if re.search('^rt: %s proved$' % crate.name, text, re.M):
+                break
+            if re.search('^rt: %s NOT PROVED|^rt ci has ended$' % crate.name, text, re.M):
+                return False
+            time.sleep(2)
+        return all(os.path.isdir(self.built(x)) for x in crate.below(self.crates))
+
+    def words(self, crate, kept):
+        """The command that checks a crate over what it proved before."""
+        words = [self.kit + '/bin/rattle', 'check', '--crate-name', crate.name, 'src/lib.rt']
+        for name in ['std', *crate.uses]:
+            words += ['--extern', '%s=%s' % (name, self.built(name))]
+        for there in [self.kit + '/rlibs', *(os.path.dirname(self.built(x)) for x in crate.below(self.crates))]:
+            words += ['-L', 'dependency=' + there]
+        words += ['--antt-project', self.kit + '/rattle/logic/antt-project.json']
+        words += ['--logic-built', self.kit + '/logic_built', '--jobs', '1']
+        return [*words, '--incremental', kept]
 
 
-def tell(crate, room):
-    """Tries the edits of a crate, and gives those to look at."""
-    folder = copied(crate, room)
-    edits = os.path.join(folder, 'must-fail')
-    edits = [Edit(os.path.join(edits, x)) for x in sorted(os.listdir(edits)) if x.endswith('.edit')]
-    if not check(folder)[0]:
-        return ['%s is not proved as it stands' % crate]
-    bad = []
-    for pack in packs(edits, folder):
-        for edit, goals, why in judged(pack, folder):
-            print('%s/%s: %s' % (crate, edit.name, why or '; '.join(goals)), flush=True)
-            bad += ['%s/%s %s' % (crate, edit.name, why)] if why else []
-    return bad
+def told(crate, those, libraries):
+    """Tries packs of edits of a crate in turn, and says of each edit whether it is good."""
+    if not libraries.are_there(crate):
+        edits = [edit for pack, _, _ in those for edit in pack]
+        return [say(crate, edit, 'ITS CRATE IS NOT PROVED') for edit in edits]
+    with tempfile.TemporaryDirectory(prefix='must-fail-') as kept:
+        words = libraries.words(crate, kept)
+        judgements = [x for pack in those for x in judged(words, *pack, crate)]
+    return [say(crate, edit, why, goals) for edit, goals, why in judgements]
 
 
-def main(names):
-    crates = os.path.join(ROOT, 'crates')
-    named = names or sorted(os.listdir(crates))
-    named = [x for x in named if os.path.isdir(os.path.join(crates, x, 'must-fail'))]
-    with tempfile.TemporaryDirectory(prefix='.must-fail-', dir=os.path.dirname(ROOT)) as room:
-        with ThreadPoolExecutor(SIDE_BY_SIDE) as pool:
-            bad = [x for found in pool.map(lambda crate: tell(crate, room), named) for x in found]
-    print('%d edits to look at' % len(bad), *bad, sep='\n    ')
-    return 1 if bad else 0
+def say(crate, edit, why, goals=()):
+    print('must-fail %s/%s: %s' % (crate.name, edit.name, why or 'refused: ' + '; '.join(goals[:3])), flush=True)
+    return not why
+
+
+def tasks(crate):
+    """The packs of a crate in lists, each to be tried side by side with the others: large ones alone."""
+    made = packs(crate.edits(), crate)
+    small = [x for x in made if len(x[0]) < FEW]
+    return [[x] for x in made if len(x[0]) >= FEW] + [small] * bool(small)
+
+
+def main(words):
+    crates = all_crates()
+    beside = words[1:3] if words[:1] == ['--beside'] else [ROOT]
+    named = words[3:] if len(beside) > 1 else words
+    libraries = Libraries(crates, *beside)
+    tried = [(crate, those) for name, crate in crates.items() if not named or name in named for those in tasks(crate)]
+    with ThreadPoolExecutor(SIDE_BY_SIDE) as pool:
+        good = [x for found in pool.map(lambda task: told(*task, libraries), tried) for x in found]
+    print('%d passed, %d failed' % (sum(good), len(good) - sum(good)))
+    return 0 if good and all(good) else 1
 
 
 if __name__ == '__main__':
