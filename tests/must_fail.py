@@ -11,6 +11,8 @@ goals of the function in which it stands, and of no other. And an edit of a prom
 specs/, opens goals of the function that promises it alone, where nothing else names the function or the word.
 Any other edit is tried by itself, and so is one that opens no goal in its function.
 
+Each line of a crate's code that a comment 'refused:' holds is tried too: put in, it breaks the rules of borrows.
+
 An edit is good if a goal fails by its meaning. One that is refused only because a proof file names what
 the edit took away shows nothing: these are listed, with those that are proved and those that do not apply.
 The last line sums all: 'N passed, M failed'.
@@ -34,6 +36,8 @@ NAMES = re.compile('has no field|is not in scope|has no `|was not admitted|is no
 FUNCTION = re.compile(r'^( *)(?:pub(?:\([a-z]+\))? )?fn (\w+)')
 DEFINED = re.compile(r'^ *(?:abbrev )?(?:pub )?(\w+) : ')
 PARTS = 'src', 'specs', 'proofs'
+HELD = '// refused: '
+BORROWED_TWICE = 'error[borrow-e0499]'
 
 
 def read(path):
@@ -159,6 +163,14 @@ class Crate:
         there = os.path.join(self.folder, 'must-fail')
         names = sorted(os.listdir(there)) if os.path.isdir(there) else []
         return [Edit(os.path.join(there, x)) for x in names if not x.endswith('.md')]
+
+    def held_lines(self):
+        """The file and the number of each line that a comment 'refused:' holds, and the text with it put in."""
+        for file, text in self.texts.items():
+            lines = text.split('\n')
+            for n, line in enumerate(lines):
+                if file.startswith('src/') and HELD in line:
+                    yield file, n + 1, '\n'.join([*lines[:n], line.replace(HELD, ''), *lines[n + 1:]])
 
     def turned_at(self, file, lines, number):
         """The functions that a change of this line turns, or none where others may rest on it."""
@@ -342,23 +354,36 @@ def told(crate, those, libraries):
     """Tries packs of edits of a crate in turn, and says of each edit whether it is good."""
     if not libraries.are_there(crate):
         edits = [edit for pack, _, _ in those for edit in pack]
-        return [say(crate, edit, 'ITS CRATE IS NOT PROVED') for edit in edits]
+        return [say(crate, edit.name, 'ITS CRATE IS NOT PROVED') for edit in edits]
     with tempfile.TemporaryDirectory(prefix='must-fail-') as kept:
         words = libraries.words(crate, kept)
         judgements = [x for pack in those for x in judged(words, *pack, crate)]
-    return [say(crate, edit, why, goals) for edit, goals, why in judgements]
+    return [say(crate, edit.name, why, goals) for edit, goals, why in judgements]
 
 
-def say(crate, edit, why, goals=()):
-    print('must-fail %s/%s: %s' % (crate.name, edit.name, why or 'refused: ' + '; '.join(goals[:3])), flush=True)
+def told_of_lines(crate, held, libraries):
+    """Puts in each of these lines by itself, and says of each whether it breaks the rules of borrows."""
+    are_there = libraries.are_there(crate)
+    with tempfile.TemporaryDirectory(prefix='must-fail-') as kept:
+        words = libraries.words(crate, kept)
+        for file, number, text in held:
+            said = Check(words, crate, {file: text}, ()).said if are_there else []
+            errors = [x[0] for x in said if x[1] == file and x[3].startswith(BORROWED_TWICE)]
+            yield say(crate, 'line %d of %s' % (number, file), None if errors else 'NOT REFUSED', errors)
+
+
+def say(crate, what, why, goals=()):
+    print('must-fail %s/%s: %s' % (crate.name, what, why or 'refused: ' + '; '.join(goals[:3])), flush=True)
     return not why
 
 
 def tasks(crate):
-    """The packs of a crate in lists, each to be tried side by side with the others: large ones alone."""
+    """What is tried of a crate, in parts that are tried side by side: large packs alone."""
     made = packs(crate.edits(), crate)
     small = [x for x in made if len(x[0]) < FEW]
-    return [[x] for x in made if len(x[0]) >= FEW] + [small] * bool(small)
+    held = list(crate.held_lines())
+    parts = [(told, [x]) for x in made if len(x[0]) >= FEW]
+    return [*parts, *[(told, small)] * bool(small), *[(told_of_lines, held)] * bool(held)]
 
 
 def main(words):
@@ -366,9 +391,10 @@ def main(words):
     beside = words[1:3] if words[:1] == ['--beside'] else [ROOT]
     named = words[3:] if len(beside) > 1 else words
     libraries = Libraries(crates, *beside)
-    tried = [(crate, those) for name, crate in crates.items() if not named or name in named for those in tasks(crate)]
+    tried = [(try_them, crate, those) for name, crate in crates.items() if not named or name in named
+             for try_them, those in tasks(crate)]
     with ThreadPoolExecutor(SIDE_BY_SIDE) as pool:
-        good = [x for found in pool.map(lambda task: told(*task, libraries), tried) for x in found]
+        good = [x for found in pool.map(lambda x: list(x[0](x[1], x[2], libraries)), tried) for x in found]
     print('%d passed, %d failed' % (sum(good), len(good) - sum(good)))
     return 0 if good and all(good) else 1
 

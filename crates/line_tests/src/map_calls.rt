@@ -1,5 +1,8 @@
 //! The calls of a map.
 
+ghost use Rattle.std.specs.Prelude.{◌≡◌, []};
+ghost use Rattle.std.specs.FinMap as map;
+
 use crate::asked;
 use line_words::answering::{Answering, Listed, add_entries, add_refusal};
 use line_words::answers::{Answers, is_still_whole, outcome};
@@ -18,6 +21,8 @@ pub(super) struct MapCalls<K: Bytes> {
 }
 
 impl<K: Bytes> Listed for MapCalls<K> {
+    ghost IsEmpty = { λ calls. map.entries calls.map ≡ [] };
+
     fn empty(alloc: Global) -> Self {
         MapCalls {
             map: GenericPatriciaMap::new(alloc),

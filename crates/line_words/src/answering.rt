@@ -1,5 +1,9 @@
 //! Maps and sets that answer calls.
 
+ghost use Rattle.std.specs.Prelude.{◌≡◌, ◌++◌, codes, IsOk, OnOk};
+ghost use Rattle.std.specs.String.{string_bytes};
+ghost use Rattle.line_words.specs.Calls.{NoneOf};
+
 use crate::answers::Answers;
 use crate::calls::{Call, Readable};
 use std::alloc::{AllocError, Global};
@@ -7,14 +11,19 @@ use std::{io, mem};
 
 /// A map or a set whose entries are listed.
 pub trait Listed: Drop {
+    // it has no keys
+    ghost IsEmpty: { Self → Type 0 };
+
     /// One with no keys.
-    fn empty(alloc: Global) -> Self;
+    fn empty(alloc: Global) -> Self
+        ensures { IsEmpty result };
 
     /// A copy.
     fn copied(&self) -> Result<Self, AllocError>;
 
     /// Adds the entries. A refused step ends the walk.
-    fn add_walked(&self, out: &mut String) -> Result<(), AllocError>;
+    fn add_walked(&self, out: &mut String) -> Result<(), AllocError>
+        ensures { IsEmpty self.now → IsOk result × (string_bytes out.new ≡ string_bytes out.old) };
 }
 
 /// One that answers calls on its keys.
@@ -33,7 +42,9 @@ pub trait Answering<'a, Q: Readable<'a>>: Listed {
 }
 
 /// Adds the entries, and once more behind `refused` where a step is refused.
-pub fn add_entries<A: Listed>(asked: &A, out: &mut String) -> Result<(), AllocError> {
+pub fn add_entries<A: Listed>(asked: &A, out: &mut String) -> Result<(), AllocError>
+    ensures { A.IsEmpty asked.now → IsOk result × (string_bytes out.new ≡ string_bytes out.old) }
+{
     if asked.add_walked(out).is_ok() {
         return Ok(());
     }
@@ -42,7 +53,10 @@ pub fn add_entries<A: Listed>(asked: &A, out: &mut String) -> Result<(), AllocEr
 }
 
 /// Adds what a refused call left.
-pub fn add_refusal<A: Listed>(asked: &A, out: &mut String) -> Result<(), AllocError> {
+pub fn add_refusal<A: Listed>(asked: &A, out: &mut String) -> Result<(), AllocError>
+    ensures { A.IsEmpty asked.now → OnOk result (string_bytes out.new
+        ≡ string_bytes out.old ++ codes " refused" ++ codes " again") }
+{
     out.add("refused")?;
     add_entries(asked, out)?;
     out.add("again")
@@ -140,7 +154,9 @@ pub fn write_answers<'a, Q: Readable<'a>, A: Answering<'a, Q>>(
     kind: &str,
     calls: &'a [Call<'_>],
     out: &mut String,
-) -> io::Result<()> {
+) -> io::Result<()>
+    ensures { NoneOf kind.now calls.now → IsOk result × (string_bytes out.new ≡ string_bytes out.old) }
+{
     let mut asked = A::empty(alloc);
     for call in calls {
         if call.kind == kind {

@@ -1,13 +1,20 @@
 //! How answers are written, each behind a space.
 
+ghost use Rattle.std.specs.Prelude.{◌≡◌, ◌++◌, ◌&&◌, List, ℕ, codes, is_ok, if◌then◌else◌, IfOk, OnOk};
+ghost use Rattle.std.specs.String.{string_bytes};
+
 use patricia_tree::wire::{DecodeError, WireError};
 use std::alloc::AllocError;
 use std::fmt::{Debug, Write};
 
 /// A line that answers are added to.
 pub trait Answers {
+    // what was written
+    ghost text: { Self → List ℕ };
+
     /// Adds a word.
-    fn add(&mut self, answer: &str) -> Result<(), AllocError>;
+    fn add(&mut self, answer: &str) -> Result<(), AllocError>
+        ensures { OnOk result (text self.new ≡ text self.old ++ codes " " ++ answer.now) };
 
     /// Adds a number.
     fn add_number(&mut self, number: u64) -> Result<(), AllocError>;
@@ -44,6 +51,8 @@ fn hexadecimal(value: u8) -> char {
 }
 
 impl Answers for String {
+    ghost text = { λ s. string_bytes s };
+
     fn add(&mut self, answer: &str) -> Result<(), AllocError> {
         self.push(' ')?;
         self.push_str(answer)
@@ -118,7 +127,11 @@ pub fn is_still_whole(
     is_whole: bool,
     step: Result<(), AllocError>,
     out: &mut String,
-) -> Result<bool, AllocError> {
+) -> Result<bool, AllocError>
+    ensures whole { IfOk result (λ is_so. is_so ≡ (is_whole && is_ok step)) }
+    ensures told { OnOk result (string_bytes out.new
+        ≡ if is_whole then string_bytes out.old else string_bytes out.old ++ codes " more") }
+{
     if !is_whole {
         out.add("more")?;
     }
@@ -126,6 +139,8 @@ pub fn is_still_whole(
 }
 
 /// What a walk comes to that is whole, or is not.
-pub fn outcome(is_whole: bool) -> Result<(), AllocError> {
+pub fn outcome(is_whole: bool) -> Result<(), AllocError>
+    ensures { is_ok result ≡ is_whole }
+{
     if is_whole { Ok(()) } else { Err(AllocError) }
 }

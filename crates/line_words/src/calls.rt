@@ -3,6 +3,11 @@
 //! In an argument `%` and two hexadecimal digits stand for a byte, and `*` and a number at its end
 //! say how often the rest is repeated, so that `*` alone is the empty key.
 
+ghost use Rattle.std.specs.Prelude.{◌≡◌, ◌++◌, ◌==◌, map, IfOk, OnOk};
+ghost use Rattle.std.specs.List.{slice_split};
+ghost use Rattle.std.specs.Str.Lines.{lines};
+ghost use Rattle.line_words.specs.Calls.{told, told_by, call_of, calls_of, IsNumber, number_of};
+
 use patricia_tree::BorrowedBytes;
 use std::alloc::{AllocError, Global};
 use std::str;
@@ -84,7 +89,10 @@ fn push_call<'t>(
     calls: &mut Vec<Call<'t>>,
     line: &'t str,
     words: &[&'t str],
-) -> Result<(), AllocError> {
+) -> Result<(), AllocError>
+    ensures { OnOk result (told calls.new.items
+        ≡ told calls.old.items ++ told_by line.now (map (λ w. w.now) words.now)) }
+{
     if let [kind, name, words @ ..] = words {
         let arguments = arguments(alloc, words)?;
         calls.push(Call {
@@ -97,26 +105,45 @@ fn push_call<'t>(
     Ok(())
 }
 
-fn push_line<'t>(
-    alloc: Global,
-    calls: &mut Vec<Call<'t>>,
-    line: &'t str,
-) -> Result<(), AllocError> {
-    let words: Vec<&'t str> = line.split(' ').collect(alloc)?;
+// The words of a line.
+fn words<'t>(alloc: Global, line: &'t str) -> Result<Vec<&'t str>, AllocError>
+    ensures { IfOk result (λ v.
+        map (λ w. w.now) v.items ≡ slice_split (λ b. b == 32) line.now) }
+{
+    line.split(' ').collect(alloc)
+}
+
+// Adds the call that a line is, if it is one.
+fn push_line<'t>(alloc: Global, calls: &mut Vec<Call<'t>>, line: &'t str) -> Result<(), AllocError>
+    ensures { OnOk result (told calls.new.items ≡ told calls.old.items ++ call_of line.now) }
+{
+    let words = words(alloc, line)?;
     push_call(alloc, calls, line, &words)
 }
 
+fn lines<'t>(alloc: Global, text: &'t str) -> Result<Vec<&'t str>, AllocError>
+    ensures { IfOk result (λ v. map (λ line. line.now) v.items ≡ lines text.now) }
+{
+    text.lines().collect(alloc)
+}
+
 /// The calls among the lines of a text.
-pub fn calls<'t>(alloc: Global, text: &'t str) -> Result<Vec<Call<'t>>, AllocError> {
+pub fn calls<'t>(alloc: Global, text: &'t str) -> Result<Vec<Call<'t>>, AllocError>
+    ensures { IfOk result (λ calls. told calls.items ≡ calls_of text.now) }
+{
+    let lines = lines(alloc, text)?;
     let mut calls = Vec::new(alloc);
-    for line in text.lines() {
+    for line in &lines {
         push_line(alloc, &mut calls, line)?;
     }
     Ok(calls)
 }
 
 /// The number that some digits write, or 0.
-pub fn number(digits: &[u8]) -> usize {
+pub fn number(digits: &[u8]) -> usize
+    ensures written { IsNumber digits.now → result ≡ number_of digits.now }
+    ensures other { ¬ (IsNumber digits.now) → result ≡ 0 }
+{
     let Ok(text) = str::from_utf8(digits) else {
         return 0;
     };

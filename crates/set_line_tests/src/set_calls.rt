@@ -1,5 +1,8 @@
 //! The calls of a set.
 
+ghost use Rattle.std.specs.Prelude.{◌≡◌, []};
+ghost use Rattle.patricia_tree.specs.Sets as set;
+
 use crate::asked;
 use line_words::answering::{Answering, Listed, add_entries};
 use line_words::answers::{Answers, is_still_whole, outcome};
@@ -18,6 +21,8 @@ pub(super) struct SetCalls<K: Bytes> {
 }
 
 impl<K: Bytes> Listed for SetCalls<K> {
+    ghost IsEmpty = { λ calls. set.elements calls.set ≡ [] };
+
     fn empty(alloc: Global) -> Self {
         SetCalls {
             set: GenericPatriciaSet::new(alloc),

@@ -1,0 +1,8 @@
+use Rattle.std.proofs.Common.{◌≡◌, [], true}
+use Rattle.std.specs.String.{string_bytes}
+use Rattle.std.specs.FinMap as map
+use Rattle.set_line_tests.proofs.set_calls.SetCallsListed.add_walked.Given as goal
+
+abbrev pub invariant-loop-element : goal.invariant-loop-element
+invariant-loop-element g l =
+    map.keys l.fn.self.set ≡ [] → (l.element-iterator ≡ []) × (l.is_whole ≡ true) × (string_bytes l.out ≡ string_bytes l.fn.out)
