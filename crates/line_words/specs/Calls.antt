@@ -1,5 +1,5 @@
 -- What the lines of a text call, and what is written of it.
-use Rattle.std.specs.Prelude.{ℕ, ◌^◌, ◌<◌, ◌≢◌, ◌==◌, List, [], ◌∷◌, map, Vec, All, flat_map}
+use Rattle.std.specs.Prelude.{ℕ, ◌^◌, ◌<◌, ◌≢◌, ◌==◌, List, [], ◌∷◌, map, All, flat_map}
 use Rattle.std.specs.List.{slice_split}
 use Rattle.std.specs.Str.Lines.{lines}
 use Rattle.std.specs.Str.Parse.{IsNumeral, digits_value, without_leading_plus}

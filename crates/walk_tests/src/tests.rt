@@ -1,2 +1,4 @@
+mod counts;
 mod ends;
 mod helpers;
+mod slots;

@@ -2,7 +2,7 @@ use Rattle.std.proofs.Common.{◌≡◌, ℕ, List, subst, arith}
 use Rattle.patricia_core.specs.Points.{IsVisitCount}
 use Rattle.patricia_core.specs.ByteKind.{IsByteItem}
 use Rattle.patricia_core.specs.ThreeKeys.{three_keys, baz, foo, aaa}
-use Rattle.count_tests.proofs.tests.looks_up.Goals as goal
+use Rattle.walk_tests.proofs.tests.counts.looks_up.Goals as goal
 
 -- what is counted is the one number of visits
 count : (S : List (List ℕ)) (k q : List ℕ) (n m : ℕ) → ((S : List (List ℕ)) (k : List ℕ) (n m : ℕ) → IsVisitCount IsByteItem S k n → IsVisitCount IsByteItem S k m → n ≡ m) → S ≡ three_keys → k ≡ q → IsVisitCount IsByteItem S k n → IsVisitCount IsByteItem three_keys q m → n ≡ m

@@ -2,8 +2,6 @@ ghost use Rattle.std.specs.Prelude.{◌≡◌, ◌+◌, ◌<◌, [], IfOk};
 ghost use Rattle.std.specs.FinMap as finite;
 ghost use Rattle.patricia_core.specs.ThreeKeys.{three_keys, baz, foo, aaa};
 
-mod slots;
-
 use patricia_core::laws;
 use patricia_tree::{PatriciaMap, Steps};
 use std::alloc::{AllocError, Global};
