@@ -1,3 +1,4 @@
+use Rattle.std.proofs.Common.{ap}
 use Rattle.patricia_cursors.proofs.TrailLemmas.{under_held}
 use Rattle.patricia_cursors.proofs.cursor.PrefixCursor.into_parts.Goals as goal
 
@@ -6,3 +7,6 @@ returns-clause-whole g c = rw c.into_parts.ensures.slots (under_held _ _ _ _ c.s
 
 pub returns-clause-tree : goal.returns-clause-tree
 returns-clause-tree g c = rw (c.into_parts.ensures.slots, c.into_parts.ensures.count) (under_held _ _ _ _ c.self.invariant).tree
+
+pub returns-clause-map : goal.returns-clause-map
+returns-clause-map g c = rw (c.into_parts.ensures.value, c.into_parts.ensures.slots) (ap (λ s. s.map) c.self.view_is)
