@@ -31,7 +31,7 @@ SIDE_BY_SIDE = 4
 MOST_IN_ONE = 16
 FEW = 9
 SAID = re.compile(r'(?:note: )?(?:\./)?(\S+?):(\d+):\d+: (.*)')
-NAMES = re.compile('has no field|is not in scope|has no `|was not admitted|is no name|operand is missing'
+NAMES = re.compile(r'has no field|\(nearest: |is not in scope|has no `|was not admitted|is no name|operand is missing'
                    '|expected the end|cannot continue')
 FUNCTION = re.compile(r'^( *)(?:pub(?:\([a-z]+\))? )?fn (\w+)')
 DEFINED = re.compile(r'^ *(?:abbrev )?(?:pub )?(\w+) : ')

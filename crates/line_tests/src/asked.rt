@@ -1,5 +1,9 @@
 //! The calls that leave a map as it is.
 
+ghost use Rattle.std.specs.Prelude.{◌≡◌, ◌++◌, IsOkAnd, OnOk};
+ghost use Rattle.std.specs.String.{string_bytes};
+ghost use Rattle.line_words.specs.Answers.{row_text};
+
 use crate::prefix_calls;
 use line_words::answers::{Answers, is_still_whole, outcome};
 use line_words::calls::Readable;
@@ -64,7 +68,10 @@ fn add_one<Q: BorrowedBytes>(
 pub(super) fn add_entry<K: Bytes>(
     entry: Result<(K, &u64), AllocError>,
     out: &mut String,
-) -> Result<(), AllocError> {
+) -> Result<(), AllocError>
+    ensures { OnOk result (IsOkAnd entry.entry (λ e. string_bytes out.new
+        ≡ string_bytes out.old ++ row_text (K.key e.0) e.1.now)) }
+{
     let (key, value) = entry?;
     out.add_row(key.as_bytes(), *value)
 }

@@ -2,6 +2,7 @@
 
 ghost use Rattle.std.specs.Prelude.{◌≡◌, []};
 ghost use Rattle.std.specs.FinMap as map;
+ghost use Rattle.line_words.specs.Answers.{rows_text};
 
 use crate::asked;
 use line_words::answering::{Answering, Listed, add_entries, add_refusal};
@@ -22,6 +23,8 @@ pub(super) struct MapCalls<K: Bytes> {
 
 impl<K: Bytes> Listed for MapCalls<K> {
     ghost IsEmpty = { λ calls. map.entries calls.map ≡ [] };
+
+    ghost listing = { λ calls. rows_text (map.entries calls.map) };
 
     fn empty(alloc: Global) -> Self {
         MapCalls {

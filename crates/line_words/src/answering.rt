@@ -1,7 +1,8 @@
 //! Maps and sets that answer calls.
 
-ghost use Rattle.std.specs.Prelude.{◌≡◌, ◌++◌, codes, IsOk, OnOk};
+ghost use Rattle.std.specs.Prelude.{◌≡◌, ◌<◌, ◌⊎◌, ◌++◌, List, ℕ, codes, length, IsOk, OnOk};
 ghost use Rattle.std.specs.String.{string_bytes};
+ghost use Rattle.line_words.specs.Answers.{Ends};
 ghost use Rattle.line_words.specs.Calls.{NoneOf};
 
 use crate::answers::Answers;
@@ -14,6 +15,9 @@ pub trait Listed: Drop {
     // it has no keys
     ghost IsEmpty: { Self → Type 0 };
 
+    // its entries as they are written
+    ghost listing: { Self → List ℕ };
+
     /// One with no keys.
     fn empty(alloc: Global) -> Self
         ensures { IsEmpty result };
@@ -23,7 +27,8 @@ pub trait Listed: Drop {
 
     /// Adds the entries. A refused step ends the walk.
     fn add_walked(&self, out: &mut String) -> Result<(), AllocError>
-        ensures { IsEmpty self.now → IsOk result × (string_bytes out.new ≡ string_bytes out.old) };
+        ensures listed { OnOk result (string_bytes out.new ≡ string_bytes out.old ++ listing self.now) }
+        ensures bare { IsEmpty self.now → IsOk result × (string_bytes out.new ≡ string_bytes out.old) };
 }
 
 /// One that answers calls on its keys.
@@ -43,7 +48,8 @@ pub trait Answering<'a, Q: Readable<'a>>: Listed {
 
 /// Adds the entries, and once more behind `refused` where a step is refused.
 pub fn add_entries<A: Listed>(asked: &A, out: &mut String) -> Result<(), AllocError>
-    ensures { A.IsEmpty asked.now → IsOk result × (string_bytes out.new ≡ string_bytes out.old) }
+    ensures listed { OnOk result (Ends (A.listing asked.now) (string_bytes out.new)) }
+    ensures bare { A.IsEmpty asked.now → IsOk result × (string_bytes out.new ≡ string_bytes out.old) }
 {
     if asked.add_walked(out).is_ok() {
         return Ok(());
@@ -54,7 +60,8 @@ pub fn add_entries<A: Listed>(asked: &A, out: &mut String) -> Result<(), AllocEr
 
 /// Adds what a refused call left.
 pub fn add_refusal<A: Listed>(asked: &A, out: &mut String) -> Result<(), AllocError>
-    ensures { A.IsEmpty asked.now → OnOk result (string_bytes out.new
+    ensures listed { OnOk result (Ends (A.listing asked.now ++ codes " again") (string_bytes out.new)) }
+    ensures bare { A.IsEmpty asked.now → OnOk result (string_bytes out.new
         ≡ string_bytes out.old ++ codes " refused" ++ codes " again") }
 {
     out.add("refused")?;
@@ -138,7 +145,9 @@ fn write_answer<'a, Q: Readable<'a>, A: Answering<'a, Q>>(
     asked: &mut A,
     call: &'a Call<'_>,
     out: &mut String,
-) -> io::Result<()> {
+) -> io::Result<()>
+    ensures { OnOk result (0 < length (string_bytes out.new)) }
+{
     out.clear();
     answer_again::<Q, A>(asked, alloc, call, out)?;
     if out.is_empty() {
@@ -155,7 +164,8 @@ pub fn write_answers<'a, Q: Readable<'a>, A: Answering<'a, Q>>(
     calls: &'a [Call<'_>],
     out: &mut String,
 ) -> io::Result<()>
-    ensures { NoneOf kind.now calls.now → IsOk result × (string_bytes out.new ≡ string_bytes out.old) }
+    ensures none { NoneOf kind.now calls.now → IsOk result × (string_bytes out.new ≡ string_bytes out.old) }
+    ensures some { OnOk result (NoneOf kind.now calls.now ⊎ (0 < length (string_bytes out.new))) }
 {
     let mut asked = A::empty(alloc);
     for call in calls {

@@ -1,7 +1,8 @@
 //! How answers are written, each behind a space.
 
-ghost use Rattle.std.specs.Prelude.{◌≡◌, ◌++◌, ◌&&◌, List, ℕ, codes, is_ok, if◌then◌else◌, IfOk, OnOk};
+ghost use Rattle.std.specs.Prelude.{◌≡◌, ◌<◌, ◌++◌, ◌&&◌, List, ℕ, codes, is_ok, if◌then◌else◌, IfOk, OnOk};
 ghost use Rattle.std.specs.String.{string_bytes};
+ghost use Rattle.line_words.specs.Answers.{escaped, hexadecimal, key_text, row_text};
 
 use patricia_tree::wire::{DecodeError, WireError};
 use std::alloc::AllocError;
@@ -26,10 +27,12 @@ pub trait Answers {
     fn add_value(&mut self, value: Option<u64>) -> Result<(), AllocError>;
 
     /// Adds the bytes of a key, written with letters, digits and escapes.
-    fn add_key(&mut self, bytes: &[u8]) -> Result<(), AllocError>;
+    fn add_key(&mut self, bytes: &[u8]) -> Result<(), AllocError>
+        ensures { OnOk result (text self.new ≡ text self.old ++ key_text bytes.now) };
 
     /// Adds an entry, as its key and its value.
-    fn add_row(&mut self, key: &[u8], value: u64) -> Result<(), AllocError>;
+    fn add_row(&mut self, key: &[u8], value: u64) -> Result<(), AllocError>
+        ensures { OnOk result (text self.new ≡ text self.old ++ row_text key.now value) };
 
     /// Adds tree bytes, or why there are none.
     fn add_tree(&mut self, tree: Result<Vec<u8>, WireError>) -> Result<(), AllocError>;
@@ -42,12 +45,26 @@ pub trait Answers {
 }
 
 // The hexadecimal digit of a value below 16.
-fn hexadecimal(value: u8) -> char {
+fn hexadecimal(value: u8) -> char
+    ensures { value < 16 → result ≡ hexadecimal value }
+{
     match value {
         0..=9 => char::from(b'0' + value),
         10..=15 => char::from(b'A' + (value - 10)),
         _ => '?',
     }
+}
+
+// Writes a byte of a key: a letter or a digit as it is, any other with two hexadecimal digits.
+fn push_escaped(out: &mut String, byte: u8) -> Result<(), AllocError>
+    ensures { OnOk result (string_bytes out.new ≡ string_bytes out.old ++ escaped byte) }
+{
+    if byte.is_ascii_alphanumeric() {
+        return out.push(char::from(byte));
+    }
+    out.push('%')?;
+    out.push(hexadecimal(byte / 16))?;
+    out.push(hexadecimal(byte % 16))
 }
 
 impl Answers for String {
@@ -77,13 +94,7 @@ impl Answers for String {
     fn add_key(&mut self, bytes: &[u8]) -> Result<(), AllocError> {
         self.push(' ')?;
         for byte in bytes {
-            if byte.is_ascii_alphanumeric() {
-                self.push(char::from(*byte))?;
-            } else {
-                self.push('%')?;
-                self.push(hexadecimal(*byte >> 4))?;
-                self.push(hexadecimal(*byte & 15))?;
-            }
+            push_escaped(self, *byte)?;
         }
         Ok(())
     }

@@ -1,5 +1,9 @@
 //! The calls that leave a set as it is.
 
+ghost use Rattle.std.specs.Prelude.{◌≡◌, ◌++◌, IsOkAnd, OnOk};
+ghost use Rattle.std.specs.String.{string_bytes};
+ghost use Rattle.line_words.specs.Answers.{key_text};
+
 use line_words::answers::{Answers, is_still_whole, outcome};
 use line_words::calls::Readable;
 use patricia_tree::{BorrowedBytes, Bytes, GenericPatriciaSet};
@@ -73,7 +77,10 @@ fn add_longest<Q: BorrowedBytes>(
 pub(super) fn add_element<K: Bytes>(
     element: Result<K, AllocError>,
     out: &mut String,
-) -> Result<(), AllocError> {
+) -> Result<(), AllocError>
+    ensures { OnOk result (IsOkAnd element (λ k. string_bytes out.new
+        ≡ string_bytes out.old ++ key_text (K.key k))) }
+{
     out.add_key(element?.as_bytes())
 }
 

@@ -2,6 +2,7 @@
 
 ghost use Rattle.std.specs.Prelude.{◌≡◌, []};
 ghost use Rattle.patricia_tree.specs.Sets as set;
+ghost use Rattle.line_words.specs.Answers.{keys_text};
 
 use crate::asked;
 use line_words::answering::{Answering, Listed, add_entries};
@@ -22,6 +23,8 @@ pub(super) struct SetCalls<K: Bytes> {
 
 impl<K: Bytes> Listed for SetCalls<K> {
     ghost IsEmpty = { λ calls. set.elements calls.set ≡ [] };
+
+    ghost listing = { λ calls. keys_text (set.elements calls.set) };
 
     fn empty(alloc: Global) -> Self {
         SetCalls {
