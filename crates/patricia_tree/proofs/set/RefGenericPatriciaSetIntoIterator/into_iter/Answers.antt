@@ -1,4 +1,5 @@
+use Rattle.std.proofs.Common.{rules}
 use Rattle.patricia_tree.proofs.set.RefGenericPatriciaSetIntoIterator.into_iter.Goals as goal
 
 pub returns : goal.returns
-returns g c = record { into_iter_gives = c.iter.ensures }
+returns g c = search rules
