@@ -1,4 +1,4 @@
--- What the lines of a text call, and what is written of it.
+-- The calls that the lines of a text are.
 use Rattle.std.specs.Prelude.{ℕ, ◌^◌, ◌<◌, ◌≢◌, ◌==◌, List, [], ◌∷◌, map, All, flat_map}
 use Rattle.std.specs.List.{slice_split}
 use Rattle.std.specs.Str.Lines.{lines}
