@@ -1,6 +1,5 @@
 //! The calls of a map.
 
-ghost use Rattle.std.specs.Prelude.{◌≡◌, []};
 ghost use Rattle.std.specs.FinMap as map;
 ghost use Rattle.line_words.specs.Answers.{rows_text};
 
@@ -22,8 +21,6 @@ pub(super) struct MapCalls<K: Bytes> {
 }
 
 impl<K: Bytes> Listed for MapCalls<K> {
-    ghost IsEmpty = { λ calls. map.entries calls.map ≡ [] };
-
     ghost listing = { λ calls. rows_text (map.entries calls.map) };
 
     fn empty(alloc: Global) -> Self {
