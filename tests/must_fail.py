@@ -1,11 +1,17 @@
 #!/usr/bin/env python3
 """Tries the must-fail edits: each must leave a goal open in the function that it turns.
 
-    tests/must_fail.py [CRATE..]                   over the libraries that rt ci left
-    tests/must_fail.py --beside FOLDER LOG         over those that an rt ci makes in that folder meanwhile,
-                                                   each crate once the log says that it is proved
+    tests/must_fail.py                             those that are due at this commit
+    tests/must_fail.py --all                       all of them
+    tests/must_fail.py CRATE..                     those of the crates named
+    tests/must_fail.py [..] --beside FOLDER LOG    over the libraries that an rt ci makes in that folder
+                                                   meanwhile, each crate once the log says that it is
+                                                   proved; else over those that rt left in out/
 
-It tries the edits of crates/*/must-fail (or of the crates named), those of different functions in one check.
+The edits of the crates that users name are due at each commit. The other crates are in three parts, one of
+which is due: the one with the number of commits modulo three.
+
+It tries the edits of crates/*/must-fail, those of different functions in one check.
 A function is proved from its own code and from the promises of those that it calls. So an edit of code opens
 goals of the function in which it stands, and of no other. And an edit of a promise, or of a definition in
 specs/, opens goals of the function that promises it alone, where nothing else names the function or the word.
@@ -15,8 +21,12 @@ Each line of a crate's code that a comment 'refused:' holds is tried too: put in
 
 An edit is good if a goal fails by its meaning. One that is refused only because a proof file names what
 the edit took away shows nothing: these are listed, with those that are proved and those that do not apply.
-The last line sums all: 'N passed, M failed'.
+A goal without a written answer that the prover's search leaves open may be true of the turned body, and
+named by what the edit brought in. So where an edit has no other, the prover must show values at which it is
+false, or the right body must have a goal of that name; an edit with neither is listed as one to read, and
+fails until it is turned otherwise. The last line sums all: 'N passed, M failed'.
 """
+import argparse
 import os
 import re
 import subprocess
@@ -30,6 +40,12 @@ ROOT = os.path.dirname(os.path.dirname(os.path.abspath(__file__)))
 SIDE_BY_SIDE = 4
 MOST_IN_ONE = 16
 FEW = 9
+NAMED_BY_USERS = 'patricia_tree', 'patricia_run'
+PARTS_OF_EDITS = 3
+FIXED_COST = 8
+SEARCHED = 'it is not proved that'
+SHOWN_FALSE = 'allow values at which this goal is false'
+ASKED_FOR = re.compile('rattle asks for (.*?);')
 SAID = re.compile(r'(?:note: )?(?:\./)?(\S+?):(\d+):\d+: (.*)')
 NAMES = re.compile(r'has no field|\(nearest: |is not in scope|has no `|was not admitted|is no name|operand is missing'
                    '|expected the end|cannot continue')
@@ -50,6 +66,12 @@ class Function(NamedTuple):
     module: str
     owner: str
     name: str
+
+    def proofs(self):
+        """The folder of its proof."""
+        module = '' if self.module == 'lib' else self.module
+        owner = '' if self.owner == self.module.split('/')[-1] else self.owner
+        return '/'.join(filter(None, ['proofs', module, owner, self.name]))
 
     def marks(self):
         """By which it is told from the other functions that are tried with it."""
@@ -218,6 +240,17 @@ def all_crates():
     return {name: Crate(name, uses.split()) for name, colon, uses in lines if colon and name[0] != '#'}
 
 
+class Goal(NamedTuple):
+    """A goal that fails: where it stands, its name, and whether it may be true, since a search left it open."""
+    file: str
+    line: str
+    name: str
+    is_open: bool
+
+    def __str__(self):
+        return '%s:%s %s' % self[:3]
+
+
 class Check:
     """What a check of a crate says with other texts in place of its own."""
 
@@ -233,7 +266,10 @@ class Check:
                                  stderr=subprocess.STDOUT, encoding='utf-8', errors='replace')
         lines = ran.stdout.rstrip().split('\n')
         self.last = lines[-1]
-        self.said = [x for x in map(SAID.match, lines) if x]
+        # the prover breaks a long message into lines, of which all but the first begin with two spaces
+        messages = re.sub('\n {2}(?! )', ' ', ran.stdout.rstrip()).split('\n')
+        self.messages = messages
+        self.said = [x for x in map(SAID.match, messages) if x]
 
     def is_refused(self):
         """Whether the prover came to an end, and did not prove all."""
@@ -254,9 +290,15 @@ class Check:
         """The goals that fail by their meaning: those of functions with these marks, or all where none is given."""
         if not self.is_refused():
             return []
-        told = [x for x in self.said if re.match('note: |.*: error', x[0]) and not NAMES.search(x[3])]
+        told = [x for x in self.said if re.match('note: |.*: error', x[0])]
+        told = [x for x in told if '`search`: no proof of' in x[3] or not NAMES.search(x[3])]
         told = [x for x in told if not marks or marks & self.marks_of(x)]
-        return ['%s:%s %s' % (x[1], x[2], (re.search('`([^`]*)`', x[3]) or [0, x[3]])[1][:80]) for x in told]
+        return [Goal(x[1], x[2], (re.search('`([^`]*)`', x[3]) or [0, x[3]])[1][:80],
+                     SEARCHED in x[3] and SHOWN_FALSE not in x[3]) for x in told]
+
+    def asked_for(self):
+        """The names of the goals that the functions with a made-up answer have."""
+        return {name for x in self.messages for names in ASKED_FOR.findall(x) for name in re.findall('`([^`]*)`', names)}
 
 
 def marks_of(functions):
@@ -289,6 +331,26 @@ def checked(words, crate, texts, functions):
     return check
 
 
+def right_goals(words, crate, functions):
+    """The names of the goals of functions as they are, which the prover lists where an answer has no goal."""
+    texts = {}
+    for function in functions:
+        path = function.proofs()
+        head = 'use Rattle.%s.%s.Goals as goal' % (crate.name, path.replace('/', '.'))
+        texts[path + '/Answers.antt'] = head + '\n\npub made-up : goal.made-up\nmade-up c = ?\n'
+    return Check(words, crate, texts, functions).asked_for()
+
+
+def doubt(words, edit, crate, goals):
+    """Why goals that no answer is written for do not tell that an edit is refused by its meaning, if they don't."""
+    functions = edit.functions(crate)
+    if not functions or not goals or not all(x.is_open for x in goals):
+        return None
+    if {x.name for x in goals} & right_goals(words, crate, functions):
+        return None
+    return 'TO READ: the right body has no goal of these names: %s' % '; '.join(map(str, goals[:3]))
+
+
 def alone(words, edit, crate):
     """What an edit leaves open by itself, and why it is no good, if it is none."""
     texts = edit.applied({}, crate)
@@ -298,7 +360,7 @@ def alone(words, edit, crate):
     check = checked(words, crate, texts, functions)
     goals = check.goals(marks_of(functions))
     if goals:
-        return goals, None
+        return goals, doubt(words, edit, crate, goals)
     if not check.is_refused():
         return [], 'NOT REFUSED: %s' % check.last[:100]
     return [], 'REFUSED BY NAMES ALONE: it says little of the contract: %s' % '; '.join(x[0] for x in check.said[:2])
@@ -309,7 +371,8 @@ def judged(words, pack, functions, texts, crate):
     check = checked(words, crate, texts, functions) if len(pack) > 1 else None
     for edit in pack:
         goals = check.goals(marks_of(edit.functions(crate))) if check else []
-        yield edit, *((goals, None) if goals else alone(words, edit, crate))
+        why = doubt(words, edit, crate, goals)
+        yield edit, *((goals, None) if goals and not why else alone(words, edit, crate))
 
 
 class Libraries:
@@ -373,7 +436,8 @@ def told_of_lines(crate, held, libraries):
 
 
 def say(crate, what, why, goals=()):
-    print('must-fail %s/%s: %s' % (crate.name, what, why or 'refused: ' + '; '.join(goals[:3])), flush=True)
+    told = why or 'refused: ' + '; '.join(map(str, goals[:3]))
+    print('must-fail %s/%s: %s' % (crate.name, what, told), flush=True)
     return not why
 
 
@@ -386,12 +450,34 @@ def tasks(crate):
     return [*parts, *[(told, small)] * bool(small), *[(told_of_lines, held)] * bool(held)]
 
 
-def main(words):
+def part(crates, number):
+    """The names of the crates of a part: those with most edits are dealt out first, each to the lightest part."""
+    parts = [[] for _ in range(PARTS_OF_EDITS)]
+    weights = {x: len(crate.edits()) + FIXED_COST for x, crate in crates.items() if crate.edits()}
+    for name in sorted(weights, key=lambda x: (-weights[x], x)):
+        if name not in NAMED_BY_USERS:
+            min(parts, key=lambda names: sum(weights[x] for x in names)).append(name)
+    return parts[number % PARTS_OF_EDITS]
+
+
+def due(crates):
+    """The names of the crates whose edits are due at this commit."""
+    count = subprocess.run(['git', 'rev-list', '--count', 'HEAD'], cwd=ROOT, stdout=subprocess.PIPE, check=True)
+    names = part(crates, int(count.stdout))
+    print('must-fail: part %d of %d: %s' % (int(count.stdout) % PARTS_OF_EDITS + 1, PARTS_OF_EDITS, ' '.join(names)))
+    return {*NAMED_BY_USERS, *names}
+
+
+def main():
+    parser = argparse.ArgumentParser(description='Tries the must-fail edits.')
+    parser.add_argument('--all', action='store_true', help='those of all crates')
+    parser.add_argument('--beside', nargs=2, metavar=('FOLDER', 'LOG'), default=[ROOT], help='where rt ci runs')
+    parser.add_argument('crates', nargs='*', metavar='CRATE')
+    asked = parser.parse_args()
     crates = all_crates()
-    beside = words[1:3] if words[:1] == ['--beside'] else [ROOT]
-    named = words[3:] if len(beside) > 1 else words
-    libraries = Libraries(crates, *beside)
-    tried = [(try_them, crate, those) for name, crate in crates.items() if not named or name in named
+    libraries = Libraries(crates, *asked.beside)
+    named = crates if asked.all else asked.crates or due(crates)
+    tried = [(try_them, crate, those) for name, crate in crates.items() if name in named
              for try_them, those in tasks(crate)]
     with ThreadPoolExecutor(SIDE_BY_SIDE) as pool:
         good = [x for found in pool.map(lambda x: list(x[0](x[1], x[2], libraries)), tried) for x in found]
@@ -400,4 +486,4 @@ def main(words):
 
 
 if __name__ == '__main__':
-    sys.exit(main(sys.argv[1:]))
+    sys.exit(main())
