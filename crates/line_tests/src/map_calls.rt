@@ -1,5 +1,6 @@
 //! The calls of a map.
 
+ghost use Rattle.std.specs.Prelude.{◌≡◌, []};
 ghost use Rattle.std.specs.FinMap as map;
 ghost use Rattle.line_words.specs.Answers.{rows_text};
 
@@ -21,6 +22,8 @@ pub(super) struct MapCalls<K: Bytes> {
 }
 
 impl<K: Bytes> Listed for MapCalls<K> {
+    ghost IsEmpty = { λ calls. map.entries calls.map ≡ [] };
+
     ghost listing = { λ calls. rows_text (map.entries calls.map) };
 
     fn empty(alloc: Global) -> Self {

@@ -30,10 +30,10 @@ calls_of text = flat_map call_of (lines text)
 abbrev pub NoneOf : List ℕ → List Call → Type 0
 NoneOf kind calls = All (λ call. call.kind.now ≢ kind) calls
 
+-- a number below 2^64 in decimal digits, or in digits behind a plus
+abbrev pub IsNumber : List ℕ → Type 0
+IsNumber text = IsNumeral 10 (without_leading_plus text) × (digits_value 10 (without_leading_plus text) < 2 ^ 64)
+
 -- the number that digits write, or digits behind a plus
 abbrev pub number_of : List ℕ → ℕ
 number_of text = digits_value 10 (without_leading_plus text)
-
--- a number below 2^64 in decimal digits, or in digits behind a plus
-abbrev pub IsNumber : List ℕ → Type 0
-IsNumber text = IsNumeral 10 (without_leading_plus text) × (number_of text < 2 ^ 64)

@@ -1,6 +1,6 @@
 //! Maps and sets that answer calls.
 
-ghost use Rattle.std.specs.Prelude.{◌≡◌, ◌<◌, ◌⊎◌, ◌++◌, List, [], ℕ, codes, length, IsOk, OnOk};
+ghost use Rattle.std.specs.Prelude.{◌≡◌, ◌<◌, ◌⊎◌, ◌++◌, List, ℕ, codes, length, IsOk, OnOk};
 ghost use Rattle.std.specs.String.{string_bytes};
 ghost use Rattle.line_words.specs.Answers.{Ends};
 ghost use Rattle.line_words.specs.Calls.{NoneOf};
@@ -12,12 +12,15 @@ use std::{io, mem};
 
 /// A map or a set whose entries are listed.
 pub trait Listed: Drop {
+    // it has no keys
+    ghost IsEmpty: { Self → Type 0 };
+
     // its entries as they are written
     ghost listing: { Self → List ℕ };
 
     /// One with no keys.
     fn empty(alloc: Global) -> Self
-        ensures { listing result ≡ [] };
+        ensures { IsEmpty result };
 
     /// A copy.
     fn copied(&self) -> Result<Self, AllocError>;
@@ -25,7 +28,7 @@ pub trait Listed: Drop {
     /// Adds the entries. A refused step ends the walk.
     fn add_walked(&self, out: &mut String) -> Result<(), AllocError>
         ensures listed { OnOk result (string_bytes out.new ≡ string_bytes out.old ++ listing self.now) }
-        ensures bare { listing self.now ≡ [] → IsOk result };
+        ensures bare { IsEmpty self.now → IsOk result × (string_bytes out.new ≡ string_bytes out.old) };
 }
 
 /// One that answers calls on its keys.
@@ -46,7 +49,7 @@ pub trait Answering<'a, Q: Readable<'a>>: Listed {
 /// Adds the entries, and once more behind `refused` where a step is refused.
 pub fn add_entries<A: Listed>(asked: &A, out: &mut String) -> Result<(), AllocError>
     ensures listed { OnOk result (Ends (A.listing asked.now) (string_bytes out.new)) }
-    ensures bare { A.listing asked.now ≡ [] → IsOk result × (string_bytes out.new ≡ string_bytes out.old) }
+    ensures bare { A.IsEmpty asked.now → IsOk result × (string_bytes out.new ≡ string_bytes out.old) }
 {
     if asked.add_walked(out).is_ok() {
         return Ok(());
@@ -58,7 +61,7 @@ pub fn add_entries<A: Listed>(asked: &A, out: &mut String) -> Result<(), AllocEr
 /// Adds what a refused call left.
 pub fn add_refusal<A: Listed>(asked: &A, out: &mut String) -> Result<(), AllocError>
     ensures listed { OnOk result (Ends (A.listing asked.now ++ codes " again") (string_bytes out.new)) }
-    ensures bare { A.listing asked.now ≡ [] → OnOk result (string_bytes out.new
+    ensures bare { A.IsEmpty asked.now → OnOk result (string_bytes out.new
         ≡ string_bytes out.old ++ codes " refused" ++ codes " again") }
 {
     out.add("refused")?;

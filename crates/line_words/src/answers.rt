@@ -1,6 +1,6 @@
 //! How answers are written, each behind a space.
 
-ghost use Rattle.std.specs.Prelude.{◌≡◌, ◌<◌, ◌++◌, ◌&&◌, List, ℕ, codes, is_ok, if◌then◌else◌, false, IfOk, OnOk, OnErr};
+ghost use Rattle.std.specs.Prelude.{◌≡◌, ◌<◌, ◌++◌, ◌&&◌, List, ℕ, codes, is_ok, if◌then◌else◌, IfOk, OnOk};
 ghost use Rattle.std.specs.String.{string_bytes};
 ghost use Rattle.line_words.specs.Answers.{escaped, hexadecimal, key_text, row_text};
 
@@ -142,7 +142,6 @@ pub fn is_still_whole(
     ensures whole { IfOk result (λ is_so. is_so ≡ (is_whole && is_ok step)) }
     ensures told { OnOk result (string_bytes out.new
         ≡ if is_whole then string_bytes out.old else string_bytes out.old ++ codes " more") }
-    ensures refused { OnErr result (is_whole ≡ false) }
 {
     if !is_whole {
         out.add("more")?;

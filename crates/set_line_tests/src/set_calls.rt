@@ -1,5 +1,6 @@
 //! The calls of a set.
 
+ghost use Rattle.std.specs.Prelude.{◌≡◌, []};
 ghost use Rattle.patricia_tree.specs.Sets as set;
 ghost use Rattle.line_words.specs.Answers.{keys_text};
 
@@ -21,6 +22,8 @@ pub(super) struct SetCalls<K: Bytes> {
 }
 
 impl<K: Bytes> Listed for SetCalls<K> {
+    ghost IsEmpty = { λ calls. set.elements calls.set ≡ [] };
+
     ghost listing = { λ calls. keys_text (set.elements calls.set) };
 
     fn empty(alloc: Global) -> Self {

@@ -3,11 +3,24 @@ use super::helpers::{add, has_more, map_of};
 use patricia_tree::{BorrowedBytes, Bytes, GenericPatriciaMap};
 use std::alloc::AllocError;
 
+fn lends_no_entry<K: Bytes>(map: &mut GenericPatriciaMap<K, u32>) -> bool {
+    map.iter_mut().value().is_none()
+}
+
+fn lends_no_value<K: Bytes>(map: &mut GenericPatriciaMap<K, u32>) -> bool {
+    map.values_mut().value().is_none()
+}
+
+fn lends_none_under<Q: BorrowedBytes>(
+    map: &mut GenericPatriciaMap<Q::Owned, u32>,
+    prefix: Q,
+) -> bool {
+    map.iter_prefix_mut(prefix).value().is_none()
+}
+
 // Whether each cursor lends nothing before its first step.
 fn lends_nothing<Q: BorrowedBytes>(map: &mut GenericPatriciaMap<Q::Owned, u32>, prefix: Q) -> bool {
-    map.iter_mut().value().is_none()
-        && map.values_mut().value().is_none()
-        && map.iter_prefix_mut(prefix).value().is_none()
+    lends_no_entry(map) && lends_no_value(map) && lends_none_under(map, prefix)
 }
 
 // Takes one step of a cursor, and answers whether the value was the one that is due.

@@ -1,6 +1,6 @@
 // The calls that lend one value, and cursors that take no step.
 use super::helpers::map_of;
-use patricia_tree::{BorrowedBytes, GenericPatriciaMap};
+use patricia_tree::{BorrowedBytes, Bytes, GenericPatriciaMap};
 use std::alloc::{AllocError, Global};
 use std::process::Abort;
 
@@ -29,11 +29,24 @@ fn call_loans<Q: BorrowedBytes>(
     (one, two, three.is_some())
 }
 
-// Makes each cursor and drops it.
-fn call_cursors<Q: BorrowedBytes>(map: &mut GenericPatriciaMap<Q::Owned, u64>, key: Q) -> bool {
+fn lends_no_entry<K: Bytes>(map: &mut GenericPatriciaMap<K, u64>) -> bool {
     map.iter_mut().value().is_none()
-        && map.values_mut().value().is_none()
-        && map.iter_prefix_mut(key).value().is_none()
+}
+
+fn lends_no_value<K: Bytes>(map: &mut GenericPatriciaMap<K, u64>) -> bool {
+    map.values_mut().value().is_none()
+}
+
+fn lends_none_under<Q: BorrowedBytes>(
+    map: &mut GenericPatriciaMap<Q::Owned, u64>,
+    prefix: Q,
+) -> bool {
+    map.iter_prefix_mut(prefix).value().is_none()
+}
+
+// Makes each cursor and drops it. None lends a value before its first step.
+fn call_cursors<Q: BorrowedBytes>(map: &mut GenericPatriciaMap<Q::Owned, u64>, key: Q) -> bool {
+    lends_no_entry(map) && lends_no_value(map) && lends_none_under(map, key)
 }
 
 // Makes a map of some keys, and then the calls with others, each with whether it is there.

@@ -6,5 +6,5 @@ use Rattle.line_tests.proofs.map_calls.MapCallsListed.add_walked.Given as goal
 
 abbrev pub invariant-loop-entry : goal.invariant-loop-entry
 invariant-loop-entry g l =
-    (map.entries l.fn.self.map ≡ [] → (l.entry-iterator ≡ []) × (l.is_whole ≡ true)) ×
+    (map.entries l.fn.self.map ≡ [] → (l.entry-iterator ≡ []) × (l.is_whole ≡ true) × (string_bytes l.out ≡ string_bytes l.fn.out)) ×
     (l.is_whole ≡ true → string_bytes l.out ++ rows_text l.entry-iterator ≡ string_bytes l.fn.out ++ rows_text (map.entries l.fn.self.map))

@@ -6,5 +6,5 @@ use Rattle.set_line_tests.proofs.set_calls.SetCallsListed.add_walked.Given as go
 
 abbrev pub invariant-loop-element : goal.invariant-loop-element
 invariant-loop-element g l =
-    (map.keys l.fn.self.set ≡ [] → (l.element-iterator ≡ []) × (l.is_whole ≡ true)) ×
+    (map.keys l.fn.self.set ≡ [] → (l.element-iterator ≡ []) × (l.is_whole ≡ true) × (string_bytes l.out ≡ string_bytes l.fn.out)) ×
     (l.is_whole ≡ true → string_bytes l.out ++ keys_text l.element-iterator ≡ string_bytes l.fn.out ++ keys_text (map.keys l.fn.self.set))
