@@ -23,8 +23,8 @@ An edit is good if a goal fails by its meaning. One that is refused only because
 the edit took away shows nothing: these are listed, with those that are proved and those that do not apply.
 A goal without a written answer that the prover's search leaves open may be true of the turned body, and
 named by what the edit brought in. So where an edit has no other, the prover must show values at which it is
-false, or the right body must have a goal of that name; an edit with neither is listed as one to read, and
-fails until it is turned otherwise. The last line sums all: 'N passed, M failed'.
+false, or the right body must have a goal of that name; an edit with neither is listed at the end, to be read.
+The last line sums all: 'N passed, M failed'.
 """
 import argparse
 import os
@@ -43,6 +43,7 @@ FEW = 9
 NAMED_BY_USERS = 'patricia_tree', 'patricia_run'
 PARTS_OF_EDITS = 3
 FIXED_COST = 8
+TO_READ = 'TO READ:'
 SEARCHED = 'it is not proved that'
 SHOWN_FALSE = 'allow values at which this goal is false'
 ASKED_FOR = re.compile('rattle asks for (.*?);')
@@ -251,6 +252,13 @@ class Goal(NamedTuple):
         return '%s:%s %s' % self[:3]
 
 
+class Told(NamedTuple):
+    """What is told of an edit: the line, whether it is refused by its meaning, and whether that is to be read."""
+    line: str
+    is_good: bool
+    is_to_read: bool
+
+
 class Check:
     """What a check of a crate says with other texts in place of its own."""
 
@@ -348,7 +356,7 @@ def doubt(words, edit, crate, goals):
         return None
     if {x.name for x in goals} & right_goals(words, crate, functions):
         return None
-    return 'TO READ: the right body has no goal of these names: %s' % '; '.join(map(str, goals[:3]))
+    return '%s the right body has no goal of these names: %s' % (TO_READ, '; '.join(map(str, goals[:3])))
 
 
 def alone(words, edit, crate):
@@ -436,9 +444,9 @@ def told_of_lines(crate, held, libraries):
 
 
 def say(crate, what, why, goals=()):
-    told = why or 'refused: ' + '; '.join(map(str, goals[:3]))
-    print('must-fail %s/%s: %s' % (crate.name, what, told), flush=True)
-    return not why
+    told = 'must-fail %s/%s: %s' % (crate.name, what, why or 'refused: ' + '; '.join(map(str, goals[:3])))
+    print(told, flush=True)
+    return Told(told, not why, bool(why) and why.startswith(TO_READ))
 
 
 def tasks(crate):
@@ -480,7 +488,9 @@ def main():
     tried = [(try_them, crate, those) for name, crate in crates.items() if name in named
              for try_them, those in tasks(crate)]
     with ThreadPoolExecutor(SIDE_BY_SIDE) as pool:
-        good = [x for found in pool.map(lambda x: list(x[0](x[1], x[2], libraries)), tried) for x in found]
+        said = [x for found in pool.map(lambda x: list(x[0](x[1], x[2], libraries)), tried) for x in found]
+    good = [x.is_good or x.is_to_read for x in said]
+    print('to be read: %d' % sum(x.is_to_read for x in said), *(x.line for x in said if x.is_to_read), sep='\n')
     print('%d passed, %d failed' % (sum(good), len(good) - sum(good)))
     return 0 if good and all(good) else 1
 
