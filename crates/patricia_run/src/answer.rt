@@ -36,7 +36,7 @@ fn answer<'a, Q: Spelled<'a>>(alloc: Global, input: &'a [u8]) -> Result<Vec<u8>,
         Answers Q.Owned.item Q.spelling Q.Owned.key input.now output.items) }
 {
     let mut bench: Bench<Q::Owned, u64> = Bench::new(alloc);
-    let mut out = Vec::with_capacity(alloc, input.len())?;
+    let mut out = Vec::new(alloc);
     for line in Lines::new(input) {
         answer_line::<Q>(&mut bench, line, &mut out)?;
     }

@@ -4,7 +4,7 @@ use Rattle.patricia_run.proofs.answer.answer.Goals as goal
 
 pub loop-line-init : goal.loop-line-init
 loop-line-init g c =
-    completes_first g.Q.Owned.Bytes.item g.Q.Spelled.spelling g.Q.Owned.Bytes.key c.args.input.now c.new-bench.result c.into_iter-line-iterator.result c.in_ok-out.out.items c.new-bench.ensures (search rules) (search rules)
+    completes_first g.Q.Owned.Bytes.item g.Q.Spelled.spelling g.Q.Owned.Bytes.key c.args.input.now c.new-bench.result c.into_iter-line-iterator.result c.new-out.result.items c.new-bench.ensures (search rules) (search rules)
 
 pub loop-line-preserved : goal.loop-line-preserved
 loop-line-preserved g c =
