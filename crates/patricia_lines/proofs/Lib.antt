@@ -1,3 +1,3 @@
-pub mod Lines
+pub mod Cuts
 pub mod Numbers
 pub mod TextLemmas

@@ -3,10 +3,12 @@
 //! `patricia_run` is the library to use. This crate is what it stands on.
 #![tactic(auto)]
 
+mod cutting;
 mod reading;
 mod spelling;
 mod writing;
 
-pub use reading::{Fault, Reading, read_lines};
+pub use cutting::Lines;
+pub use reading::{Fault, Reading, read_line};
 pub use spelling::Spelled;
-pub use writing::write_output;
+pub use writing::{write_fault, write_reply};

@@ -1,17 +1,15 @@
-//! What the lines of an input say: each a command, or what is wrong with it.
+//! What a line says: a command, or what is wrong with the line.
 
-ghost use Rattle.std.specs.Prelude.{◌≡◌, [], length, IfOk, map, Option, ◌==◌};
-ghost use Rattle.std.specs.List.{slice_split};
+ghost use Rattle.std.specs.Prelude.{◌≡◌, map};
 ghost use Rattle.std.specs.Result.{result_map_both};
 ghost use Rattle.patricia_machine.specs.Machine.{with_key};
-ghost use Rattle.patricia_lines.specs.Text.{number_of, word_of, key_alone, alone, lines_of};
-ghost use Rattle.patricia_lines.specs.Text.{said_after, said_by, said_of, said_with, all_said};
-ghost use Rattle.patricia_lines.specs.Text.{without_last_empty};
+ghost use Rattle.patricia_lines.specs.Text.{number_of, word_of, key_alone, alone};
+ghost use Rattle.patricia_lines.specs.Text.{said_after, said_by, said_of, said_with};
 ghost use Rattle.patricia_lines.specs.declared.reading.Word.TheVariants as Words;
 
+use crate::cutting::cut;
 use crate::spelling::Spelled;
 use patricia_machine::Command;
-use std::alloc::{AllocError, Global};
 
 /// What is wrong with a line.
 #[derive(Clone, Copy)]
@@ -176,55 +174,22 @@ fn from_fields<'a, Q: Spelled<'a>>(fields: &[&'a [u8]]) -> Reading<Q>
     }
 }
 
-// The parts of a text round a byte.
-fn pieces<'a>(alloc: Global, text: &'a [u8], at: u8) -> Result<Vec<&'a [u8]>, AllocError>
-    ensures { IfOk result (λ v.
-        map (λ f. f.now) v.items ≡ slice_split (λ b. b == at) text.now) }
+/// What a line says.
+pub fn read_line<'a, Q: Spelled<'a>>(line: &'a [u8]) -> Reading<Q>
+    ensures { said_with Q.key result ≡ said_of Q.spelling line.now }
 {
-    text.split(|b| *b == at).collect(alloc)
-}
-
-// What a line says.
-fn read_line<'a, Q: Spelled<'a>>(alloc: Global, line: &'a [u8]) -> Result<Reading<Q>, AllocError>
-    ensures { IfOk result (λ r. said_with Q.key r ≡ said_of Q.spelling line.now) }
-{
-    let fields = pieces(alloc, line, b'\t')?;
-    Ok(from_fields(&fields))
-}
-
-// The lines of an input, each without the byte 10 at its end.
-fn lines<'a>(alloc: Global, input: &'a [u8]) -> Result<Vec<&'a [u8]>, AllocError>
-    ensures { IfOk result (λ v. map (λ f. f.now) v.items ≡ lines_of input.now) }
-{
-    let mut parts = pieces(alloc, input, b'\n')?;
-    drop_last_empty(&mut parts);
-    Ok(parts)
-}
-
-// What is left after the last byte 10 is a line only if it has a byte.
-fn drop_last_empty<'a>(parts: &mut Vec<&'a [u8]>)
-    ensures { map (λ f. f.now) parts.new.items
-        ≡ without_last_empty (map (λ f. f.now) parts.old.items) }
-{
-    let Some(last) = parts.pop() else {
-        return;
+    let (word, more) = cut(line, b'\t');
+    let Some(more) = more else {
+        return from_fields(&[word]);
     };
-    if !last.is_empty() {
-        parts.push(last).unwrap();
+    let (key, more) = cut(more, b'\t');
+    let Some(more) = more else {
+        return from_fields(&[word, key]);
+    };
+    let (value, more) = cut(more, b'\t');
+    match more {
+        None => from_fields(&[word, key, value]),
+        // no command has so many fields, whatever they hold
+        Some(others) => from_fields(&[word, key, value, others]),
     }
-}
-
-/// What each line of an input says.
-pub fn read_lines<'a, Q: Spelled<'a>>(
-    alloc: Global,
-    input: &'a [u8],
-) -> Result<Vec<Reading<Q>>, AllocError>
-    ensures { IfOk result (λ v. map (said_with Q.key) v.items ≡ all_said Q.spelling input.now) }
-{
-    let lines = lines(alloc, input)?;
-    let mut readings = Vec::new(alloc);
-    for line in &lines {
-        readings.push(read_line(alloc, line)?)?;
-    }
-    Ok(readings)
 }

@@ -1,47 +1,33 @@
-//! The answer to an input: its lines are read, done in turn and written.
+//! The answer to an input: each line is read, done and answered before the next one.
 
-ghost use Rattle.std.specs.Prelude.{◌≡◌, ℕ, IfOk, map, Vec, string_bytes};
+ghost use Rattle.std.specs.Prelude.{◌≡◌, ℕ, List, [], ◌∷◌, ◌++◌, IfOk, OnOk, Vec, string_bytes};
 ghost use Rattle.std.specs.Global.{Global};
 ghost use Rattle.patricia_tree.specs.ByteKind.{IsByteItem};
 ghost use Rattle.patricia_tree.specs.TextKind.{IsTextItem};
-ghost use Rattle.patricia_machine.specs.Machine.{State, Run, empty_state, with_key};
 ghost use Rattle.patricia_lines.specs.Spellings.{as_bytes, as_text};
-ghost use Rattle.patricia_lines.specs.Text.{Said, said_with};
-ghost use Rattle.patricia_run.specs.Answers.{Answers, commands_of};
+ghost use Rattle.patricia_lines.specs.Text.{said_of};
+ghost use Rattle.patricia_run.specs.Answers.{Answers};
+ghost use Rattle.patricia_run.specs.Private.Turns.{AnswersFrom};
 
-use patricia_lines::{Reading, Spelled, read_lines, write_output};
-use patricia_machine::{Bench, Command, Reply, run};
+use patricia_lines::{Lines, Spelled, read_line, write_fault, write_reply};
+use patricia_machine::Bench;
 use std::alloc::{AllocError, Global};
 
-// The commands of the readings that are not faulty.
-fn commands<'a, Q: Spelled<'a>>(
-    alloc: Global,
-    readings: &[Reading<Q>],
-) -> Result<Vec<Command<Q, u64>>, AllocError>
-    ensures { IfOk result (λ v.
-        map (with_key Q.key) v.items ≡ commands_of (map (said_with Q.key) readings.now)) }
+// Does what a line says, and writes its fault or its reply.
+fn answer_line<'a, Q: Spelled<'a>>(
+    bench: &mut Bench<Q::Owned, u64>,
+    line: &'a [u8],
+    out: &mut Vec<u8>,
+) -> Result<(), AllocError>
+    ensures { OnOk result ((written : List ℕ)
+        × (out.new.items ≡ out.old.items ++ written)
+        × AnswersFrom Q.Owned.item Q.spelling Q.Owned.key
+        bench.old (said_of Q.spelling line.now ∷ []) written bench.new) }
 {
-    let mut commands = Vec::new(alloc);
-    for reading in readings {
-        if let Ok(command) = reading {
-            commands.push(*command)?;
-        }
+    match read_line::<Q>(line) {
+        Ok(command) => write_reply::<Q>(out, &bench.step(command)),
+        Err(fault) => write_fault(out, fault),
     }
-    Ok(commands)
-}
-
-// The replies of a new bench to the readings that are not faulty.
-fn replies<'a, Q: Spelled<'a>>(
-    alloc: Global,
-    readings: &[Reading<Q>],
-) -> Result<Vec<Reply<Q::Owned, u64>>, AllocError>
-    ensures { IfOk result (λ v. (new : State ℕ) ×
-        Run Q.Owned.item Q.Owned.key
-        empty_state (commands_of (map (said_with Q.key) readings.now)) v.items new) }
-{
-    let commands = commands(alloc, readings)?;
-    let mut bench: Bench<Q::Owned, u64> = Bench::new(alloc);
-    run(&mut bench, &commands)
 }
 
 // The answer to an input, over keys of one kind.
@@ -49,9 +35,12 @@ fn answer<'a, Q: Spelled<'a>>(alloc: Global, input: &'a [u8]) -> Result<Vec<u8>,
     ensures { IfOk result (λ output.
         Answers Q.Owned.item Q.spelling Q.Owned.key input.now output.items) }
 {
-    let readings: Vec<Reading<Q>> = read_lines(alloc, input)?;
-    let replies = replies(alloc, &readings)?;
-    write_output::<Q>(alloc, &readings, &replies)
+    let mut bench: Bench<Q::Owned, u64> = Bench::new(alloc);
+    let mut out = Vec::new(alloc);
+    for line in Lines::new(input) {
+        answer_line::<Q>(&mut bench, line, &mut out)?;
+    }
+    Ok(out)
 }
 
 /// The answer to an input, over byte keys.
