@@ -34,6 +34,7 @@ pub fn put<Q: BorrowedBytes, V: Drop>(
 }
 
 /// The keys a and b, put in one after the other.
+#[tactic(auto, using(crate::proofs::KeyListLemmas::keys_two))]
 pub fn in_order(alloc: Global) -> Result<PatriciaMap<u32>, AllocError>
     ensures { IfOk result (λ m. map.keys m ≡ (97 ∷ []) ∷ (98 ∷ []) ∷ []) }
 {
@@ -44,6 +45,7 @@ pub fn in_order(alloc: Global) -> Result<PatriciaMap<u32>, AllocError>
 }
 
 /// The same keys in another order, with other values, and with a further key for a while.
+#[tactic(auto, using(crate::proofs::KeyListLemmas::keys_after_removal))]
 pub fn after_removal(alloc: Global) -> Result<PatriciaMap<bool>, AllocError>
     ensures { IfOk result (λ m. map.keys m ≡ (97 ∷ []) ∷ (98 ∷ []) ∷ []) }
 {
@@ -56,11 +58,12 @@ pub fn after_removal(alloc: Global) -> Result<PatriciaMap<bool>, AllocError>
 }
 
 /// The key a alone.
+#[tactic(auto, using(crate::proofs::KeyListLemmas::keys_one))]
 pub fn alone(alloc: Global) -> Result<PatriciaMap<u32>, AllocError>
     ensures { IfOk result (λ m. map.keys m ≡ (97 ∷ []) ∷ []) }
 {
     let mut m = PatriciaMap::new(alloc);
-    put(&mut m, b"a".as_slice(), 1)?;
+    put(&mut m, b"a".as_slice(), 3)?;
     Ok(m)
 }
 
