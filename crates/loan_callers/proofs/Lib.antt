@@ -1,1 +1,2 @@
 mod FirstLemmas
+pub mod KeyListLemmas

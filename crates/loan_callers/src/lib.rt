@@ -2,5 +2,7 @@
 #![tactic(auto)]
 
 pub mod cursors;
+pub mod encodings;
+pub mod json;
 pub mod kept;
 pub mod loans;

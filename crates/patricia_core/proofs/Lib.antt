@@ -1,1 +1,2 @@
 pub mod FewRows
+pub mod PointNodes

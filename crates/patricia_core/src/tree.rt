@@ -6,9 +6,10 @@ ghost use Rattle.std.specs.FinMap as map;
 ghost use Rattle.std.specs.List.{All};
 ghost use Rattle.patricia_keys.specs.Keys.{AreSingle, Begins, IsValid};
 ghost use Rattle.patricia_rows.specs.Clones.{AreKept};
-ghost use Rattle.patricia_rows.specs.Points.{CountsVisits, Joins};
+ghost use Rattle.patricia_rows.specs.Points.{CountsVisits, IsPoint, Joins};
 ghost use Rattle.patricia_rows.specs.Prefixes.{along, longest, outside, under, IsReach};
 ghost use Rattle.patricia_rows.specs.Walks.{values_of};
+ghost use Rattle.patricia_wire_laws.specs.Counts.{IsCount};
 ghost use Rattle.patricia_wire_laws.specs.TreeBytes.{AreTreeBytes};
 ghost use Rattle.patricia_wire_laws.specs.Writings.{Means, TooDeep};
 ghost use Rattle.patricia_decoder.specs.Refusals.{IsRefusal};
@@ -85,8 +86,10 @@ impl<K: Bytes, V: Drop> Tree<K, V> {
         }
     }
 
-    /// How many nodes the vector has, used or free.
-    pub fn slots(&self) -> usize {
+    /// How many nodes the vector has, used or free. There is one for each point of the keys.
+    pub fn slots(&self) -> usize
+        ensures { (n : ℕ) × IsCount (IsPoint K.item (map.keys self.now)) n × (n ≤ result) }
+    {
         self.slots.slots()
     }
 

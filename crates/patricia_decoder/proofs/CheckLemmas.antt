@@ -7,13 +7,13 @@ use Rattle.std.proofs.lemmas.List.{nil_from_length}
 use Rattle.std.specs.declared.cmp.Ordering.TheVariants.{Less, Equal, Greater}
 use Rattle.std.specs.declared.cmp.Ordering.{Ordering}
 use Rattle.std.proofs.Common.{is_lt}
-use Rattle.patricia_keys.specs.Keys.{IsKeyKind, IsValid, IsFirstItem, Begins, key_cmp}
+use Rattle.patricia_keys.specs.Keys.{IsKeyKind, IsValid, IsFirstItem, ComparesFirst, Begins, key_cmp}
 use Rattle.patricia_keys.proofs.KeyLemmas.{begins_same, first_of, IsValid-item}
-use Rattle.patricia_rows.specs.Rows.{IsBefore}
 use Rattle.patricia_wire_laws.specs.Records.{Record}
 use Rattle.patricia_wire_laws.specs.Faults.{Fault, number, truncated, level, root_label, root_sibling, empty_label, invalid_label, sibling_order, no_value_no_child, too_few_values, trailing_bytes, too_many_values}
 use Rattle.patricia_wire_laws.specs.Private.Readings.{Due, Breaks}
 use Rattle.patricia_wire_laws.proofs.FirstFault.{number_same}
+use Rattle.patricia_wire_laws.proofs.Orders.{before_compares}
 use Rattle.patricia_decoder.specs.Private.Steps.{named, BreaksNone, BreaksNoneBelow, BreaksFirst, BreaksLabel, KeepsLabel}
 use Rattle.patricia_decoder.specs.declared.error.DecodeError.{DecodeError}
 
@@ -83,21 +83,24 @@ module _ (item : List ℕ → Type 0) (kind : IsKeyKind item) where
               absurd (fewest (length i) sized.0 (omega (arith, size, ap length e, length-take n label)) (subst (IsValid item) (sym shorter) (IsValid-item item i is_item)))
 
   -- the first items tell which label comes before the other
-  pub first_items : (a b i j : List ℕ) → a ≢ [] → b ≢ [] → IsFirstItem item a i → IsFirstItem item b j → (key_cmp i j ≡ Less) ↔ IsBefore item a b
-  first_items a b i j some other x y = elim x [
-    | inl none ↦ absurd (some none.0)
-    | inr first ↦ elim y [
-      | inl none ↦ absurd (other none.0)
-      | inr second ↦ (
-        λ less. record { first = i; second = j; first_item = first.0; second_item = second.0; first_begins = first.1; second_begins = second.1; less = less },
-        λ before. (
-            let same = begins_same item kind i before.first a first.0 before.first_item first.1 before.first_begins in
-            let also = begins_same item kind j before.second b second.0 before.second_item second.1 before.second_begins in
-            (λ k. key_cmp (same k) (also k)) ∙ before.less
-            ),
-      )
-    ]
-  ]
+  pub first_items : (a b i j : List ℕ) → a ≢ [] → b ≢ [] → IsFirstItem item a i → IsFirstItem item b j → (key_cmp i j ≡ Less) ↔ ComparesFirst item a b Less
+  first_items a b i j some other x y = (
+    λ less. record { first = i; second = j; first_of = x; second_of = y; is = sym less },
+    λ compared. (
+        let same = one_first_item a i compared.first some x compared.first_of in
+        let also = one_first_item b j compared.second other y compared.second_of in
+        (λ k. key_cmp (same k) (also k)) ∙ sym compared.is
+        ),
+  )
+    where
+      one_first_item : (l i j : List ℕ) → l ≢ [] → IsFirstItem item l i → IsFirstItem item l j → i ≡ j
+      one_first_item l i j some x y = elim x [
+        | inl none ↦ absurd (some none.0)
+        | inr first ↦ elim y [
+          | inl none ↦ absurd (some none.0)
+          | inr second ↦ begins_same item kind i j l first.0 second.0 first.1 second.1
+        ]
+      ]
 
 -- what the tests say
 both : (a b : Bool) → a && b ≡ true → (a ≡ true) × (b ≡ true)
@@ -193,7 +196,7 @@ module _ (item : List ℕ → Type 0) (due : Due) (left : ℕ) (r : Record) wher
   ]
 
   pub kept_label : BreaksNoneBelow item due left r 7 → KeepsLabel item due r.label → BreaksNoneBelow item due left r 9
-  kept_label below kept = kept_next item due left r sibling_order (kept_next item due left r invalid_label below (λ h. h kept.0)) (λ (l, is, not_before). not_before (kept.1 l is))
+  kept_label below kept = kept_next item due left r sibling_order (kept_next item due left r invalid_label below (λ h. h kept.0)) (λ (l, is, not_before). not_before (before_compares item l r.label (kept.1 l is)))
 
   pub breaks_marks : (not (eqb due.level 0) && not r.value) && not r.child ≡ true → Breaks item due left r no_value_no_child
   breaks_marks t =
@@ -209,6 +212,14 @@ module _ (item : List ℕ → Type 0) (due : Due) (left : ℕ) (r : Record) wher
 
   pub breaks_values : r.value && eqb left 0 ≡ true → Breaks item due left r too_few_values
   breaks_values t = (let parts = both r.value (eqb left 0) t in (parts.0, tested left 0 parts.1))
+
+module _ (item : List ℕ → Type 0) (due : Due) (left : ℕ) (r : Record) where
+  -- and a value is left for a mark, so that no rule is broken
+  pub kept_rules : BreaksNoneBelow item due left r 10 → r.value && eqb left 0 ≡ false → BreaksNone item due left r
+  kept_rules below f = kept_all item due left r (kept_next item due left r too_few_values below (λ (set, none). (
+      let h : true ≡ false = sym (test_same left 0 none) ∙ not_both r.value (eqb left 0) f set in
+      cc
+      )))
 
 pub is_less : (o : Ordering) → is_lt o ≡ true → o ≡ Less
 is_less Less e = refl

@@ -5,3 +5,4 @@ pub mod EndLemmas
 pub mod GrowingLemmas
 pub mod ReadLemmas
 pub mod ReaderLemmas
+pub mod RefusalLemmas

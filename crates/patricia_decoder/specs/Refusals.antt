@@ -1,5 +1,6 @@
 -- What a refusal says of the bytes.
-use Rattle.std.specs.Prelude.{ℕ, List, length}
+use Rattle.std.specs.Prelude.{◌≡◌, ℕ, List, length}
+use Rattle.patricia_wire_laws.specs.Writings.{Means}
 use Rattle.patricia_wire_laws.specs.Faults.{IsFirst, truncated, level, root_label, root_sibling, empty_label, invalid_label, sibling_order, no_value_no_child, too_few_values, trailing_bytes, too_many_values}
 use Rattle.patricia_decoder.specs.declared.error.DecodeError.{DecodeError}
 use Rattle.patricia_decoder.specs.declared.error.DecodeError.TheVariants.{Memory, Truncated, Level, RootLabel, RootSibling, EmptyLabel, InvalidLabel, SiblingOrder, NoValueNoChild, TooFewValues, TrailingBytes, TooManyValues}
@@ -20,3 +21,9 @@ module _ (item : List ℕ → Type 0) where
   IsRefusal w b n (TooFewValues at) = IsFirst item w b n too_few_values at
   IsRefusal w b n (TrailingBytes at) = IsFirst item w b n trailing_bytes at
   IsRefusal w b n TooManyValues = IsFirst item w b n too_many_values (length b)
+
+  -- bytes and values that mean rows are refused by no error but that of memory
+  abbrev pub RefusesNothingMeant : Type 0 → Type 0
+  RefusesNothingMeant V =
+      (w : ℕ) (b : List ℕ) (values : List V) (M : List (List ℕ × V)) (e : DecodeError)
+      → Means item w b values M → IsRefusal w b (length values) e → e ≡ Memory

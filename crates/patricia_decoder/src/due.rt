@@ -1,7 +1,7 @@
 //! What is due while records are read, and the rules that the next record must keep.
 ghost use Rattle.std.specs.Prelude.{ℕ, false, ◌≡◌, ◌≢◌, ◌≤◌, [], IfSome, None, Some, IfErr, OnOk, IsTrue, ◌↔◌};
-ghost use Rattle.patricia_keys.specs.Keys.{IsValid, IsFirstItem};
-ghost use Rattle.patricia_rows.specs.Rows.{IsBefore};
+ghost use Rattle.std.specs.declared.cmp.Ordering.TheVariants.{Less};
+ghost use Rattle.patricia_keys.specs.Keys.{IsValid, IsFirstItem, ComparesFirst};
 ghost use Rattle.patricia_decoder.specs.Private.Steps.{IsAfter, IsInOrder, IsOutOfOrder, BreaksFirst, BreaksNoneBelow, Keeps, KeepsLabel, BreaksLabel};
 
 use crate::error::DecodeError;
@@ -45,7 +45,7 @@ fn comes_before<K: Bytes>(label: &[u8], other: &[u8]) -> bool
     requires filled { label.now ≢ [] }
     requires other_valid { IsValid K.item other.now }
     requires other_filled { other.now ≢ [] }
-    ensures { IsTrue result ↔ IsBefore K.item label.now other.now }
+    ensures { IsTrue result ↔ ComparesFirst K.item label.now other.now Less }
 {
     first_item::<K>(label).cmp(first_item::<K>(other)).is_lt()
 }

@@ -7,6 +7,7 @@ mod builder;
 pub mod decoder;
 mod due;
 pub mod error;
+pub mod laws;
 mod reader;
 mod record;
 

@@ -32,8 +32,8 @@ abbrev pub ReadsAs : List ℕ → List ℕ → List Value → Type 0
 ReadsAs text bytes values = read text ≡ Some (pair_data bytes (items_view values))
 
 -- it does where no value has arrays and objects more than 100 deep
-abbrev pub ReadsBack : List ℕ → List ℕ → List Value → Type 0
-ReadsBack text bytes values = items_depth (items_view values) ≤ 100 → ReadsAs text bytes values
+abbrev pub IsReadBack : List ℕ → List ℕ → List Value → Type 0
+IsReadBack text bytes values = items_depth (items_view values) ≤ 100 → ReadsAs text bytes values
 
 -- `serde_json` reads the text as no such array, or as one with a floating-point number in a value
 abbrev pub IsNoPair : List ℕ → Type 0

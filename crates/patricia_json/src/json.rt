@@ -5,7 +5,7 @@ ghost use Rattle.serde_json.specs.Read.{read};
 ghost use Rattle.serde_json.specs.View.{view, items_view};
 ghost use Rattle.serde_json.specs.Written.{has_float, items_have_float};
 ghost use Rattle.patricia_json.specs.Pairs.{numbers_of, two_arrays};
-ghost use Rattle.patricia_json.specs.Pairs.{HaveNoFloat, IsTextOf, ReadsAs, ReadsBack, IsNoPair};
+ghost use Rattle.patricia_json.specs.Pairs.{HaveNoFloat, IsTextOf, ReadsAs, IsReadBack, IsNoPair};
 
 use serde_json::Value;
 use std::alloc::{AllocError, Global};
@@ -29,7 +29,7 @@ pub enum JsonError {
 pub fn pair_to_json(alloc: Global, bytes: &[u8], values: Vec<Value>) -> Result<String, AllocError>
     requires { HaveNoFloat values.items }
     ensures text { IfOk result (λ s. IsTextOf (string_bytes s) bytes.now values.items) }
-    ensures reads_back { IfOk result (λ s. ReadsBack (string_bytes s) bytes.now values.items) }
+    ensures reads_back { IfOk result (λ s. IsReadBack (string_bytes s) bytes.now values.items) }
 {
     let numbers = numbers_from(alloc, bytes)?;
     let pair = both(alloc, numbers, values)?;

@@ -25,3 +25,4 @@ pub use Rattle.patricia_core.specs.WireLaws
 pub use Rattle.patricia_core.specs.Writings
 pub use Rattle.patricia_lent.specs.Lends
 pub use Rattle.patricia_lent.specs.Steps
+pub use Rattle.patricia_json.specs.Pairs

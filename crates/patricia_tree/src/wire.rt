@@ -1,9 +1,11 @@
-//! The wire: the faults of writing and of reading a map or a set, its laws, and the JSON of tree
-//! bytes and values.
+//! The wire: the faults of writing and of reading a map or a set, its laws with worked examples, and
+//! the JSON of tree bytes and values.
 //!
 //! `tree_bytes` of a map or a set gives its tree bytes. Beside the values, in key order, they are
 //! all that a map is, and `from_wire` makes it of them again.
 
+pub mod laws;
+
 pub use patricia_core::tree::{DecodeError, WireError};
-pub use patricia_core::wire_laws as laws;
+pub use patricia_core::wire_examples as examples;
 pub use patricia_json::{JsonError, pair_from_json, pair_to_json};

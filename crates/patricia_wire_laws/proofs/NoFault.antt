@@ -13,6 +13,7 @@ use Rattle.patricia_wire_laws.specs.Private.WrittenRows.{record_of, records_of, 
 use Rattle.patricia_wire_laws.specs.Writings.{Means}
 use Rattle.patricia_wire_laws.specs.Faults.{Fault, truncated, level, root_label, root_sibling, empty_label, invalid_label, sibling_order, no_value_no_child, too_few_values, trailing_bytes, too_many_values, value_marks, IsLastUpTo, IsFaulty, IsCutShort, Stands, cut_short, in_record, trailing, too_many}
 use Rattle.patricia_wire_laws.proofs.CountLemmas.{length-prefixed}
+use Rattle.patricia_wire_laws.proofs.Orders.{before_compares}
 use Rattle.patricia_wire_laws.proofs.Places.{nil_split, deep, tree_due, behind, IsGood, good, rising}
 use Rattle.patricia_wire_laws.proofs.OneMeaning.{row_of}
 use Rattle.patricia_wire_laws.proofs.Spellings.{record_same, one_list, length-high_first}
@@ -62,7 +63,7 @@ marks_tree : (v : Option Nothing) (row : Row Nothing) → value_marks (tree_reco
 marks_tree v row = omega (arith, marks_row 1 row, marks_own v, sum_by-cons one_if (record_of 0 [] v row end) (records_of 1 row), length-append (own v) (entries row))
 
 module _ (item : List ℕ → Type 0) where
-  marks : (R : List Record) (E : List (List ℕ)) → Root item R E → value_marks R ≡ length E
+  pub marks : (R : List Record) (E : List (List ℕ)) → Root item R E → value_marks R ≡ length E
   marks R E root =
       let t = stands_tree item R E root in
       ap value_marks (sym t.records) ∙ marks_tree t.value t.row ∙ sym (length-map (own t.value ++ entries t.row) (λ e. e.0)) ∙ ap length t.keys
@@ -128,7 +129,7 @@ module _ (item : List ℕ → Type 0) where
         | inl root ↦ h (subst (IsValid item) (sym root.1) (IsValid-nil item))
         | inr inner ↦ h inner.1.valid
       ]
-      go sibling_order h = h.3 (tree_rising t.value t.row before r Y t.ok at h.0 h.1 h.2)
+      go sibling_order h = h.3 (before_compares item h.0.label r.label (tree_rising t.value t.row before r Y t.ok at h.0 h.1 h.2))
       go no_value_no_child h = elim kind [
         | inl root ↦ h.0 root.0
         | inr inner ↦ elim inner.1.marked [

@@ -2,7 +2,8 @@
 use Rattle.std.proofs.Common.{◌≡◌, ℕ, ◌+◌, ◌<◌, ◌≢◌, inl, inr, Bool, true, false, List, [], ◌∷◌, ◌++◌, refl, sym, subst, ◌∙◌, arith}
 use Rattle.std.proofs.lemmas.Bool.{cases_lt}
 use Rattle.std.proofs.lemmas.List.Sums.{sum_by-append}
-use Rattle.patricia_rows.specs.Rows.{IsBefore}
+use Rattle.std.specs.declared.cmp.Ordering.TheVariants.{Less}
+use Rattle.patricia_keys.specs.Keys.{ComparesFirst}
 use Rattle.patricia_wire_laws.specs.Records.{Record, where_set}
 use Rattle.patricia_wire_laws.specs.Private.Readings.{Due, IsRead, Breaks}
 use Rattle.patricia_wire_laws.specs.Faults.{Fault, truncated, level, root_label, root_sibling, empty_label, invalid_label, sibling_order, no_value_no_child, too_few_values, trailing_bytes, too_many_values, number, value_marks, IsLastUpTo, IsDue, IsFaulty}
@@ -33,7 +34,7 @@ module _ (item : List ℕ → Type 0) (n left : ℕ) (before : List Record) (due
   breaks_fault read count same invalid_label b = b
   breaks_fault read count same sibling_order b =
       let sibling = after_given item n before due waiting read b.0 b.1 in
-      (sibling.0, subst (λ d. IsLastUpTo before d sibling.0) (sym same) sibling.1, sibling.2 ∙ sym same, λ ordered. b.2 (subst (λ l. IsBefore item l r.label) sibling.3 ordered))
+      (sibling.0, subst (λ d. IsLastUpTo before d sibling.0) (sym same) sibling.1, sibling.2 ∙ sym same, λ ordered. b.2 (subst (λ l. ComparesFirst item l r.label Less) sibling.3 ordered))
   breaks_fault read count same no_value_no_child b = (λ none. b.0 (let first = first_due item n before due waiting read none in first.0), b.1, b.2)
   breaks_fault read count same too_few_values b = omega (arith, count, marks_more before r, mark_counts r.value b.0, b.1)
   breaks_fault read count same trailing_bytes b = b

@@ -13,6 +13,7 @@ use Rattle.patricia_rows.proofs.MeetingLemmas.{before_by_first_byte}
 use Rattle.patricia_wire_laws.specs.Records.{Record, Spells, clean_spelling, clean_spellings}
 use Rattle.patricia_wire_laws.specs.Private.Readings.{Due, due_behind, IsRead, nothing, one_more, Breaks}
 use Rattle.patricia_wire_laws.specs.Faults.{Fault, truncated, level, root_label, root_sibling, empty_label, invalid_label, sibling_order, no_value_no_child, too_few_values, trailing_bytes, too_many_values, number, value_marks, Reads, IsFirst}
+use Rattle.patricia_wire_laws.proofs.Orders.{before_compares}
 use Rattle.patricia_wire_laws.proofs.ReadingsFaults.{faulty, faultless}
 use Rattle.patricia_wire_laws.proofs.ReadingsFirst.{first_in_record}
 use Rattle.patricia_wire_laws.proofs.TestedRows.{are_bytes, byte_valid, either, filled_of, has_room, byte_room, byte_rooms}
@@ -113,7 +114,7 @@ module _ (item : List ℕ → Type 0) (tests : LabelTests item) where
     | inr some ↦ some_is r.label some b.1
   ]
   kept due left r invalid_label test b = (let right = tests.is_valid in b (right r.label test))
-  kept due left r sibling_order test b = (let right = tests.is_ordered in b.2 (right b.0 r.label (subst (λ o. follows tests.ordered o r.label ≡ true) b.1 test)))
+  kept due left r sibling_order test b = (let right = tests.is_ordered in b.2 (before_compares item b.0 r.label (right b.0 r.label (subst (λ o. follows tests.ordered o r.label ≡ true) b.1 test))))
   kept due left r no_value_no_child test b = elim (either (nat_eq due.level 0) (r.value || r.child) test) [
     | inl root ↦ b.0 (eqb-true due.level 0 root)
     | inr marked ↦ elim (either r.value r.child marked) [

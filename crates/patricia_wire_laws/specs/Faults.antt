@@ -1,7 +1,7 @@
 -- The faults of an input, as conditions on the records that it begins with.
 use Rattle.std.specs.Prelude.{◌≡◌, ◌≢◌, ◌⊎◌, ℕ, ◌+◌, ◌<◌, ◌≤◌, true, false, List, [], ◌∷◌, ◌++◌, length, All, sum_by, slice_index}
-use Rattle.patricia_keys.specs.Keys.{IsValid}
-use Rattle.patricia_rows.specs.Rows.{IsBefore}
+use Rattle.std.specs.declared.cmp.Ordering.TheVariants.{Less}
+use Rattle.patricia_keys.specs.Keys.{IsValid, ComparesFirst}
 use Rattle.patricia_wire_laws.specs.Records.{Record, Spells, SpellAll, where_set}
 use Rattle.patricia_wire_laws.specs.Forests.{Root}
 
@@ -83,8 +83,8 @@ IsCutShort w rest = (length rest < 2 + w) ⊎ (length rest < 2 + w + slice_index
 
 module _ (item : List ℕ → Type 0) where
   -- the record r, behind these records and with n values, breaks the rule that the fault names;
-  -- three faults are of no record. Labels without a first item are not in order; that they are
-  -- empty or not valid is a fault that comes before this one
+  -- three faults are of no record. A label is out of order where the first item of the label before
+  -- is not less than its own; no item is less than any item
   abbrev pub IsFaulty : List Record → Record → ℕ → Fault → Type 0
   IsFaulty before r n truncated = ⊥
   IsFaulty before r n level = IsDue before r.level → ⊥
@@ -94,7 +94,7 @@ module _ (item : List ℕ → Type 0) where
   IsFaulty before r n invalid_label = IsValid item r.label → ⊥
   IsFaulty before r n sibling_order =
       (x : Record) × IsLastUpTo before r.level x × (x.level ≡ r.level)
-      × (IsBefore item x.label r.label → ⊥)
+      × (ComparesFirst item x.label r.label Less → ⊥)
   IsFaulty before r n no_value_no_child =
       (before ≢ []) × (r.value ≡ false) × (r.child ≡ false)
   IsFaulty before r n too_few_values = n < value_marks (before ++ (r ∷ []))

@@ -1,5 +1,5 @@
 -- What the laws of the wire form say, each in one sentence.
-use Rattle.std.specs.Prelude.{◌≡◌, ◌↔◌, ◌⊎◌, ℕ, List, length, All}
+use Rattle.std.specs.Prelude.{◌≡◌, ◌↔◌, ◌⊎◌, ℕ, ◌<◌, List, length, All}
 use Rattle.std.specs.FinMap as map
 use Rattle.patricia_keys.specs.Keys.{IsValid, key_cmp}
 use Rattle.patricia_rows.specs.Rows.{keys_of}
@@ -100,6 +100,24 @@ module _ (item : List ℕ → Type 0) where
   HasNoFirstFaultWhereMeant V =
       (w : ℕ) (b : List ℕ) (values : List V) (M : List (List ℕ × V)) (f : Fault) (o : ℕ)
       → Means item w b values M → IsFirst item w b (length values) f o → ⊥
+
+  -- of each list of bytes it can be told whether it is a valid key
+  abbrev pub TellsValid : Type 0
+  TellsValid = (l : List ℕ) → IsValid item l ⊎ (IsValid item l → ⊥)
+
+  -- bytes and values mean rows, or one of the faults is the first to stand in them
+  abbrev pub MeansOrHasFirstFault : Type 0 → Type 0
+  MeansOrHasFirstFault V =
+      (w : ℕ) (b : List ℕ) (values : List V) → All (λ x. x < 256) b
+      → ((M : List (List ℕ × V)) × Means item w b values M)
+      ⊎ ((f : Fault) × (o : ℕ) × IsFirst item w b (length values) f o)
+
+  -- no bytes and values are without rows and without a first fault
+  abbrev pub NeverLacksBoth : Type 0 → Type 0
+  NeverLacksBoth V =
+      (w : ℕ) (b : List ℕ) (values : List V) → All (λ x. x < 256) b
+      → ((M : List (List ℕ × V)) → Means item w b values M → ⊥)
+      → ((f : Fault) (o : ℕ) → IsFirst item w b (length values) f o → ⊥) → ⊥
 
   -- the tree bytes of rows, with the values of the rows in turn, mean these rows and no others
   abbrev pub ReadsBack : Type 0 → Type 0

@@ -1,8 +1,11 @@
 //! Laws of the wire form that hold for every key kind and every width of levels, as contracts of
 //! functions that do nothing.
+ghost use Rattle.patricia_keys.specs.ByteKind.{IsByteItem};
+ghost use Rattle.patricia_keys.specs.TextKind.{IsTextItem};
 ghost use Rattle.patricia_wire_laws.specs.WireLaws.{HasOneWriting, HasOneKeySet, HasOneMeaning, MeansMap, WritingMeansRows, IsWrittenOrTooDeep, IsNeverBoth};
 ghost use Rattle.patricia_wire_laws.specs.WireLaws.{CountsFronts, CountsPoints, HasFewRecords, HasOneTightTree, HasOneKeyList, HoldsKeysOfMap};
 ghost use Rattle.patricia_wire_laws.specs.WireLaws.{HasOneFirstFault, HasNoFaultWhereMeant, HasNoFirstFaultWhereMeant};
+ghost use Rattle.patricia_wire_laws.specs.WireLaws.{TellsValid, MeansOrHasFirstFault, NeverLacksBoth};
 ghost use Rattle.patricia_wire_laws.specs.WireLaws.{ReadsBack, TellsKeySets, DependsOnKeysAlone};
 
 use patricia_keys::Bytes;
@@ -81,4 +84,21 @@ pub fn tree_bytes_read_back<K: Bytes, V>()
 /// memory alone.
 pub fn meant_is_never_faulty<K: Bytes, V>()
     ensures { HasNoFirstFaultWhereMeant K.item V }
+{}
+
+/// Whatever bytes and values are given, they mean rows or have a first fault: none lack both. Where
+/// it can be told whether a label is valid, it can be told which of the two it is.
+pub fn meant_or_faulty<K: Bytes, V>()
+    ensures never_neither { NeverLacksBoth K.item V }
+    ensures told { TellsValid K.item → MeansOrHasFirstFault K.item V }
+{}
+
+/// For the keys of byte strings bytes and values mean rows or have a first fault.
+pub fn meant_or_faulty_bytes<V>()
+    ensures { MeansOrHasFirstFault IsByteItem V }
+{}
+
+/// For the keys of texts bytes and values mean rows or have a first fault.
+pub fn meant_or_faulty_texts<V>()
+    ensures { MeansOrHasFirstFault IsTextItem V }
 {}

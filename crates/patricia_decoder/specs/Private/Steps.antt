@@ -1,6 +1,7 @@
 -- What the steps of the reader say.
 use Rattle.std.specs.Prelude.{◌≡◌, ◌≢◌, ◌⊎◌, ℕ, ◌+◌, ◌<◌, ◌≤◌, List, [], ◌∷◌, ◌++◌, length, drop, reverse, All, Option, Some, None}
-use Rattle.patricia_keys.specs.Keys.{IsValid}
+use Rattle.std.specs.declared.cmp.Ordering.TheVariants.{Less}
+use Rattle.patricia_keys.specs.Keys.{IsValid, ComparesFirst}
 use Rattle.patricia_rows.specs.Rows.{IsBefore}
 use Rattle.patricia_wire_laws.specs.Records.{Record, Spells}
 use Rattle.patricia_wire_laws.specs.Forests.{Root}
@@ -47,10 +48,10 @@ module _ (item : List ℕ → Type 0) where
   abbrev pub IsAfter : Due → Type 0
   IsAfter due = (l : List ℕ) → due.after ≡ Some l → IsValid item l × (l ≢ []) × (due.level ≢ 0)
 
-  -- a sibling's label does not come behind that of the sibling before it
+  -- the first item of the sibling before is not less than that of a sibling's label
   abbrev pub IsOutOfOrder : Due → List ℕ → Type 0
   IsOutOfOrder due label =
-      (l : List ℕ) × (due.after ≡ Some l) × (IsBefore item l label → ⊥)
+      (l : List ℕ) × (due.after ≡ Some l) × (ComparesFirst item l label Less → ⊥)
 
   -- a sibling's label comes behind that of the sibling before it
   abbrev pub IsInOrder : Due → List ℕ → Type 0

@@ -1,7 +1,7 @@
 -- What is due while records are read one after the other.
 use Rattle.std.specs.Prelude.{◌≡◌, ◌≢◌, ℕ, ◌+◌, Bool, true, false, List, [], ◌∷◌, ◌++◌, Option, Some, None}
-use Rattle.patricia_keys.specs.Keys.{IsValid}
-use Rattle.patricia_rows.specs.Rows.{IsBefore}
+use Rattle.std.specs.declared.cmp.Ordering.TheVariants.{Less}
+use Rattle.patricia_keys.specs.Keys.{IsValid, ComparesFirst}
 use Rattle.patricia_wire_laws.specs.Records.{Record}
 use Rattle.patricia_wire_laws.specs.Faults.{Fault, truncated, level, root_label, root_sibling, empty_label, invalid_label, sibling_order, no_value_no_child, too_few_values, trailing_bytes, too_many_values, IsFaulty}
 
@@ -44,7 +44,7 @@ module _ (item : List ℕ → Type 0) where
   Breaks due left r empty_label = (due.level ≢ 0) × (r.label ≡ [])
   Breaks due left r invalid_label = IsValid item r.label → ⊥
   Breaks due left r sibling_order =
-      (l : List ℕ) × (due.after ≡ Some l) × (IsBefore item l r.label → ⊥)
+      (l : List ℕ) × (due.after ≡ Some l) × (ComparesFirst item l r.label Less → ⊥)
   Breaks due left r no_value_no_child =
       (due.level ≢ 0) × (r.value ≡ false) × (r.child ≡ false)
   Breaks due left r too_few_values = (r.value ≡ true) × (left ≡ 0)

@@ -1,10 +1,10 @@
 use Rattle.std.proofs.Common.{◌≡◌, arith, refl, sym, ◌∙◌, [], ◌∷◌, true, false, Some}
 use Rattle.std.specs.declared.cmp.Ordering.TheVariants.{Less, Greater}
-use Rattle.patricia_keys.specs.Keys.{key_cmp}
+use Rattle.patricia_keys.specs.Keys.{ComparesFirst, key_cmp}
 use Rattle.patricia_keys.specs.ByteKind.{IsByteItem, one_byte}
 use Rattle.patricia_keys.specs.Private.ByteLaw.{byte_lawful}
 use Rattle.patricia_keys.proofs.KeyLemmas.{begins_same}
-use Rattle.patricia_rows.specs.Rows.{IsBefore}
+use Rattle.patricia_rows.proofs.GetLemmas.{compared_less}
 use Rattle.patricia_wire_laws.specs.Records.{Record}
 use Rattle.patricia_wire_laws.specs.Private.Readings.{Due, IsRead}
 use Rattle.patricia_wire_laws.specs.Faults.{Fault}
@@ -23,8 +23,9 @@ behind_b = record { level = 1; after = Some (98 ∷ []) }
 read : IsRead IsByteItem 2 (opened ∷ b ∷ []) (behind_b ∷ [])
 read = read_one IsByteItem byte_tests 2 2 (opened ∷ []) first_child [] b (opened_read IsByteItem 2) refl refl
 
-not_before : IsBefore IsByteItem (98 ∷ []) (97 ∷ []) → ⊥
-not_before x =
+not_before : ComparesFirst IsByteItem (98 ∷ []) (97 ∷ []) Less → ⊥
+not_before compared =
+    let x = compared_less IsByteItem (98 ∷ []) (97 ∷ []) (λ none. cc) (λ none. cc) compared in
     let first = begins_same IsByteItem byte_lawful x.first (98 ∷ []) (98 ∷ []) x.first_item (one_byte (omega arith)) x.first_begins ([], refl) in
     let second = begins_same IsByteItem byte_lawful x.second (97 ∷ []) (97 ∷ []) x.second_item (one_byte (omega arith)) x.second_begins ([], refl) in
     let greater : key_cmp (98 ∷ []) (97 ∷ []) ≡ Greater = refl in

@@ -1,4 +1,4 @@
-use Rattle.std.proofs.Common.{Err, sym, ap, subst, ◌≡◌, ◌∙◌}
+use Rattle.std.proofs.Common.{sym, ap, subst, ◌∙◌}
 use Rattle.std.specs.Prelude.{IfOk}
 use Rattle.std.specs.FinMap as map
 use Rattle.patricia_rows.specs.Rows.{keys_of}

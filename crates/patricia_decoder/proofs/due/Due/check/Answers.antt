@@ -4,7 +4,7 @@ use Rattle.patricia_wire_laws.specs.Records.{Record}
 use Rattle.patricia_wire_laws.specs.Faults.{empty_label, no_value_no_child, too_few_values}
 use Rattle.patricia_wire_laws.specs.Private.Readings.{Due}
 use Rattle.patricia_decoder.specs.Private.Steps.{BreaksFirst, BreaksLabel, BreaksNoneBelow, KeepsLabel}
-use Rattle.patricia_decoder.proofs.CheckLemmas.{handed_on, broken_label, kept_label, breaks_marks, kept_marks, breaks_values}
+use Rattle.patricia_decoder.proofs.CheckLemmas.{handed_on, broken_label, kept_label, breaks_marks, kept_marks, kept_rules, breaks_values}
 use Rattle.patricia_decoder.proofs.due.Due.check.Goals as goal
 
 pub check_label-requires-clause-filled : goal.check_label-requires-clause-filled
@@ -40,4 +40,16 @@ returns-then-record-left-clause-broken g c =
       names = λ end. refl;
       breaks = rw (sym c.record.view_is) (breaks_values g.K.Bytes.item due c.args.left r c.if-record-left.true);
       first = rw (sym c.self.view_is, sym c.record.view_is) (kept_marks g.K.Bytes.item due c.args.left r below c.if-self-record.false);
+    }
+
+pub returns-clause-kept : goal.returns-clause-kept
+returns-clause-kept g c =
+    let due : Due = record { level = c.self.inside.level; after = option_copied c.self.inside.after } in
+    let r : Record = record { level = c.record.inside.level; label = c.record.inside.label.now; value = c.record.inside.value; child = c.record.inside.child; sibling = c.record.inside.sibling } in
+    let label = ap (λ (r : Record). r.label) c.record.view_is in
+    let keeps = subst (KeepsLabel g.K.Bytes.item c.args.self.now) label c.in_ok-check_label.ensures.kept in
+    let below : BreaksNoneBelow g.K.Bytes.item due c.args.left r 9 = rw (c.self.view_is, c.record.view_is) (kept_label g.K.Bytes.item c.args.self.now c.args.left c.args.record.now (c.in_ok-check_place.ensures.kept c.args.left) keeps) in
+    record {
+      rules = rw (sym c.self.view_is, sym c.record.view_is) (kept_rules g.K.Bytes.item due c.args.left r (kept_marks g.K.Bytes.item due c.args.left r below c.if-self-record.false) c.if-record-left.false);
+      label = keeps;
     }

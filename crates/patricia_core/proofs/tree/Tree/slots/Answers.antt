@@ -1,0 +1,8 @@
+use Rattle.std.proofs.Common.{arith}
+use Rattle.patricia_core.proofs.PointNodes.{node_each}
+use Rattle.patricia_core.proofs.tree.Tree.slots.Goals as goal
+
+pub returns : goal.returns
+returns g c =
+    let nodes = node_each g.K.Bytes.item g.met.K.Bytes.lawful c.self.inside.value c.self.inside.slots c.self.invariant.whole c.self.invariant.tree.row_ok in
+    rw (← c.self.view_is) (nodes.0, nodes.1, omega (arith, nodes.2, c.slots.ensures))
