@@ -1,2 +1,3 @@
 mod CursorLemmas
 pub mod FoundLemmas
+mod LeftLemmas
