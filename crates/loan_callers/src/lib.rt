@@ -4,3 +4,4 @@
 pub mod cursors;
 pub mod kept;
 pub mod loans;
+pub mod loops;

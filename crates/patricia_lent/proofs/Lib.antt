@@ -1,3 +1,3 @@
 mod CursorLemmas
 pub mod FoundLemmas
-mod LeftLemmas
+pub mod LeftLemmas
