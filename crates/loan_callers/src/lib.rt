@@ -6,3 +6,4 @@ pub mod encodings;
 pub mod json;
 pub mod kept;
 pub mod loans;
+pub mod loops;

@@ -1,2 +1,3 @@
 mod CursorLemmas
 pub mod FoundLemmas
+pub mod LeftLemmas

@@ -1,3 +1,4 @@
+pub mod Left
 pub mod Lends
 pub mod Private
 pub mod Steps

@@ -1,5 +1,5 @@
 //! A cursor over the entries of a map.
-ghost use Rattle.std.specs.Prelude.{◌≡◌, ◌≢◌, None, Some, IfOk, OnOk, OnErr, IsSome, MatchOption};
+ghost use Rattle.std.specs.Prelude.{◌≡◌, ◌≢◌, ◌+◌, None, Some, IfOk, OnOk, OnErr, IsSome, MatchOption};
 ghost use Rattle.std.specs.Borrow.{sem};
 ghost use Rattle.std.specs.Option.{option_copied_mut, option_map};
 ghost use Rattle.patricia_rows.specs.Cursors.{last_value, next_key, next_row, stepped};
@@ -13,6 +13,7 @@ impl<'a, M: Drop, K: Bytes, V: Drop> Lent<'a, M, Cursor<K, V>>
 where
     Cursor<K, V>: GivesBack<M>,
 {
+    ghost use Rattle.patricia_lent.specs.Left.{left};
     ghost use Rattle.patricia_lent.specs.Lends.{lends_last};
     ghost use Rattle.patricia_lent.specs.Private.Nexts.{IsNext, lends_there};
     ghost use Rattle.patricia_lent.specs.Steps.{StepsWith, TakesNext};
@@ -25,6 +26,8 @@ where
         ensures home { self.new.home.ghost_name ≡ self.old.home.ghost_name }
         ensures key { IfOk result (λ key. option_map K.key key ≡ next_key self.old.at) }
         ensures stepped { OnOk result (self.new.at ≡ stepped self.old.at) }
+        ensures left { IfOk result (λ key. MatchOption key (left self.old.at ≡ 0)
+            (λ _. left self.old.at ≡ left self.new.at + 1)) }
         ensures unchanged { OnErr result (self.new.at ≡ self.old.at) }
         ensures only_left { OnErr result (next_row self.old.at ≢ None) }
     {
@@ -70,8 +73,9 @@ where
     /// Goes on to the next entry and lends its value beside a key of its own, or answers `None` at
     /// the end.
     ///
-    /// The error is want of memory, as for `advance`. The contract does not say what the map is
-    /// after the loan: those of `next_with`, and of `advance` and `value`, do.
+    /// The error is out of memory: there was a next entry. The contract says no more than what is
+    /// read: what the map is after an error, at the end or after the loan, those of `next_with`,
+    /// and of `advance` and `value`, say.
     pub fn next(&mut self) -> Result<Option<(K, &mut V)>, AllocError>
         ensures row { IfOk result (λ e. option_map (λ e. (K.key e.0, e.1.now)) e ≡ next_row self.old.at) }
         ensures only_left { OnErr result (next_row self.old.at ≢ None) }
@@ -92,6 +96,8 @@ where
         ensures ok { IfOk result (λ r. MatchOption r
             ((next_row self.old.at ≡ None) × (self.new.at ≡ self.old.at))
             (λ r. StepsWith F.FnOnce K.key f self.old.at r self.new.at)) }
+        ensures left { IfOk result (λ r. MatchOption r (left self.old.at ≡ 0)
+            (λ _. left self.old.at ≡ left self.new.at + 1)) }
         ensures unchanged { OnErr result (self.new.at ≡ self.old.at) }
         ensures only_left { OnErr result (next_row self.old.at ≢ None) }
     {

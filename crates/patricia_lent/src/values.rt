@@ -1,5 +1,5 @@
 //! A cursor over the values of a map.
-ghost use Rattle.std.specs.Prelude.{◌≡◌, ◌≢◌, ◌↔◌, None, Some, false, IfOk, OnOk, OnErr, IsSome, IsTrue, MatchOption};
+ghost use Rattle.std.specs.Prelude.{◌≡◌, ◌≢◌, ◌+◌, ◌↔◌, None, Some, false, IfOk, OnOk, OnErr, IsSome, IsTrue, MatchOption};
 ghost use Rattle.std.specs.Borrow.{sem};
 ghost use Rattle.std.specs.Option.{option_copied_mut, option_map};
 ghost use Rattle.patricia_rows.specs.Cursors.{last_value, next_key, next_row, next_value, stepped};
@@ -67,6 +67,7 @@ impl<'a, M: Drop, K: Bytes, V: Drop> Lent<'a, M, ValueCursor<K, V>>
 where
     ValueCursor<K, V>: GivesBack<M>,
 {
+    ghost use Rattle.patricia_lent.specs.Left.{left};
     ghost use Rattle.patricia_lent.specs.Lends.{lends_last_value};
     ghost use Rattle.patricia_lent.specs.Private.ValueLends.{lends_there};
     ghost use Rattle.patricia_lent.specs.Private.Nexts.{IsNextValue};
@@ -80,6 +81,8 @@ where
         ensures home { self.new.home.ghost_name ≡ self.old.home.ghost_name }
         ensures found { IfOk result (λ found. IsTrue found ↔ (next_row self.old.at ≢ None)) }
         ensures stepped { OnOk result (self.new.at ≡ stepped self.old.at) }
+        ensures left { IfOk result (λ found. IsTrue found → left self.old.at ≡ left self.new.at + 1) }
+        ensures none_left { IfOk result (λ found. found ≡ false → left self.old.at ≡ 0) }
         ensures unchanged { OnErr result (self.new.at ≡ self.old.at) }
         ensures only_left { OnErr result (next_row self.old.at ≢ None) }
     {
@@ -120,8 +123,9 @@ where
 
     /// Goes on to the next value and lends it, or answers `None` at the end.
     ///
-    /// The error is want of memory, as for `advance`. The contract does not say what the map is
-    /// after the loan: those of `next_with`, and of `advance` and `value`, do.
+    /// The error is out of memory: there was a next value. The contract says no more than what is
+    /// read: what the map is after an error, at the end or after the loan, those of `next_with`,
+    /// and of `advance` and `value`, say.
     pub fn next(&mut self) -> Result<Option<&mut V>, AllocError>
         ensures value { IfOk result (λ v. option_copied_mut v ≡ next_value self.old.at) }
         ensures only_left { OnErr result (next_row self.old.at ≢ None) }
@@ -142,6 +146,8 @@ where
         ensures ok { IfOk result (λ r. MatchOption r
             ((next_row self.old.at ≡ None) × (self.new.at ≡ self.old.at))
             (λ r. StepsWithValue F.FnOnce f self.old.at r self.new.at)) }
+        ensures left { IfOk result (λ r. MatchOption r (left self.old.at ≡ 0)
+            (λ _. left self.old.at ≡ left self.new.at + 1)) }
         ensures unchanged { OnErr result (self.new.at ≡ self.old.at) }
         ensures only_left { OnErr result (next_row self.old.at ≢ None) }
     {

@@ -23,6 +23,7 @@ pub use Rattle.patricia_core.specs.Refusals
 pub use Rattle.patricia_core.specs.TreeBytes
 pub use Rattle.patricia_core.specs.WireLaws
 pub use Rattle.patricia_core.specs.Writings
+pub use Rattle.patricia_lent.specs.Left
 pub use Rattle.patricia_lent.specs.Lends
 pub use Rattle.patricia_lent.specs.Steps
 pub use Rattle.patricia_json.specs.Pairs

@@ -36,10 +36,10 @@ impl<K: Bytes, V: Drop> GenericPatriciaMap<K, V> {
         }
     }
 
-    /// Lends the value of the longest key that is a beginning of the key, and hands that key out.
+    /// Lends the value of the longest key that is a prefix of the key, and hands that key out.
     ///
-    /// The contract does not say what the map is after the loan: that of
-    /// `with_longest_common_prefix_mut` does. It takes no memory.
+    /// The contract says no more than what is read: what the map is where there is no such key, or
+    /// after the loan, that of `with_longest_common_prefix_mut` says. It does not allocate.
     pub fn get_longest_common_prefix_mut<Q: BorrowedBytes<Owned = K>>(
         &mut self,
         key: Q,

@@ -1,6 +1,7 @@
-use Rattle.std.proofs.Common.{◌≡◌, ap}
+use Rattle.std.proofs.Common.{rules, ◌≡◌, ap}
 use Rattle.patricia_rows.specs.Cursors.{stepped, written}
 use Rattle.patricia_lent.specs.Private.Nexts.{IsNextValue}
+use Rattle.patricia_lent.proofs.LeftLemmas.{lent_value, none_left}
 use Rattle.patricia_lent.proofs.values.Lent+M+ValueCursor+K+V.next_with.Goals as goal
 
 pub returns-clause-ok : goal.returns-clause-ok
@@ -14,3 +15,12 @@ returns-clause-ok g c =
       met = c.f.ensures;
       put_in = ap (λ t. written t c.f.new.arg2) step;
     }
+
+pub returns-clause-left : goal.returns-clause-left
+returns-clause-left g c =
+    let next : IsNextValue c.args.self.now.at = c.in_ok-go_on.ensures.some c.if-not-branch.false in
+    let step : c.go_on.new.self.at ≡ stepped c.args.self.now.at = c.in_ok-go_on.ensures.stepped in
+    lent_value c.args.self.now.at c.go_on.new.self.at c.there-value.result.now c.f.new.arg2 (next.is_next _ (rw (← step) c.there-value.ensures.value)) step
+
+pub returns-then-not-branch-clause-left : goal.returns-then-not-branch-clause-left
+returns-then-not-branch-clause-left g c = none_left c.args.self.now.at (search rules)
