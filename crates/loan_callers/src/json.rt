@@ -12,7 +12,8 @@ use std::alloc::{AllocError, Global};
 
 /// A list of one number.
 pub fn one_number(alloc: Global, n: u64) -> Result<Vec<Value>, AllocError>
-    ensures { IfOk result (λ values. items_view values.items ≡ item (number (unsigned n)) no_items) }
+    ensures { IfOk result (λ values.
+        items_view values.items ≡ item (number (unsigned n)) no_items) }
 {
     let mut values = Vec::new(alloc);
     values.push(Value::from(n))?;
