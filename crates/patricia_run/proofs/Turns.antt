@@ -41,6 +41,11 @@ module _ {K : Type 0} (item : List ℕ → Type 0) (s : Spelling) (key_of : K �
   reply_alone old new said command reply is step =
       subst (λ (x : Said). AnswersFrom item s key_of old (x ∷ []) (reply_lines s key_of reply) new) is (reply ∷ [], (new, step, refl), sym (append-nil (reply_lines s key_of reply)))
 
+  -- what is written for a faulty line
+  pub fault_alone : (old : State ℕ) (said : Said) (fault : Fault) → Err fault ≡ said → AnswersFrom item s key_of old (said ∷ []) (fault_line fault) old
+  fault_alone old said fault is =
+      subst (λ (x : Said). AnswersFrom item s key_of old (x ∷ []) (fault_line fault) old) is ([], refl, sym (append-nil (fault_line fault)))
+
   module _ (input : List ℕ) where
     -- what may be written for a text of which some lines are left, behind what is written
     abbrev pub Completes : State ℕ → List (List ℕ) → List ℕ → Type 0
