@@ -110,6 +110,8 @@ def owner_in(head):
 
 def function_at(file, lines, number):
     """The function in which a line of a file stands, and whether the line is in its code."""
+    while number < len(lines) and lines[number - 1].lstrip().startswith('#['):
+        number += 1
     found = in_code = None
     module = file.removeprefix('src/').removesuffix('.rt')
     around = module.split('/')[-1]

@@ -38,6 +38,13 @@ module _ {V : Type 0} where
       at q true e = sym lacks ∙ get_tied nat_list_cmp_total m q k (is_equal (key_cmp q k) e)
       at q false e = get-insert nat_list_cmp_total m k v q ∙ ap (λ t. cond t (Some v) (get m q)) e
 
+  -- what is put in at a key, or taken out, where the key is known by an equation
+  pub at_key : (m n : FinMap key_cmp V) (k l : List ℕ) (v : V) → n ≡ insert m k v → k ≡ l → n ≡ insert m l v
+  at_key m n k l v is same = is ∙ ap (λ q. insert m q v) same
+
+  pub at_removal : (m n : FinMap key_cmp V) (k l : List ℕ) → n ≡ remove m k → k ≡ l → n ≡ remove m l
+  at_removal m n k l is same = is ∙ ap (λ q. remove m q) same
+
   pub keys_one : (m n : FinMap key_cmp V) (v : V) → m ≡ empty → n ≡ insert m a v → keys n ≡ a ∷ []
   keys_one m n v none first = ap (map (λ e. e.0)) (entries_put m n a v first ∙ ap (put key_cmp a v) (no_entries m none))
 

@@ -34,7 +34,6 @@ pub fn put<Q: BorrowedBytes, V: Drop>(
 }
 
 /// The keys a and b, put in one after the other.
-#[tactic(auto, using(crate::proofs::KeyListLemmas::keys_two))]
 pub fn in_order(alloc: Global) -> Result<PatriciaMap<u32>, AllocError>
     ensures { IfOk result (λ m. map.keys m ≡ (97 ∷ []) ∷ (98 ∷ []) ∷ []) }
 {
@@ -45,7 +44,6 @@ pub fn in_order(alloc: Global) -> Result<PatriciaMap<u32>, AllocError>
 }
 
 /// The same keys in another order, with other values, and with a further key for a while.
-#[tactic(auto, using(crate::proofs::KeyListLemmas::keys_after_removal))]
 pub fn after_removal(alloc: Global) -> Result<PatriciaMap<bool>, AllocError>
     ensures { IfOk result (λ m. map.keys m ≡ (97 ∷ []) ∷ (98 ∷ []) ∷ []) }
 {
@@ -58,7 +56,6 @@ pub fn after_removal(alloc: Global) -> Result<PatriciaMap<bool>, AllocError>
 }
 
 /// The key a alone.
-#[tactic(auto, using(crate::proofs::KeyListLemmas::keys_one))]
 pub fn alone(alloc: Global) -> Result<PatriciaMap<u32>, AllocError>
     ensures { IfOk result (λ m. map.keys m ≡ (97 ∷ []) ∷ []) }
 {
