@@ -1,5 +1,6 @@
 -- The keys of maps that a few calls made.
 use Rattle.std.proofs.Common.{◌≡◌, ℕ, Bool, true, false, cond, List, [], ◌∷◌, map, Some, None, refl, sym, ap, ◌∙◌}
+use Rattle.std.specs.Prelude.{Result, Ok, Err, IfOk}
 use Rattle.std.specs.FinMap.{FinMap, empty, insert, remove, get, keys, entries, len-entries, len-empty, get-empty, get-insert, get-remove, get_tied, entries-insert, same_map, put, nat_cmp-IsAntisymmetric, slice_cmp-IsAntisymmetric}
 use Rattle.std.specs.Cmp.Lexicographic.{nat_list_cmp_total}
 use Rattle.std.specs.declared.cmp.Ordering.{Ordering}
@@ -59,3 +60,11 @@ module _ {V : Type 0} where
 
   pub keys_after_removal : (m n o p q : FinMap key_cmp V) (v x y : V) → m ≡ empty → n ≡ insert m b v → o ≡ insert n a x → p ≡ insert o ab y → q ≡ remove p ab → keys q ≡ a ∷ b ∷ []
   keys_after_removal m n o p q v x y none first second third fourth = ap keys (fourth ∙ ap (λ r. remove r ab) third ∙ remove_new o ab y (lacks_ab m n o v x none first second)) ∙ keys_turned m n o v x none first second
+
+-- what follows of a value follows where it is returned
+pub where_ok : {A E : Type 0} (P Q : A → Type 0) (r : Result A E) → ((x : A) → P x → Q x) → IfOk r P → IfOk r Q
+where_ok P Q (Ok x) follows is = follows x is
+where_ok P Q (Err e) follows is = tt
+
+pub two_are_not_one : a ∷ b ∷ [] ≡ a ∷ [] → ⊥
+two_are_not_one same = cc
