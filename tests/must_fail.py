@@ -356,7 +356,9 @@ def doubt(words, edit, crate, goals):
     functions = edit.functions(crate)
     if not functions or not goals or not all(x.is_open for x in goals):
         return None
-    if {x.name for x in goals} & right_goals(words, crate, functions):
+    # a goal of several clauses is told clause by clause, or as one
+    whole = lambda names: {x.partition('-clause-')[0] for x in names}
+    if whole(x.name for x in goals) & whole(right_goals(words, crate, functions)):
         return None
     return '%s the right body has no goal of these names: %s' % (TO_READ, '; '.join(map(str, goals[:3])))
 
