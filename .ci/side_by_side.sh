@@ -4,7 +4,7 @@
 # a copy, by hard links, that has these crates alone, since rt proves each crate that crates.txt names.
 check_side_by_side() { # names of crates, with those on which they stand
     local top=$PWD room name status=0
-    room=$(mktemp -d -p .. side-by-side-XXXXXX) || return 2
+    room=$(mktemp -d -p .. --suffix=.side-by-side) || return 2
     mkdir "$room/crates"
     for name in "$@"; do
         grep -E "^$name( .*)?:" crates.txt >> "$room/crates.txt"

@@ -1,6 +1,5 @@
 -- The keys of maps that a few calls made.
 use Rattle.std.proofs.Common.{◌≡◌, ℕ, Bool, true, false, cond, List, [], ◌∷◌, map, Some, None, refl, sym, ap, ◌∙◌}
-use Rattle.std.specs.Prelude.{Result, Ok, Err, IfOk}
 use Rattle.std.specs.FinMap.{FinMap, empty, insert, remove, get, keys, entries, len-entries, len-empty, get-empty, get-insert, get-remove, get_tied, entries-insert, same_map, put, nat_cmp-IsAntisymmetric, slice_cmp-IsAntisymmetric}
 use Rattle.std.specs.Cmp.Lexicographic.{nat_list_cmp_total}
 use Rattle.std.specs.declared.cmp.Ordering.{Ordering}
@@ -31,7 +30,7 @@ module _ {V : Type 0} where
   entries_put : (m n : FinMap key_cmp V) (k : List ℕ) (v : V) → n ≡ insert m k v → entries n ≡ put key_cmp k v (entries m)
   entries_put m n k v is = ap entries is ∙ entries-insert nat_list_cmp_total m k v
 
-  -- a key that was put in where it was not, and taken out again, leaves no trace
+  -- a new key that is inserted and removed again leaves no trace
   remove_new : (m : FinMap key_cmp V) (k : List ℕ) (v : V) → get m k ≡ None → remove (insert m k v) k ≡ m
   remove_new m k v lacks = same_map nat_list_cmp_total (slice_cmp-IsAntisymmetric nat_cmp-IsAntisymmetric) (remove (insert m k v) k) m (λ q. get-remove nat_list_cmp_total (insert m k v) k q ∙ at q (eq_by_cmp key_cmp q k) refl)
     where
@@ -39,7 +38,7 @@ module _ {V : Type 0} where
       at q true e = sym lacks ∙ get_tied nat_list_cmp_total m q k (is_equal (key_cmp q k) e)
       at q false e = get-insert nat_list_cmp_total m k v q ∙ ap (λ t. cond t (Some v) (get m q)) e
 
-  -- what is put in at a key, or taken out, where the key is known by an equation
+  -- an insert at a key, or its removal, where the key is known by an equation
   pub at_key : (m n : FinMap key_cmp V) (k l : List ℕ) (v : V) → n ≡ insert m k v → k ≡ l → n ≡ insert m l v
   at_key m n k l v is same = is ∙ ap (λ q. insert m q v) same
 
@@ -60,11 +59,6 @@ module _ {V : Type 0} where
 
   pub keys_after_removal : (m n o p q : FinMap key_cmp V) (v x y : V) → m ≡ empty → n ≡ insert m b v → o ≡ insert n a x → p ≡ insert o ab y → q ≡ remove p ab → keys q ≡ a ∷ b ∷ []
   keys_after_removal m n o p q v x y none first second third fourth = ap keys (fourth ∙ ap (λ r. remove r ab) third ∙ remove_new o ab y (lacks_ab m n o v x none first second)) ∙ keys_turned m n o v x none first second
-
--- what follows of a value follows where it is returned
-pub where_ok : {A E : Type 0} (P Q : A → Type 0) (r : Result A E) → ((x : A) → P x → Q x) → IfOk r P → IfOk r Q
-where_ok P Q (Ok x) follows is = follows x is
-where_ok P Q (Err e) follows is = tt
 
 pub two_are_not_one : a ∷ b ∷ [] ≡ a ∷ [] → ⊥
 two_are_not_one same = cc

@@ -19,7 +19,7 @@ pub fn encode_both<K: Bytes, V: Drop, W: Drop>(
     Ok((bytes, second.tree_bytes()?))
 }
 
-/// Puts a value in at a key.
+/// Inserts a value at a key.
 pub fn put<Q: BorrowedBytes, V: Drop>(
     m: &mut GenericPatriciaMap<Q::Owned, V>,
     key: Q,
@@ -33,7 +33,7 @@ pub fn put<Q: BorrowedBytes, V: Drop>(
     }
 }
 
-/// The keys a and b, put in one after the other.
+/// The keys a and b, inserted one after the other.
 pub fn in_order(alloc: Global) -> Result<PatriciaMap<u32>, AllocError>
     ensures { IfOk result (λ m. map.keys m ≡ (97 ∷ []) ∷ (98 ∷ []) ∷ []) }
 {

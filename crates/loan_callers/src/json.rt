@@ -1,4 +1,4 @@
-//! The JSON of tree bytes and a value, by the words that `patricia_tree` hands on.
+//! The JSON of tree bytes and a value, in the words that `patricia_tree` re-exports.
 ghost use Rattle.std.specs.Prelude.{◌≡◌, Some, IfOk, string_bytes};
 ghost use Rattle.patricia_tree.specs.Pairs.{pair_data};
 ghost use Rattle.serde_json.specs.Data.{Items, number, unsigned, item, no_items};
