@@ -1,15 +1,15 @@
 -- Bytes mean at most one row for each two of them.
 use Rattle.std.proofs.Common.{ℕ, ◌+◌, ◌*◌, ◌≤◌, ◌≡◌, List, [], ◌∷◌, ◌++◌, Option, Some, None, length, is_some, cond, ap, sym, ◌∙◌, arith, length-append}
 use Rattle.std.proofs.lemmas.List.{length-map}
-use Rattle.patricia_rows.specs.Rows.{Row, end, node, prefixed, own, entries}
-use Rattle.patricia_wire_laws.specs.Records.{Record, SpellAll}
-use Rattle.patricia_wire_laws.specs.Writings.{Means}
-use Rattle.patricia_wire_laws.specs.Private.WrittenRows.{records_of}
-use Rattle.patricia_wire_laws.proofs.CountLemmas.{length-prefixed}
-use Rattle.patricia_wire_laws.proofs.RowTrees.{stands_tree}
+use Rattle.patricia_model.specs.Siblings.{Siblings, end, node, prefixed, own, entries}
+use Rattle.patricia_wire.specs.Records.{Record, EncodeAll}
+use Rattle.patricia_wire.specs.Writings.{Means}
+use Rattle.patricia_wire.specs.Internal.WrittenRows.{records_of}
+use Rattle.patricia_wire.proofs.CountLemmas.{length-prefixed}
+use Rattle.patricia_wire.proofs.RowTrees.{stands_tree}
 
 -- each record takes two bytes at least
-spelled_long : (w : ℕ) (R : List Record) (b : List ℕ) → SpellAll w R b → 2 * length R ≤ length b
+spelled_long : (w : ℕ) (R : List Record) (b : List ℕ) → EncodeAll w R b → 2 * length R ≤ length b
 spelled_long w [] b p = omega arith
 spelled_long w (r ∷ R) b p =
     let rest = spelled_long w R p.rest p.others in
@@ -23,10 +23,11 @@ module _ {V : Type 0} where
   own_few (Some x) = omega arith
 
   -- each entry has its node
-  entries_few : (d : ℕ) (row : Row V) → length (entries row) ≤ length (records_of d row)
+  entries_few : (d : ℕ) (row : Siblings V) → length (entries row) ≤ length (records_of d row)
   entries_few d end = omega arith
   entries_few d (node l v c s) = omega (arith, entries_few (d + 1) c, entries_few d s, own_few v, length-append (records_of (d + 1) c) (records_of d s), length-append (prefixed l (own v ++ entries c)) (entries s), length-prefixed l (own v ++ entries c), length-append (own v) (entries c))
 
+-- there are at most half as many values as bytes
 pub few_values : (item : List ℕ → Type 0) {V : Type 0} (w : ℕ) (b : List ℕ) (values : List V) (rows : List (List ℕ × V)) → Means item w b values rows → 2 * length values ≤ length b
 few_values item w b values rows m =
     let t = stands_tree item m.records _ m.root in

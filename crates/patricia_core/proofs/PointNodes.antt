@@ -3,15 +3,15 @@ use Rattle.std.proofs.Common.{◌≡◌, ℕ, ◌≤◌, List, ◌++◌, length,
 use Rattle.std.proofs.lemmas.List.{length-map}
 use Rattle.std.specs.FinMap as map
 use Rattle.patricia_keys.specs.Keys.{IsKeyKind}
-use Rattle.patricia_rows.specs.Rows.{paths, IsRow}
-use Rattle.patricia_rows.specs.Trees.{map_of}
-use Rattle.patricia_rows.specs.Points.{IsPoint}
-use Rattle.patricia_rows.proofs.PointLemmas.{paths_apart}
-use Rattle.patricia_rows.proofs.TreeLemmas.{tree_points}
-use Rattle.patricia_nodes.specs.declared.slots.Slots.{Slots}
-use Rattle.patricia_nodes.specs.Private.Plans.{Plan, Nil, Cell, row, size, plan_at, row_of, IsWhole}
+use Rattle.patricia_model.specs.Siblings.{paths, IsCanonical}
+use Rattle.patricia_model.specs.Trees.{map_of}
+use Rattle.patricia_model.specs.Points.{IsPoint}
+use Rattle.patricia_model.proofs.PointLemmas.{paths_apart}
+use Rattle.patricia_model.proofs.TreeLemmas.{tree_points}
+use Rattle.patricia_nodes.specs.declared.arena.NodeArena.{NodeArena}
+use Rattle.patricia_nodes.specs.Internal.Plans.{Plan, Nil, Cell, row, size, plan_at, siblings_of, IsWellFormed}
 use Rattle.patricia_nodes.proofs.SeekLemmas.{whole_plan}
-use Rattle.patricia_wire_laws.specs.Counts.{IsCount}
+use Rattle.patricia_wire.specs.Counts.{IsCount}
 
 module _ {V : Type 0} where
   -- each node has one path
@@ -19,8 +19,9 @@ module _ {V : Type 0} where
   path_each Nil = refl
   path_each (Cell id l v c s) = omega (arith, path_each c, path_each s, length-append (map (λ p. l ++ p) (paths (row c))) (paths (row s)), length-map (paths (row c)) (λ p. l ++ p))
 
-  pub node_each : (item : List ℕ → Type 0) → IsKeyKind item → (v : Option V) (s : Slots V) → IsWhole s → IsRow item (row_of s) → (n : ℕ) × IsCount (IsPoint item (map.keys (map_of v (row_of s)))) n × (n ≤ length s.nodes.items)
+  -- there is a node for each point of the keys
+  pub node_each : (item : List ℕ → Type 0) → IsKeyKind item → (v : Option V) (s : NodeArena V) → IsWellFormed s → IsCanonical item (siblings_of s) → (n : ℕ) × IsCount (IsPoint item (map.keys (map_of v (siblings_of s)))) n × (n ≤ length s.nodes.items)
   node_each item kind v s whole ok =
       let plan = whole_plan s whole in
       let fits = plan.fits in
-      (length (paths (row_of s)), record { counted = paths (row_of s); once = paths_apart item kind (row_of s) ok; exactly = tree_points item kind v (row_of s) ok; is = refl }, omega (arith, path_each (plan_at s.nodes.items s.root), fits))
+      (length (paths (siblings_of s)), record { counted = paths (siblings_of s); once = paths_apart item kind (siblings_of s) ok; exactly = tree_points item kind v (siblings_of s) ok; is = refl }, omega (arith, path_each (plan_at s.nodes.items s.root), fits))

@@ -1,15 +1,16 @@
-//! A tree that stands for a finite map, its walks, and a count of steps.
+//! A tree that stands for a finite map, its walks and iterators, and a count of steps.
 //!
-//! `patricia_tree` is the library to use. This crate is what it stands on.
+//! `patricia_tree` is the library to use. It depends on this crate.
 #![tactic(auto)]
 
+pub mod elements;
+pub mod entries;
+pub mod prefixes;
 pub mod tree;
 
-pub use patricia_cursors::cursor;
-pub use patricia_decoder::laws as refusal_laws;
+pub use patricia_codec::laws as refusal_laws;
 pub use patricia_keys::keys;
-pub use patricia_labels::{Steps, steps};
-pub use patricia_queries::{along, under};
-pub use patricia_rows::laws;
-pub use patricia_walks::{into_walk, walk};
-pub use patricia_wire_laws::{examples as wire_examples, laws as wire_laws};
+pub use patricia_model::laws;
+pub use patricia_nodes::{Steps, steps};
+pub use patricia_walks::{along, cursor, into_walk, under, walk};
+pub use patricia_wire::{examples as wire_examples, laws as wire_laws};

@@ -5,34 +5,28 @@ ghost use Rattle.std.specs.Option.{option_copied, option_copied_mut, option_map}
 ghost use Rattle.std.specs.FinMap as map;
 ghost use Rattle.std.specs.List.{All};
 ghost use Rattle.patricia_keys.specs.Keys.{AreSingle, Begins, IsValid};
-ghost use Rattle.patricia_rows.specs.Clones.{AreKept};
-ghost use Rattle.patricia_rows.specs.Points.{CountsVisits, IsPoint, Joins};
-ghost use Rattle.patricia_rows.specs.Prefixes.{along, longest, outside, under, IsReach};
-ghost use Rattle.patricia_rows.specs.Walks.{values_of};
-ghost use Rattle.patricia_wire_laws.specs.Counts.{IsCount};
-ghost use Rattle.patricia_wire_laws.specs.TreeBytes.{AreTreeBytes};
-ghost use Rattle.patricia_wire_laws.specs.Writings.{Means, TooDeep};
-ghost use Rattle.patricia_decoder.specs.Refusals.{IsRefusal};
+ghost use Rattle.patricia_model.specs.Clones.{ClonesAreSame};
+ghost use Rattle.patricia_model.specs.Points.{CountsVisits, IsPoint, Joins};
+ghost use Rattle.patricia_model.specs.Prefixes.{along, longest, outside, under, IsReach};
+ghost use Rattle.patricia_model.specs.Walks.{values_of};
+ghost use Rattle.patricia_wire.specs.Counts.{IsCount};
+ghost use Rattle.patricia_wire.specs.TreeBytes.{AreTreeBytes};
+ghost use Rattle.patricia_wire.specs.Writings.{Means, TooDeep};
+ghost use Rattle.patricia_codec.specs.Refusals.{IsRefusal};
 
 mod cursors;
 
-use patricia_copies::{copy, copy_value};
-pub use patricia_decoder::DecodeError;
-use patricia_decoder::{Decoded, decode};
-pub use patricia_encoder::WireError;
-use patricia_encoder::encode;
-use patricia_inserts::insert;
+pub use patricia_codec::{DecodeError, WireError};
+use patricia_codec::{Decoded, decode, encode};
+use patricia_edits::{copy, copy_value, insert, remove, split};
 use patricia_keys::{BorrowedBytes, Bytes};
-use patricia_labels::Steps;
-use patricia_loans::{find, value_at};
-pub use patricia_nodes::slots::Refused;
-use patricia_nodes::slots::Slots;
-use patricia_queries::along::{Along, AlongOwned};
-use patricia_queries::reach::reach;
-use patricia_queries::under::Under;
-use patricia_removals::remove;
-use patricia_splits::split;
+use patricia_nodes::Steps;
+use patricia_nodes::arena::NodeArena;
+pub use patricia_nodes::arena::Refused;
+use patricia_walks::along::{Along, AlongOwned};
 use patricia_walks::into_walk::IntoWalk;
+use patricia_walks::reach::reach;
+use patricia_walks::under::Under;
 use patricia_walks::walk::Walk;
 use std::alloc::{AllocError, Global};
 use std::marker::{Brand, Model, PhantomData};
@@ -46,7 +40,7 @@ pub struct Tree<K: Bytes, V> {
     // the value of the empty key
     value: Option<V>,
     // the nodes of the other keys
-    slots: Slots<V>,
+    arena: NodeArena<V>,
     // how many they are
     count: usize,
     kind: PhantomData<K>,
@@ -61,26 +55,26 @@ impl<K: Bytes, V> Model for Tree<K, V> {
 
     ghost coded = { map.code (coded_list coded_ℕ) V.code };
 
-    ghost use Rattle.patricia_rows.specs.Trees.{map_of};
-    ghost use Rattle.patricia_nodes.specs.Private.Plans.{row_of};
-    ghost use Rattle.patricia_core.specs.Private.Stores.{IsStored};
+    ghost use Rattle.patricia_model.specs.Trees.{map_of};
+    ghost use Rattle.patricia_nodes.specs.Internal.Plans.{siblings_of};
+    ghost use Rattle.patricia_core.specs.Internal.Stores.{IsStored};
 
-    ghost view = { λ t. map_of t.value (row_of t.slots) };
+    ghost view = { λ t. map_of t.value (siblings_of t.arena) };
 
-    ghost invariant = { λ t. IsStored K.item t.slots t.count };
+    ghost invariant = { λ t. IsStored K.item t.arena t.count };
 }
 
 impl<K: Bytes, V: Drop> Tree<K, V> {
-    ghost use Rattle.patricia_core.specs.Private.Loans.{lends_entry};
+    ghost use Rattle.patricia_core.specs.Internal.Loans.{lends_entry};
 
-    /// The empty tree. It takes no memory.
+    /// Makes an empty tree. Does not allocate.
     pub fn new(alloc: Global) -> Self
         ensures { result ≡ map.empty }
     {
         Tree {
             alloc,
             value: None,
-            slots: Slots::new(alloc),
+            arena: NodeArena::new(alloc),
             count: 0,
             kind: PhantomData,
         }
@@ -90,7 +84,7 @@ impl<K: Bytes, V: Drop> Tree<K, V> {
     pub fn slots(&self) -> usize
         ensures { (n : ℕ) × IsCount (IsPoint K.item (map.keys self.now)) n × (n ≤ result) }
     {
-        self.slots.slots()
+        self.arena.node_count()
     }
 
     /// The number of entries, that of the empty key included.
@@ -116,7 +110,7 @@ impl<K: Bytes, V: Drop> Tree<K, V> {
         ensures { self.new ≡ map.empty }
     {
         self.value = None;
-        self.slots.clear();
+        self.arena.clear();
         self.count = 0;
     }
 
@@ -135,7 +129,7 @@ impl<K: Bytes, V: Drop> Tree<K, V> {
         if key.is_empty() {
             self.value.as_ref()
         } else {
-            self.slots.get_counted(key, steps)
+            self.arena.get_counted(key, steps)
         }
     }
 
@@ -157,8 +151,7 @@ impl<K: Bytes, V: Drop> Tree<K, V> {
         self.get_from::<Q, Brand>(key, Blank::new(1))
     }
 
-    /// Puts a value in and answers the old one. The error is want of memory, and hands the value
-    /// back.
+    /// Inserts a value and returns the old one. The error is out of memory, and has the value.
     pub fn insert<Q: BorrowedBytes<Owned = K>>(
         &mut self,
         key: Q,
@@ -168,7 +161,7 @@ impl<K: Bytes, V: Drop> Tree<K, V> {
         ensures ok { OnOk result (self.new ≡ map.insert self.old (Q.key key) value) }
         ensures refused { IfErr result (λ r. r.value ≡ value) }
         ensures unchanged { OnErr result (self.new ≡ self.old) }
-        ensures only_filled { OnErr result (Q.key key ≢ []) }
+        ensures err_only_nonempty { OnErr result (Q.key key ≢ []) }
         ensures only_new { OnErr result (map.get self.old (Q.key key) ≡ None) }
     {
         if key.is_empty() {
@@ -177,7 +170,7 @@ impl<K: Bytes, V: Drop> Tree<K, V> {
         if self.count == usize::MAX - 1 && self.get(key).is_none() {
             return Err(Refused { value });
         }
-        match insert(&mut self.slots, self.alloc, key, value) {
+        match insert(&mut self.arena, self.alloc, key, value) {
             Ok(None) => {
                 self.count += 1;
                 Ok(None)
@@ -187,7 +180,7 @@ impl<K: Bytes, V: Drop> Tree<K, V> {
         }
     }
 
-    /// Lends the value at a key, or answers `None` where there is none.
+    /// Lends the value at a key, or returns `None` where there is none.
     pub fn get_mut<Q: BorrowedBytes<Owned = K>>(&mut self, key: Q) -> Option<&mut V>
         ensures* writes { sem 𝓛 (lends_entry K.row V.row K.Bytes self.entry (Q.key key) result) }
         ensures value { option_copied_mut result ≡ map.get self.old (Q.key key) }
@@ -195,14 +188,14 @@ impl<K: Bytes, V: Drop> Tree<K, V> {
         if key.is_empty() {
             return self.value.as_mut();
         }
-        match find(&self.slots, key) {
-            Some(id) => value_at(&mut self.slots, id),
+        match self.arena.find(key) {
+            Some(id) => self.arena.value_mut(id),
             None => None,
         }
     }
 
-    /// Takes a value out, or answers `None` where there is none. The error is want of memory for
-    /// a joined label.
+    /// Removes a key and returns its value, or `None` where there is none. The error is out of
+    /// memory for a joined label.
     pub fn remove<Q: BorrowedBytes<Owned = K>>(&mut self, key: Q) -> Result<Option<V>, AllocError>
         ensures old { IfOk result (λ old. old ≡ map.get self.old (Q.key key)) }
         ensures ok { OnOk result (self.new ≡ map.remove self.old (Q.key key)) }
@@ -212,7 +205,7 @@ impl<K: Bytes, V: Drop> Tree<K, V> {
         if key.is_empty() {
             return Ok(self.value.take());
         }
-        match remove(&mut self.slots, self.alloc, key) {
+        match remove(&mut self.arena, self.alloc, key) {
             Ok(Some(old)) => {
                 self.count -= 1;
                 Ok(Some(old))
@@ -222,46 +215,46 @@ impl<K: Bytes, V: Drop> Tree<K, V> {
         }
     }
 
-    /// The same entries in a tree of their own. The error is want of memory.
+    /// Returns a copy of the tree. The error is out of memory.
     pub fn clone(&self) -> Result<Self, AllocError>
     where
         V: Clone,
-        requires { AreKept V.is_clone (map.values self.now) }
+        requires { ClonesAreSame V.is_clone (map.values self.now) }
         ensures same { IfOk result (λ t. t ≡ self.now) }
-        ensures only_filled { OnErr result (map.len self.now ≢ 0) }
+        ensures err_only_nonempty { OnErr result (map.len self.now ≢ 0) }
     {
         let value = copy_value(&self.value)?;
         Ok(Tree {
             alloc: self.alloc,
             value,
-            slots: copy(&self.slots, self.alloc)?,
+            arena: copy(&self.arena, self.alloc)?,
             count: self.count,
             kind: PhantomData,
         })
     }
 
-    /// Takes out the entries whose key begins with a prefix, as a tree of their own. The error is
-    /// want of memory.
+    /// Removes the entries whose key begins with a prefix, and returns them as a tree. The error is
+    /// out of memory.
     pub fn split<Q: BorrowedBytes<Owned = K>>(&mut self, prefix: Q) -> Result<Self, AllocError>
         ensures taken { IfOk result (λ t.
             map.entries t ≡ under (Q.key prefix) (map.entries self.old)) }
         ensures left { OnOk result (
             map.entries self.new ≡ outside (Q.key prefix) (map.entries self.old)) }
         ensures unchanged { OnErr result (self.new ≡ self.old) }
-        ensures only_filled { OnErr result (Q.key prefix ≢ []) }
-        ensures only_begun { OnErr result (under (Q.key prefix) (map.entries self.old) ≢ []) }
+        ensures err_only_nonempty { OnErr result (Q.key prefix ≢ []) }
+        ensures err_only_if_matched { OnErr result (under (Q.key prefix) (map.entries self.old) ≢ []) }
     {
         if prefix.is_empty() {
             let empty = Tree::new(self.alloc);
             return Ok(mem::replace(self, empty));
         }
-        match split(&mut self.slots, self.alloc, prefix) {
+        match split(&mut self.arena, self.alloc, prefix) {
             Ok(taken) => {
                 self.count -= taken.count;
                 Ok(Tree {
                     alloc: self.alloc,
                     value: None,
-                    slots: taken.slots,
+                    arena: taken.arena,
                     count: taken.count,
                     kind: PhantomData,
                 })
@@ -282,14 +275,14 @@ impl<K: Bytes, V: Drop> Tree<K, V> {
     pub fn along<Q: BorrowedBytes<Owned = K>>(&self, key: Q) -> Along<'_, Q, V>
         ensures { result ≡ along (Q.key key) (map.entries self.now) }
     {
-        Along::new(self.value.as_ref(), &self.slots, key)
+        Along::new(self.value.as_ref(), &self.arena, key)
     }
 
     /// The values of the same entries, along an owned key.
     pub fn along_owned(&self, key: K) -> AlongOwned<'_, K, V>
         ensures { result ≡ values_of (along (K.key key) (map.entries self.now)) }
     {
-        AlongOwned::new(self.value.as_ref(), &self.slots, key)
+        AlongOwned::new(self.value.as_ref(), &self.arena, key)
     }
 
     /// The entry of the longest key that begins a key. The key handed out is a part of that key.
@@ -310,23 +303,23 @@ impl<K: Bytes, V: Drop> Tree<K, V> {
     pub fn reach<Q: BorrowedBytes<Owned = K>>(&self, key: Q) -> usize
         ensures { IsReach K.item (map.keys self.now) (Q.key key) result }
     {
-        reach(&self.slots, key)
+        reach(&self.arena, key)
     }
 
-    /// A walk over the entries whose key begins with a prefix. Making it takes no memory.
+    /// A walk over the entries whose key begins with a prefix. Making it does not allocate.
     pub fn under<Q: BorrowedBytes<Owned = K>>(&self, prefix: Q) -> Under<'_, Q, V>
         ensures { result ≡ under (Q.key prefix) (map.entries self.now) }
     {
-        Under::new(self.alloc, self.value.as_ref(), &self.slots, prefix)
+        Under::new(self.alloc, self.value.as_ref(), &self.arena, prefix)
     }
 
-    /// The written form of the keys, with levels in two bytes. The values are no part of it. The
-    /// error is want of memory, or that a record would lie deeper than two bytes can tell.
+    /// Returns the encoding of the keys, with levels in two bytes. The values are no part of it. The
+    /// error is out of memory, or that a record would lie deeper than two bytes can tell.
     pub fn tree_bytes(&self) -> Result<Vec<u8>, WireError>
         ensures ok { IfOk result (λ b. AreTreeBytes K.item 2 b.items (map.entries self.now)) }
         ensures too_deep { result ≡ Err WireError.TooDeep → TooDeep K.item 2 (map.keys self.now) }
     {
-        encode::<K, V>(self.alloc, &self.value, &self.slots)
+        encode::<K, V>(self.alloc, &self.value, &self.arena)
     }
 
     /// The tree of the rows that the bytes mean with the values, which are in key order. Where it is
@@ -336,34 +329,34 @@ impl<K: Bytes, V: Drop> Tree<K, V> {
         ensures refused { IfErr result (λ e. IsRefusal K.item 2 bytes.now (length values.items) e) }
     {
         let given = values.len();
-        let Decoded { value, slots } = decode::<K, V>(alloc, bytes, values)?;
+        let Decoded { value, arena } = decode::<K, V>(alloc, bytes, values)?;
         let count = if value.is_some() { given - 1 } else { given };
         Ok(Tree {
             alloc,
             value,
-            slots,
+            arena,
             count,
             kind: PhantomData,
         })
     }
 
-    /// A walk over the entries in key order. Making it takes no memory.
+    /// A walk over the entries in key order. Making it does not allocate.
     pub fn walk(&self) -> Walk<'_, K, V>
         ensures { result ≡ map.entries self.now }
     {
-        Walk::new(self.alloc, self.value.as_ref(), &self.slots)
+        Walk::new(self.alloc, self.value.as_ref(), &self.arena)
     }
 
-    /// A walk that takes the entries out, in key order. Making it takes no memory.
+    /// A walk that moves the entries out, in key order. Making it does not allocate.
     pub fn into_walk(self) -> IntoWalk<K, V>
         ensures { result ≡ map.entries self }
     {
         let Tree {
             alloc,
             value,
-            slots,
+            arena,
             ..
         } = self;
-        IntoWalk::new(alloc, value, slots)
+        IntoWalk::new(alloc, value, arena)
     }
 }

@@ -20,6 +20,7 @@ pub numbers_have_no_float : (bs : List ℕ) → items_have_float (numbers_of bs)
 numbers_have_no_float [] = refl
 numbers_have_no_float (b ∷ bs) = numbers_have_no_float bs
 
+-- numbers are not nested
 pub numbers_depth : (bs : List ℕ) → items_depth (numbers_of bs) ≡ 0
 numbers_depth [] = refl
 numbers_depth (b ∷ bs) = omega (arith, numbers_depth bs)
@@ -29,6 +30,7 @@ pub pair_has_no_float : (bs : List ℕ) (values : Items) → items_have_float va
     → has_float (pair_data bs values) ≡ false
 pair_has_no_float bs values h = rw (numbers_have_no_float bs, h) refl
 
+-- the array of two arrays is two deeper than the values
 pub pair_depth : (bs : List ℕ) (values : Items) → items_depth values ≤ 100
     → depth (pair_data bs values) ≤ 127
 pair_depth bs values h = omega (arith, numbers_depth bs)
@@ -67,6 +69,7 @@ two_long (x ∷ []) a b h = cc
 two_long (x ∷ y ∷ []) a b h = refl
 two_long (x ∷ y ∷ z ∷ vs) a b h = cc
 
+-- what an array of two arrays holds
 pub two_are : (vs ws : List Value) (a b : Value)
     → length vs ≡ 2 → b ≡ get_or vs 1 b → ws ≡ remove vs 1 → a ≡ get_or ws 0 a
     → items_view vs ≡ item (view a) (item (view b) no_items)

@@ -24,15 +24,18 @@ AreItems-singles : (k : List ℕ) → AreBytes k → AreItems IsByteItem (single
 AreItems-singles [] h = tt
 AreItems-singles (b ∷ k) h = (one_byte (h 0 (omega arith)), AreItems-singles k (λ i l. h (suc i) (omega arith)))
 
+-- each list of bytes is a valid byte key
 pub byte_valid : (k : List ℕ) → AreBytes k → IsValid IsByteItem k
 byte_valid k h = (singles k, AreItems-singles k h, concat-singles k)
 
 byte_valid_front : (k : List ℕ) (n : ℕ) → AreBytes k → IsValid IsByteItem (take n k)
 byte_valid_front k n h = byte_valid (take n k) (λ i l. let short = length-take n k in let same = get_or-take n k i 0 (omega arith) in rw same (h i (omega arith)))
 
+-- all of a byte list is its longest valid prefix
 pub byte_floor : (k : List ℕ) → AreBytes k → IsFloor IsByteItem k (length k)
 byte_floor k h = record { within = omega arith; valid = byte_valid_front k _ h; greatest = λ m l v. l }
 
+-- two byte lists have in common what they share at the front
 pub byte_common : (a b : List ℕ) (n : ℕ) → AreBytes a → IsSharedLen a b n → IsCommon IsByteItem a b n
 byte_common a b n h s =
     let short = length-take n a in
@@ -40,9 +43,10 @@ byte_common a b n h s =
 
 -- the first byte is the first item
 pub byte_first : (k : List ℕ) → AreBytes k → false ≡ (length k == 0) → IsFirstItem IsByteItem k (take 1 k)
-byte_first [] h filled = absurd (cc)
-byte_first (b ∷ k) h filled = inr (one_byte (h 0 (omega arith)), (k, refl))
+byte_first [] h nonempty = absurd (cc)
+byte_first (b ∷ k) h nonempty = inr (one_byte (h 0 (omega arith)), (k, refl))
 
+-- an empty key has an empty first item
 pub byte_first_none : (k : List ℕ) → true ≡ (length k == 0) → IsFirstItem IsByteItem k k
 byte_first_none [] none = inl (refl, refl)
 byte_first_none (b ∷ k) none = absurd (grind (arith, nat_tests))

@@ -22,6 +22,7 @@ begins_either (c ∷ a) (d ∷ b) x y e =
       | inr r ↦ inr (r.0, cc (r.1))
     ]
 
+-- a prefix of a prefix is a prefix
 pub Begins-trans : (a b c : List ℕ) → Begins a b → Begins b c → Begins a c
 Begins-trans a b c (x, e) (y, f) = (x ++ y, sym (append_assoc a x y) ∙ ap (λ l. l ++ y) e ∙ f)
 
@@ -31,9 +32,11 @@ agrees a b n m within below (rest, e) =
     let short = length-take m a in
     sym (get_or-take m a n 0 below) ∙ sym (get_or_append_left (take m a) rest 0 n (omega arith)) ∙ ap (λ l. get_or l n 0) e
 
+-- a key is equal to itself
 pub key_cmp-same : (a : List ℕ) → key_cmp a a ≡ Equal
 key_cmp-same a = tied_itself nat_list_cmp_total a
 
+-- no key is less than itself
 pub key_cmp-irreflexive : (a b : List ℕ) → a ≡ b → key_cmp a b ≡ Less → ⊥
 key_cmp-irreflexive a b same less = let tie = key_cmp-same a in let less' : key_cmp a a ≡ Less = rw (← same) at less in cc
 
@@ -48,31 +51,30 @@ concat-append [] js = refl
 concat-append (i ∷ is) js = ap (λ r. i ++ r) (concat-append is js) ∙ sym (append_assoc i (concat is) (concat js))
 
 module _ (item : List ℕ → Type 0) where
-  -- there is one common length
-  pub IsCommon-unique : (q b : List ℕ) (n m : ℕ) → IsCommon item q b n → IsCommon item q b m → n ≡ m
-  IsCommon-unique q b n m x y = omega (arith, x.greatest m y.within y.valid y.begins, y.greatest n x.within x.valid x.begins)
-
   AreItems-append : (is js : List (List ℕ)) → AreItems item is → AreItems item js → AreItems item (is ++ js)
   AreItems-append [] js a b = b
   AreItems-append (i ∷ is) js a b = (a.0, AreItems-append is js a.1 b)
 
+  -- the empty key is valid
   pub IsValid-nil : IsValid item []
   IsValid-nil = ([], tt, refl)
 
+  -- valid keys joined are valid
   pub IsValid-append : (a b : List ℕ) → IsValid item a → IsValid item b → IsValid item (a ++ b)
   IsValid-append a b v w = (v.0 ++ w.0, AreItems-append v.0 w.0 v.1 w.1, concat-append v.0 w.0 ∙ ap (λ l. l ++ concat w.0) v.2 ∙ ap (λ l. a ++ l) w.2)
 
+  -- an item is a valid key
   pub IsValid-item : (i : List ℕ) → item i → IsValid item i
   IsValid-item i p = (i ∷ [], (p, tt), append-nil i)
 
   -- the first item of a key, and the key that is left
   pub first_of : (k : List ℕ) → IsValid item k → k ≢ [] → (i : List ℕ) × (item i) × Begins i k
-  first_of k ([], ok, e) filled = absurd (filled (sym e))
-  first_of k (i ∷ is, ok, e) filled = (i, ok.0, (concat is, e))
+  first_of k ([], ok, e) nonempty = absurd (nonempty (sym e))
+  first_of k (i ∷ is, ok, e) nonempty = (i, ok.0, (concat is, e))
 
   module _ (kind : IsKeyKind item) where
-    pub item-filled : (i : List ℕ) → item i → i ≢ []
-    item-filled i ok e = let sized = kind.sized i ok in let none = ap length e in omega arith
+    pub item-nonempty : (i : List ℕ) → item i → i ≢ []
+    item-nonempty i ok e = let sized = kind.sized i ok in let none = ap length e in omega arith
 
     -- two items that begin one list are one
     pub items_same : (i j x y : List ℕ) → item i → item j → i ++ x ≡ j ++ y → i ≡ j
@@ -81,6 +83,7 @@ module _ (item : List ℕ → Type 0) where
       | inr r ↦ let none = kind.apart j r.0 q (rw r.1 p) in sym r.1 ∙ ap (λ l. j ++ l) none ∙ append-nil j
     ]
 
+    -- two items that begin one list are one item
     pub begins_same : (i j k : List ℕ) → item i → item j → Begins i k → Begins j k → i ≡ j
     begins_same i j k p q a b = items_same i j a.0 b.0 p q (a.1 ∙ sym b.1)
 
@@ -96,7 +99,7 @@ module _ (item : List ℕ → Type 0) where
     valid_rest_of : (is js : List (List ℕ)) (b : List ℕ) → AreItems item is → AreItems item js → concat js ≡ concat is ++ b → IsValid item b
     valid_rest_of [] js b p q e = (js, q, e)
     valid_rest_of (i ∷ is) [] b p q e =
-        absurd (item-filled i p.0 (let sized = kind.sized i p.0 in let whole = ap length e in let cut = length-append (i ++ concat is) b in let cut' = length-append i (concat is) in absurd (omega arith)))
+        absurd (item-nonempty i p.0 (let sized = kind.sized i p.0 in let whole = ap length e in let cut = length-append (i ++ concat is) b in let cut' = length-append i (concat is) in absurd (omega arith)))
     valid_rest_of (i ∷ is) (j ∷ js) b p q e =
         let e' : j ++ concat js ≡ i ++ (concat is ++ b) = e ∙ append_assoc i (concat is) b in
         let same = items_same j i _ _ q.0 p.0 e' in

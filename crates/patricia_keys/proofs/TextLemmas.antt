@@ -20,6 +20,7 @@ valid_chars (c ∷ cs) h =
     let rest = valid_chars cs (second_so (scalar c) (scalars cs) h) in
     (encode c ∷ rest.0, (one_char c (first_so (scalar c) (scalars cs) h) refl, rest.1), ap (λ r. encode c ++ r) rest.2)
 
+-- UTF-8 is a valid text key
 pub text_valid : (k : List ℕ) → IsUtf8 k → IsValid IsTextItem k
 text_valid k u = subst (IsValid IsTextItem) u.1.1 (valid_chars u.0 u.1.0)
 
@@ -30,12 +31,15 @@ items_utf8 : (is : List (List ℕ)) → AreItems IsTextItem is → IsUtf8 (conca
 items_utf8 [] h = IsUtf8-nil
 items_utf8 (i ∷ is) h = IsUtf8-append i (concat is) (item_utf8 i h.0) (items_utf8 is h.1)
 
+-- a valid text key is UTF-8
 pub valid_text : (k : List ℕ) → IsValid IsTextItem k → IsUtf8 k
 valid_text k v = subst IsUtf8 v.2 (items_utf8 v.0 v.1)
 
+-- all of a text is its longest valid prefix
 pub text_floor : (k : List ℕ) → IsUtf8 k → IsFloor IsTextItem k (length k)
 text_floor k u = record { within = omega arith; valid = rw (take_all (length k) k (omega arith)) (text_valid k u); greatest = λ m l v. l }
 
+-- std says how far bytes are UTF-8: that is their longest valid prefix
 pub text_floor_up_to : (k : List ℕ) (n : ℕ) → IsValidUpTo k n → IsFloor IsTextItem k n
 text_floor_up_to k n u = record {
   within = omega (arith, u.short);
@@ -43,6 +47,7 @@ text_floor_up_to k n u = record {
   greatest = λ m l v. elim (cases_lt n m) [ inl lt ↦ absurd (u.longest m lt (valid_text (take m k) v)) | inr le ↦ le ];
 }
 
+-- std's test of UTF-8 tells whether bytes are a valid text key
 pub text_tests : {A E : Type 0} (P : A → Type 0) (Q : E → Type 0) (k : List ℕ) (r : Result A E) → MatchResult r (λ s. P s × IsUtf8 k) (λ e. ¬ (IsUtf8 k) × Q e) → (IsTrue (is_ok r) → IsValid IsTextItem k) × (IsValid IsTextItem k → IsTrue (is_ok r))
 text_tests P Q k (Ok x) h = (λ _. text_valid k h.1, λ _. refl)
 text_tests P Q k (Err e) h = (λ no. absurd (cc), λ v. absurd (h.0 (valid_text k v)))
@@ -88,7 +93,7 @@ first_tells c scalar = single (ltb c 128) refl
 
 -- the bytes of the first character are the first item
 pub text_first : (k : List ℕ) (n : ℕ) → IsValid IsTextItem k → 0 < length k → ((c : ℕ) → IsScalar c → get_or (encode c) 0 0 ≡ get_or k 0 0 → n ≡ len_utf8 c) → (n ≤ length k) × IsFirstItem IsTextItem k (take n k)
-text_first k n v filled tells = by (first_of IsTextItem k v (λ none. let empty = ap length none in omega arith))
+text_first k n v nonempty tells = by (first_of IsTextItem k v (λ none. let empty = ap length none in omega arith))
   where
     by : (i : List ℕ) × (IsTextItem i) × Begins i k → (n ≤ length k) × IsFirstItem IsTextItem k (take n k)
     by (i, one_char c ok e, begun) =

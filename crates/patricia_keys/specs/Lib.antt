@@ -1,4 +1,4 @@
 pub mod ByteKind
 pub mod Keys
-pub mod Private
+pub mod Internal
 pub mod TextKind

@@ -26,7 +26,7 @@ pub trait Bytes: Drop {
     fn is_valid_bytes(bytes: &[u8]) -> bool
         ensures { IsTrue result ↔ IsValid item bytes.now };
 
-    /// Makes a key of bytes that are valid. The error is want of memory.
+    /// Makes a key of bytes that are valid. The error is out of memory.
     fn from_bytes(alloc: Global, bytes: &[u8]) -> Result<Self, AllocError>
         requires { IsValid item bytes.now }
         ensures { IfOk result (λ k. key k ≡ bytes.now) };

@@ -1,6 +1,6 @@
 //! Key kinds: byte strings and texts, as lists of whole items.
 //!
-//! `patricia_tree` is the library to use. This crate is what it stands on.
+//! `patricia_tree` is the library to use. It depends on this crate.
 #![tactic(auto)]
 
 pub mod keys;

@@ -2,21 +2,21 @@
 use Rattle.std.proofs.Common.{◌≡◌, ◌≢◌, ℕ, suc, ◌+◌, ◌<◌, ◌≤◌, List, [], ◌∷◌, ◌++◌, length, Option, Some, None, slice_get, refl, sym, ap, ◌∙◌, arith, length-append, length-set}
 use Rattle.std.proofs.lemmas.List.{append_assoc, append-nil}
 use Rattle.std.proofs.lemmas.Option.{slice_get_within}
-use Rattle.patricia_nodes.specs.declared.slots.Node.{Node}
-use Rattle.patricia_nodes.specs.declared.slots.Slots.{Slots}
-use Rattle.patricia_nodes.specs.Private.Plans.{Plan, Nil, Cell, linked, head, one, times}
-use Rattle.patricia_nodes.specs.Private.Growth.{tops, numbered, laid, RowStands, IsTopRow, Takes, TakesRow}
-use Rattle.patricia_nodes.specs.Private.Writes.{Frees}
+use Rattle.patricia_nodes.specs.declared.arena.Node.{Node}
+use Rattle.patricia_nodes.specs.declared.arena.NodeArena.{NodeArena}
+use Rattle.patricia_nodes.specs.Internal.Plans.{Plan, Nil, Cell, linked, head, one, times}
+use Rattle.patricia_nodes.specs.Internal.Growth.{tops, numbered_siblings, laid, RowStands, IsTopRow, TakesNodes, TakesRow}
+use Rattle.patricia_nodes.specs.Internal.Writes.{Frees}
 use Rattle.patricia_nodes.proofs.PlanLemmas.{one-same}
 use Rattle.patricia_nodes.proofs.WriteLemmas.{get-set_same, get-set_other, chain-keep}
 
 module _ {V : Type 0} where
   -- nothing is taken
-  pub takes_none : (s : Slots V) → Takes s s (λ i. 0) 0
+  pub takes_none : (s : NodeArena V) → TakesNodes s s (λ i. 0) 0
   takes_none s = record { others = λ i z. refl; long = refl; root_is = refl; freed = λ spare free once. (spare, free, λ i. omega arith, omega arith) }
 
   -- the same, counted otherwise
-  pub takes_same : (old new : Slots V) (f g : ℕ → ℕ) (n m : ℕ) → ((i : ℕ) → f i ≡ g i) → n ≡ m → Takes old new f n → Takes old new g m
+  pub takes_same : (old new : NodeArena V) (f g : ℕ → ℕ) (n m : ℕ) → ((i : ℕ) → f i ≡ g i) → n ≡ m → TakesNodes old new f n → TakesNodes old new g m
   takes_same old new f g n m e k t = record {
     others = λ i z. t.others i (e i ∙ z);
     long = t.long;
@@ -27,7 +27,7 @@ module _ {V : Type 0} where
   }
 
   -- one after the other
-  pub takes_more : (a b c : Slots V) (f g : ℕ → ℕ) (n m : ℕ) → Takes a b f n → Takes b c g m → Takes a c (λ i. f i + g i) (n + m)
+  pub takes_more : (a b c : NodeArena V) (f g : ℕ → ℕ) (n m : ℕ) → TakesNodes a b f n → TakesNodes b c g m → TakesNodes a c (λ i. f i + g i) (n + m)
   takes_more a b c f g n m t u = record {
     others = λ i z. u.others i (omega arith) ∙ t.others i (omega arith);
     long = u.long ∙ t.long;
@@ -39,7 +39,7 @@ module _ {V : Type 0} where
   }
 
   -- one node is taken
-  pub takes_one : (old new : Slots V) (id : ℕ) (n : Node V) → Frees old new id n → Takes old new (λ i. one id i) 1
+  pub takes_one : (old new : NodeArena V) (id : ℕ) (n : Node V) → Frees old new id n → TakesNodes old new (λ i. one id i) 1
   takes_one old new id n f =
       let hollow = linked [] None None old.free in
       let short = slice_get_within old.nodes.items id n f.taken in
@@ -63,19 +63,19 @@ module _ {V : Type 0} where
       }
 
   -- how far a row is moved
-  pub record Moving (from0 : Slots V) (to0 : List (Node V)) (w : Plan V) (from : Slots V) (at : Option ℕ) (to : List (Node V)) : Type 0 where
+  pub record Moving (from0 : NodeArena V) (to0 : List (Node V)) (w : Plan V) (from : NodeArena V) (at : Option ℕ) (to : List (Node V)) : Type 0 where
     pub rest : Plan V
     pub row : IsTopRow from.nodes.items at rest
     pub moved : to ++ laid (length to) rest ≡ to0 ++ laid (length to0) w
     pub counts : ℕ → ℕ
     pub number : ℕ
-    pub takes : Takes from0 from counts number
+    pub takes : TakesNodes from0 from counts number
     pub split : (i : ℕ) → counts i + times (tops rest) i ≡ times (tops w) i
     pub sized : number + length (tops rest) ≡ length (tops w)
     pub counted : length to + length (tops rest) ≡ length to0 + length (tops w)
 
   -- nothing is moved at first
-  pub moving_none : (from : Slots V) (to : List (Node V)) (at : Option ℕ) (w : Plan V) → IsTopRow from.nodes.items at w → Moving from to w from at to
+  pub moving_none : (from : NodeArena V) (to : List (Node V)) (at : Option ℕ) (w : Plan V) → IsTopRow from.nodes.items at w → Moving from to w from at to
   moving_none from to at w row = record { rest = w; row = row; moved = refl; counts = λ i. 0; number = 0; takes = takes_none from; split = λ i. omega arith; sized = omega arith; counted = refl }
 
   -- the node at the head of a row
@@ -86,13 +86,8 @@ module _ {V : Type 0} where
       let same : id ≡ i = let e = row.at_is in cc in
       (l, v, c, d, rw same refl, rw same row.stands.0)
 
-  -- there is one more to move, and room for it
-  pub room_for_next : (from0 : Slots V) (to0 : List (Node V)) (w : Plan V) (from : Slots V) (to : List (Node V)) (id capacity : ℕ) → Moving from0 to0 w from (Some id) to → length to0 + length (tops w) ≤ capacity → length to < capacity
-  room_for_next from0 to0 w from to id capacity m room =
-      let o = opens_top from.nodes.items id m.rest m.row in
-      omega (arith, m.counted, ap (λ p. length (tops p)) o.4)
-
-  pub next_within : (from0 : Slots V) (to0 : List (Node V)) (w : Plan V) (from : Slots V) (to : List (Node V)) (id : ℕ) → Moving from0 to0 w from (Some id) to → id < length from.nodes.items
+  -- the next node to move is in the vector
+  pub next_within : (from0 : NodeArena V) (to0 : List (Node V)) (w : Plan V) (from : NodeArena V) (to : List (Node V)) (id : ℕ) → Moving from0 to0 w from (Some id) to → id < length from.nodes.items
   next_within from0 to0 w from to id m = let o = opens_top from.nodes.items id m.rest m.row in slice_get_within from.nodes.items id _ o.5
 
   -- what stands at other numbers, stands still
@@ -101,21 +96,22 @@ module _ {V : Type 0} where
   rows-keep nodes new (Cell id l v c d) k s = (k id (λ e. omega (arith, one-same id)) ∙ s.0, rows-keep nodes new d (λ i n. k i (λ e. n (omega arith))) s.1)
 
   -- the new number of the next sibling
-  pub number_none : (d : Plan V) (n : ℕ) → head d ≡ None → None ≡ head (numbered n d)
+  pub number_none : (d : Plan V) (n : ℕ) → head d ≡ None → None ≡ head (numbered_siblings n d)
   number_none Nil n e = refl
   number_none (Cell id l v c d) n e = absurd (cc)
 
-  pub number_some : (d : Plan V) (n k : ℕ) → head d ≡ Some k → Some n ≡ head (numbered n d)
+  -- where a sibling follows, it gets the next number
+  pub number_some : (d : Plan V) (n k : ℕ) → head d ≡ Some k → Some n ≡ head (numbered_siblings n d)
   number_some Nil n k e = absurd (cc)
   number_some (Cell id l v c d) n k e = refl
 
   -- one node more lies behind, and the rest of its row comes after it
   pub laid_next : (to to' : List (Node V)) (n : Node V) (number : Option ℕ) (i : ℕ) (l : List ℕ) (v : Option V) (c d : Plan V)
-      → n ≡ linked l v (head c) (head d) → number ≡ head (numbered (suc (length to)) d) → to' ≡ to ++ linked n.label n.value n.child number ∷ []
+      → n ≡ linked l v (head c) (head d) → number ≡ head (numbered_siblings (suc (length to)) d) → to' ≡ to ++ linked n.label n.value n.child number ∷ []
       → (length to' ≡ suc (length to)) × (to' ++ laid (length to') d ≡ to ++ laid (length to) (Cell i l v c d))
   laid_next to to' n number i l v c d is numbers pushed =
       let x = linked n.label n.value n.child number in
-      let node : x ≡ linked l v (head c) (head (numbered (suc (length to)) d)) = rw (is, numbers) refl in
+      let node : x ≡ linked l v (head c) (head (numbered_siblings (suc (length to)) d)) = rw (is, numbers) refl in
       let longer : length to' ≡ suc (length to) = omega (arith, ap length pushed, length-append to (x ∷ [])) in (
         longer,
         ap (λ xs. xs ++ laid (length to') d) pushed ∙ append_assoc to (x ∷ []) (laid (length to') d)
@@ -123,11 +119,12 @@ module _ {V : Type 0} where
             ∙ ap (λ y. to ++ y ∷ laid (suc (length to)) d) node,
       )
 
-  module _ (from0 : Slots V) (to0 : List (Node V)) (w : Plan V) (from later : Slots V) (id : ℕ) (to to' : List (Node V)) (m : Moving from0 to0 w from (Some id) to)
-      (n : Node V) (frees : Frees from later id n) (number : Option ℕ) (numbers : (d : Plan V) → n.sibling ≡ head d → number ≡ head (numbered (suc (length to)) d)) (pushed : to' ≡ to ++ linked n.label n.value n.child number ∷ []) where
-    one_taken : Takes from later (λ i. one id i) 1
+  module _ (from0 : NodeArena V) (to0 : List (Node V)) (w : Plan V) (from later : NodeArena V) (id : ℕ) (to to' : List (Node V)) (m : Moving from0 to0 w from (Some id) to)
+      (n : Node V) (frees : Frees from later id n) (number : Option ℕ) (numbers : (d : Plan V) → n.sibling ≡ head d → number ≡ head (numbered_siblings (suc (length to)) d)) (pushed : to' ≡ to ++ linked n.label n.value n.child number ∷ []) where
+    one_taken : TakesNodes from later (λ i. one id i) 1
     one_taken = takes_one from later id n frees
 
+    -- one more node was moved
     pub moving_next : Moving from0 to0 w later n.sibling to'
     moving_next = by m.rest m.row m.moved m.split m.sized m.counted
       where
@@ -155,7 +152,7 @@ module _ {V : Type 0} where
             }
 
   -- at the end all is moved
-  pub moving_done : (from0 : Slots V) (to0 : List (Node V)) (w : Plan V) (from : Slots V) (to : List (Node V)) → Moving from0 to0 w from None to → (to ≡ to0 ++ laid (length to0) w) × TakesRow from0 from w
+  pub moving_done : (from0 : NodeArena V) (to0 : List (Node V)) (w : Plan V) (from : NodeArena V) (to : List (Node V)) → Moving from0 to0 w from None to → (to ≡ to0 ++ laid (length to0) w) × TakesRow from0 from w
   moving_done from0 to0 w from to m = by m.rest m.row.at_is m.moved m.split m.sized
     where
       by : (r : Plan V) → None ≡ head r → to ++ laid (length to) r ≡ to0 ++ laid (length to0) w → ((i : ℕ) → m.counts i + times (tops r) i ≡ times (tops w) i) → m.number + length (tops r) ≡ length (tops w) → (to ≡ to0 ++ laid (length to0) w) × TakesRow from0 from w

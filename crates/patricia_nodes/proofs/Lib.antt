@@ -1,8 +1,12 @@
+pub mod AloneLemmas
 pub mod FillLemmas
+pub mod FreeLemmas
 pub mod GrowthLemmas
 pub mod LayLemmas
+pub mod LinkRefLemmas
+pub mod LoanLemmas
 pub mod PlanLemmas
 pub mod RelayLemmas
 pub mod SeekLemmas
-pub mod SpotLemmas
+pub mod ValueLemmas
 pub mod WriteLemmas

@@ -4,22 +4,24 @@ use Rattle.std.specs.Prelude.{false, is_some}
 use mathlib.Core.Bool.{false≢true}
 use Rattle.std.proofs.lemmas.Option.{get_or_from_slice_get}
 use Rattle.std.proofs.lemmas.Bool.Decides.{nat_tests}
-use Rattle.patricia_nodes.specs.declared.slots.Node.{Node}
-use Rattle.patricia_nodes.specs.Private.Plans.{Plan, Nil, Cell, head, size, Stands, IsPlan, IsSound, read, plan_at, one, below}
+use Rattle.patricia_nodes.specs.declared.arena.Node.{Node}
+use Rattle.patricia_nodes.specs.Internal.Plans.{Plan, Nil, Cell, head, size, LaidOut, IsPlan, IsSound, read, plan_at, one, below}
 
 -- a number stands once in itself, and in no other
 pub one-same : (id : ℕ) → one id id ≡ 1
 one-same id = grind (arith, nat_tests)
 
+-- a number is counted at most once below a bound
 pub below_le : (n at : ℕ) → below n at ≤ 1
 below_le n at = grind (arith, nat_tests)
 
+-- below the bound it is counted once
 pub below_in : (n at : ℕ) → at < n → below n at ≡ 1
 below_in n at h = grind (arith, nat_tests)
 
 module _ {V : Type 0} where
   -- nodes that stand for a plan are read as that plan
-  read-stands : (nodes : List (Node V)) (p : Plan V) (n : ℕ) → Stands nodes p → size p ≤ n → read n nodes (head p) ≡ p
+  read-stands : (nodes : List (Node V)) (p : Plan V) (n : ℕ) → LaidOut nodes p → size p ≤ n → read n nodes (head p) ≡ p
   read-stands nodes Nil zero s h = refl
   read-stands nodes Nil (suc n) s h = refl
   read-stands nodes (Cell id l v c d) zero s h = absurd (omega arith)
@@ -28,6 +30,7 @@ module _ {V : Type 0} where
       let beside = read-stands nodes d n s.2 (omega arith) in
       rw (s.0, below, beside) refl
 
+  -- the plan that is read is the only one
   pub plan_is : (nodes : List (Node V)) (at : Option ℕ) (p : Plan V) → IsPlan nodes at p → plan_at nodes at ≡ p
   plan_is nodes at p w = rw w.at_is (read-stands nodes p (length nodes) w.stands w.fits)
 

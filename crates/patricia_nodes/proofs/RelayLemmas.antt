@@ -4,10 +4,10 @@ use Rattle.std.proofs.lemmas.List.{append_assoc}
 use Rattle.std.proofs.lemmas.Bool.{cases_eq, cases_lt}
 use Rattle.std.proofs.lemmas.Bool.Decides.{nat_tests}
 use Rattle.std.proofs.lemmas.Option.{slice_get_within}
-use Rattle.patricia_rows.specs.Rows.{node}
-use Rattle.patricia_nodes.specs.declared.slots.Node.{Node}
-use Rattle.patricia_nodes.specs.Private.Plans.{Plan, Nil, Cell, linked, head, row, size, count, one, below, times, Stands}
-use Rattle.patricia_nodes.specs.Private.Growth.{tops, numbered, laid, RowStands, IsTopRow, count_below, size_below, BelowStands}
+use Rattle.patricia_model.specs.Siblings.{node}
+use Rattle.patricia_nodes.specs.declared.arena.Node.{Node}
+use Rattle.patricia_nodes.specs.Internal.Plans.{Plan, Nil, Cell, linked, head, row, size, count, one, below, times, LaidOut}
+use Rattle.patricia_nodes.specs.Internal.Growth.{tops, numbered_siblings, laid, RowStands, IsTopRow, count_below, size_below, BelowStands}
 use Rattle.patricia_nodes.proofs.PlanLemmas.{one-same}
 use Rattle.patricia_nodes.proofs.WriteLemmas.{stands-keep}
 
@@ -35,11 +35,13 @@ module _ {V : Type 0} where
   flat (Done id l v c d) = Cell id l v (flat c) (flat d)
   flat (Open id l v c d) = Cell id l v c (flat d)
 
+  -- the number of the first node of a row
   abbrev pub first_of : Mix V → Option ℕ
   first_of Empty = None
   first_of (Done id l v c d) = Some id
   first_of (Open id l v c d) = Some id
 
+  -- it is the number of the first node of its plan
   pub flat_first : (q : Mix V) → first_of q ≡ head (flat q)
   flat_first Empty = refl
   flat_first (Done id l v c d) = refl
@@ -49,7 +51,7 @@ module _ {V : Type 0} where
   abbrev pub Lies : List (Node V) → List (Node V) → Mix V → Type 0
   Lies from to Empty = Unit {0}
   Lies from to (Done id l v c d) = (slice_get to id ≡ Some (linked l v (first_of c) (first_of d))) × Lies from to c × Lies from to d
-  Lies from to (Open id l v c d) = (slice_get to id ≡ Some (linked l v (head c) (first_of d))) × Stands from c × Lies from to d
+  Lies from to (Open id l v c d) = (slice_get to id ≡ Some (linked l v (head c) (first_of d))) × LaidOut from c × Lies from to d
 
   -- the nodes before i have their children in the new vector, and the others do not
   abbrev pub IsUpTo : ℕ → Mix V → Type 0
@@ -63,6 +65,7 @@ module _ {V : Type 0} where
   news (Done id l v c d) at = one id at + (news c at + news d at)
   news (Open id l v c d) at = one id at + news d at
 
+  -- how often a number is that of a node still to be moved
   abbrev pub olds : Mix V → ℕ → ℕ
   olds Empty at = 0
   olds (Done id l v c d) at = olds c at + olds d at
@@ -96,14 +99,17 @@ module _ {V : Type 0} where
   row-opened n Nil = refl
   row-opened n (Cell id l v c d) = ap (node l v (row c)) (row-opened (suc n) d)
 
+  -- a row that was moved has as many nodes as before
   pub size-opened : (n : ℕ) (w : Plan V) → size (flat (opened n w)) ≡ size w
   size-opened n Nil = refl
   size-opened n (Cell id l v c d) = omega (arith, size-opened (suc n) d)
 
-  pub first-opened : (n : ℕ) (w : Plan V) → first_of (opened n w) ≡ head (numbered n w)
+  -- it begins with the first new number
+  pub first-opened : (n : ℕ) (w : Plan V) → first_of (opened n w) ≡ head (numbered_siblings n w)
   first-opened n Nil = refl
   first-opened n (Cell id l v c d) = refl
 
+  -- its top nodes wait no longer, and the others do
   pub olds-opened : (n : ℕ) (w : Plan V) (at : ℕ) → olds (opened n w) at + times (tops w) at ≡ count w at
   olds-opened n Nil at = refl
   olds-opened n (Cell id l v c d) at = omega (arith, olds-opened (suc n) d at)
@@ -113,14 +119,17 @@ module _ {V : Type 0} where
   olds-below n Nil at = refl
   olds-below n (Cell id l v c d) at = omega (arith, olds-below (suc n) d at)
 
+  -- all that is below it waits
   pub waits-below : (n : ℕ) (w : Plan V) → waits (opened n w) ≡ size_below w
   waits-below n Nil = refl
   waits-below n (Cell id l v c d) = omega (arith, waits-below (suc n) d)
 
+  -- so all but its top nodes wait
   pub waits-opened : (n : ℕ) (w : Plan V) → waits (opened n w) + length (tops w) ≡ size w
   waits-opened n Nil = refl
   waits-opened n (Cell id l v c d) = omega (arith, waits-opened (suc n) d)
 
+  -- its top nodes have the new numbers from the first on
   pub news-opened : (n : ℕ) (w : Plan V) (at : ℕ) → news (opened n w) at + below n at ≡ below (n + length (tops w)) at
   news-opened n Nil at = grind (arith, nat_tests)
   news-opened n (Cell id l v c d) at =
@@ -129,6 +138,7 @@ module _ {V : Type 0} where
       let same : suc n + length (tops d) ≡ n + suc (length (tops d)) = omega arith in
       ap (λ k. one n at + news (opened (suc n) d) at + k) refl ∙ omega (arith, rest, more, ap (λ k. below k at) same)
 
+  -- no row before the first new number waits
   pub up_to-opened : (i n : ℕ) (w : Plan V) → i ≤ n → IsUpTo i (opened n w)
   up_to-opened i n Nil h = tt
   up_to-opened i n (Cell id l v c d) h = (h, up_to-opened i (suc n) d (omega arith))
@@ -142,6 +152,7 @@ module _ {V : Type 0} where
     | false ↦ rw (row-step i n d) refl
   ]
 
+  -- a step keeps the number of nodes
   pub size-step : (i n : ℕ) (q : Mix V) → size (flat (step i n q)) ≡ size (flat q)
   size-step i n Empty = refl
   size-step i n (Done id l v c d) = omega (arith, size-step i n c, size-step i n d)
@@ -150,6 +161,7 @@ module _ {V : Type 0} where
     | false ↦ omega (arith, size-step i n d)
   ]
 
+  -- and the first of them
   pub first-step : (i n : ℕ) (q : Mix V) → first_of (step i n q) ≡ first_of q
   first-step i n Empty = refl
   first-step i n (Done id l v c d) = refl
@@ -177,6 +189,7 @@ module _ {V : Type 0} where
     came : (at : ℕ) → news (step i n q) at + below n at ≡ news q at + below (n + length (tops w)) at;
   }
 
+  -- a step moves the row below one node
   pub step-moves : (i n : ℕ) (q : Mix V) (w : Plan V) → news q i ≤ 1 → OpenAt i q w → Moved i n q w
   step-moves i n Empty w once due = absurd due
   step-moves i n (Done id l v c d) w once (inl due) =
@@ -214,7 +227,7 @@ module _ {V : Type 0} where
 
   -- they stand there, and the node has the number of the first of them
   pub opens_at : (from to : List (Node V)) (i : ℕ) (q : Mix V) (w : Plan V) → Lies from to q → OpenAt i q w
-      → Stands from w × ((n : Node V) × (slice_get to i ≡ Some n) × (n.child ≡ head w))
+      → LaidOut from w × ((n : Node V) × (slice_get to i ≡ Some n) × (n.child ≡ head w))
   opens_at from to i Empty w lies due = absurd due
   opens_at from to i (Done id l v c d) w lies (inl due) = opens_at from to i c w lies.1 due
   opens_at from to i (Done id l v c d) w lies (inr due) = opens_at from to i d w lies.2 due
@@ -229,6 +242,7 @@ module _ {V : Type 0} where
   open_within i (Open id l v c d) w (inl here) = rw (← here.1) (omega arith, λ at. omega arith)
   open_within i (Open id l v c d) w (inr due) = let h = open_within i d w due in (omega (arith, h.0), λ at. omega (arith, h.1 at))
 
+  -- the top row is part of the plan
   pub tops_within : (w : Plan V) → (length (tops w) ≤ size w) × ((at : ℕ) → times (tops w) at ≤ count w at)
   tops_within Nil = (omega arith, λ at. omega arith)
   tops_within (Cell id l v c d) = let h = tops_within d in (omega (arith, h.0), λ at. omega (arith, h.1 at))
@@ -237,15 +251,12 @@ module _ {V : Type 0} where
   pub count-parts : (w : Plan V) (at : ℕ) → count_below w at + times (tops w) at ≡ count w at
   count-parts w at = omega (arith, olds-opened 0 w at, olds-below 0 w at)
 
-  pub size-parts : (w : Plan V) → size_below w + length (tops w) ≡ size w
-  size-parts w = omega (arith, waits-opened 0 w, waits-below 0 w)
-
-  rows_stand : (nodes : List (Node V)) (w : Plan V) → Stands nodes w → RowStands nodes w
+  rows_stand : (nodes : List (Node V)) (w : Plan V) → LaidOut nodes w → RowStands nodes w
   rows_stand nodes Nil s = tt
   rows_stand nodes (Cell id l v c d) s = (s.0, rows_stand nodes d s.2)
 
   -- what stands once is a row to move
-  pub top_row : (nodes : List (Node V)) (at : Option ℕ) (w : Plan V) → Stands nodes w → at ≡ head w → ((i : ℕ) → count w i ≤ 1) → IsTopRow nodes at w
+  pub top_row : (nodes : List (Node V)) (at : Option ℕ) (w : Plan V) → LaidOut nodes w → at ≡ head w → ((i : ℕ) → count w i ≤ 1) → IsTopRow nodes at w
   top_row nodes at w s e once = record { stands = rows_stand nodes w s; at_is = e; once = λ i. omega (arith, once i, (tops_within w).1 i) }
 
   -- the nodes up to i + 1 have their children in the new vector then
@@ -272,6 +283,7 @@ module _ {V : Type 0} where
     lies-keep from later to final d (λ at n. k at (λ e. n (omega arith))) (λ at n. o at (λ e. n (omega arith))) s.2,
   )
 
+  -- a row is laid as that many nodes
   pub length-laid : (n : ℕ) (w : Plan V) → length (laid n w) ≡ length (tops w)
   length-laid n Nil = refl
   length-laid n (Cell id l v c d) = omega (arith, length-laid (suc n) d)
@@ -281,7 +293,7 @@ module _ {V : Type 0} where
   get-behind (x ∷ xs) ys y = get-behind xs ys y
 
   -- what is below a row that stands, and is not touched
-  pub below-keep : (from later : List (Node V)) (w : Plan V) → ((at : ℕ) → count_below w at ≢ 0 → slice_get later at ≡ slice_get from at) → Stands from w → BelowStands later w
+  pub below-keep : (from later : List (Node V)) (w : Plan V) → ((at : ℕ) → count_below w at ≢ 0 → slice_get later at ≡ slice_get from at) → LaidOut from w → BelowStands later w
   below-keep from later Nil k s = tt
   below-keep from later (Cell id l v c d) k s = (
     stands-keep from later c (λ at n. k at (λ e. n (omega arith))) s.1,
@@ -293,7 +305,7 @@ module _ {V : Type 0} where
       → ((at : ℕ) → length to ≤ at → slice_get final at ≡ slice_get (to ++ laid (length to) w) at) → Lies from final (opened (length to) w)
   lies-opened from to final Nil s f = tt
   lies-opened from to final (Cell id l v c d) s f =
-      let x = linked l v (head c) (head (numbered (suc (length to)) d)) in
+      let x = linked l v (head c) (head (numbered_siblings (suc (length to)) d)) in
       let more : length (to ++ x ∷ []) ≡ suc (length to) = omega (arith, length-append to (x ∷ [])) in
       let same : (to ++ x ∷ []) ++ laid (length (to ++ x ∷ [])) d ≡ to ++ laid (length to) (Cell id l v c d) = append_assoc to (x ∷ []) (laid (length (to ++ x ∷ [])) d) ∙ ap (λ k. to ++ x ∷ laid k d) more in
       let rest : Lies from final (opened (length (to ++ x ∷ [])) d) =
@@ -306,7 +318,7 @@ module _ {V : Type 0} where
   -- the children of node i have come, and all lies as it should
   module _ (from later to final : List (Node V)) (i : ℕ) (w : Plan V)
       (others : (at : ℕ) → at < length to → at ≢ i → slice_get final at ≡ slice_get to at)
-      (here : (m : Node V) → slice_get to i ≡ Some m → slice_get final i ≡ Some (linked m.label m.value (head (numbered (length to) w)) m.sibling))
+      (here : (m : Node V) → slice_get to i ≡ Some m → slice_get final i ≡ Some (linked m.label m.value (head (numbered_siblings (length to) w)) m.sibling))
       (new : (at : ℕ) → length to ≤ at → slice_get final at ≡ slice_get (to ++ laid (length to) w) at) where
     abbrev stepped : Mix V → Mix V
     stepped q = step i (length to) q
@@ -319,6 +331,7 @@ module _ {V : Type 0} where
     own : (id : ℕ) (n m : Node V) → id < length to → one id i ≡ 0 → slice_get to id ≡ Some n → n ≡ m → slice_get final id ≡ Some m
     own id n m short none at e = others id short (λ z. absurd (omega (arith, none, ap (λ k. one k i) z, one-same i))) ∙ at ∙ ap (λ x. Some x) e
 
+    -- after a step the nodes lie where the plan says
     pub lies-step : (q : Mix V) → news q i ≤ 1 → OpenAt i q w → ((at : ℕ) → news q at ≢ 0 → at < length to) → ((at : ℕ) → olds (stepped q) at ≢ 0 → slice_get later at ≡ slice_get from at) → Lies from to q → Lies later final (stepped q)
     lies-step Empty once due short o lies = absurd due
     lies-step (Done id l v c d) once (inl due) short o lies =
@@ -348,13 +361,13 @@ module _ {V : Type 0} where
         let kept : (at : ℕ) → olds (Done id l v (opened (length to) c) (stepped d)) at ≢ 0 → slice_get later at ≡ slice_get from at = rw same at o in
         let there : slice_get to i ≡ Some (linked l v (head c) (first_of d)) = ap (slice_get to) (sym at_i.0) ∙ lies.0 in
         rw same (
-          ap (slice_get final) at_i.0 ∙ here _ there ∙ ap (λ k. Some (linked l v k (first_of d))) (ap (λ x. head (numbered (length to) x)) (sym at_i.1) ∙ sym (first-opened (length to) c)) ∙ ap (λ k. Some (linked l v (first_of (opened (length to) c)) k)) (sym (first-step i (length to) d)),
+          ap (slice_get final) at_i.0 ∙ here _ there ∙ ap (λ k. Some (linked l v k (first_of d))) (ap (λ x. head (numbered_siblings (length to) x)) (sym at_i.1) ∙ sym (first-opened (length to) c)) ∙ ap (λ k. Some (linked l v (first_of (opened (length to) c)) k)) (sym (first-step i (length to) d)),
           lies-opened later to final c (below-keep from later c (λ at n. kept at (λ e. n (omega (arith, olds-below (length to) c at)))) lies.1) (λ at h. new at h ∙ ap (λ x. slice_get (to ++ laid (length to) x) at) (sym at_i.1)),
           still d none (λ at n. short at (λ e. n (omega arith))) (λ at n. kept at (λ e. n (omega arith))) lies.2,
         )
 
   -- once each number had its turn, nothing waits
-  pub lies_done : (from to : List (Node V)) (q : Mix V) → Lies from to q → IsUpTo (length to) q → Stands to (flat q) × ((at : ℕ) → count (flat q) at ≡ news q at) × (waits q ≡ 0) × ((at : ℕ) → olds q at ≡ 0)
+  pub lies_done : (from to : List (Node V)) (q : Mix V) → Lies from to q → IsUpTo (length to) q → LaidOut to (flat q) × ((at : ℕ) → count (flat q) at ≡ news q at) × (waits q ≡ 0) × ((at : ℕ) → olds q at ≡ 0)
   lies_done from to Empty lies up = (tt, λ at. refl, refl, λ at. refl)
   lies_done from to (Open id l v c d) lies up = absurd (let short = slice_get_within to id _ lies.0 in let long = up.0 in omega arith)
   lies_done from to (Done id l v c d) lies up =

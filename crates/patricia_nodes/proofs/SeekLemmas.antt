@@ -2,33 +2,57 @@
 use Rattle.std.proofs.Common.{◌≡◌, ◌≢◌, ℕ, suc, ◌+◌, ◌<◌, List, [], ◌∷◌, length, get_or, Option, Some, None, refl, sym, ap, subst, ◌∙◌, arith}
 use Rattle.std.proofs.lemmas.Option.{slice_get_within}
 use Rattle.std.specs.FinMap.{find}
-use Rattle.patricia_nodes.specs.declared.slots.Node.{Node}
-use Rattle.patricia_nodes.specs.declared.slots.Slots.{Slots}
-use Rattle.patricia_nodes.specs.declared.slots.seek.Spot.{Spot}
-use Rattle.patricia_nodes.specs.declared.slots.seek.Spot.TheVariants.{Root, Child, Sibling}
-use Rattle.patricia_nodes.specs.declared.slots.seek.Stop.{Stop}
-use Rattle.patricia_nodes.specs.declared.slots.seek.Stop.TheVariants.{Gap, Within, Here}
+use Rattle.patricia_nodes.specs.declared.arena.Node.{Node}
+use Rattle.patricia_nodes.specs.declared.arena.NodeArena.{NodeArena}
+use Rattle.patricia_nodes.specs.declared.arena.seek.LinkRef.{LinkRef}
+use Rattle.patricia_nodes.specs.declared.arena.seek.SeekResult.{SeekResult}
+use Rattle.patricia_nodes.specs.declared.arena.seek.LinkRef.TheVariants.{Root, Child, Sibling}
+use Rattle.patricia_nodes.specs.declared.arena.seek.Match.{Match}
+use Rattle.patricia_nodes.specs.declared.arena.seek.Match.TheVariants.{Absent, InsideLabel, Exact}
 use Rattle.patricia_keys.specs.Keys.{IsKeyKind, key_cmp}
-use Rattle.patricia_rows.specs.Rows.{end, node, entries, IsBefore, IsRow}
-use Rattle.patricia_rows.specs.Private.Meeting.{Passes}
-use Rattle.patricia_rows.specs.Private.Counts.{IsCounted}
-use Rattle.patricia_nodes.specs.Private.Plans.{Plan, Nil, Cell, head, row, size, IsPlan, IsWhole, plan_at, row_of}
-use Rattle.patricia_nodes.specs.Private.Places.{Frame, InChild, InSibling, fill, above_of, spot_of, node_above, node_of, Leads, Stops, StopsAt, Placed}
+use Rattle.patricia_model.specs.Siblings.{end, node, entries, IsBefore, IsCanonical}
+use Rattle.patricia_model.specs.Internal.LabelCmp.{Passes}
+use Rattle.patricia_model.specs.Internal.Counts.{IsCounted}
+use Rattle.patricia_nodes.specs.Internal.Plans.{Plan, Nil, Cell, head, row, size, IsPlan, IsWellFormed, plan_at, siblings_of}
+use Rattle.patricia_nodes.specs.Internal.Places.{Frame, InChild, InSibling, fill, above_of, link_ref_of, node_above, node_of, Leads, Matches, MatchesAt, Placed, IsSeekResult}
+use Rattle.patricia_nodes.specs.Internal.Writes.{Ready}
 use Rattle.patricia_nodes.proofs.PlanLemmas.{plan_is, plan_read, node_is}
 use Rattle.patricia_nodes.proofs.FillLemmas.{plan_within, row-within, find-fill, counted-fill}
-use Rattle.patricia_rows.proofs.GetLemmas.{find_before, find_within, find_here}
-use Rattle.patricia_rows.proofs.CountLemmas.{counted_end, counted_before, counted_within, counted_here}
+use Rattle.patricia_model.proofs.GetLemmas.{find_before, find_within, find_here}
+use Rattle.patricia_model.proofs.CountLemmas.{counted_end, counted_before, counted_within, counted_here}
 
 -- the walk has come so far, with a step for each frame
-pub record Walks (item : List ℕ → Type 0) {V : Type 0} (s : Slots V) (key : List ℕ) (spot : Spot) (at : Option ℕ) (rest : List ℕ) (start now : ℕ) : Type 0 where
+pub record Walks (item : List ℕ → Type 0) {V : Type 0} (s : NodeArena V) (key : List ℕ) (link_ref : LinkRef) (at : Option ℕ) (rest : List ℕ) (start now : ℕ) : Type 0 where
   pub frames : List (Frame V)
   pub focus : Plan V
-  pub filled : fill frames focus ≡ plan_at s.nodes.items s.root
-  pub spot_is : spot ≡ spot_of frames
+  pub fills : fill frames focus ≡ plan_at s.nodes.items s.root
+  pub link_ref_is : link_ref ≡ link_ref_of frames
   pub at_is : at ≡ head focus
   pub leads : Leads item frames key rest
-  pub rest_filled : rest ≢ []
+  pub rest_nonempty : rest ≢ []
   pub ticked : now ≡ start + length frames
+
+-- nodes of a key kind, and the place of a key among them
+pub record Sought (item : List ℕ → Type 0) {V : Type 0} (s : NodeArena V) (key : List ℕ) (link_ref : LinkRef) (at : Option ℕ) (rest : List ℕ) (matched : Match) : Type 0 where
+  pub kind : IsKeyKind item
+  pub whole : IsWellFormed s
+  pub canonical : IsCanonical item (siblings_of s)
+  pub place : Placed item s key link_ref at rest matched
+
+module _ {item : List ℕ → Type 0} {V : Type 0} {s : NodeArena V} (kind : IsKeyKind item) where
+  -- these nodes and this place
+  abbrev pub sought_at : {key : List ℕ} {link_ref : LinkRef} {at : Option ℕ} {rest : List ℕ} {matched : Match} → IsWellFormed s
+      → IsCanonical item (siblings_of s) → Placed item s key link_ref at rest matched → Sought item s key link_ref at rest matched
+  sought_at whole ok p = record { kind = kind; whole = whole; canonical = ok; place = p }
+
+  module _ {Q : Type 0} {key_of : Q → List ℕ} {place : SeekResult Q} (ready : Ready item key_of s place) where
+    -- the place of a key, where it is that of some key
+    abbrev pub ready_at : (key : List ℕ) → IsSeekResult item key_of s key place → Sought item s key place.link_ref place.at (key_of place.rest) place.matched
+    ready_at key p = sought_at ready.whole ready.canonical p
+
+    -- the place of the key whose place it is
+    abbrev pub ready_here : Sought item s ready.key place.link_ref place.at (key_of place.rest) place.matched
+    ready_here = ready_at ready.key ready.is_place
 
 -- what stands at a number: the node there, and what its links stand for
 pub record Opened {V : Type 0} (nodes : List (Node V)) (plan : Plan V) (id : ℕ) (n : Node V) : Type 0 where
@@ -52,6 +76,7 @@ module _ {V : Type 0} where
       let same : id ≡ i = cc in
       rw same (slice_get_within nodes i _ w.stands.0)
 
+  -- the node that a plan begins with, as it is read
   pub opened : (nodes : List (Node V)) (at : Option ℕ) (p : Plan V) (id : ℕ) (n : Node V) → IsPlan nodes at p → at ≡ Some id → n ≡ get_or nodes id n → Opened nodes p id n
   opened nodes at Nil id n w e r = let h = w.at_is in absurd (cc)
   opened nodes at (Cell i l v c d) id n w e r =
@@ -66,91 +91,99 @@ module _ {V : Type 0} where
         sibling_plan = record { stands = w.stands.2; at_is = refl; fits = omega (arith, w.fits) };
       })
 
-  pub whole_plan : (s : Slots V) → IsWhole s → IsPlan s.nodes.items s.root (plan_at s.nodes.items s.root)
+  -- the plan of whole nodes is read from the root
+  pub whole_plan : (s : NodeArena V) → IsWellFormed s → IsPlan s.nodes.items s.root (plan_at s.nodes.items s.root)
   whole_plan s w = plan_read s.nodes.items s.root s.free w.0 w.1.0 w.1.1
 
 -- the node above a spot is that above the place
-pub node_above-spot_of : {V : Type 0} (fs : List (Frame V)) → node_above (spot_of fs) ≡ above_of fs
-node_above-spot_of [] = refl
-node_above-spot_of (InChild id l v d ∷ fs) = refl
-node_above-spot_of (InSibling id l v c ∷ fs) = refl
+pub node_above-link_ref_of : {V : Type 0} (fs : List (Frame V)) → node_above (link_ref_of fs) ≡ above_of fs
+node_above-link_ref_of [] = refl
+node_above-link_ref_of (InChild id l v d ∷ fs) = refl
+node_above-link_ref_of (InSibling id l v c ∷ fs) = refl
 
 module _ (item : List ℕ → Type 0) (kind : IsKeyKind item) {V : Type 0} where
   -- how a look-up ends decides what is found
-  found_stop : (focus : Plan V) → IsRow item (row focus) → (rest : List ℕ) (stop : Stop) → Stops item focus rest stop → node_of stop ≡ None → find key_cmp rest (entries (row focus)) ≡ None
-  found_stop Nil ok rest stop h none = refl
-  found_stop (Cell id l v c d) ok rest Gap h none = find_before item kind l v (row c) (row d) ok rest h
-  found_stop (Cell id l v c d) ok rest (Within i n) h none = find_within item kind l v (row c) (row d) ok rest n h.1
-  found_stop (Cell id l v c d) ok rest (Here i) h none = absurd (cc)
+  found_stop : (focus : Plan V) → IsCanonical item (row focus) → (rest : List ℕ) (matched : Match) → Matches item focus rest matched → node_of matched ≡ None
+      → find key_cmp rest (entries (row focus)) ≡ None
+  found_stop Nil ok rest matched h none = refl
+  found_stop (Cell id l v c d) ok rest Absent h none = find_before item kind l v (row c) (row d) ok rest h
+  found_stop (Cell id l v c d) ok rest (InsideLabel i n) h none = find_within item kind l v (row c) (row d) ok rest n h.1
+  found_stop (Cell id l v c d) ok rest (Exact i) h none = absurd (cc)
 
   -- and what is counted
-  counted_stop : (focus : Plan V) → IsRow item (row focus) → (rest : List ℕ) → rest ≢ [] → (stop : Stop) → Stops item focus rest stop → (n m : ℕ) → m ≡ n + ticks focus → IsCounted item (row focus) rest n m
-  counted_stop Nil ok rest some stop h n m e = let same : n ≡ m = omega arith in subst (λ k. IsCounted {V = V} item end rest n k) same (counted_end item kind rest n some)
-  counted_stop (Cell id l v c d) ok rest some Gap h n m e = counted_before item kind l v (row c) (row d) ok rest some n m e h
-  counted_stop (Cell id l v c d) ok rest some (Within i k) h n m e = counted_within item kind l v (row c) (row d) ok rest some n m e k h.1
-  counted_stop (Cell id l v c d) ok rest some (Here i) h n m e = counted_here item kind l v (row c) (row d) ok rest some n m e [] h.1 refl
+  counted_stop : (focus : Plan V) → IsCanonical item (row focus) → (rest : List ℕ) → rest ≢ [] → (matched : Match) → Matches item focus rest matched → (n m : ℕ)
+      → m ≡ n + ticks focus → IsCounted item (row focus) rest n m
+  counted_stop Nil ok rest some matched h n m e = let same : n ≡ m = omega arith in subst (λ k. IsCounted {V = V} item end rest n k) same (counted_end item kind rest n some)
+  counted_stop (Cell id l v c d) ok rest some Absent h n m e = counted_before item kind l v (row c) (row d) ok rest some n m e h
+  counted_stop (Cell id l v c d) ok rest some (InsideLabel i k) h n m e = counted_within item kind l v (row c) (row d) ok rest some n m e k h.1
+  counted_stop (Cell id l v c d) ok rest some (Exact i) h n m e = counted_here item kind l v (row c) (row d) ok rest some n m e [] h.1 refl
 
-module _ (item : List ℕ → Type 0) (kind : IsKeyKind item) {V : Type 0} (s : Slots V) (key : List ℕ) (whole : IsWhole s) (ok : IsRow item (row_of s)) where
+module _ {item : List ℕ → Type 0} (kind : IsKeyKind item) {V : Type 0} {s : NodeArena V} {key : List ℕ} (whole : IsWellFormed s) (ok : IsCanonical item (siblings_of s)) where
   -- the walk begins at the top
   pub walks_root : (start : ℕ) → key ≢ [] → Walks item s key Root s.root key start start
-  walks_root start some = record { frames = []; focus = plan_at s.nodes.items s.root; filled = refl; spot_is = refl; at_is = (whole_plan s whole).at_is; leads = refl; rest_filled = some; ticked = omega arith }
+  walks_root start some = record { frames = []; focus = plan_at s.nodes.items s.root; fills = refl; link_ref_is = refl; at_is = (whole_plan s whole).at_is; leads = refl; rest_nonempty = some; ticked = omega arith }
 
-  module _ (spot : Spot) (at : Option ℕ) (rest : List ℕ) (start now : ℕ) (w : Walks item s key spot at rest start now) where
+  module _ {link_ref : LinkRef} {at : Option ℕ} {rest : List ℕ} {start now : ℕ} (w : Walks item s key link_ref at rest start now) where
     focus_plan : IsPlan s.nodes.items at w.focus
-    focus_plan = plan_within s.nodes.items s.root at w.frames w.focus (rw w.filled (whole_plan s whole)) w.at_is
+    focus_plan = plan_within s.nodes.items s.root at w.frames w.focus (rw w.fills (whole_plan s whole)) w.at_is
 
-    filled_row : IsRow item (row (fill w.frames w.focus))
-    filled_row = rw w.filled ok
+    filled_row : IsCanonical item (row (fill w.frames w.focus))
+    filled_row = rw w.fills ok
 
-    focus_row : IsRow item (row w.focus)
+    focus_row : IsCanonical item (row w.focus)
     focus_row = row-within item w.frames w.focus filled_row
 
-    placed : (stop : Stop) → Stops item w.focus rest stop → Placed item s key spot at rest stop
-    placed stop h = record { frames = w.frames; focus = w.focus; filled = w.filled; spot_is = w.spot_is; at_is = w.at_is; leads = w.leads; rest_filled = w.rest_filled; stops = h }
+    placed : (matched : Match) → Matches item w.focus rest matched → Placed item s key link_ref at rest matched
+    placed matched h = record { frames = w.frames; focus = w.focus; fills = w.fills; link_ref_is = w.link_ref_is; at_is = w.at_is; leads = w.leads; rest_nonempty = w.rest_nonempty; is_match = h }
 
-    counted : (stop : Stop) → Stops item w.focus rest stop → (m : ℕ) → m ≡ now + ticks w.focus → IsCounted item (row_of s) key start m
-    counted stop h m e =
-        subst (λ (p : Plan V). IsCounted item (row p) key start m) w.filled
-        (counted-fill item kind w.frames w.focus filled_row key rest w.leads w.rest_filled start m
-        (counted_stop item kind w.focus focus_row rest w.rest_filled stop h (start + length w.frames) m (e ∙ ap (λ k. k + ticks w.focus) w.ticked)))
+    counted : (matched : Match) → Matches item w.focus rest matched → (m : ℕ) → m ≡ now + ticks w.focus → IsCounted item (siblings_of s) key start m
+    counted matched h m e =
+        subst (λ (p : Plan V). IsCounted item (row p) key start m) w.fills
+        (counted-fill item kind w.frames w.focus filled_row key rest w.leads w.rest_nonempty start m
+        (counted_stop item kind w.focus focus_row rest w.rest_nonempty matched h (start + length w.frames) m (e ∙ ap (λ k. k + ticks w.focus) w.ticked)))
 
     nothing : (p : Plan V) → IsPlan s.nodes.items at p → at ≡ None → p ≡ Nil
     nothing Nil q e = refl
     nothing (Cell id l v c d) q e = let h = q.at_is in absurd (cc)
 
     -- past the last node
-    pub ends_counted : at ≡ None → IsCounted item (row_of s) key start now
-    ends_counted e = let nil = nothing w.focus focus_plan e in counted Gap (rw nil refl) now (rw nil (omega arith))
+    pub ends_placed : at ≡ None → Placed item s key link_ref at rest Absent
+    ends_placed e = let nil = nothing w.focus focus_plan e in placed Absent (rw nil refl)
 
-    module _ (id : ℕ) (is : at ≡ Some id) where
+    -- where no step more is counted
+    pub ends_counted : at ≡ None → IsCounted item (siblings_of s) key start now
+    ends_counted e = let nil = nothing w.focus focus_plan e in counted Absent (rw nil refl) now (rw nil (omega arith))
+
+    module _ {id : ℕ} (is : at ≡ Some id) where
       pub in_nodes : id < length s.nodes.items
       in_nodes = head_within s.nodes.items at w.focus id focus_plan is
 
-      module _ (n : Node V) (reads : n ≡ get_or s.nodes.items id n) where
+      module _ {n : Node V} (reads : n ≡ get_or s.nodes.items id n) where
         pub opens : Opened s.nodes.items w.focus id n
         opens = opened s.nodes.items at w.focus id n focus_plan is reads
 
         -- the node is that of a row
-        pub opens_row : IsRow item (node n.label n.value (row opens.child) (row opens.sibling))
-        opens_row = subst (λ (p : Plan V). IsRow item (row p)) opens.is focus_row
+        pub opens_row : IsCanonical item (node n.label n.value (row opens.child) (row opens.sibling))
+        opens_row = subst (λ (p : Plan V). IsCanonical item (row p)) opens.is focus_row
 
         -- at the node
-        pub stops_placed : (stop : Stop) → StopsAt item id n.label rest stop → Placed item s key spot at rest stop
-        stops_placed stop h = placed stop (rw opens.is h)
+        pub stops_placed : (matched : Match) → MatchesAt item id n.label rest matched → Placed item s key link_ref at rest matched
+        stops_placed matched h = placed matched (rw opens.is h)
 
-        pub stops_counted : (stop : Stop) → StopsAt item id n.label rest stop → (m : ℕ) → m ≡ now + 1 → IsCounted item (row_of s) key start m
-        stops_counted stop h m e = counted stop (rw opens.is h) m (rw opens.is e)
+        -- its steps are those that the row allows
+        pub stops_counted : (matched : Match) → MatchesAt item id n.label rest matched → (m : ℕ) → m ≡ now + 1 → IsCounted item (siblings_of s) key start m
+        stops_counted matched h m e = counted matched (rw opens.is h) m (rw opens.is e)
 
         -- on to the sibling
-        pub walks_next : (m : ℕ) → m ≡ now + 1 → (above : Option ℕ) → above ≡ node_above spot → IsBefore item n.label rest → Walks item s key (Sibling id above) n.sibling rest start m
+        pub walks_next : (m : ℕ) → m ≡ now + 1 → (above : Option ℕ) → above ≡ node_above link_ref → IsBefore item n.label rest → Walks item s key (Sibling id above) n.sibling rest start m
         walks_next m e above a h = record {
           frames = InSibling id n.label n.value opens.child ∷ w.frames;
           focus = opens.sibling;
-          filled = ap (fill w.frames) (sym opens.is) ∙ w.filled;
-          spot_is = ap (Sibling id) (a ∙ ap node_above w.spot_is ∙ node_above-spot_of w.frames);
+          fills = ap (fill w.frames) (sym opens.is) ∙ w.fills;
+          link_ref_is = ap (Sibling id) (a ∙ ap node_above w.link_ref_is ∙ node_above-link_ref_of w.frames);
           at_is = opens.sibling_plan.at_is;
           leads = (h, w.leads);
-          rest_filled = w.rest_filled;
+          rest_nonempty = w.rest_nonempty;
           ticked = omega (arith, w.ticked);
         }
 
@@ -159,11 +192,11 @@ module _ (item : List ℕ → Type 0) (kind : IsKeyKind item) {V : Type 0} (s : 
         walks_down m e left h some = record {
           frames = InChild id n.label n.value opens.sibling ∷ w.frames;
           focus = opens.child;
-          filled = ap (fill w.frames) (sym opens.is) ∙ w.filled;
-          spot_is = refl;
+          fills = ap (fill w.frames) (sym opens.is) ∙ w.fills;
+          link_ref_is = refl;
           at_is = opens.child_plan.at_is;
           leads = (rest, h, some, w.leads);
-          rest_filled = some;
+          rest_nonempty = some;
           ticked = omega (arith, w.ticked);
         }
 
@@ -171,53 +204,61 @@ module _ (item : List ℕ → Type 0) (kind : IsKeyKind item) {V : Type 0} (s : 
         measure : size (plan_at s.nodes.items at) ≡ suc (size opens.child + size opens.sibling)
         measure = ap size (plan_is s.nodes.items at w.focus focus_plan ∙ opens.is)
 
+        -- the sibling has fewer nodes from there on
         pub less_next : size (plan_at s.nodes.items n.sibling) < size (plan_at s.nodes.items at)
         less_next = omega (arith, measure, ap size (plan_is s.nodes.items n.sibling opens.sibling opens.sibling_plan))
 
+        -- and so has the child
         pub less_down : size (plan_at s.nodes.items n.child) < size (plan_at s.nodes.items at)
         less_down = omega (arith, measure, ap size (plan_is s.nodes.items n.child opens.child opens.child_plan))
 
-module _ (item : List ℕ → Type 0) (kind : IsKeyKind item) {V : Type 0} (s : Slots V) (key : List ℕ) (whole : IsWhole s) (ok : IsRow item (row_of s)) (spot : Spot) (at : Option ℕ) (rest : List ℕ) (stop : Stop) (p : Placed item s key spot at rest stop) where
+module _ (item : List ℕ → Type 0) (rest : List ℕ) where
+  -- a node at which a look-up ends begins what is in the place
+  pub stop_at : {V : Type 0} (focus : Plan V) (id : ℕ) (matched : Match) → Matches item focus rest matched → node_of matched ≡ Some id → head focus ≡ Some id
+  stop_at Nil id matched h e = absurd (let f = ap node_of h in cc)
+  stop_at (Cell i l v c d) id Absent h e = absurd (cc)
+  stop_at (Cell i l v c d) id (InsideLabel k n) h e = absurd (cc)
+  stop_at (Cell i l v c d) id (Exact k) h e = let f = h.0 in cc
+
+  -- the key ends with the label of that node
+  pub here_passes : (i : ℕ) (l : List ℕ) (id : ℕ) (matched : Match) → MatchesAt item i l rest matched → node_of matched ≡ Some id → Passes item rest l []
+  here_passes i l id Absent h e = absurd (cc)
+  here_passes i l id (InsideLabel k n) h e = absurd (cc)
+  here_passes i l id (Exact k) h e = h.1
+
+module _ {item : List ℕ → Type 0} {V : Type 0} {s : NodeArena V} {key : List ℕ} {link_ref : LinkRef} {at : Option ℕ} {rest : List ℕ} {matched : Match}
+    (sought : Sought item s key link_ref at rest matched) where
+  open sought use {kind, whole, canonical as ok, place as p}
+
   -- the plan around the place, and what is there
   pub place_plan : IsPlan s.nodes.items s.root (fill p.frames p.focus)
-  place_plan = rw p.filled (whole_plan s whole)
+  place_plan = rw p.fills (whole_plan s whole)
 
-  pub place_row : IsRow item (row (fill p.frames p.focus))
-  place_row = rw p.filled ok
+  -- their rows keep the invariant
+  pub place_row : IsCanonical item (row (fill p.frames p.focus))
+  place_row = rw p.fills ok
 
+  -- what is in the place is read from its link
   pub focus_plan_at : IsPlan s.nodes.items at p.focus
   focus_plan_at = plan_within s.nodes.items s.root at p.frames p.focus place_plan p.at_is
 
-  found : find key_cmp key (entries (row_of s)) ≡ find key_cmp rest (entries (row p.focus))
-  found = ap (λ (q : Plan V). find key_cmp key (entries (row q))) (sym p.filled) ∙ find-fill item kind p.frames p.focus place_row key rest p.leads
+  found : find key_cmp key (entries (siblings_of s)) ≡ find key_cmp rest (entries (row p.focus))
+  found = ap (λ (q : Plan V). find key_cmp key (entries (row q))) (sym p.fills) ∙ find-fill item kind p.frames p.focus place_row key rest p.leads
 
   -- nothing is found where no node is the key's
-  pub find_none : node_of stop ≡ None → find key_cmp key (entries (row_of s)) ≡ None
-  find_none none = found ∙ found_stop item kind p.focus (row-within item p.frames p.focus place_row) rest stop p.stops none
-
-module _ (item : List ℕ → Type 0) (kind : IsKeyKind item) {V : Type 0} (s : Slots V) (key : List ℕ) (whole : IsWhole s) (ok : IsRow item (row_of s)) (spot : Spot) (at : Option ℕ) (rest : List ℕ) where
-  -- a node at which a look-up ends begins what is in the place
-  pub stop_at : (focus : Plan V) (id : ℕ) (stop : Stop) → Stops item focus rest stop → node_of stop ≡ Some id → head focus ≡ Some id
-  stop_at Nil id stop h e = absurd (let f = ap node_of h in cc)
-  stop_at (Cell i l v c d) id Gap h e = absurd (cc)
-  stop_at (Cell i l v c d) id (Within k n) h e = absurd (cc)
-  stop_at (Cell i l v c d) id (Here k) h e = let f = h.0 in cc
-
-  pub here_passes : (i : ℕ) (l : List ℕ) (id : ℕ) (stop : Stop) → StopsAt item i l rest stop → node_of stop ≡ Some id → Passes item rest l []
-  here_passes i l id Gap h e = absurd (cc)
-  here_passes i l id (Within k n) h e = absurd (cc)
-  here_passes i l id (Here k) h e = h.1
+  pub find_none : node_of matched ≡ None → find key_cmp key (entries (siblings_of s)) ≡ None
+  find_none none = found ∙ found_stop item kind p.focus (row-within item p.frames p.focus place_row) rest matched p.is_match none
 
   -- the value at the node is found
-  pub find_some : (stop : Stop) → (p : Placed item s key spot at rest stop) → (id : ℕ) → node_of stop ≡ Some id → (n : Node V) → n ≡ get_or s.nodes.items id n → find key_cmp key (entries (row_of s)) ≡ n.value
-  find_some stop p id e n reads =
-      let o = opened s.nodes.items at p.focus id n (focus_plan_at item kind s key whole ok spot at rest stop p) (p.at_is ∙ stop_at p.focus id stop p.stops e) reads in
-      let inner = subst (λ (q : Plan V). IsRow item (row q)) o.is (row-within item p.frames p.focus (place_row item kind s key whole ok spot at rest stop p)) in
-      let stops = subst (λ (q : Plan V). Stops item q rest stop) o.is p.stops in
-      found item kind s key whole ok spot at rest stop p
+  pub find_some : (id : ℕ) → node_of matched ≡ Some id → (n : Node V) → n ≡ get_or s.nodes.items id n → find key_cmp key (entries (siblings_of s)) ≡ n.value
+  find_some id e n reads =
+      let o = opened s.nodes.items at p.focus id n focus_plan_at (p.at_is ∙ stop_at item rest p.focus id matched p.is_match e) reads in
+      let inner = subst (λ (q : Plan V). IsCanonical item (row q)) o.is (row-within item p.frames p.focus place_row) in
+      let is_match = subst (λ (q : Plan V). Matches item q rest matched) o.is p.is_match in
+      found
       ∙ ap (λ (q : Plan V). find key_cmp rest (entries (row q))) o.is
-      ∙ find_here item kind n.label n.value (row o.child) (row o.sibling) inner rest [] (here_passes id n.label id stop stops e) refl
+      ∙ find_here item kind n.label n.value (row o.child) (row o.sibling) inner rest [] (here_passes item rest id n.label id matched is_match e) refl
 
   -- it is in the vector
-  pub here_within : (stop : Stop) → (p : Placed item s key spot at rest stop) → (id : ℕ) → node_of stop ≡ Some id → id < length s.nodes.items
-  here_within stop p id e = head_within s.nodes.items at p.focus id (focus_plan_at item kind s key whole ok spot at rest stop p) (p.at_is ∙ stop_at p.focus id stop p.stops e)
+  pub here_within : (id : ℕ) → node_of matched ≡ Some id → id < length s.nodes.items
+  here_within id e = head_within s.nodes.items at p.focus id focus_plan_at (p.at_is ∙ stop_at item rest p.focus id matched p.is_match e)

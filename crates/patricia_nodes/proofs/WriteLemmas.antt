@@ -1,10 +1,10 @@
 -- What a write leaves of nodes that are a plan.
 use Rattle.std.proofs.Common.{◌≡◌, ◌≢◌, ℕ, zero, suc, ◌+◌, ◌<◌, List, [], ◌∷◌, ◌++◌, length, set, Option, Some, slice_get, get_or, refl, sym, ap, ◌∙◌, arith, length-set}
 use Rattle.std.proofs.lemmas.Option.{slice_get_within}
-use Rattle.patricia_nodes.specs.declared.slots.Node.{Node}
-use Rattle.patricia_nodes.specs.declared.slots.Slots.{Slots}
-use Rattle.patricia_nodes.specs.Private.Plans.{Plan, Nil, Cell, linked, head, size, count, below, times, first, Stands, IsChain, IsSound, Holds}
-use Rattle.patricia_nodes.specs.Private.Places.{Frame, InChild, InSibling, fill, count_frames}
+use Rattle.patricia_nodes.specs.declared.arena.Node.{Node}
+use Rattle.patricia_nodes.specs.declared.arena.NodeArena.{NodeArena}
+use Rattle.patricia_nodes.specs.Internal.Plans.{Plan, Nil, Cell, linked, head, size, count, below, times, first, LaidOut, IsChain, IsSound, Holds}
+use Rattle.patricia_nodes.specs.Internal.Places.{Frame, InChild, InSibling, fill, count_frames}
 use Rattle.patricia_nodes.proofs.PlanLemmas.{one-same, below_le, node_is}
 use Rattle.patricia_nodes.proofs.FillLemmas.{stands-within, size-fill, count-fill}
 
@@ -14,6 +14,7 @@ get-set_same [] i x h = absurd (omega arith)
 get-set_same (y ∷ xs) zero x h = refl
 get-set_same (y ∷ xs) (suc i) x h = get-set_same xs i x (omega arith)
 
+-- at another index the item stays
 pub get-set_other : {X : Type 0} (xs : List X) (i k : ℕ) (x : X) → k ≢ i → slice_get (set xs i x) k ≡ slice_get xs k
 get-set_other [] i k x n = refl
 get-set_other (y ∷ xs) zero zero x n = absurd (n refl)
@@ -21,10 +22,12 @@ get-set_other (y ∷ xs) zero (suc k) x n = refl
 get-set_other (y ∷ xs) (suc i) zero x n = refl
 get-set_other (y ∷ xs) (suc i) (suc k) x n = get-set_other xs i k x (λ e. n (omega arith))
 
+-- the item behind the last is the one that was pushed
 pub get-push_same : {X : Type 0} (xs : List X) (x : X) → slice_get (xs ++ x ∷ []) (length xs) ≡ Some x
 get-push_same [] x = refl
 get-push_same (y ∷ xs) x = get-push_same xs x
 
+-- the items before it stay
 pub get-push_other : {X : Type 0} (xs : List X) (k : ℕ) (x : X) → k ≢ length xs → slice_get (xs ++ x ∷ []) k ≡ slice_get xs k
 get-push_other [] zero x n = absurd (n refl)
 get-push_other [] (suc k) x n = refl
@@ -33,7 +36,7 @@ get-push_other (y ∷ xs) (suc k) x n = get-push_other xs k x (λ e. n (omega ar
 
 module _ {V : Type 0} where
   -- what stands at other numbers, stands still
-  pub stands-keep : (nodes new : List (Node V)) (q : Plan V) → ((at : ℕ) → count q at ≢ 0 → slice_get new at ≡ slice_get nodes at) → Stands nodes q → Stands new q
+  pub stands-keep : (nodes new : List (Node V)) (q : Plan V) → ((at : ℕ) → count q at ≢ 0 → slice_get new at ≡ slice_get nodes at) → LaidOut nodes q → LaidOut new q
   stands-keep nodes new Nil k s = tt
   stands-keep nodes new (Cell id l v c d) k s = (
     k id (λ e. omega (arith, one-same id)) ∙ s.0,
@@ -41,13 +44,14 @@ module _ {V : Type 0} where
     stands-keep nodes new d (λ at n. k at (λ e. n (omega arith))) s.2,
   )
 
+  -- free nodes that stay as they are form the same chain
   pub chain-keep : (nodes new : List (Node V)) (spare : List ℕ) → ((at : ℕ) → times spare at ≢ 0 → slice_get new at ≡ slice_get nodes at) → IsChain nodes spare → IsChain new spare
   chain-keep nodes new [] k c = tt
   chain-keep nodes new (id ∷ ids) k c =
       ((c.0.0, k id (λ e. omega (arith, one-same id)) ∙ c.0.1, c.0.2), chain-keep nodes new ids (λ at n. k at (λ e. n (omega arith))) c.1)
 
   -- another plan in the place stands where the frames are as they were, and it has the same number
-  pub stands-refill : (nodes new : List (Node V)) (fs : List (Frame V)) (q p : Plan V) → ((at : ℕ) → count_frames fs at ≢ 0 → slice_get new at ≡ slice_get nodes at) → head p ≡ head q → Stands nodes (fill fs q) → Stands new p → Stands new (fill fs p)
+  pub stands-refill : (nodes new : List (Node V)) (fs : List (Frame V)) (q p : Plan V) → ((at : ℕ) → count_frames fs at ≢ 0 → slice_get new at ≡ slice_get nodes at) → head p ≡ head q → LaidOut nodes (fill fs q) → LaidOut new p → LaidOut new (fill fs p)
   stands-refill nodes new [] q p k e s t = t
   stands-refill nodes new (InChild id l v d ∷ fs) q p k e s t =
       let at = stands-within nodes fs (Cell id l v q d) s in
@@ -64,6 +68,7 @@ module _ {V : Type 0} where
         t,
       )
 
+  -- a plan with the same first number leaves the first number around it
   pub head-refill : (fs : List (Frame V)) (q p : Plan V) → head p ≡ head q → head (fill fs p) ≡ head (fill fs q)
   head-refill [] q p e = e
   head-refill (InChild id l v d ∷ fs) q p e = head-refill fs (Cell id l v q d) (Cell id l v p d) refl
@@ -71,7 +76,7 @@ module _ {V : Type 0} where
 
   -- the new nodes are sound where they stand and the numbers add up
   pub sound-swap : (nodes new : List (Node V)) (root root2 free free2 : Option ℕ) (fs : List (Frame V)) (q p : Plan V) (spare left : List ℕ)
-      → IsSound nodes root free (fill fs q) spare → Stands new (fill fs p) → root2 ≡ head (fill fs p) → IsChain new left → free2 ≡ first left
+      → IsSound nodes root free (fill fs q) spare → LaidOut new (fill fs p) → root2 ≡ head (fill fs p) → IsChain new left → free2 ≡ first left
       → ((at : ℕ) → count p at + times left at + below (length nodes) at ≡ count q at + times spare at + below (length new) at)
       → size p + length left + length nodes ≡ size q + length spare + length new
       → IsSound new root2 free2 (fill fs p) left
@@ -117,7 +122,7 @@ module _ {V : Type 0} where
       let rest = one_chain nodes a b c.1 d.1 (sym c.0.2 ∙ ap (λ (n : Node V). n.sibling) node ∙ d.0.2) in
       cc
 
-module _ {V : Type 0} (s : Slots V) (id : ℕ) (r : Node V) (reads : r ≡ get_or s.nodes.items id r) where
+module _ {V : Type 0} (s : NodeArena V) (id : ℕ) (r : Node V) (reads : r ≡ get_or s.nodes.items id r) where
   -- a node of the plan, as it is read
   pub read_at : (fs : List (Frame V)) (l : List ℕ) (v : Option V) (c d : Plan V) → Holds s (fill fs (Cell id l v c d)) → r ≡ linked l v (head c) (head d)
   read_at fs l v c d h = node_is s.nodes.items id r _ (stands-within s.nodes.items fs (Cell id l v c d) h.1.plan_ok.stands).0 reads

@@ -1,6 +1,12 @@
-//! The nodes of a tree in one vector.
+//! The nodes of a tree in one vector: labels and links, look-ups, room and growth, loans of values,
+//! and nodes that are unlinked or merged. And a count of steps.
 //!
-//! `patricia_tree` is the library to use. This crate is what it stands on.
+//! `patricia_tree` is the library to use. It depends on this crate.
 #![tactic(auto)]
 
-pub mod slots;
+pub mod arena;
+pub mod label;
+pub mod link;
+pub mod steps;
+
+pub use steps::Steps;

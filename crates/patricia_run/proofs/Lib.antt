@@ -1,1 +1,6 @@
+pub mod Cuts
+pub mod MachineLemmas
+pub mod Numbers
+pub mod RowLemmas
+pub mod TextLemmas
 pub mod Turns

@@ -1,6 +1,6 @@
 pub mod Answers
-pub mod Private
-pub use Rattle.patricia_lines.specs.Machine
-pub use Rattle.patricia_lines.specs.Spellings
-pub use Rattle.patricia_lines.specs.Text
-pub use Rattle.patricia_lines.specs.Writing
+pub mod Internal
+pub mod Machine
+pub mod KeyFormats
+pub mod Text
+pub mod Writing

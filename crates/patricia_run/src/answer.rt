@@ -4,25 +4,28 @@ ghost use Rattle.std.specs.Prelude.{◌≡◌, ℕ, List, [], ◌∷◌, ◌++�
 ghost use Rattle.std.specs.Global.{Global};
 ghost use Rattle.patricia_tree.specs.ByteKind.{IsByteItem};
 ghost use Rattle.patricia_tree.specs.TextKind.{IsTextItem};
-ghost use Rattle.patricia_lines.specs.Spellings.{as_bytes, as_text};
-ghost use Rattle.patricia_lines.specs.Text.{said_of};
+ghost use Rattle.patricia_run.specs.KeyFormats.{as_bytes, as_text};
+ghost use Rattle.patricia_run.specs.Text.{parse_line};
 ghost use Rattle.patricia_run.specs.Answers.{Answers};
-ghost use Rattle.patricia_run.specs.Private.Turns.{AnswersFrom};
+ghost use Rattle.patricia_run.specs.Internal.Turns.{AnswersFrom};
 
-use patricia_lines::{Lines, Spelled, read_line, write_fault, write_reply};
-use patricia_machine::Bench;
+use crate::Bench;
+use crate::cutting::Lines;
+use crate::key_format::KeyText;
+use crate::reading::read_line;
+use crate::writing::{write_fault, write_reply};
 use std::alloc::{AllocError, Global};
 
 // Does what a line says, and writes its fault or its reply.
-fn answer_line<'a, Q: Spelled<'a>>(
+fn answer_line<'a, Q: KeyText<'a>>(
     bench: &mut Bench<Q::Owned, u64>,
     line: &'a [u8],
     out: &mut Vec<u8>,
 ) -> Result<(), AllocError>
     ensures { OnOk result ((written : List ℕ)
         × (out.new.items ≡ out.old.items ++ written)
-        × AnswersFrom Q.Owned.item Q.spelling Q.Owned.key
-        bench.old (said_of Q.spelling line.now ∷ []) written bench.new) }
+        × AnswersFrom Q.Owned.item Q.key_format Q.Owned.key
+        bench.old (parse_line Q.key_format line.now ∷ []) written bench.new) }
 {
     match read_line::<Q>(line) {
         Ok(command) => write_reply::<Q>(out, &bench.step(command)),
@@ -31,9 +34,9 @@ fn answer_line<'a, Q: Spelled<'a>>(
 }
 
 // The answer to an input, over keys of one kind.
-fn answer<'a, Q: Spelled<'a>>(alloc: Global, input: &'a [u8]) -> Result<Vec<u8>, AllocError>
+fn answer<'a, Q: KeyText<'a>>(alloc: Global, input: &'a [u8]) -> Result<Vec<u8>, AllocError>
     ensures { IfOk result (λ output.
-        Answers Q.Owned.item Q.spelling Q.Owned.key input.now output.items) }
+        Answers Q.Owned.item Q.key_format Q.Owned.key input.now output.items) }
 {
     let mut bench: Bench<Q::Owned, u64> = Bench::new(alloc);
     let mut out = Vec::new(alloc);

@@ -3,7 +3,13 @@
 #![tactic(auto)]
 
 mod answer;
+mod bench;
+mod command;
+mod cutting;
+mod key_format;
 mod program;
+mod reading;
 pub mod run;
+mod writing;
 
 pub use run::{Bench, Command, Reply, answer_bytes, answer_text, serve};

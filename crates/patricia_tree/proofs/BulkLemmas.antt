@@ -17,7 +17,7 @@ puts_one_more bytes old given pair so_far put = put ∙ ap (λ m. map.insert m (
 
 -- the last turn, at which the pair is refused
 pub stops_at : {I S Q V : Type 0} {becomes : I → S → Type 0} {steps : S → Option (Q × V) → S → Type 0} {bytes : Q → List ℕ} {pairs : I} {old here new : map.FinMap key_cmp V} (start at rest : S) (given : List (Q × V)) (pair : Q × V) → becomes pairs start → Yields steps start given at → steps at (Some pair) rest → here ≡ insert_all old (by_bytes bytes given) → new ≡ here → bytes pair.0 ≢ [] → map.get here (bytes pair.0) ≡ None → IsStoppedAt becomes steps bytes pairs old new
-stops_at {steps = steps} {bytes = bytes} start at rest given pair is_start gave next so_far same filled absent = record {
+stops_at {steps = steps} {bytes = bytes} start at rest given pair is_start gave next so_far same nonempty absent = record {
   start = start;
   given = given;
   refused = pair;
@@ -25,7 +25,7 @@ stops_at {steps = steps} {bytes = bytes} start at rest given pair is_start gave 
   is_start = is_start;
   gave = Yields-more steps start given at pair rest gave next;
   put_in = same ∙ so_far;
-  is_filled = filled;
+  is_nonempty = nonempty;
   is_new = ap (λ m. map.get m (bytes pair.0)) same ∙ absent;
 }
 

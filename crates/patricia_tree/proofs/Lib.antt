@@ -1,4 +1,6 @@
 mod BulkLemmas
+mod CursorLemmas
+pub mod FoundLemmas
+pub mod LeftLemmas
 mod LoanLemmas
 mod SetLemmas
-pub use Rattle.patricia_lent.proofs.LeftLemmas

@@ -7,8 +7,8 @@ use Rattle.std.specs.FinMap.{entries_sorted, get-entries}
 use Rattle.patricia_core.specs.Keys.{Begins, key_cmp}
 use Rattle.patricia_core.specs.Points.{Has}
 use Rattle.patricia_core.specs.Prefixes.{along, longest}
-use Rattle.patricia_lent.proofs.FoundLemmas.{find_has, has_filter}
-use Rattle.patricia_tree.specs.Private.Longest.{IsLongest}
+use Rattle.patricia_tree.proofs.FoundLemmas.{find_has, has_filter}
+use Rattle.patricia_tree.specs.Internal.Longest.{IsLongest}
 
 module _ {A : Type 0} where
   -- the last item is one of them

@@ -1,39 +1,12 @@
 -- Words of sets, tied to those of maps.
-use Rattle.std.proofs.Common.{◌≡◌, ◌≢◌, ℕ, List, [], ◌∷◌, ◌++◌, Option, Some, None, Result, Ok, Err, OnErr, Bool, true, false, cond, map, filter, refl, sym, ap, ◌∙◌}
-use Rattle.std.proofs.iter.Next.{Yields-more}
+use Rattle.std.proofs.Common.{◌≡◌, ◌≢◌, ℕ, List, [], ◌∷◌, ◌++◌, Option, Some, None, Result, Ok, Err, OnErr, false, map, refl, sym, ap, ◌∙◌}
+use Rattle.std.specs.Prelude.{is_some}
 use Rattle.std.specs.Iterator.{Yields}
-use Rattle.std.specs.List.{last_or}
-use Rattle.std.specs.Option.{option_map}
-use Rattle.patricia_tree.specs.Clones.{AreKept}
-use Rattle.patricia_tree.specs.Prefixes.{along, begins, longest}
+use Rattle.patricia_tree.specs.Bulk.{insert_all, by_bytes}
+use Rattle.patricia_tree.specs.Clones.{ClonesAreSame}
 use Rattle.patricia_tree.specs.Sets as set
-use Rattle.patricia_tree.specs.Sets.{KeySet, insert_all, keys_of, longest_key, IsStoppedAt}
-
--- a filter by keys, over entries and over their keys
-pub filter_keys : {V : Type 0} (p : List ℕ → Bool) (entries : List (List ℕ × V)) → keys_of (filter (λ e. p e.0) entries) ≡ filter p (keys_of entries)
-filter_keys p [] = refl
-filter_keys p (e ∷ entries) = elim (p e.0) as (λ b. keys_of (cond b (e ∷ filter (λ e. p e.0) entries) (filter (λ e. p e.0) entries)) ≡ cond b (e.0 ∷ filter p (keys_of entries)) (filter p (keys_of entries))) [
-  | true ↦ ap (λ es. e.0 ∷ es) (filter_keys p entries)
-  | false ↦ filter_keys p entries
-]
-
--- the key of the last entry is the last key
-pub last_key : {V : Type 0} (o : Option (List ℕ × V)) (entries : List (List ℕ × V)) → option_map (λ e. e.0) (last_or o entries) ≡ last_or (option_map (λ e. e.0) o) (keys_of entries)
-last_key o [] = refl
-last_key o (e ∷ entries) = last_key (Some e) entries
-
--- the longest entry along a key has the longest key
-pub longest_keys : {V : Type 0} (q : List ℕ) (entries : List (List ℕ × V)) → option_map (λ e. e.0) (longest q entries) ≡ longest_key q (keys_of entries)
-longest_keys q entries = last_key None (along q entries) ∙ ap (last_or None) (filter_keys (λ k. begins k q) entries)
-
--- entries without keys are no entries
-no_keys : {V : Type 0} (entries : List (List ℕ × V)) → keys_of entries ≡ [] → entries ≡ []
-no_keys [] none = refl
-no_keys (e ∷ entries) none = absurd (cc)
-
--- where entries pass a filter by keys, keys do
-pub some_keys : {V : Type 0} (p : List ℕ → Bool) (entries : List (List ℕ × V)) → filter (λ e. p e.0) entries ≢ [] → filter p (keys_of entries) ≢ []
-some_keys p entries some none = some (no_keys _ (filter_keys p entries ∙ none))
+use Rattle.patricia_tree.specs.Sets.{KeySet, Extends, IsStoppedAt, steps_in_pairs}
+use Rattle.patricia_tree.proofs.BulkLemmas.{puts_one_more, stops_at}
 
 -- what holds, holds at an error
 pub at_error : {A E : Type 0} (P : Type 0) (r : Result A E) → P → OnErr r P
@@ -41,28 +14,43 @@ at_error P (Ok x) holds = tt
 at_error P (Err e) holds = holds
 
 -- a clone of nothing is nothing
-pub units_are_kept : (is_clone : Unit {0} → Unit {0} → Type 0) (values : List (Unit {0})) → AreKept is_clone values
+pub units_are_kept : (is_clone : Unit {0} → Unit {0} → Type 0) (values : List (Unit {0})) → ClonesAreSame is_clone values
 units_are_kept is_clone values k d below w _ = refl
 
--- a key that is put in last
-insert_all_more : {Q : Type 0} (bytes : Q → List ℕ) (s : KeySet) (given : List Q) (key : Q) → insert_all s (map bytes (given ++ key ∷ [])) ≡ set.insert (insert_all s (map bytes given)) (bytes key)
-insert_all_more bytes s [] key = refl
-insert_all_more bytes s (first ∷ given) key = insert_all_more bytes (set.insert s (bytes first)) given key
+-- each key with nothing as its value
+abbrev pub in_pairs : {Q : Type 0} → List Q → List (Q × Unit {0})
+in_pairs given = map (λ key. (key, tt)) given
+
+in_pairs_more : {Q : Type 0} (given : List Q) (key : Q) → in_pairs (given ++ key ∷ []) ≡ in_pairs given ++ (key, tt) ∷ []
+in_pairs_more [] key = refl
+in_pairs_more (first ∷ given) key = ap (λ pairs. (first, tt) ∷ pairs) (in_pairs_more given key)
 
 -- one more turn, at which the key is put in
-pub puts_one_more : {Q : Type 0} (bytes : Q → List ℕ) (old : KeySet) (given : List Q) {here new : KeySet} (key : Q) → here ≡ insert_all old (map bytes given) → new ≡ set.insert here (bytes key) → new ≡ insert_all old (map bytes (given ++ key ∷ []))
-puts_one_more bytes old given key so_far put = put ∙ ap (λ s. set.insert s (bytes key)) so_far ∙ sym (insert_all_more bytes old given key)
+pub puts_one_more_key : {Q : Type 0} (bytes : Q → List ℕ) (old : KeySet) (given : List Q) {here new : KeySet} (key : Q) → here ≡ insert_all old (by_bytes bytes (in_pairs given)) → new ≡ set.insert here (bytes key) → new ≡ insert_all old (by_bytes bytes (in_pairs (given ++ key ∷ [])))
+puts_one_more_key bytes old given key so_far put = puts_one_more bytes old (in_pairs given) (key, tt) so_far put ∙ ap (λ pairs. insert_all old (by_bytes bytes pairs)) (sym (in_pairs_more given key))
 
--- the last turn, at which the key is refused
-pub stops_at : {I S Q : Type 0} {becomes : I → S → Type 0} {steps : S → Option Q → S → Type 0} {bytes : Q → List ℕ} {keys : I} {old here new : KeySet} (start at rest : S) (given : List Q) (key : Q) → becomes keys start → Yields steps start given at → steps at (Some key) rest → here ≡ insert_all old (map bytes given) → new ≡ here → bytes key ≢ [] → set.contains here (bytes key) ≡ false → IsStoppedAt becomes steps bytes keys old new
-stops_at {steps = steps} {bytes = bytes} start at rest given key is_start gave next so_far same filled absent = record {
-  start = start;
-  given = given;
-  refused = key;
-  rest = rest;
-  is_start = is_start;
-  gave = Yields-more steps start given at key rest gave next;
-  put_in = same ∙ so_far;
-  is_filled = filled;
-  is_new = ap (λ s. set.contains s (bytes key)) same ∙ absent;
-}
+-- what is not contained has no value
+no_value : (o : Option (Unit {0})) → is_some o ≡ false → o ≡ None
+no_value None absent = refl
+no_value (Some u) absent = absurd (cc)
+
+module _ {I S Q : Type 0} (becomes : I → S → Type 0) (steps : S → Option Q → S → Type 0) (bytes : Q → List ℕ) where
+  -- the keys that were given, as pairs
+  gave_pairs : (start : S) (given : List Q) (at : S) → Yields steps start given at → Yields (steps_in_pairs becomes steps bytes) start (in_pairs given) at
+  gave_pairs start [] at gave = gave
+  gave_pairs start (key ∷ given) at gave = (gave.0, gave.1, gave_pairs gave.0 given at gave.2)
+
+  module _ (keys : I) {old here : KeySet} (start at rest : S) (given : List Q) (is_start : becomes keys start) (gave : Yields steps start given at) (so_far : here ≡ insert_all old (by_bytes bytes (in_pairs given))) where
+    -- the last turn, at which no key is left
+    pub ends_at : steps at None rest → Extends becomes steps bytes keys old here
+    ends_at none = record {
+      start = start;
+      given = in_pairs given;
+      is_start = is_start;
+      gave_all = (rest, (at, gave_pairs start given at gave, none));
+      put_in = so_far;
+    }
+
+    -- the last turn, at which the key is refused
+    pub refuses_at : {new : KeySet} (key : Q) → steps at (Some key) rest → new ≡ here → bytes key ≢ [] → set.contains here (bytes key) ≡ false → IsStoppedAt becomes steps bytes keys old new
+    refuses_at key next same nonempty absent = stops_at start at rest (in_pairs given) (key, tt) is_start (gave_pairs start given at gave) next so_far same nonempty (no_value _ absent)

@@ -2,13 +2,13 @@
 use Rattle.std.specs.Prelude.{◌≡◌, ◌≢◌, ℕ, List, [], ◌∷◌, ◌++◌, map as list_map, Option, None}
 use Rattle.std.specs.FinMap as map
 use Rattle.std.specs.Iterator.{Drains, Yields}
+use Rattle.std.specs.List.{fold}
 use Rattle.patricia_core.specs.Keys.{key_cmp}
 
 -- the map with the pairs put in, one after the other: of two values for one key the later stays
-abbrev pub insert_all : {V : Type 0}
-    → map.FinMap key_cmp V → List (List ℕ × V) → map.FinMap key_cmp V
-insert_all m [] = m
-insert_all m (pair ∷ pairs) = insert_all (map.insert m pair.0 pair.1) pairs
+abbrev pub insert_all :
+    {V : Type 0} → map.FinMap key_cmp V → List (List ℕ × V) → map.FinMap key_cmp V
+insert_all = fold (λ m pair. map.insert m pair.0 pair.1)
 
 -- the pairs with each key's bytes in the key's place
 abbrev pub by_bytes : {Q V : Type 0} → (Q → List ℕ) → List (Q × V) → List (List ℕ × V)
@@ -36,5 +36,5 @@ module _ {I S Q V : Type 0} (becomes : I → S → Type 0)
     pub is_start : becomes pairs start
     pub gave : Yields steps start (given ++ refused ∷ []) rest
     pub put_in : new ≡ insert_all old (by_bytes bytes given)
-    pub is_filled : bytes refused.0 ≢ []
+    pub is_nonempty : bytes refused.0 ≢ []
     pub is_new : map.get new (bytes refused.0) ≡ None

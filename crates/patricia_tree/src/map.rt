@@ -4,7 +4,7 @@ ghost use Rattle.std.specs.Borrow.{sem};
 ghost use Rattle.std.specs.Option.{option_copied, option_copied_mut, option_map};
 ghost use Rattle.std.specs.FinMap as map;
 ghost use Rattle.std.specs.List.{All};
-ghost use Rattle.patricia_core.specs.Clones.{AreKept};
+ghost use Rattle.patricia_core.specs.Clones.{ClonesAreSame};
 ghost use Rattle.patricia_core.specs.Keys.{AreSingle, Begins, IsValid};
 ghost use Rattle.patricia_core.specs.Points.{CountsVisits, Joins};
 ghost use Rattle.patricia_core.specs.Prefixes.{along, longest, outside, under, IsReach};
@@ -18,17 +18,17 @@ mod cursors;
 mod debug;
 mod loans;
 
+pub use crate::guard::{CursorGuard, IntoMap};
+pub use crate::values::ValueCursor;
 pub use cursors::{IterMut, IterPrefixMut, ValuesMut};
 use patricia_core::Steps;
+pub use patricia_core::entries::{IntoIter, Iter, Keys, Values};
 use patricia_core::keys::{BorrowedBytes, Bytes};
-pub use patricia_core::tree::Refused;
-use patricia_core::tree::{DecodeError, Tree, WireError};
-pub use patricia_iterators::entries::{IntoIter, Iter, Keys, Values};
-pub use patricia_iterators::prefixes::{
+pub use patricia_core::prefixes::{
     CommonPrefixValues, CommonPrefixValuesOwned, CommonPrefixesIter, IterPrefix,
 };
-pub use patricia_lent::lent::{GivesBack, Lent};
-pub use patricia_lent::values::ValueCursor;
+pub use patricia_core::tree::Refused;
+use patricia_core::tree::{DecodeError, Tree, WireError};
 use std::alloc::{AllocError, Global};
 use std::iter::IntoIterator;
 use std::marker::Model;
@@ -64,7 +64,7 @@ impl<K: Bytes, V> Model for GenericPatriciaMap<K, V> {
 impl<K: Bytes, V: Drop> GenericPatriciaMap<K, V> {
     ghost use Rattle.patricia_tree.specs.Loans.{lends_entry};
 
-    /// The empty map. It takes no memory.
+    /// Makes an empty map, which keeps the allocator. Does not allocate.
     pub fn new(alloc: Global) -> Self
         ensures { result ≡ map.empty }
     {
@@ -73,42 +73,45 @@ impl<K: Bytes, V: Drop> GenericPatriciaMap<K, V> {
         }
     }
 
-    /// The number of entries, that of the empty key included.
+    /// Returns the number of entries, that of the empty key included, in constant time.
     pub fn len(&self) -> usize
         ensures { result ≡ map.len self.now }
     {
         self.tree.len()
     }
 
-    /// Whether there is no entry.
+    /// Returns whether there is no entry.
     pub fn is_empty(&self) -> bool
         ensures { IsTrue result ↔ (map.len self.now ≡ 0) }
     {
         self.tree.is_empty()
     }
 
-    /// Drops all entries. It takes no memory, and the allocator is kept.
+    /// Drops all entries, and keeps the allocator. Does not allocate.
     pub fn clear(&mut self)
         ensures { self.new ≡ map.empty }
     {
         self.tree.clear();
     }
 
-    /// Whether the key is there.
+    /// Returns whether the key is there. Does not allocate, and takes the time of `get`.
     pub fn contains_key<Q: BorrowedBytes<Owned = K>>(&self, key: Q) -> bool
         ensures { result ≡ map.contains_key self.now (Q.key key) }
     {
         self.get(key).is_some()
     }
 
-    /// The value at a key, or `None` where there is none.
+    /// Returns the value at a key, or `None` where there is none. Does not allocate.
+    ///
+    /// Takes time in proportion to the nodes that it visits: for byte keys at most `1 + 256 *
+    /// key.len()`, for any keys as many as `get_counted` says.
     pub fn get<Q: BorrowedBytes<Owned = K>>(&self, key: Q) -> Option<&V>
         ensures { option_copied result ≡ map.get self.now (Q.key key) }
     {
         self.tree.get(key)
     }
 
-    /// Lends the value at a key, or answers `None` where there is none. It takes no memory.
+    /// Lends the value at a key, or returns `None` where there is none. Does not allocate.
     ///
     /// When the loan is over, the map has what was left there.
     pub fn get_mut<Q: BorrowedBytes<Owned = K>>(&mut self, key: Q) -> Option<&mut V>
@@ -118,11 +121,11 @@ impl<K: Bytes, V: Drop> GenericPatriciaMap<K, V> {
         self.tree.get_mut(key)
     }
 
-    /// Looks a key up and adds the number of nodes that it visits.
+    /// Returns the value at a key, and adds the number of nodes that the look-up visits to `steps`.
     ///
-    /// It takes a step for the root, and one for each node whose label is compared with the key.
-    /// Siblings are compared in their order, up to and with the first whose first item is not
-    /// less than the key's. A `Steps` takes no bytes at run time, and contracts alone see it.
+    /// It counts the root, and each node whose label is compared with the key. Siblings are
+    /// compared in their order, up to and with the first whose first item is not less than the
+    /// key's. A `Steps` takes no bytes at run time, and contracts alone see it.
     pub fn get_counted<Q: BorrowedBytes<Owned = K>, L: Ledger>(
         &self,
         key: Q,
@@ -135,10 +138,10 @@ impl<K: Bytes, V: Drop> GenericPatriciaMap<K, V> {
         self.tree.get_counted(key, steps)
     }
 
-    /// The entry of the longest key that is a beginning of the key, or `None` where there is none.
+    /// Returns the entry with the longest key that is a prefix of the key, or `None` where there is
+    /// none. Does not allocate, and takes the time of `get`.
     ///
-    /// The key handed out is a part of the key that is passed, and does not borrow the map. It takes
-    /// no memory.
+    /// The key that is returned is a part of the key that is passed, and does not borrow the map.
     pub fn get_longest_common_prefix<Q: BorrowedBytes<Owned = K>>(&self, key: Q) -> Option<(Q, &V)>
         ensures row { option_map (λ e. (Q.key e.0, e.1.now)) result
             ≡ longest (Q.key key) (map.entries self.now) }
@@ -147,19 +150,20 @@ impl<K: Bytes, V: Drop> GenericPatriciaMap<K, V> {
         self.tree.longest(key)
     }
 
-    /// How many bytes of the key, in whole items, some key of the map begins with; 0 for an empty
-    /// map. That key may go on differently. It takes no memory.
+    /// Returns how many bytes of the key, in whole items, some key of the map begins with, whatever
+    /// follows them there; 0 for an empty map. Does not allocate.
+    ///
+    /// For texts it never ends inside a character.
     pub fn longest_common_prefix_len<Q: BorrowedBytes<Owned = K>>(&self, key: Q) -> usize
         ensures { IsReach K.item (map.keys self.now) (Q.key key) result }
     {
         self.tree.reach(key)
     }
 
-    /// The entries whose key is a beginning of the key, the shortest first: that of the empty key
-    /// and that of the key itself are among them where they are there.
+    /// Returns the entries whose key is a prefix of the key, the shortest first, those of the empty
+    /// key and of the key itself included. Neither this nor the iterator allocates.
     ///
-    /// The keys handed out are parts of the key that is passed. Neither this nor the walk takes
-    /// memory.
+    /// The keys that are returned are parts of the key that is passed.
     pub fn common_prefixes<Q: BorrowedBytes<Owned = K>>(
         &self,
         key: Q,
@@ -169,7 +173,8 @@ impl<K: Bytes, V: Drop> GenericPatriciaMap<K, V> {
         CommonPrefixesIter::new(self.tree.along(key))
     }
 
-    /// The values of the same entries. Neither this nor the walk takes memory.
+    /// Returns the values of the entries whose key is a prefix of the key, the shortest key first.
+    /// Neither this nor the iterator allocates.
     pub fn common_prefix_values<Q: BorrowedBytes<Owned = K>>(
         &self,
         key: Q,
@@ -179,19 +184,24 @@ impl<K: Bytes, V: Drop> GenericPatriciaMap<K, V> {
         CommonPrefixValues::new(self.tree.along(key))
     }
 
-    /// The values of the same entries, for a key that the walk owns. Neither this nor the walk takes
-    /// memory.
+    /// Returns the values of the entries whose key is a prefix of the key, which the iterator owns.
+    /// Neither this nor the iterator allocates.
     pub fn common_prefix_values_owned(&self, key: K) -> CommonPrefixValuesOwned<'_, K, V>
         ensures { result ≡ values_of (along (K.key key) (map.entries self.now)) }
     {
         CommonPrefixValuesOwned::new(self.tree.along_owned(key))
     }
 
-    /// Puts a value in and answers the old one, or `None` for a new key.
+    /// Inserts a value at a key, and returns the value that was there, or `None` for a new key.
     ///
-    /// The error is want of memory, which only a key can meet that is new and not empty. It hands
-    /// the value back. A new key that would be one more than `usize::MAX - 1` keys that are not
-    /// empty is refused in the same way, so that `len` never overflows.
+    /// Takes the time of a look-up. Where the vector of nodes is full it is relocated, in time in
+    /// proportion to the number of entries.
+    ///
+    /// # Errors
+    ///
+    /// Out of memory, at a new nonempty key alone: the map is unchanged, and `Refused` has the
+    /// value. A new nonempty key where `usize::MAX - 1` of them are stored is refused in the same
+    /// way, so that `len` never overflows.
     pub fn insert<Q: BorrowedBytes<Owned = K>>(
         &mut self,
         key: Q,
@@ -201,17 +211,20 @@ impl<K: Bytes, V: Drop> GenericPatriciaMap<K, V> {
         ensures ok { OnOk result (self.new ≡ map.insert self.old (Q.key key) value) }
         ensures refused { IfErr result (λ r. r.value ≡ value) }
         ensures unchanged { OnErr result (self.new ≡ self.old) }
-        ensures only_filled { OnErr result (Q.key key ≢ []) }
+        ensures err_only_nonempty { OnErr result (Q.key key ≢ []) }
         ensures only_new { OnErr result (map.get self.old (Q.key key) ≡ None) }
     {
         self.tree.insert(key, value)
     }
 
-    /// Takes a value out, or answers `None` for a key that is not there.
+    /// Removes a key, and returns the value that was there, or `None` where there was none.
     ///
-    /// The error is want of memory for a joined label. It comes only where a removal leaves a
-    /// place in the tree that no key or branching needs any more: never for a key that is not
-    /// there, nor for the empty key.
+    /// Takes the time of a look-up.
+    ///
+    /// # Errors
+    ///
+    /// Out of memory for a joined label: the map is unchanged. Labels are joined only where a node
+    /// is no longer needed by a key or by two branches, so never for an absent or the empty key.
     pub fn remove<Q: BorrowedBytes<Owned = K>>(&mut self, key: Q) -> Result<Option<V>, AllocError>
         ensures old { IfOk result (λ old. old ≡ map.get self.old (Q.key key)) }
         ensures ok { OnOk result (self.new ≡ map.remove self.old (Q.key key)) }
@@ -221,26 +234,32 @@ impl<K: Bytes, V: Drop> GenericPatriciaMap<K, V> {
         self.tree.remove(key)
     }
 
-    /// The same entries in a map of their own. The error is want of memory, which the empty map
-    /// never meets.
+    /// Returns a copy of the map, in time in proportion to the number of entries. Each clone of a
+    /// stored value must be that value.
     ///
-    /// Each clone of a stored value is asked to be that value.
+    /// # Errors
+    ///
+    /// Out of memory, never for an empty map.
     pub fn clone(&self) -> Result<Self, AllocError>
     where
         V: Clone,
-        requires { AreKept V.is_clone (map.values self.now) }
+        requires { ClonesAreSame V.is_clone (map.values self.now) }
         ensures same { IfOk result (λ m. m ≡ self.now) }
-        ensures only_filled { OnErr result (map.len self.now ≢ 0) }
+        ensures err_only_nonempty { OnErr result (map.len self.now ≢ 0) }
     {
         Ok(GenericPatriciaMap {
             tree: self.tree.clone()?,
         })
     }
 
-    /// Takes out the entries whose key begins with the prefix, as a map of their own.
+    /// Removes the entries whose key begins with the prefix, and returns them as a map.
     ///
-    /// The error is want of memory. It comes only where there is such an entry, and never for the
-    /// empty prefix, which hands everything over.
+    /// Takes a look-up, and time in proportion to the entries that are removed.
+    ///
+    /// # Errors
+    ///
+    /// Out of memory: the map is unchanged. Never for the empty prefix, which moves the whole map,
+    /// nor where no key begins with the prefix.
     pub fn split_by_prefix<Q: BorrowedBytes<Owned = K>>(
         &mut self,
         prefix: Q,
@@ -250,21 +269,24 @@ impl<K: Bytes, V: Drop> GenericPatriciaMap<K, V> {
         ensures left { OnOk result (
             map.entries self.new ≡ outside (Q.key prefix) (map.entries self.old)) }
         ensures unchanged { OnErr result (self.new ≡ self.old) }
-        ensures only_filled { OnErr result (Q.key prefix ≢ []) }
-        ensures only_begun { OnErr result (under (Q.key prefix) (map.entries self.old) ≢ []) }
+        ensures err_only_nonempty { OnErr result (Q.key prefix ≢ []) }
+        ensures err_only_if_matched { OnErr result (under (Q.key prefix) (map.entries self.old) ≢ []) }
     {
         Ok(GenericPatriciaMap {
             tree: self.tree.split(prefix)?,
         })
     }
 
-    /// The tree bytes: the written form of the keys, which is the same for each map with these keys,
-    /// whatever its history.
+    /// Returns the tree bytes: the encoding of the keys, which is the same for each map with these
+    /// keys, whatever its history.
     ///
-    /// A key stands in the bytes as its pieces, which it shares with the keys that begin alike. The
-    /// values are no part of them: whoever stores a map stores the values beside them, in key order.
-    /// The error is `TooDeep` where a record would lie deeper than level 65,535, which takes keys of
-    /// more than that many bytes; or it is want of memory.
+    /// A prefix that keys share is encoded once. The values are not encoded: store them beside the
+    /// bytes, in key order. Takes time in proportion to the bytes.
+    ///
+    /// # Errors
+    ///
+    /// `TooDeep` where a record would lie deeper than level 65,535, which takes keys of more than
+    /// that many bytes; or out of memory.
     pub fn tree_bytes(&self) -> Result<Vec<u8>, WireError>
         ensures ok { IfOk result (λ b. AreTreeBytes K.item 2 b.items (map.entries self.now)) }
         ensures too_deep { result ≡ Err WireError.TooDeep → TooDeep K.item 2 (map.keys self.now) }
@@ -272,16 +294,18 @@ impl<K: Bytes, V: Drop> GenericPatriciaMap<K, V> {
         self.tree.tree_bytes()
     }
 
-    /// The map that tree bytes are the written form of, with these values, in key order.
+    /// Makes a map of tree bytes and values, in key order.
     ///
-    /// Any writing of a whole tree is read, be it of a `tree_bytes` or of the Rust crate: of the flags
-    /// only the three marks are looked at, and a label may be cut where it need not be. The map that
-    /// is made has the one shape of its keys: labels that were cut are joined again, and so are
-    /// nodes without value that have one child. Its `tree_bytes` may be fewer than it was read from.
+    /// Any encoding of a whole tree is read, whether of `tree_bytes` or of the Rust crate: of the
+    /// flags only the three marks count, and a label may be cut where it need not be. The map has
+    /// the one shape of its keys, so its `tree_bytes` may be fewer than it was read from. Takes
+    /// time in proportion to the bytes.
     ///
-    /// The error says what is wrong with the bytes, or with the number of values, and where: it is
-    /// the first fault that stands in them. A whole tree with the right number of values has none,
-    /// so it is refused for want of memory alone. On a refusal the values are dropped.
+    /// # Errors
+    ///
+    /// The first fault of the bytes or of the number of values, and where it stands. A whole tree
+    /// with the right number of values has none, and is refused as out of memory alone. The values
+    /// are dropped then.
     pub fn from_wire(alloc: Global, bytes: &[u8], values: Vec<V>) -> Result<Self, DecodeError>
         ensures ok { IfOk result (λ m. Means K.item 2 bytes.now values.items (map.entries m)) }
         ensures refused { IfErr result (λ e. IsRefusal K.item 2 bytes.now (length values.items) e) }
@@ -291,7 +315,8 @@ impl<K: Bytes, V: Drop> GenericPatriciaMap<K, V> {
         })
     }
 
-    /// Each key is a valid key of its kind, so its bytes are bytes. This says so, and does nothing.
+    /// Says in its contract that each key is a valid key of its kind, so that its bytes are below
+    /// 256. Does nothing at run time.
     pub fn keys_are_valid(&self)
         ensures valid { All (IsValid K.item) (map.keys self.now) }
         ensures bytes { All (All (λ b. b < 256)) (map.keys self.now) }
@@ -299,28 +324,33 @@ impl<K: Bytes, V: Drop> GenericPatriciaMap<K, V> {
         self.tree.keys_are_valid();
     }
 
-    /// The entries in key order.
+    /// Returns the entries in key order, each with an owned key. Making the iterator does not
+    /// allocate; an item that is an error is out of memory, and ends it.
     pub fn iter(&self) -> Iter<'_, K, V>
         ensures { result ≡ map.entries self.now }
     {
         Iter::new(self.tree.walk())
     }
 
-    /// The entries whose key begins with the prefix, in key order. Making it takes no memory.
+    /// Returns the entries whose key begins with the prefix, in key order, each with an owned key.
+    /// Making the iterator does not allocate; an item that is an error is out of memory, and ends
+    /// it.
     pub fn iter_prefix<Q: BorrowedBytes<Owned = K>>(&self, prefix: Q) -> IterPrefix<'_, Q, V>
         ensures { result ≡ under (Q.key prefix) (map.entries self.now) }
     {
         IterPrefix::new(self.tree.under(prefix))
     }
 
-    /// The keys in order.
+    /// Returns the keys in order, each an owned key. Making the iterator does not allocate; an item
+    /// that is an error is out of memory, and ends it.
     pub fn keys(&self) -> Keys<'_, K, V>
         ensures { result ≡ map.keys self.now }
     {
         Keys::new(self.tree.walk())
     }
 
-    /// The values in the order of their keys.
+    /// Returns the values in the order of their keys. Making the iterator does not allocate; an
+    /// item that is an error is out of memory, and ends it.
     pub fn values(&self) -> Values<'_, K, V>
         ensures { result ≡ map.values self.now }
     {

@@ -3,20 +3,21 @@ ghost use Rattle.std.specs.Prelude.{◌≡◌, ◌≢◌, ◌↔◌, [], length,
 ghost use Rattle.std.specs.Option.{option_map};
 ghost use Rattle.patricia_tree.specs.Keys.{Begins};
 ghost use Rattle.patricia_tree.specs.Points.{Joins};
-ghost use Rattle.patricia_tree.specs.Prefixes.{IsReach};
+ghost use Rattle.patricia_tree.specs.Prefixes.{IsReach, under, outside};
 ghost use Rattle.patricia_tree.specs.TreeBytes.{AreTreeBytes};
 ghost use Rattle.patricia_tree.specs.Refusals.{IsRefusal};
 ghost use Rattle.patricia_tree.specs.Writings.{Means, TooDeep};
 ghost use Rattle.patricia_tree.specs.Sets as set;
-ghost use Rattle.patricia_tree.specs.Sets.{keys_under, keys_outside, longest_key};
+ghost use Rattle.patricia_tree.specs.Sets.{longest_key};
+ghost use Rattle.patricia_tree.specs.Siblings.{keys_of};
 
 mod bulk;
 mod debug;
 
 use crate::map::GenericPatriciaMap;
+pub use patricia_core::elements::{IntoIter, Iter, IterPrefix};
 use patricia_core::keys::{BorrowedBytes, Bytes};
 use patricia_core::tree::{DecodeError, WireError};
-pub use patricia_iterators::elements::{IntoIter, Iter, IterPrefix};
 use std::alloc::{AllocError, Global};
 use std::iter::IntoIterator;
 use std::marker::Model;
@@ -49,7 +50,7 @@ impl<T: Bytes> Model for GenericPatriciaSet<T> {
 }
 
 impl<T: Bytes> GenericPatriciaSet<T> {
-    /// The empty set. It takes no memory.
+    /// Makes an empty set, which keeps the allocator. Does not allocate.
     pub fn new(alloc: Global) -> Self
         ensures { result ≡ set.empty }
     {
@@ -58,40 +59,41 @@ impl<T: Bytes> GenericPatriciaSet<T> {
         }
     }
 
-    /// The number of elements, the empty one included.
+    /// Returns the number of elements, the empty one included, in constant time.
     pub fn len(&self) -> usize
         ensures { result ≡ set.len self.now }
     {
         self.map.len()
     }
 
-    /// Whether there is no element.
+    /// Returns whether there is no element.
     pub fn is_empty(&self) -> bool
         ensures { IsTrue result ↔ (set.len self.now ≡ 0) }
     {
         self.map.is_empty()
     }
 
-    /// Drops all elements. It takes no memory, and the allocator is kept.
+    /// Drops all elements, and keeps the allocator. Does not allocate.
     pub fn clear(&mut self)
         ensures { self.new ≡ set.empty }
     {
         self.map.clear();
     }
 
-    /// Whether this very element is there.
+    /// Returns whether the element is there. Does not allocate, and takes the time of the map's
+    /// `get`.
     pub fn contains<Q: BorrowedBytes<Owned = T>>(&self, element: Q) -> bool
         ensures { result ≡ set.contains self.now (Q.key element) }
     {
         self.map.contains_key(element)
     }
 
-    /// The longest element that is a beginning of the key, or `None` where there is none.
+    /// Returns the longest element that is a prefix of the key, or `None` where there is none. Does
+    /// not allocate.
     ///
-    /// What is handed out is a part of the key that is passed, and does not borrow the set. It
-    /// takes no memory.
+    /// What is returned is a part of the key that is passed, and does not borrow the set.
     pub fn get_longest_common_prefix<Q: BorrowedBytes<Owned = T>>(&self, key: Q) -> Option<Q>
-        ensures longest { option_map Q.key result ≡ longest_key (Q.key key) (set.elements self.now) }
+        ensures longest { option_map Q.key result ≡ longest_key (Q.key key) (set.rows self.now) }
         ensures part { IfSome result (λ part. Begins (Q.key part) (Q.key key)) }
     {
         match self.map.get_longest_common_prefix(key) {
@@ -100,24 +102,25 @@ impl<T: Bytes> GenericPatriciaSet<T> {
         }
     }
 
-    /// How many bytes of the key, in whole items, some element begins with; 0 for an empty set.
-    /// That element may go on differently. It takes no memory.
+    /// Returns how many bytes of the key, in whole items, some element begins with, whatever
+    /// follows them there; 0 for an empty set. Does not allocate.
     pub fn longest_common_prefix_len<Q: BorrowedBytes<Owned = T>>(&self, key: Q) -> usize
         ensures { IsReach T.item (set.elements self.now) (Q.key key) result }
     {
         self.map.longest_common_prefix_len(key)
     }
 
-    /// Puts an element in, and answers whether it is a new one.
+    /// Inserts an element, and returns whether it is a new one.
     ///
-    /// The error is want of memory, which only an element can meet that is new and not empty. An
-    /// element that would be one more than `usize::MAX - 1` that are not empty is refused in the
-    /// same way.
+    /// # Errors
+    ///
+    /// Out of memory, at a new nonempty element alone: the set is unchanged. A new nonempty element
+    /// where `usize::MAX - 1` of them are stored is refused in the same way.
     pub fn insert<Q: BorrowedBytes<Owned = T>>(&mut self, element: Q) -> Result<bool, AllocError>
         ensures is_new { IfOk result (λ b. b ≡ not (set.contains self.old (Q.key element))) }
         ensures ok { OnOk result (self.new ≡ set.insert self.old (Q.key element)) }
         ensures unchanged { OnErr result (self.new ≡ self.old) }
-        ensures only_filled { OnErr result (Q.key element ≢ []) }
+        ensures err_only_nonempty { OnErr result (Q.key element ≢ []) }
         ensures only_new { OnErr result (set.contains self.old (Q.key element) ≡ false) }
     {
         match self.map.insert(element, ()) {
@@ -126,11 +129,13 @@ impl<T: Bytes> GenericPatriciaSet<T> {
         }
     }
 
-    /// Takes an element out, and answers whether it was there.
+    /// Removes an element, and returns whether it was there.
     ///
-    /// The error is want of memory for a joined label. It comes only where a removal leaves a
-    /// place in the tree that no element or branching needs any more: never for what is not an
-    /// element, nor for the empty one.
+    /// # Errors
+    ///
+    /// Out of memory for a joined label: the set is unchanged. Labels are joined only where a node
+    /// is no longer needed by an element or by two branches, so never for an absent or the empty
+    /// element.
     pub fn remove<Q: BorrowedBytes<Owned = T>>(&mut self, element: Q) -> Result<bool, AllocError>
         ensures was_there { IfOk result (λ b. b ≡ set.contains self.old (Q.key element)) }
         ensures ok { OnOk result (self.new ≡ set.remove self.old (Q.key element)) }
@@ -140,44 +145,50 @@ impl<T: Bytes> GenericPatriciaSet<T> {
         Ok(self.map.remove(element)?.is_some())
     }
 
-    /// The same elements in a set of their own. The error is want of memory, which the empty set
-    /// never meets.
+    /// Returns a copy of the set, in time in proportion to the number of elements.
+    ///
+    /// # Errors
+    ///
+    /// Out of memory, never for an empty set.
     pub fn clone(&self) -> Result<Self, AllocError>
         ensures same { IfOk result (λ s. s ≡ self.now) }
-        ensures only_filled { OnErr result (set.len self.now ≢ 0) }
+        ensures err_only_nonempty { OnErr result (set.len self.now ≢ 0) }
     {
         Ok(GenericPatriciaSet {
             map: self.map.clone()?,
         })
     }
 
-    /// Takes out the elements that begin with the prefix, as a set of their own.
+    /// Removes the elements that begin with the prefix, and returns them as a set.
     ///
-    /// The error is want of memory. It comes only where there is such an element, and never for
-    /// the empty prefix, which hands everything over.
+    /// # Errors
+    ///
+    /// Out of memory: the set is unchanged. Never for the empty prefix, which moves the whole set,
+    /// nor where no element begins with the prefix.
     pub fn split_by_prefix<Q: BorrowedBytes<Owned = T>>(
         &mut self,
         prefix: Q,
     ) -> Result<Self, AllocError>
         ensures taken { IfOk result (λ s.
-            set.elements s ≡ keys_under (Q.key prefix) (set.elements self.old)) }
+            set.rows s ≡ under (Q.key prefix) (set.rows self.old)) }
         ensures left { OnOk result (
-            set.elements self.new ≡ keys_outside (Q.key prefix) (set.elements self.old)) }
+            set.rows self.new ≡ outside (Q.key prefix) (set.rows self.old)) }
         ensures unchanged { OnErr result (self.new ≡ self.old) }
-        ensures only_filled { OnErr result (Q.key prefix ≢ []) }
-        ensures only_begun { OnErr result (keys_under (Q.key prefix) (set.elements self.old) ≢ []) }
+        ensures err_only_nonempty { OnErr result (Q.key prefix ≢ []) }
+        ensures err_only_if_matched { OnErr result (under (Q.key prefix) (set.rows self.old) ≢ []) }
     {
         Ok(GenericPatriciaSet {
             map: self.map.split_by_prefix(prefix)?,
         })
     }
 
-    /// The tree bytes: the written form of the elements, which is the same for each set with these
-    /// elements, whatever its history.
+    /// Returns the tree bytes: the encoding of the elements, which is the same for each set with
+    /// these elements, whatever its history. They are those of a map with these keys.
     ///
-    /// They are those of a map with these keys. The error is `TooDeep` where a record would lie
-    /// deeper than level 65,535, which takes elements of more than that many bytes; or it is want of
-    /// memory.
+    /// # Errors
+    ///
+    /// `TooDeep` where a record would lie deeper than level 65,535, which takes elements of more
+    /// than that many bytes; or out of memory.
     pub fn tree_bytes(&self) -> Result<Vec<u8>, WireError>
         ensures ok { IfOk result (λ b. AreTreeBytes T.item 2 b.items (set.rows self.now)) }
         ensures too_deep { result ≡ Err WireError.TooDeep → TooDeep T.item 2 (set.elements self.now) }
@@ -185,12 +196,15 @@ impl<T: Bytes> GenericPatriciaSet<T> {
         self.map.tree_bytes()
     }
 
-    /// The set that tree bytes are the written form of, with a nothing for each element.
+    /// Makes a set of tree bytes, with a `()` for each element.
     ///
-    /// Any writing of a whole tree is read, be it of a `tree_bytes` or of the Rust crate, and the set
-    /// that is made has the one shape of its elements, as with `from_wire` of a map. The error is the
-    /// first fault that stands in the bytes or in the number of nothings. A whole tree with the right
-    /// number has none, so it is refused for want of memory alone.
+    /// Any encoding of a whole tree is read, whether of `tree_bytes` or of the Rust crate, and the
+    /// set has the one shape of its elements, as with `from_wire` of a map.
+    ///
+    /// # Errors
+    ///
+    /// The first fault of the bytes or of the number of values, and where it stands. A whole tree
+    /// with the right number has none, and is refused as out of memory alone.
     pub fn from_wire(alloc: Global, bytes: &[u8], values: Vec<()>) -> Result<Self, DecodeError>
         ensures ok { IfOk result (λ s. Means T.item 2 bytes.now values.items (set.rows s)) }
         ensures refused { IfErr result (λ e. IsRefusal T.item 2 bytes.now (length values.items) e) }
@@ -200,16 +214,18 @@ impl<T: Bytes> GenericPatriciaSet<T> {
         })
     }
 
-    /// The elements in their order.
+    /// Returns the elements in order, each owned. Making the iterator does not allocate; an item
+    /// that is an error is out of memory, and ends it.
     pub fn iter(&self) -> Iter<'_, T>
         ensures { result ≡ set.elements self.now }
     {
         Iter::new(self.map.keys())
     }
 
-    /// The elements that begin with the prefix, in their order. Making it takes no memory.
+    /// Returns the elements that begin with the prefix, in order, each owned. Making the iterator
+    /// does not allocate; an item that is an error is out of memory, and ends it.
     pub fn iter_prefix<Q: BorrowedBytes<Owned = T>>(&self, prefix: Q) -> IterPrefix<'_, Q>
-        ensures { result ≡ keys_under (Q.key prefix) (set.elements self.now) }
+        ensures { result ≡ keys_of (under (Q.key prefix) (set.rows self.now)) }
     {
         IterPrefix::new(self.map.iter_prefix(prefix))
     }

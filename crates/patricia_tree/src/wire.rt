@@ -1,4 +1,4 @@
-//! The wire: the faults of writing and of reading a map or a set, its laws, worked examples, and the
+//! The wire: the faults of encoding and of decoding a map or a set, its laws, worked examples, and the
 //! JSON of tree bytes and values.
 //!
 //! `tree_bytes` of a map or a set gives its tree bytes. Beside the values, in key order, they are

@@ -1,1 +1,11 @@
+pub mod AlongLemmas
+pub mod HolderLemmas
+pub mod HolderWriteLemmas
+pub mod LentLemmas
+pub mod NumberLemmas
+pub mod PlaceLemmas
 pub mod PositionLemmas
+pub mod ReadLemmas
+pub mod StartLemmas
+pub mod TrailLemmas
+pub mod UnderLemmas

@@ -2,13 +2,13 @@
 use Rattle.std.proofs.Common.{◌≡◌, ◌≢◌, ℕ, ◌+◌, ◌<◌, List, [], ◌∷◌, ◌++◌, length, get_or, take, Option, Some, None, slice_get, refl, sym, ap, subst, ◌∙◌, arith}
 use Rattle.std.proofs.lemmas.List.{map-append, append-nil}
 use Rattle.patricia_keys.proofs.KeyLemmas.{IsValid-nil, IsValid-append}
-use Rattle.patricia_rows.specs.Rows.{node, end, IsRow}
-use Rattle.patricia_rows.specs.Private.Spots.{left}
-use Rattle.patricia_rows.proofs.WalkLemmas.{step_down, step_back, left_filled}
-use Rattle.patricia_nodes.specs.declared.slots.Node.{Node}
-use Rattle.patricia_nodes.specs.declared.slots.Slots.{Slots}
-use Rattle.patricia_nodes.specs.Private.Plans.{Plan, Nil, Cell, head, row, count, plan_at, row_of, IsPlan, IsWhole}
-use Rattle.patricia_walks.specs.Private.Positions.{Position, row_at, rows_at, spot_of, AllPlans, count_all, Stand, IsPosition, IsTop, rows_below, Goes}
+use Rattle.patricia_model.specs.Siblings.{node, end, IsCanonical}
+use Rattle.patricia_model.specs.Internal.WalkStates.{left}
+use Rattle.patricia_model.proofs.WalkLemmas.{step_down, step_back, left_filled}
+use Rattle.patricia_nodes.specs.declared.arena.Node.{Node}
+use Rattle.patricia_nodes.specs.declared.arena.NodeArena.{NodeArena}
+use Rattle.patricia_nodes.specs.Internal.Plans.{Plan, Nil, Cell, head, row, count, plan_at, siblings_of, IsPlan, IsWellFormed}
+use Rattle.patricia_walks.specs.Internal.Positions.{Position, row_at, rows_at, state_of, AllPlans, count_all, Stand, IsPosition, IsTop, rows_below, AdvancesTo}
 use Rattle.patricia_nodes.proofs.PlanLemmas.{one-same, below_le, plan_is}
 use Rattle.patricia_nodes.proofs.SeekLemmas.{Opened, head_within, opened, whole_plan}
 use Rattle.patricia_nodes.proofs.WriteLemmas.{stands-keep}
@@ -84,20 +84,20 @@ module _ {V : Type 0} (p q : Position V) (id : ℕ) (n : Node V) (stands : Stand
 
 module _ (item : List ℕ → Type 0) {V : Type 0} where
   -- the step to a node's value and its children, where only that node is written to
-  pub goes_down : (p q : Position V) (id : ℕ) (n : Node V) (l : List ℕ) (front : ℕ) → IsPosition item p → p.due ≡ None → p.next ≡ Some id → n ≡ get_or p.nodes id n
+  pub goes_down : (p q : Position V) (id : ℕ) (n : Node V) (l : List ℕ) (front : ℕ) → IsPosition item p → p.pending ≡ None → p.next ≡ Some id → n ≡ get_or p.nodes id n
       → length q.nodes ≡ length p.nodes → ((i : ℕ) → i ≢ id → slice_get q.nodes i ≡ slice_get p.nodes i)
       → l ≡ n.label → front ≡ length p.path
-      → q.path ≡ p.path ++ l → q.due ≡ n.value → q.next ≡ n.child → q.stack ≡ p.stack ++ (front, n.sibling) ∷ []
-      → Goes item p q
-  goes_down p q id n l front w due next reads long others label_is front_is path due' child stack =
+      → q.path ≡ p.path ++ l → q.pending ≡ n.value → q.next ≡ n.child → q.stack ≡ p.stack ++ (front, n.sibling) ∷ []
+      → AdvancesTo item p q
+  goes_down p q id n l front w pending next reads long others label_is front_is path pending' child stack =
       let d = down p q id n w.stand next reads long others (length p.path) child (rw (sym front_is) stack) in
-      record { stand = d.stand; step = step_down item (spot_of p) (spot_of q) n.label n.value _ _ w.spot due d.row_is (rw (sym label_is) path) due' refl d.stack_is }
+      record { stand = d.stand; step = step_down item (state_of p) (state_of q) n.label n.value _ _ w.state pending d.row_is (rw (sym label_is) path) pending' refl d.stack_is }
 
   -- the step back to the row that waits last
-  pub goes_back : (p q : Position V) (n : ℕ) (at : Option ℕ) → IsPosition item p → p.due ≡ None → p.next ≡ None → p.stack ≡ q.stack ++ (n, at) ∷ []
-      → q.nodes ≡ p.nodes → q.path ≡ take n p.path → q.due ≡ p.due → q.next ≡ at
-      → Goes item p q
-  goes_back p q n at w due next stack nodes path due' at_is =
+  pub goes_back : (p q : Position V) (n : ℕ) (at : Option ℕ) → IsPosition item p → p.pending ≡ None → p.next ≡ None → p.stack ≡ q.stack ++ (n, at) ∷ []
+      → q.nodes ≡ p.nodes → q.path ≡ take n p.path → q.pending ≡ p.pending → q.next ≡ at
+      → AdvancesTo item p q
+  goes_back p q n at w pending next stack nodes path pending' at_is =
       let last = all_plans-last p.nodes q.stack n at (rw stack at w.stand.plans) in
       record {
         stand = record {
@@ -105,24 +105,24 @@ module _ (item : List ℕ → Type 0) {V : Type 0} where
           plans = rw nodes last.1;
           once = λ i. rw (nodes, at_is) (omega (arith, w.stand.once i, ap (λ f. count_all p.nodes f i) stack, count_all-snoc p.nodes q.stack n at i));
         };
-        step = step_back item (spot_of p) (spot_of q) n (row_at p.nodes at) w.spot due (ap (row_at p.nodes) next ∙ row_none p.nodes)
-            (rw (stack, nodes) (map-append _ _ _)) path due' (rw (nodes, at_is) refl);
+        step = step_back item (state_of p) (state_of q) n (row_at p.nodes at) w.state pending (ap (row_at p.nodes) next ∙ row_none p.nodes)
+            (rw (stack, nodes) (map-append _ _ _)) path pending' (rw (nodes, at_is) refl);
       }
 
   -- where a node is next, an entry is left
-  pub position_filled : (p : Position V) (id : ℕ) → IsPosition item p → p.next ≡ Some id → left (spot_of p) ≢ []
+  pub position_filled : (p : Position V) (id : ℕ) → IsPosition item p → p.next ≡ Some id → left (state_of p) ≢ []
   position_filled p id w next = by (plan_at p.nodes p.next) refl w.stand.next_plan.at_is
     where
-      by : (r : Plan V) → plan_at p.nodes p.next ≡ r → p.next ≡ head r → left (spot_of p) ≢ []
+      by : (r : Plan V) → plan_at p.nodes p.next ≡ r → p.next ≡ head r → left (state_of p) ≢ []
       by Nil is at = absurd (cc)
-      by (Cell i l v c d) is at = left_filled item (spot_of p) l v (row c) (row d) w.spot (ap row is)
+      by (Cell i l v c d) is at = left_filled item (state_of p) l v (row c) (row d) w.state (ap row is)
 
   -- a number that is next is that of a node
   pub position_within : (p : Position V) (id : ℕ) → IsPosition item p → p.next ≡ Some id → id < length p.nodes
   position_within p id w next = head_within p.nodes p.next (plan_at p.nodes p.next) id w.stand.next_plan next
 
   -- at its start a walk stands at the first row
-  pub position_start : (s : Slots V) (p : Position V) → IsWhole s → IsRow item (row_of s) → p.nodes ≡ s.nodes.items → p.path ≡ [] → p.next ≡ s.root → p.stack ≡ [] → IsPosition item p
+  pub position_start : (s : NodeArena V) (p : Position V) → IsWellFormed s → IsCanonical item (siblings_of s) → p.nodes ≡ s.nodes.items → p.path ≡ [] → p.next ≡ s.root → p.stack ≡ [] → IsPosition item p
   position_start s p whole ok nodes path next stack =
       let plan = whole_plan s whole in
       let once = whole.1.1.once in
@@ -133,7 +133,7 @@ module _ (item : List ℕ → Type 0) {V : Type 0} where
           plans = rw stack tt;
           once = λ i. rw (nodes, next, stack) (omega (arith, once i, below_le (length s.nodes.items) i, ap (λ r. count r i) is));
         };
-        spot = record { valid = rw path (IsValid-nil item); row_ok = rw (nodes, next) ok; waits = rw stack tt };
+        state = record { valid = rw path (IsValid-nil item); canonical = rw (nodes, next) ok; waits = rw stack tt };
       }
 
   -- with no row left a walk stands at its end
@@ -143,32 +143,30 @@ module _ (item : List ℕ → Type 0) {V : Type 0} where
       let is = plan_is p.nodes None Nil plan in
       record {
         stand = record { next_plan = rw (next, is) plan; plans = rw stack tt; once = λ i. rw (next, is, stack) (omega arith) };
-        spot = record { valid = rw path (IsValid-nil item); row_ok = rw (next, is) tt; waits = rw stack tt };
+        state = record { valid = rw path (IsValid-nil item); canonical = rw (next, is) tt; waits = rw stack tt };
       }
 
-module _ (item : List ℕ → Type 0) {V : Type 0} (slots : Slots V) (front : List ℕ) (top : ℕ) (n : Node V) (w : IsTop item slots front top) (reads : n ≡ get_or slots.nodes.items top n) where
-  top_opened : Opened slots.nodes.items (plan_at slots.nodes.items (Some top)) top n
-  top_opened = opened slots.nodes.items (Some top) (plan_at slots.nodes.items (Some top)) top n w.plan refl reads
+module _ (item : List ℕ → Type 0) {V : Type 0} (arena : NodeArena V) (front : List ℕ) (top : ℕ) (n : Node V) (w : IsTop item arena front top) (reads : n ≡ get_or arena.nodes.items top n) where
+  top_opened : Opened arena.nodes.items (plan_at arena.nodes.items (Some top)) top n
+  top_opened = opened arena.nodes.items (Some top) (plan_at arena.nodes.items (Some top)) top n w.plan refl reads
 
-  top_row : row_at slots.nodes.items (Some top) ≡ node n.label n.value (row_at slots.nodes.items n.child) (row top_opened.sibling)
-  top_row = ap row top_opened.is ∙ ap (λ c. node n.label n.value (row c) (row top_opened.sibling)) (sym (plan_is slots.nodes.items n.child top_opened.child top_opened.child_plan))
+  top_row : row_at arena.nodes.items (Some top) ≡ node n.label n.value (row_at arena.nodes.items n.child) (row top_opened.sibling)
+  top_row = ap row top_opened.is ∙ ap (λ c. node n.label n.value (row c) (row top_opened.sibling)) (sym (plan_is arena.nodes.items n.child top_opened.child top_opened.child_plan))
 
   -- a walk below a node stands at its value and its children
-  pub position_top : (p : Position V) → p.nodes ≡ slots.nodes.items → p.path ≡ front ++ n.label → p.next ≡ n.child → p.stack ≡ [] → IsPosition item p
+  pub position_top : (p : Position V) → p.nodes ≡ arena.nodes.items → p.path ≡ front ++ n.label → p.next ≡ n.child → p.stack ≡ [] → IsPosition item p
   position_top p nodes path next stack =
-      let is = plan_is slots.nodes.items n.child top_opened.child top_opened.child_plan in
-      let ok = subst (IsRow item) top_row w.row_ok in
+      let is = plan_is arena.nodes.items n.child top_opened.child top_opened.child_plan in
+      let ok = subst (IsCanonical item) top_row w.canonical in
       record {
         stand = record {
           next_plan = rw (nodes, next, is) top_opened.child_plan;
           plans = rw stack tt;
           once = λ i. rw (nodes, next, is, stack) (omega (arith, w.once i, ap (λ r. count r i) top_opened.is));
         };
-        spot = record { valid = rw path (IsValid-append item front n.label w.valid ok.valid); row_ok = rw (nodes, next) ok.child; waits = rw stack tt };
+        state = record { valid = rw path (IsValid-append item front n.label w.valid ok.valid); canonical = rw (nodes, next) ok.child; waits = rw stack tt };
       }
 
-  pub left_top : (p : Position V) → p.nodes ≡ slots.nodes.items → p.path ≡ front ++ n.label → p.due ≡ n.value → p.next ≡ n.child → p.stack ≡ [] → left (spot_of p) ≡ rows_below front (row_at slots.nodes.items (Some top))
-  left_top p nodes path due next stack = rw (nodes, path, due, next, stack, top_row) (append-nil _)
-
-  pub top_within : top < length slots.nodes.items
-  top_within = head_within slots.nodes.items (Some top) (plan_at slots.nodes.items (Some top)) top w.plan refl
+  -- all rows below the node are left then
+  pub left_top : (p : Position V) → p.nodes ≡ arena.nodes.items → p.path ≡ front ++ n.label → p.pending ≡ n.value → p.next ≡ n.child → p.stack ≡ [] → left (state_of p) ≡ rows_below front (row_at arena.nodes.items (Some top))
+  left_top p nodes path pending next stack = rw (nodes, path, pending, next, stack, top_row) (append-nil _)

@@ -2,41 +2,41 @@
 //!
 //! The nodes stay in the vector. They are dropped with the walk, or at an error.
 ghost use Rattle.std.specs.Prelude.{◌≡◌, ◌≢◌, ◌++◌, [], Some, None, false, IfOk, OnOk, OnErr, IsTrue};
-ghost use Rattle.patricia_rows.specs.Rows.{own, IsRow};
-ghost use Rattle.patricia_rows.specs.Private.Spots.{left, Takes};
-ghost use Rattle.patricia_rows.specs.Walks.{Gives};
-ghost use Rattle.patricia_nodes.specs.Private.Plans.{IsWhole, row_of, entries_of};
-ghost use Rattle.patricia_walks.specs.Private.Positions.{IsPosition, Goes, spot_of, owned};
+ghost use Rattle.patricia_model.specs.Siblings.{own, IsCanonical};
+ghost use Rattle.patricia_model.specs.Internal.WalkStates.{left, TakesEntry};
+ghost use Rattle.patricia_model.specs.Walks.{YieldsOrErr};
+ghost use Rattle.patricia_nodes.specs.Internal.Plans.{IsWellFormed, siblings_of, entries_of};
+ghost use Rattle.patricia_walks.specs.Internal.Positions.{IsPosition, AdvancesTo, state_of, owned};
 
 use patricia_keys::Bytes;
-use patricia_labels::link::{Link, NodeId};
-use patricia_nodes::slots::Slots;
+use patricia_nodes::arena::NodeArena;
+use patricia_nodes::link::{Link, NodeId};
 use std::alloc::{AllocError, Global};
 use std::marker::{Model, PhantomData};
 
 // How far a walk has come, and what it still owns.
 #[derive(Drop)]
-struct OwnedPlace<V> {
-    slots: Slots<V>,
+struct OwnedTraversal<V> {
+    arena: NodeArena<V>,
     // the key of the last value, which stands before the keys of the row
     path: Vec<u8>,
     // the value at the path, while it is due
-    due: Option<V>,
+    pending: Option<V>,
     // the row that is next
     next: Link,
     // the rows that wait, each behind so many bytes of the path
     stack: Vec<(usize, Link)>,
 }
 
-impl<V: Drop> OwnedPlace<V> {
+impl<V: Drop> OwnedTraversal<V> {
     // Ends the walk, and drops what is left.
     fn finish<K: Bytes>(&mut self)
-        ensures left { left (spot_of (owned self.new)) ≡ [] }
+        ensures left { left (state_of (owned self.new)) ≡ [] }
         ensures position { IsPosition K.item (owned self.new) }
     {
-        self.slots.clear();
+        self.arena.clear();
         self.path.clear();
-        self.due = None;
+        self.pending = None;
         self.next = Link::none();
         self.stack.clear();
     }
@@ -44,15 +44,15 @@ impl<V: Drop> OwnedPlace<V> {
     // Goes on to the node's value and its children.
     fn descend<K: Bytes>(&mut self, id: NodeId) -> Result<(), AllocError>
         requires position { IsPosition K.item (owned self.old) }
-        requires taken { self.old.due ≡ None }
+        requires taken { self.old.pending ≡ None }
         requires next { self.old.next ≡ Some id }
-        ensures { OnOk result (Goes K.item (owned self.old) (owned self.new)) }
+        ensures { OnOk result (AdvancesTo K.item (owned self.old) (owned self.new)) }
     {
-        let node = &mut self.slots.nodes[id.index()];
+        let node = &mut self.arena.nodes[id.index()];
         let front = self.path.len();
         self.stack.push((front, node.sibling))?;
         self.path.extend_from_slice(node.label.as_slice())?;
-        self.due = node.value.take();
+        self.pending = node.value.take();
         self.next = node.child;
         Ok(())
     }
@@ -60,10 +60,10 @@ impl<V: Drop> OwnedPlace<V> {
     // Goes back to the row that waits last, if there is one.
     fn back<K: Bytes>(&mut self) -> bool
         requires position { IsPosition K.item (owned self.old) }
-        requires taken { self.old.due ≡ None }
+        requires taken { self.old.pending ≡ None }
         requires over { self.old.next ≡ None }
-        ensures step { IsTrue result → Goes K.item (owned self.old) (owned self.new) }
-        ensures over { result ≡ false → left (spot_of (owned self.old)) ≡ [] }
+        ensures step { IsTrue result → AdvancesTo K.item (owned self.old) (owned self.new) }
+        ensures over { result ≡ false → left (state_of (owned self.old)) ≡ [] }
         ensures stays { result ≡ false → owned self.new ≡ owned self.old }
     {
         let Some((front, row)) = self.stack.pop() else {
@@ -79,11 +79,11 @@ impl<V: Drop> OwnedPlace<V> {
         requires { IsPosition K.item (owned self.old) }
         ensures position { OnOk result (IsPosition K.item (owned self.new)) }
         ensures ok { IfOk result (λ found.
-            Takes (spot_of (owned self.old)) found (spot_of (owned self.new))) }
-        ensures err { OnErr result (left (spot_of (owned self.old)) ≢ []) }
+            TakesEntry (state_of (owned self.old)) found (state_of (owned self.new))) }
+        ensures err { OnErr result (left (state_of (owned self.old)) ≢ []) }
     {
         loop {
-            if let Some(value) = self.due.take() {
+            if let Some(value) = self.pending.take() {
                 return Ok(Some(value));
             }
             match self.next.get() {
@@ -102,7 +102,7 @@ impl<V: Drop> OwnedPlace<V> {
 #[derive(Drop)]
 pub struct IntoWalk<K: Bytes, V> {
     alloc: Global,
-    place: OwnedPlace<V>,
+    place: OwnedTraversal<V>,
     kind: PhantomData<K>,
 }
 
@@ -111,28 +111,28 @@ impl<K: Bytes, V> Model for IntoWalk<K, V> {
 
     ghost Value = { List (List ℕ × V) };
 
-    ghost use Rattle.patricia_rows.specs.Private.Spots.{left};
-    ghost use Rattle.patricia_walks.specs.Private.Positions.{IsPosition, spot_of, owned};
+    ghost use Rattle.patricia_model.specs.Internal.WalkStates.{left};
+    ghost use Rattle.patricia_walks.specs.Internal.Positions.{IsPosition, state_of, owned};
 
-    ghost view = { λ w. left (spot_of (owned w.place)) };
+    ghost view = { λ w. left (state_of (owned w.place)) };
 
     ghost invariant = { λ w. IsPosition K.item (owned w.place) };
 }
 
 impl<K: Bytes, V: Drop> IntoWalk<K, V> {
-    /// A walk over the empty key's value and the nodes. Making it takes no memory.
-    pub fn new(alloc: Global, due: Option<V>, slots: Slots<V>) -> Self
-        requires whole { IsWhole slots }
-        requires row { IsRow K.item (row_of slots) }
-        ensures { result ≡ own due ++ entries_of slots }
+    /// A walk over the empty key's value and the nodes. Making it does not allocate.
+    pub fn new(alloc: Global, pending: Option<V>, arena: NodeArena<V>) -> Self
+        requires whole { IsWellFormed arena }
+        requires row { IsCanonical K.item (siblings_of arena) }
+        ensures { result ≡ own pending ++ entries_of arena }
     {
-        let next = slots.root;
+        let next = arena.root;
         IntoWalk {
             alloc,
-            place: OwnedPlace {
-                slots,
+            place: OwnedTraversal {
+                arena,
                 path: Vec::new(alloc),
-                due,
+                pending,
                 next,
                 stack: Vec::new(alloc),
             },
@@ -142,7 +142,7 @@ impl<K: Bytes, V: Drop> IntoWalk<K, V> {
 
     /// The next entry. After an error nothing is left: the other entries are dropped.
     pub fn next_entry(&mut self) -> Option<Result<(K, V), AllocError>>
-        ensures { Gives (λ e. (K.key e.0, e.1)) self.old result self.new }
+        ensures { YieldsOrErr (λ e. (K.key e.0, e.1)) self.old result self.new }
     {
         match self.place.seek::<K>() {
             Ok(Some(value)) => match K::from_bytes(self.alloc, &self.place.path) {

@@ -1,7 +1,15 @@
-//! Walks over the nodes of a tree, in key order.
+//! Walks over the nodes of a tree, in key order: whole ones, those along a key and under a prefix,
+//! and cursors, which own a tree and lend its values one at a time.
 //!
-//! `patricia_tree` is the library to use. This crate is what it stands on.
+//! `patricia_tree` is the library to use. It depends on this crate.
 #![tactic(auto)]
 
+pub mod along;
+pub mod cursor;
+mod cursor_state;
 pub mod into_walk;
+pub mod reach;
+pub mod under;
 pub mod walk;
+
+pub use cursor_state::TreeParts;

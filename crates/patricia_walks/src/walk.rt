@@ -1,40 +1,40 @@
 //! Walks over nodes in one vector, in key order.
 ghost use Rattle.std.specs.Prelude.{◌≡◌, ◌≢◌, ◌++◌, [], Some, None, false, IfOk, OnOk, OnErr, IsTrue};
 ghost use Rattle.std.specs.Option.{option_copied};
-ghost use Rattle.patricia_rows.specs.Rows.{own, keys_of, IsRow};
-ghost use Rattle.patricia_rows.specs.Private.Spots.{left, Takes};
-ghost use Rattle.patricia_rows.specs.Walks.{Gives, values_of};
-ghost use Rattle.patricia_nodes.specs.Private.Plans.{IsWhole, row_of, entries_of};
-ghost use Rattle.patricia_walks.specs.Private.Positions.{IsPosition, IsTop, Goes, spot_of, lent, row_at, rows_below};
+ghost use Rattle.patricia_model.specs.Siblings.{own, keys_of, IsCanonical};
+ghost use Rattle.patricia_model.specs.Internal.WalkStates.{left, TakesEntry};
+ghost use Rattle.patricia_model.specs.Walks.{YieldsOrErr, values_of};
+ghost use Rattle.patricia_nodes.specs.Internal.Plans.{IsWellFormed, siblings_of, entries_of};
+ghost use Rattle.patricia_walks.specs.Internal.Positions.{IsPosition, IsTop, AdvancesTo, state_of, lent, row_at, rows_below};
 
 use patricia_keys::Bytes;
-use patricia_labels::link::{Link, NodeId};
-use patricia_nodes::slots::Slots;
+use patricia_nodes::arena::NodeArena;
+use patricia_nodes::link::{Link, NodeId};
 use std::alloc::{AllocError, Global};
 use std::marker::{Model, PhantomData};
 
 // How far a walk has come.
 #[derive(Drop)]
-struct Place<'a, V> {
-    slots: &'a Slots<V>,
+struct Traversal<'a, V> {
+    arena: &'a NodeArena<V>,
     // the key of the last value, which stands before the keys of the row
     path: Vec<u8>,
     // the value at the path, while it is due
-    due: Option<&'a V>,
+    pending: Option<&'a V>,
     // the row that is next
     next: Link,
     // the rows that wait, each behind so many bytes of the path
     stack: Vec<(usize, Link)>,
 }
 
-impl<'a, V> Place<'a, V> {
+impl<'a, V> Traversal<'a, V> {
     // Ends the walk.
     fn finish<K: Bytes>(&mut self)
-        ensures left { left (spot_of (lent self.new)) ≡ [] }
+        ensures left { left (state_of (lent self.new)) ≡ [] }
         ensures position { IsPosition K.item (lent self.new) }
     {
         self.path.clear();
-        self.due = None;
+        self.pending = None;
         self.next = Link::none();
         self.stack.clear();
     }
@@ -42,15 +42,15 @@ impl<'a, V> Place<'a, V> {
     // Goes on to the node's value and its children.
     fn descend<K: Bytes>(&mut self, id: NodeId) -> Result<(), AllocError>
         requires position { IsPosition K.item (lent self.old) }
-        requires taken { self.old.due ≡ None }
+        requires taken { self.old.pending ≡ None }
         requires next { self.old.next ≡ Some id }
-        ensures { OnOk result (Goes K.item (lent self.old) (lent self.new)) }
+        ensures { OnOk result (AdvancesTo K.item (lent self.old) (lent self.new)) }
     {
-        let node = &self.slots.nodes[id.index()];
+        let node = &self.arena.nodes[id.index()];
         let front = self.path.len();
         self.stack.push((front, node.sibling))?;
         self.path.extend_from_slice(node.label.as_slice())?;
-        self.due = node.value.as_ref();
+        self.pending = node.value.as_ref();
         self.next = node.child;
         Ok(())
     }
@@ -58,10 +58,10 @@ impl<'a, V> Place<'a, V> {
     // Goes back to the row that waits last, if there is one.
     fn back<K: Bytes>(&mut self) -> bool
         requires position { IsPosition K.item (lent self.old) }
-        requires taken { self.old.due ≡ None }
+        requires taken { self.old.pending ≡ None }
         requires over { self.old.next ≡ None }
-        ensures step { IsTrue result → Goes K.item (lent self.old) (lent self.new) }
-        ensures over { result ≡ false → left (spot_of (lent self.old)) ≡ [] }
+        ensures step { IsTrue result → AdvancesTo K.item (lent self.old) (lent self.new) }
+        ensures over { result ≡ false → left (state_of (lent self.old)) ≡ [] }
         ensures stays { result ≡ false → lent self.new ≡ lent self.old }
     {
         let Some((front, row)) = self.stack.pop() else {
@@ -77,11 +77,11 @@ impl<'a, V> Place<'a, V> {
         requires { IsPosition K.item (lent self.old) }
         ensures position { OnOk result (IsPosition K.item (lent self.new)) }
         ensures ok { IfOk result (λ found.
-            Takes (spot_of (lent self.old)) (option_copied found) (spot_of (lent self.new))) }
-        ensures err { OnErr result (left (spot_of (lent self.old)) ≢ []) }
+            TakesEntry (state_of (lent self.old)) (option_copied found) (state_of (lent self.new))) }
+        ensures err { OnErr result (left (state_of (lent self.old)) ≢ []) }
     {
         loop {
-            if let Some(value) = self.due.take() {
+            if let Some(value) = self.pending.take() {
                 return Ok(Some(value));
             }
             match self.next.get() {
@@ -100,7 +100,7 @@ impl<'a, V> Place<'a, V> {
 #[derive(Drop)]
 pub struct Walk<'a, K: Bytes, V> {
     alloc: Global,
-    place: Place<'a, V>,
+    place: Traversal<'a, V>,
     kind: PhantomData<K>,
 }
 
@@ -109,44 +109,44 @@ impl<'a, K: Bytes, V> Model for Walk<'a, K, V> {
 
     ghost Value = { List (List ℕ × V) };
 
-    ghost use Rattle.patricia_rows.specs.Private.Spots.{left};
-    ghost use Rattle.patricia_walks.specs.Private.Positions.{IsPosition, spot_of, lent};
+    ghost use Rattle.patricia_model.specs.Internal.WalkStates.{left};
+    ghost use Rattle.patricia_walks.specs.Internal.Positions.{IsPosition, state_of, lent};
 
-    ghost view = { λ w. left (spot_of (lent w.place)) };
+    ghost view = { λ w. left (state_of (lent w.place)) };
 
     ghost invariant = { λ w. IsPosition K.item (lent w.place) };
 }
 
 impl<'a, K: Bytes, V> Walk<'a, K, V> {
-    /// A walk over the empty key's value and the nodes. Making it takes no memory.
-    pub fn new(alloc: Global, due: Option<&'a V>, slots: &'a Slots<V>) -> Self
-        requires whole { IsWhole slots.now }
-        requires row { IsRow K.item (row_of slots.now) }
-        ensures { result ≡ own (option_copied due.entry) ++ entries_of slots.now }
+    /// A walk over the empty key's value and the nodes. Making it does not allocate.
+    pub fn new(alloc: Global, pending: Option<&'a V>, arena: &'a NodeArena<V>) -> Self
+        requires whole { IsWellFormed arena.now }
+        requires row { IsCanonical K.item (siblings_of arena.now) }
+        ensures { result ≡ own (option_copied pending.entry) ++ entries_of arena.now }
     {
         Walk {
             alloc,
-            place: Place {
-                slots,
+            place: Traversal {
+                arena,
                 path: Vec::new(alloc),
-                due,
-                next: slots.root,
+                pending,
+                next: arena.root,
                 stack: Vec::new(alloc),
             },
             kind: PhantomData,
         }
     }
 
-    /// A walk that is over. Making it takes no memory.
-    pub fn ended(alloc: Global, slots: &'a Slots<V>) -> Self
+    /// A walk that is over. Making it does not allocate.
+    pub fn ended(alloc: Global, arena: &'a NodeArena<V>) -> Self
         ensures { result ≡ [] }
     {
         Walk {
             alloc,
-            place: Place {
-                slots,
+            place: Traversal {
+                arena,
                 path: Vec::new(alloc),
-                due: None,
+                pending: None,
                 next: Link::none(),
                 stack: Vec::new(alloc),
             },
@@ -154,27 +154,27 @@ impl<'a, K: Bytes, V> Walk<'a, K, V> {
         }
     }
 
-    /// A walk over a node and what is below it, behind these bytes. The error is want of memory.
+    /// A walk over a node and what is below it, behind these bytes. The error is out of memory.
     pub fn below(
         alloc: Global,
-        slots: &'a Slots<V>,
+        arena: &'a NodeArena<V>,
         front: &[u8],
         top: NodeId,
     ) -> Result<Self, AllocError>
-        requires { IsTop K.item slots.now front.now top }
-        ensures { IfOk result (λ walk. walk ≡ rows_below front.now (row_at slots.now.nodes.items (Some top))) }
+        requires { IsTop K.item arena.now front.now top }
+        ensures { IfOk result (λ walk. walk ≡ rows_below front.now (row_at arena.now.nodes.items (Some top))) }
     {
-        let node = &slots.nodes[top.index()];
+        let node = &arena.nodes[top.index()];
         let label = node.label.as_slice();
         let mut path = Vec::with_capacity(alloc, front.len() + label.len())?;
         path.extend_from_slice(front)?;
         path.extend_from_slice(label)?;
         Ok(Walk {
             alloc,
-            place: Place {
-                slots,
+            place: Traversal {
+                arena,
                 path,
-                due: node.value.as_ref(),
+                pending: node.value.as_ref(),
                 next: node.child,
                 stack: Vec::new(alloc),
             },
@@ -184,7 +184,7 @@ impl<'a, K: Bytes, V> Walk<'a, K, V> {
 
     /// The next entry.
     pub fn next_entry(&mut self) -> Option<Result<(K, &'a V), AllocError>>
-        ensures { Gives (λ e. (K.key e.0, e.1.now)) self.old result self.new }
+        ensures { YieldsOrErr (λ e. (K.key e.0, e.1.now)) self.old result self.new }
     {
         match self.place.seek::<K>() {
             Ok(Some(value)) => match K::from_bytes(self.alloc, &self.place.path) {
@@ -204,7 +204,7 @@ impl<'a, K: Bytes, V> Walk<'a, K, V> {
 
     /// The key of the next entry.
     pub fn next_key(&mut self) -> Option<Result<K, AllocError>>
-        ensures { Gives K.key (keys_of self.old) result (keys_of self.new) }
+        ensures { YieldsOrErr K.key (keys_of self.old) result (keys_of self.new) }
     {
         match self.next_entry()? {
             Ok((key, _)) => Some(Ok(key)),
@@ -214,7 +214,7 @@ impl<'a, K: Bytes, V> Walk<'a, K, V> {
 
     /// The value of the next entry. No key is built.
     pub fn next_value(&mut self) -> Option<Result<&'a V, AllocError>>
-        ensures { Gives (λ v. v.now) (values_of self.old) result (values_of self.new) }
+        ensures { YieldsOrErr (λ v. v.now) (values_of self.old) result (values_of self.new) }
     {
         match self.place.seek::<K>() {
             Ok(Some(value)) => Some(Ok(value)),

@@ -1,26 +1,26 @@
 //! A tree that cursors walk over.
 ghost use Rattle.std.specs.Prelude.{◌≡◌, [], None};
 ghost use Rattle.std.specs.FinMap as map;
-ghost use Rattle.patricia_rows.specs.Trees.{map_of, IsTree};
-ghost use Rattle.patricia_nodes.specs.Private.Plans.{IsWhole, row_of};
+ghost use Rattle.patricia_model.specs.Trees.{map_of, IsTree};
+ghost use Rattle.patricia_nodes.specs.Internal.Plans.{IsWellFormed, siblings_of};
 
 use super::Tree;
-use patricia_cursors::Parts;
-use patricia_cursors::cursor::{Cursor, PrefixCursor};
 use patricia_keys::{BorrowedBytes, Bytes};
+use patricia_walks::TreeParts;
+use patricia_walks::cursor::{Cursor, PrefixCursor};
 use std::marker::PhantomData;
 use std::mem;
 
 // A tree made of its parts.
-fn made_of<K: Bytes, V>(parts: Parts<V>) -> Tree<K, V>
-    requires whole { IsWhole parts.slots }
-    requires tree { IsTree K.item (row_of parts.slots) parts.count }
-    ensures { result ≡ map_of parts.value (row_of parts.slots) }
+fn made_of<K: Bytes, V>(parts: TreeParts<V>) -> Tree<K, V>
+    requires whole { IsWellFormed parts.arena }
+    requires tree { IsTree K.item (siblings_of parts.arena) parts.count }
+    ensures { result ≡ map_of parts.value (siblings_of parts.arena) }
 {
     Tree {
         alloc: parts.alloc,
         value: parts.value,
-        slots: parts.slots,
+        arena: parts.arena,
         count: parts.count,
         kind: PhantomData,
     }
@@ -28,20 +28,20 @@ fn made_of<K: Bytes, V>(parts: Parts<V>) -> Tree<K, V>
 
 impl<K: Bytes, V: Drop> Tree<K, V> {
     // The parts of a tree.
-    fn into_parts(self) -> Parts<V>
-        ensures whole { IsWhole result.slots }
-        ensures tree { IsTree K.item (row_of result.slots) result.count }
-        ensures map { map_of result.value (row_of result.slots) ≡ self }
+    fn into_parts(self) -> TreeParts<V>
+        ensures whole { IsWellFormed result.arena }
+        ensures tree { IsTree K.item (siblings_of result.arena) result.count }
+        ensures map { map_of result.value (siblings_of result.arena) ≡ self }
     {
-        Parts {
+        TreeParts {
             alloc: self.alloc,
             value: self.value,
-            slots: self.slots,
+            arena: self.arena,
             count: self.count,
         }
     }
 
-    /// Takes the tree out and leaves the empty one. It takes no memory.
+    /// Takes the tree and leaves the empty one. Does not allocate.
     pub fn take(&mut self) -> Self
         ensures taken { result ≡ self.old }
         ensures left { self.new ≡ map.empty }
@@ -50,7 +50,7 @@ impl<K: Bytes, V: Drop> Tree<K, V> {
         mem::replace(self, empty)
     }
 
-    /// A cursor over the entries, which owns the tree. Making it takes no memory.
+    /// A cursor over the entries, which owns the tree. Making it does not allocate.
     pub fn into_cursor(self) -> Cursor<K, V>
         ensures { result ≡ record { map = self; prefix = []; last = None } }
     {
@@ -65,7 +65,7 @@ impl<K: Bytes, V: Drop> Tree<K, V> {
     }
 
     /// A cursor over the entries whose key begins with a prefix, which owns the tree. Making it
-    /// takes no memory.
+    /// does not allocate.
     pub fn into_prefix_cursor<Q: BorrowedBytes<Owned = K>>(self, prefix: Q) -> PrefixCursor<Q, V>
         ensures { result ≡ record { map = self; prefix = Q.key prefix; last = None } }
     {

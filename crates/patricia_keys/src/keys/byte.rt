@@ -2,7 +2,7 @@
 ghost use Rattle.std.specs.Prelude.{◌≡◌};
 ghost use Rattle.patricia_keys.specs.Keys.{IsValid, IsFirstItem, IsSharedLen};
 ghost use Rattle.patricia_keys.specs.ByteKind.{IsByteItem};
-ghost use Rattle.patricia_keys.specs.Private.ByteLaw.{byte_lawful};
+ghost use Rattle.patricia_keys.specs.Internal.ByteLaw.{byte_lawful};
 
 use super::{BorrowedBytes, Bytes};
 use std::alloc::{AllocError, Global};

@@ -3,7 +3,7 @@ ghost use Rattle.std.specs.Prelude.{◌≡◌, ℕ, ◌≤◌, encode_utf8, leng
 ghost use Rattle.std.specs.Char.{IsScalar, len_utf8};
 ghost use Rattle.patricia_keys.specs.Keys.{IsValid, IsFloor, IsFirstItem};
 ghost use Rattle.patricia_keys.specs.TextKind.{IsTextItem};
-ghost use Rattle.patricia_keys.specs.Private.TextLaw.{text_lawful};
+ghost use Rattle.patricia_keys.specs.Internal.TextLaw.{text_lawful};
 
 use super::byte::shared_len;
 use super::{BorrowedBytes, Bytes};

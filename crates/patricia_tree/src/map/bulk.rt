@@ -1,4 +1,4 @@
-//! Many pairs put in by one call.
+//! Many pairs inserted by one call.
 ghost use Rattle.std.specs.Prelude.{IfOk, OnOk, OnErr};
 ghost use Rattle.std.specs.Iterator.{IsFiniteIterable};
 ghost use Rattle.std.specs.FinMap as map;
@@ -11,10 +11,13 @@ use std::alloc::{AllocError, Global};
 use std::iter::{IntoIterator, Iterator};
 
 impl<K: Bytes, V: Drop> GenericPatriciaMap<K, V> {
-    /// Puts pairs in, one after the other: of two values for one key the later stays.
+    /// Inserts pairs, one after the other: of two values for one key the later stays. The iterator
+    /// must end.
     ///
-    /// The error is want of memory at a new key that is not empty. The pairs before it are in; it
-    /// and the rest are dropped.
+    /// # Errors
+    ///
+    /// Out of memory, at a new nonempty key: the pairs before it are inserted; it and the rest are
+    /// dropped.
     pub fn extend<Q: BorrowedBytes<Owned = K>, I: IntoIterator<Item = (Q, V)>>(
         &mut self,
         pairs: I,
@@ -35,9 +38,12 @@ impl<K: Bytes, V: Drop> GenericPatriciaMap<K, V> {
         Ok(())
     }
 
-    /// A new map with pairs put in, one after the other: of two values for one key the later stays.
+    /// Makes a map of pairs, inserted one after the other: of two values for one key the later
+    /// stays. The iterator must end.
     ///
-    /// The error is want of memory at a new key that is not empty. All pairs are dropped then.
+    /// # Errors
+    ///
+    /// Out of memory, at a new nonempty key. All pairs are dropped then.
     pub fn from_iter<Q: BorrowedBytes<Owned = K>, I: IntoIterator<Item = (Q, V)>>(
         alloc: Global,
         pairs: I,

@@ -5,7 +5,7 @@ use patricia_core::keys::Bytes;
 use std::fmt::{Debug, Error, Formatter, Result, Write};
 
 impl<K: Bytes + Debug, V: Drop + Debug> Debug for GenericPatriciaMap<K, V> {
-    /// The error is that of the formatter, or want of memory for a key.
+    /// The error is that of the formatter, or that of a key for which memory ran out.
     fn fmt<W: Write>(&self, f: &mut Formatter<W>) -> Result {
         let mut entries = f.debug_map();
         for entry in self {

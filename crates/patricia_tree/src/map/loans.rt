@@ -11,7 +11,7 @@ use patricia_core::keys::{BorrowedBytes, Bytes};
 
 impl<K: Bytes, V: Drop> GenericPatriciaMap<K, V> {
     ghost use Rattle.patricia_tree.specs.Loans.{RunsOn, TakesLongest};
-    ghost use Rattle.patricia_tree.specs.Private.Longest.{lends_there, IsLongest};
+    ghost use Rattle.patricia_tree.specs.Internal.Longest.{lends_longest, IsLongest};
 
     // The longest key that begins the key, as a part of it.
     fn longest_part<Q: BorrowedBytes<Owned = K>>(&self, key: Q) -> Option<Q>
@@ -27,7 +27,7 @@ impl<K: Bytes, V: Drop> GenericPatriciaMap<K, V> {
     // Lends the value at a key that is there.
     fn value_mut<Q: BorrowedBytes<Owned = K>>(&mut self, key: Q) -> &mut V
         requires { IsSome (map.get self.old (Q.key key)) }
-        ensures* writes { sem 𝓛 (lends_there K.row V.row K.Bytes self.entry (Q.key key) result) }
+        ensures* writes { sem 𝓛 (lends_longest K.row V.row K.Bytes self.entry (Q.key key) result) }
         ensures value { map.get self.old (Q.key key) ≡ Some result.now }
     {
         match self.get_mut(key) {
@@ -36,10 +36,11 @@ impl<K: Bytes, V: Drop> GenericPatriciaMap<K, V> {
         }
     }
 
-    /// Lends the value of the longest key that is a prefix of the key, and hands that key out.
+    /// Lends the value of the longest key that is a prefix of the key, and returns that key. Does
+    /// not allocate.
     ///
     /// The contract says no more than what is read: what the map is where there is no such key, or
-    /// after the loan, that of `with_longest_common_prefix_mut` says. It does not allocate.
+    /// after the loan, that of `with_longest_common_prefix_mut` says.
     pub fn get_longest_common_prefix_mut<Q: BorrowedBytes<Owned = K>>(
         &mut self,
         key: Q,
@@ -54,11 +55,11 @@ impl<K: Bytes, V: Drop> GenericPatriciaMap<K, V> {
         }
     }
 
-    /// Runs a closure on the longest key that is a beginning of the key and a loan of its value.
-    /// Where there is none, it is not run.
+    /// Runs a closure on the longest key that is a prefix of the key and a loan of its value, and
+    /// returns what it returns. Where there is none, it is not run. Does not allocate.
     ///
     /// The map keeps what the closure leaves there. The key that it is given is a part of the key
-    /// that is passed. It takes no memory.
+    /// that is passed.
     pub fn with_longest_common_prefix_mut<
         Q: BorrowedBytes<Owned = K>,
         R,

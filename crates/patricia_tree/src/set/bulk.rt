@@ -1,4 +1,4 @@
-//! Many elements put in by one call.
+//! Many elements inserted by one call.
 ghost use Rattle.std.specs.Prelude.{IfOk, OnOk, OnErr};
 ghost use Rattle.std.specs.Iterator.{IsFiniteIterable};
 ghost use Rattle.patricia_tree.specs.Sets as set;
@@ -10,10 +10,12 @@ use std::alloc::{AllocError, Global};
 use std::iter::{IntoIterator, Iterator};
 
 impl<T: Bytes> GenericPatriciaSet<T> {
-    /// Puts elements in, one after the other.
+    /// Inserts elements, one after the other. The iterator must end.
     ///
-    /// The error is want of memory at a new element that is not empty. Those before it are in; it
-    /// and the rest are dropped.
+    /// # Errors
+    ///
+    /// Out of memory, at a new nonempty element: those before it are inserted; it and the rest are
+    /// dropped.
     pub fn extend<Q: BorrowedBytes<Owned = T>, I: IntoIterator<Item = Q>>(
         &mut self,
         elements: I,
@@ -31,9 +33,11 @@ impl<T: Bytes> GenericPatriciaSet<T> {
         Ok(())
     }
 
-    /// A new set with elements put in, one after the other.
+    /// Makes a set of elements, inserted one after the other. The iterator must end.
     ///
-    /// The error is want of memory at a new element that is not empty. All are dropped then.
+    /// # Errors
+    ///
+    /// Out of memory, at a new nonempty element. All are dropped then.
     pub fn from_iter<Q: BorrowedBytes<Owned = T>, I: IntoIterator<Item = Q>>(
         alloc: Global,
         elements: I,

@@ -5,7 +5,7 @@ use patricia_core::keys::Bytes;
 use std::fmt::{Debug, Error, Formatter, Result, Write};
 
 impl<T: Bytes + Debug> Debug for GenericPatriciaSet<T> {
-    /// The error is that of the formatter, or want of memory for an element.
+    /// The error is that of the formatter, or that of an element for which memory ran out.
     fn fmt<W: Write>(&self, f: &mut Formatter<W>) -> Result {
         let mut entries = f.debug_set();
         for element in self {

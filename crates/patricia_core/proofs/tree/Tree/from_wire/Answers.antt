@@ -1,7 +1,7 @@
 use Rattle.std.proofs.Common.{◌+◌, cond, length, sym, ap, subst, ◌∙◌, arith}
-use Rattle.patricia_nodes.specs.Private.Plans.{row_of, entries_of}
-use Rattle.patricia_rows.proofs.TreeLemmas.{entries_map}
-use Rattle.patricia_wire_laws.specs.Writings.{Means}
+use Rattle.patricia_nodes.specs.Internal.Plans.{siblings_of, entries_of}
+use Rattle.patricia_model.proofs.TreeLemmas.{entries_map}
+use Rattle.patricia_wire.specs.Writings.{Means}
 use Rattle.patricia_core.proofs.FewRows.{few_values, row_count}
 use Rattle.patricia_core.proofs.tree.Tree.from_wire.Goals as goal
 use Rattle.patricia_core.proofs.tree.Tree.from_wire.Goals.{then-is_some, else-is_some}
@@ -11,14 +11,14 @@ invariant_of-result g c =
     let d = c.in_ok-value.field-0 in
     let means = c.in_ok-value.ensures.means in
     let few = few_values g.K.Bytes.item 2 c.args.bytes.now c.args.values.items _ means in
-    let count = row_count g.K.Bytes.item 2 c.args.bytes.now c.args.values.items d.value (entries_of d.slots) means in
+    let count = row_count g.K.Bytes.item 2 c.args.bytes.now c.args.values.items d.value (entries_of d.arena) means in
     record {
       whole = c.in_ok-value.ensures.whole;
       tree = record {
-        row_ok = c.in_ok-value.ensures.row;
+        canonical = c.in_ok-value.ensures.row;
         counted = elim c.if-is_some.branch [
-          | then-is_some w ↦ omega (arith, count ∙ ap (λ some. length (entries_of d.slots) + cond some 1 0) (sym w.if-is_some.ensures), c.len-given.ensures, w.count-is)
-          | else-is_some w ↦ omega (arith, count ∙ ap (λ some. length (entries_of d.slots) + cond some 1 0) (sym w.if-is_some.ensures), c.len-given.ensures, w.count-is)
+          | then-is_some w ↦ omega (arith, count ∙ ap (λ some. length (entries_of d.arena) + cond some 1 0) (sym w.if-is_some.ensures), c.len-given.ensures, w.count-is)
+          | else-is_some w ↦ omega (arith, count ∙ ap (λ some. length (entries_of d.arena) + cond some 1 0) (sym w.if-is_some.ensures), c.len-given.ensures, w.count-is)
         ];
         fits = omega (arith, count, few, c.len-given.ensures);
       };
@@ -27,4 +27,4 @@ invariant_of-result g c =
 pub returns-clause-ok : goal.returns-clause-ok
 returns-clause-ok g c =
     let d = c.in_ok-value.field-0 in
-    subst (Means g.K.Bytes.item 2 c.args.bytes.now c.args.values.items) (sym (entries_map g.K.Bytes.item g.met.K.Bytes.lawful d.value (row_of d.slots) c.in_ok-value.ensures.row)) c.in_ok-value.ensures.means
+    subst (Means g.K.Bytes.item 2 c.args.bytes.now c.args.values.items) (sym (entries_map g.K.Bytes.item g.met.K.Bytes.lawful d.value (siblings_of d.arena) c.in_ok-value.ensures.row)) c.in_ok-value.ensures.means

@@ -1,7 +1,7 @@
 use Rattle.std.proofs.Common.{None, ap, ◌∙◌, rules}
 use Rattle.std.specs.FinMap as map
 use Rattle.std.specs.List.{last_or}
-use Rattle.patricia_rows.proofs.PrefixLemmas.{some_begins}
+use Rattle.patricia_model.proofs.PrefixLemmas.{some_begins}
 use Rattle.patricia_core.proofs.tree.Tree.longest.Goals as goal
 
 pub returns-clause-part : goal.returns-clause-part

@@ -1,5 +1,5 @@
 use Rattle.std.proofs.Common.{rules}
-use Rattle.patricia_rows.proofs.TreeLemmas.{map_of_none}
+use Rattle.patricia_model.proofs.TreeLemmas.{map_of_none}
 use Rattle.patricia_core.proofs.tree.Tree.new.Goals as goal
 
 pub returns : goal.returns

@@ -1,13 +1,9 @@
-use Rattle.std.proofs.Common.{ap, ◌∙◌}
-use Rattle.std.specs.FinMap.{entries}
+use Rattle.std.proofs.Common.{ap}
 use Rattle.std.specs.Option.{option_map}
-use Rattle.patricia_tree.proofs.SetLemmas.{longest_keys}
 use Rattle.patricia_tree.proofs.set.GenericPatriciaSet.get_longest_common_prefix.Goals as goal
 
 pub returns-in-Some-clause-longest : goal.returns-in-Some-clause-longest
-returns-in-Some-clause-longest g c =
-    rw (← c.self.view_is) (ap (option_map (λ e. e.0)) c.in-Some.ensures.row ∙ longest_keys (g.Q.BorrowedBytes.key c.args.key) (entries c.self.inside.map))
+returns-in-Some-clause-longest g c = rw (← c.self.view_is) (ap (option_map (λ e. e.0)) c.in-Some.ensures.row)
 
 pub returns-in-None-clause-longest : goal.returns-in-None-clause-longest
-returns-in-None-clause-longest g c =
-    rw (← c.self.view_is) (ap (option_map (λ e. e.0)) c.in-None.ensures.row ∙ longest_keys (g.Q.BorrowedBytes.key c.args.key) (entries c.self.inside.map))
+returns-in-None-clause-longest g c = rw (← c.self.view_is) (ap (option_map (λ e. e.0)) c.in-None.ensures.row)

@@ -1,14 +1,14 @@
 use Rattle.std.proofs.Common.{refl, ap}
-use Rattle.patricia_rows.proofs.WalkLemmas.{left_start}
-use Rattle.patricia_nodes.specs.Private.Plans.{row_of}
-use Rattle.patricia_walks.specs.Private.Positions.{rows_at}
+use Rattle.patricia_model.proofs.WalkLemmas.{left_start}
+use Rattle.patricia_nodes.specs.Internal.Plans.{siblings_of}
+use Rattle.patricia_walks.specs.Internal.Positions.{rows_at}
 use Rattle.patricia_walks.proofs.PositionLemmas.{position_start}
 use Rattle.patricia_walks.proofs.into_walk.IntoWalk.new.Goals as goal
 
 pub invariant_of-result : goal.invariant_of-result
 invariant_of-result g c =
-    position_start g.K.Bytes.item c.args.slots _ c.requires.whole c.requires.row refl c.new.ensures.items refl c.new-2.ensures.items
+    position_start g.K.Bytes.item c.args.arena _ c.requires.whole c.requires.row refl c.new.ensures.items refl c.new-2.ensures.items
 
 pub returns : goal.returns
 returns g c =
-    left_start (record { path = c.new.result.items; due = c.args.due; row = row_of c.args.slots; stack = rows_at c.args.slots.nodes.items c.new-2.result.items }) c.new.ensures.items (ap (rows_at c.args.slots.nodes.items) c.new-2.ensures.items)
+    left_start (record { path = c.new.result.items; pending = c.args.pending; row = siblings_of c.args.arena; stack = rows_at c.args.arena.nodes.items c.new-2.result.items }) c.new.ensures.items (ap (rows_at c.args.arena.nodes.items) c.new-2.ensures.items)

@@ -1,15 +1,15 @@
 use Rattle.std.proofs.Common.{refl, ap}
 use Rattle.std.specs.Option.{option_copied}
-use Rattle.patricia_rows.proofs.WalkLemmas.{left_start}
-use Rattle.patricia_nodes.specs.Private.Plans.{row_of}
-use Rattle.patricia_walks.specs.Private.Positions.{rows_at}
+use Rattle.patricia_model.proofs.WalkLemmas.{left_start}
+use Rattle.patricia_nodes.specs.Internal.Plans.{siblings_of}
+use Rattle.patricia_walks.specs.Internal.Positions.{rows_at}
 use Rattle.patricia_walks.proofs.PositionLemmas.{position_start}
 use Rattle.patricia_walks.proofs.walk.Walk.new.Goals as goal
 
 pub invariant_of-result : goal.invariant_of-result
 invariant_of-result g c =
-    position_start g.K.Bytes.item c.args.slots.now _ c.requires.whole c.requires.row refl c.new.ensures.items refl c.new-2.ensures.items
+    position_start g.K.Bytes.item c.args.arena.now _ c.requires.whole c.requires.row refl c.new.ensures.items refl c.new-2.ensures.items
 
 pub returns : goal.returns
 returns g c =
-    left_start (record { path = c.new.result.items; due = option_copied c.args.due; row = row_of c.args.slots.now; stack = rows_at c.args.slots.now.nodes.items c.new-2.result.items }) c.new.ensures.items (ap (rows_at c.args.slots.now.nodes.items) c.new-2.ensures.items)
+    left_start (record { path = c.new.result.items; pending = option_copied c.args.pending; row = siblings_of c.args.arena.now; stack = rows_at c.args.arena.now.nodes.items c.new-2.result.items }) c.new.ensures.items (ap (rows_at c.args.arena.now.nodes.items) c.new-2.ensures.items)

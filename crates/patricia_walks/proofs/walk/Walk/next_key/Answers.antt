@@ -1,6 +1,6 @@
 use Rattle.std.proofs.Common.{ap}
-use Rattle.patricia_rows.specs.Rows.{keys_of}
-use Rattle.patricia_rows.proofs.WalkLemmas.{map_filled}
+use Rattle.patricia_model.specs.Siblings.{keys_of}
+use Rattle.patricia_model.proofs.WalkLemmas.{map_filled}
 use Rattle.patricia_walks.proofs.walk.Walk.next_key.Goals as goal
 
 pub returns-in-Err : goal.returns-in-Err

@@ -1,7 +1,7 @@
 use borrow.Author.Rules.{rules, get_or_read}
 use Rattle.std.proofs.Common.{ap, subst, ◌≢◌, []}
-use Rattle.patricia_rows.specs.Walks.{values_of}
-use Rattle.patricia_rows.proofs.WalkLemmas.{map_filled}
+use Rattle.patricia_model.specs.Walks.{values_of}
+use Rattle.patricia_model.proofs.WalkLemmas.{map_filled}
 use Rattle.patricia_walks.proofs.walk.Walk.next_value.Goals as goal
 
 pub returns-in-Err : goal.returns-in-Err

@@ -1,0 +1,121 @@
+//! bench_tree [times]: counts the answers of a map for the keys of its input, or times its calls.
+//!
+//! The input has a key a line. The keys of every other line are put in, the rest are only asked
+//! for. With the word `times` each line of the output has nanoseconds a call or an entry, or bytes
+//! a key; `tree_size` has the tree bytes of 1,000 entries, and `share` the thousandths of the entries
+//! that `split_by_prefix` takes out.
+#![tactic(auto)]
+
+mod calls;
+mod keys;
+mod lines;
+mod memory;
+mod steps;
+
+use calls::{Each, Maps, no_maps};
+use keys::{Lists, read_lists, shuffle};
+use lines::{Sheet, line};
+use memory::{memory, memory_since};
+use patricia_tree::{BorrowedBytes, GenericPatriciaMap};
+use std::io::{self, Read as _};
+use std::rt::{Clock, Env, Files};
+use steps::{time_each, time_steps};
+
+// Fills the map.
+fn fill<R: Alloc + Clock + Files + Print, Q: BorrowedBytes>(
+    sheet: &Sheet<'_, R>,
+    map: &mut GenericPatriciaMap<Q::Owned, u64>,
+    lists: &mut Lists<Q>,
+) -> io::Result<()> {
+    let before = memory(sheet.rt, "VmRSS:");
+    time_each(sheet, "insert", map, Each::Put, &lists.present)?;
+    lists.memory = memory_since(sheet.rt, before, map.len());
+    Ok(())
+}
+
+// Fills the map, and calls each method for all keys in turn.
+fn measure_maps<R: Alloc + Clock + Files + Print, Q: BorrowedBytes>(
+    sheet: &Sheet<'_, R>,
+    maps: &mut Maps<Q::Owned>,
+    lists: &mut Lists<Q>,
+) -> io::Result<()> {
+    fill(sheet, &mut maps.map, lists)?;
+    shuffle(&mut lists.present, 3);
+    time_steps(sheet, maps, lists)
+}
+
+// Calls each method for all keys in turn.
+fn measure<R: AllocGlobal + Clock + Files + Print, Q: BorrowedBytes>(
+    sheet: &Sheet<'_, R>,
+    lists: &mut Lists<Q>,
+) -> io::Result<()> {
+    measure_maps(sheet, &mut no_maps(sheet.rt.alloc()), lists)
+}
+
+// Puts the keys in in their order.
+fn put_in_order<R: AllocGlobal + Clock + Print, Q: BorrowedBytes>(
+    sheet: &Sheet<'_, R>,
+    keys: &[Q],
+) -> io::Result<()> {
+    let mut map = GenericPatriciaMap::new(sheet.rt.alloc());
+    time_each(sheet, "insert_sorted", &mut map, Each::Put, keys)
+}
+
+fn report_memory<R: Print>(sheet: &Sheet<'_, R>, memory: (u64, u64)) -> io::Result<()> {
+    if !sheet.times {
+        return Ok(());
+    }
+    line(sheet, "memory", u128::from(memory.0))?;
+    line(sheet, "peak", u128::from(memory.1))
+}
+
+// Sorts the keys and puts them in.
+fn put_sorted<R: AllocGlobal + Clock + Print>(
+    sheet: &Sheet<'_, R>,
+    keys: &mut [&[u8]],
+) -> io::Result<()> {
+    keys.sort_unstable();
+    put_in_order(sheet, keys)
+}
+
+// Measures the calls, and then inserts in the keys' order.
+fn measure_both<R: AllocGlobal + Clock + Files + Print>(
+    sheet: &Sheet<'_, R>,
+    lists: &mut Lists<&[u8]>,
+) -> io::Result<()> {
+    line(sheet, "keys", lists.present.len() as u128)?;
+    measure(sheet, lists)?;
+    put_sorted(sheet, &mut lists.present)?;
+    report_memory(sheet, lists.memory)
+}
+
+// Measures the calls with the keys of an input.
+fn run_on<R: AllocGlobal + Clock + Files + Print>(
+    sheet: &Sheet<'_, R>,
+    input: &[u8],
+) -> io::Result<()> {
+    let mut lists = read_lists(sheet.rt.alloc(), input)?;
+    measure_both(sheet, &mut lists)
+}
+
+// Whether the program's word is `times`.
+fn is_timed(rt: &impl Env) -> bool {
+    let mut word = [0; 5];
+    matches!(rt.arg(1, &mut word), Ok(5)) && word == *b"times"
+}
+
+fn read_input(rt: &(impl AllocGlobal + Input)) -> io::Result<Vec<u8>> {
+    let mut input: Vec<u8> = Vec::new(rt.alloc());
+    rt.reader().read_to_end(&mut input)?;
+    Ok(input)
+}
+
+fn run<R: AllocGlobal + Clock + Env + Files + Input + Print>(rt: &R) -> io::Result<()> {
+    let input = read_input(rt)?;
+    let times = is_timed(rt);
+    run_on(&Sheet { rt, times }, &input)
+}
+
+fn main(rt: HostRuntime) -> io::Result<()> {
+    run(&rt)
+}

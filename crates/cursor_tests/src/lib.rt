@@ -1,5 +1,0 @@
-//! Tests of the cursors of a map.
-#![tactic(auto)]
-
-#[cfg(test)]
-mod tests;

@@ -1,0 +1,136 @@
+-- Reading and building, step by step.
+use Rattle.std.proofs.Common.{◌≡◌, ◌≢◌, ◌⊎◌, inl, inr, ℕ, zero, suc, ◌+◌, ◌<◌, ◌≤◌, Bool, true, false, List, [], ◌∷◌, ◌++◌, length, Option, Some, None, refl, sym, ap, subst, ◌∙◌, arith, append-nil, append_assoc, length-append}
+use Rattle.std.specs.Prelude.{is_some, reverse, IsSome}
+use Rattle.std.specs.Option.{option_to_list}
+use Rattle.std.proofs.lemmas.List.{reverse-append, reverse-reverse, nil_from_length}
+use Rattle.std.proofs.lemmas.List.Elements.{All-nil, All-cons}
+use Rattle.patricia_keys.specs.Keys.{IsKeyKind}
+use Rattle.patricia_nodes.specs.declared.arena.NodeArena.{NodeArena}
+use Rattle.patricia_nodes.specs.Internal.Plans.{below}
+use Rattle.patricia_wire.specs.Records.{Record, bit_if}
+use Rattle.patricia_wire.specs.Faults.{level, root_label, root_sibling, empty_label, no_value_no_child, value_marks}
+use Rattle.patricia_wire.specs.Internal.Readings.{Due, IsRead, nothing}
+use Rattle.patricia_wire.proofs.Readings.{same_number, root_due, first_due}
+use Rattle.patricia_wire.proofs.ReadingsFaults.{marks_more}
+use Rattle.patricia_codec.specs.declared.builder.Builder.{Builder}
+use Rattle.patricia_codec.specs.declared.reader.Reader.{Reader}
+use Rattle.patricia_codec.specs.Internal.Growing.{Gap, IsGrown}
+use Rattle.patricia_codec.specs.Internal.Builds.{ids, dues, Fall, IsNew, CanAdd, CanLink, Suits, IsBuiltAs, IsBuilt}
+use Rattle.patricia_codec.specs.Internal.Steps.{IsReaderStart, IsAfter, KeepsRules, IsReading}
+use Rattle.patricia_codec.proofs.EndLemmas.{IsDone, done}
+use Rattle.patricia_codec.proofs.ReaderLemmas.{spelled_all}
+
+module _ (item : List ℕ → Type 0) where
+  -- at the start the root is due
+  pub started : (n : ℕ) (p : Reader) → IsReaderStart p → IsReading item n p [] ((record { level = 0; after = None }) ∷ [])
+  started n p start = record {
+    read = nothing;
+    reads = rw start.offset (record { read = []; spelled = refl; joined = refl; ends = refl });
+    due_is = ap reverse start.due;
+    after = All-cons (IsAfter item) (record { level = 0; after = None }) [] (λ l none. absurd (cc)) (All-nil (IsAfter item));
+  }
+
+  -- a new builder has built nothing, and the root is due
+  pub new_built : {V : Type 0} (b : Builder V) → IsNew b → IsBuilt item b [] ((record { level = 0; after = None }) ∷ []) []
+  new_built b new = subst (λ n. IsBuiltAs item n b [] ((record { level = 0; after = None }) ∷ []) []) (sym new.next) (refl, refl, refl, new)
+
+  -- where a record is due beside a node, this node waits
+  pub can_add : {V : Type 0} (b : Builder V) (R : List Record) (due : Due) (waiting : List Due) (vs : List V) → IsBuilt item b R (due ∷ waiting) vs → CanAdd b
+  can_add b R due waiting vs built beside = (let s = subst (λ n. IsBuiltAs item n b R (due ∷ waiting) vs) beside built in by s.gaps s.due_is s.wait.ids_are s.wait.fall)
+    where
+      by : (gaps : List Gap) → due ∷ waiting ≡ dues gaps → ids gaps ≡ reverse b.waiting.items → Fall (length b.nodes.items) gaps → CanLink b
+      by [] e same fall = absurd (cc)
+      by (g ∷ gaps) e same fall = record {
+        others = reverse (ids gaps);
+        id = g.id;
+        waiting = sym (reverse-reverse b.waiting.items) ∙ ap reverse (sym same) ∙ reverse-append (g.id ∷ []) (ids gaps);
+        within = fall.0;
+      }
+
+  some_mark : (v c : Bool) → ((v ≡ false) × (c ≡ false) → ⊥) → (v ≡ true) ⊎ (c ≡ true)
+  some_mark true c h = inl refl
+  some_mark false true h = inr refl
+  some_mark false false h = absurd (h (refl, refl))
+
+  some_bytes : (l : List ℕ) → (l ≢ [] → ⊥) → l ≡ []
+  some_bytes [] h = refl
+  some_bytes (x ∷ l) h = absurd (h (λ e. cc))
+
+  unset : (b : Bool) → (b ≡ true → ⊥) → b ≡ false
+  unset true h = absurd (h refl)
+  unset false h = refl
+
+  -- a record that keeps the rules suits the place that is due
+  pub suited : (n left : ℕ) (before : List Record) (due : Due) (waiting : List Due) (r : Record) → IsRead item n before (due ∷ waiting) → KeepsRules item due left r → length r.label ≤ 255 → Suits item before due r
+  suited n left before due waiting r read keeps fits = record {
+    root = λ none.
+        let first = first_due item n before due waiting read none in
+        let zero = first.0 in
+        (at_level ∙ zero, some_bytes r.label (λ some. keeps.rules root_label (zero, some)), unset r.sibling (λ many. keeps.rules root_sibling (zero, many)));
+    inner = λ some.
+        let deep : due.level ≢ 0 = λ z. some (root_due item n before due waiting read z) in
+        record {
+          level = at_level;
+          fits = fits;
+          nonempty = λ none. keeps.rules empty_label (deep, none);
+          valid = keeps.label.0;
+          marked = some_mark r.value r.child (λ none. keeps.rules no_value_no_child (deep, none.0, none.1));
+        };
+    order = λ l is. keeps.label.1 l is;
+  }
+    where
+      at_level : r.level ≡ due.level
+      at_level = same_number r.level due.level (keeps.rules level)
+
+module _ {V : Type 0} where
+  -- how many values are left
+  pub counted : (all taken items : List V) (before : List Record) (left : ℕ) → all ≡ taken ++ items → length taken ≡ value_marks before → left ≡ length items → left + value_marks before ≡ length all
+  counted all taken items before left split marks is = omega (arith, ap length split, length-append taken items, marks, is)
+
+  -- a value is taken off the front of those that are left
+  pub split_on : (all taken items rest : List V) (value : Option V) → all ≡ taken ++ items → items ≡ option_to_list value ++ rest → all ≡ (taken ++ option_to_list value) ++ rest
+  split_on all taken items rest value split e = split ∙ ap (λ l. taken ++ l) e ∙ sym (append_assoc taken (option_to_list value) rest)
+
+  given_mark : (value : Option V) (b : Bool) → is_some value ≡ b → length (option_to_list value) ≡ bit_if b 1
+  given_mark (Some x) true e = refl
+  given_mark (Some x) false e = absurd (cc)
+  given_mark None true e = absurd (cc)
+  given_mark None false e = refl
+
+  -- as many values are taken as there are marks
+  pub marks_on : (taken : List V) (value : Option V) (before : List Record) (r : Record) → length taken ≡ value_marks before → is_some value ≡ r.value → length (taken ++ option_to_list value) ≡ value_marks (before ++ (r ∷ []))
+  marks_on taken value before r marks is = omega (arith, length-append taken (option_to_list value), marks, given_mark value r.value is, marks_more before r)
+
+  -- how many are left
+  pub left_on : (items rest : List V) (value : Option V) (len was : ℕ) → items ≡ option_to_list value ++ rest → len + length (option_to_list value) ≡ was → was ≡ length items → len ≡ length rest
+  left_on items rest value len was e step is = omega (arith, ap length e, length-append (option_to_list value) rest, step, is)
+
+  -- a record takes a value where it has the mark
+  pub record Takes (mark : Bool) (value : Option V) (all rest : List V) (was left : ℕ) : Type 0 where
+    pub is : is_some value ≡ mark
+    pub items : all ≡ option_to_list value ++ rest
+    pub len : left + length (option_to_list value) ≡ was
+
+  -- a record with a value mark takes a value
+  pub takes_some : (mark : Bool) → mark ≡ true → (value : Option V) (items rest : List V) (was len : ℕ) → IsSome value → items ≡ option_to_list value ++ rest → len + length (option_to_list value) ≡ was → Takes mark value items rest was len
+  takes_some mark set value items rest was len some e step = record { is = some ∙ sym set; items = e; len = step }
+
+  -- and one without takes none
+  pub takes_none : (mark : Bool) → mark ≡ false → (items : List V) (was : ℕ) → Takes mark None items items was was
+  takes_none mark unset items was = record { is = sym unset; items = refl; len = omega arith }
+
+-- where the number is not 0, a value is left
+pub some_left : (left len : ℕ) → left ≡ len → (left ≡ 0 → ⊥) → 0 < len
+some_left zero len e h = absurd (h refl)
+some_left (suc left) len e h = omega (arith, e)
+
+-- all records are read, and all values taken
+pub finished : (item : List ℕ → Type 0) (kind : IsKeyKind item) {V : Type 0} (p : Reader) (n : ℕ) (R : List Record) → IsReading item n p R [] → p.offset ≡ length p.bytes.now → (b : List ℕ) → p.bytes.now ≡ b
+    → (s : NodeArena V) (value : Option V) (taken items : List V) → IsGrown item s.nodes.items s.root value R taken (below (length s.nodes.items)) (length s.nodes.items) → s.free ≡ None → items ≡ taken → IsDone item s value b items
+finished item kind p n R reading over b bytes s value taken items tree free all =
+    subst (λ l. IsDone item s value l items) bytes (subst (IsDone item s value p.bytes.now) (sym all)
+    (done item kind s value R taken p.bytes.now tree free (spelled_all item p n R [] reading (omega (arith, over)))))
+
+-- where the number is 0, all values are taken
+pub all_taken : {V : Type 0} (all taken rest : List V) (len : ℕ) → all ≡ taken ++ rest → len ≡ length rest → len ≡ 0 → all ≡ taken
+all_taken all taken rest len split is z = split ∙ ap (λ l. taken ++ l) (nil_from_length rest (omega (arith, is, z))) ∙ append-nil taken

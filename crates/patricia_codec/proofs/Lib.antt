@@ -1,0 +1,11 @@
+pub mod BuildLemmas
+pub mod CheckLemmas
+pub mod DecodeLemmas
+pub mod EncodeLemmas
+pub mod EndLemmas
+pub mod GrowingLemmas
+pub mod LeftLemmas
+pub mod PieceLemmas
+pub mod ReadLemmas
+pub mod ReaderLemmas
+pub mod RefusalLemmas

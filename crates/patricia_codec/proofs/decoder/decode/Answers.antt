@@ -1,0 +1,137 @@
+use Rattle.std.proofs.Common.{◌++◌, [], ◌∷◌, None, length, refl, sym, arith, ap, subst, ◌∙◌}
+use Rattle.std.proofs.lemmas.Grind.{common_steps}
+use Rattle.std.specs.Option.{option_to_list}
+use Rattle.std.specs.Vec.Iter.{into_iter_items, into_iter_len}
+use Rattle.patricia_wire.specs.Records.{Record}
+use Rattle.patricia_wire.specs.Faults.{too_few_values}
+use Rattle.patricia_wire.specs.Internal.Readings.{due_behind, IsRead}
+use Rattle.patricia_codec.specs.Internal.Builds.{IsBuilt}
+use Rattle.patricia_codec.specs.Refusals.{IsRefusal}
+use Rattle.patricia_codec.proofs.CheckLemmas.{handed_on}
+use Rattle.patricia_codec.proofs.DecodeLemmas.{finished, all_taken, Takes, takes_some, takes_none, some_left, started, new_built, can_add, suited, counted, split_on, marks_on, left_on}
+use Rattle.patricia_codec.proofs.EndLemmas.{grown, grown_tree}
+use Rattle.patricia_codec.proofs.decoder.decode.Goals as goal
+use Rattle.patricia_codec.proofs.decoder.decode.Goals.{then-record, else-record}
+
+pub loop-builder-init : goal.loop-builder-init
+loop-builder-init g c = record {
+  before = [];
+  due = (record { level = 0; after = None }) ∷ [];
+  taken = [];
+  reading = started g.K.Bytes.item _ c.in_ok-reader.reader c.in_ok-reader.ensures.start;
+  built = new_built g.K.Bytes.item c.new-builder.result c.new-builder.ensures;
+  split = refl;
+  left = c.into_iter-values.ensures.len ∙ c.args.values.ok.0 ∙ ap length (sym c.into_iter-values.ensures.rest);
+  marks = refl;
+  bytes = refl;
+}
+
+pub next-requires : goal.next-requires
+next-requires g c =
+    let inv = c.loop-builder.invariant in
+    record { n = _; before = inv.before; due = inv.due; reading = inv.reading; counted = counted _ inv.taken _ inv.before c.len.result inv.split inv.marks (c.len.ensures ∙ inv.left) }
+
+pub returns-in_err-record-clause-first_fault : goal.returns-in_err-record-clause-first_fault
+returns-in_err-record-clause-first_fault g c =
+    let inv = c.loop-builder.invariant in
+    let bytes = ap (λ b. b.now) inv.bytes ∙ c.in_ok-reader.ensures.bytes in
+    let count = counted _ inv.taken _ inv.before c.len.result inv.split inv.marks (c.len.ensures ∙ inv.left) in
+    let refused = c.in_err-record.ensures.refused _ inv.before inv.due inv.reading count in
+    handed_on (λ e. IsRefusal g.K.Bytes.item 2 c.args.bytes.now (length c.args.values.items) e) c.from_residual-in_err-record.result c.in_err-record.field-0.0 c.from_residual-in_err-record.ensures.1
+    (subst (λ b. IsRefusal g.K.Bytes.item 2 b (length c.args.values.items) c.in_err-record.field-0.0) bytes
+    (subst (λ l. IsRefusal g.K.Bytes.item 2 c.loop-builder.reader.bytes.now (length l) c.in_err-record.field-0.0) c.into_iter-values.ensures.rest refused))
+
+pub add-requires : goal.add-requires
+add-requires g c =
+    let inv = c.loop-builder.invariant in
+    let count = counted _ inv.taken _ inv.before c.len.result inv.split inv.marks (c.len.ensures ∙ inv.left) in
+    let goes = rw c.in-Some.is at c.in_ok-record.ensures.ok in
+    let on = goes.reading _ inv.before inv.due inv.reading count in
+    can_add g.K.Bytes.item c.loop-builder.builder inv.before on.0 on.1 inv.taken (subst (λ l. IsBuilt g.K.Bytes.item c.loop-builder.builder inv.before l inv.taken) on.2 inv.built)
+
+pub loop-builder-preserved : goal.loop-builder-preserved
+loop-builder-preserved g c =
+    let inv = c.loop-builder.invariant in
+    let count = counted _ inv.taken _ inv.before c.len.result inv.split inv.marks (c.len.ensures ∙ inv.left) in
+    let goes = rw c.in-Some.is at c.in_ok-record.ensures.ok in
+    let on = goes.reading _ inv.before inv.due inv.reading count in
+    let r : Record = c.in-Some.record in
+    let mark = ap (λ (k : Record). k.value) c.record.view_is in
+    let takes : Takes r.value c.if-record.value (into_iter_items c.loop-builder.values) (into_iter_items c.if-record.values) (into_iter_len c.loop-builder.values) (into_iter_len c.if-record.values) = elim c.if-record.branch [
+      | then-record w ↦ (
+          let set = sym mark ∙ w.if-record.true in
+          rw (w.value-is, w.values-is) (takes_some r.value set w.next-value.result _ _ _ _ (w.next-value.ensures.variant.1 (some_left c.len.result (into_iter_len c.loop-builder.values) c.len.ensures (λ none. on.3.rules too_few_values (set, none)))) w.next-value.ensures.items w.next-value.ensures.len)
+          )
+      | else-record w ↦ rw (w.value-is, w.values-is) (takes_none r.value (sym mark ∙ w.if-record.false) _ _)
+    ] in
+    record {
+      before = inv.before ++ (r ∷ []);
+      due = due_behind r ++ on.1;
+      taken = inv.taken ++ option_to_list c.if-record.value;
+      reading = on.4;
+      built = c.in_ok-add.ensures inv.before on.0 on.1 inv.taken (subst (λ l. IsBuilt g.K.Bytes.item c.loop-builder.builder inv.before l inv.taken) on.2 inv.built)
+          (suited g.K.Bytes.item _ c.len.result inv.before on.0 on.1 r (subst (IsRead g.K.Bytes.item _ inv.before) on.2 inv.reading.read) on.3 goes.fits) takes.is;
+      split = split_on _ inv.taken _ _ c.if-record.value inv.split takes.items;
+      left = left_on _ _ c.if-record.value _ _ takes.items takes.len inv.left;
+      marks = marks_on inv.taken c.if-record.value inv.before r inv.marks takes.is;
+      bytes = c.in_ok-record.ensures.bytes ∙ inv.bytes;
+    }
+
+pub finish-requires : goal.finish-requires
+finish-requires g c =
+    let inv = c.loop-builder.invariant in
+    let ends = rw c.in_default.is at c.in_ok-record.ensures.ok in
+    let on = ends _ inv.before inv.due inv.reading in
+    record { n = _; before = inv.before; due = []; reading = on.1; counted = counted _ inv.taken _ inv.before c.len-2.result inv.split inv.marks (c.len-2.ensures ∙ inv.left) }
+
+pub returns-in_err-finish-clause-first_fault : goal.returns-in_err-finish-clause-first_fault
+returns-in_err-finish-clause-first_fault g c =
+    let inv = c.loop-builder.invariant in
+    let ends = rw c.in_default.is at c.in_ok-record.ensures.ok in
+    let on = ends _ inv.before inv.due inv.reading in
+    let tree = grown g.K.Bytes.item c.loop-builder.builder inv.before inv.taken (subst (λ l. IsBuilt g.K.Bytes.item c.loop-builder.builder inv.before l inv.taken) on.0 inv.built) in
+    let bytes = ap (λ b. b.now) (c.in_ok-record.ensures.bytes ∙ inv.bytes) ∙ c.in_ok-reader.ensures.bytes in
+    let count = counted _ inv.taken _ inv.before c.len-2.result inv.split inv.marks (c.len-2.ensures ∙ inv.left) in
+    let refused = c.in_err-finish.ensures.refused _ inv.before _ on.1 count (grown_tree g.K.Bytes.item _ _ _ _ _ _ _ tree) in
+    handed_on (λ e. IsRefusal g.K.Bytes.item 2 c.args.bytes.now (length c.args.values.items) e) c.from_residual-in_err-finish.result c.in_err-finish.field-0.0 c.from_residual-in_err-finish.ensures.1
+    (subst (λ b. IsRefusal g.K.Bytes.item 2 b (length c.args.values.items) c.in_err-finish.field-0.0) bytes
+    (subst (λ l. IsRefusal g.K.Bytes.item 2 c.next.new.self.bytes.now (length l) c.in_err-finish.field-0.0) c.into_iter-values.ensures.rest refused))
+
+pub returns-clause-whole : goal.returns-clause-whole
+returns-clause-whole g c =
+    let inv = c.loop-builder.invariant in
+    let ends = rw c.in_default.is at c.in_ok-record.ensures.ok in
+    let on = ends _ inv.before inv.due inv.reading in
+    let tree = grown g.K.Bytes.item c.loop-builder.builder inv.before inv.taken (subst (λ l. IsBuilt g.K.Bytes.item c.loop-builder.builder inv.before l inv.taken) on.0 inv.built) in
+    let bytes = ap (λ b. b.now) (c.in_ok-record.ensures.bytes ∙ inv.bytes) ∙ c.in_ok-reader.ensures.bytes in
+    let over = c.in_ok-finish.ensures.whole in
+    let values = sym c.into_iter-values.ensures.rest ∙ all_taken _ inv.taken _ c.len-2.result inv.split (c.len-2.ensures ∙ inv.left) over.1 in
+    let finish = finished g.K.Bytes.item g.met.K.Bytes.lawful c.next.new.self _ inv.before on.1 over.0 c.args.bytes.now bytes (record { nodes = c.loop-builder.builder.nodes; root = c.loop-builder.builder.root; free = c.none.result }) c.loop-builder.builder.value inv.taken c.args.values.items tree c.none.ensures values in
+    finish.whole
+
+pub returns-clause-row : goal.returns-clause-row
+returns-clause-row g c =
+    let inv = c.loop-builder.invariant in
+    let ends = rw c.in_default.is at c.in_ok-record.ensures.ok in
+    let on = ends _ inv.before inv.due inv.reading in
+    let tree = grown g.K.Bytes.item c.loop-builder.builder inv.before inv.taken (subst (λ l. IsBuilt g.K.Bytes.item c.loop-builder.builder inv.before l inv.taken) on.0 inv.built) in
+    let bytes = ap (λ b. b.now) (c.in_ok-record.ensures.bytes ∙ inv.bytes) ∙ c.in_ok-reader.ensures.bytes in
+    let over = c.in_ok-finish.ensures.whole in
+    let values = sym c.into_iter-values.ensures.rest ∙ all_taken _ inv.taken _ c.len-2.result inv.split (c.len-2.ensures ∙ inv.left) over.1 in
+    let finish = finished g.K.Bytes.item g.met.K.Bytes.lawful c.next.new.self _ inv.before on.1 over.0 c.args.bytes.now bytes (record { nodes = c.loop-builder.builder.nodes; root = c.loop-builder.builder.root; free = c.none.result }) c.loop-builder.builder.value inv.taken c.args.values.items tree c.none.ensures values in
+    finish.canonical
+
+pub returns-clause-means : goal.returns-clause-means
+returns-clause-means g c =
+    let inv = c.loop-builder.invariant in
+    let ends = rw c.in_default.is at c.in_ok-record.ensures.ok in
+    let on = ends _ inv.before inv.due inv.reading in
+    let tree = grown g.K.Bytes.item c.loop-builder.builder inv.before inv.taken (subst (λ l. IsBuilt g.K.Bytes.item c.loop-builder.builder inv.before l inv.taken) on.0 inv.built) in
+    let bytes = ap (λ b. b.now) (c.in_ok-record.ensures.bytes ∙ inv.bytes) ∙ c.in_ok-reader.ensures.bytes in
+    let over = c.in_ok-finish.ensures.whole in
+    let values = sym c.into_iter-values.ensures.rest ∙ all_taken _ inv.taken _ c.len-2.result inv.split (c.len-2.ensures ∙ inv.left) over.1 in
+    let finish = finished g.K.Bytes.item g.met.K.Bytes.lawful c.next.new.self _ inv.before on.1 over.0 c.args.bytes.now bytes (record { nodes = c.loop-builder.builder.nodes; root = c.loop-builder.builder.root; free = c.none.result }) c.loop-builder.builder.value inv.taken c.args.values.items tree c.none.ensures values in
+    finish.means
+
+pub loop-builder-smaller : goal.loop-builder-smaller
+loop-builder-smaller g c = grind (arith, common_steps)

@@ -1,0 +1,79 @@
+//! Tree bytes.
+ghost use Rattle.std.specs.Prelude.{◌≡◌, ◌++◌, IfOk};
+ghost use Rattle.patricia_model.specs.Siblings.{own, keys_of, IsCanonical};
+ghost use Rattle.patricia_nodes.specs.Internal.Plans.{IsWellFormed, siblings_of, entries_of};
+ghost use Rattle.patricia_wire.specs.TreeBytes.{AreTreeBytes};
+ghost use Rattle.patricia_wire.specs.Writings.{TooDeep};
+ghost use Rattle.patricia_codec.specs.Internal.Lefts.{AreDeep};
+
+use crate::record::{HEAD, Record};
+use crate::records::Records;
+use patricia_keys::Bytes;
+use patricia_nodes::arena::NodeArena;
+use std::alloc::{AllocError, Global};
+use thiserror::Error;
+
+/// Why a tree was not written.
+#[derive(Clone, Copy, Debug, PartialEq, Eq, Error)]
+pub enum WireError {
+    /// Memory ran out.
+    #[error("out of memory")]
+    Memory,
+    /// A record would lie deeper than two bytes can tell.
+    #[error("tree deeper than level 65535")]
+    TooDeep,
+}
+
+impl From<AllocError> for WireError {
+    ghost use Rattle.std.specs.Prelude.{◌≡◌};
+    ghost use Rattle.patricia_codec.specs.declared.encoder.WireError.TheVariants.{Memory};
+
+    ghost from_gives = { λ _ e. e ≡ Memory };
+
+    fn from(_: AllocError) -> WireError {
+        WireError::Memory
+    }
+}
+
+// How many bytes the encoding has. The error says as well that it would be too deep.
+fn size<K: Bytes, V>(alloc: Global, arena: &NodeArena<V>) -> Result<usize, WireError>
+    requires whole { IsWellFormed arena.now }
+    requires row { IsCanonical K.item (siblings_of arena.now) }
+    ensures { result ≡ Err WireError.TooDeep → AreDeep K.item arena.now }
+{
+    let mut records = Records::new(alloc, arena);
+    let mut size = HEAD;
+    while let Some(record) = records.next::<K>()? {
+        size = size.saturating_add(HEAD + record.label.len());
+    }
+    Ok(size)
+}
+
+/// The tree bytes of the empty key's value and the nodes.
+pub fn encode<K: Bytes, V>(
+    alloc: Global,
+    value: &Option<V>,
+    arena: &NodeArena<V>,
+) -> Result<Vec<u8>, WireError>
+    requires whole { IsWellFormed arena.now }
+    requires row { IsCanonical K.item (siblings_of arena.now) }
+    ensures ok { IfOk result (λ b.
+        AreTreeBytes K.item 2 b.items (own value.now ++ entries_of arena.now)) }
+    ensures too_deep { result ≡ Err WireError.TooDeep
+        → TooDeep K.item 2 (keys_of (own value.now ++ entries_of arena.now)) }
+{
+    let root = Record {
+        level: 0,
+        label: &[],
+        value: value.is_some(),
+        child: arena.root.get().is_some(),
+        sibling: false,
+    };
+    let mut out = Vec::with_capacity(alloc, size::<K, V>(alloc, arena)?)?;
+    root.write(&mut out)?;
+    let mut records = Records::new(alloc, arena);
+    while let Some(record) = records.next::<K>()? {
+        record.write(&mut out)?;
+    }
+    Ok(out)
+}

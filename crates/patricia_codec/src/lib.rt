@@ -1,0 +1,18 @@
+//! The encoder, from the nodes of a tree to tree bytes, and the decoder back from them.
+//!
+//! `patricia_tree` is the library to use. It depends on this crate.
+#![tactic(auto)]
+
+mod builder;
+pub mod decoder;
+mod due;
+pub mod encoder;
+pub mod error;
+pub mod laws;
+mod reader;
+mod record;
+mod records;
+
+pub use decoder::{Decoded, decode};
+pub use encoder::{WireError, encode};
+pub use error::DecodeError;

@@ -1,0 +1,134 @@
+//! The records of a tree, one after the other.
+ghost use Rattle.std.specs.Prelude.{◌≡◌, ◌≢◌, ◌<◌, ◌≤◌, ◌^◌, [], length, drop, Some, None, false, IfOk, IsTrue};
+ghost use Rattle.patricia_keys.specs.Keys.{IsValid};
+ghost use Rattle.patricia_codec.specs.Internal.Pieces.{IsPiece};
+ghost use Rattle.patricia_codec.specs.Internal.Lefts.{SomeLeft, TakesRecord, GivesRecord, GoesBack, IsDeep, IsOver, IsEncoderStart};
+
+use crate::encoder::WireError;
+use crate::record::{LONGEST, Record};
+use patricia_keys::Bytes;
+use patricia_nodes::arena::{Node, NodeArena};
+use patricia_nodes::link::{Link, NodeId};
+use std::alloc::Global;
+
+/// How far a tree is written below its root.
+#[derive(Drop)]
+pub struct Records<'a, V> {
+    arena: &'a NodeArena<V>,
+    // the level of the record that is next
+    level: usize,
+    // the row whose first node is next
+    next: Link,
+    // so many bytes of its label are written; where there are any, its siblings wait already
+    skipped: usize,
+    // the rows that wait, each with its level
+    stack: Vec<(usize, Link)>,
+}
+
+// How many bytes of a label have room in a record: as many whole items as fit.
+fn room<K: Bytes>(label: &[u8]) -> usize
+    requires valid { IsValid K.item label.now }
+    requires nonempty { label.now ≢ [] }
+    ensures { IsPiece K.item label.now result }
+{
+    if label.len() <= LONGEST {
+        label.len()
+    } else {
+        K::floor_boundary(&label[..LONGEST])
+    }
+}
+
+// The label of a node behind its first bytes.
+fn label_behind<V>(node: &Node<V>, skipped: usize) -> &[u8]
+    requires { skipped ≤ length node.now.label }
+    ensures rest { result.now ≡ drop skipped node.now.label }
+    ensures counted { length node.now.label < 2 ^ 64 }
+{
+    &node.label.as_slice()[skipped..]
+}
+
+impl<'a, V> Records<'a, V> {
+    /// The records below the root.
+    pub fn new(alloc: Global, arena: &'a NodeArena<V>) -> Self
+        ensures nodes { result.arena.now ≡ arena.now }
+        ensures start { IsEncoderStart result }
+    {
+        Records {
+            arena,
+            level: 1,
+            next: arena.root,
+            skipped: 0,
+            stack: Vec::new(alloc),
+        }
+    }
+
+    // Takes the record of what is left of the node that is next.
+    fn take<K: Bytes>(&mut self, id: NodeId) -> Result<Record<'a>, WireError>
+        requires left { SomeLeft K.item self.old }
+        requires next { self.old.next ≡ Some id }
+        ensures ok { IfOk result (λ r. TakesRecord K.item self.old r self.new) }
+        ensures too_deep { result ≡ Err WireError.TooDeep → IsDeep K.item self.old }
+    {
+        let node = &self.arena.nodes[id.index()];
+        let Ok(level) = u16::try_from(self.level) else {
+            return Err(WireError::TooDeep);
+        };
+        let left = label_behind(node, self.skipped);
+        let beside = if self.skipped == 0 {
+            node.sibling
+        } else {
+            Link::none()
+        };
+        self.stack
+            .push((self.level, beside))
+            .map_err(|_| WireError::Memory)?;
+        self.level += 1;
+        let n = room::<K>(left);
+        let (value, child) = if n == left.len() {
+            self.next = node.child;
+            self.skipped = 0;
+            (node.value.is_some(), node.child.get().is_some())
+        } else {
+            self.skipped += n;
+            (false, true)
+        };
+        Ok(Record {
+            level,
+            label: &left[..n],
+            value,
+            child,
+            sibling: beside.get().is_some(),
+        })
+    }
+
+    // Goes back to the row that waits last, if there is one.
+    fn back<K: Bytes>(&mut self) -> bool
+        requires over { self.old.next ≡ None }
+        ensures step { IsTrue result → GoesBack K.item self.old self.new }
+        ensures over { result ≡ false → IsOver K.item self.old }
+    {
+        let Some(waiting) = self.stack.pop() else {
+            return false;
+        };
+        self.level = waiting.0;
+        self.next = waiting.1;
+        self.skipped = 0;
+        true
+    }
+
+    /// The next record, or `None` behind the last.
+    pub fn next<K: Bytes>(&mut self) -> Result<Option<Record<'a>>, WireError>
+        requires { SomeLeft K.item self.old }
+        ensures ok { IfOk result (λ found. GivesRecord K.item self.old found self.new) }
+        ensures too_deep { result ≡ Err WireError.TooDeep → IsDeep K.item self.old }
+    {
+        loop {
+            if let Some(id) = self.next.get() {
+                return Ok(Some(self.take::<K>(id)?));
+            }
+            if !self.back::<K>() {
+                return Ok(None);
+            }
+        }
+    }
+}

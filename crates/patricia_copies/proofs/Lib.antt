@@ -1,4 +1,0 @@
-pub mod CopyLemmas
-pub mod CountLemmas
-pub mod KeptLemmas
-pub mod WholeLemmas

@@ -1,0 +1,165 @@
+//! Walks over a map, in key order.
+ghost use Rattle.std.specs.Prelude.{◌≡◌, length};
+ghost use Rattle.std.specs.Iterator.{at_most};
+ghost use Rattle.patricia_model.specs.Siblings.{keys_of};
+ghost use Rattle.patricia_model.specs.Walks.{YieldsOrErr, values_of};
+
+use patricia_keys::keys::Bytes;
+use patricia_walks::into_walk::IntoWalk;
+use patricia_walks::walk::Walk;
+use std::alloc::AllocError;
+use std::iter::FusedIterator;
+use std::marker::Model;
+
+/// The entries of a map, each with an owned key. An error is out of memory, and ends the iterator.
+#[derive(Drop)]
+pub struct Iter<'a, K: Bytes, V> {
+    walk: Walk<'a, K, V>,
+}
+
+impl<'a, K: Bytes, V> Model for Iter<'a, K, V> {
+    ghost use Rattle.std.specs.Prelude.{List, ℕ};
+
+    ghost Value = { List (List ℕ × V) };
+
+    ghost view = { λ i. i.walk };
+}
+
+impl<'a, K: Bytes, V> Iter<'a, K, V> {
+    /// The entries that a walk comes to.
+    pub fn new(walk: Walk<'a, K, V>) -> Self
+        ensures { result ≡ walk.entry }
+    {
+        Iter { walk }
+    }
+}
+
+impl<'a, K: Bytes, V> Iterator for Iter<'a, K, V> {
+    type Item = Result<(K, &'a V), AllocError>;
+
+    ghost next_gives = { YieldsOrErr (λ e. (K.key e.0, e.1.now)) };
+
+    ghost remaining = { λ rows. at_most (length rows) };
+
+    fn next(&mut self) -> Option<Result<(K, &'a V), AllocError>> {
+        self.walk.next_entry()
+    }
+}
+
+impl<'a, K: Bytes, V> FusedIterator for Iter<'a, K, V> {}
+
+/// The keys of a map. An error is out of memory, and ends the iterator.
+#[derive(Drop)]
+pub struct Keys<'a, K: Bytes, V> {
+    walk: Walk<'a, K, V>,
+}
+
+impl<'a, K: Bytes, V> Model for Keys<'a, K, V> {
+    ghost use Rattle.std.specs.Prelude.{List, ℕ};
+
+    ghost Value = { List (List ℕ) };
+
+    ghost use Rattle.patricia_model.specs.Siblings.{keys_of};
+
+    ghost view = { λ i. keys_of i.walk };
+}
+
+impl<'a, K: Bytes, V> Keys<'a, K, V> {
+    /// The keys of the entries that a walk comes to.
+    pub fn new(walk: Walk<'a, K, V>) -> Self
+        ensures { result ≡ keys_of walk.entry }
+    {
+        Keys { walk }
+    }
+}
+
+impl<'a, K: Bytes, V> Iterator for Keys<'a, K, V> {
+    type Item = Result<K, AllocError>;
+
+    ghost next_gives = { YieldsOrErr K.key };
+
+    ghost remaining = { λ keys. at_most (length keys) };
+
+    fn next(&mut self) -> Option<Result<K, AllocError>> {
+        self.walk.next_key()
+    }
+}
+
+impl<'a, K: Bytes, V> FusedIterator for Keys<'a, K, V> {}
+
+/// The values of a map, in the order of their keys. An error is out of memory, and ends the iterator.
+#[derive(Drop)]
+pub struct Values<'a, K: Bytes, V> {
+    walk: Walk<'a, K, V>,
+}
+
+impl<'a, K: Bytes, V> Model for Values<'a, K, V> {
+    ghost use Rattle.std.specs.Prelude.{List};
+
+    ghost Value = { List V };
+
+    ghost use Rattle.patricia_model.specs.Walks.{values_of};
+
+    ghost view = { λ i. values_of i.walk };
+}
+
+impl<'a, K: Bytes, V> Values<'a, K, V> {
+    /// The values of the entries that a walk comes to.
+    pub fn new(walk: Walk<'a, K, V>) -> Self
+        ensures { result ≡ values_of walk.entry }
+    {
+        Values { walk }
+    }
+}
+
+impl<'a, K: Bytes, V> Iterator for Values<'a, K, V> {
+    type Item = Result<&'a V, AllocError>;
+
+    ghost next_gives = { YieldsOrErr (λ v. v.now) };
+
+    ghost remaining = { λ values. at_most (length values) };
+
+    fn next(&mut self) -> Option<Result<&'a V, AllocError>> {
+        self.walk.next_value()
+    }
+}
+
+impl<'a, K: Bytes, V> FusedIterator for Values<'a, K, V> {}
+
+/// The entries of a map, moved out of it. An error is out of memory: it ends the iterator, and the
+/// entries that are left are dropped.
+#[derive(Drop)]
+pub struct IntoIter<K: Bytes, V> {
+    walk: IntoWalk<K, V>,
+}
+
+impl<K: Bytes, V> Model for IntoIter<K, V> {
+    ghost use Rattle.std.specs.Prelude.{List, ℕ};
+
+    ghost Value = { List (List ℕ × V) };
+
+    ghost view = { λ i. i.walk };
+}
+
+impl<K: Bytes, V> IntoIter<K, V> {
+    /// The entries that a walk hands out.
+    pub fn new(walk: IntoWalk<K, V>) -> Self
+        ensures { result ≡ walk }
+    {
+        IntoIter { walk }
+    }
+}
+
+impl<K: Bytes, V: Drop> Iterator for IntoIter<K, V> {
+    type Item = Result<(K, V), AllocError>;
+
+    ghost next_gives = { YieldsOrErr (λ e. (K.key e.0, e.1)) };
+
+    ghost remaining = { λ rows. at_most (length rows) };
+
+    fn next(&mut self) -> Option<Result<(K, V), AllocError>> {
+        self.walk.next_entry()
+    }
+}
+
+impl<K: Bytes, V: Drop> FusedIterator for IntoIter<K, V> {}

@@ -1,2 +1,0 @@
-pub mod Private
-pub mod Refusals

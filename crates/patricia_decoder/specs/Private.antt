@@ -1,4 +1,0 @@
--- What the calls of this crate promise each other: a reader need not believe it.
-pub mod Builds
-pub mod Growing
-pub mod Steps

@@ -1,0 +1,14 @@
+pub mod AddLemmas
+pub mod CopyLemmas
+pub mod CountLemmas
+pub mod KeptLemmas
+pub mod MakeLemmas
+pub mod MeasureLemmas
+pub mod MoveLemmas
+pub mod NodeLemmas
+pub mod OtherLemmas
+pub mod PutLemmas
+pub mod RemoveLemmas
+pub mod SplitLemmas
+pub mod TakeLemmas
+pub mod WholeLemmas

@@ -1,0 +1,175 @@
+-- A value put in at the place of a key.
+use Rattle.std.proofs.Common.{◌≡◌, ◌≢◌, inr, ℕ, suc, ◌<◌, List, [], ◌∷◌, length, take, drop, Option, Some, None, get_or, refl, sym, ap, subst, ◌∙◌}
+use Rattle.std.specs.FinMap.{put}
+use Rattle.std.specs.Prelude.{Result, Ok, Err, OnOk, OnErr}
+use Rattle.std.specs.declared.cmp.Ordering.{Ordering}
+use Rattle.std.specs.declared.cmp.Ordering.TheVariants.{Less, Equal, Greater}
+use Rattle.patricia_nodes.specs.declared.arena.Node.{Node}
+use Rattle.patricia_nodes.specs.declared.arena.NodeArena.{NodeArena}
+use Rattle.patricia_nodes.specs.declared.arena.seek.LinkRef.{LinkRef}
+use Rattle.patricia_nodes.specs.declared.arena.seek.LinkRef.TheVariants.{Child, Sibling}
+use Rattle.patricia_nodes.specs.declared.arena.seek.Match.{Match}
+use Rattle.patricia_nodes.specs.declared.arena.seek.Match.TheVariants.{Absent, InsideLabel}
+use Rattle.patricia_keys.specs.Keys.{IsKeyKind, IsValid, ComparesFirst, key_cmp}
+use Rattle.patricia_model.specs.Siblings.{node, entries, IsCanonical}
+use Rattle.patricia_model.specs.Internal.LabelCmp.{EndsWithin}
+use Rattle.patricia_nodes.specs.Internal.Plans.{Plan, Nil, Cell, linked, head, row, Holds, IsWellFormed, siblings_of}
+use Rattle.patricia_nodes.specs.Internal.Places.{Frame, InChild, InSibling, fill, Matches}
+use Rattle.patricia_nodes.specs.Internal.Writes.{HasRoomFor, HasLinkRef}
+use Rattle.patricia_nodes.specs.Internal.Writes.{Puts}
+use Rattle.patricia_edits.specs.Internal.Inserts.{AddsNode, AddsLeaf, HasCell, SplitsNode}
+use Rattle.patricia_nodes.proofs.SeekLemmas.{Sought, Opened, opened, head_within, focus_plan_at}
+use Rattle.patricia_nodes.proofs.ValueLemmas.{place_holds, focus_ok, puts}
+use Rattle.patricia_model.proofs.GetLemmas.{compared_less}
+use Rattle.patricia_model.proofs.InsertLemmas.{single, put_before}
+use Rattle.patricia_model.proofs.DivideLemmas.{Divides, divides_label, ends_at_cut, put_at_cut, row_before_cut, put_before_cut, row_after_cut, put_after_cut, past_cut}
+
+module _ (item : List ℕ → Type 0) (kind : IsKeyKind item) {V : Type 0} (x : V) where
+  -- a new node before a plan
+  row_first : (k : ℕ) (focus : Plan V) → IsCanonical item (row focus) → (rest : List ℕ) → Matches item focus rest Absent → IsValid item rest → rest ≢ []
+      → IsCanonical item (row (Cell k rest (Some x) Nil focus))
+  row_first k Nil ok rest h valid nonempty = record { valid = valid; nonempty = nonempty; fits = tt; earns = tt; rises = tt; child = tt; sibling = tt }
+  row_first k (Cell i l v c d) ok rest h valid nonempty = record { valid = valid; nonempty = nonempty; fits = tt; earns = tt; rises = h; child = tt; sibling = ok }
+
+  put_first : (k : ℕ) (focus : Plan V) → IsCanonical item (row focus) → (rest : List ℕ) → Matches item focus rest Absent
+      → entries (row (Cell k rest (Some x) Nil focus)) ≡ put key_cmp rest x (entries (row focus))
+  put_first k Nil ok rest h = single item kind x rest
+  put_first k (Cell i l v c d) ok rest h = put_before item kind x l v (row c) (row d) ok rest h
+
+module _ {item : List ℕ → Type 0} {V : Type 0} {s : NodeArena V} {key : List ℕ} {link_ref : LinkRef} {at : Option ℕ} {rest : List ℕ} {matched : Match}
+    (sought : Sought item s key link_ref at rest matched) where
+  open sought use {kind, whole, canonical as ok, place as p}
+
+  -- the spot of a place is that of some place
+  pub place_link_ref : HasLinkRef s link_ref
+  place_link_ref = (p.frames, p.focus, p.link_ref_is, place_holds sought)
+
+  -- between two nodes
+  pub puts_first : (new : NodeArena V) (x : V) (leaf : Node V) (k : ℕ) → matched ≡ Absent → IsValid item rest → leaf.label ≡ rest → leaf.value ≡ Some x
+      → leaf.child ≡ None → leaf.sibling ≡ at → AddsNode s new link_ref leaf k → Puts item s new key x
+  puts_first new x leaf k is valid label value child sibling adds =
+      let is_match = subst (λ k. Matches item p.focus rest k) is p.is_match in
+      let holds = (adds p.frames Nil p.focus p.focus p.link_ref_is (inr (refl, refl)) child (sibling ∙ p.at_is) (place_holds sought)).0 in
+      puts sought new x (Cell k rest (Some x) Nil p.focus) (rw (← label, ← value) holds)
+      (row_first item kind x k p.focus (focus_ok sought) rest is_match valid p.rest_nonempty)
+      (put_first item kind x k p.focus (focus_ok sought) rest is_match)
+
+  -- in the label of a node
+  module _ {id n : ℕ} (is : matched ≡ InsideLabel id n) where
+    -- the link of the place is the number of that node
+    pub at_id : at ≡ Some id
+    at_id = p.at_is ∙ by p.focus p.is_match
+      where
+        by : (q : Plan V) → Matches item q rest matched → head q ≡ Some id
+        by Nil h = absurd (cc)
+        by (Cell i l v c d) h = let at = subst (λ k. Matches item (Cell i l v c d) rest k) is h in ap Some (sym at.0)
+
+    -- the node is in the vector
+    pub within_nodes : id < length s.nodes.items
+    within_nodes = head_within s.nodes.items at p.focus id (focus_plan_at sought) at_id
+
+    module _ {r : Node V} (reads : r ≡ get_or s.nodes.items id r) where
+      -- the node, as it is read
+      pub there : Opened s.nodes.items p.focus id r
+      there = opened s.nodes.items at p.focus id r (focus_plan_at sought) at_id reads
+
+      ends : EndsWithin item rest r.label n
+      ends =
+          let is_match = subst (λ (q : Plan V). Matches item q rest matched) there.is p.is_match in
+          (subst (λ k. Matches item (Cell id r.label r.value there.child there.sibling) rest k) is is_match).1
+
+      -- the key ends within its label
+      pub ends_short : n < length r.label
+      ends_short = ends.short
+
+      there_holds : Holds s (fill p.frames (Cell id r.label r.value there.child there.sibling))
+      there_holds = subst (λ (q : Plan V). Holds s (fill p.frames q)) there.is (place_holds sought)
+
+      there_ok : IsCanonical item (node r.label r.value (row there.child) (row there.sibling))
+      there_ok = subst (λ (q : Plan V). IsCanonical item (row q)) there.is (focus_ok sought)
+
+      -- it is a node of the plan
+      pub there_cell : HasCell s id
+      there_cell = (p.frames, r.label, r.value, there.child, there.sibling, there_holds)
+
+      module _ (valid : IsValid item rest) where
+        -- the key and the label part there
+        pub div : Divides item rest r.label (take n r.label) (drop n rest) (drop n r.label)
+        div = divides_label item kind rest r.label n valid there_ok.valid ends
+
+        -- what is said of the row at the node, is said of what is in the place
+        puts_there : (new : NodeArena V) (x : V) (focus : Plan V) → Holds new (fill p.frames focus) → IsCanonical item (row focus)
+            → entries (row focus) ≡ put key_cmp rest x (entries (node r.label r.value (row there.child) (row there.sibling))) → Puts item s new key x
+        puts_there new x focus holds canonical put_is = puts sought new x focus holds canonical (put_is ∙ ap (λ (q : Plan V). put key_cmp rest x (entries (row q))) (sym there.is))
+
+        -- the key ends there
+        pub puts_cut : (new : NodeArena V) (x : V) (lower : List ℕ) (k : ℕ) → lower ≡ drop n r.label → drop n rest ≡ [] → SplitsNode s new id n lower (Some x) k → Puts item s new key x
+        puts_cut new x lower k label none splits =
+            puts_there new x (Cell id (take n r.label) (Some x) (Cell k (drop n r.label) r.value there.child Nil) there.sibling)
+            (rw (← label) (splits p.frames r.label r.value there.child there.sibling there_holds).0)
+            (ends_at_cut item kind x r.label r.value (row there.child) (row there.sibling) there_ok rest (take n r.label) (drop n rest) (drop n r.label) div none)
+            (put_at_cut item kind x r.label r.value (row there.child) (row there.sibling) there_ok rest (take n r.label) (drop n rest) (drop n r.label) div none)
+
+        -- or goes on beside the rest of the label
+        module _ (mid : NodeArena V) (lower : List ℕ) (k : ℕ) (label : lower ≡ drop n r.label) (splits : SplitsNode s mid id n lower None k) where
+          abbrev low : Plan V
+          low = Cell k (drop n r.label) r.value there.child Nil
+
+          abbrev above : List (Frame V)
+          above = InChild id (take n r.label) None there.sibling ∷ p.frames
+
+          abbrev beside : List (Frame V)
+          beside = InSibling k (drop n r.label) r.value there.child ∷ above
+
+          cut_holds : Holds mid (fill above low)
+          cut_holds = rw (← label) (splits p.frames r.label r.value there.child there.sibling there_holds).0
+
+          -- splitting the node takes the room of one
+          pub cut_room : (j : ℕ) → HasRoomFor s (suc j) → HasRoomFor mid j
+          cut_room = (splits p.frames r.label r.value there.child there.sibling there_holds).1
+
+          -- the new node can come first below it
+          pub link_ref_before : HasLinkRef mid (Child id)
+          link_ref_before = (above, low, refl, cut_holds)
+
+          -- or behind the lower node
+          pub link_ref_after : HasLinkRef mid (Sibling k (Some id))
+          link_ref_after = (beside, Nil, refl, cut_holds)
+
+          module _ (new : NodeArena V) (x : V) (leaf : Node V) (j : ℕ) (nonempty : drop n rest ≢ []) (leaf_label : leaf.label ≡ drop n rest)
+              (leaf_value : leaf.value ≡ Some x) (leaf_child : leaf.child ≡ None) where
+            -- the new node comes before the lower one
+            puts_before : ComparesFirst item (drop n rest) (drop n r.label) Less → leaf.sibling ≡ Some k → AddsNode mid new (Child id) leaf j → Puts item s new key x
+            puts_before compared sibling adds =
+                let before = compared_less item (drop n rest) (drop n r.label) nonempty div.label_nonempty compared in
+                puts_there new x (Cell id (take n r.label) None (Cell j (drop n rest) (Some x) Nil low) there.sibling)
+                (rw (← leaf_label, ← leaf_value) (adds above Nil low low refl (inr (refl, refl)) leaf_child sibling cut_holds).0)
+                (row_before_cut item kind x r.label r.value (row there.child) (row there.sibling) there_ok rest (take n r.label) (drop n rest) (drop n r.label) div nonempty before)
+                (put_before_cut item kind x r.label r.value (row there.child) (row there.sibling) there_ok rest (take n r.label) (drop n rest) (drop n r.label) div before)
+
+            -- or the new node comes behind it
+            puts_after : (o : Ordering) → ComparesFirst item (drop n rest) (drop n r.label) o → (o ≡ Less → ⊥) → leaf.sibling ≡ None
+                → AddsNode mid new (Sibling k (Some id)) leaf j → Puts item s new key x
+            puts_after o compared not_less sibling adds =
+                let after = past_cut item kind x r.label r.value (row there.child) (row there.sibling) there_ok rest (take n r.label) (drop n rest) (drop n r.label) div nonempty o compared not_less in
+                puts_there new x (Cell id (take n r.label) None (Cell k (drop n r.label) r.value there.child (Cell j (drop n rest) (Some x) Nil Nil)) there.sibling)
+                (rw (← leaf_label, ← leaf_value) (adds beside Nil Nil Nil refl (inr (refl, refl)) leaf_child sibling cut_holds).0)
+                (row_after_cut item kind x r.label r.value (row there.child) (row there.sibling) there_ok rest (take n r.label) (drop n rest) (drop n r.label) div nonempty after)
+                (put_after_cut item kind x r.label r.value (row there.child) (row there.sibling) there_ok rest (take n r.label) (drop n rest) (drop n r.label) div after)
+
+          -- so it is by the order of the two
+          pub puts_leaf : (new : NodeArena V) (x : V) (j : ℕ) (o : Ordering) {more : List ℕ} → more ≡ drop n rest → drop n rest ≢ []
+              → ComparesFirst item (drop n rest) (drop n r.label) o → AddsLeaf mid new id k o more x j → Puts item s new key x
+          puts_leaf new x j Less {more} is some compared adds =
+              puts_before new x (linked more (Some x) None (Some k)) j some is refl refl compared refl (adds.0 refl)
+          puts_leaf new x j Equal {more} is some compared adds =
+              puts_after new x (linked more (Some x) None None) j some is refl refl Equal compared (λ e. absurd (cc)) refl (adds.1 (λ e. absurd (cc)))
+          puts_leaf new x j Greater {more} is some compared adds =
+              puts_after new x (linked more (Some x) None None) j some is refl refl Greater compared (λ e. absurd (cc)) refl (adds.1 (λ e. absurd (cc)))
+
+-- what holds after a value was put in, or refused
+pub put_or_same : (item : List ℕ → Type 0) {T E : Type 0} (r : Result T E) {V : Type 0} (old new : NodeArena V) (key : List ℕ) (x : V)
+    → OnOk r (Puts item old new key x) → OnErr r (new ≡ old) → IsWellFormed old → IsCanonical item (siblings_of old)
+    → IsWellFormed new × IsCanonical item (siblings_of new)
+put_or_same item (Ok y) old new key x ok err whole canonical = (ok.whole, ok.canonical)
+put_or_same item (Err e) old new key x ok err whole canonical = rw err (whole, canonical)

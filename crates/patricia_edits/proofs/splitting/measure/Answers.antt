@@ -1,0 +1,38 @@
+use Rattle.std.proofs.Common.{◌+◌, refl, sym, ◌∙◌, ap, arith}
+use Rattle.patricia_edits.proofs.MeasureLemmas.{measuring_start, next_within, not_all, not_full, measuring_down, less_down, measuring_back, less_back, measuring_done}
+use Rattle.patricia_edits.proofs.splitting.measure.Goals as goal
+
+pub loop-id-init : goal.loop-id-init
+loop-id-init g c = rw c.new-waiting.ensures.items (measuring_start c.args.arena.now.nodes.items c.args.first c.requires.0 c.requires.1)
+
+pub index-node-requires : goal.index-node-requires
+index-node-requires g c =
+    let within = next_within _ _ _ _ _ _ c.loop-id.invariant c.in-Some.id (sym c.get.ensures ∙ c.in-Some.is) in
+    omega (arith, c.index.ensures)
+
+pub overflow_add-size : goal.overflow_add-size
+overflow_add-size g c =
+    let fits = not_all _ _ _ _ _ _ c.loop-id.invariant c.in-Some.id (sym c.get.ensures ∙ c.in-Some.is) c.index-node.result.now (rw c.index.ensures at c.index-node.ensures) in
+    omega (arith, fits)
+
+pub overflow_add-size-in-Some : goal.overflow_add-size-in-Some
+overflow_add-size-in-Some g c =
+    let fits = not_full _ _ _ _ _ _ c.loop-id.invariant c.in-Some.id (sym c.get.ensures ∙ c.in-Some.is) c.index-node.result.now (rw c.index.ensures at c.index-node.ensures) in
+    omega (arith, fits, c.how_many.ensures)
+
+pub loop-id-smaller-in-Some : goal.loop-id-smaller-in-Some
+loop-id-smaller-in-Some g c =
+    less_down _ _ _ _ _ _ c.loop-id.invariant c.in-Some.id (sym c.get.ensures ∙ c.in-Some.is) c.index-node.result.now (rw c.index.ensures at c.index-node.ensures) _ c.in_ok-push-in-Some.ensures.items
+
+pub loop-id-preserved-in-Some : goal.loop-id-preserved-in-Some
+loop-id-preserved-in-Some g c =
+    measuring_down _ _ _ _ _ _ c.loop-id.invariant c.in-Some.id (sym c.get.ensures ∙ c.in-Some.is) c.index-node.result.now (rw c.index.ensures at c.index-node.ensures) _ _ refl (ap (λ n. c.loop-id.size.values + n) c.how_many.ensures) _ c.in_ok-push-in-Some.ensures.items
+
+pub loop-id-smaller : goal.loop-id-smaller
+loop-id-smaller g c = less_back _ _ _ _ _ _ c.loop-id.invariant (sym c.get.ensures ∙ c.in-None.is) _ _ c.in-Some-pop.ensures.items
+
+pub loop-id-preserved : goal.loop-id-preserved
+loop-id-preserved g c = measuring_back _ _ _ _ _ _ c.loop-id.invariant (sym c.get.ensures ∙ c.in-None.is) _ _ c.in-Some-pop.ensures.items
+
+pub returns-in-None-pop : goal.returns-in-None-pop
+returns-in-None-pop g c p plan = measuring_done _ _ _ _ _ _ c.loop-id.invariant (sym c.get.ensures ∙ c.in-None.is) (let e = c.in-None-pop.ensures.cases in omega (arith, e.0)) p plan

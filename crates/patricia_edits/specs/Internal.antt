@@ -1,0 +1,5 @@
+-- Words of contracts that no user of the library meets: a reader need not believe them.
+pub mod Copies
+pub mod Inserts
+pub mod Removes
+pub mod Splits

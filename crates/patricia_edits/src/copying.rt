@@ -1,0 +1,132 @@
+//! Nodes copied to a vector of their own.
+//!
+//! Rows are laid there as growth lays them: siblings side by side, and the rows level by level. The
+//! new vector is the queue of the rows that wait, and it is reserved once.
+ghost use Rattle.std.specs.Prelude.{◌≡◌, ◌≢◌, ◌+◌, ◌≤◌, ◌++◌, [], None, IfSome, IfOk, OnOk, OnErr, length, vec_len, vec_capacity};
+ghost use Rattle.patricia_model.specs.Siblings.{end};
+ghost use Rattle.patricia_nodes.specs.Internal.Plans.{Plan, linked, head, row, siblings_of, size, plan_at, IsSound, IsWellFormed};
+ghost use Rattle.patricia_nodes.specs.Internal.Growth.{IsLaid, IsTopRow, tops, laid, numbered_siblings};
+ghost use Rattle.patricia_model.specs.Clones.{CloneIsSame};
+ghost use Rattle.patricia_edits.specs.Internal.Copies.{RowKept, EntriesKept};
+
+use patricia_nodes::arena::{Node, NodeArena};
+use patricia_nodes::label::Label;
+use patricia_nodes::link::{Link, NodeId};
+use std::alloc::{AllocError, Global};
+
+// How many nodes are used: all but the free ones.
+fn used<V: Drop>(arena: &NodeArena<V>) -> usize
+    requires { IsWellFormed arena.now }
+    ensures { result ≡ size (plan_at arena.now.nodes.items arena.now.root) }
+{
+    let mut used = arena.nodes.len();
+    let mut at = arena.free;
+    while let Some(id) = at.get() {
+        used -= 1;
+        at = arena.nodes[id.index()].sibling;
+    }
+    used
+}
+
+/// A copy of a value that may be there. Where there is none, nothing is asked for.
+pub fn copy_value<V: Clone>(value: &Option<V>) -> Result<Option<V>, AllocError>
+    requires { IfSome value.now (CloneIsSame V.is_clone) }
+    ensures same { IfOk result (λ v. v ≡ value.now) }
+    ensures nonempty { OnErr result (value.now ≢ None) }
+{
+    match value {
+        Some(value) => Ok(Some(value.clone()?)),
+        None => Ok(None),
+    }
+}
+
+// A copy of a node, with its child and another sibling.
+fn copy_node<V: Clone>(alloc: Global, node: &Node<V>, sibling: Link) -> Result<Node<V>, AllocError>
+    requires { IfSome node.now.value (CloneIsSame V.is_clone) }
+    ensures { IfOk result (λ n. n ≡ linked node.now.label node.now.value node.now.child sibling) }
+{
+    let label = Label::from_slice(alloc, node.label.as_slice())?;
+    Ok(Node {
+        child: node.child,
+        sibling,
+        label,
+        value: copy_value(&node.value)?,
+    })
+}
+
+// Copies a row behind the last of some new nodes, each with the old number of its first child, and
+// returns the new number of its first node.
+fn copy_row<V: Clone>(
+    alloc: Global,
+    from: &[Node<V>],
+    first: Link,
+    to: &mut Vec<Node<V>>,
+) -> Result<Link, AllocError>
+    requires row { (w : Plan V) × IsTopRow from.now first w × RowKept V.is_clone (row w)
+        × (vec_len to.old + length (tops w) ≤ vec_capacity to.old) }
+    ensures laid { OnOk result ((w : Plan V) → IsTopRow from.now first w
+        → to.new.items ≡ to.old.items ++ laid (length to.old.items) w) }
+    ensures first { IfOk result (λ at. (w : Plan V) → IsTopRow from.now first w
+        → at ≡ head (numbered_siblings (length to.old.items) w)) }
+    ensures capacity { OnOk result (vec_capacity to.new ≡ vec_capacity to.old) }
+    ensures nonempty { OnErr result (first ≢ None) }
+{
+    let start = to.len();
+    let mut at = first;
+    while let Some(id) = at.get() {
+        let node = &from[id.index()];
+        at = node.sibling;
+        let sibling = match at.get() {
+            None => Link::none(),
+            Some(_) => Link::some(NodeId::new(to.len() + 1)),
+        };
+        to.push_reserved(copy_node(alloc, node, sibling)?);
+    }
+    Ok(match first.get() {
+        None => Link::none(),
+        Some(_) => Link::some(NodeId::new(start)),
+    })
+}
+
+// Copies what is below the nodes of a new vector behind them, row by row. They have the old numbers
+// of their children.
+fn copy_below<V: Clone>(
+    alloc: Global,
+    from: &[Node<V>],
+    to: &mut Vec<Node<V>>,
+) -> Result<(), AllocError>
+    requires { (w : Plan V) × IsLaid from.now to.old.items w × RowKept V.is_clone (row w)
+        × (size w ≤ vec_capacity to.old) }
+    ensures laid { OnOk result ((w : Plan V) → IsLaid from.now to.old.items w
+        → (q : Plan V) × IsSound to.new.items (head (numbered_siblings 0 w)) None q [] × (row q ≡ row w)) }
+    ensures nonempty { OnErr result (to.old.items ≢ []) }
+{
+    let mut i = 0;
+    while i < to.len() {
+        let child = to[i].child;
+        let first = copy_row(alloc, from, child, to)?;
+        to[i].child = first;
+        i += 1;
+    }
+    Ok(())
+}
+
+/// The same nodes in a vector of their own, laid row by row as growth lays them, with none free.
+/// The vector is reserved once.
+pub fn copy<V: Clone>(arena: &NodeArena<V>, alloc: Global) -> Result<NodeArena<V>, AllocError>
+    requires whole { IsWellFormed arena.now }
+    requires cloned { EntriesKept V.is_clone arena.now }
+    ensures whole { IfOk result (λ c. IsWellFormed c) }
+    ensures row { IfOk result (λ c. siblings_of c ≡ siblings_of arena.now) }
+    ensures none_free { IfOk result (λ c. c.free ≡ None) }
+    ensures nonempty { OnErr result (siblings_of arena.now ≢ end) }
+{
+    let mut nodes = Vec::with_capacity(alloc, used(arena))?;
+    let root = copy_row(alloc, &arena.nodes, arena.root, &mut nodes)?;
+    copy_below(alloc, &arena.nodes, &mut nodes)?;
+    Ok(NodeArena {
+        nodes,
+        root,
+        free: Link::none(),
+    })
+}

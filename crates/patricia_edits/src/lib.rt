@@ -1,0 +1,14 @@
+//! What changes the nodes of a tree: inserts, removals and splits. And copies of them.
+//!
+//! `patricia_tree` is the library to use. It depends on this crate.
+#![tactic(auto)]
+
+mod copying;
+mod insertion;
+mod removal;
+mod splitting;
+
+pub use copying::{copy, copy_value};
+pub use insertion::insert;
+pub use removal::remove;
+pub use splitting::{Taken, split};

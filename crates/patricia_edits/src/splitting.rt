@@ -1,0 +1,190 @@
+//! Taking out the nodes under a prefix.
+ghost use Rattle.std.specs.Prelude.{◌≡◌, ◌≢◌, ◌<◌, ◌≤◌, [], Some, IfOk, OnOk, OnErr, length, slice_get, vec_len, vec_capacity};
+ghost use Rattle.patricia_model.specs.Prefixes.{under};
+ghost use Rattle.patricia_model.specs.Siblings.{own, IsCanonical};
+ghost use Rattle.patricia_nodes.specs.Internal.Plans.{Plan, IsPlan, IsWellFormed, siblings_of, entries_of, size};
+ghost use Rattle.patricia_nodes.specs.Internal.Places.{IsSeekResult, node_under};
+ghost use Rattle.patricia_nodes.specs.declared.arena.Node.{Node as NodeOf};
+ghost use Rattle.patricia_edits.specs.Internal.Splits.{values, HasSplitNode, HasTreeAt, CountsTree, MovesOut, IsTopLabel, SplitsOff};
+
+use patricia_keys::{BorrowedBytes, Bytes};
+use patricia_nodes::arena::seek::{LinkRef, SeekResult};
+use patricia_nodes::arena::{Node, NodeArena};
+use patricia_nodes::label::Label;
+use patricia_nodes::link::{Link, NodeId};
+use std::alloc::{AllocError, Global};
+use std::mem;
+
+/// The nodes that were taken out, and how many of them have a value.
+#[derive(Drop)]
+pub struct Taken<V> {
+    pub arena: NodeArena<V>,
+    pub count: usize,
+}
+
+// How many nodes there are, and how many of them have a value.
+#[derive(Clone, Copy)]
+struct Size {
+    nodes: usize,
+    values: usize,
+}
+
+// One value, or none.
+fn how_many<V>(value: &Option<V>) -> usize
+    ensures { result ≡ length (own value.now) }
+{
+    match value {
+        Some(_) => 1,
+        None => 0,
+    }
+}
+
+// Counts the nodes of a row and below it.
+fn measure<V: Drop>(arena: &NodeArena<V>, alloc: Global, first: Link) -> Result<Size, AllocError>
+    requires { (p : Plan V) × IsPlan arena.now.nodes.items first p }
+    ensures { IfOk result (λ s. (p : Plan V) → IsPlan arena.now.nodes.items first p
+        → (s.nodes ≡ size p) × (s.values ≡ values p)) }
+{
+    let mut size = Size {
+        nodes: 0,
+        values: 0,
+    };
+    let mut waiting = Vec::new(alloc);
+    let mut at = first;
+    loop {
+        match at.get() {
+            Some(id) => {
+                let node = &arena.nodes[id.index()];
+                size.nodes += 1;
+                size.values += how_many(&node.value);
+                waiting.push(node.sibling)?;
+                at = node.child;
+            }
+            None => match waiting.pop() {
+                Some(next) => at = next,
+                None => return Ok(size),
+            },
+        }
+    }
+}
+
+// Room for a node and those below it, and how many of them have a value.
+fn room_for<V: Drop>(
+    arena: &NodeArena<V>,
+    alloc: Global,
+    id: NodeId,
+) -> Result<(Vec<Node<V>>, usize), AllocError>
+    requires { HasSplitNode arena.now id }
+    ensures empty { IfOk result (λ r. r.0.items ≡ []) }
+    ensures counted { IfOk result (λ r. CountsTree arena.now id (vec_capacity r.0) r.1) }
+{
+    let node = &arena.nodes[id.index()];
+    let below = measure(arena, alloc, node.child)?;
+    let room = Vec::with_capacity(alloc, below.nodes + 1)?;
+    Ok((room, below.values + how_many(&node.value)))
+}
+
+// The label of the topmost node: the prefix, and what the node's label has past these bytes.
+fn top_label<V: Drop>(
+    arena: &NodeArena<V>,
+    alloc: Global,
+    id: NodeId,
+    prefix: &[u8],
+    passed: usize,
+) -> Result<Label, AllocError>
+    requires within { id < vec_len arena.now.nodes }
+    requires passed { (n : NodeOf V) → slice_get arena.now.nodes.items id ≡ Some n
+        → passed ≤ length n.label }
+    ensures { IfOk result (λ label. IsTopLabel arena.now id prefix.now passed label) }
+{
+    let label = arena.nodes[id.index()].label.as_slice();
+    Label::joined(alloc, prefix, &label[passed..])
+}
+
+// Moves a node and those below it into a vector with room for them, and unlinks it.
+fn move_out<V: Drop>(
+    arena: &mut NodeArena<V>,
+    alloc: Global,
+    link_ref: LinkRef,
+    id: NodeId,
+    label: Label,
+    room: Vec<Node<V>>,
+) -> NodeArena<V>
+    requires empty { room.items ≡ [] }
+    requires tree { HasTreeAt arena.old link_ref id (vec_capacity room) }
+    ensures { MovesOut arena.old arena.new link_ref id label result }
+{
+    let mut nodes = room;
+    let node = &mut arena.nodes[id.index()];
+    let value = node.value.take();
+    let child = mem::replace(&mut node.child, Link::none());
+    nodes.push_reserved(Node {
+        child,
+        sibling: Link::none(),
+        label,
+        value,
+    });
+    arena.relocate_descendants(alloc, &mut nodes);
+    let _none = arena.unlink(alloc, link_ref, id);
+    NodeArena {
+        nodes,
+        root: Link::some(NodeId::new(0)),
+        free: Link::none(),
+    }
+}
+
+// Takes out the nodes at a place and below it. All memory is there before anything is changed.
+fn split_at<V: Drop, Q: BorrowedBytes>(
+    arena: &mut NodeArena<V>,
+    alloc: Global,
+    prefix: Q,
+    place: &SeekResult<Q>,
+    id: NodeId,
+) -> Result<Taken<V>, AllocError>
+    requires whole { IsWellFormed arena.old }
+    requires row { IsCanonical Q.Owned.item (siblings_of arena.old) }
+    requires place { IsSeekResult Q.Owned.item Q.key arena.old (Q.key prefix) place.now }
+    requires under { node_under (Q.key place.now.rest) place.now.matched ≡ Some id }
+    ensures ok { IfOk result (λ t. SplitsOff Q.Owned.item arena.old arena.new (Q.key prefix) t) }
+    ensures unchanged { OnErr result (arena.new ≡ arena.old) }
+    ensures begun { OnErr result (under (Q.key prefix) (entries_of arena.old) ≢ []) }
+{
+    let (room, count) = room_for(arena, alloc, id)?;
+    let passed = place.rest.as_bytes().len();
+    let label = top_label(arena, alloc, id, prefix.as_bytes(), passed)?;
+    let Some(alone) = arena.would_merge::<Q::Owned>(place.link_ref, id) else {
+        let arena = move_out(arena, alloc, place.link_ref, id, label, room);
+        return Ok(Taken { arena, count });
+    };
+    let together = arena.concat_labels(alloc, alone.0, alone.1)?;
+    let taken = move_out(arena, alloc, place.link_ref, id, label, room);
+    let _none = arena.merge_only_child(alloc, alone.0, alone.1, together);
+    Ok(Taken {
+        arena: taken,
+        count,
+    })
+}
+
+/// Takes out what is under a prefix that is not empty.
+pub fn split<V: Drop, Q: BorrowedBytes>(
+    arena: &mut NodeArena<V>,
+    alloc: Global,
+    prefix: Q,
+) -> Result<Taken<V>, AllocError>
+    requires whole { IsWellFormed arena.old }
+    requires row { IsCanonical Q.Owned.item (siblings_of arena.old) }
+    requires nonempty { Q.key prefix ≢ [] }
+    ensures ok { IfOk result (λ t. SplitsOff Q.Owned.item arena.old arena.new (Q.key prefix) t) }
+    ensures unchanged { OnErr result (arena.new ≡ arena.old) }
+    ensures begun { OnErr result (under (Q.key prefix) (entries_of arena.old) ≢ []) }
+{
+    let place = arena.seek(prefix);
+    let _valid = place.rest.as_bytes();
+    match place.under() {
+        Some(id) => split_at(arena, alloc, prefix, &place, id),
+        None => Ok(Taken {
+            arena: NodeArena::new(alloc),
+            count: 0,
+        }),
+    }
+}

@@ -1,3 +1,0 @@
-pub mod EncodeLemmas
-pub mod LeftLemmas
-pub mod PieceLemmas

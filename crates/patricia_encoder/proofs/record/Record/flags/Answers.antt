@@ -1,5 +1,0 @@
-use Rattle.std.proofs.Common.{rules}
-use Rattle.patricia_encoder.proofs.record.Record.flags.Goals as goal
-
-pub returns : goal.returns
-returns c = search rules

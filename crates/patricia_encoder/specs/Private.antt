@@ -1,3 +1,0 @@
--- What the calls of this crate promise each other: a reader need not believe it.
-pub mod Lefts
-pub mod Pieces

@@ -1,5 +1,0 @@
-use Rattle.std.proofs.Common.{rules}
-use Rattle.patricia_labels.proofs.link.NodeId.new.Goals as goal
-
-pub returns : goal.returns
-returns c = search rules

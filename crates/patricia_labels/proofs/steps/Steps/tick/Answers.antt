@@ -1,5 +1,0 @@
-use Rattle.std.proofs.Common.{rules}
-use Rattle.patricia_labels.proofs.steps.Steps.tick.Goals as goal
-
-pub returns : goal.returns
-returns g c = search rules

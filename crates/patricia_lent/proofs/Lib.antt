@@ -1,3 +1,0 @@
-mod CursorLemmas
-pub mod FoundLemmas
-pub mod LeftLemmas

@@ -1,4 +1,0 @@
-pub mod Left
-pub mod Lends
-pub mod Private
-pub mod Steps

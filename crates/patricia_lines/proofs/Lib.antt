@@ -1,3 +1,0 @@
-pub mod Cuts
-pub mod Numbers
-pub mod TextLemmas

@@ -1,2 +1,0 @@
-pub mod MachineLemmas
-pub mod RowLemmas

@@ -1,0 +1,59 @@
+-- Where a cursor stands, and what it has still to lend.
+use Rattle.std.specs.Prelude.{ℕ, List, Option, Some, None, filter, slice_get}
+use Rattle.std.specs.FinMap as map
+use Rattle.std.specs.Option.{option_map}
+use Rattle.std.specs.Ordering.{is_lt}
+use Rattle.patricia_keys.specs.Keys.{key_cmp}
+use Rattle.patricia_model.specs.Prefixes.{under}
+
+-- the map that it walks over, the bytes that the keys begin with, and the key that it lent last
+pub record CursorView (V : Type 0) : Type 0 where
+  pub map : map.FinMap key_cmp V
+  pub prefix : List ℕ
+  pub last : Option (List ℕ)
+
+module _ {V : Type 0} where
+  -- the rows whose key comes after that one; all rows where there is none yet
+  abbrev pub after : Option (List ℕ) → List (List ℕ × V) → List (List ℕ × V)
+  after None rows = rows
+  after (Some key) rows = filter (λ e. is_lt (key_cmp key e.0)) rows
+
+  -- the rows that it has still to lend
+  abbrev pub remaining_rows : CursorView V → List (List ℕ × V)
+  remaining_rows s = after s.last (under s.prefix (map.entries s.map))
+
+  -- the first of them, its key and its value
+  abbrev pub next_row : CursorView V → Option (List ℕ × V)
+  next_row s = slice_get (remaining_rows s) 0
+
+  abbrev pub next_key : CursorView V → Option (List ℕ)
+  next_key s = option_map (λ e. e.0) (next_row s)
+
+  abbrev pub next_value : CursorView V → Option V
+  next_value s = option_map (λ e. e.1) (next_row s)
+
+  -- where it stands once it has lent at a key
+  abbrev pub lent_at : CursorView V → Option (List ℕ) → CursorView V
+  lent_at s None = s
+  lent_at s (Some key) = record s { last = Some key }
+
+  -- where it stands one row on; where there is none it stays
+  abbrev pub stepped : CursorView V → CursorView V
+  stepped s = lent_at s (next_key s)
+
+  -- the value at the key that it lent last
+  abbrev pub value_at : CursorView V → Option (List ℕ) → Option V
+  value_at s None = None
+  value_at s (Some key) = map.get s.map key
+
+  abbrev pub last_value : CursorView V → Option V
+  last_value s = value_at s s.last
+
+  -- the same with another value at a key
+  abbrev pub written_at : CursorView V → Option (List ℕ) → V → CursorView V
+  written_at s None value = s
+  written_at s (Some key) value = record s { map = map.insert s.map key value }
+
+  -- the same with another value at the key that it lent last
+  abbrev pub written : CursorView V → V → CursorView V
+  written s value = written_at s s.last value

@@ -1,0 +1,9 @@
+pub mod Clones
+pub mod Cursors
+pub mod Laws
+pub mod Points
+pub mod Prefixes
+pub mod Internal
+pub mod Siblings
+pub mod Trees
+pub mod Walks

@@ -1,0 +1,76 @@
+//! Laws that hold for every key kind, as contracts of functions that do nothing.
+ghost use Rattle.std.specs.Prelude.{[]};
+ghost use Rattle.patricia_keys.specs.ByteKind.{IsByteItem};
+ghost use Rattle.patricia_model.specs.Laws.{TestsBeginnings, UnderIsFiltered, AlongIsFiltered, LastIsLongest, HasOneReach};
+ghost use Rattle.patricia_model.specs.Laws.{HoldTogether, HaveNoKeyInCommon};
+ghost use Rattle.patricia_model.specs.Laws.{CommonIsFloor, HasOneParent, HasOneVisitCount, HasOneTree, TreeStandsAtPoints, HasOneShape, RowStandsAtPoints};
+ghost use Rattle.patricia_model.specs.Points.{IsVisitCount};
+ghost use Rattle.patricia_model.specs.Internal.ThreeKeys.{three_keys, baz, foo, aaa};
+
+use patricia_keys::Bytes;
+
+/// The common length of a key and any bytes is the floor boundary of the bytes that they share.
+pub fn common_is_floor<K: Bytes>()
+    ensures { CommonIsFloor K.item }
+{}
+
+/// Trees that stand for one finite map are the same tree, whatever made them.
+pub fn one_tree<K: Bytes, V>()
+    ensures { HasOneTree K.item V }
+{}
+
+/// The nodes of a tree stand at the points of the keys of its map, one node at each.
+pub fn points_of_tree<K: Bytes, V>()
+    ensures { TreeStandsAtPoints K.item V }
+{}
+
+/// Two rows that keep the invariant under one limit and have the same entries are the same row.
+pub fn one_shape<K: Bytes, V>()
+    ensures { HasOneShape K.item V }
+{}
+
+/// The nodes of a row stand at the points of its keys, one node at each.
+pub fn points_of_row<K: Bytes, V>()
+    ensures { RowStandsAtPoints K.item V }
+{}
+
+/// There is one number of visits for a set of keys and a key.
+pub fn one_visit_count<K: Bytes>()
+    ensures { HasOneVisitCount K.item }
+{}
+
+/// A point has one parent.
+pub fn one_parent<K: Bytes>()
+    ensures { HasOneParent K.item }
+{}
+
+/// There is one reach for a set of keys and a key.
+pub fn one_reach<K: Bytes>()
+    ensures { HasOneReach K.item }
+{}
+
+/// Under a prefix are those rows whose key it begins, and along a key those whose key begins it.
+pub fn prefixes_filter<V>()
+    ensures test { TestsBeginnings }
+    ensures under { UnderIsFiltered V }
+    ensures along { AlongIsFiltered V }
+{}
+
+/// The rows under a prefix and those outside it have no key in common, and are all rows together.
+pub fn split_parts<V>()
+    ensures together { HoldTogether V }
+    ensures apart { HaveNoKeyInCommon V }
+{}
+
+/// The last of the rows along a key has the longest key of them.
+pub fn last_is_longest<V>()
+    ensures { LastIsLongest V }
+{}
+
+/// How many visits look-ups make with the keys bar, baz and foo.
+pub fn three_keys_visits()
+    ensures through { IsVisitCount IsByteItem three_keys baz 4 }
+    ensures beside { IsVisitCount IsByteItem three_keys foo 3 }
+    ensures before { IsVisitCount IsByteItem three_keys aaa 2 }
+    ensures root { IsVisitCount IsByteItem three_keys [] 1 }
+{}

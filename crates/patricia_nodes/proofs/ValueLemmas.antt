@@ -1,0 +1,62 @@
+-- A value written at the place of a key.
+use Rattle.std.proofs.Common.{◌≡◌, ℕ, List, [], set, Option, Some, get_or, sym, ap, subst, ◌∙◌}
+use Rattle.std.specs.FinMap.{put}
+use Rattle.patricia_nodes.specs.declared.arena.Node.{Node}
+use Rattle.patricia_nodes.specs.declared.arena.NodeArena.{NodeArena}
+use Rattle.patricia_nodes.specs.declared.arena.seek.LinkRef.{LinkRef}
+use Rattle.patricia_nodes.specs.declared.arena.seek.Match.{Match}
+use Rattle.patricia_keys.specs.Keys.{key_cmp}
+use Rattle.patricia_model.specs.Siblings.{node, entries, IsCanonical}
+use Rattle.patricia_nodes.specs.Internal.Plans.{Plan, Cell, linked, row, Holds, plan_at}
+use Rattle.patricia_nodes.specs.Internal.Places.{fill, node_of, Matches}
+use Rattle.patricia_nodes.specs.Internal.Writes.{Puts}
+use Rattle.patricia_nodes.proofs.PlanLemmas.{plan_is}
+use Rattle.patricia_nodes.proofs.FillLemmas.{put-fill, row-within}
+use Rattle.patricia_nodes.proofs.SeekLemmas.{Sought, Opened, opened, place_row, focus_plan_at, stop_at, here_passes}
+use Rattle.patricia_nodes.proofs.WriteLemmas.{holds_write}
+use Rattle.patricia_model.proofs.InsertLemmas.{put_own, put_through, row_valued}
+
+module _ {item : List ℕ → Type 0} {V : Type 0} {s : NodeArena V} {key : List ℕ} {link_ref : LinkRef} {at : Option ℕ} {rest : List ℕ} {matched : Match}
+    (sought : Sought item s key link_ref at rest matched) where
+  open sought use {kind, whole, canonical as ok, place as p}
+
+  -- the nodes are the plan around the place
+  pub place_holds : Holds s (fill p.frames p.focus)
+  place_holds =
+      let same : whole.0 ≡ fill p.frames p.focus = sym (p.fills ∙ plan_is s.nodes.items s.root whole.0 whole.1.1.plan_ok) in
+      subst (λ (q : Plan V). Holds s q) same whole.1
+
+  -- the row in the place keeps the invariant
+  pub focus_ok : IsCanonical item (row p.focus)
+  focus_ok = row-within item p.frames p.focus (place_row sought)
+
+  -- a write in the place
+  pub puts : (new : NodeArena V) (x : V) (focus : Plan V) → Holds new (fill p.frames focus) → IsCanonical item (row focus)
+      → entries (row focus) ≡ put key_cmp rest x (entries (row p.focus)) → Puts item s new key x
+  puts new x focus holds canonical put_is =
+      let same : plan_at new.nodes.items new.root ≡ fill p.frames focus = plan_is new.nodes.items new.root (fill p.frames focus) holds.1.plan_ok in
+      let w = put-fill item kind x p.frames p.focus focus (place_row sought) key rest p.leads canonical put_is in
+      record {
+        whole = (fill p.frames focus, holds);
+        canonical = rw same w.0;
+        put_is = ap (λ (q : Plan V). entries (row q)) same ∙ w.1 ∙ ap (λ (q : Plan V). put key_cmp key x (entries (row q))) p.fills;
+      }
+
+  -- at the node of the key
+  module _ (id : ℕ) (is : node_of matched ≡ Some id) (r : Node V) (reads : r ≡ get_or s.nodes.items id r) where
+    here : Opened s.nodes.items p.focus id r
+    here = opened s.nodes.items at p.focus id r (focus_plan_at sought) (p.at_is ∙ stop_at item rest p.focus id matched p.is_match is) reads
+
+    -- a value written there is put in at the key
+    pub puts_here : (new : NodeArena V) (x : V) (v : Option V) → v ≡ Some x → new.nodes.items ≡ set s.nodes.items id (linked r.label v r.child r.sibling)
+        → new.root ≡ s.root → new.free ≡ s.free → Puts item s new key x
+    puts_here new x v written nodes_is root_is free_is =
+        let o = here in
+        let inner = subst (λ (q : Plan V). IsCanonical item (row q)) o.is focus_ok in
+        let is_match = subst (λ (q : Plan V). Matches item q rest matched) o.is p.is_match in
+        let holds = holds_write s id r reads p.frames r.label r.label r.value v o.child o.sibling (subst (λ (q : Plan V). Holds s (fill p.frames q)) o.is place_holds) in
+        puts new x (Cell id r.label (Some x) o.child o.sibling)
+        (rw (nodes_is, root_is, free_is, ← written) holds)
+        (row_valued item kind x r.label r.value (row o.child) (row o.sibling) inner)
+        (put_through item kind x r.label r.value (row o.child) (row o.sibling) inner rest [] (Some x) (row o.child) (here_passes item rest id r.label id matched is_match is) (put_own item kind x r.value (row o.child) inner.child)
+        ∙ ap (λ (q : Plan V). put key_cmp rest x (entries (row q))) (sym o.is))

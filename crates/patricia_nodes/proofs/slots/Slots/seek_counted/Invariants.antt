@@ -1,9 +1,0 @@
-use Rattle.patricia_nodes.specs.Private.Plans.{size, plan_at}
-use Rattle.patricia_nodes.proofs.SeekLemmas.{Walks}
-use Rattle.patricia_nodes.proofs.slots.Slots.seek_counted.Given as goal
-
-abbrev pub invariant-loop-id : goal.invariant-loop-id
-invariant-loop-id g l = Walks g.Q.Owned.Bytes.item l.self (g.Q.BorrowedBytes.key l.fn.key) l.spot l.at (g.Q.BorrowedBytes.key l.rest) l.fn.steps l.steps
-
-abbrev pub decreases-loop-id : goal.decreases-loop-id
-decreases-loop-id g l = size (plan_at l.self.nodes.items l.at)

@@ -1,0 +1,9 @@
+-- Words of contracts that no user of the library meets: a reader need not believe them.
+pub mod Growth
+pub mod Labels
+pub mod Links
+pub mod Loans
+pub mod Merges
+pub mod Places
+pub mod Plans
+pub mod Writes

@@ -1,0 +1,81 @@
+-- What writes leave of nodes in one vector.
+use Rattle.std.specs.Prelude.{◌≡◌, ℕ, ◌+◌, ◌<◌, ◌≤◌, List, [], length, Option, Some, None, slice_get, slice_set, vec_len, vec_capacity}
+use Rattle.std.specs.FinMap.{put}
+use Rattle.patricia_keys.specs.Keys.{key_cmp}
+use Rattle.patricia_nodes.specs.declared.arena.Node.{Node}
+use Rattle.patricia_nodes.specs.declared.arena.NodeArena.{NodeArena}
+use Rattle.patricia_nodes.specs.declared.arena.seek.SeekResult.{SeekResult}
+use Rattle.patricia_nodes.specs.declared.arena.seek.LinkRef.{LinkRef}
+use Rattle.patricia_nodes.specs.declared.arena.seek.LinkRef.TheVariants.{Root, Child, Sibling}
+use Rattle.patricia_model.specs.Siblings.{IsCanonical}
+use Rattle.patricia_nodes.specs.Internal.Plans.{Plan, linked, first, IsChain, Holds, IsWellFormed, siblings_of, entries_of}
+use Rattle.patricia_nodes.specs.Internal.Places.{Frame, fill, link_ref_of, IsSeekResult}
+
+-- the node of the spot is in the vector
+abbrev pub LinkRefWithin : LinkRef → ℕ → Type 0
+LinkRefWithin Root n = Unit {0}
+LinkRefWithin (Child id) n = id < n
+LinkRefWithin (Sibling id above) n = id < n
+
+module _ {V : Type 0} where
+  -- these are the free nodes
+  abbrev pub IsFree : List (Node V) → Option ℕ → List ℕ → Type 0
+  IsFree nodes free spare = IsChain nodes spare × (free ≡ first spare)
+
+  -- at least so many nodes are free
+  abbrev pub FreeAtLeast : NodeArena V → ℕ → Type 0
+  FreeAtLeast s n = (spare : List ℕ) × IsFree s.nodes.items s.free spare × (n ≤ length spare)
+
+  -- there is room for so many nodes more, in free ones or behind the last
+  abbrev pub RoomFor : List (Node V) → Option ℕ → ℕ → ℕ → Type 0
+  RoomFor nodes free capacity n = (spare : List ℕ) × IsFree nodes free spare × (n + length nodes ≤ length spare + capacity)
+
+  abbrev pub HasRoomFor : NodeArena V → ℕ → Type 0
+  HasRoomFor s n = RoomFor s.nodes.items s.free (vec_capacity s.nodes) n
+
+  -- the vector has grown only where no node was free, and none is free then
+  pub record Reuses (old new : NodeArena V) : Type 0 where
+    pub grown : vec_len old.nodes < vec_len new.nodes → new.free ≡ None
+    pub none : old.free ≡ None → new.free ≡ None
+
+  -- nothing was changed
+  pub record Stays (old new : NodeArena V) : Type 0 where
+    pub nodes_is : new.nodes.items ≡ old.nodes.items
+    pub root_is : new.root ≡ old.root
+    pub free_is : new.free ≡ old.free
+
+  -- the node was taken out, and its number is the first that is free
+  pub record Frees (old new : NodeArena V) (id : ℕ) (n : Node V) : Type 0 where
+    pub taken : slice_get old.nodes.items id ≡ Some n
+    pub nodes_is : new.nodes.items ≡ slice_set old.nodes.items id (linked [] None None old.free)
+    pub root_is : new.root ≡ old.root
+    pub free_is : new.free ≡ Some id
+
+  -- the number at the spot is another
+  abbrev pub Relinks : NodeArena V → NodeArena V → LinkRef → Option ℕ → Type 0
+  Relinks old new Root to = (new.nodes.items ≡ old.nodes.items) × (new.root ≡ to)
+  Relinks old new (Child id) to =
+      ((n : Node V) → slice_get old.nodes.items id ≡ Some n → new.nodes.items ≡ slice_set old.nodes.items id (record n { child = to })) × (new.root ≡ old.root)
+  Relinks old new (Sibling id above) to =
+      ((n : Node V) → slice_get old.nodes.items id ≡ Some n → new.nodes.items ≡ slice_set old.nodes.items id (record n { sibling = to })) × (new.root ≡ old.root)
+
+  -- the spot is that of some place
+  abbrev pub HasLinkRef : NodeArena V → LinkRef → Type 0
+  HasLinkRef s link_ref = (frames : List (Frame V)) × (q : Plan V) × (link_ref ≡ link_ref_of frames) × Holds s (fill frames q)
+
+-- nodes of a key kind, and the place of some key among them
+pub record Ready (item : List ℕ → Type 0) {V Q : Type 0} (key_of : Q → List ℕ) (s : NodeArena V) (place : SeekResult Q) : Type 0 where
+  pub whole : IsWellFormed s
+  pub canonical : IsCanonical item (siblings_of s)
+  pub key : List ℕ
+  pub is_place : IsSeekResult item key_of s key place
+
+-- the entries are those before, with this value at the key
+abbrev pub IsPut : {V : Type 0} → NodeArena V → NodeArena V → List ℕ → V → Type 0
+IsPut old new key x = entries_of new ≡ put key_cmp key x (entries_of old)
+
+-- the value was put in at the key
+pub record Puts (item : List ℕ → Type 0) {V : Type 0} (old new : NodeArena V) (key : List ℕ) (x : V) : Type 0 where
+  pub whole : IsWellFormed new
+  pub canonical : IsCanonical item (siblings_of new)
+  pub put_is : IsPut old new key x

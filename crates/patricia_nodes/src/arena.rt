@@ -1,0 +1,110 @@
+//! The nodes of a tree in one vector, each with its first child and its next sibling.
+ghost use Rattle.std.specs.Prelude.{◌≡◌, ◌<◌, vec_len, vec_capacity};
+ghost use Rattle.patricia_nodes.specs.Internal.Plans.{IsWellFormed, siblings_of};
+ghost use Rattle.patricia_nodes.specs.Internal.Writes.{Frees, Relinks, LinkRefWithin};
+ghost use Rattle.patricia_model.specs.Siblings.{end};
+
+mod growth;
+mod lending;
+mod merging;
+mod room;
+pub mod seek;
+
+use crate::arena::seek::LinkRef;
+use crate::label::Label;
+use crate::link::{Link, NodeId};
+use std::alloc::Global;
+use std::mem;
+use thiserror::Error;
+
+/// Memory ran out before anything was changed. The value is handed back.
+#[derive(Debug, Drop, Error)]
+#[error("out of memory")]
+pub struct Refused<V> {
+    pub value: V,
+}
+
+/// A node with its whole label. In a free node only `sibling` counts.
+#[derive(Drop)]
+pub struct Node<V> {
+    pub child: Link,
+    pub sibling: Link,
+    pub label: Label,
+    pub value: Option<V>,
+}
+
+/// Nodes, the first of the top row, and the first of those that are free for use.
+///
+/// The free nodes are linked by `sibling`. The fields are for the crates below `patricia_core`
+/// alone. The calls ask for `IsWellFormed`, so whoever writes to a field has to prove that it still
+/// holds.
+#[derive(Drop)]
+pub struct NodeArena<V> {
+    pub nodes: Vec<Node<V>>,
+    pub root: Link,
+    pub free: Link,
+}
+
+impl<V: Drop> NodeArena<V> {
+    /// No node. It takes no memory.
+    pub fn new(alloc: Global) -> NodeArena<V>
+        ensures whole { IsWellFormed result }
+        ensures row { siblings_of result ≡ end }
+    {
+        NodeArena {
+            nodes: Vec::new(alloc),
+            root: Link::none(),
+            free: Link::none(),
+        }
+    }
+
+    /// How many nodes the vector has, used or free.
+    pub fn node_count(&self) -> usize
+        ensures { result ≡ vec_len self.now.nodes }
+    {
+        self.nodes.len()
+    }
+
+    /// Drops all nodes.
+    pub fn clear(&mut self)
+        ensures whole { IsWellFormed self.new }
+        ensures row { siblings_of self.new ≡ end }
+        ensures none { vec_len self.new.nodes ≡ 0 }
+    {
+        self.nodes.clear();
+        self.root = Link::none();
+        self.free = Link::none();
+    }
+
+    /// Takes a node out. Its place in the vector holds the number of the next free one, so that
+    /// nothing is asked for. That the nodes are whole then is for the caller to prove.
+    pub fn release(&mut self, alloc: Global, id: NodeId) -> Node<V>
+        requires { id < vec_len self.old.nodes }
+        ensures frees { Frees self.old self.new id result }
+        ensures capacity { vec_capacity self.new.nodes ≡ vec_capacity self.old.nodes }
+    {
+        let hollow = Node {
+            label: Label::empty(alloc),
+            value: None,
+            child: Link::none(),
+            sibling: self.free,
+        };
+        self.free = Link::some(id);
+        mem::replace(&mut self.nodes[id.index()], hollow)
+    }
+
+    /// Writes a number at a spot. That the nodes are whole then is for the caller to prove.
+    pub fn relink(&mut self, link_ref: LinkRef, to: Link)
+        requires { LinkRefWithin link_ref (vec_len self.old.nodes) }
+        ensures relinks { Relinks self.old self.new link_ref to }
+        ensures free { self.new.free ≡ self.old.free }
+        ensures len { vec_len self.new.nodes ≡ vec_len self.old.nodes }
+        ensures capacity { vec_capacity self.new.nodes ≡ vec_capacity self.old.nodes }
+    {
+        match link_ref {
+            LinkRef::Root => self.root = to,
+            LinkRef::Child(id) => self.nodes[id.index()].child = to,
+            LinkRef::Sibling(id, _) => self.nodes[id.index()].sibling = to,
+        }
+    }
+}

@@ -1,0 +1,93 @@
+//! Room for more nodes: a larger vector, in which the nodes are laid anew.
+//!
+//! The siblings of a row lie side by side, and the rows level by level. The new vector is the
+//! queue of the rows that wait, so nothing else is asked for.
+ghost use Rattle.std.specs.Prelude.{◌≡◌, ◌+◌, ◌≤◌, ◌++◌, [], None, IfOk, OnOk, OnErr, length, vec_len, vec_capacity};
+ghost use Rattle.patricia_nodes.specs.Internal.Plans.{Plan, head, row, siblings_of, size, IsSound, IsWellFormed};
+ghost use Rattle.patricia_nodes.specs.Internal.Growth.{IsLaid, IsTopRow, TakesBelow, TakesRow, tops, laid, numbered_siblings};
+
+use crate::arena::{Node, NodeArena};
+use crate::link::{Link, NodeId};
+use std::alloc::{AllocError, Global};
+
+// A vector for half as many nodes again, and for four at the least.
+fn larger_vector<V: Drop>(alloc: Global, len: usize) -> Result<Vec<Node<V>>, AllocError>
+    ensures empty { IfOk result (λ v. v.items ≡ []) }
+    ensures room { IfOk result (λ v. len + 2 ≤ vec_capacity v) }
+{
+    match len.checked_add(len / 2 + 4) {
+        Some(room) => Vec::with_capacity(alloc, room),
+        None => Err(AllocError),
+    }
+}
+
+impl<V: Drop> NodeArena<V> {
+    // Moves a row behind the last of some new nodes, each with the old number of its first child,
+    // and returns the new number of its first node. What they leave is free.
+    fn relocate_siblings(&mut self, alloc: Global, first: Link, to: &mut Vec<Node<V>>) -> Link
+        requires row { (w : Plan V) × IsTopRow self.old.nodes.items first w
+            × (vec_len to.old + length (tops w) ≤ vec_capacity to.old) }
+        ensures taken { (w : Plan V) → IsTopRow self.old.nodes.items first w
+            → TakesRow self.old self.new w }
+        ensures laid { (w : Plan V) → IsTopRow self.old.nodes.items first w
+            → to.new.items ≡ to.old.items ++ laid (length to.old.items) w }
+        ensures first { (w : Plan V) → IsTopRow self.old.nodes.items first w
+            → result ≡ head (numbered_siblings (length to.old.items) w) }
+        ensures capacity { vec_capacity to.new ≡ vec_capacity to.old }
+    {
+        let start = to.len();
+        let mut at = first;
+        while let Some(id) = at.get() {
+            let node = self.release(alloc, id);
+            at = node.sibling;
+            let sibling = match at.get() {
+                None => Link::none(),
+                Some(_) => Link::some(NodeId::new(to.len() + 1)),
+            };
+            to.push_reserved(Node { sibling, ..node });
+        }
+        match first.get() {
+            None => Link::none(),
+            Some(_) => Link::some(NodeId::new(start)),
+        }
+    }
+
+    /// Moves what is below the nodes of a new vector behind them, row by row. They have the numbers
+    /// that their children have here. What is moved is free here.
+    pub fn relocate_descendants(&mut self, alloc: Global, to: &mut Vec<Node<V>>)
+        requires { (w : Plan V) × IsLaid self.old.nodes.items to.old.items w
+            × (size w ≤ vec_capacity to.old) }
+        ensures taken { (w : Plan V) → IsLaid self.old.nodes.items to.old.items w
+            → TakesBelow self.old self.new w }
+        ensures laid { (w : Plan V) → IsLaid self.old.nodes.items to.old.items w
+            → (q : Plan V) × IsSound to.new.items (head (numbered_siblings 0 w)) None q []
+            × (row q ≡ row w) × (size q ≡ size w) }
+        ensures capacity { vec_capacity to.new ≡ vec_capacity to.old }
+    {
+        let mut i = 0;
+        while i < to.len() {
+            let child = to[i].child;
+            let first = self.relocate_siblings(alloc, child, to);
+            to[i].child = first;
+            i += 1;
+        }
+    }
+
+    /// Lays the nodes anew in a larger vector, with room for two more and none free.
+    pub fn grow(&mut self, alloc: Global) -> Result<(), AllocError>
+        requires { IsWellFormed self.old }
+        ensures ok { OnOk result (IsWellFormed self.new) }
+        ensures row { OnOk result (siblings_of self.new ≡ siblings_of self.old) }
+        ensures room { OnOk result (vec_len self.new.nodes + 2 ≤ vec_capacity self.new.nodes) }
+        ensures none_free { OnOk result (self.new.free ≡ None) }
+        ensures unchanged { OnErr result (self.new ≡ self.old) }
+    {
+        let mut nodes = larger_vector(alloc, self.nodes.len())?;
+        let root = self.relocate_siblings(alloc, self.root, &mut nodes);
+        self.relocate_descendants(alloc, &mut nodes);
+        self.nodes = nodes;
+        self.root = root;
+        self.free = Link::none();
+        Ok(())
+    }
+}

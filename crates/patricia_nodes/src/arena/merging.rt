@@ -1,0 +1,99 @@
+//! Nodes that are unlinked, and nodes that are merged with their only child.
+ghost use Rattle.std.specs.Prelude.{◌≡◌, ◌<◌, IfOk, MatchOption, vec_len};
+ghost use Rattle.patricia_model.specs.Internal.Removals.{width};
+ghost use Rattle.patricia_nodes.specs.Internal.Plans.{Plan, IsPlan, row};
+ghost use Rattle.patricia_nodes.specs.Internal.Merges.{HasLeafAt, Unlinks, HasLone, Absorbs, IsJoined, IsPair, HasNodeAt, LeftAlone};
+
+use crate::arena::seek::LinkRef;
+use crate::arena::{Node, NodeArena};
+use crate::label::Label;
+use crate::link::{Link, NodeId};
+use patricia_keys::Bytes;
+use std::alloc::{AllocError, Global};
+use std::mem;
+
+impl<V: Drop> NodeArena<V> {
+    /// Takes a node without children out of its place, and returns its value.
+    pub fn unlink(&mut self, alloc: Global, link_ref: LinkRef, id: NodeId) -> Option<V>
+        requires { HasLeafAt self.old link_ref id }
+        ensures { Unlinks self.old self.new link_ref id result }
+    {
+        let node = self.release(alloc, id);
+        self.relink(link_ref, node.sibling);
+        node.value
+    }
+
+    /// Merges a node with its only child under the joined label, and returns its own value.
+    pub fn merge_only_child(
+        &mut self,
+        alloc: Global,
+        upper: NodeId,
+        lower: NodeId,
+        label: Label,
+    ) -> Option<V>
+        requires { HasLone self.old upper lower }
+        ensures { Absorbs self.old self.new upper lower label result }
+    {
+        let Node { value, child, .. } = self.release(alloc, lower);
+        let node = &mut self.nodes[upper.index()];
+        node.label = label;
+        node.child = child;
+        mem::replace(&mut node.value, value)
+    }
+
+    /// The labels of two nodes as one.
+    pub fn concat_labels(
+        &self,
+        alloc: Global,
+        upper: NodeId,
+        lower: NodeId,
+    ) -> Result<Label, AllocError>
+        requires upper { upper < vec_len self.now.nodes }
+        requires lower { lower < vec_len self.now.nodes }
+        ensures { IfOk result (λ label. IsJoined self.now upper lower label) }
+    {
+        let upper = self.nodes[upper.index()].label.as_slice();
+        let lower = self.nodes[lower.index()].label.as_slice();
+        Label::joined(alloc, upper, lower)
+    }
+
+    // The two nodes of a row, if it has just two.
+    fn exactly_two(&self, first: Link) -> Option<(NodeId, NodeId)>
+        requires { (p : Plan V) × IsPlan self.now.nodes.items first p }
+        ensures { (p : Plan V) → IsPlan self.now.nodes.items first p
+            → MatchOption result (width (row p) ≡ 2 → ⊥) (λ two. IsPair p two.0 two.1) }
+    {
+        let Some(first) = first.get() else {
+            return None;
+        };
+        let Some(second) = self.nodes[first.index()].sibling.get() else {
+            return None;
+        };
+        match self.nodes[second.index()].sibling.get() {
+            None => Some((first, second)),
+            Some(_) => None,
+        }
+    }
+
+    /// The node above, and its other child, where it has no value and just two children.
+    pub fn would_merge<K: Bytes>(&self, link_ref: LinkRef, id: NodeId) -> Option<(NodeId, NodeId)>
+        requires { HasNodeAt K.item self.now link_ref id }
+        ensures { LeftAlone K.item self.now link_ref id result }
+    {
+        let Some(upper) = link_ref.above() else {
+            return None;
+        };
+        let node = &self.nodes[upper.index()];
+        if node.value.is_some() {
+            return None;
+        }
+        let Some(children) = self.exactly_two(node.child) else {
+            return None;
+        };
+        if children.0.index() == id.index() {
+            Some((upper, children.1))
+        } else {
+            Some((upper, children.0))
+        }
+    }
+}

@@ -1,3 +1,0 @@
-pub mod AlongLemmas
-pub mod PlaceLemmas
-pub mod UnderLemmas

@@ -1,4 +1,0 @@
-use Rattle.patricia_queries.proofs.along.AlongOwned.new.Goals as goal
-
-pub returns : goal.returns
-returns g c = cc

@@ -1,5 +1,0 @@
-pub mod AloneLemmas
-pub mod FreeLemmas
-pub mod OtherLemmas
-pub mod RemoveLemmas
-pub mod TakeLemmas

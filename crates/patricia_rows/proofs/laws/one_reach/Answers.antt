@@ -1,5 +1,0 @@
-use Rattle.patricia_rows.proofs.FilterLemmas.{one_reach}
-use Rattle.patricia_rows.proofs.laws.one_reach.Goals as goal
-
-pub returns : goal.returns
-returns g c S q n m a b = one_reach g.K.Bytes.item S q n m a b

@@ -1,5 +1,0 @@
-use Rattle.patricia_rows.proofs.UniqueLemmas.{same_row}
-use Rattle.patricia_rows.proofs.laws.one_shape.Goals as goal
-
-pub returns : goal.returns
-returns g c limit r s ok ok' same = same_row g.K.Bytes.item g.met.K.Bytes.lawful limit r s ok ok' same

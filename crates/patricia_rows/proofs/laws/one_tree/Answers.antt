@@ -1,6 +1,0 @@
-use Rattle.patricia_rows.proofs.TreeLemmas.{same_tree}
-use Rattle.patricia_rows.proofs.laws.one_tree.Goals as goal
-
-pub returns : goal.returns
-returns g c v w r s m n tree tree' same =
-    same_tree g.K.Bytes.item g.met.K.Bytes.lawful v w r s tree.row_ok tree'.row_ok same

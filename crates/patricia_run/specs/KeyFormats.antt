@@ -1,0 +1,19 @@
+-- How the key of a line is spelled.
+use Rattle.std.specs.Prelude.{ℕ, List, Option, Some, None, if◌then◌else◌}
+use Rattle.std.specs.Str.{is_utf8}
+
+-- how a field is read to the bytes of a key, if it can be, and how the bytes of a key are printed
+pub record KeyFormat : Type 0 where
+  pub read : List ℕ → Option (List ℕ)
+  pub print : List ℕ → List ℕ
+
+-- every field is a key as it stands
+abbrev pub as_bytes : KeyFormat
+as_bytes = record { read = λ field. Some field; print = λ key. key }
+
+-- a field is a key where it is UTF-8
+abbrev pub as_text : KeyFormat
+as_text = record {
+  read = λ field. if is_utf8 field then Some field else None;
+  print = λ key. key;
+}

@@ -1,0 +1,329 @@
+//! The bench, which holds the map that commands work on and one aside, and what each command does.
+
+ghost use Rattle.std.specs.Prelude.{◌≡◌, ◌≢◌, [], length, IfOk, OnErr, map as list_map};
+ghost use Rattle.std.specs.FinMap as map;
+ghost use Rattle.patricia_tree.specs.Bulk.{by_bytes};
+ghost use Rattle.patricia_tree.specs.Prefixes.{along, under};
+ghost use Rattle.patricia_tree.specs.TreeBytes.{AreTreeBytes};
+ghost use Rattle.patricia_tree.specs.Writings.{TooDeep};
+ghost use Rattle.patricia_run.specs.Machine.{Step, Run, AllClonesAreSame, empty_state, with_key};
+ghost use Rattle.patricia_run.specs.declared.command.Command.TheVariants as Commands;
+
+use crate::command::{Command, Reply};
+use patricia_tree::wire::laws;
+use patricia_tree::{BorrowedBytes, Bytes, GenericPatriciaMap, WireError};
+use std::alloc::{AllocError, Global};
+use std::marker::Model;
+use std::mem;
+
+/// A map that commands work on, and one that is kept aside.
+#[derive(Drop)]
+pub struct Bench<K: Bytes, V> {
+    alloc: Global,
+    main: GenericPatriciaMap<K, V>,
+    aside: GenericPatriciaMap<K, V>,
+}
+
+impl<K: Bytes, V> Model for Bench<K, V> {
+    ghost use Rattle.patricia_run.specs.Machine.{State};
+    ghost use Rattle.patricia_run.specs.Internal.Codes.{state_code};
+
+    ghost Value = { State V };
+
+    ghost coded = { state_code V.code };
+
+    ghost view = { λ b. record { main = b.main; aside = b.aside } };
+}
+
+// The rows of a map, in key order.
+fn rows<K: Bytes, V: Copy>(
+    alloc: Global,
+    entries: &GenericPatriciaMap<K, V>,
+) -> Result<Vec<(K, V)>, AllocError>
+    ensures ok { IfOk result (λ rows. by_bytes K.key rows.items ≡ map.entries entries.now) }
+    ensures err { OnErr result (map.entries entries.now ≢ []) }
+{
+    let mut rows = Vec::new(alloc);
+    for entry in entries.iter() {
+        let (key, value) = entry?;
+        rows.push((key, *value))?;
+    }
+    Ok(rows)
+}
+
+// The rows whose key begins with a prefix, in key order.
+fn rows_under<Q: BorrowedBytes, V: Copy>(
+    alloc: Global,
+    entries: &GenericPatriciaMap<Q::Owned, V>,
+    prefix: Q,
+) -> Result<Vec<(Q::Owned, V)>, AllocError>
+    ensures ok { IfOk result (λ rows.
+        by_bytes Q.Owned.key rows.items ≡ under (Q.key prefix) (map.entries entries.now)) }
+    ensures err { OnErr result (under (Q.key prefix) (map.entries entries.now) ≢ []) }
+{
+    let mut rows = Vec::new(alloc);
+    for entry in entries.iter_prefix(prefix) {
+        let (key, value) = entry?;
+        rows.push((key, *value))?;
+    }
+    Ok(rows)
+}
+
+// The rows whose key is a beginning of a key, the shortest first.
+fn rows_along<Q: BorrowedBytes, V: Copy>(
+    alloc: Global,
+    entries: &GenericPatriciaMap<Q::Owned, V>,
+    key: Q,
+) -> Result<Vec<(Q::Owned, V)>, AllocError>
+    ensures ok { IfOk result (λ rows.
+        by_bytes Q.Owned.key rows.items ≡ along (Q.key key) (map.entries entries.now)) }
+    ensures err { OnErr result (along (Q.key key) (map.entries entries.now) ≢ []) }
+{
+    let mut rows = Vec::new(alloc);
+    for (prefix, value) in entries.common_prefixes(key) {
+        rows.push((Bytes::from_bytes(alloc, prefix.as_bytes())?, *value))?;
+    }
+    Ok(rows)
+}
+
+// The values of a map, in key order.
+fn values<K: Bytes, V: Copy>(
+    alloc: Global,
+    entries: &GenericPatriciaMap<K, V>,
+) -> Result<Vec<V>, AllocError>
+    ensures { IfOk result (λ values. values.items ≡ map.values entries.now) }
+{
+    let mut values = Vec::new(alloc);
+    for value in entries.values() {
+        values.push(*value?)?;
+    }
+    Ok(values)
+}
+
+// The tree bytes of a map, and its values in key order.
+fn written<K: Bytes, V: Copy>(
+    alloc: Global,
+    entries: &GenericPatriciaMap<K, V>,
+) -> Result<(Vec<u8>, Vec<V>), WireError>
+    ensures bytes { IfOk result (λ w. AreTreeBytes K.item 2 w.0.items (map.entries entries.now)) }
+    ensures values { IfOk result (λ w. w.1.items ≡ map.values entries.now) }
+    ensures too_deep { result ≡ Err WireError.TooDeep → TooDeep K.item 2 (map.keys entries.now) }
+{
+    Ok((entries.tree_bytes()?, values(alloc, entries)?))
+}
+
+impl<K: Bytes, V: Copy> Bench<K, V> {
+    /// A bench whose maps are empty.
+    pub fn new(alloc: Global) -> Self
+        ensures { result ≡ empty_state }
+    {
+        Bench {
+            alloc,
+            main: GenericPatriciaMap::new(alloc),
+            aside: GenericPatriciaMap::new(alloc),
+        }
+    }
+
+    // Sets the value of a key.
+    fn insert<Q: BorrowedBytes<Owned = K>>(&mut self, key: Q, value: V) -> Reply<K, V>
+        ensures { Step K.item K.key self.old (Commands.Insert (Q.key key) value) result self.new }
+    {
+        match self.main.insert(key, value) {
+            Ok(None) => Reply::None,
+            Ok(Some(before)) => Reply::Some(before),
+            Err(_) => Reply::NoMemory,
+        }
+    }
+
+    // Looks a key up.
+    fn get<Q: BorrowedBytes<Owned = K>>(&self, key: Q) -> Reply<K, V>
+        ensures { Step K.item K.key self.now (Commands.Get (Q.key key)) result self.now }
+    {
+        match self.main.get(key) {
+            None => Reply::None,
+            Some(value) => Reply::Some(*value),
+        }
+    }
+
+    // Takes a key out.
+    fn remove<Q: BorrowedBytes<Owned = K>>(&mut self, key: Q) -> Reply<K, V>
+        ensures { Step K.item K.key self.old (Commands.Remove (Q.key key)) result self.new }
+    {
+        match self.main.remove(key) {
+            Ok(None) => Reply::None,
+            Ok(Some(before)) => Reply::Some(before),
+            Err(_) => Reply::NoMemory,
+        }
+    }
+
+    // Counts the entries.
+    fn count(&self) -> Reply<K, V>
+        ensures { Step K.item K.key self.now Commands.Len result self.now }
+    {
+        Reply::Count(self.main.len())
+    }
+
+    // Lists the entries.
+    fn list(&self) -> Reply<K, V>
+        ensures { Step K.item K.key self.now Commands.List result self.now }
+    {
+        match rows(self.alloc, &self.main) {
+            Ok(rows) => Reply::Rows(rows),
+            Err(_) => Reply::NoMemory,
+        }
+    }
+
+    // Lists the entries under a prefix.
+    fn under<Q: BorrowedBytes<Owned = K>>(&self, prefix: Q) -> Reply<K, V>
+        ensures { Step K.item K.key self.now (Commands.Under (Q.key prefix)) result self.now }
+    {
+        match rows_under(self.alloc, &self.main, prefix) {
+            Ok(rows) => Reply::Rows(rows),
+            Err(_) => Reply::NoMemory,
+        }
+    }
+
+    // Lists the entries along a key.
+    fn along<Q: BorrowedBytes<Owned = K>>(&self, key: Q) -> Reply<K, V>
+        ensures { Step K.item K.key self.now (Commands.Along (Q.key key)) result self.now }
+    {
+        match rows_along(self.alloc, &self.main, key) {
+            Ok(rows) => Reply::Rows(rows),
+            Err(_) => Reply::NoMemory,
+        }
+    }
+
+    // Finds the longest key that begins a key.
+    fn longest<Q: BorrowedBytes<Owned = K>>(&self, key: Q) -> Reply<K, V>
+        ensures { Step K.item K.key self.now (Commands.Longest (Q.key key)) result self.now }
+    {
+        match self.main.get_longest_common_prefix(key) {
+            None => Reply::None,
+            Some((prefix, value)) => Reply::Longest(prefix.as_bytes().len(), *value),
+        }
+    }
+
+    // Finds how far the keys go with a key.
+    fn reach<Q: BorrowedBytes<Owned = K>>(&self, key: Q) -> Reply<K, V>
+        ensures { Step K.item K.key self.now (Commands.Reach (Q.key key)) result self.now }
+    {
+        Reply::Count(self.main.longest_common_prefix_len(key))
+    }
+
+    // Puts the entries under a prefix aside.
+    fn split<Q: BorrowedBytes<Owned = K>>(&mut self, prefix: Q) -> Reply<K, V>
+        ensures { Step K.item K.key self.old (Commands.Split (Q.key prefix)) result self.new }
+    {
+        match self.main.split_by_prefix(prefix) {
+            Ok(taken) => {
+                self.aside = taken;
+                Reply::Done
+            }
+            Err(_) => Reply::NoMemory,
+        }
+    }
+
+    // Exchanges the two maps.
+    fn swap(&mut self) -> Reply<K, V>
+        ensures { Step K.item K.key self.old Commands.Swap result self.new }
+    {
+        mem::swap(&mut self.main, &mut self.aside);
+        Reply::Done
+    }
+
+    // Puts a copy of the map aside.
+    fn copy(&mut self) -> Reply<K, V>
+        requires { AllClonesAreSame V.is_clone }
+        ensures { Step K.item K.key self.old Commands.Copy result self.new }
+    {
+        match self.main.clone() {
+            Ok(copy) => {
+                self.aside = copy;
+                Reply::Done
+            }
+            Err(_) => Reply::NoMemory,
+        }
+    }
+
+    // Takes each entry out.
+    fn clear(&mut self) -> Reply<K, V>
+        ensures { Step K.item K.key self.old Commands.Clear result self.new }
+    {
+        self.main.clear();
+        Reply::Done
+    }
+
+    // Writes the tree.
+    fn wire(&self) -> Reply<K, V>
+        ensures { Step K.item K.key self.now Commands.Wire result self.now }
+    {
+        match written(self.alloc, &self.main) {
+            Ok((bytes, values)) => Reply::Wire(bytes, values),
+            Err(WireError::TooDeep) => Reply::TooDeep,
+            Err(WireError::Memory) => Reply::NoMemory,
+        }
+    }
+
+    // Writes the tree and makes the map anew of what was written.
+    fn reload(&mut self) -> Reply<K, V>
+        ensures { Step K.item K.key self.old Commands.Reload result self.new }
+    {
+        let (bytes, values) = match written(self.alloc, &self.main) {
+            Ok(written) => written,
+            Err(WireError::TooDeep) => return Reply::TooDeep,
+            Err(WireError::Memory) => return Reply::NoMemory,
+        };
+        laws::tree_bytes_read_back::<K, V>();
+        match GenericPatriciaMap::from_wire(self.alloc, &bytes, values) {
+            Ok(read) => {
+                self.main = read;
+                Reply::Done
+            }
+            // what was written has no fault, so this is want of memory (`meant_is_never_faulty`)
+            Err(_) => Reply::NoMemory,
+        }
+    }
+
+    /// Does one command. Each clone of a value is asked to be that value.
+    pub fn step<Q: BorrowedBytes<Owned = K>>(&mut self, command: Command<Q, V>) -> Reply<K, V>
+        requires { AllClonesAreSame V.is_clone }
+        ensures { Step K.item K.key self.old (with_key Q.key command) result self.new }
+    {
+        match command {
+            Command::Insert(key, value) => self.insert(key, value),
+            Command::Get(key) => self.get(key),
+            Command::Remove(key) => self.remove(key),
+            Command::Len => self.count(),
+            Command::List => self.list(),
+            Command::Under(prefix) => self.under(prefix),
+            Command::Along(key) => self.along(key),
+            Command::Longest(key) => self.longest(key),
+            Command::Reach(key) => self.reach(key),
+            Command::Split(prefix) => self.split(prefix),
+            Command::Swap => self.swap(),
+            Command::Copy => self.copy(),
+            Command::Clear => self.clear(),
+            Command::Wire => self.wire(),
+            Command::Reload => self.reload(),
+        }
+    }
+}
+
+/// Does the commands in order. The list of replies is reserved before the first of them, so its
+/// refusal is the only error. Each clone of a value is asked to be that value.
+pub fn run<K: Bytes, V: Copy, Q: BorrowedBytes<Owned = K>>(
+    bench: &mut Bench<K, V>,
+    commands: &[Command<Q, V>],
+) -> Result<Vec<Reply<K, V>>, AllocError>
+    requires { AllClonesAreSame V.is_clone }
+    ensures ok { IfOk result (λ replies.
+        Run K.item K.key
+        bench.old (list_map (with_key Q.key) commands.now) replies.items bench.new) }
+    ensures unchanged { OnErr result (bench.new ≡ bench.old) }
+{
+    let mut replies = Vec::with_capacity(bench.alloc, commands.len())?;
+    for command in commands {
+        replies.push(bench.step(*command)).unwrap();
+    }
+    Ok(replies)
+}

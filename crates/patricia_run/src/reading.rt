@@ -1,0 +1,199 @@
+//! What a line says: a command, or what is wrong with the line.
+
+ghost use Rattle.std.specs.Prelude.{◌≡◌, map};
+ghost use Rattle.std.specs.Result.{result_map_both};
+ghost use Rattle.std.specs.Option.{option_map};
+ghost use Rattle.patricia_run.specs.Machine.{with_key};
+ghost use Rattle.patricia_run.specs.Text.{alone, valued, number_of, shape_of, key_alone};
+ghost use Rattle.patricia_run.specs.Text.{parse_command, parse_fields, parse_line, parse_with};
+ghost use Rattle.patricia_run.specs.Internal.Words.{shape_after};
+ghost use Rattle.patricia_run.specs.declared.command.Command.TheVariants as Commands;
+
+use crate::Command;
+use crate::cutting::cut;
+use crate::key_format::KeyText;
+
+/// What is wrong with a line.
+#[derive(Clone, Copy)]
+pub enum Fault {
+    UnknownWord,
+    FieldCount,
+    BadNumber,
+    BadKey,
+}
+
+/// What a line says.
+pub type Reading<Q> = Result<Command<Q, u64>, Fault>;
+
+// The word that a line begins with.
+#[derive(Clone, Copy)]
+enum Word {
+    Insert,
+    Get,
+    Remove,
+    Len,
+    List,
+    Under,
+    Along,
+    Longest,
+    Reach,
+    Split,
+    Swap,
+    Copy,
+    Clear,
+    Wire,
+    Reload,
+}
+
+// The number that a field writes.
+fn number(field: &[u8]) -> Option<u64>
+    ensures { result ≡ number_of field.now }
+{
+    if field.is_empty() {
+        return None;
+    }
+    let mut value: u64 = 0;
+    for b in field {
+        if !b.is_ascii_digit() {
+            return None;
+        }
+        value = value.checked_mul(10)?.checked_add(u64::from(*b - b'0'))?;
+    }
+    Some(value)
+}
+
+// The word that a field is.
+fn first_word(field: &[u8]) -> Option<Word>
+    ensures { option_map shape_after result ≡ shape_of field.now }
+{
+    if field == b"insert".as_slice() {
+        Some(Word::Insert)
+    } else if field == b"get".as_slice() {
+        Some(Word::Get)
+    } else if field == b"remove".as_slice() {
+        Some(Word::Remove)
+    } else if field == b"len".as_slice() {
+        Some(Word::Len)
+    } else if field == b"list".as_slice() {
+        Some(Word::List)
+    } else if field == b"under".as_slice() {
+        Some(Word::Under)
+    } else if field == b"along".as_slice() {
+        Some(Word::Along)
+    } else if field == b"longest".as_slice() {
+        Some(Word::Longest)
+    } else if field == b"reach".as_slice() {
+        Some(Word::Reach)
+    } else if field == b"split".as_slice() {
+        Some(Word::Split)
+    } else if field == b"swap".as_slice() {
+        Some(Word::Swap)
+    } else if field == b"copy".as_slice() {
+        Some(Word::Copy)
+    } else if field == b"clear".as_slice() {
+        Some(Word::Clear)
+    } else if field == b"wire".as_slice() {
+        Some(Word::Wire)
+    } else if field == b"reload".as_slice() {
+        Some(Word::Reload)
+    } else {
+        None
+    }
+}
+
+// The key that the only field spells.
+fn only_key<'a, Q: KeyText<'a>>(fields: &[&'a [u8]]) -> Result<Q, Fault>
+    ensures { result_map_both Q.key (λ fault. fault) result
+        ≡ key_alone Q.key_format (map (λ f. f.now) fields.now) }
+{
+    match fields {
+        [field] => Q::read(field).ok_or(Fault::BadKey),
+        _ => Err(Fault::FieldCount),
+    }
+}
+
+// The command of a word that stands alone.
+fn alone<'a, Q: KeyText<'a>>(command: Command<Q, u64>, fields: &[&'a [u8]]) -> Reading<Q>
+    ensures { parse_with Q.key result
+        ≡ parse_command Q.key_format (alone (with_key Q.key command))
+        (map (λ f. f.now) fields.now) }
+{
+    if fields.is_empty() {
+        Ok(command)
+    } else {
+        Err(Fault::FieldCount)
+    }
+}
+
+// The insert of a key and a number.
+fn insert<'a, Q: KeyText<'a>>(fields: &[&'a [u8]]) -> Reading<Q>
+    ensures { parse_with Q.key result
+        ≡ parse_command Q.key_format (valued (λ key n. Commands.Insert key n))
+        (map (λ f. f.now) fields.now) }
+{
+    match fields {
+        [key, value] => {
+            let value = number(value).ok_or(Fault::BadNumber)?;
+            let key = Q::read(key).ok_or(Fault::BadKey)?;
+            Ok(Command::Insert(key, value))
+        }
+        _ => Err(Fault::FieldCount),
+    }
+}
+
+// The command of the fields after a word.
+fn command<'a, Q: KeyText<'a>>(word: Word, fields: &[&'a [u8]]) -> Reading<Q>
+    ensures { parse_with Q.key result
+        ≡ parse_command Q.key_format (shape_after word) (map (λ f. f.now) fields.now) }
+{
+    match word {
+        Word::Insert => insert(fields),
+        Word::Get => Ok(Command::Get(only_key(fields)?)),
+        Word::Remove => Ok(Command::Remove(only_key(fields)?)),
+        Word::Len => alone(Command::Len, fields),
+        Word::List => alone(Command::List, fields),
+        Word::Under => Ok(Command::Under(only_key(fields)?)),
+        Word::Along => Ok(Command::Along(only_key(fields)?)),
+        Word::Longest => Ok(Command::Longest(only_key(fields)?)),
+        Word::Reach => Ok(Command::Reach(only_key(fields)?)),
+        Word::Split => Ok(Command::Split(only_key(fields)?)),
+        Word::Swap => alone(Command::Swap, fields),
+        Word::Copy => alone(Command::Copy, fields),
+        Word::Clear => alone(Command::Clear, fields),
+        Word::Wire => alone(Command::Wire, fields),
+        Word::Reload => alone(Command::Reload, fields),
+    }
+}
+
+// The command of the fields of a line.
+fn from_fields<'a, Q: KeyText<'a>>(fields: &[&'a [u8]]) -> Reading<Q>
+    ensures { parse_with Q.key result ≡ parse_fields Q.key_format (map (λ f. f.now) fields.now) }
+{
+    let Some((first, more)) = fields.split_first() else {
+        return Err(Fault::UnknownWord);
+    };
+    match first_word(first) {
+        Some(word) => command(word, more),
+        None => Err(Fault::UnknownWord),
+    }
+}
+
+/// What a line says.
+pub fn read_line<'a, Q: KeyText<'a>>(line: &'a [u8]) -> Reading<Q>
+    ensures { parse_with Q.key result ≡ parse_line Q.key_format line.now }
+{
+    let (word, more) = cut(line, b'\t');
+    let Some(more) = more else {
+        return from_fields(&[word]);
+    };
+    let (key, more) = cut(more, b'\t');
+    let Some(more) = more else {
+        return from_fields(&[word, key]);
+    };
+    let (value, more) = cut(more, b'\t');
+    match more {
+        None => from_fields(&[word, key, value]),
+        // no command has so many fields, whatever they hold
+        Some(others) => from_fields(&[word, key, value, others]),
+    }
+}

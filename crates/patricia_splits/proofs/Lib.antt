@@ -1,4 +1,0 @@
-pub mod MeasureLemmas
-pub mod MoveLemmas
-pub mod NodeLemmas
-pub mod SplitLemmas

@@ -1,0 +1,73 @@
+-- The entry that a cursor lends next, found at its key.
+use Rattle.std.proofs.Common.{◌≡◌, ◌≢◌, ℕ, List, [], ◌∷◌, Option, Some, None, slice_get, inl, refl, sym, ap, subst, ◌∙◌}
+use Rattle.std.specs.Prelude.{IsSome, MatchOption}
+use Rattle.std.specs.Option.{option_map}
+use Rattle.std.specs.Ordering.{is_lt}
+use Rattle.std.specs.FinMap as map
+use Rattle.std.specs.FinMap.{entries_sorted, get-entries}
+use Rattle.patricia_model.specs.Cursors.{CursorView, after, remaining_rows, next_row, next_key, stepped, lent_at, last_value, written}
+use Rattle.patricia_tree.specs.Internal.Nexts.{IsNext, IsNextValue}
+use Rattle.patricia_keys.specs.Keys.{key_cmp}
+use Rattle.patricia_model.specs.Points.{Has}
+use Rattle.patricia_model.specs.Prefixes.{begins, under}
+use Rattle.patricia_tree.proofs.FoundLemmas.{find_has, has_filter}
+
+module _ {V : Type 0} where
+  has_first : (rows : List (List ℕ × V)) (e : List ℕ × V) → slice_get rows 0 ≡ Some e → Has rows e
+  has_first [] e is = absurd (cc)
+  has_first (x ∷ rows) e is = inl (let same : x ≡ e = cc in same)
+
+  has_after : (o : Option (List ℕ)) (rows : List (List ℕ × V)) (e : List ℕ × V) → Has (after o rows) e → Has rows e
+  has_after None rows e h = h
+  has_after (Some key) rows e h = has_filter (λ x. is_lt (key_cmp key x.0)) rows e h
+
+  -- the value of the next entry is the one at its key
+  next_found : (s : CursorView V) (e : List ℕ × V) → next_row s ≡ Some e → map.get s.map e.0 ≡ Some e.1
+  next_found s e is =
+      let rows = map.entries s.map in
+      let has = has_filter (λ x. begins s.prefix x.0) rows e (has_after s.last (under s.prefix rows) e (has_first (remaining_rows s) e is)) in
+      get-entries s.map e.0 ∙ find_has rows (entries_sorted s.map) e has
+
+  -- so it is what is lent a step on
+  pub is_next : (s : CursorView V) (key : List ℕ) → next_key s ≡ Some key → IsNext s key
+  is_next s key is = by (next_row s) refl is
+    where
+      by : (o : Option (List ℕ × V)) → next_row s ≡ o → option_map (λ e. e.0) o ≡ Some key → IsNext s key
+      by None row is = absurd (cc)
+      by (Some (k, x)) row is =
+          let there : last_value (stepped s) ≡ Some x = subst (λ o. last_value (lent_at s (option_map (λ e. e.0) o)) ≡ Some x) (sym row) (next_found s (k, x) row) in
+          let name : k ≡ key = cc in
+          record {
+            there = subst IsSome (sym there) refl;
+            is_next = λ v guard. row ∙ (let both = sym there ∙ guard in cc);
+          }
+
+  -- the same without the key
+  pub is_next_value : (s : CursorView V) → next_row s ≢ None → IsNextValue s
+  is_next_value s some = by (next_row s) refl some
+    where
+      by : (o : Option (List ℕ × V)) → next_row s ≡ o → o ≢ None → IsNextValue s
+      by None row some = absurd (some refl)
+      by (Some (k, x)) row some =
+          let there : last_value (stepped s) ≡ Some x = subst (λ o. last_value (lent_at s (option_map (λ e. e.0) o)) ≡ Some x) (sym row) (next_found s (k, x) row) in
+          record {
+            there = subst IsSome (sym there) refl;
+            is_next = λ v guard. ap (option_map (λ e. e.1)) row ∙ (let both = sym there ∙ guard in cc);
+          }
+
+  -- what is written a step on is put in at its key
+  pub written_next : (s : CursorView V) (key : List ℕ) (v w : V) → next_row s ≡ Some (key, v) → (written (stepped s) w).map ≡ map.insert s.map key w
+  written_next s key v w is = subst (λ o. (written (lent_at s (option_map (λ e. e.0) o)) w).map ≡ map.insert s.map key w) (sym is) refl
+
+  -- and where there is no key there is no entry
+  pub is_last : (s : CursorView V) → next_key s ≡ None → next_row s ≡ None
+  is_last s is = by (next_row s) refl is
+    where
+      by : (o : Option (List ℕ × V)) → next_row s ≡ o → option_map (λ e. e.0) o ≡ None → next_row s ≡ None
+      by None row is = row
+      by (Some e) row is = absurd (cc)
+
+-- what holds of an option holds of what is in it
+pub match_some : {A : Type 0} (X : Type 0) (P : A → Type 0) (o : Option A) (a : A) → MatchOption o X P → o ≡ Some a → P a
+match_some X P None a holds is = absurd (cc)
+match_some X P (Some b) a holds is = let same : b ≡ a = cc in subst P same holds

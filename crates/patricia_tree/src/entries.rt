@@ -1,0 +1,118 @@
+//! A cursor over the entries of a map.
+ghost use Rattle.std.specs.Prelude.{◌≡◌, ◌≢◌, ◌+◌, None, Some, IfOk, OnOk, OnErr, IsSome, MatchOption};
+ghost use Rattle.std.specs.Borrow.{sem};
+ghost use Rattle.std.specs.Option.{option_copied_mut, option_map};
+ghost use Rattle.patricia_model.specs.Cursors.{last_value, next_key, next_row, stepped};
+
+use crate::guard::{CursorGuard, IntoMap};
+use patricia_keys::Bytes;
+use patricia_walks::cursor::Cursor;
+use std::alloc::AllocError;
+
+impl<'a, M: Drop, K: Bytes, V: Drop> CursorGuard<'a, M, Cursor<K, V>>
+where
+    Cursor<K, V>: IntoMap<M>,
+{
+    ghost use Rattle.patricia_tree.specs.Left.{left};
+    ghost use Rattle.patricia_tree.specs.Lends.{lends_last};
+    ghost use Rattle.patricia_tree.specs.Internal.Nexts.{IsNext, lends_next};
+    ghost use Rattle.patricia_tree.specs.Steps.{StepsWith, TakesNext};
+
+    /// Advances to the next entry and returns its key, or `None` at the end. `value` lends its
+    /// value.
+    ///
+    /// # Errors
+    ///
+    /// Out of memory: nothing is changed, and the next call tries the same entry.
+    pub fn advance(&mut self) -> Result<Option<K>, AllocError>
+        ensures owner { self.new.owner.ghost_name ≡ self.old.owner.ghost_name }
+        ensures key { IfOk result (λ key. option_map K.key key ≡ next_key self.old.at) }
+        ensures stepped { OnOk result (self.new.at ≡ stepped self.old.at) }
+        ensures left { IfOk result (λ key. MatchOption key (left self.old.at ≡ 0)
+            (λ _. left self.old.at ≡ left self.new.at + 1)) }
+        ensures unchanged { OnErr result (self.new.at ≡ self.old.at) }
+        ensures err_only_if_left { OnErr result (next_row self.old.at ≢ None) }
+    {
+        self.at.advance()
+    }
+
+    /// Lends the value of the entry that it advanced to last, or returns `None` before the first
+    /// one.
+    pub fn value(&mut self) -> Option<&mut V>
+        ensures* writes { sem 𝓛 (lends_last M.row K.row V.row K.Bytes self.entry result) }
+        ensures value { option_copied_mut result ≡ last_value self.old.at }
+    {
+        self.at.value()
+    }
+
+    // The same as `advance`, which says what entry it is.
+    fn go_on(&mut self) -> Result<Option<K>, AllocError>
+        ensures owner { self.new.owner.ghost_name ≡ self.old.owner.ghost_name }
+        ensures ok { IfOk result (λ key. MatchOption key
+            ((next_row self.old.at ≡ None) × (self.new.at ≡ self.old.at))
+            (λ key. IsNext self.old.at (K.key key) × (self.new.at ≡ stepped self.old.at))) }
+        ensures unchanged { OnErr result (self.new.at ≡ self.old.at) }
+        ensures err_only_if_left { OnErr result (next_row self.old.at ≢ None) }
+    {
+        match self.advance()? {
+            Some(key) => Ok(Some(key)),
+            None => Ok(None),
+        }
+    }
+
+    // Lends the value of the entry that it went on to last.
+    fn there(&mut self) -> &mut V
+        requires { IsSome (last_value self.old.at) }
+        ensures* writes { sem 𝓛 (lends_next M.row K.row V.row K.Bytes self.entry result) }
+        ensures value { last_value self.old.at ≡ Some result.now }
+    {
+        match self.value() {
+            Some(value) => value,
+            None => unreachable!(),
+        }
+    }
+
+    /// Advances to the next entry and returns its key, owned, beside a loan of its value, or `None`
+    /// at the end.
+    ///
+    /// # Errors
+    ///
+    /// Out of memory: there is a next entry.
+    ///
+    /// The contract says no more than what is read: what the map is after an error, at the end or
+    /// after the loan, those of `next_with`, and of `advance` and `value`, say.
+    pub fn next(&mut self) -> Result<Option<(K, &mut V)>, AllocError>
+        ensures row { IfOk result (λ e. option_map (λ e. (K.key e.0, e.1.now)) e ≡ next_row self.old.at) }
+        ensures err_only_if_left { OnErr result (next_row self.old.at ≢ None) }
+    {
+        match self.go_on()? {
+            Some(key) => Ok(Some((key, self.there()))),
+            None => Ok(None),
+        }
+    }
+
+    /// Advances to the next entry and runs a closure on its key, owned, and a loan of its value. At
+    /// the end it is not run.
+    ///
+    /// # Errors
+    ///
+    /// Out of memory: the closure is not run, nothing is changed, and the next call tries the same
+    /// entry.
+    pub fn next_with<R, F: FnOnce(K, &mut V) -> R>(&mut self, f: F) -> Result<Option<R>, AllocError>
+        requires callable { TakesNext F.FnOnce K.key f self.old.at }
+        ensures owner { self.new.owner.ghost_name ≡ self.old.owner.ghost_name }
+        ensures ok { IfOk result (λ r. MatchOption r
+            ((next_row self.old.at ≡ None) × (self.new.at ≡ self.old.at))
+            (λ r. StepsWith F.FnOnce K.key f self.old.at r self.new.at)) }
+        ensures left { IfOk result (λ r. MatchOption r (left self.old.at ≡ 0)
+            (λ _. left self.old.at ≡ left self.new.at + 1)) }
+        ensures unchanged { OnErr result (self.new.at ≡ self.old.at) }
+        ensures err_only_if_left { OnErr result (next_row self.old.at ≢ None) }
+    {
+        let Some(key) = self.go_on()? else {
+            return Ok(None);
+        };
+        let value = self.there();
+        Ok(Some(f(key, value)))
+    }
+}

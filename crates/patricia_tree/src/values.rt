@@ -1,0 +1,169 @@
+//! A cursor over the values of a map.
+ghost use Rattle.std.specs.Prelude.{◌≡◌, ◌≢◌, ◌+◌, ◌↔◌, None, Some, false, IfOk, OnOk, OnErr, IsSome, IsTrue, MatchOption};
+ghost use Rattle.std.specs.Borrow.{sem};
+ghost use Rattle.std.specs.Option.{option_copied_mut, option_map};
+ghost use Rattle.patricia_model.specs.Cursors.{last_value, next_key, next_row, next_value, stepped};
+
+use crate::guard::{CursorGuard, IntoMap};
+use patricia_keys::Bytes;
+use patricia_walks::cursor::Cursor;
+use std::alloc::AllocError;
+use std::marker::Model;
+
+/// A cursor over the entries of a map that lends the values alone.
+#[derive(Drop)]
+pub struct ValueCursor<K: Bytes, V> {
+    cursor: Cursor<K, V>,
+}
+
+impl<K: Bytes, V> Model for ValueCursor<K, V> {
+    ghost use Rattle.patricia_model.specs.Cursors.{CursorView};
+    ghost use Rattle.patricia_model.specs.Internal.Codes.{cursor_view_code};
+
+    ghost Value = { CursorView V };
+
+    ghost coded = { cursor_view_code V.code };
+
+    ghost view = { λ c. c.cursor };
+}
+
+impl<K: Bytes, V: Drop> ValueCursor<K, V> {
+    ghost use Rattle.patricia_tree.specs.Internal.ValueLends.{lends_value};
+
+    /// Makes a cursor that lends the values alone.
+    pub fn new(cursor: Cursor<K, V>) -> Self
+        ensures { result ≡ cursor }
+    {
+        ValueCursor { cursor }
+    }
+
+    /// Makes a cursor that returns the keys too.
+    pub fn into_cursor(self) -> Cursor<K, V>
+        ensures { result ≡ self }
+    {
+        let ValueCursor { cursor } = self;
+        cursor
+    }
+
+    // Advances to the next value, and returns whether there is one.
+    fn advance(&mut self) -> Result<bool, AllocError>
+        ensures found { IfOk result (λ found. IsTrue found ↔ (next_key self.old ≢ None)) }
+        ensures stepped { OnOk result (self.new ≡ stepped self.old) }
+        ensures unchanged { OnErr result (self.new ≡ self.old) }
+        ensures err_only_if_left { OnErr result (next_key self.old ≢ None) }
+    {
+        self.cursor.advance_without_key()
+    }
+
+    // Lends the value that it advanced to last.
+    fn value(&mut self) -> Option<&mut V>
+        ensures* writes { sem 𝓛 (lends_value K.row V.row K.Bytes self.entry result) }
+        ensures value { option_copied_mut result ≡ last_value self.old }
+    {
+        self.cursor.value()
+    }
+}
+
+impl<'a, M: Drop, K: Bytes, V: Drop> CursorGuard<'a, M, ValueCursor<K, V>>
+where
+    ValueCursor<K, V>: IntoMap<M>,
+{
+    ghost use Rattle.patricia_tree.specs.Left.{left};
+    ghost use Rattle.patricia_tree.specs.Lends.{lends_last_value};
+    ghost use Rattle.patricia_tree.specs.Internal.ValueLends.{lends_next_value};
+    ghost use Rattle.patricia_tree.specs.Internal.Nexts.{IsNextValue};
+    ghost use Rattle.patricia_tree.specs.Steps.{StepsWithValue, TakesNextValue};
+
+    /// Advances to the next value and returns whether there is one. `value` lends it. No key is
+    /// built.
+    ///
+    /// # Errors
+    ///
+    /// Out of memory: nothing is changed, and the next call tries the same value.
+    pub fn advance(&mut self) -> Result<bool, AllocError>
+        ensures owner { self.new.owner.ghost_name ≡ self.old.owner.ghost_name }
+        ensures found { IfOk result (λ found. IsTrue found ↔ (next_row self.old.at ≢ None)) }
+        ensures stepped { OnOk result (self.new.at ≡ stepped self.old.at) }
+        ensures left { IfOk result (λ found. IsTrue found → left self.old.at ≡ left self.new.at + 1) }
+        ensures none_left { IfOk result (λ found. found ≡ false → left self.old.at ≡ 0) }
+        ensures unchanged { OnErr result (self.new.at ≡ self.old.at) }
+        ensures err_only_if_left { OnErr result (next_row self.old.at ≢ None) }
+    {
+        self.at.advance()
+    }
+
+    /// Lends the value that it advanced to last, or returns `None` before the first one.
+    pub fn value(&mut self) -> Option<&mut V>
+        ensures* writes { sem 𝓛 (lends_last_value M.row K.row V.row K.Bytes self.entry result) }
+        ensures value { option_copied_mut result ≡ last_value self.old.at }
+    {
+        self.at.value()
+    }
+
+    // The same as `advance`, which says what value it is.
+    fn go_on(&mut self) -> Result<bool, AllocError>
+        ensures owner { self.new.owner.ghost_name ≡ self.old.owner.ghost_name }
+        ensures some { IfOk result (λ found. IsTrue found → IsNextValue self.old.at) }
+        ensures none { IfOk result (λ found. found ≡ false → next_row self.old.at ≡ None) }
+        ensures stepped { OnOk result (self.new.at ≡ stepped self.old.at) }
+        ensures unchanged { OnErr result (self.new.at ≡ self.old.at) }
+        ensures err_only_if_left { OnErr result (next_row self.old.at ≢ None) }
+    {
+        if self.advance()? { Ok(true) } else { Ok(false) }
+    }
+
+    // Lends the value that it advanced to last.
+    fn there(&mut self) -> &mut V
+        requires { IsSome (last_value self.old.at) }
+        ensures* writes { sem 𝓛 (lends_next_value M.row K.row V.row K.Bytes self.entry result) }
+        ensures value { last_value self.old.at ≡ Some result.now }
+    {
+        match self.value() {
+            Some(value) => value,
+            None => unreachable!(),
+        }
+    }
+
+    /// Advances to the next value and lends it, or returns `None` at the end.
+    ///
+    /// # Errors
+    ///
+    /// Out of memory: there is a next value.
+    ///
+    /// The contract says no more than what is read: what the map is after an error, at the end or
+    /// after the loan, those of `next_with`, and of `advance` and `value`, say.
+    pub fn next(&mut self) -> Result<Option<&mut V>, AllocError>
+        ensures value { IfOk result (λ v. option_copied_mut v ≡ next_value self.old.at) }
+        ensures err_only_if_left { OnErr result (next_row self.old.at ≢ None) }
+    {
+        if self.go_on()? {
+            Ok(Some(self.there()))
+        } else {
+            Ok(None)
+        }
+    }
+
+    /// Advances to the next value and runs a closure on a loan of it. At the end it is not run.
+    ///
+    /// # Errors
+    ///
+    /// Out of memory: the closure is not run, nothing is changed, and the next call tries the same
+    /// value.
+    pub fn next_with<R, F: FnOnce(&mut V) -> R>(&mut self, f: F) -> Result<Option<R>, AllocError>
+        requires callable { TakesNextValue F.FnOnce f self.old.at }
+        ensures owner { self.new.owner.ghost_name ≡ self.old.owner.ghost_name }
+        ensures ok { IfOk result (λ r. MatchOption r
+            ((next_row self.old.at ≡ None) × (self.new.at ≡ self.old.at))
+            (λ r. StepsWithValue F.FnOnce f self.old.at r self.new.at)) }
+        ensures left { IfOk result (λ r. MatchOption r (left self.old.at ≡ 0)
+            (λ _. left self.old.at ≡ left self.new.at + 1)) }
+        ensures unchanged { OnErr result (self.new.at ≡ self.old.at) }
+        ensures err_only_if_left { OnErr result (next_row self.old.at ≢ None) }
+    {
+        if !self.go_on()? {
+            return Ok(None);
+        }
+        let value = self.there();
+        Ok(Some(f(value)))
+    }
+}

@@ -1,0 +1,148 @@
+-- The steps of a walk along a key.
+use Rattle.std.proofs.Common.{◌≡◌, ℕ, ◌+◌, ◌-◌, ◌≤◌, true, false, List, ◌++◌, length, get_or, take, drop, Option, Some, None, refl, sym, ap, subst, ◌∙◌, arith}
+use Rattle.std.specs.Option.{option_copied}
+use Rattle.std.specs.Prelude.{nat_eq}
+use Rattle.std.specs.Ordering.{ordering_index}
+use Rattle.std.specs.declared.cmp.Ordering.{Ordering}
+use Rattle.std.specs.declared.cmp.Ordering.TheVariants.{Less, Equal, Greater}
+use Rattle.std.proofs.lemmas.List.{take-append-drop, length-take-le, length-append, length-drop, take_at, take_all}
+use Rattle.std.proofs.Math.Seq.{take-append-add, drop-append-add, drop-append_seam}
+use Rattle.patricia_keys.specs.Keys.{IsKeyKind, key_cmp}
+use Rattle.patricia_keys.proofs.KeyLemmas.{IsValid-nil, IsValid-append}
+use Rattle.patricia_model.specs.Prefixes.{begins, along}
+use Rattle.patricia_model.specs.Internal.WalkStates.{steps_in}
+use Rattle.patricia_model.specs.Siblings.{Siblings, end, node, prefixed, own, entries, IsCanonical}
+use Rattle.patricia_model.proofs.RowLemmas.{prefixed-prefixed}
+use Rattle.patricia_model.proofs.WalkLemmas.{prefixed-nil}
+use Rattle.patricia_model.proofs.PrefixLemmas.{begins_is, begins_other, along-append, along_own, along_down, along_past, along_stop}
+use Rattle.patricia_nodes.specs.declared.arena.Node.{Node}
+use Rattle.patricia_nodes.specs.declared.arena.NodeArena.{NodeArena}
+use Rattle.patricia_nodes.specs.Internal.Plans.{Nil, row, plan_at, IsPlan, IsWellFormed, siblings_of as slots_row}
+use Rattle.patricia_nodes.proofs.PlanLemmas.{plan_is}
+use Rattle.patricia_nodes.proofs.SeekLemmas.{opened, whole_plan}
+use Rattle.patricia_walks.specs.Internal.Positions.{row_at}
+use Rattle.patricia_walks.proofs.PositionLemmas.{row_none}
+use Rattle.patricia_walks.specs.declared.along.Descent.{Descent}
+use Rattle.patricia_walks.specs.Internal.Descents.{IsDescent, Moves, siblings_left, left, left_from}
+
+-- a front of a list, and what is left, where some of it follows
+module _ (k l t : List ℕ) (n : ℕ) (within : n ≤ length k) (rest : l ++ t ≡ drop n k) where
+  front_then : take (n + length l) k ≡ take n k ++ l
+  front_then =
+      let long = length-take-le n k within in
+      let split : take n k ++ (l ++ t) ≡ k = ap (λ r. take n k ++ r) rest ∙ take-append-drop n k in
+      ap (λ m. take (m + length l) k) (sym long) ∙ ap (take (length (take n k) + length l)) (sym split)
+      ∙ take-append-add (take n k) (l ++ t) (length l) ∙ ap (λ r. take n k ++ r) (take_at l t (length l) refl)
+
+  left_then : drop (n + length l) k ≡ t
+  left_then =
+      let long = length-take-le n k within in
+      let split : take n k ++ (l ++ t) ≡ k = ap (λ r. take n k ++ r) rest ∙ take-append-drop n k in
+      ap (λ m. drop (m + length l) k) (sym long) ∙ ap (drop (length (take n k) + length l)) (sym split)
+      ∙ drop-append-add (take n k) (l ++ t) (length l) ∙ drop-append_seam l t
+
+  more_within : n + length l ≤ length k
+  more_within = omega (arith, ap length rest, length-append l t, length-drop n k, within)
+
+-- a walk over a row takes a step
+some_step : {V : Type 0} (r : Siblings V) → 1 ≤ steps_in r
+some_step end = omega arith
+some_step (node l v c s) = omega arith
+
+-- no number is that of no node
+plan_none : {V : Type 0} (nodes : List (Node V)) → IsPlan nodes None (plan_at nodes None)
+plan_none nodes = let plan : IsPlan nodes None Nil = record { stands = tt; at_is = refl; fits = omega arith } in rw (plan_is nodes None Nil plan) plan
+
+module _ (item : List ℕ → Type 0) (kind : IsKeyKind item) {V : Type 0} (k : List ℕ) (d e : Descent V) (id : ℕ) (n : Node V) (w : IsDescent item k d) (taken : d.pending ≡ None) (next : d.next ≡ Some id) (reads : n ≡ get_or d.arena.now.nodes.items id n) (arena : e.arena ≡ d.arena) where
+  -- the row that is next
+  abbrev child_row : Siblings V
+  child_row = row_at d.arena.now.nodes.items n.child
+
+  abbrev sibling_row : Siblings V
+  sibling_row = row_at d.arena.now.nodes.items n.sibling
+
+  record Opens : Type 0 where
+    is : siblings_left d ≡ node n.label n.value child_row sibling_row
+    child_plan : IsPlan d.arena.now.nodes.items n.child (plan_at d.arena.now.nodes.items n.child)
+    sibling_plan : IsPlan d.arena.now.nodes.items n.sibling (plan_at d.arena.now.nodes.items n.sibling)
+
+  opens : Opens
+  opens =
+      let nodes = d.arena.now.nodes.items in
+      let o = opened nodes d.next (plan_at nodes d.next) id n w.plan next reads in
+      let c_is = plan_is nodes n.child o.child o.child_plan in
+      let s_is = plan_is nodes n.sibling o.sibling o.sibling_plan in
+      record { is = rw (c_is, s_is) (ap row o.is); child_plan = rw c_is o.child_plan; sibling_plan = rw s_is o.sibling_plan }
+
+  node_row : IsCanonical item (node n.label n.value child_row sibling_row)
+  node_row = subst (IsCanonical item) opens.is w.canonical
+
+  before : left k d ≡ prefixed (take d.len k) (along (drop d.len k) (entries (node n.label n.value child_row sibling_row)))
+  before = ap (λ v. left_from k d.len (option_copied v) (siblings_left d)) taken ∙ ap (λ r. prefixed (take d.len k) (along (drop d.len k) (entries r))) opens.is
+
+  -- down to the children
+  pub moves_down : begins n.label (drop d.len k) ≡ true → e.len ≡ d.len + length n.label → option_copied e.pending ≡ n.value → e.next ≡ n.child → Moves item k d e
+  moves_down begun_is len pending child =
+      let begun = begins_is n.label (drop d.len k) begun_is in
+      let front = front_then k n.label begun.0 d.len w.within begun.1 in
+      let rest = left_then k n.label begun.0 d.len w.within begun.1 in
+      let more = more_within k n.label begun.0 d.len w.within begun.1 in
+      let row_is : siblings_left e ≡ child_row = rw (arena, child) refl in
+      record {
+        descent = record {
+          within = rw len more;
+          valid = rw (len, front) (IsValid-append item (take d.len k) n.label w.valid node_row.valid);
+          plan = rw (arena, child) opens.child_plan;
+          canonical = rw row_is node_row.child;
+        };
+        same =
+            rw (len, pending, row_is, front, rest) (sym (prefixed-prefixed (take d.len k) n.label (own n.value ++ along begun.0 (entries child_row))))
+            ∙ ap (prefixed (take d.len k)) (sym (along_down item kind n.label n.value child_row sibling_row node_row begun.0) ∙ ap (λ r. along r (entries (node n.label n.value child_row sibling_row))) begun.1)
+            ∙ sym before;
+        less = rw (row_is, opens.is) (omega arith);
+      }
+
+  -- to the sibling
+  pub moves_past : begins n.label (drop d.len k) ≡ false → e.len ≡ d.len → e.pending ≡ d.pending → e.next ≡ n.sibling → Moves item k d e
+  moves_past other len pending sibling =
+      let row_is : siblings_left e ≡ sibling_row = rw (arena, sibling) refl in
+      record {
+        descent = record { within = rw len w.within; valid = rw len w.valid; plan = rw (arena, sibling) opens.sibling_plan; canonical = rw row_is node_row.sibling };
+        same =
+            rw (len, pending, taken, row_is) (ap (prefixed (take d.len k)) (sym (along_past item kind n.label n.value child_row sibling_row node_row (drop d.len k) (begins_other n.label (drop d.len k) other))))
+            ∙ sym before;
+        less = rw (row_is, opens.is) (omega arith);
+      }
+
+  -- to the end
+  pub moves_off : begins n.label (drop d.len k) ≡ false → key_cmp (drop d.len k) n.label ≡ Less → e.len ≡ d.len → e.pending ≡ d.pending → e.next ≡ None → Moves item k d e
+  moves_off other less len pending none =
+      let row_is : siblings_left e ≡ end = rw (arena, none) (row_none d.arena.now.nodes.items) in
+      record {
+        descent = record { within = rw len w.within; valid = rw len w.valid; plan = rw none (plan_none e.arena.now.nodes.items); canonical = rw row_is tt };
+        same =
+            rw (len, pending, taken, row_is) (ap (prefixed (take d.len k)) (sym (along_stop item kind n.label n.value child_row sibling_row node_row (drop d.len k) (begins_other n.label (drop d.len k) other) less)))
+            ∙ sym before;
+        less = rw (row_is, opens.is) (omega (arith, some_step child_row, some_step sibling_row));
+      }
+
+-- a slice from a place on
+pub rest_is : (n : ℕ) (k : List ℕ) → take (length k - n) (drop n k) ≡ drop n k
+rest_is n k = take_all (length k - n) (drop n k) (omega (arith, length-drop n k))
+
+-- the ordering of index 0 is less
+pub less_is : (r : Ordering) → nat_eq (ordering_index r) 0 ≡ true → r ≡ Less
+less_is Less e = refl
+less_is Equal e = absurd (cc)
+less_is Greater e = absurd (cc)
+
+module _ (item : List ℕ → Type 0) {V : Type 0} (k : List ℕ) where
+  -- at its start a walk stands at the first row
+  pub descent_start : (d : Descent V) (s : NodeArena V) → d.arena.now ≡ s → d.len ≡ 0 → d.next ≡ s.root → IsWellFormed s → IsCanonical item (slots_row s) → IsDescent item k d
+  descent_start d s arena len next whole ok = record { within = rw len (omega arith); valid = rw len (IsValid-nil item); plan = rw (arena, next) (whole_plan s whole); canonical = rw (arena, next) ok }
+
+-- at first all entries along the key are left
+pub left_start : {V : Type 0} (k : List ℕ) (pending : Option V) (r : Siblings V) → left_from k 0 pending r ≡ along k (own pending ++ entries r)
+left_start k pending r =
+    prefixed-nil (own pending ++ along k (entries r))
+    ∙ sym (along-append k (own pending) (entries r) ∙ ap (λ es. es ++ along k (entries r)) (along_own k pending))

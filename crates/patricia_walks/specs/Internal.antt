@@ -1,0 +1,7 @@
+-- Words of contracts that no user of the library meets: a reader need not believe them.
+pub mod Descents
+pub mod Holders
+pub mod Lends
+pub mod Positions
+pub mod Starts
+pub mod Trails

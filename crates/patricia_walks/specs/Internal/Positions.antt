@@ -1,0 +1,97 @@
+-- How far a walk over nodes in one vector has come.
+use Rattle.std.specs.Prelude.{ℕ, ◌+◌, ◌≤◌, List, [], ◌∷◌, ◌++◌, Option, Some, map}
+use Rattle.std.specs.Option.{option_copied}
+use Rattle.patricia_keys.specs.Keys.{IsValid}
+use Rattle.patricia_model.specs.Siblings.{Siblings, end, node, prefixed, own, entries, IsCanonical}
+use Rattle.patricia_model.specs.Internal.WalkStates.{WalkState, IsWalkState, IsStep}
+use Rattle.patricia_nodes.specs.declared.arena.Node.{Node}
+use Rattle.patricia_nodes.specs.declared.arena.NodeArena.{NodeArena}
+use Rattle.patricia_walks.specs.declared.walk.Traversal.{Traversal}
+use Rattle.patricia_walks.specs.declared.into_walk.OwnedTraversal.{OwnedTraversal}
+use Rattle.patricia_nodes.specs.Internal.Plans.{row, count, plan_at, IsPlan}
+
+-- a place in a walk: the nodes, the bytes that are passed, the value that is due there, the number
+-- of the row behind them, and those of the rows that wait, each behind so many of the bytes
+pub record Position (V : Type 0) : Type 0 where
+  pub nodes : List (Node V)
+  pub path : List ℕ
+  pub pending : Option V
+  pub next : Option ℕ
+  pub stack : List (ℕ × Option ℕ)
+
+module _ {V : Type 0} where
+  -- the place of a walk by reference
+  abbrev pub lent : Traversal V → Position V
+  lent p = record {
+    nodes = p.arena.now.nodes.items;
+    path = p.path.items;
+    pending = option_copied p.pending;
+    next = p.next;
+    stack = p.stack.items;
+  }
+
+  -- and of a walk that owns the nodes
+  abbrev pub owned : OwnedTraversal V → Position V
+  owned p = record {
+    nodes = p.arena.nodes.items;
+    path = p.path.items;
+    pending = p.pending;
+    next = p.next;
+    stack = p.stack.items;
+  }
+
+  -- the row from a number on
+  abbrev pub row_at : List (Node V) → Option ℕ → Siblings V
+  row_at nodes at = row (plan_at nodes at)
+
+  -- the rows that wait
+  abbrev pub rows_at : List (Node V) → List (ℕ × Option ℕ) → List (ℕ × Siblings V)
+  rows_at nodes stack = map (λ f. (f.0, row_at nodes f.1)) stack
+
+  -- the same place with the rows themselves
+  abbrev pub state_of : Position V → WalkState V
+  state_of p = record {
+    path = p.path;
+    pending = p.pending;
+    row = row_at p.nodes p.next;
+    stack = rows_at p.nodes p.stack;
+  }
+
+  -- there is a plan from each of the numbers on
+  abbrev pub AllPlans : List (Node V) → List (ℕ × Option ℕ) → Type 0
+  AllPlans nodes [] = Unit {0}
+  AllPlans nodes (f ∷ fs) = IsPlan nodes f.1 (plan_at nodes f.1) × AllPlans nodes fs
+
+  -- how often a number stands in these plans
+  abbrev pub count_all : List (Node V) → List (ℕ × Option ℕ) → ℕ → ℕ
+  count_all nodes [] at = 0
+  count_all nodes (f ∷ fs) at = count (plan_at nodes f.1) at + count_all nodes fs at
+
+  -- the row that is next and those that wait stand in the nodes, and no node in two of them
+  pub record Stand (p : Position V) : Type 0 where
+    pub next_plan : IsPlan p.nodes p.next (plan_at p.nodes p.next)
+    pub plans : AllPlans p.nodes p.stack
+    pub once : (at : ℕ) → count (plan_at p.nodes p.next) at + count_all p.nodes p.stack at ≤ 1
+
+  -- the entries of the first node of a row, behind these bytes
+  abbrev pub rows_below : List ℕ → Siblings V → List (List ℕ × V)
+  rows_below front end = []
+  rows_below front (node label value child sibling) = prefixed (front ++ label) (own value ++ entries child)
+
+module _ (item : List ℕ → Type 0) {V : Type 0} where
+  -- a walk can begin at this node, behind these bytes
+  pub record IsTop (arena : NodeArena V) (front : List ℕ) (top : ℕ) : Type 0 where
+    pub valid : IsValid item front
+    pub plan : IsPlan arena.nodes.items (Some top) (plan_at arena.nodes.items (Some top))
+    pub once : (at : ℕ) → count (plan_at arena.nodes.items (Some top)) at ≤ 1
+    pub canonical : IsCanonical item (row_at arena.nodes.items (Some top))
+
+  -- the rows stand, and they are those of a walk
+  pub record IsPosition (p : Position V) : Type 0 where
+    pub stand : Stand p
+    pub state : IsWalkState item (state_of p)
+
+  -- a step of the walk
+  pub record AdvancesTo (p q : Position V) : Type 0 where
+    pub stand : Stand q
+    pub step : IsStep item (state_of p) (state_of q)

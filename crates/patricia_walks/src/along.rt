@@ -1,0 +1,170 @@
+//! The values along a key: those of its stored beginnings, the shortest first.
+ghost use Rattle.std.specs.Prelude.{◌≡◌, ◌++◌, Some, None, take};
+ghost use Rattle.std.specs.Map.Iter.{TakesFirst};
+ghost use Rattle.std.specs.Option.{option_copied};
+ghost use Rattle.patricia_model.specs.Prefixes.{along};
+ghost use Rattle.patricia_model.specs.Siblings.{own, IsCanonical};
+ghost use Rattle.patricia_model.specs.Walks.{values_of};
+ghost use Rattle.patricia_nodes.specs.Internal.Plans.{IsWellFormed, siblings_of, entries_of};
+ghost use Rattle.patricia_walks.specs.Internal.Descents.{IsDescent, Moves, left};
+
+use patricia_keys::{BorrowedBytes, Bytes};
+use patricia_nodes::arena::NodeArena;
+use patricia_nodes::link::{Link, NodeId};
+use std::cmp::Ordering;
+use std::marker::Model;
+
+// How far a walk along a key has come.
+#[derive(Drop)]
+struct Descent<'a, V> {
+    arena: &'a NodeArena<V>,
+    // how many bytes of the key are passed
+    len: usize,
+    // the value at these bytes, while it is due
+    pending: Option<&'a V>,
+    // the row behind them
+    next: Link,
+}
+
+impl<'a, V> Descent<'a, V> {
+    // At the root.
+    fn new<K: Bytes>(pending: Option<&'a V>, arena: &'a NodeArena<V>, key: &[u8]) -> Self
+        requires whole { IsWellFormed arena.now }
+        requires row { IsCanonical K.item (siblings_of arena.now) }
+        ensures descent { IsDescent K.item key.now result }
+        ensures left { left key.now result ≡ along key.now (own (option_copied pending.entry) ++ entries_of arena.now) }
+    {
+        Descent {
+            arena,
+            len: 0,
+            pending,
+            next: arena.root,
+        }
+    }
+
+    // Goes on at a node: to its children where its label begins what is left of the key, to the end
+    // where what is left comes before it, and else to its sibling.
+    fn pass<K: Bytes>(&mut self, id: NodeId, key: &[u8])
+        requires descent { IsDescent K.item key.now self.old }
+        requires taken { self.old.pending ≡ None }
+        requires next { self.old.next ≡ Some id }
+        ensures { Moves K.item key.now self.old self.new }
+    {
+        let node = &self.arena.nodes[id.index()];
+        let label = node.label.as_slice();
+        let rest = &key[self.len..];
+        if rest.starts_with(label) {
+            self.len += label.len();
+            self.pending = node.value.as_ref();
+            self.next = node.child;
+        } else if rest.cmp(label) == Ordering::Less {
+            self.next = Link::none();
+        } else {
+            self.next = node.sibling;
+        }
+    }
+
+    // Takes the next value, whose key is then the bytes that are passed.
+    fn seek<K: Bytes>(&mut self, key: &[u8]) -> Option<&'a V>
+        requires { IsDescent K.item key.now self.old }
+        ensures descent { IsDescent K.item key.now self.new }
+        ensures taken { TakesFirst (λ v. (take self.new.len key.now, v.now)) (left key.now self.old) result (left key.now self.new) }
+    {
+        loop {
+            if let Some(value) = self.pending.take() {
+                return Some(value);
+            }
+            match self.next.get() {
+                Some(id) => self.pass::<K>(id, key),
+                None => return None,
+            }
+        }
+    }
+}
+
+/// The entries whose key begins a borrowed key, the shortest first. Each key is a part of that key.
+#[derive(Drop)]
+pub struct Along<'a, Q: BorrowedBytes, V> {
+    key: Q,
+    place: Descent<'a, V>,
+}
+
+impl<'a, Q: BorrowedBytes, V> Model for Along<'a, Q, V> {
+    ghost use Rattle.std.specs.Prelude.{List, ℕ};
+
+    ghost Value = { List (List ℕ × V) };
+
+    ghost use Rattle.patricia_walks.specs.Internal.Descents.{IsDescent, left};
+
+    ghost view = { λ a. left (Q.key a.key) a.place };
+
+    ghost invariant = { λ a. IsDescent Q.Owned.item (Q.key a.key) a.place };
+}
+
+impl<'a, Q: BorrowedBytes, V> Along<'a, Q, V> {
+    /// The walk over the empty key's value and the nodes. Neither it nor its steps take memory.
+    pub fn new(pending: Option<&'a V>, arena: &'a NodeArena<V>, key: Q) -> Self
+        requires whole { IsWellFormed arena.now }
+        requires row { IsCanonical Q.Owned.item (siblings_of arena.now) }
+        ensures { result ≡ along (Q.key key) (own (option_copied pending.entry) ++ entries_of arena.now) }
+    {
+        Along {
+            key,
+            place: Descent::new::<Q::Owned>(pending, arena, key.as_bytes()),
+        }
+    }
+
+    /// The next entry.
+    pub fn next_entry(&mut self) -> Option<(Q, &'a V)>
+        ensures { TakesFirst (λ e. (Q.key e.0, e.1.now)) self.old result self.new }
+    {
+        let value = self.place.seek::<Q::Owned>(self.key.as_bytes())?;
+        Some((self.key.keep_n_prefix(self.place.len), value))
+    }
+
+    /// The value of the next entry.
+    pub fn next_value(&mut self) -> Option<&'a V>
+        ensures { TakesFirst (λ v. v.now) (values_of self.old) result (values_of self.new) }
+    {
+        self.place.seek::<Q::Owned>(self.key.as_bytes())
+    }
+}
+
+/// The values of the same entries, along an owned key.
+#[derive(Drop)]
+pub struct AlongOwned<'a, K: Bytes, V> {
+    key: K,
+    place: Descent<'a, V>,
+}
+
+impl<'a, K: Bytes, V> Model for AlongOwned<'a, K, V> {
+    ghost use Rattle.std.specs.Prelude.{List};
+
+    ghost Value = { List V };
+
+    ghost use Rattle.patricia_model.specs.Walks.{values_of};
+    ghost use Rattle.patricia_walks.specs.Internal.Descents.{IsDescent, left};
+
+    ghost view = { λ a. values_of (left (K.key a.key) a.place) };
+
+    ghost invariant = { λ a. IsDescent K.item (K.key a.key) a.place };
+}
+
+impl<'a, K: Bytes, V> AlongOwned<'a, K, V> {
+    /// The walk over the empty key's value and the nodes. Neither it nor its steps take memory.
+    pub fn new(pending: Option<&'a V>, arena: &'a NodeArena<V>, key: K) -> Self
+        requires whole { IsWellFormed arena.now }
+        requires row { IsCanonical K.item (siblings_of arena.now) }
+        ensures { result ≡ values_of (along (K.key key) (own (option_copied pending.entry) ++ entries_of arena.now)) }
+    {
+        let place = Descent::new::<K>(pending, arena, key.as_bytes());
+        AlongOwned { key, place }
+    }
+
+    /// The next value.
+    pub fn next_value(&mut self) -> Option<&'a V>
+        ensures { TakesFirst (λ v. v.now) self.old result self.new }
+    {
+        self.place.seek::<K>(self.key.as_bytes())
+    }
+}

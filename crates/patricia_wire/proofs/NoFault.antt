@@ -1,0 +1,175 @@
+-- No fault stands in bytes that mean something.
+use Rattle.std.proofs.Common.{◌≡◌, ℕ, ◌+◌, ◌≢◌, ◌⊎◌, inl, inr, true, false, List, [], ◌∷◌, ◌++◌, Option, Some, None, length, refl, sym, ap, subst, ◌∙◌, arith, length-append}
+use Rattle.std.specs.Prelude.{is_some, slice_index}
+use Rattle.std.specs.Int.{bytes_high_first}
+use Rattle.std.proofs.lemmas.List.{append_assoc, append-nil, length-map}
+use Rattle.std.proofs.lemmas.List.Sums.{sum_by-cons, sum_by-append}
+use Rattle.patricia_keys.specs.Keys.{IsValid}
+use Rattle.patricia_model.specs.Siblings.{Siblings, end, node, prefixed, own, entries, keys_of, IsBefore}
+use Rattle.patricia_keys.proofs.KeyLemmas.{IsValid-nil}
+use Rattle.patricia_wire.specs.Records.{Record, Encodes, EncodeAll, bit_if, after_flags}
+use Rattle.patricia_wire.specs.Forests.{Root}
+use Rattle.patricia_wire.specs.Internal.WrittenRows.{record_of, records_of, tree_records, IsWritable}
+use Rattle.patricia_wire.specs.Writings.{Means}
+use Rattle.patricia_wire.specs.Faults.{Fault, truncated, level, root_label, root_sibling, empty_label, invalid_label, sibling_order, no_value_no_child, too_few_values, trailing_bytes, too_many_values, value_marks, IsLastUpTo, IsFaulty, IsCutShort, Stands, cut_short, in_record, trailing, too_many}
+use Rattle.patricia_wire.proofs.CountLemmas.{length-prefixed}
+use Rattle.patricia_wire.proofs.Orders.{before_compares}
+use Rattle.patricia_wire.proofs.Places.{nil_split, deep, tree_due, behind, IsGood, good, rising}
+use Rattle.patricia_wire.proofs.OneMeaning.{row_of}
+use Rattle.patricia_wire.proofs.Spellings.{record_same, one_list, length-high_first}
+use Rattle.patricia_wire.proofs.RowTrees.{Nothing, StandsTree, stands_tree}
+
+-- the bytes of a record are some
+pub not_empty : (w : ℕ) (r : Record) (b c : List ℕ) → Encodes w r b → [] ≡ b ++ c → ⊥
+not_empty w r b c p e = let h : [] ≡ (p.flags ∷ after_flags w r) ++ c = e ∙ ap (λ l. l ++ c) p.is in cc
+
+-- records that are read from the front of a spelling are the first of its records
+prefix : (w : ℕ) (P R : List Record) (b read rest : List ℕ) → EncodeAll w P read → read ++ rest ≡ b → EncodeAll w R b → (Y : List Record) × (R ≡ P ++ Y) × EncodeAll w Y rest
+prefix w [] R b read rest p e q = (R, refl, subst (EncodeAll w R) (sym e ∙ ap (λ l. l ++ rest) p) q)
+prefix w (x ∷ P) [] b read rest p e q = absurd (not_empty w x p.first (p.rest ++ rest) p.spelled (sym q ∙ sym e ∙ ap (λ l. l ++ rest) p.joined ∙ append_assoc p.first p.rest rest))
+prefix w (x ∷ P) (r ∷ R) b read rest p e q =
+    let both = record_same w x r p.first q.first (p.rest ++ rest) q.rest p.spelled q.spelled (sym (append_assoc p.first p.rest rest) ∙ ap (λ l. l ++ rest) (sym p.joined) ∙ e ∙ q.joined) in
+    let more = prefix w P R q.rest p.rest rest p.others both.1 q.others in
+    let head = both.0 in
+    let tail = more.1 in
+    (more.0, (λ i. sym head i ∷ tail i), more.2)
+
+-- a record needs its bytes
+pub enough : (w : ℕ) (r : Record) (b rest : List ℕ) → Encodes w r b → IsCutShort w (b ++ rest) → ⊥
+enough w r b rest p short =
+    let whole : b ++ rest ≡ (p.flags ∷ after_flags w r) ++ rest = ap (λ l. l ++ rest) p.is in
+    let len = ap length whole in
+    let size = length-append (p.flags ∷ after_flags w r) rest in
+    let inner = length-append (bytes_high_first w r.level) r.label in
+    let width = length-high_first w r.level in
+    let second : slice_index (b ++ rest) 1 ≡ length r.label = ap (λ l. slice_index l 1) whole in
+    elim short [
+      | inl h ↦ omega arith
+      | inr h ↦ omega arith
+    ]
+
+abbrev one_if : Record → ℕ
+one_if r = bit_if r.value 1
+
+marks_own : (v : Option Nothing) → bit_if (is_some v) 1 ≡ length (own v)
+marks_own None = refl
+marks_own (Some x) = refl
+
+marks_row : (d : ℕ) (row : Siblings Nothing) → value_marks (records_of d row) ≡ length (entries row)
+marks_row d end = refl
+marks_row d (node l v c s) = omega (arith, marks_row (d + 1) c, marks_row d s, marks_own v, sum_by-cons one_if (record_of d l v c s) (records_of (d + 1) c ++ records_of d s), sum_by-append one_if (records_of (d + 1) c) (records_of d s), length-append (prefixed l (own v ++ entries c)) (entries s), length-prefixed l (own v ++ entries c), length-append (own v) (entries c))
+
+marks_tree : (v : Option Nothing) (row : Siblings Nothing) → value_marks (tree_records v row) ≡ length (own v ++ entries row)
+marks_tree v row = omega (arith, marks_row 1 row, marks_own v, sum_by-cons one_if (record_of 0 [] v row end) (records_of 1 row), length-append (own v) (entries row))
+
+module _ (item : List ℕ → Type 0) where
+  pub marks : (R : List Record) (E : List (List ℕ)) → Root item R E → value_marks R ≡ length E
+  marks R E root =
+      let t = stands_tree item R E root in
+      ap value_marks (sym t.records) ∙ marks_tree t.value t.row ∙ sym (length-map (own t.value ++ entries t.row) (λ e. e.0)) ∙ ap length t.keys
+
+  -- no tree is a proper beginning of another
+  whole : (R P Y : List Record) (E F : List (List ℕ)) → Root item R E → Root item P F → R ≡ P ++ Y → Y ≡ []
+  whole R P Y E F x y e =
+      let a = stands_tree item R E x in
+      let b = stands_tree item P F y in
+      let same : tree_records a.value a.row ≡ tree_records b.value b.row ++ Y = a.records ∙ e ∙ ap (λ p. p ++ Y) (sym b.records) in
+      let heads : record_of 0 [] a.value a.row end ≡ record_of 0 [] b.value b.row end = cc in
+      let tails : records_of 1 a.row ≡ records_of 1 b.row ++ Y = cc in
+      let rest = row_of 1 a.row b.row [] Y (ap (λ (h : Record). h.child) heads) (append-nil (records_of 1 a.row) ∙ tails) in
+      sym rest.1
+
+  -- a record of a tree keeps what is asked of it
+  root_or : (v : Option Nothing) (row : Siblings Nothing) (before : List Record) (r : Record) (Y : List Record) → IsWritable item row → tree_records v row ≡ before ++ (r ∷ Y) → ((before ≡ []) × (r.label ≡ []) × (r.sibling ≡ false)) ⊎ ((before ≢ []) × IsGood item r)
+  root_or v row [] r Y ok e =
+      let head : record_of 0 [] v row end ≡ r = cc in
+      inl (refl, ap (λ (h : Record). h.label) (sym head), ap (λ (h : Record). h.sibling) (sym head))
+  root_or v row (h ∷ before) r Y ok e =
+      let tails : records_of 1 row ≡ before ++ (r ∷ Y) = cc in
+      inr ((λ none. cc), good item 1 row ok before r Y tails)
+
+  tree_rising : (v : Option Nothing) (row : Siblings Nothing) (before : List Record) (r : Record) (Y : List Record) → IsWritable item row → tree_records v row ≡ before ++ (r ∷ Y) → (x : Record) → IsLastUpTo before r.level x → x.level ≡ r.level → IsBefore item x.label r.label
+  tree_rising v row [] r Y ok e x up same = absurd (nil_split up.ahead x up.after up.is)
+  tree_rising v row (h ∷ before) r Y ok e x up same =
+      let head : record_of 0 [] v row end ≡ h = cc in
+      let tails : records_of 1 row ≡ before ++ (r ∷ Y) = cc in
+      elim (behind h before r.level x up) [
+        | inl first ↦ absurd (omega (arith, same, ap (λ (g : Record). g.level) (head ∙ first.0), deep 1 row before r Y tails))
+        | inr later ↦ rising item 1 row ok before r Y tails x later same
+      ]
+
+  not_faulty : (R before : List Record) (r : Record) (Y : List Record) (E : List (List ℕ)) (n : ℕ) → n ≡ length E → Root item R E → R ≡ before ++ (r ∷ Y) → (f : Fault) → IsFaulty item before r n f → ⊥
+  not_faulty R before r Y E n count root e f fault = go f fault
+    where
+      t : StandsTree item R E
+      t = stands_tree item R E root
+
+      at : tree_records t.value t.row ≡ before ++ (r ∷ Y)
+      at = t.records ∙ e
+
+      kind : ((before ≡ []) × (r.label ≡ []) × (r.sibling ≡ false)) ⊎ ((before ≢ []) × IsGood item r)
+      kind = root_or t.value t.row before r Y t.ok at
+
+      go : (f : Fault) → IsFaulty item before r n f → ⊥
+      go truncated h = h
+      go level h = h (tree_due t.value t.row before r Y at)
+      go root_label h = elim kind [
+        | inl root ↦ h.1 root.1
+        | inr inner ↦ inner.0 h.0
+      ]
+      go root_sibling h = elim kind [
+        | inl root ↦ (let no : true ≡ false = sym h.1 ∙ root.2 in cc)
+        | inr inner ↦ inner.0 h.0
+      ]
+      go empty_label h = elim kind [
+        | inl root ↦ h.0 root.0
+        | inr inner ↦ (let nonempty = inner.1.nonempty in nonempty h.1)
+      ]
+      go invalid_label h = elim kind [
+        | inl root ↦ h (subst (IsValid item) (sym root.1) (IsValid-nil item))
+        | inr inner ↦ h inner.1.valid
+      ]
+      go sibling_order h = h.3 (before_compares item h.0.label r.label (tree_rising t.value t.row before r Y t.ok at h.0 h.1 h.2))
+      go no_value_no_child h = elim kind [
+        | inl root ↦ h.0 root.0
+        | inr inner ↦ elim inner.1.marked [
+          | inl v ↦ (let no : true ≡ false = sym v ∙ h.1 in cc)
+          | inr c ↦ (let no : true ≡ false = sym c ∙ h.2 in cc)
+        ]
+      ]
+      go too_few_values h =
+          let all = marks R E root in
+          let parts : value_marks R ≡ value_marks (before ++ (r ∷ [])) + value_marks Y = ap value_marks (e ∙ sym (append_assoc before (r ∷ []) Y)) ∙ sum_by-append one_if (before ++ (r ∷ [])) Y in
+          omega (arith, all, parts, count)
+      go trailing_bytes h = h
+      go too_many_values h = h
+
+  no_fault : (w : ℕ) (b : List ℕ) (R : List Record) (E : List (List ℕ)) (n : ℕ) → n ≡ length E → EncodeAll w R b → Root item R E → (f : Fault) (o : ℕ) → Stands item w b n f o → ⊥
+  no_fault w b R E n count spelled root f o (cut_short before rest reads unfinished short) =
+      let more = prefix w before R b reads.read rest reads.spelled reads.joined spelled in
+      go more.0 more.1 more.2
+    where
+      go : (Y : List Record) → R ≡ before ++ Y → EncodeAll w Y rest → ⊥
+      go [] e s = unfinished R [] E (sym (append-nil before) ∙ sym e ∙ sym (append-nil R)) root
+      go (y ∷ Y) e s = enough w y s.first s.rest s.spelled (subst (IsCutShort w) s.joined short)
+  no_fault w b R E n count spelled root f o (in_record before r first rest reads unfinished one fault) =
+      let more = prefix w before R b reads.read (first ++ rest) reads.spelled reads.joined spelled in
+      go more.0 more.1 more.2
+    where
+      go : (Y : List Record) → R ≡ before ++ Y → EncodeAll w Y (first ++ rest) → ⊥
+      go [] e s = unfinished R [] E (sym (append-nil before) ∙ sym e ∙ sym (append-nil R)) root
+      go (y ∷ Y) e s =
+          let both = record_same w r y first s.first rest s.rest one s.spelled s.joined in
+          not_faulty R before r Y E n count root (e ∙ ap (λ x. before ++ (x ∷ Y)) (sym both.0)) f fault
+  no_fault w b R E n count spelled root f o (trailing P F rest reads tree over) =
+      let more = prefix w P R b reads.read rest reads.spelled reads.joined spelled in
+      let none = whole R P more.0 E F root tree more.1 in
+      over (subst (λ Y. EncodeAll w Y rest) none more.2)
+  no_fault w b R E n count spelled root f o (too_many P F other tree less) =
+      let same = one_list w P R b other spelled in
+      omega (arith, marks R E root, ap value_marks same, count)
+
+  -- no fault stands in what means rows
+  pub no_fault_meant : {V : Type 0} (w : ℕ) (b : List ℕ) (values : List V) (M : List (List ℕ × V)) (f : Fault) (o : ℕ) → Means item w b values M → Stands item w b (length values) f o → ⊥
+  no_fault_meant w b values M f o m stands =
+      no_fault w b m.records (keys_of M) (length values) (ap length m.in_place ∙ length-map M (λ e. e.1) ∙ sym (length-map M (λ e. e.0))) m.spelled m.root f o stands

@@ -1,0 +1,17 @@
+-- What was written is read back, and for want of memory alone is it not.
+use Rattle.std.proofs.Common.{◌≡◌, ℕ, List, length}
+use Rattle.patricia_model.specs.Walks.{values_of}
+use Rattle.patricia_wire.specs.Writings.{Means}
+use Rattle.patricia_wire.specs.Faults.{Fault, IsFirst}
+use Rattle.patricia_wire.specs.TreeBytes.{AreTreeBytes}
+use Rattle.patricia_wire.proofs.NoFault.{no_fault_meant}
+use Rattle.patricia_wire.proofs.OneMeaning.{one_meaning}
+
+module _ (item : List ℕ → Type 0) {V : Type 0} where
+  -- tree bytes mean their rows, and there is one meaning
+  pub reads_back : (w : ℕ) (b : List ℕ) (rows M : List (List ℕ × V)) → AreTreeBytes item w b rows → Means item w b (values_of rows) M → M ≡ rows
+  reads_back w b rows M x means = one_meaning item w b (values_of rows) M rows means x.means
+
+  -- a first fault stands
+  pub no_first_fault : (w : ℕ) (b : List ℕ) (values : List V) (M : List (List ℕ × V)) (f : Fault) (o : ℕ) → Means item w b values M → IsFirst item w b (length values) f o → ⊥
+  no_first_fault w b values M f o means first = no_fault_meant item w b values M f o means first.stands

@@ -1,0 +1,139 @@
+-- What the laws of the wire form say, each in one sentence.
+use Rattle.std.specs.Prelude.{◌≡◌, ◌↔◌, ◌⊎◌, ℕ, ◌<◌, List, length, All}
+use Rattle.std.specs.FinMap as map
+use Rattle.patricia_keys.specs.Keys.{IsValid, key_cmp}
+use Rattle.patricia_model.specs.Siblings.{keys_of}
+use Rattle.patricia_model.specs.Walks.{values_of}
+use Rattle.patricia_wire.specs.Records.{Record}
+use Rattle.patricia_wire.specs.Forests.{Root}
+use Rattle.patricia_wire.specs.Writings.{Means, IsTight, Canon, TooDeep}
+use Rattle.patricia_wire.specs.Counts.{LabelsAreFronts, RecordsArePoints, AreFew}
+use Rattle.patricia_wire.specs.TreeBytes.{AreTreeBytes}
+use Rattle.patricia_wire.specs.Faults.{Fault, IsFirst, Stands}
+
+module _ (item : List ℕ → Type 0) where
+  -- a set of keys has one writing
+  abbrev pub HasOneWriting : Type 0
+  HasOneWriting =
+      (w : ℕ) (b c : List ℕ) (S : List (List ℕ)) → Canon item w b S → Canon item w c S → b ≡ c
+
+  -- bytes are the writing of one set of keys
+  abbrev pub HasOneKeySet : Type 0
+  HasOneKeySet =
+      (w : ℕ) (b : List ℕ) (S T : List (List ℕ)) → Canon item w b S → Canon item w b T → S ≡ T
+
+  -- bytes mean one list of rows with these values
+  abbrev pub HasOneMeaning : Type 0 → Type 0
+  HasOneMeaning V =
+      (w : ℕ) (b : List ℕ) (values : List V) (M N : List (List ℕ × V))
+      → Means item w b values M → Means item w b values N → M ≡ N
+
+  -- what bytes mean is the rows of a finite map, and its keys are valid
+  abbrev pub MeansMap : Type 0 → Type 0
+  MeansMap V =
+      (w : ℕ) (b : List ℕ) (values : List V) (M : List (List ℕ × V)) → Means item w b values M
+      → (m : map.FinMap key_cmp V) × (map.entries m ≡ M) × All (IsValid item) (map.keys m)
+
+  -- the writing of the keys of rows means these rows
+  abbrev pub WritingMeansRows : Type 0 → Type 0
+  WritingMeansRows V =
+      (w : ℕ) (b : List ℕ) (rows : List (List ℕ × V))
+      → Canon item w b (keys_of rows) → Means item w b (values_of rows) rows
+
+  -- the keys of a finite map, if they are valid, have a writing, or lie too deep for one
+  abbrev pub IsWrittenOrTooDeep : Type 0 → Type 0
+  IsWrittenOrTooDeep V =
+      (w : ℕ) (m : map.FinMap key_cmp V) → All (IsValid item) (map.keys m)
+      → ((b : List ℕ) × Canon item w b (map.keys m)) ⊎ TooDeep item w (map.keys m)
+
+  -- and never both
+  abbrev pub IsNeverBoth : Type 0
+  IsNeverBoth = (w : ℕ) (b : List ℕ) (S : List (List ℕ)) → Canon item w b S → TooDeep item w S → ⊥
+
+  -- in a tight tree, where each item is one byte, the labels have a byte for each front of its keys
+  abbrev pub CountsFronts : Type 0
+  CountsFronts =
+      (R : List Record) (S : List (List ℕ)) → Root item R S → IsTight item R
+      → LabelsAreFronts item R S
+
+  -- a tight tree of short keys has a record for each point of its keys, and one more
+  abbrev pub CountsPoints : Type 0
+  CountsPoints =
+      (R : List Record) (S : List (List ℕ)) → Root item R S → IsTight item R
+      → RecordsArePoints item R S
+
+  -- a tight tree of short keys has at most two records for each key
+  abbrev pub HasFewRecords : Type 0
+  HasFewRecords =
+      (R : List Record) (S : List (List ℕ)) → Root item R S → IsTight item R → AreFew R S
+
+  -- two tight trees with the same keys are the same list of records
+  abbrev pub HasOneTightTree : Type 0
+  HasOneTightTree =
+      (R X : List Record) (S : List (List ℕ)) → Root item R S → Root item X S
+      → IsTight item R → IsTight item X → R ≡ X
+
+  -- a list of records holds one list of keys
+  abbrev pub HasOneKeyList : Type 0
+  HasOneKeyList = (R : List Record) (S T : List (List ℕ)) → Root item R S → Root item R T → S ≡ T
+
+  -- the keys of a tree of records are those of a finite map, and valid
+  abbrev pub HoldsKeysOfMap : Type 0
+  HoldsKeysOfMap =
+      (R : List Record) (S : List (List ℕ)) → Root item R S
+      → (m : map.FinMap key_cmp (Unit {0})) × (map.keys m ≡ S) × All (IsValid item) S
+
+  -- an input has one first fault, at one offset
+  abbrev pub HasOneFirstFault : Type 0
+  HasOneFirstFault =
+      (w : ℕ) (b : List ℕ) (n : ℕ) (f g : Fault) (o p : ℕ)
+      → IsFirst item w b n f o → IsFirst item w b n g p → (f ≡ g) × (o ≡ p)
+
+  -- no fault stands in bytes that mean rows with so many values
+  abbrev pub HasNoFaultWhereMeant : Type 0 → Type 0
+  HasNoFaultWhereMeant V =
+      (w : ℕ) (b : List ℕ) (values : List V) (M : List (List ℕ × V)) (f : Fault) (o : ℕ)
+      → Means item w b values M → Stands item w b (length values) f o → ⊥
+
+  -- so such bytes and values have no first fault: for want of memory alone are they refused
+  abbrev pub HasNoFirstFaultWhereMeant : Type 0 → Type 0
+  HasNoFirstFaultWhereMeant V =
+      (w : ℕ) (b : List ℕ) (values : List V) (M : List (List ℕ × V)) (f : Fault) (o : ℕ)
+      → Means item w b values M → IsFirst item w b (length values) f o → ⊥
+
+  -- of each list of bytes it can be told whether it is a valid key
+  abbrev pub TellsValid : Type 0
+  TellsValid = (l : List ℕ) → IsValid item l ⊎ (IsValid item l → ⊥)
+
+  -- bytes and values mean rows, or one of the faults is the first to stand in them
+  abbrev pub MeansOrHasFirstFault : Type 0 → Type 0
+  MeansOrHasFirstFault V =
+      (w : ℕ) (b : List ℕ) (values : List V) → All (λ x. x < 256) b
+      → ((M : List (List ℕ × V)) × Means item w b values M)
+      ⊎ ((f : Fault) × (o : ℕ) × IsFirst item w b (length values) f o)
+
+  -- no bytes and values are without rows and without a first fault
+  abbrev pub NeverLacksBoth : Type 0 → Type 0
+  NeverLacksBoth V =
+      (w : ℕ) (b : List ℕ) (values : List V) → All (λ x. x < 256) b
+      → ((M : List (List ℕ × V)) → Means item w b values M → ⊥)
+      → ((f : Fault) (o : ℕ) → IsFirst item w b (length values) f o → ⊥) → ⊥
+
+  -- the tree bytes of rows, with the values of the rows in turn, mean these rows and no others
+  abbrev pub ReadsBack : Type 0 → Type 0
+  ReadsBack V =
+      (w : ℕ) (b : List ℕ) (rows M : List (List ℕ × V))
+      → AreTreeBytes item w b rows → Means item w b (values_of rows) M → M ≡ rows
+
+  -- two maps have equal tree bytes exactly where they have the same keys
+  abbrev pub TellsKeySets : Type 0 → Type 0 → Type 0
+  TellsKeySets V W =
+      (w : ℕ) (b c : List ℕ) (rows : List (List ℕ × V)) (others : List (List ℕ × W))
+      → AreTreeBytes item w b rows → AreTreeBytes item w c others
+      → (b ≡ c) ↔ (keys_of rows ≡ keys_of others)
+
+  -- the values have no part in the tree bytes
+  abbrev pub DependsOnKeysAlone : Type 0 → Type 0 → Type 0
+  DependsOnKeysAlone V W =
+      (w : ℕ) (b : List ℕ) (rows : List (List ℕ × V)) (others : List (List ℕ × W))
+      → keys_of rows ≡ keys_of others → AreTreeBytes item w b rows ↔ AreTreeBytes item w b others

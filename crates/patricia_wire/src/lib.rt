@@ -1,0 +1,9 @@
+//! The wire form of a Patricia tree, as definitions and laws: what tree bytes mean, and the one
+//! tight writing of a set of keys.
+//!
+//! `patricia_tree` is the library to use. It depends on this crate.
+#![tactic(auto)]
+
+pub mod examples;
+pub mod laws;
+pub mod rows;

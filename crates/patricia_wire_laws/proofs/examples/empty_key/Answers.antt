@@ -1,7 +1,0 @@
-use Rattle.std.proofs.Common.{[], ◌∷◌, Some, refl}
-use Rattle.patricia_rows.specs.Rows.{end, node}
-use Rattle.patricia_wire_laws.proofs.TestedRows.{byte_written}
-use Rattle.patricia_wire_laws.proofs.examples.empty_key.Goals as goal
-
-pub returns : goal.returns
-returns c = byte_written 2 (Some tt) (node (97 ∷ []) (Some tt) end end) refl refl refl

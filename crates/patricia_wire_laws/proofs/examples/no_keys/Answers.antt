@@ -1,7 +1,0 @@
-use Rattle.std.proofs.Common.{None, refl}
-use Rattle.patricia_rows.specs.Rows.{end}
-use Rattle.patricia_wire_laws.proofs.TestedRows.{byte_written}
-use Rattle.patricia_wire_laws.proofs.examples.no_keys.Goals as goal
-
-pub returns : goal.returns
-returns c = byte_written 2 None end refl refl refl

@@ -1,8 +1,0 @@
-use Rattle.std.proofs.Common.{Some, None, refl}
-use Rattle.patricia_rows.specs.Rows.{end, node}
-use Rattle.patricia_wire_laws.proofs.TestedRows.{byte_written}
-use Rattle.patricia_wire_laws.specs.Examples.{lone_key}
-use Rattle.patricia_wire_laws.proofs.examples.one_key.Goals as goal
-
-pub returns : goal.returns
-returns c = byte_written 2 None (node lone_key (Some tt) end end) refl refl refl

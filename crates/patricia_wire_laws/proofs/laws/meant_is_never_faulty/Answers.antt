@@ -1,5 +1,0 @@
-use Rattle.patricia_wire_laws.proofs.ReadBack.{no_first_fault}
-use Rattle.patricia_wire_laws.proofs.laws.meant_is_never_faulty.Goals as goal
-
-pub returns : goal.returns
-returns g c = no_first_fault g.K.Bytes.item

@@ -1,4 +1,0 @@
--- What the encoder and the decoder stand on: a reader need not believe it.
-pub mod Readings
-pub mod RowLaws
-pub mod WrittenRows

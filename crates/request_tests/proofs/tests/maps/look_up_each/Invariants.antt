@@ -1,4 +1,0 @@
-use Rattle.request_tests.proofs.tests.maps.look_up_each.Given as goal
-
-abbrev pub ghosts-are_found : goal.ghosts-are_found
-ghosts-are_found g a = record { name = a.blank.name; parts = a.blank.parts }

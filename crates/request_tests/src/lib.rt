@@ -1,5 +1,0 @@
-//! Tests whose memory requests `.ci/run` counts.
-#![tactic(auto)]
-
-#[cfg(test)]
-mod tests;

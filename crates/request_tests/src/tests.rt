@@ -1,6 +1,0 @@
-// Of two tests of a name, the one that ends with `made` only makes its values, and the one that
-// ends with `called` makes the same values and then each call that takes no memory.
-mod helpers;
-mod maps;
-mod removals;
-mod walks;

@@ -1,0 +1,33 @@
+//! Loans of the value of a key.
+use super::helpers::{has_values, two};
+use patricia_tree::BorrowedBytes;
+use std::alloc::{AllocError, Global};
+use uses_loans::loans::replace;
+
+// Whether 3 can be written at the second key of a map of two, 4 at the first, and nothing at one
+// that is not there.
+fn writes<Q: BorrowedBytes>(
+    alloc: Global,
+    first: Q,
+    second: Q,
+    absent: Q,
+) -> Result<bool, AllocError> {
+    let mut map = two(alloc, first, second)?;
+    let is_second_set = replace(&mut map, second, 3);
+    let is_first_set = replace(&mut map, first, 4);
+    let is_absent_set = replace(&mut map, absent, 5);
+    Ok(is_second_set && is_first_set && !is_absent_set && has_values(&map, (first, 4), (second, 3)))
+}
+
+#[test]
+fn texts(rt: HostRuntime) -> Result<(), AllocError> {
+    assert!(rt; writes(rt.alloc(), "", "ほげ", "ほ")?);
+    Ok(())
+}
+
+#[test]
+fn bytes(rt: HostRuntime) -> Result<(), AllocError> {
+    let (foo, foobar, empty): (&[u8], &[u8], &[u8]) = (b"foo", b"foobar", b"");
+    assert!(rt; writes(rt.alloc(), foo, foobar, empty)?);
+    Ok(())
+}

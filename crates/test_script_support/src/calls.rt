@@ -1,0 +1,151 @@
+//! How calls are written.
+//!
+//! In an argument `%` and two hexadecimal digits stand for a byte, and `*` and a number at its end
+//! say how often the rest is repeated, so that `*` alone is the empty key.
+
+ghost use Rattle.std.specs.Prelude.{◌≡◌, ◌++◌, ◌==◌, map, IfOk, OnOk};
+ghost use Rattle.std.specs.List.{slice_split};
+ghost use Rattle.std.specs.Str.Lines.{lines};
+ghost use Rattle.test_script_support.specs.Calls.{told, told_by, call_of, calls_of, IsNumber, number_of};
+
+use patricia_tree::BorrowedBytes;
+use std::alloc::{AllocError, Global};
+use std::str;
+
+/// A key that can be read from bytes.
+pub trait Readable<'a>: BorrowedBytes {
+    /// The key of these bytes, or `None` where they are no key.
+    fn read(bytes: &'a [u8]) -> Option<Self>;
+}
+
+impl<'a> Readable<'a> for &'a [u8] {
+    fn read(bytes: &'a [u8]) -> Option<&'a [u8]> {
+        Some(bytes)
+    }
+}
+
+impl<'a> Readable<'a> for &'a str {
+    fn read(bytes: &'a [u8]) -> Option<&'a str> {
+        str::from_utf8(bytes).ok()
+    }
+}
+
+// The value of a hexadecimal digit.
+fn digit(byte: u8) -> u8 {
+    match byte {
+        b'0'..=b'9' => byte - b'0',
+        b'A'..=b'F' => byte - b'A' + 10,
+        _ => 0,
+    }
+}
+
+fn unescaped(alloc: Global, text: &str) -> Result<Vec<u8>, AllocError> {
+    let mut bytes = Vec::new(alloc);
+    let mut left = text.as_bytes();
+    for _ in 0..left.len() {
+        match left {
+            [b'%', high, low, rest @ ..] => {
+                bytes.push(digit(*high) << 4 | digit(*low))?;
+                left = rest;
+            }
+            [byte, rest @ ..] => {
+                bytes.push(*byte)?;
+                left = rest;
+            }
+            [] => break,
+        }
+    }
+    Ok(bytes)
+}
+
+// The bytes that a word stands for.
+fn argument(alloc: Global, word: &str) -> Result<Vec<u8>, AllocError> {
+    match word.split_once('*') {
+        Some((text, times)) => unescaped(alloc, text)?.repeat(alloc, number(times.as_bytes())),
+        None => unescaped(alloc, word),
+    }
+}
+
+fn arguments(alloc: Global, words: &[&str]) -> Result<Vec<Vec<u8>>, AllocError> {
+    let mut arguments = Vec::new(alloc);
+    for word in words {
+        arguments.push(argument(alloc, word)?)?;
+    }
+    Ok(arguments)
+}
+
+/// A line that is a call.
+#[derive(Drop)]
+pub struct Call<'t> {
+    pub line: &'t str,
+    pub kind: &'t str,
+    pub name: &'t str,
+    pub arguments: Vec<Vec<u8>>,
+}
+
+// Adds the call that the words of a line are, if they are one.
+fn push_call<'t>(
+    alloc: Global,
+    calls: &mut Vec<Call<'t>>,
+    line: &'t str,
+    words: &[&'t str],
+) -> Result<(), AllocError>
+    ensures { OnOk result (told calls.new.items
+        ≡ told calls.old.items ++ told_by line.now (map (λ w. w.now) words.now)) }
+{
+    if let [kind, name, words @ ..] = words {
+        let arguments = arguments(alloc, words)?;
+        calls.push(Call {
+            line,
+            kind,
+            name,
+            arguments,
+        })?;
+    }
+    Ok(())
+}
+
+// The words of a line.
+fn words<'t>(alloc: Global, line: &'t str) -> Result<Vec<&'t str>, AllocError>
+    ensures { IfOk result (λ v.
+        map (λ w. w.now) v.items ≡ slice_split (λ b. b == 32) line.now) }
+{
+    line.split(' ').collect(alloc)
+}
+
+// Adds the call that a line is, if it is one.
+fn push_line<'t>(alloc: Global, calls: &mut Vec<Call<'t>>, line: &'t str) -> Result<(), AllocError>
+    ensures { OnOk result (told calls.new.items ≡ told calls.old.items ++ call_of line.now) }
+{
+    let words = words(alloc, line)?;
+    push_call(alloc, calls, line, &words)
+}
+
+fn lines<'t>(alloc: Global, text: &'t str) -> Result<Vec<&'t str>, AllocError>
+    ensures { IfOk result (λ v. map (λ line. line.now) v.items ≡ lines text.now) }
+{
+    text.lines().collect(alloc)
+}
+
+/// The calls among the lines of a text.
+pub fn calls<'t>(alloc: Global, text: &'t str) -> Result<Vec<Call<'t>>, AllocError>
+    ensures { IfOk result (λ calls. told calls.items ≡ calls_of text.now) }
+{
+    let lines = lines(alloc, text)?;
+    let mut calls = Vec::new(alloc);
+    for line in &lines {
+        push_line(alloc, &mut calls, line)?;
+    }
+    Ok(calls)
+}
+
+/// The number that some digits write, or 0.
+pub fn number(digits: &[u8]) -> usize
+    ensures written { IsNumber digits.now → result ≡ number_of digits.now }
+    ensures other { ¬ (IsNumber digits.now) → result ≡ 0 }
+{
+    let Ok(text) = str::from_utf8(digits) else {
+        return 0;
+    };
+    text.parse::<usize>().unwrap_or(0)
+}

@@ -1,0 +1,196 @@
+//! The calls of a set.
+
+ghost use Rattle.std.specs.Prelude.{◌≡◌, []};
+ghost use Rattle.patricia_tree.specs.Sets as set;
+ghost use Rattle.test_script_support.specs.Answers.{keys_text};
+
+use crate::set_queries;
+use patricia_tree::{BorrowedBytes, Bytes, GenericPatriciaSet};
+use std::alloc::{AllocError, Global};
+use std::fmt::Debug;
+use std::mem;
+use test_script_support::answering::{Answering, Listed, add_entries};
+use test_script_support::answers::{Answers, is_still_whole, outcome};
+use test_script_support::calls::{self, Readable};
+
+type Set<K> = GenericPatriciaSet<K>;
+
+/// A set that answers calls.
+#[derive(Drop)]
+pub(super) struct SetCalls<K: Bytes> {
+    set: Set<K>,
+}
+
+impl<K: Bytes> Listed for SetCalls<K> {
+    ghost IsEmpty = { λ calls. set.elements calls.set ≡ [] };
+
+    ghost listing = { λ calls. keys_text (set.elements calls.set) };
+
+    fn empty(alloc: Global) -> Self {
+        SetCalls {
+            set: GenericPatriciaSet::new(alloc),
+        }
+    }
+
+    fn copied(&self) -> Result<Self, AllocError> {
+        let set = self.set.clone()?;
+        Ok(SetCalls { set })
+    }
+
+    fn add_walked(&self, out: &mut String) -> Result<(), AllocError> {
+        let mut is_whole = true;
+        for element in &self.set {
+            is_whole = is_still_whole(is_whole, set_queries::add_element(element, out), out)?;
+        }
+        outcome(is_whole)
+    }
+}
+
+impl<'a, Q: Readable<'a>> Answering<'a, Q> for SetCalls<Q::Owned>
+where
+    Q::Owned: Debug,
+{
+    fn split(&mut self, prefix: Q) -> Result<Self, AllocError> {
+        let set = self.set.split_by_prefix(prefix)?;
+        Ok(SetCalls { set })
+    }
+
+    fn answer(
+        &mut self,
+        alloc: Global,
+        call: &str,
+        arguments: &'a [Vec<u8>],
+        out: &mut String,
+    ) -> Result<(), AllocError> {
+        match call {
+            "insert" | "remove" => add_changes::<Q>(
+                &mut self.set,
+                call == "insert",
+                arguments,
+                out,
+            ),
+            "extend" | "from_iter" => {
+                put::<Q>(alloc, &mut self.set, arguments, call == "extend")?;
+                add_entries(self, out)
+            }
+            "read" => add_read(alloc, self, arguments, out),
+            "take" => add_taken(
+                mem::replace(&mut self.set, GenericPatriciaSet::new(alloc)),
+                out,
+            ),
+            "clear" => {
+                self.set.clear();
+                Ok(())
+            }
+            _ => set_queries::answer::<Q>(&self.set, call, arguments, out),
+        }
+    }
+}
+
+// Puts each element in, or takes it out.
+fn add_changes<'a, Q: Readable<'a>>(
+    set: &mut Set<Q::Owned>,
+    is_insert: bool,
+    elements: &'a [Vec<u8>],
+    out: &mut String,
+) -> Result<(), AllocError> {
+    for element in elements {
+        if let Some(element) = Q::read(element) {
+            add_change(set, is_insert, element, out)?;
+        }
+    }
+    Ok(())
+}
+
+fn add_change<Q: BorrowedBytes>(
+    set: &mut Set<Q::Owned>,
+    is_insert: bool,
+    element: Q,
+    out: &mut String,
+) -> Result<(), AllocError> {
+    let is_changed = if is_insert {
+        set.insert(element)?
+    } else {
+        set.remove(element)?
+    };
+    out.add_bool(is_changed)
+}
+
+// The arguments are elements.
+fn elements<'a, Q: Readable<'a>>(
+    alloc: Global,
+    arguments: &'a [Vec<u8>],
+) -> Result<Vec<Q>, AllocError> {
+    let mut elements = Vec::new(alloc);
+    for element in arguments {
+        if let Some(element) = Q::read(element) {
+            elements.push(element)?;
+        }
+    }
+    Ok(elements)
+}
+
+// The same. What is refused here is none of the library's, and asked for once more.
+fn elements_again<'a, Q: Readable<'a>>(
+    alloc: Global,
+    arguments: &'a [Vec<u8>],
+) -> Result<Vec<Q>, AllocError> {
+    match elements::<Q>(alloc, arguments) {
+        Ok(elements) => Ok(elements),
+        Err(_) => elements::<Q>(alloc, arguments),
+    }
+}
+
+// Puts elements into the set, or makes it anew of them.
+fn put<'a, Q: Readable<'a>>(
+    alloc: Global,
+    set: &mut Set<Q::Owned>,
+    arguments: &'a [Vec<u8>],
+    is_kept: bool,
+) -> Result<(), AllocError> {
+    let elements = elements_again::<Q>(alloc, arguments)?;
+    if is_kept {
+        return set.extend(elements);
+    }
+    *set = GenericPatriciaSet::from_iter(alloc, elements)?;
+    Ok(())
+}
+
+// So many times nothing, which takes no memory.
+fn nothings(alloc: Global, count: usize) -> Result<Vec<()>, AllocError> {
+    let mut nothings = Vec::new(alloc);
+    for _ in 0..count {
+        nothings.push(())?;
+    }
+    Ok(nothings)
+}
+
+// The elements of a set that is read, or the fault. The second argument says how many values there
+// are, each of which is nothing and takes no memory.
+fn add_read<'a, K: Bytes>(
+    alloc: Global,
+    asked: &mut SetCalls<K>,
+    arguments: &'a [Vec<u8>],
+    out: &mut String,
+) -> Result<(), AllocError> {
+    let [tree, count] = arguments else {
+        return Ok(());
+    };
+    let values = nothings(alloc, calls::number(count))?;
+    match GenericPatriciaSet::from_wire(alloc, tree, values) {
+        Ok(set) => {
+            asked.set = set;
+            add_entries(asked, out)
+        }
+        Err(fault) => out.add_fault(fault),
+    }
+}
+
+// A refused step drops the elements that are left.
+fn add_taken<K: Bytes>(set: Set<K>, out: &mut String) -> Result<(), AllocError> {
+    let mut is_whole = true;
+    for element in set {
+        is_whole = is_still_whole(is_whole, set_queries::add_element(element, out), out)?;
+    }
+    outcome(is_whole)
+}

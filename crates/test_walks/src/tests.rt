@@ -1,0 +1,5 @@
+mod counts;
+mod cursors;
+mod ends;
+mod helpers;
+mod slots;

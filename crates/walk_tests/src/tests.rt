@@ -1,4 +1,0 @@
-mod counts;
-mod ends;
-mod helpers;
-mod slots;
