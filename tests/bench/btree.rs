@@ -1,4 +1,4 @@
-//! btree [times]: what `tree_bench` does, over std's ordered map. Its walk lends the keys.
+//! btree [times]: what `bench_tree` does, over std's ordered map. Its walk lends the keys.
 
 use std::collections::BTreeMap;
 use std::ops::Bound;

@@ -7,11 +7,11 @@ count=${1:-1000000}
 room=$(mktemp -d)
 trap 'rm -rf "$room"' EXIT
 
-if ! (cd crates/tree_bench && rt run) < /dev/null > "$room/log" 2>&1; then
+if ! (cd crates/bench_tree && rt run) < /dev/null > "$room/log" 2>&1; then
     cat "$room/log"
     exit 1
 fi
-cp crates/tree_bench/out/tree_bench "$room/map"
+cp crates/bench_tree/out/bench_tree "$room/map"
 rustc -O --edition 2021 tests/bench/btree.rs -o "$room/btree"
 
 for kind in titles domains hex; do

@@ -1,7 +1,6 @@
-"""What `line_tests` and `set_line_tests` must answer, by the plain model of model.py.
+"""What `test_scripts` must answer, by the plain model of model.py.
 
-    python3 -B tests/oracle/answer_lines.py < crates/line_tests/stdin > crates/line_tests/stdout
-    python3 -B tests/oracle/answer_lines.py < crates/set_line_tests/stdin > crates/set_line_tests/stdout
+    python3 -B tests/oracle/answer_lines.py < crates/test_scripts/stdin > crates/test_scripts/stdout
 """
 import sys
 import unicodedata

@@ -1,6 +1,6 @@
-"""What `wire_answers` must answer, by what a whole tree is and by the table of faults.
+"""What `test_vectors` must answer of tree bytes, by what a whole tree is and by the table of faults.
 
-    python3 -B tests/oracle/answer_readings.py < crates/wire_answers/stdin > crates/wire_answers/stdout
+    python3 -B tests/oracle/answer_readings.py < crates/test_vectors/stdin >> crates/test_vectors/stdout
 
 Bytes are first taken apart to records. Whether records are a whole tree, and which fault stands at
 one, is asked of the records before it each time, with no state kept from one to the next. What a map

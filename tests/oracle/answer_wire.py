@@ -1,6 +1,7 @@
-"""What `wire_rows` must answer, by what the written form is, over dictionaries and sets.
+"""What `test_vectors` must answer of maps and sets, by what the written form is, over dictionaries
+and sets.
 
-    python3 -B tests/oracle/answer_wire.py < crates/wire_rows/stdin > crates/wire_rows/stdout
+    python3 -B tests/oracle/answer_wire.py < crates/test_vectors/stdin > crates/test_vectors/stdout
 
 A tree has a node for each beginning that its keys share, and no other. First come the root and then
 the nodes in key order. Then each label is cut into pieces of at most 255 bytes, and each piece is a
@@ -11,6 +12,7 @@ import sys
 from itertools import groupby
 from model import common, first_item, floor_boundary, is_valid, rows
 
+CALLS = 'tree', 'size', 'json'
 VALUE, CHILD, SIBLING = 1 + 2, 4 + 8, 16 + 32
 
 
@@ -157,7 +159,7 @@ def set_answers(kind, call, steps):
 def main():
     for line in sys.stdin.read().split('\n')[:-1]:
         kind, *rest = line.split(' ')
-        if kind not in ('bytes', 'text') or not rest:
+        if kind not in ('bytes', 'text') or not rest or rest[0] not in CALLS:
             continue
         steps = [step for step in map(read, rest[1:]) if is_valid(step[1], kind)]
         answers = map_answers(kind, rest[0], steps) + set_answers(kind, rest[0], steps)

@@ -1,4 +1,4 @@
-"""Makes calls over the decimal texts below ten thousand, which `line_tests` reads.
+"""Makes calls over the decimal texts below ten thousand, which `test_scripts` reads.
 
     python3 -B tests/oracle/make_decimals.py > FILE
 

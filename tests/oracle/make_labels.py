@@ -1,4 +1,4 @@
-"""Makes calls over labels of each length that matters, which `line_tests` reads.
+"""Makes calls over labels of each length that matters, which `test_scripts` reads.
 
     python3 -B tests/oracle/make_labels.py > FILE
 

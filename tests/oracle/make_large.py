@@ -7,8 +7,8 @@ entries would meet its contract, so these inputs make each command and each call
 more entries than such a number is likely to be. They run with all the memory there is, so that no
 answer is an allocation failure.
 
-ptree.in is for `ptree bytes`, maps.in for `line_tests` and sets.in for `set_line_tests`. Each NAME.out
-is the answer by the plain models, model.py and answer_lines.py.
+ptree.in is for `ptree bytes`, maps.in and sets.in for `test_scripts`. Each NAME.out is the answer by
+the plain models, model.py and answer_lines.py.
 """
 import os
 import sys

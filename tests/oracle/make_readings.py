@@ -1,6 +1,6 @@
-"""Makes the lines of tree bytes and values that `wire_answers` reads.
+"""Makes the lines of tree bytes and values with which the input of `test_vectors` ends.
 
-    python3 -B tests/oracle/make_readings.py > crates/wire_answers/stdin
+    python3 -B tests/oracle/make_readings.py >> crates/test_vectors/stdin
 
 First the lines that somebody thought of, then writings by chance, whole ones and damaged ones, from a
 fixed seed. What must be answered is what answer_readings.py says.

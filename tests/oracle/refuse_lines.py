@@ -2,7 +2,7 @@
 
     python3 -B tests/oracle/refuse_lines.py PROGRAM SHIM maps|sets
 
-PROGRAM is `line_tests`, which answers calls of maps, or `set_line_tests`, which answers those of sets.
+PROGRAM is `test_scripts`, which answers calls of maps and of sets.
 SHIM is tests/refusal/refuse.c as a shared library. Each script is run alone. At first a run may end
 with a status that is not 0 and no answers, since the program reads its input to its end before it
 answers. From the first call on that is refused, each run ends with 0. Such a run writes the answers of
