@@ -8,8 +8,8 @@
                                                    meanwhile, each crate once the log says that it is
                                                    proved; else over those that rt left in out/
 
-The edits of the crates that users name are due at each commit. The other crates are in three parts, one of
-which is due: the one with the number of commits modulo three.
+The edits of the crates that users name are due at each commit. Of those of each other crate every third is due,
+counted on from the number of commits modulo three.
 
 It tries the edits of crates/*/must-fail, those of different functions in one check.
 A function is proved from its own code and from the promises of those that it calls. So an edit of code opens
@@ -25,13 +25,18 @@ A goal without a written answer that the prover's search leaves open may be true
 named by what the edit brought in. So where an edit has no other, the prover must show values at which it is
 false, or the right body must have a goal of that name; an edit with neither is listed at the end, to be read.
 The last line sums all: 'N passed, M failed'.
+
+What a check of the crate as it stands proves is kept, and each check with edits begins with a copy of it, so that
+it proves again only what the edits turn. A crate with one such check alone has no copy made.
 """
 import argparse
 import os
 import re
+import shutil
 import subprocess
 import sys
 import tempfile
+import threading
 import time
 from concurrent.futures import ThreadPoolExecutor
 from typing import NamedTuple
@@ -39,14 +44,14 @@ from typing import NamedTuple
 ROOT = os.path.dirname(os.path.dirname(os.path.abspath(__file__)))
 SIDE_BY_SIDE = 4
 MOST_IN_ONE = 16
-FEW = 9
+MOST_WITHOUT_SEED = 3
 NAMED_BY_USERS = 'patricia_tree', 'patricia_run'
 PARTS_OF_EDITS = 3
-FIXED_COST = 8
+HEAD = 9
 TO_READ = 'TO READ:'
 SEARCHED = 'it is not proved that'
 SHOWN_FALSE = 'allow values at which this goal is false'
-ASKED_FOR = re.compile('rattle asks for (.*?);')
+ASKED_FOR = re.compile(r'^pub (\S+) : goal\.', re.M)
 SAID = re.compile(r'(?:note: )?(?:\./)?(\S+?):(\d+):\d+: (.*)')
 NAMES = re.compile(r'has no field|\(nearest: |is not in scope|has no `|was not admitted|is no name|operand is missing'
                    '|expected the end|cannot continue')
@@ -67,12 +72,6 @@ class Function(NamedTuple):
     module: str
     owner: str
     name: str
-
-    def proofs(self):
-        """The folder of its proof."""
-        module = '' if self.module == 'lib' else self.module
-        owner = '' if self.owner == self.module.split('/')[-1] else self.owner
-        return '/'.join(filter(None, ['proofs', module, owner, self.name]))
 
     def marks(self):
         """By which it is told from the other functions that are tried with it."""
@@ -118,7 +117,7 @@ def function_at(file, lines, number):
     for n, line in enumerate(lines[:number]):
         head = FUNCTION.match(line)
         if re.match('impl|(pub )?trait', line):
-            around = owner_in(' '.join(x.strip() for x in lines[n:n + 3]).split('{')[0])
+            around = owner_in(' '.join(x.strip() for x in lines[n:n + HEAD]).split('{')[0])
         if head:
             found = Function(module, around if head[1] else module.split('/')[-1], head[2])
             in_code = line.endswith('{') and not line.startswith(' ' * 9)
@@ -278,7 +277,6 @@ class Check:
         self.last = lines[-1]
         # the prover breaks a long message into lines, of which all but the first begin with two spaces
         messages = re.sub('\n {2}(?! )', ' ', ran.stdout.rstrip()).split('\n')
-        self.messages = messages
         self.said = [x for x in map(SAID.match, messages) if x]
 
     def is_refused(self):
@@ -292,9 +290,7 @@ class Check:
         if file.startswith('src/') and file in self.texts:
             function, _ = function_at(file, self.texts[file].split('\n'), int(number))
             return function.marks() if function else set()
-        *module, owner, name, _ = [''] * 3 + file.removeprefix('proofs/').split('/')
-        name = name.removeprefix('+')
-        return {('/'.join(filter(None, module)), name), (owner or 'lib', name)}
+        return marks_of_proof(os.path.dirname(file.removeprefix('proofs/')))
 
     def goals(self, marks):
         """The goals that fail by their meaning: those of functions with these marks, or all where none is given."""
@@ -306,9 +302,19 @@ class Check:
         return [Goal(x[1], x[2], (re.search('`([^`]*)`', x[3]) or [0, x[3]])[1][:80],
                      SEARCHED in x[3] and SHOWN_FALSE not in x[3]) for x in told]
 
-    def asked_for(self):
-        """The names of the goals that the functions with a made-up answer have."""
-        return {name for x in self.messages for names in ASKED_FOR.findall(x) for name in re.findall('`([^`]*)`', names)}
+    def missed(self):
+        """Why an edit with no such goal is no good."""
+        if not self.is_refused():
+            return 'NOT REFUSED: %s' % self.last[:100]
+        said = '; '.join(x[0] for x in self.said[:2])
+        return 'REFUSED BY NAMES ALONE: it says little of the contract: %s' % said
+
+
+def marks_of_proof(folder):
+    """The marks of the function whose proof stands in this folder of proofs/."""
+    *module, owner, name = ['', '', *folder.split('/')]
+    name = name.removeprefix('+')
+    return {('/'.join(filter(None, module)), name), (owner or 'lib', name)}
 
 
 def marks_of(functions):
@@ -342,49 +348,48 @@ def checked(words, crate, texts, functions):
 
 
 def right_goals(words, crate, functions):
-    """The names of the goals of functions as they are, which the prover lists where an answer has no goal."""
-    texts = {}
-    for function in functions:
-        path = function.proofs()
-        head = 'use Rattle.%s.%s.Goals as goal' % (crate.name, path.replace('/', '.'))
-        texts[path + '/Answers.antt'] = head + '\n\npub made-up : goal.made-up\nmade-up c = ?\n'
-    return Check(words, crate, texts, functions).asked_for()
+    """The names of the goals that functions have as they stand, by the marks of each."""
+    started = [x for function in sorted(functions) for x in ('--start', crate.path_to(function))]
+    found = {}
+    with tempfile.TemporaryDirectory(prefix='must-fail-') as room:
+        subprocess.run([*words, *started, '--generated', room], cwd=crate.folder, stdin=subprocess.DEVNULL,
+                       stdout=subprocess.DEVNULL, stderr=subprocess.DEVNULL, check=False)
+        top = os.path.join(room, 'Rattle-%s-proofs' % crate.name)
+        for at, _, files in os.walk(top):
+            names = {name for x in files for name in ASKED_FOR.findall(read(os.path.join(at, x)))}
+            for mark in marks_of_proof(os.path.relpath(at, top)):
+                found.setdefault(mark, set()).update(names)
+    return found
 
 
-def doubt(words, edit, crate, goals):
+def doubt(functions, goals, right):
     """Why goals that no answer is written for do not tell that an edit is refused by its meaning, if they don't."""
-    functions = edit.functions(crate)
-    if not functions or not goals or not all(x.is_open for x in goals):
+    if not functions or not all(x.is_open for x in goals):
         return None
     # a goal of several clauses is told clause by clause, or as one
     whole = lambda names: {x.partition('-clause-')[0] for x in names}
-    if whole(x.name for x in goals) & whole(right_goals(words, crate, functions)):
+    if whole(x.name for x in goals) & whole(name for x in marks_of(functions) for name in right.get(x, ())):
         return None
     return '%s the right body has no goal of these names: %s' % (TO_READ, '; '.join(map(str, goals[:3])))
 
 
-def alone(words, edit, crate):
-    """What an edit leaves open by itself, and why it is no good, if it is none."""
-    texts = edit.applied({}, crate)
-    if texts is None:
-        return [], 'DOES NOT APPLY'
-    functions = edit.functions(crate)
-    check = checked(words, crate, texts, functions)
-    goals = check.goals(marks_of(functions))
-    if goals:
-        return goals, doubt(words, edit, crate, goals)
-    if not check.is_refused():
-        return [], 'NOT REFUSED: %s' % check.last[:100]
-    return [], 'REFUSED BY NAMES ALONE: it says little of the contract: %s' % '; '.join(x[0] for x in check.said[:2])
-
-
 def judged(words, pack, functions, texts, crate):
-    """The same for each edit of a pack."""
-    check = checked(words, crate, texts, functions) if len(pack) > 1 else None
-    for edit in pack:
-        goals = check.goals(marks_of(edit.functions(crate))) if check else []
-        why = doubt(words, edit, crate, goals)
-        yield edit, *((goals, None) if goals and not why else alone(words, edit, crate))
+    """Says of each edit of a pack which goals it leaves open, and why it is no good, if it is none."""
+    check = checked(words, crate, texts, functions)
+    found = [(edit, check.goals(marks_of(edit.functions(crate)))) for edit in pack]
+    asked = {x for edit, goals in found if goals and all(goal.is_open for goal in goals)
+             for x in edit.functions(crate)}
+    right = right_goals(words, crate, asked) if asked else {}
+    for edit, goals in found:
+        alone = edit.applied({}, crate)
+        if alone is None:
+            yield edit, [], 'DOES NOT APPLY'
+        elif goals:
+            yield edit, goals, doubt(edit.functions(crate), goals, right)
+        elif len(pack) > 1:
+            yield from judged(words, [edit], edit.functions(crate), alone, crate)
+        else:
+            yield edit, [], check.missed()
 
 
 class Libraries:
@@ -402,16 +407,15 @@ class Libraries:
             return os.path.join(self.folder, 'crates', name, 'out', 'rlib', name + '.rlib')
         return '%s/rlibs/%s.rlib' % (self.kit, name)
 
+    def are_known(self, crate):
+        """Whether it is known by now if a crate is proved."""
+        known = r'^rt: %s (proved|is kept: .*|NOT PROVED.*)$|^rt ci has ended$' % crate.name
+        return not self.log or bool(re.search(known, read(self.log), re.M))
+
     def are_there(self, crate):
-        """Whether a crate is proved, and what stands below it, once that is known."""
-        while self.log:
-            text = read(self.log)
-            if re.search('^rt: %s proved$' % crate.name, text, re.M):
-                break
-            if re.search('^rt: %s NOT PROVED|^rt ci has ended$' % crate.name, text, re.M):
-                return False
-            time.sleep(2)
-        return all(os.path.isdir(self.built(x)) for x in crate.below(self.crates))
+        """Whether a crate is proved, and what stands below it."""
+        is_proved = not self.log or re.search('^rt: %s (proved$|is kept: )' % crate.name, read(self.log), re.M)
+        return bool(is_proved) and all(os.path.isdir(self.built(x)) for x in crate.below(self.crates))
 
     def words(self, crate, kept):
         """The command that checks a crate over what it proved before."""
@@ -425,26 +429,62 @@ class Libraries:
         return [*words, '--incremental', kept]
 
 
-def told(crate, those, libraries):
-    """Tries packs of edits of a crate in turn, and says of each edit whether it is good."""
-    if not libraries.are_there(crate):
-        edits = [edit for pack, _, _ in those for edit in pack]
-        return [say(crate, edit.name, 'ITS CRATE IS NOT PROVED') for edit in edits]
-    with tempfile.TemporaryDirectory(prefix='must-fail-') as kept:
-        words = libraries.words(crate, kept)
-        judgements = [x for pack in those for x in judged(words, *pack, crate)]
-    return [say(crate, edit.name, why, goals) for edit, goals, why in judgements]
+class Work:
+    """What is tried of a crate: lists of packs of edits, and lines."""
 
+    def __init__(self, crate, edits, libraries, room):
+        self.crate = crate
+        self.libraries = libraries
+        self.seed = os.path.join(room, crate.name)
+        self.packs = packs(edits, crate)
+        self.held = list(crate.held_lines())
+        # a check of the crate as it stands is worth its time from the third on
+        self.is_seeded = len(self.packs) < MOST_WITHOUT_SEED
+        os.mkdir(self.seed)
 
-def told_of_lines(crate, held, libraries):
-    """Puts in each of these lines by itself, and says of each whether it breaks the rules of borrows."""
-    are_there = libraries.are_there(crate)
-    with tempfile.TemporaryDirectory(prefix='must-fail-') as kept:
-        words = libraries.words(crate, kept)
-        for file, number, text in held:
-            said = Check(words, crate, {file: text}, ()).said if are_there else []
+    def jobs(self):
+        """The parts that are tried side by side, each as a call that gives what is told, and a call that says if it
+        may begin."""
+        made = [self.packs] if self.is_seeded else [[x] for x in self.packs]
+        is_known = lambda: self.libraries.are_known(self.crate)
+        yield from [(is_known, self.begin)] * (not self.is_seeded)
+        yield from [(is_known, self.told_of_lines)] * bool(self.held)
+        for those in made if self.packs else []:
+            yield (lambda: is_known() and self.is_seeded), lambda those=those: self.told(those)
+
+    def begin(self):
+        """Proves the crate as it stands: what is kept of that is the seed."""
+        if self.libraries.are_there(self.crate):
+            Check(self.libraries.words(self.crate, self.seed), self.crate, {}, ())
+        self.is_seeded = True
+        return []
+
+    def told(self, those):
+        """Tries packs of edits in turn, and says of each edit whether it is good."""
+        if not self.libraries.are_there(self.crate):
+            return [say(self.crate, x.name, 'ITS CRATE IS NOT PROVED') for pack, _, _ in those for x in pack]
+        with tempfile.TemporaryDirectory(prefix='must-fail-') as room:
+            words = self.libraries.words(self.crate, linked(self.seed, os.path.join(room, 'kept')))
+            judgements = [x for pack in those for x in judged(words, *pack, self.crate)]
+        return [say(self.crate, edit.name, why, goals) for edit, goals, why in judgements]
+
+    def told_of_lines(self):
+        """Puts in each of the lines by itself, and says of each whether it breaks the rules of borrows."""
+        are_there = self.libraries.are_there(self.crate)
+        told = []
+        for file, number, text in self.held:
+            words = self.libraries.words(self.crate, self.seed)
+            said = Check(words, self.crate, {file: text}, ()).said if are_there else []
             errors = [x[0] for x in said if x[1] == file and x[3].startswith(BORROWED_TWICE)]
-            yield say(crate, 'line %d of %s' % (number, file), None if errors else 'NOT REFUSED', errors)
+            why = None if errors else 'NOT REFUSED'
+            told.append(say(self.crate, 'line %d of %s' % (number, file), why, errors))
+        return told
+
+
+def linked(folder, to):
+    """Copies what was kept, and returns where to. What was proved is linked: a check replaces such a file."""
+    copy = lambda one, other: os.link(one, other) if one.endswith('.oantt') else shutil.copy2(one, other)
+    return shutil.copytree(folder, to, copy_function=copy)
 
 
 def say(crate, what, why, goals=()):
@@ -453,31 +493,37 @@ def say(crate, what, why, goals=()):
     return Told(told, not why, bool(why) and why.startswith(TO_READ))
 
 
-def tasks(crate):
-    """What is tried of a crate, in parts that are tried side by side: large packs alone."""
-    made = packs(crate.edits(), crate)
-    small = [x for x in made if len(x[0]) < FEW]
-    held = list(crate.held_lines())
-    parts = [(told, [x]) for x in made if len(x[0]) >= FEW]
-    return [*parts, *[(told, small)] * bool(small), *[(told_of_lines, held)] * bool(held)]
+def done(jobs):
+    """Does all jobs, some side by side, each as soon as it may begin, and returns what they tell."""
+    told, waiting, taking = [], list(jobs), threading.Lock()
+
+    def work():
+        while waiting:
+            with taking:
+                ready = next((x for x in waiting if x[0]()), None)
+                if ready:
+                    waiting.remove(ready)
+            if ready:
+                told.extend(ready[1]())
+            else:
+                time.sleep(2)
+
+    with ThreadPoolExecutor(SIDE_BY_SIDE) as pool:
+        for ended in [pool.submit(work) for _ in range(SIDE_BY_SIDE)]:
+            ended.result()
+    return told
 
 
-def part(crates, number):
-    """The names of the crates of a part: those with most edits are dealt out first, each to the lightest part."""
-    parts = [[] for _ in range(PARTS_OF_EDITS)]
-    weights = {x: len(crate.edits()) + FIXED_COST for x, crate in crates.items() if crate.edits()}
-    for name in sorted(weights, key=lambda x: (-weights[x], x)):
-        if name not in NAMED_BY_USERS:
-            min(parts, key=lambda names: sum(weights[x] for x in names)).append(name)
-    return parts[number % PARTS_OF_EDITS]
+def is_due(crate, at, count):
+    """Whether the edit at this place of a crate's edits is due at a number of commits."""
+    return crate.name in NAMED_BY_USERS or at % PARTS_OF_EDITS == count % PARTS_OF_EDITS
 
 
-def due(crates):
-    """The names of the crates whose edits are due at this commit."""
+def commits():
+    """The number of commits."""
     count = subprocess.run(['git', 'rev-list', '--count', 'HEAD'], cwd=ROOT, stdout=subprocess.PIPE, check=True)
-    names = part(crates, int(count.stdout))
-    print('must-fail: part %d of %d: %s' % (int(count.stdout) % PARTS_OF_EDITS + 1, PARTS_OF_EDITS, ' '.join(names)))
-    return {*NAMED_BY_USERS, *names}
+    print('must-fail: part %d of %d' % (int(count.stdout) % PARTS_OF_EDITS + 1, PARTS_OF_EDITS), flush=True)
+    return int(count.stdout)
 
 
 def main():
@@ -488,11 +534,12 @@ def main():
     asked = parser.parse_args()
     crates = all_crates()
     libraries = Libraries(crates, *asked.beside)
-    named = crates if asked.all else asked.crates or due(crates)
-    tried = [(try_them, crate, those) for name, crate in crates.items() if name in named
-             for try_them, those in tasks(crate)]
-    with ThreadPoolExecutor(SIDE_BY_SIDE) as pool:
-        said = [x for found in pool.map(lambda x: list(x[0](x[1], x[2], libraries)), tried) for x in found]
+    count = None if asked.all or asked.crates else commits()
+    tried = {name: [x for at, x in enumerate(crate.edits()) if count is None or is_due(crate, at, count)]
+             for name, crate in crates.items() if name in (asked.crates or crates)}
+    with tempfile.TemporaryDirectory(prefix='must-fail-') as room:
+        works = [Work(crates[name], edits, libraries, room) for name, edits in tried.items()]
+        said = done(job for work in works for job in work.jobs())
     good = [x.is_good or x.is_to_read for x in said]
     print('to be read: %d' % sum(x.is_to_read for x in said), *(x.line for x in said if x.is_to_read), sep='\n')
     print('%d passed, %d failed' % (sum(good), len(good) - sum(good)))
