@@ -17,11 +17,11 @@ goals of the function in which it stands, and of no other. And an edit of a prom
 specs/, opens goals of the function that promises it alone, where nothing else names the function or the word.
 Any other edit is tried by itself, and so is one that opens no goal in its function.
 
-Each line of a crate's code that a comment 'refused:' holds is tried too: put in, it breaks the rules of borrows.
+Each line of a crate's code that a comment 'refused:' holds is tried too: as code, it breaks the rules of borrows.
 
 An edit is good if a goal fails by its meaning. One that is refused only because a proof file names what
 the edit took away shows nothing: these are listed, with those that are proved and those that do not apply.
-A goal without a written answer that the prover's search leaves open may be true of the turned body, and
+A goal without a hand-written proof that the prover's search leaves open may be true of the turned body, and
 named by what the edit brought in. So where an edit has no other, the prover must show values at which it is
 false, or the right body must have a goal of that name; an edit with neither is listed at the end, to be read.
 The last line sums all: 'N passed, M failed'.
@@ -56,6 +56,7 @@ SAID = re.compile(r'(?:note: )?(?:\./)?(\S+?):(\d+):\d+: (.*)')
 NAMES = re.compile(r'has no field|\(nearest: |is not in scope|has no `|was not admitted|is no name|operand is missing'
                    '|expected the end|cannot continue')
 FUNCTION = re.compile(r'^( *)(?:pub(?:\([a-z]+\))? )?fn (\w+)')
+COMMENT = re.compile('//.*')
 DEFINED = re.compile(r'^ *(?:abbrev )?(?:pub )?(\w+) : ')
 PARTS = 'src', 'specs', 'proofs'
 HELD = '// refused: '
@@ -189,7 +190,7 @@ class Crate:
         return [Edit(os.path.join(there, x)) for x in names if not x.endswith('.md')]
 
     def held_lines(self):
-        """The file and the number of each line that a comment 'refused:' holds, and the text with it put in."""
+        """The file and the number of each line that a comment 'refused:' holds, and the text with it as code."""
         for file, text in self.texts.items():
             lines = text.split('\n')
             for n, line in enumerate(lines):
@@ -208,7 +209,8 @@ class Crate:
     def is_named_once(self, function):
         """Whether no text but its own line and its own proof names a function."""
         word, own = re.compile(r'\b%s\b' % function.name), '/%s/' % function.name
-        return sum(len(word.findall(text)) for path, text in self.texts.items() if own not in path) == 1
+        texts = [COMMENT.sub('', text) for path, text in self.texts.items() if own not in path]
+        return sum(len(word.findall(x)) for x in texts) == 1
 
     def promised_by(self, word):
         """The functions that promise a word, or none where another definition or a proof names it."""
@@ -217,7 +219,7 @@ class Crate:
             lines = text.split('\n')
             for n, line in enumerate(lines):
                 is_its_own = re.match(r' *(abbrev |pub |(ghost )?use )*(Rattle.*{.*)?\b%s\b' % word, line)
-                if re.search(r'\b%s\b' % word, line) and not is_its_own:
+                if re.search(r'\b%s\b' % word, COMMENT.sub('', line)) and not is_its_own:
                     function, in_code = function_at(path, lines, n + 1)
                     if in_code or not function or not path.startswith('src/'):
                         return set()
@@ -469,7 +471,7 @@ class Work:
         return [say(self.crate, edit.name, why, goals) for edit, goals, why in judgements]
 
     def told_of_lines(self):
-        """Puts in each of the lines by itself, and says of each whether it breaks the rules of borrows."""
+        """Makes code of each of the lines by itself, and says of each whether it breaks the rules of borrows."""
         are_there = self.libraries.are_there(self.crate)
         told = []
         for file, number, text in self.held:

@@ -31,7 +31,7 @@ def title(source):
 
 
 def domain(source):
-    """A domain with its parts turned round."""
+    """A domain with its parts reversed."""
     parts = [frequent(source, ENDINGS), name(source, 3, 12)]
     if source.random() < 0.7:
         parts.append(frequent(source, HOSTS))

@@ -89,7 +89,7 @@ def whole_answers(m, call, words, shown_entry=row):
 
 
 def prefix_answers(m, kind, call, words):
-    """The answers to a call about beginnings of keys, or None for another call."""
+    """The answers to a call about prefixes of keys, or None for another call."""
     if call == 'reach':
         return [str(max((common(key, k, kind) for k in m), default=0)) for key in words]
     if call not in ('longest', 'along', 'along_values', 'along_owned', 'under'):

@@ -152,7 +152,7 @@ def changes(kind, b, values):
 
 
 def cuts(kind, b, values):
-    """The answers for each beginning but the whole."""
+    """The answers for each prefix but the whole."""
     return ', '.join(answer(kind, b[:n], values) for n in range(len(b)))
 
 

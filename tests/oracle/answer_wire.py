@@ -3,7 +3,7 @@ and sets.
 
     python3 -B tests/oracle/answer_wire.py < crates/test_vectors/stdin > crates/test_vectors/stdout
 
-A tree has a node for each beginning that its keys share, and no other. First come the root and then
+A tree has a node for each prefix that its keys share, and no other. First come the root and then
 the nodes in key order. Then each label is cut into pieces of at most 255 bytes, and each piece is a
 record.
 """
@@ -120,7 +120,7 @@ def read(word):
     return word[0], key, int(value or 0)
 
 
-def beginnings(key, kind):
+def prefixes_of(key, kind):
     return [key[:n] for n in range(1, len(key) + 1) if is_valid(key[:n], kind)]
 
 
@@ -130,7 +130,7 @@ def map_answers(kind, call, steps):
         if sign == '+':
             m[key] = value
         elif sign == '^':
-            m.update((front, value) for front in beginnings(key, kind))
+            m.update((front, value) for front in prefixes_of(key, kind))
         elif sign == '-':
             m.pop(key, None)
         else:
@@ -146,7 +146,7 @@ def set_answers(kind, call, steps):
         if sign == '+':
             s.add(key)
         elif sign == '^':
-            s.update(beginnings(key, kind))
+            s.update(prefixes_of(key, kind))
         elif sign == '-':
             s.discard(key)
         else:

@@ -2,8 +2,8 @@
 
     python3 -B tests/oracle/make_decimals.py > FILE
 
-The even numbers are put in, and then the odd ones. The even ones are taken out, each asked for
-twice, and put in again. Then each walk gives all entries. What must be answered is what
+The even numbers are inserted, and then the odd ones. The even ones are removed, each asked for
+twice, and inserted again. Then each walk gives all entries. What must be answered is what
 answer_lines.py says.
 """
 EVEN = range(0, 10_000, 2)

@@ -2,10 +2,10 @@
 
     python3 -B tests/oracle/make_deep.py FOLDER
 
-bytes.in has 8,000 keys, each a beginning of the next, and text.in 30,000 keys of one character.
-They are put in from the last to the first, looked up, asked for what is under and along the last,
-listed, written, read again, and taken out, the byte keys from the longest, so that each removal goes
-down to the last node, and the texts from the least. Then they are put in again and copied, the tree
+bytes.in has 8,000 keys, each a prefix of the next, and text.in 30,000 keys of one character.
+They are inserted from the last to the first, looked up, asked for what is under and along the last,
+listed, written, read again, and removed, the byte keys from the longest, so that each removal goes
+down to the last node, and the texts from the least. Then they are inserted again and copied, the tree
 is split at the key in the middle, which drops the copy, what was taken is copied and written, and the
 two maps are dropped at the end. The byte keys end with one so long that its tree is too deep to be
 written, and so to be read again.

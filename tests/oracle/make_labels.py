@@ -4,7 +4,7 @@
 
 A label of at most 30 bytes stands in its node, and a longer one in memory of its own. Labels of 1
 to 33 bytes, and of about 255, are linked before, behind and below others, cut, joined again, looked
-up, walked over, along and under, copied, parted by prefixes, and taken out. What must be answered is
+up, walked over, along and under, copied, split by prefixes, and removed. What must be answered is
 what answer_lines.py says.
 """
 LENGTHS = [*range(1, 34), *range(254, 258)]
@@ -97,8 +97,8 @@ def cut(items, at):
     ]
 
 
-def parted(items, at):
-    """A branch is taken out, so that a label is joined again, and then what begins as the branch."""
+def split_and_removed(items, at):
+    """A branch is removed, so that a label is joined again, and then what begins as the branch."""
     whole, front, rest = key(items), key(items[:at]), items[at:]
     branch = front + greater(rest[0])
     near = ' '.join([whole, front, branch])
@@ -121,7 +121,7 @@ def calls(kind, length):
     for at in range(1, len(items)):
         front = len(key(items[:at]).encode())
         if length <= 33 or front in NEAR or length - front in NEAR:
-            answers += cut(items, at) + parted(items, at)
+            answers += cut(items, at) + split_and_removed(items, at)
     return answers
 
 

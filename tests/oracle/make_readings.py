@@ -2,7 +2,7 @@
 
     python3 -B tests/oracle/make_readings.py >> crates/test_vectors/stdin
 
-First the lines that somebody thought of, then writings by chance, whole ones and damaged ones, from a
+First the lines that somebody thought of, then encodings by chance, whole ones and damaged ones, from a
 fixed seed. What must be answered is what answer_readings.py says.
 """
 import random
@@ -78,13 +78,13 @@ def readings():
 
 
 def changed():
-    """One byte of the writing of bar, baz and foo is another."""
+    """One byte of the encoding of bar, baz and foo is another."""
     for at, byte in ((0, 8), (0, 4), (4, 28), (8, 103), (10, 3), (10, 48), (13, 1), (20, 1), (21, 4), (21, 2)):
         yield from both([*THREE[:at], byte, *THREE[at + 1:]], 2, 3, 1)
 
 
 def sweeps():
-    """Each byte of a writing is each other byte, and each beginning is read."""
+    """Each byte of an encoding is each other byte, and each prefix is read."""
     for call in ('changes', 'cuts'):
         yield line('bytes', call, THREE, [2, 3, 1])
         yield line('bytes', call, EMPTY_AND_A, [1, 2])
@@ -196,13 +196,13 @@ def damage(rng, tree):
 
 
 def some_lines(rng):
-    """A writing of some keys by chance, the writing itself, and the same with damages."""
+    """An encoding of some keys by chance, the encoding itself, and the same with damages."""
     kind = rng.choice(['bytes', 'text'])
     keys = some_keys(rng, kind)
     values = [rng.randrange(1000) for _ in keys]
-    loose, tight = some_writing(rng, keys, kind), list(tree_bytes(keys, kind))
-    yield line(kind, 'read', loose, values)
-    for tree in loose, tight:
+    other, tight = some_writing(rng, keys, kind), list(tree_bytes(keys, kind))
+    yield line(kind, 'read', other, values)
+    for tree in other, tight:
         for _ in range(4):
             damaged = damage(rng, damage(rng, tree) if rng.random() < 0.3 else tree)
             changed_values = values[rng.random() < 0.1:] + [7] * (rng.random() < 0.2)

@@ -92,13 +92,13 @@ WALKED = [
 # The empty one, one at a node without value and one at a node with one, two that end inside a
 # label of at most 30 bytes and inside a longer one, two below a long label, and two with nothing
 # under them.
-BEGINNINGS = [
+PREFIXES = [
     '', 'ba', 'bar', 'baza', 'foo-foo-f', 'foo-' * 9 + 'baz-baz', 'foo-' * 9 + 'ba', 'foo-foo-bar',
     'zebras',
 ]
 
 # Two part behind 20 bytes, and the last goes on behind 48.
-PARTED = ['', 'a', 'ab', 'x' * 20 + 'y' * 20, 'x' * 20 + 'z' * 20, 'い' * 16, 'い' * 16 + 'ろ']
+SPLIT = ['', 'a', 'ab', 'x' * 20 + 'y' * 20, 'x' * 20 + 'z' * 20, 'い' * 16, 'い' * 16 + 'ろ']
 
 # The empty one, one of a row, one with nothing under it, one that leaves one of two children, so
 # that labels are joined to one of 40 bytes, one inside a label of 48 bytes, and one below it.
@@ -137,10 +137,10 @@ MAP_SCRIPTS = [
     ['extend ' + pairs(CUT), *['insert ' + word for word in numbered(MANY)], 'len', 'iter'],
     ['from_iter ' + pairs(JOINED), 'remove い z', 'insert x 7', *one_by_one('remove', texts(JOINED)),
      'remove x', 'len'],
-    ['from_iter ' + pairs(WALKED), 'iter', 'keys', 'values', *['under ' + word for word in texts(BEGINNINGS)],
+    ['from_iter ' + pairs(WALKED), 'iter', 'keys', 'values', *['under ' + word for word in texts(PREFIXES)],
      'along_owned bazaars', 'copy あい ' + LONG, 'take', 'iter'],
-    [line for word in texts(PARTING) for line in ('from_iter ' + pairs(PARTED), 'split ' + word)],
-    ['from_iter ' + pairs(PARTED), 'split_off ' + 'x' * 20, 'iter', 'insert * 1', 'split_off *', 'clone',
+    [line for word in texts(PARTING) for line in ('from_iter ' + pairs(SPLIT), 'split ' + word)],
+    ['from_iter ' + pairs(SPLIT), 'split_off ' + 'x' * 20, 'iter', 'insert * 1', 'split_off *', 'clone',
      'clear', 'clone'],
     ['from_iter ' + pairs(COPIED), 'clone', 'clone', 'remove foo', 'clone', 'iter'],
     ['extend ' + pairs(PUT), 'iter', 'extend x 20 foobar 21', 'extend x 30 xa 31 xb 32 y 33 xaz 34 い 35', 'iter',
@@ -155,7 +155,7 @@ SET_SCRIPTS = [
     [*one_by_one('insert', texts(ELEMENTS)), 'insert あ', 'remove い', *one_by_one('remove', texts(ELEMENTS)), 'len'],
     ['extend ' + ' '.join(texts(ELEMENTS)), 'iter', 'clone', 'split あ', 'split x', 'split *', 'clone',
      'from_iter ' + ' '.join(texts(ELEMENTS)), 'extend y あ ya yb yc yd ye', 'split_off ' + 'x' * 20, 'iter'],
-    ['extend ' + ' '.join(texts(WALKED)), 'iter', *['under ' + word for word in texts(BEGINNINGS)], 'take', 'iter'],
+    ['extend ' + ' '.join(texts(WALKED)), 'iter', *['under ' + word for word in texts(PREFIXES)], 'take', 'iter'],
     ['extend ' + ' '.join(texts(WRITTEN)), 'debug', 'debug'],
     ['extend ' + ' '.join(DEEP), 'tree', 'tree', 'iter'],
     ['insert x', 'read %s 7' % TREE, 'read %s 7' % TREE, 'read %s 6' % TREE, 'iter'],
@@ -182,7 +182,7 @@ def lists(call, answered):
 
 
 def put_in(kind, words):
-    """The pairs that a call puts in. An element of a set has 0 behind it."""
+    """The pairs that a call inserts. An element of a set has 0 behind it."""
     if kind.endswith('_set'):
         return [(word, 0) for word in words]
     return [(key, int(value)) for key, value in zip(words[::2], words[1::2])]

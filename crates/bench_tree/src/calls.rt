@@ -52,7 +52,7 @@ fn longest<Q: BorrowedBytes>(map: &GenericPatriciaMap<Q::Owned, u64>, key: Q) ->
     }
 }
 
-// Whether a key was there that is taken out, as a number.
+// Whether a key that is removed was there, as a number.
 fn taken<Q: BorrowedBytes>(
     map: &mut GenericPatriciaMap<Q::Owned, u64>,
     key: Q,
@@ -61,7 +61,7 @@ fn taken<Q: BorrowedBytes>(
     Ok(u64::from(old.is_some()))
 }
 
-// Makes a call for one key, which puts the value in if it puts one in.
+// Makes a call for one key, which inserts the value if it inserts one.
 fn call_one<Q: BorrowedBytes>(
     map: &mut GenericPatriciaMap<Q::Owned, u64>,
     call: Each,

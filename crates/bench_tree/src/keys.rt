@@ -1,7 +1,7 @@
 //! The keys of the input, and their order.
 use std::alloc::{AllocError, Global};
 
-/// The keys that are put in and those that are only asked for, the first halves of some of the
+/// The keys that are inserted and those that are only asked for, the first halves of some of the
 /// latter, and a prefix of about a tenth of the former; and the memory that a key took, and the
 /// most of it.
 #[derive(Drop)]
@@ -29,7 +29,7 @@ fn push_line<'k>(lists: &mut Lists<&'k [u8]>, line: &'k [u8]) -> Result<(), Allo
     }
 }
 
-// Puts in the lines of the input that are not empty.
+// Adds the lines of the input that are not empty.
 fn push_lines<'k>(lists: &mut Lists<&'k [u8]>, input: &'k [u8]) -> Result<(), AllocError> {
     for line in input.split(|byte| *byte == b'\n') {
         push_line(lists, line)?;
@@ -81,7 +81,7 @@ fn begun(keys: &[&[u8]], prefix: &[u8]) -> usize {
 // A prefix, and by how many keys those that begin with it differ from a tenth of all.
 type Share<'a> = (&'a [u8], usize);
 
-// The beginning of a key that is nearer to a tenth than the best so far, or else that.
+// The prefix of a key that is nearer to a tenth than the best so far, or else that.
 fn nearer<'a>(keys: &[&'a [u8]], key: &'a [u8], best: Share<'a>) -> Share<'a> {
     let tenth = keys.len() / 10;
     let mut nearest = best;
@@ -100,7 +100,7 @@ fn nearer<'a>(keys: &[&'a [u8]], key: &'a [u8], best: Share<'a>) -> Share<'a> {
     nearest
 }
 
-// A prefix of about a tenth of the keys: the nearest to it of the beginnings of eight keys. The
+// A prefix of about a tenth of the keys: the nearest to it of the prefixes of eight keys. The
 // keys are sorted, and the eight lie evenly among them.
 fn tenth<'a>(keys: &[&'a [u8]]) -> &'a [u8] {
     let mut best: Share<'a> = (&[], keys.len());
@@ -112,7 +112,8 @@ fn tenth<'a>(keys: &[&'a [u8]]) -> &'a [u8] {
     best.0
 }
 
-// Brings the keys into the order in which they are put in and asked for, after a prefix is chosen.
+// Brings the keys into the order in which they are inserted and asked for, after a prefix is
+// chosen.
 fn arrange(lists: &mut Lists<&[u8]>) {
     lists.present.sort_unstable();
     lists.prefix = tenth(&lists.present);
@@ -120,14 +121,14 @@ fn arrange(lists: &mut Lists<&[u8]>) {
     shuffle(&mut lists.absent, 2);
 }
 
-// Puts in the keys of the input and what is made of them.
+// Adds the keys of the input and what is made of them.
 fn fill_lists<'k>(lists: &mut Lists<&'k [u8]>, input: &'k [u8]) -> Result<(), AllocError> {
     push_lines(lists, input)?;
     arrange(lists);
     push_halves(&mut lists.halves, &lists.absent)
 }
 
-/// The keys of the input, in the order in which they are put in and asked for.
+/// The keys of the input, in the order in which they are inserted and asked for.
 pub(super) fn read_lists(alloc: Global, input: &[u8]) -> Result<Lists<&[u8]>, AllocError> {
     let mut lists = no_lists(alloc);
     fill_lists(&mut lists, input)?;

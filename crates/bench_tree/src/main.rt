@@ -1,9 +1,9 @@
 //! bench_tree [times]: counts the answers of a map for the keys of its input, or times its calls.
 //!
-//! The input has a key a line. The keys of every other line are put in, the rest are only asked
+//! The input has a key a line. The keys of every other line are inserted, the rest are only asked
 //! for. With the word `times` each line of the output has nanoseconds a call or an entry, or bytes
 //! a key; `tree_size` has the tree bytes of 1,000 entries, and `share` the thousandths of the entries
-//! that `split_by_prefix` takes out.
+//! that `split_by_prefix` removes.
 #![tactic(auto)]
 
 mod calls;
@@ -69,7 +69,7 @@ fn report_memory<R: Print>(sheet: &Sheet<'_, R>, memory: (u64, u64)) -> io::Resu
     line(sheet, "peak", u128::from(memory.1))
 }
 
-// Sorts the keys and puts them in.
+// Sorts the keys and inserts them.
 fn put_sorted<R: AllocGlobal + Clock + Print>(
     sheet: &Sheet<'_, R>,
     keys: &mut [&[u8]],

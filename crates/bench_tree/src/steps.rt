@@ -98,7 +98,7 @@ fn time_whole<R: Clock + Print, Q: BorrowedBytes>(
     report(sheet, name, start, entries_of(maps, call), answer)
 }
 
-// A line on what a split took out.
+// A line on what a split removed.
 fn report_part<R: Print, K: Bytes>(
     sheet: &Sheet<'_, R>,
     name: &str,

@@ -22,7 +22,7 @@ const HOSTS: [&str; 6] = [
 ];
 
 // The parts of a domain from the last to the first, with a dot after each. So a domain is a
-// beginning of all that belong to it, and of no other.
+// prefix of all that belong to it, and of no other.
 fn reversed(alloc: Global, domain: &str) -> Result<String, AllocError> {
     let mut name = String::new(alloc);
     for part in domain.rsplit('.') {

@@ -20,6 +20,7 @@ fn list(rt: &impl Print, map: &PatriciaMap<u32>) -> anyhow::Result<()> {
     Ok(())
 }
 
+// example: map get_counted
 fn look_up<L: Ledger>(map: &PatriciaMap<u32>, key: &[u8], blank: Blank) -> Option<u32>
     requires name { blank.name ≡ L.name }
     requires parts { blank.parts ≡ L.parts }
@@ -28,6 +29,7 @@ fn look_up<L: Ledger>(map: &PatriciaMap<u32>, key: &[u8], blank: Blank) -> Optio
     let mut steps: Steps<L> = Steps::new(blank);
     map.get_counted(key, &mut steps).copied()
 }
+// end
 
 fn main(rt: HostRuntime) -> anyhow::Result<()> {
     let mut map = PatriciaMap::new(rt.alloc());

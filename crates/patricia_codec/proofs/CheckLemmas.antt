@@ -189,7 +189,7 @@ one_more_not item label n some within fewest valid fails = record {
   ];
 }
 
--- an error that is handed on
+-- an error that is passed up
 pub handed_on : {T E : Type 0} (P : E → Type 0) (out : Result T E) (e : E) → IsErrAnd out (λ x. x ≡ e) → P e → IfErr out P
 handed_on P (Ok x) e is h = tt
 handed_on P (Err x) e is h = subst P (sym is) h

@@ -1,4 +1,4 @@
--- What is written, and what is left, make the writing.
+-- What is written, and what is left, make the encoding.
 use Rattle.std.proofs.Common.{◌≡◌, ℕ, ◌<◌, ◌≤◌, inl, inr, false, List, [], ◌∷◌, ◌++◌, Option, Some, None, refl, sym, ap, subst, ◌∙◌, arith, append_assoc, append-nil}
 use Rattle.std.specs.Prelude.{All, Any, is_some}
 use Rattle.std.proofs.lemmas.List.Elements.{All-nil, All-cons, All-append}

@@ -196,7 +196,7 @@ module _ {V : Type 0} where
   behind_end (suc m) end e = refl
   behind_end (suc m) (node l v c s) e = absurd (cc)
 
--- an error that is handed on is the same error
+-- an error that is passed up is the same error
 pub err_from : {A B E : Type 0} (x : Result A E) (y : Result B E) (e d : E) → x ≡ Err e → IsErrAnd y (λ f. f ≡ e) → y ≡ Err d → x ≡ Err d
 err_from x (Ok b) e d is same again = absurd (cc)
 err_from x (Err f) e d is same again = (let found : f ≡ d = cc in is ∙ ap Err (sym same ∙ found))

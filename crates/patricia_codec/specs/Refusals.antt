@@ -7,7 +7,7 @@ use Rattle.patricia_codec.specs.declared.error.DecodeError.TheVariants.{Memory, 
 
 module _ (item : List ℕ → Type 0) where
   -- the error names the fault that is the first to stand in the bytes b with n values, and its
-  -- offset; want of memory says nothing of them
+  -- offset; out of memory says nothing of them
   abbrev pub IsRefusal : ℕ → List ℕ → ℕ → DecodeError → Type 0
   IsRefusal w b n Memory = Unit {0}
   IsRefusal w b n (Truncated at) = IsFirst item w b n truncated at

@@ -1,4 +1,4 @@
-//! Walks along a key and under a prefix. Those along a key take no memory.
+//! Walks along a key and under a prefix. Those along a key do not allocate.
 ghost use Rattle.std.specs.Prelude.{◌≡◌, length};
 ghost use Rattle.std.specs.Iterator.{at_most};
 ghost use Rattle.std.specs.Map.Iter.{TakesFirst};

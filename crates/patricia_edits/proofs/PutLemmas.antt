@@ -1,4 +1,4 @@
--- A value put in at the place of a key.
+-- A value that is inserted at the place of a key.
 use Rattle.std.proofs.Common.{◌≡◌, ◌≢◌, inr, ℕ, suc, ◌<◌, List, [], ◌∷◌, length, take, drop, Option, Some, None, get_or, refl, sym, ap, subst, ◌∙◌}
 use Rattle.std.specs.FinMap.{put}
 use Rattle.std.specs.Prelude.{Result, Ok, Err, OnOk, OnErr}
@@ -167,7 +167,7 @@ module _ {item : List ℕ → Type 0} {V : Type 0} {s : NodeArena V} {key : List
           puts_leaf new x j Greater {more} is some compared adds =
               puts_after new x (linked more (Some x) None None) j some is refl refl Greater compared (λ e. absurd (cc)) refl (adds.1 (λ e. absurd (cc)))
 
--- what holds after a value was put in, or refused
+-- what holds after a value was inserted, or refused
 pub put_or_same : (item : List ℕ → Type 0) {T E : Type 0} (r : Result T E) {V : Type 0} (old new : NodeArena V) (key : List ℕ) (x : V)
     → OnOk r (Puts item old new key x) → OnErr r (new ≡ old) → IsWellFormed old → IsCanonical item (siblings_of old)
     → IsWellFormed new × IsCanonical item (siblings_of new)

@@ -387,7 +387,7 @@ module _ {item : List ℕ → Type 0} {V : Type 0} {s : NodeArena V} {key : List
       let gone = gone-fill item kind others (others_leave item kind) p.frames p.focus p.focus around key rest p.leads (omega arith) (record { canonical = inner; left_is = sym (absent item kind p.focus inner rest matched p.is_match none) }) in
       subst (λ (q : Plan V). entries (row q) ≡ others key (entries (row q))) p.fills gone.left_is
 
--- what holds after a value was taken out, or not
+-- what holds after a value was removed, or not
 pub removed_or_same : (item : List ℕ → Type 0) {T E : Type 0} (r : Result T E) {V : Type 0} (old new : NodeArena V) (key : List ℕ)
     → OnOk r (Removes item old new key) → OnErr r (new ≡ old) → IsWellFormed old → IsCanonical item (siblings_of old)
     → IsWellFormed new × IsCanonical item (siblings_of new)

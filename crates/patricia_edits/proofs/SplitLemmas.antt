@@ -1,4 +1,4 @@
--- What a split leaves, and what it takes out.
+-- What a split leaves, and what it removes.
 use Rattle.std.proofs.Common.{◌≡◌, ◌≢◌, ℕ, ◌<◌, ◌≤◌, List, [], ◌∷◌, ◌++◌, length, take, drop, Option, Some, None, slice_get, refl, sym, ap, subst, ◌∙◌, arith, length-append}
 use Rattle.std.proofs.lemmas.List.{append-nil, append_assoc, take_all}
 use Rattle.std.proofs.lemmas.Option.{slice_get_within}
@@ -193,7 +193,7 @@ module _ {item : List ℕ → Type 0} (kind : IsKeyKind item) {V : Type 0} {s : 
 
     module _ (count : ℕ) (counted : count ≡ length (own f.value ++ entries (row f.child))) (moved : NodeArena V) (q : Plan V) (h : Holds moved q)
         (q_is : row q ≡ node top f.value (row f.child) end) where
-      -- so are they taken out, wherever what is left is whole
+      -- so are they removed, wherever what is left is whole
       splits : (new : NodeArena V) (plan : Plan V) → Holds new plan → Gone item outside (row (fill f.frames here)) (row plan) prefix
           → SplitsOff item s new prefix (record { arena = moved; count = count })
       splits new plan held gone =

@@ -1,4 +1,4 @@
--- Rows that are taken out of their place: the row of a key, or those under a prefix.
+-- Rows that are removed from their place: the row of a key, or those under a prefix.
 use Rattle.std.proofs.Common.{◌≡◌, ◌≢◌, ℕ, ◌≤◌, List, [], ◌∷◌, ◌++◌, Option, None, sym, ap, subst, ◌∙◌, arith}
 use Rattle.patricia_keys.specs.Keys.{IsKeyKind}
 use Rattle.patricia_model.specs.Siblings.{Siblings, end, node, prefixed, own, entries, keys_of, IsBefore, IsCanonical}

@@ -119,7 +119,7 @@ fn add_leaf<V: Drop>(
     }
 }
 
-// Puts in a key that comes between two nodes, or where there is none.
+// Inserts a key that comes between two nodes, or where there is none.
 fn insert_first<V: Drop, Q: BorrowedBytes>(
     arena: &mut NodeArena<V>,
     alloc: Global,
@@ -147,7 +147,7 @@ fn insert_first<V: Drop, Q: BorrowedBytes>(
     Ok(())
 }
 
-// Puts in a key that ends within the label of a node, or leaves it there.
+// Inserts a key that ends within the label of a node, or leaves it there.
 fn insert_within<V: Drop, Q: BorrowedBytes>(
     arena: &mut NodeArena<V>,
     alloc: Global,

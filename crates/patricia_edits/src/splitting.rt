@@ -15,7 +15,7 @@ use patricia_nodes::link::{Link, NodeId};
 use std::alloc::{AllocError, Global};
 use std::mem;
 
-/// The nodes that were taken out, and how many of them have a value.
+/// The nodes that were removed, and how many of them have a value.
 #[derive(Drop)]
 pub struct Taken<V> {
     pub arena: NodeArena<V>,
@@ -133,7 +133,7 @@ fn move_out<V: Drop>(
     }
 }
 
-// Takes out the nodes at a place and below it. All memory is there before anything is changed.
+// Removes the nodes at a place and below it. All memory is there before anything is changed.
 fn split_at<V: Drop, Q: BorrowedBytes>(
     arena: &mut NodeArena<V>,
     alloc: Global,
@@ -165,7 +165,7 @@ fn split_at<V: Drop, Q: BorrowedBytes>(
     })
 }
 
-/// Takes out what is under a prefix that is not empty.
+/// Removes what is under a prefix that is not empty.
 pub fn split<V: Drop, Q: BorrowedBytes>(
     arena: &mut NodeArena<V>,
     alloc: Global,

@@ -9,7 +9,7 @@ use Rattle.std.specs.Cmp.Lexicographic.{slice_cmp}
 abbrev pub Begins : List ℕ → List ℕ → Type 0
 Begins p k = (rest : List ℕ) × (p ++ rest ≡ k)
 
--- a key kind is a set of items: they have 1 to 255 bytes, and none is a proper beginning of another
+-- a key kind is a set of items: they have 1 to 255 bytes, and none is a proper prefix of another
 pub record IsKeyKind (item : List ℕ → Type 0) : Type 0 where
   pub sized : (i : List ℕ) → item i → (1 ≤ length i) × (length i ≤ 255)
   pub bytes : (i : List ℕ) → item i → All (λ b. b < 256) i
@@ -59,7 +59,7 @@ pub record IsSharedLen (a b : List ℕ) (n : ℕ) : Type 0 where
 abbrev pub IsFirstItem : (List ℕ → Type 0) → List ℕ → List ℕ → Type 0
 IsFirstItem item k i = ((k ≡ []) × (i ≡ [])) ⊎ ((item i) × Begins i k)
 
--- keys are compared byte by byte, a proper beginning first
+-- keys are compared byte by byte, a proper prefix first
 abbrev pub key_cmp : List ℕ → List ℕ → Ordering
 key_cmp = slice_cmp nat_cmp
 

@@ -27,7 +27,7 @@ lt_is Less h = refl
 lt_is Equal h = absurd h
 lt_is Greater h = absurd h
 
--- of two beginnings of a key the greater one is no shorter
+-- of two prefixes of a key the greater one is no shorter
 no_shorter : (a b k : List ℕ) → Begins a k → Begins b k → key_cmp a b ≡ Less → length a ≤ length b
 no_shorter a b k x y less = elim (begins_either a b x.0 y.0 (x.1 ∙ sym y.1)) [
   | inl front ↦ let long = length-append a front.0 in omega (arith, ap length front.1)

@@ -15,7 +15,7 @@ use Rattle.patricia_model.proofs.RowLemmas.{AllKeys}
 pub key_cmp-equal : (a b : List ℕ) → key_cmp a b ≡ Equal → a ≡ b
 key_cmp-equal a b e = slice_cmp-IsAntisymmetric nat_cmp-IsAntisymmetric a b e
 
--- the order turned round
+-- the order reversed
 pub key_cmp-turned : (a b : List ℕ) → key_cmp a b ≡ Less → key_cmp b a ≡ Greater
 key_cmp-turned a b e = nat_list_cmp_total.antisymm b a ∙ ap ordering_reverse e
 
@@ -24,7 +24,7 @@ pub key_cmp-front : (p a b : List ℕ) → key_cmp (p ++ a) (p ++ b) ≡ key_cmp
 key_cmp-front [] a b = refl
 key_cmp-front (c ∷ p) a b = ap (λ r. ordering_then r (key_cmp (p ++ a) (p ++ b))) (tied_itself nat_cmp_total c) ∙ key_cmp-front p a b
 
--- a byte that decides goes on to decide
+-- a byte that decides still decides
 pub key_cmp-extends : (a b x y : List ℕ) → key_cmp a b ≡ Less → (key_cmp (a ++ x) (b ++ y) ≡ Less) ⊎ Begins a b
 key_cmp-extends [] b x y e = inr (b, refl)
 key_cmp-extends (c ∷ a) [] x y e = absurd (cc)

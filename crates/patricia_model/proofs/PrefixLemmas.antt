@@ -52,7 +52,7 @@ begins_not p k lacks = by (begins p k) refl
     by true e = absurd (lacks (begins_is p k e))
     by false e = e
 
--- a beginning of a key is not above it
+-- a prefix of a key is not above it
 pub not_above : (q k : List ℕ) → Begins k q → key_cmp q k ≡ Less → ⊥
 not_above q k b less =
     let turned : key_cmp (k ++ b.0) (k ++ []) ≡ Less = rw (b.1, append-nil) less in

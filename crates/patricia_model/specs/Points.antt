@@ -44,7 +44,7 @@ module _ (item : List ℕ → Type 0) where
     pub valid : IsValid item p
     pub stands : Has S p ⊎ Branches S p
 
-  -- q is the parent of p: the longest point that is a proper beginning of p,
+  -- q is the parent of p: the longest point that is a proper prefix of p,
   -- or empty where there is none
   pub record IsParent (S : List (List ℕ)) (p q : List ℕ) : Type 0 where
     pub begins : BeginsProperly q p
@@ -65,7 +65,7 @@ module _ (item : List ℕ → Type 0) where
     pub second_begins : Begins (q ++ second) k
     pub not_less : key_cmp first second ≢ Less
 
-  -- a look-up of k visits the point p: its parent is a proper beginning of k,
+  -- a look-up of k visits the point p: its parent is a proper prefix of k,
   -- and no earlier sibling ends the search
   pub record IsVisited (S : List (List ℕ)) (k p : List ℕ) : Type 0 where
     pub point : IsPoint S p

@@ -17,7 +17,7 @@ module _ {V : Type 0} where
   abbrev pub outside : List ℕ → List (List ℕ × V) → List (List ℕ × V)
   outside p rows = filter (λ e. not (begins p e.0)) rows
 
-  -- the rows whose key is a beginning of k; in key order they are the shortest first
+  -- the rows whose key is a prefix of k; in key order they are the shortest first
   abbrev pub along : List ℕ → List (List ℕ × V) → List (List ℕ × V)
   along k rows = filter (λ e. begins e.0 k) rows
 

@@ -47,7 +47,7 @@ module _ {item : List ℕ → Type 0} {V : Type 0} {s : NodeArena V} {key : List
     here : Opened s.nodes.items p.focus id r
     here = opened s.nodes.items at p.focus id r (focus_plan_at sought) (p.at_is ∙ stop_at item rest p.focus id matched p.is_match is) reads
 
-    -- a value written there is put in at the key
+    -- a value written there is inserted at the key
     pub puts_here : (new : NodeArena V) (x : V) (v : Option V) → v ≡ Some x → new.nodes.items ≡ set s.nodes.items id (linked r.label v r.child r.sibling)
         → new.root ≡ s.root → new.free ≡ s.free → Puts item s new key x
     puts_here new x v written nodes_is root_is free_is =

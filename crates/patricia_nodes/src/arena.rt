@@ -46,7 +46,7 @@ pub struct NodeArena<V> {
 }
 
 impl<V: Drop> NodeArena<V> {
-    /// No node. It takes no memory.
+    /// No node. Does not allocate.
     pub fn new(alloc: Global) -> NodeArena<V>
         ensures whole { IsWellFormed result }
         ensures row { siblings_of result ≡ end }

@@ -15,7 +15,7 @@ enum Storage {
     Heap(Vec<u8>),
 }
 
-/// The bytes of a label. Up to 30 of them take no memory beside the label's own 32 bytes.
+/// The bytes of a label. Up to 30 of them are in the label's own 32 bytes.
 #[derive(Drop)]
 pub struct Label {
     bytes: Storage,
@@ -50,7 +50,7 @@ fn inline(upper: &[u8], lower: &[u8]) -> Label
 }
 
 impl Label {
-    /// The label with no byte. It takes no memory.
+    /// The label with no byte. Does not allocate.
     pub fn empty(_alloc: Global) -> Label
         ensures { result ≡ [] }
     {
@@ -91,7 +91,7 @@ impl Label {
         }
     }
 
-    /// Keeps the first `n` bytes, or all where there are fewer. It takes no memory.
+    /// Keeps the first `n` bytes, or all where there are fewer. Does not allocate.
     pub fn truncate(&mut self, n: usize)
         ensures { self.new ≡ take n self.old }
     {

@@ -7,7 +7,7 @@ use std::sync::ledger::{Blank, Book, Ledger, Share};
 /// How many steps were taken. It takes no bytes at run time, and only `tick` changes it.
 ///
 /// A caller names the ledger by a type parameter of its own, and calls that function with a brand
-/// and a blank, which asks for nothing and takes no memory:
+/// and a blank, which does not allocate:
 ///
 /// ```
 /// fn visits<L: Ledger>(map: &PatriciaMap<u32>, key: &[u8], blank: Blank) {

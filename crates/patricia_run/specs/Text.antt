@@ -76,7 +76,7 @@ parse_fields key_format (word ∷ fields) =
     option_map_or (λ shape. parse_command key_format shape fields)
     (shape_of word) (Err Faults.UnknownWord)
 
--- what a line says: each byte 9 parts two fields
+-- what a line says: fields are separated by the byte 9
 abbrev pub parse_line : KeyFormat → List ℕ → Parsed
 parse_line key_format line = parse_fields key_format (slice_split (λ b. b == 9) line)
 

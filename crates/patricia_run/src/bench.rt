@@ -69,7 +69,7 @@ fn rows_under<Q: BorrowedBytes, V: Copy>(
     Ok(rows)
 }
 
-// The rows whose key is a beginning of a key, the shortest first.
+// The rows whose key is a prefix of a key, the shortest first.
 fn rows_along<Q: BorrowedBytes, V: Copy>(
     alloc: Global,
     entries: &GenericPatriciaMap<Q::Owned, V>,
@@ -279,7 +279,7 @@ impl<K: Bytes, V: Copy> Bench<K, V> {
                 self.main = read;
                 Reply::Done
             }
-            // what was written has no fault, so this is want of memory (`meant_is_never_faulty`)
+            // what was written has no fault, so an allocation failed (`meant_is_never_faulty`)
             Err(_) => Reply::NoMemory,
         }
     }

@@ -1,4 +1,4 @@
--- Pairs put in one after the other.
+-- Pairs inserted one after the other.
 use Rattle.std.proofs.Common.{◌≡◌, ◌≢◌, ℕ, List, [], ◌∷◌, ◌++◌, Option, Some, None, Result, Ok, Err, OnErr, refl, sym, ap, ◌∙◌}
 use Rattle.std.proofs.iter.Next.{Yields-more}
 use Rattle.std.specs.FinMap as map
@@ -6,12 +6,12 @@ use Rattle.std.specs.Iterator.{Yields}
 use Rattle.patricia_core.specs.Keys.{key_cmp}
 use Rattle.patricia_tree.specs.Bulk.{insert_all, by_bytes, IsStoppedAt}
 
--- a pair that is put in last
+-- a pair that is inserted last
 insert_all_more : {Q V : Type 0} (bytes : Q → List ℕ) (m : map.FinMap key_cmp V) (pairs : List (Q × V)) (pair : Q × V) → insert_all m (by_bytes bytes (pairs ++ pair ∷ [])) ≡ map.insert (insert_all m (by_bytes bytes pairs)) (bytes pair.0) pair.1
 insert_all_more bytes m [] pair = refl
 insert_all_more bytes m (first ∷ pairs) pair = insert_all_more bytes (map.insert m (bytes first.0) first.1) pairs pair
 
--- one more turn, at which the pair is put in
+-- one more turn, at which the pair is inserted
 pub puts_one_more : {Q V : Type 0} (bytes : Q → List ℕ) (old : map.FinMap key_cmp V) (given : List (Q × V)) {here new : map.FinMap key_cmp V} (pair : Q × V) → here ≡ insert_all old (by_bytes bytes given) → new ≡ map.insert here (bytes pair.0) pair.1 → new ≡ insert_all old (by_bytes bytes (given ++ pair ∷ []))
 puts_one_more bytes old given pair so_far put = put ∙ ap (λ m. map.insert m (bytes pair.0) pair.1) so_far ∙ sym (insert_all_more bytes old given pair)
 

@@ -55,7 +55,7 @@ module _ {V : Type 0} where
             is_next = λ v guard. ap (option_map (λ e. e.1)) row ∙ (let both = sym there ∙ guard in cc);
           }
 
-  -- what is written a step on is put in at its key
+  -- what is written a step on is inserted at its key
   pub written_next : (s : CursorView V) (key : List ℕ) (v w : V) → next_row s ≡ Some (key, v) → (written (stepped s) w).map ≡ map.insert s.map key w
   written_next s key v w is = subst (λ o. (written (lent_at s (option_map (λ e. e.0) o)) w).map ≡ map.insert s.map key w) (sym is) refl
 

@@ -50,7 +50,7 @@ module _ {V : Type 0} where
       by true false is = rw is same
       by false c is = same
 
-  -- what is put in at a key changes no row after it
+  -- what is inserted at a key changes no row after it
   past_put : (p k : List ℕ) (v : V) (es : List (List ℕ × V)) → past p k (put key_cmp k v es) ≡ past p k es
   past_put p k v [] = not_past p k (k, v) [] (not_less k)
   past_put p k v (e ∷ es) = by (key_cmp k e.0) refl (past_put p k v es)

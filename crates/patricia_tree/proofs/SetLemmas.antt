@@ -17,7 +17,7 @@ at_error P (Err e) holds = holds
 pub units_are_kept : (is_clone : Unit {0} → Unit {0} → Type 0) (values : List (Unit {0})) → ClonesAreSame is_clone values
 units_are_kept is_clone values k d below w _ = refl
 
--- each key with nothing as its value
+-- each key with `()` as its value
 abbrev pub in_pairs : {Q : Type 0} → List Q → List (Q × Unit {0})
 in_pairs given = map (λ key. (key, tt)) given
 
@@ -25,7 +25,7 @@ in_pairs_more : {Q : Type 0} (given : List Q) (key : Q) → in_pairs (given ++ k
 in_pairs_more [] key = refl
 in_pairs_more (first ∷ given) key = ap (λ pairs. (first, tt) ∷ pairs) (in_pairs_more given key)
 
--- one more turn, at which the key is put in
+-- one more turn, at which the key is inserted
 pub puts_one_more_key : {Q : Type 0} (bytes : Q → List ℕ) (old : KeySet) (given : List Q) {here new : KeySet} (key : Q) → here ≡ insert_all old (by_bytes bytes (in_pairs given)) → new ≡ set.insert here (bytes key) → new ≡ insert_all old (by_bytes bytes (in_pairs (given ++ key ∷ [])))
 puts_one_more_key bytes old given key so_far put = puts_one_more bytes old (in_pairs given) (key, tt) so_far put ∙ ap (λ pairs. insert_all old (by_bytes bytes pairs)) (sym (in_pairs_more given key))
 

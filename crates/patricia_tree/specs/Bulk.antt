@@ -5,7 +5,7 @@ use Rattle.std.specs.Iterator.{Drains, Yields}
 use Rattle.std.specs.List.{fold}
 use Rattle.patricia_core.specs.Keys.{key_cmp}
 
--- the map with the pairs put in, one after the other: of two values for one key the later stays
+-- the map with the pairs inserted, one after the other: of two values for one key the later stays
 abbrev pub insert_all :
     {V : Type 0} → map.FinMap key_cmp V → List (List ℕ × V) → map.FinMap key_cmp V
 insert_all = fold (λ m pair. map.insert m pair.0 pair.1)
@@ -18,7 +18,7 @@ by_bytes bytes pairs = list_map (λ pair. (bytes pair.0, pair.1)) pairs
 -- give and leave, and `bytes` what the bytes of a key are
 module _ {I S Q V : Type 0} (becomes : I → S → Type 0)
     (steps : S → Option (Q × V) → S → Type 0) (bytes : Q → List ℕ) where
-  -- the iterator gave all its pairs, and new is old with all of them put in
+  -- the iterator gave all its pairs, and new is old with all of them inserted
   pub record Extends (pairs : I) (old new : map.FinMap key_cmp V) : Type 0 where
     pub start : S
     pub given : List (Q × V)
@@ -27,7 +27,7 @@ module _ {I S Q V : Type 0} (becomes : I → S → Type 0)
     pub put_in : new ≡ insert_all old (by_bytes bytes given)
 
   -- the iterator gave some pairs and then a refused one, whose key is not empty and is new;
-  -- new is old with the pairs before it put in
+  -- new is old with the pairs before it inserted
   pub record IsStoppedAt (pairs : I) (old new : map.FinMap key_cmp V) : Type 0 where
     pub start : S
     pub given : List (Q × V)

@@ -1,4 +1,4 @@
--- What a cursor is after a loan of the value that it went on to last.
+-- What a cursor is after a loan of the value at which it stands.
 use Rattle.std.specs.Prelude.{[], Option}
 use Rattle.std.specs.Borrow.{LendsIf, Fml, RattleType, MutBor}
 use mir.Syntax.{named}

@@ -1,4 +1,4 @@
--- A finite set of keys. It is std's, which is a finite map with nothing at each key, and these are its words.
+-- A finite set of keys: std's, which is a finite map with `()` at each key. These are its words.
 use Rattle.std.specs.Prelude.{ℕ, List, Bool, Option, option_map}
 use Rattle.std.specs.FinMap as map
 use Rattle.std.specs.FinSet.{FinSet}
@@ -21,7 +21,7 @@ contains s k = map.contains_key s k
 abbrev pub elements : KeySet → List (List ℕ)
 elements s = map.keys s
 
--- the elements as rows, each with nothing as its value
+-- the elements as rows, each with `()` as its value
 abbrev pub rows : KeySet → List (List ℕ × Unit {0})
 rows s = map.entries s
 
@@ -49,11 +49,11 @@ module _ {I S Q : Type 0} (becomes : I → S → Type 0) (steps : S → Option Q
   abbrev pub steps_in_pairs : S → Option (Q × Unit {0}) → S → Type 0
   steps_in_pairs before pair after = steps before (option_map (λ p. p.0) pair) after
 
-  -- the iterator gave all its keys, and new is old with all of them put in
+  -- the iterator gave all its keys, and new is old with all of them inserted
   abbrev pub Extends : I → KeySet → KeySet → Type 0
   Extends keys old new = bulk.Extends becomes steps_in_pairs bytes keys old new
 
   -- the iterator gave some keys and then a refused one, which is not empty and is new;
-  -- new is old with the keys before it put in
+  -- new is old with the keys before it inserted
   abbrev pub IsStoppedAt : I → KeySet → KeySet → Type 0
   IsStoppedAt keys old new = bulk.IsStoppedAt becomes steps_in_pairs bytes keys old new

@@ -14,7 +14,7 @@ module _ {F K V R : Type 0}
   TakesNext f s =
       (key : K) (shown : MutBor V) → next_row s ≡ Some (bytes key, shown.now) → call.pre f (key, (shown, tt))
 
-  -- f was called at that entry and answered r; the cursor went on to it, and what f left is there:
+  -- f was called at that entry and answered r; the cursor advanced to it, and what f left is there:
   -- the map is as it was but for the value at this key
   pub record StepsWith (f : F) (s : CursorView V) (r : R) (t : CursorView V) : Type 0 where
     pub key : K

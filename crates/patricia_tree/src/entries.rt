@@ -24,6 +24,16 @@ where
     /// # Errors
     ///
     /// Out of memory: nothing is changed, and the next call tries the same entry.
+    ///
+    /// # Examples
+    ///
+    /// ```
+    /// let mut map = StringPatriciaMap::from_iter(rt.alloc(), [("foo", 1), ("bar", 2)])?;
+    /// let mut cursor = map.iter_mut();
+    /// assert_eq!(rt; cursor.advance()?.as_deref(), Some("bar"));
+    /// assert_eq!(rt; cursor.advance()?.as_deref(), Some("foo"));
+    /// assert_eq!(rt; cursor.advance()?, None);
+    /// ```
     pub fn advance(&mut self) -> Result<Option<K>, AllocError>
         ensures owner { self.new.owner.ghost_name ≡ self.old.owner.ghost_name }
         ensures key { IfOk result (λ key. option_map K.key key ≡ next_key self.old.at) }
@@ -38,6 +48,16 @@ where
 
     /// Lends the value of the entry that it advanced to last, or returns `None` before the first
     /// one.
+    ///
+    /// # Examples
+    ///
+    /// ```
+    /// let mut map = StringPatriciaMap::from_iter(rt.alloc(), [("foo", 1), ("bar", 2)])?;
+    /// let mut cursor = map.iter_mut();
+    /// assert_eq!(rt; cursor.value(), None);
+    /// cursor.advance()?;
+    /// assert_eq!(rt; cursor.value(), Some(&mut 2));
+    /// ```
     pub fn value(&mut self) -> Option<&mut V>
         ensures* writes { sem 𝓛 (lends_last M.row K.row V.row K.Bytes self.entry result) }
         ensures value { option_copied_mut result ≡ last_value self.old.at }
@@ -60,7 +80,7 @@ where
         }
     }
 
-    // Lends the value of the entry that it went on to last.
+    // Lends the value of the entry that it advanced to last.
     fn there(&mut self) -> &mut V
         requires { IsSome (last_value self.old.at) }
         ensures* writes { sem 𝓛 (lends_next M.row K.row V.row K.Bytes self.entry result) }
@@ -81,6 +101,19 @@ where
     ///
     /// The contract says no more than what is read: what the map is after an error, at the end or
     /// after the loan, those of `next_with`, and of `advance` and `value`, say.
+    ///
+    /// # Examples
+    ///
+    /// ```
+    /// let mut map = StringPatriciaMap::from_iter(rt.alloc(), [("foo", 1), ("bar", 2)])?;
+    /// let mut cursor = map.iter_mut();
+    /// if let Some((key, value)) = cursor.next()? {
+    ///     assert_eq!(rt; key.as_str(), "bar");
+    ///     *value = 5;
+    /// }
+    /// drop(cursor);
+    /// assert_eq!(rt; map.get("bar"), Some(&5));
+    /// ```
     pub fn next(&mut self) -> Result<Option<(K, &mut V)>, AllocError>
         ensures row { IfOk result (λ e. option_map (λ e. (K.key e.0, e.1.now)) e ≡ next_row self.old.at) }
         ensures err_only_if_left { OnErr result (next_row self.old.at ≢ None) }
@@ -98,6 +131,19 @@ where
     ///
     /// Out of memory: the closure is not run, nothing is changed, and the next call tries the same
     /// entry.
+    ///
+    /// # Examples
+    ///
+    /// ```
+    /// let mut map = StringPatriciaMap::from_iter(rt.alloc(), [("foo", 1), ("bar", 2)])?;
+    /// let len = map.len();
+    /// let mut cursor = map.iter_mut();
+    /// for _ in 0..len {
+    ///     cursor.next_with(|key, value| *value = key.len())?;
+    /// }
+    /// drop(cursor);
+    /// assert_eq!(rt; map.get("bar"), Some(&3));
+    /// ```
     pub fn next_with<R, F: FnOnce(K, &mut V) -> R>(&mut self, f: F) -> Result<Option<R>, AllocError>
         requires callable { TakesNext F.FnOnce K.key f self.old.at }
         ensures owner { self.new.owner.ghost_name ≡ self.old.owner.ghost_name }

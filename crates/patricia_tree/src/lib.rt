@@ -1,4 +1,13 @@
 //! A map and a set whose keys are byte strings or texts and share their common prefixes.
+//!
+//! [`PatriciaMap`] and [`PatriciaSet`] have byte strings as keys, [`StringPatriciaMap`] and
+//! [`StringPatriciaSet`] texts. The generic types take any kind of keys that is [`Bytes`].
+//!
+//! Keys are in the order of their bytes. A prefix that keys share is stored once. A look-up takes
+//! time in proportion to the nodes that it visits, at most 256 for each byte of the key.
+//!
+//! A call that returns no `Result` does not allocate. One that does returns an error where memory
+//! runs out, and its documentation says what stays as it was: mostly everything.
 #![tactic(auto)]
 
 mod entries;
@@ -9,7 +18,7 @@ pub mod set;
 mod values;
 pub mod wire;
 
-pub use map::{GenericPatriciaMap, PatriciaMap, StringPatriciaMap};
+pub use map::{GenericPatriciaMap, PatriciaMap, Refused, StringPatriciaMap};
 pub use patricia_core::Steps;
 pub use patricia_core::keys::{BorrowedBytes, Bytes};
 pub use set::{GenericPatriciaSet, PatriciaSet, StringPatriciaSet};

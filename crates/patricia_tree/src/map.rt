@@ -65,6 +65,13 @@ impl<K: Bytes, V: Drop> GenericPatriciaMap<K, V> {
     ghost use Rattle.patricia_tree.specs.Loans.{lends_entry};
 
     /// Makes an empty map, which keeps the allocator. Does not allocate.
+    ///
+    /// # Examples
+    ///
+    /// ```
+    /// let map: PatriciaMap<u32> = PatriciaMap::new(rt.alloc());
+    /// assert!(rt; map.is_empty());
+    /// ```
     pub fn new(alloc: Global) -> Self
         ensures { result ≡ map.empty }
     {
@@ -74,6 +81,15 @@ impl<K: Bytes, V: Drop> GenericPatriciaMap<K, V> {
     }
 
     /// Returns the number of entries, that of the empty key included, in constant time.
+    ///
+    /// # Examples
+    ///
+    /// ```
+    /// let mut map = StringPatriciaMap::new(rt.alloc());
+    /// map.insert("", 1)?;
+    /// map.insert("foo", 2)?;
+    /// assert_eq!(rt; map.len(), 2);
+    /// ```
     pub fn len(&self) -> usize
         ensures { result ≡ map.len self.now }
     {
@@ -81,6 +97,15 @@ impl<K: Bytes, V: Drop> GenericPatriciaMap<K, V> {
     }
 
     /// Returns whether there is no entry.
+    ///
+    /// # Examples
+    ///
+    /// ```
+    /// let mut map = StringPatriciaMap::new(rt.alloc());
+    /// assert!(rt; map.is_empty());
+    /// map.insert("foo", 1)?;
+    /// assert!(rt; !map.is_empty());
+    /// ```
     pub fn is_empty(&self) -> bool
         ensures { IsTrue result ↔ (map.len self.now ≡ 0) }
     {
@@ -88,6 +113,15 @@ impl<K: Bytes, V: Drop> GenericPatriciaMap<K, V> {
     }
 
     /// Drops all entries, and keeps the allocator. Does not allocate.
+    ///
+    /// # Examples
+    ///
+    /// ```
+    /// let mut map = StringPatriciaMap::new(rt.alloc());
+    /// map.insert("foo", 1)?;
+    /// map.clear();
+    /// assert!(rt; map.is_empty());
+    /// ```
     pub fn clear(&mut self)
         ensures { self.new ≡ map.empty }
     {
@@ -95,6 +129,15 @@ impl<K: Bytes, V: Drop> GenericPatriciaMap<K, V> {
     }
 
     /// Returns whether the key is there. Does not allocate, and takes the time of `get`.
+    ///
+    /// # Examples
+    ///
+    /// ```
+    /// let mut map = StringPatriciaMap::new(rt.alloc());
+    /// map.insert("foo", 1)?;
+    /// assert!(rt; map.contains_key("foo"));
+    /// assert!(rt; !map.contains_key("fo"));
+    /// ```
     pub fn contains_key<Q: BorrowedBytes<Owned = K>>(&self, key: Q) -> bool
         ensures { result ≡ map.contains_key self.now (Q.key key) }
     {
@@ -105,6 +148,15 @@ impl<K: Bytes, V: Drop> GenericPatriciaMap<K, V> {
     ///
     /// Takes time in proportion to the nodes that it visits: for byte keys at most `1 + 256 *
     /// key.len()`, for any keys as many as `get_counted` says.
+    ///
+    /// # Examples
+    ///
+    /// ```
+    /// let mut map = StringPatriciaMap::new(rt.alloc());
+    /// map.insert("foo", 1)?;
+    /// assert_eq!(rt; map.get("foo"), Some(&1));
+    /// assert_eq!(rt; map.get("foobar"), None);
+    /// ```
     pub fn get<Q: BorrowedBytes<Owned = K>>(&self, key: Q) -> Option<&V>
         ensures { option_copied result ≡ map.get self.now (Q.key key) }
     {
@@ -114,6 +166,17 @@ impl<K: Bytes, V: Drop> GenericPatriciaMap<K, V> {
     /// Lends the value at a key, or returns `None` where there is none. Does not allocate.
     ///
     /// When the loan is over, the map has what was left there.
+    ///
+    /// # Examples
+    ///
+    /// ```
+    /// let mut map = StringPatriciaMap::new(rt.alloc());
+    /// map.insert("foo", 1)?;
+    /// if let Some(value) = map.get_mut("foo") {
+    ///     *value = 5;
+    /// }
+    /// assert_eq!(rt; map.get("foo"), Some(&5));
+    /// ```
     pub fn get_mut<Q: BorrowedBytes<Owned = K>>(&mut self, key: Q) -> Option<&mut V>
         ensures* writes { sem 𝓛 (lends_entry K.row V.row K.Bytes self.entry (Q.key key) result) }
         ensures value { option_copied_mut result ≡ map.get self.old (Q.key key) }
@@ -126,6 +189,19 @@ impl<K: Bytes, V: Drop> GenericPatriciaMap<K, V> {
     /// It counts the root, and each node whose label is compared with the key. Siblings are
     /// compared in their order, up to and with the first whose first item is not less than the
     /// key's. A `Steps` takes no bytes at run time, and contracts alone see it.
+    ///
+    /// # Examples
+    ///
+    /// ```
+    /// fn look_up<L: Ledger>(map: &PatriciaMap<u32>, key: &[u8], blank: Blank) -> Option<u32>
+    ///     requires name { blank.name ≡ L.name }
+    ///     requires parts { blank.parts ≡ L.parts }
+    ///     requires some { 0 < L.parts }
+    /// {
+    ///     let mut steps: Steps<L> = Steps::new(blank);
+    ///     map.get_counted(key, &mut steps).copied()
+    /// }
+    /// ```
     pub fn get_counted<Q: BorrowedBytes<Owned = K>, L: Ledger>(
         &self,
         key: Q,
@@ -142,6 +218,17 @@ impl<K: Bytes, V: Drop> GenericPatriciaMap<K, V> {
     /// none. Does not allocate, and takes the time of `get`.
     ///
     /// The key that is returned is a part of the key that is passed, and does not borrow the map.
+    ///
+    /// # Examples
+    ///
+    /// ```
+    /// let mut map = StringPatriciaMap::new(rt.alloc());
+    /// map.insert("foo", 1)?;
+    /// map.insert("foobar", 2)?;
+    /// assert_eq!(rt; map.get_longest_common_prefix("foobaz"), Some(("foo", &1)));
+    /// assert_eq!(rt; map.get_longest_common_prefix("foobarbaz"), Some(("foobar", &2)));
+    /// assert_eq!(rt; map.get_longest_common_prefix("fo"), None);
+    /// ```
     pub fn get_longest_common_prefix<Q: BorrowedBytes<Owned = K>>(&self, key: Q) -> Option<(Q, &V)>
         ensures row { option_map (λ e. (Q.key e.0, e.1.now)) result
             ≡ longest (Q.key key) (map.entries self.now) }
@@ -154,6 +241,15 @@ impl<K: Bytes, V: Drop> GenericPatriciaMap<K, V> {
     /// follows them there; 0 for an empty map. Does not allocate.
     ///
     /// For texts it never ends inside a character.
+    ///
+    /// # Examples
+    ///
+    /// ```
+    /// let mut map = StringPatriciaMap::new(rt.alloc());
+    /// map.insert("foobar", 1)?;
+    /// assert_eq!(rt; map.longest_common_prefix_len("foobaz"), 5);
+    /// assert_eq!(rt; map.longest_common_prefix_len("bar"), 0);
+    /// ```
     pub fn longest_common_prefix_len<Q: BorrowedBytes<Owned = K>>(&self, key: Q) -> usize
         ensures { IsReach K.item (map.keys self.now) (Q.key key) result }
     {
@@ -164,6 +260,18 @@ impl<K: Bytes, V: Drop> GenericPatriciaMap<K, V> {
     /// key and of the key itself included. Neither this nor the iterator allocates.
     ///
     /// The keys that are returned are parts of the key that is passed.
+    ///
+    /// # Examples
+    ///
+    /// ```
+    /// let mut map = StringPatriciaMap::new(rt.alloc());
+    /// map.insert("foo", 1)?;
+    /// map.insert("foobar", 2)?;
+    /// let mut entries = map.common_prefixes("foobarbaz");
+    /// assert_eq!(rt; entries.next(), Some(("foo", &1)));
+    /// assert_eq!(rt; entries.next(), Some(("foobar", &2)));
+    /// assert_eq!(rt; entries.next(), None);
+    /// ```
     pub fn common_prefixes<Q: BorrowedBytes<Owned = K>>(
         &self,
         key: Q,
@@ -175,6 +283,18 @@ impl<K: Bytes, V: Drop> GenericPatriciaMap<K, V> {
 
     /// Returns the values of the entries whose key is a prefix of the key, the shortest key first.
     /// Neither this nor the iterator allocates.
+    ///
+    /// # Examples
+    ///
+    /// ```
+    /// let mut map = StringPatriciaMap::new(rt.alloc());
+    /// map.insert("foo", 1)?;
+    /// map.insert("foobar", 2)?;
+    /// let mut values = map.common_prefix_values("foobarbaz");
+    /// assert_eq!(rt; values.next(), Some(&1));
+    /// assert_eq!(rt; values.next(), Some(&2));
+    /// assert_eq!(rt; values.next(), None);
+    /// ```
     pub fn common_prefix_values<Q: BorrowedBytes<Owned = K>>(
         &self,
         key: Q,
@@ -186,6 +306,16 @@ impl<K: Bytes, V: Drop> GenericPatriciaMap<K, V> {
 
     /// Returns the values of the entries whose key is a prefix of the key, which the iterator owns.
     /// Neither this nor the iterator allocates.
+    ///
+    /// # Examples
+    ///
+    /// ```
+    /// let mut map = PatriciaMap::new(rt.alloc());
+    /// map.insert(b"foo".as_slice(), 1)?;
+    /// let mut values = map.common_prefix_values_owned(Vec::from_slice(rt.alloc(), b"foobar")?);
+    /// assert_eq!(rt; values.next(), Some(&1));
+    /// assert_eq!(rt; values.next(), None);
+    /// ```
     pub fn common_prefix_values_owned(&self, key: K) -> CommonPrefixValuesOwned<'_, K, V>
         ensures { result ≡ values_of (along (K.key key) (map.entries self.now)) }
     {
@@ -202,6 +332,15 @@ impl<K: Bytes, V: Drop> GenericPatriciaMap<K, V> {
     /// Out of memory, at a new nonempty key alone: the map is unchanged, and `Refused` has the
     /// value. A new nonempty key where `usize::MAX - 1` of them are stored is refused in the same
     /// way, so that `len` never overflows.
+    ///
+    /// # Examples
+    ///
+    /// ```
+    /// let mut map = PatriciaMap::new(rt.alloc());
+    /// assert_eq!(rt; map.insert(b"foo".as_slice(), 1)?, None);
+    /// assert_eq!(rt; map.insert(b"foo".as_slice(), 2)?, Some(1));
+    /// assert_eq!(rt; map.get(b"foo".as_slice()), Some(&2));
+    /// ```
     pub fn insert<Q: BorrowedBytes<Owned = K>>(
         &mut self,
         key: Q,
@@ -225,6 +364,15 @@ impl<K: Bytes, V: Drop> GenericPatriciaMap<K, V> {
     ///
     /// Out of memory for a joined label: the map is unchanged. Labels are joined only where a node
     /// is no longer needed by a key or by two branches, so never for an absent or the empty key.
+    ///
+    /// # Examples
+    ///
+    /// ```
+    /// let mut map = StringPatriciaMap::new(rt.alloc());
+    /// map.insert("foo", 1)?;
+    /// assert_eq!(rt; map.remove("foo")?, Some(1));
+    /// assert_eq!(rt; map.remove("foo")?, None);
+    /// ```
     pub fn remove<Q: BorrowedBytes<Owned = K>>(&mut self, key: Q) -> Result<Option<V>, AllocError>
         ensures old { IfOk result (λ old. old ≡ map.get self.old (Q.key key)) }
         ensures ok { OnOk result (self.new ≡ map.remove self.old (Q.key key)) }
@@ -240,6 +388,16 @@ impl<K: Bytes, V: Drop> GenericPatriciaMap<K, V> {
     /// # Errors
     ///
     /// Out of memory, never for an empty map.
+    ///
+    /// # Examples
+    ///
+    /// ```
+    /// let mut map = StringPatriciaMap::new(rt.alloc());
+    /// map.insert("foo", 1)?;
+    /// let copy = map.clone()?;
+    /// map.clear();
+    /// assert_eq!(rt; copy.get("foo"), Some(&1));
+    /// ```
     pub fn clone(&self) -> Result<Self, AllocError>
     where
         V: Clone,
@@ -260,6 +418,20 @@ impl<K: Bytes, V: Drop> GenericPatriciaMap<K, V> {
     ///
     /// Out of memory: the map is unchanged. Never for the empty prefix, which moves the whole map,
     /// nor where no key begins with the prefix.
+    ///
+    /// # Examples
+    ///
+    /// ```
+    /// let mut map = StringPatriciaMap::new(rt.alloc());
+    /// map.insert("rust", 1)?;
+    /// map.insert("ruby", 2)?;
+    /// map.insert("python", 3)?;
+    /// let split = map.split_by_prefix("ru")?;
+    /// assert_eq!(rt; split.len(), 2);
+    /// assert!(rt; split.contains_key("ruby"));
+    /// assert_eq!(rt; map.len(), 1);
+    /// assert!(rt; map.contains_key("python"));
+    /// ```
     pub fn split_by_prefix<Q: BorrowedBytes<Owned = K>>(
         &mut self,
         prefix: Q,
@@ -287,6 +459,15 @@ impl<K: Bytes, V: Drop> GenericPatriciaMap<K, V> {
     ///
     /// `TooDeep` where a record would lie deeper than level 65,535, which takes keys of more than
     /// that many bytes; or out of memory.
+    ///
+    /// # Examples
+    ///
+    /// ```
+    /// let mut map = StringPatriciaMap::new(rt.alloc());
+    /// map.insert("a", 1)?;
+    /// // the root, which has a child; and a node at level 1 with the label "a" and a value
+    /// assert_eq!(rt; map.tree_bytes()?.as_slice(), [12, 0, 0, 0, 3, 1, 0, 1, 97].as_slice());
+    /// ```
     pub fn tree_bytes(&self) -> Result<Vec<u8>, WireError>
         ensures ok { IfOk result (λ b. AreTreeBytes K.item 2 b.items (map.entries self.now)) }
         ensures too_deep { result ≡ Err WireError.TooDeep → TooDeep K.item 2 (map.keys self.now) }
@@ -306,6 +487,18 @@ impl<K: Bytes, V: Drop> GenericPatriciaMap<K, V> {
     /// The first fault of the bytes or of the number of values, and where it stands. A whole tree
     /// with the right number of values has none, and is refused as out of memory alone. The values
     /// are dropped then.
+    ///
+    /// # Examples
+    ///
+    /// ```
+    /// let bytes = [12, 0, 0, 0, 3, 1, 0, 1, 97];
+    /// let values = Vec::from_slice(rt.alloc(), &[1])?;
+    /// let map = StringPatriciaMap::from_wire(rt.alloc(), &bytes, values)?;
+    /// assert_eq!(rt; map.get("a"), Some(&1));
+    ///
+    /// let cut = PatriciaMap::<u32>::from_wire(rt.alloc(), &bytes[..8], Vec::new(rt.alloc()));
+    /// assert!(rt; matches!(cut, Err(DecodeError::Truncated(4))));
+    /// ```
     pub fn from_wire(alloc: Global, bytes: &[u8], values: Vec<V>) -> Result<Self, DecodeError>
         ensures ok { IfOk result (λ m. Means K.item 2 bytes.now values.items (map.entries m)) }
         ensures refused { IfErr result (λ e. IsRefusal K.item 2 bytes.now (length values.items) e) }
@@ -326,6 +519,18 @@ impl<K: Bytes, V: Drop> GenericPatriciaMap<K, V> {
 
     /// Returns the entries in key order, each with an owned key. Making the iterator does not
     /// allocate; an item that is an error is out of memory, and ends it.
+    ///
+    /// # Examples
+    ///
+    /// ```
+    /// let map = StringPatriciaMap::from_iter(rt.alloc(), [("foo", 1), ("bar", 2)])?;
+    /// let mut entries = map.iter();
+    /// let first = entries.next().transpose()?;
+    /// assert!(rt; matches!(first, Some((key, 2)) if key.as_str() == "bar"));
+    /// let second = entries.next().transpose()?;
+    /// assert!(rt; matches!(second, Some((key, 1)) if key.as_str() == "foo"));
+    /// assert!(rt; entries.next().is_none());
+    /// ```
     pub fn iter(&self) -> Iter<'_, K, V>
         ensures { result ≡ map.entries self.now }
     {
@@ -335,6 +540,16 @@ impl<K: Bytes, V: Drop> GenericPatriciaMap<K, V> {
     /// Returns the entries whose key begins with the prefix, in key order, each with an owned key.
     /// Making the iterator does not allocate; an item that is an error is out of memory, and ends
     /// it.
+    ///
+    /// # Examples
+    ///
+    /// ```
+    /// let map = StringPatriciaMap::from_iter(rt.alloc(), [("foo", 1), ("bar", 2), ("baz", 3)])?;
+    /// for entry in map.iter_prefix("ba") {
+    ///     let (key, _) = entry?;
+    ///     assert!(rt; key.starts_with("ba"));
+    /// }
+    /// ```
     pub fn iter_prefix<Q: BorrowedBytes<Owned = K>>(&self, prefix: Q) -> IterPrefix<'_, Q, V>
         ensures { result ≡ under (Q.key prefix) (map.entries self.now) }
     {
@@ -343,6 +558,16 @@ impl<K: Bytes, V: Drop> GenericPatriciaMap<K, V> {
 
     /// Returns the keys in order, each an owned key. Making the iterator does not allocate; an item
     /// that is an error is out of memory, and ends it.
+    ///
+    /// # Examples
+    ///
+    /// ```
+    /// let map = StringPatriciaMap::from_iter(rt.alloc(), [("foo", 1), ("bar", 2)])?;
+    /// let mut keys = map.keys();
+    /// assert_eq!(rt; keys.next().transpose()?.as_deref(), Some("bar"));
+    /// assert_eq!(rt; keys.next().transpose()?.as_deref(), Some("foo"));
+    /// assert!(rt; keys.next().is_none());
+    /// ```
     pub fn keys(&self) -> Keys<'_, K, V>
         ensures { result ≡ map.keys self.now }
     {
@@ -351,6 +576,16 @@ impl<K: Bytes, V: Drop> GenericPatriciaMap<K, V> {
 
     /// Returns the values in the order of their keys. Making the iterator does not allocate; an
     /// item that is an error is out of memory, and ends it.
+    ///
+    /// # Examples
+    ///
+    /// ```
+    /// let map = StringPatriciaMap::from_iter(rt.alloc(), [("foo", 1), ("bar", 2)])?;
+    /// let mut values = map.values();
+    /// assert_eq!(rt; values.next().transpose()?, Some(&2));
+    /// assert_eq!(rt; values.next().transpose()?, Some(&1));
+    /// assert!(rt; values.next().is_none());
+    /// ```
     pub fn values(&self) -> Values<'_, K, V>
         ensures { result ≡ map.values self.now }
     {

@@ -64,7 +64,7 @@ where
         }
     }
 
-    // Lends the value of the entry that it went on to last.
+    // Lends the value of the entry that it advanced to last.
     fn there(&mut self) -> &mut V
         requires { IsSome (last_value self.old.at) }
         ensures* writes { sem 𝓛 (lends_next_under M.row K.row Q.row V.row K.Bytes Q.BorrowedBytes self.entry result) }

@@ -51,6 +51,13 @@ impl<T: Bytes> Model for GenericPatriciaSet<T> {
 
 impl<T: Bytes> GenericPatriciaSet<T> {
     /// Makes an empty set, which keeps the allocator. Does not allocate.
+    ///
+    /// # Examples
+    ///
+    /// ```
+    /// let set = PatriciaSet::new(rt.alloc());
+    /// assert!(rt; set.is_empty());
+    /// ```
     pub fn new(alloc: Global) -> Self
         ensures { result ≡ set.empty }
     {
@@ -60,6 +67,15 @@ impl<T: Bytes> GenericPatriciaSet<T> {
     }
 
     /// Returns the number of elements, the empty one included, in constant time.
+    ///
+    /// # Examples
+    ///
+    /// ```
+    /// let mut set = StringPatriciaSet::new(rt.alloc());
+    /// set.insert("foo")?;
+    /// set.insert("foo")?;
+    /// assert_eq!(rt; set.len(), 1);
+    /// ```
     pub fn len(&self) -> usize
         ensures { result ≡ set.len self.now }
     {
@@ -67,6 +83,15 @@ impl<T: Bytes> GenericPatriciaSet<T> {
     }
 
     /// Returns whether there is no element.
+    ///
+    /// # Examples
+    ///
+    /// ```
+    /// let mut set = StringPatriciaSet::new(rt.alloc());
+    /// assert!(rt; set.is_empty());
+    /// set.insert("")?;
+    /// assert!(rt; !set.is_empty());
+    /// ```
     pub fn is_empty(&self) -> bool
         ensures { IsTrue result ↔ (set.len self.now ≡ 0) }
     {
@@ -74,6 +99,15 @@ impl<T: Bytes> GenericPatriciaSet<T> {
     }
 
     /// Drops all elements, and keeps the allocator. Does not allocate.
+    ///
+    /// # Examples
+    ///
+    /// ```
+    /// let mut set = StringPatriciaSet::new(rt.alloc());
+    /// set.insert("foo")?;
+    /// set.clear();
+    /// assert!(rt; set.is_empty());
+    /// ```
     pub fn clear(&mut self)
         ensures { self.new ≡ set.empty }
     {
@@ -82,6 +116,15 @@ impl<T: Bytes> GenericPatriciaSet<T> {
 
     /// Returns whether the element is there. Does not allocate, and takes the time of the map's
     /// `get`.
+    ///
+    /// # Examples
+    ///
+    /// ```
+    /// let mut set = StringPatriciaSet::new(rt.alloc());
+    /// set.insert("foo")?;
+    /// assert!(rt; set.contains("foo"));
+    /// assert!(rt; !set.contains("bar"));
+    /// ```
     pub fn contains<Q: BorrowedBytes<Owned = T>>(&self, element: Q) -> bool
         ensures { result ≡ set.contains self.now (Q.key element) }
     {
@@ -92,6 +135,16 @@ impl<T: Bytes> GenericPatriciaSet<T> {
     /// not allocate.
     ///
     /// What is returned is a part of the key that is passed, and does not borrow the set.
+    ///
+    /// # Examples
+    ///
+    /// ```
+    /// let mut set = StringPatriciaSet::new(rt.alloc());
+    /// set.insert("foo")?;
+    /// set.insert("foobar")?;
+    /// assert_eq!(rt; set.get_longest_common_prefix("foobaz"), Some("foo"));
+    /// assert_eq!(rt; set.get_longest_common_prefix("bar"), None);
+    /// ```
     pub fn get_longest_common_prefix<Q: BorrowedBytes<Owned = T>>(&self, key: Q) -> Option<Q>
         ensures longest { option_map Q.key result ≡ longest_key (Q.key key) (set.rows self.now) }
         ensures part { IfSome result (λ part. Begins (Q.key part) (Q.key key)) }
@@ -104,6 +157,14 @@ impl<T: Bytes> GenericPatriciaSet<T> {
 
     /// Returns how many bytes of the key, in whole items, some element begins with, whatever
     /// follows them there; 0 for an empty set. Does not allocate.
+    ///
+    /// # Examples
+    ///
+    /// ```
+    /// let mut set = StringPatriciaSet::new(rt.alloc());
+    /// set.insert("foobar")?;
+    /// assert_eq!(rt; set.longest_common_prefix_len("foobaz"), 5);
+    /// ```
     pub fn longest_common_prefix_len<Q: BorrowedBytes<Owned = T>>(&self, key: Q) -> usize
         ensures { IsReach T.item (set.elements self.now) (Q.key key) result }
     {
@@ -116,6 +177,14 @@ impl<T: Bytes> GenericPatriciaSet<T> {
     ///
     /// Out of memory, at a new nonempty element alone: the set is unchanged. A new nonempty element
     /// where `usize::MAX - 1` of them are stored is refused in the same way.
+    ///
+    /// # Examples
+    ///
+    /// ```
+    /// let mut set = StringPatriciaSet::new(rt.alloc());
+    /// assert!(rt; set.insert("foo")?);
+    /// assert!(rt; !set.insert("foo")?);
+    /// ```
     pub fn insert<Q: BorrowedBytes<Owned = T>>(&mut self, element: Q) -> Result<bool, AllocError>
         ensures is_new { IfOk result (λ b. b ≡ not (set.contains self.old (Q.key element))) }
         ensures ok { OnOk result (self.new ≡ set.insert self.old (Q.key element)) }
@@ -136,6 +205,15 @@ impl<T: Bytes> GenericPatriciaSet<T> {
     /// Out of memory for a joined label: the set is unchanged. Labels are joined only where a node
     /// is no longer needed by an element or by two branches, so never for an absent or the empty
     /// element.
+    ///
+    /// # Examples
+    ///
+    /// ```
+    /// let mut set = StringPatriciaSet::new(rt.alloc());
+    /// set.insert("foo")?;
+    /// assert!(rt; set.remove("foo")?);
+    /// assert!(rt; !set.remove("foo")?);
+    /// ```
     pub fn remove<Q: BorrowedBytes<Owned = T>>(&mut self, element: Q) -> Result<bool, AllocError>
         ensures was_there { IfOk result (λ b. b ≡ set.contains self.old (Q.key element)) }
         ensures ok { OnOk result (self.new ≡ set.remove self.old (Q.key element)) }
@@ -150,6 +228,16 @@ impl<T: Bytes> GenericPatriciaSet<T> {
     /// # Errors
     ///
     /// Out of memory, never for an empty set.
+    ///
+    /// # Examples
+    ///
+    /// ```
+    /// let mut set = StringPatriciaSet::new(rt.alloc());
+    /// set.insert("foo")?;
+    /// let copy = set.clone()?;
+    /// set.clear();
+    /// assert!(rt; copy.contains("foo"));
+    /// ```
     pub fn clone(&self) -> Result<Self, AllocError>
         ensures same { IfOk result (λ s. s ≡ self.now) }
         ensures err_only_nonempty { OnErr result (set.len self.now ≢ 0) }
@@ -165,6 +253,16 @@ impl<T: Bytes> GenericPatriciaSet<T> {
     ///
     /// Out of memory: the set is unchanged. Never for the empty prefix, which moves the whole set,
     /// nor where no element begins with the prefix.
+    ///
+    /// # Examples
+    ///
+    /// ```
+    /// let mut set = StringPatriciaSet::from_iter(rt.alloc(), ["rust", "ruby", "python"])?;
+    /// let split = set.split_by_prefix("ru")?;
+    /// assert_eq!(rt; split.len(), 2);
+    /// assert!(rt; split.contains("rust"));
+    /// assert!(rt; set.contains("python"));
+    /// ```
     pub fn split_by_prefix<Q: BorrowedBytes<Owned = T>>(
         &mut self,
         prefix: Q,
@@ -189,6 +287,13 @@ impl<T: Bytes> GenericPatriciaSet<T> {
     ///
     /// `TooDeep` where a record would lie deeper than level 65,535, which takes elements of more
     /// than that many bytes; or out of memory.
+    ///
+    /// # Examples
+    ///
+    /// ```
+    /// let set = StringPatriciaSet::from_iter(rt.alloc(), ["a"])?;
+    /// assert_eq!(rt; set.tree_bytes()?.as_slice(), [12, 0, 0, 0, 3, 1, 0, 1, 97].as_slice());
+    /// ```
     pub fn tree_bytes(&self) -> Result<Vec<u8>, WireError>
         ensures ok { IfOk result (λ b. AreTreeBytes T.item 2 b.items (set.rows self.now)) }
         ensures too_deep { result ≡ Err WireError.TooDeep → TooDeep T.item 2 (set.elements self.now) }
@@ -205,6 +310,15 @@ impl<T: Bytes> GenericPatriciaSet<T> {
     ///
     /// The first fault of the bytes or of the number of values, and where it stands. A whole tree
     /// with the right number has none, and is refused as out of memory alone.
+    ///
+    /// # Examples
+    ///
+    /// ```
+    /// let bytes = [12, 0, 0, 0, 3, 1, 0, 1, 97];
+    /// let values = Vec::from_slice(rt.alloc(), &[()])?;
+    /// let set = StringPatriciaSet::from_wire(rt.alloc(), &bytes, values)?;
+    /// assert!(rt; set.contains("a"));
+    /// ```
     pub fn from_wire(alloc: Global, bytes: &[u8], values: Vec<()>) -> Result<Self, DecodeError>
         ensures ok { IfOk result (λ s. Means T.item 2 bytes.now values.items (set.rows s)) }
         ensures refused { IfErr result (λ e. IsRefusal T.item 2 bytes.now (length values.items) e) }
@@ -216,6 +330,16 @@ impl<T: Bytes> GenericPatriciaSet<T> {
 
     /// Returns the elements in order, each owned. Making the iterator does not allocate; an item
     /// that is an error is out of memory, and ends it.
+    ///
+    /// # Examples
+    ///
+    /// ```
+    /// let set = StringPatriciaSet::from_iter(rt.alloc(), ["foo", "bar"])?;
+    /// let mut elements = set.iter();
+    /// assert_eq!(rt; elements.next().transpose()?.as_deref(), Some("bar"));
+    /// assert_eq!(rt; elements.next().transpose()?.as_deref(), Some("foo"));
+    /// assert!(rt; elements.next().is_none());
+    /// ```
     pub fn iter(&self) -> Iter<'_, T>
         ensures { result ≡ set.elements self.now }
     {
@@ -224,6 +348,16 @@ impl<T: Bytes> GenericPatriciaSet<T> {
 
     /// Returns the elements that begin with the prefix, in order, each owned. Making the iterator
     /// does not allocate; an item that is an error is out of memory, and ends it.
+    ///
+    /// # Examples
+    ///
+    /// ```
+    /// let set = StringPatriciaSet::from_iter(rt.alloc(), ["foo", "bar", "baz"])?;
+    /// let mut elements = set.iter_prefix("ba");
+    /// assert_eq!(rt; elements.next().transpose()?.as_deref(), Some("bar"));
+    /// assert_eq!(rt; elements.next().transpose()?.as_deref(), Some("baz"));
+    /// assert!(rt; elements.next().is_none());
+    /// ```
     pub fn iter_prefix<Q: BorrowedBytes<Owned = T>>(&self, prefix: Q) -> IterPrefix<'_, Q>
         ensures { result ≡ keys_of (under (Q.key prefix) (set.rows self.now)) }
     {

@@ -1,5 +1,5 @@
-//! The wire: the faults of encoding and of decoding a map or a set, its laws, worked examples, and the
-//! JSON of tree bytes and values.
+//! The wire: the faults of encoding and of decoding a map or a set, its laws, worked examples, and
+//! the JSON of tree bytes and values.
 //!
 //! `tree_bytes` of a map or a set gives its tree bytes. Beside the values, in key order, they are
 //! all that a map is, and `from_wire` makes it of them again.

@@ -100,7 +100,7 @@ module _ (item : List ℕ → Type 0) (kind : IsKeyKind item) {V : Type 0} (t u 
     some = next_filled item kind t prefix w.held (left_of t) w.left_is r.some;
   }
 
-  -- and a step goes on to the next key
+  -- and a step advances to the next key
   pub gone_on : (key : Option (List ℕ)) → Advances t key u → Gone item t u prefix key
   gone_on None g =
       let none = next_none item kind t prefix w.held (subst (AreEntriesLeft t prefix) g.0 w.left_is) in
@@ -160,7 +160,7 @@ module _ (item : List ℕ → Type 0) (kind : IsKeyKind item) {V : Type 0} (t u 
         by (Some k) = (λ some none. absurd (cc), λ some. refl)
     step_found (Err e) goes = tt
 
--- what an answer goes on to
+-- what a result advances to
 pub goes_so : {A E : Type 0} (P : A → Type 0) (r : Result A E) → IfOk r P → (a : A) → r ≡ Ok a → P a
 goes_so P (Ok b) p a e = let same : b ≡ a = cc in subst P same p
 goes_so P (Err b) p a e = absurd (cc)

@@ -1,4 +1,4 @@
-//! The values along a key: those of its stored beginnings, the shortest first.
+//! The values along a key: those of its stored prefixes, the shortest first.
 ghost use Rattle.std.specs.Prelude.{◌≡◌, ◌++◌, Some, None, take};
 ghost use Rattle.std.specs.Map.Iter.{TakesFirst};
 ghost use Rattle.std.specs.Option.{option_copied};

@@ -82,7 +82,7 @@ impl<K: Bytes, V: Drop> Cursor<K, V> {
         self.state.advance_without_key::<K>()
     }
 
-    /// Lends the value that it went on to last, or answers `None` where it has not gone on yet.
+    /// Lends the value that it advanced to last, or returns `None` where it has not advanced yet.
     pub fn value(&mut self) -> Option<&mut V>
         ensures* writes { sem 𝓛 (lends_last K.row V.row K.Bytes self.entry result) }
         ensures value { option_copied_mut result ≡ last_value self.old }
@@ -185,7 +185,7 @@ impl<Q: BorrowedBytes, V: Drop> PrefixCursor<Q, V> {
         self.state.advance(self.alloc)
     }
 
-    /// Lends the value that it went on to last, or answers `None` where it has not gone on yet.
+    /// Lends the value that it advanced to last, or returns `None` where it has not advanced yet.
     pub fn value(&mut self) -> Option<&mut V>
         ensures* writes { sem 𝓛 (lends_last_under Q.row V.row Q.Owned.row Q.BorrowedBytes Q.Owned.Bytes self.entry result) }
         ensures value { option_copied_mut result ≡ last_value self.old }

@@ -172,7 +172,7 @@ impl<V> CursorState<V> {
         }
     }
 
-    // Goes on to the node's value and its children.
+    // Advances to the node's value and its children.
     fn descend<K: Bytes>(&mut self, id: NodeId) -> Result<(), AllocError>
         requires position { IsPosition K.item (seen self.old) }
         requires taken { self.old.pending ≡ None }
@@ -213,7 +213,7 @@ impl<V> CursorState<V> {
         true
     }
 
-    // Goes on to the next value, whose key is then the path, and who holds it is due. The answer
+    // Advances to the next value, whose key is then the path, and who holds it is due. The answer
     // is false where there is none.
     fn seek<K: Bytes>(&mut self) -> Result<bool, AllocError>
         requires { IsPosition K.item (seen self.old) }

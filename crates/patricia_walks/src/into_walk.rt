@@ -41,7 +41,7 @@ impl<V: Drop> OwnedTraversal<V> {
         self.stack.clear();
     }
 
-    // Goes on to the node's value and its children.
+    // Advances to the node's value and its children.
     fn descend<K: Bytes>(&mut self, id: NodeId) -> Result<(), AllocError>
         requires position { IsPosition K.item (owned self.old) }
         requires taken { self.old.pending ≡ None }

@@ -39,7 +39,7 @@ impl<'a, V> Traversal<'a, V> {
         self.stack.clear();
     }
 
-    // Goes on to the node's value and its children.
+    // Advances to the node's value and its children.
     fn descend<K: Bytes>(&mut self, id: NodeId) -> Result<(), AllocError>
         requires position { IsPosition K.item (lent self.old) }
         requires taken { self.old.pending ≡ None }

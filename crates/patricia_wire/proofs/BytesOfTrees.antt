@@ -1,4 +1,4 @@
--- A writing of the keys of rows is their tree bytes.
+-- An encoding of the keys of rows is their tree bytes.
 use Rattle.std.proofs.Common.{◌≡◌, ℕ, List, refl, sym, subst}
 use Rattle.patricia_keys.specs.Keys.{IsKeyKind}
 use Rattle.patricia_model.specs.Siblings.{keys_of}

@@ -68,7 +68,7 @@ module _ (item : List ℕ → Type 0) where
       let t = stands_tree item R E root in
       ap value_marks (sym t.records) ∙ marks_tree t.value t.row ∙ sym (length-map (own t.value ++ entries t.row) (λ e. e.0)) ∙ ap length t.keys
 
-  -- no tree is a proper beginning of another
+  -- no tree is a proper prefix of another
   whole : (R P Y : List Record) (E F : List (List ℕ)) → Root item R E → Root item P F → R ≡ P ++ Y → Y ≡ []
   whole R P Y E F x y e =
       let a = stands_tree item R E x in

@@ -66,7 +66,7 @@ module _ (item : List ℕ → Type 0) where
       let same = one_list w x.records y.records b x.spelled y.spelled in
       rows_same M N (one_key_list y.records _ _ (subst (λ R. Root item R (keys_of M)) same x.root) y.root) (sym x.in_place ∙ y.in_place)
 
-  -- a writing spells its records
+  -- an encoding spells its records
   pub writing_spells : (w : ℕ) (b : List ℕ) (E : List (List ℕ)) (x : Canon item w b E) → EncodeAll w x.records b
   writing_spells w b E x = subst (EncodeAll w x.records) (sym x.is) (clean_spell_all w x.records x.room)
 

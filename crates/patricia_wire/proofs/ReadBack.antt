@@ -1,4 +1,4 @@
--- What was written is read back, and for want of memory alone is it not.
+-- What was written is read back, unless an allocation fails.
 use Rattle.std.proofs.Common.{◌≡◌, ℕ, List, length}
 use Rattle.patricia_model.specs.Walks.{values_of}
 use Rattle.patricia_wire.specs.Writings.{Means}

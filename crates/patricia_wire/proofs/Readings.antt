@@ -364,7 +364,7 @@ module _ (item : List ℕ → Type 0) where
       go [] (down f V same (child ahead r b c l m) all) = absurd (no_last ahead r (sym none ∙ b))
       go [] (back ahead r b leaf all) = absurd (no_last ahead r (sym none ∙ b))
 
-  -- no beginning of what is read is a tree, where more is due
+  -- no prefix of what is read is a tree, where more is due
   unfinished_with : (n : ℕ) (before : List Record) (D : List Due) → IsRead item n before D → (due : Due) (waiting : List Due) → D ≡ due ∷ waiting → IsUnfinished item before
   unfinished_with n before D nothing due waiting e [] X E f tree = (let none = tree.records in cc)
   unfinished_with n before D nothing due waiting e (p ∷ P) X E f tree = absurd (cc)

@@ -81,7 +81,7 @@ module _ (item : List ℕ → Type 0) (n : ℕ) where
           let head : y ≡ s = cc in
           earlier Y (split ∙ ap (λ z. A ++ (z ∷ Y)) head)
 
-  -- no proper beginning of what was read is a tree
+  -- no proper prefix of what was read is a tree
   none_whole : (before : List Record) (D : List Due) → IsRead item n before D → (P : List Record) (s : Record) (S : List Record) (E : List (List ℕ)) → before ≡ P ++ (s ∷ S) → Root item P E → ⊥
   none_whole before D nothing P s S E e tree = nil_split P s S e
   none_whole before D (one_more ahead r due waiting read fine) P s S E e tree = elim (back_split ahead r P (s ∷ S) e) [

@@ -64,7 +64,7 @@ module _ (item : List ℕ → Type 0) (kind : IsKeyKind item) where
     | inr deep ↦ absurd (not_deep w (tree_records v r) shallow deep)
   ]
 
-  -- the writing of the keys of a row
+  -- the encoding of the keys of a row
   pub written : (w : ℕ) (v : Option Nothing) (r : Siblings Nothing) → IsWritable item r → are_shallow w (tree_records v r) ≡ true → are_apart (records_of 1 r) ≡ true → Canon item w (canonical_bytes_of w (tree_records v r)) (keys_of (own v ++ entries r))
   written w v r ok shallow apart = record {
     records = tree_records v r;
@@ -158,6 +158,6 @@ pub byte_rooms : (w : ℕ) (R : List Record) → list_all (has_room w) R ≡ tru
 byte_rooms w [] test = All-nil (HasRoom w)
 byte_rooms w (r ∷ R) test = All-cons (HasRoom w) r R (byte_room w r (first_so _ _ test)) (byte_rooms w R (second_so _ _ test))
 
--- the writing of the keys of a row of byte keys
+-- the encoding of the keys of a row of byte keys
 pub byte_written : (w : ℕ) (v : Option Nothing) (r : Siblings Nothing) → is_writable r ≡ true → are_shallow w (tree_records v r) ≡ true → are_apart (records_of 1 r) ≡ true → Canon IsByteItem w (canonical_bytes_of w (tree_records v r)) (keys_of (own v ++ entries r))
 byte_written w v r test = written IsByteItem byte_lawful w v r (byte_writable r test)

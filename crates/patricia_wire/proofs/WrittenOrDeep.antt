@@ -1,4 +1,4 @@
--- A tight tree has a writing, or a record too deep for one.
+-- A tight tree has an encoding, or a record too deep for one.
 use Rattle.std.proofs.Common.{ℕ, suc, zero, ◌+◌, ◌<◌, ◌≤◌, ◌⊎◌, inl, inr, List, [], ◌∷◌, ◌++◌, Option, Some, refl, sym, ap, subst, ◌∙◌, arith}
 use Rattle.std.specs.Prelude.{◌^◌, All, Any}
 use Rattle.std.proofs.lemmas.Bool.{cases_lt}

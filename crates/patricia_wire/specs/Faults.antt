@@ -101,7 +101,7 @@ module _ (item : List ℕ → Type 0) where
   IsFaulty before r n trailing_bytes = ⊥
   IsFaulty before r n too_many_values = ⊥
 
-  -- no beginning of the records is a whole tree
+  -- no prefix of the records is a whole tree
   abbrev pub IsUnfinished : List Record → Type 0
   IsUnfinished before =
       (P X : List Record) (E : List (List ℕ)) → before ≡ P ++ X → Root item P E → ⊥

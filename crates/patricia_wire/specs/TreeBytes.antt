@@ -7,13 +7,13 @@ use Rattle.patricia_wire.specs.Writings.{Means, Canon, TooDeep}
 use Rattle.patricia_wire.specs.Counts.{LabelsAreFronts, RecordsArePoints, AreFew}
 
 module _ (item : List ℕ → Type 0) where
-  -- b is the writing of the rows' keys, and with the rows' values it means the rows
+  -- b is the encoding of the rows' keys, and with the rows' values it means the rows
   pub record AreTreeBytes {V : Type 0} (w : ℕ) (b : List ℕ) (rows : List (List ℕ × V)) : Type 0 where
     -- the bytes and the values, in key order, mean these rows
     pub means : Means item w b (values_of rows) rows
-    -- no other bytes are the writing of the keys
+    -- no other bytes are the encoding of the keys
     pub one_writing : (c : List ℕ) → Canon item w c (keys_of rows) ↔ (c ≡ b)
-    -- and they are the writing of no other keys
+    -- and they are the encoding of no other keys
     pub one_key_set : (S : List (List ℕ)) → Canon item w b S ↔ (S ≡ keys_of rows)
     -- the keys do not lie too deep
     pub not_too_deep : TooDeep item w (keys_of rows) → ⊥

@@ -12,12 +12,12 @@ use Rattle.patricia_wire.specs.TreeBytes.{AreTreeBytes}
 use Rattle.patricia_wire.specs.Faults.{Fault, IsFirst, Stands}
 
 module _ (item : List ℕ → Type 0) where
-  -- a set of keys has one writing
+  -- a set of keys has one encoding
   abbrev pub HasOneWriting : Type 0
   HasOneWriting =
       (w : ℕ) (b c : List ℕ) (S : List (List ℕ)) → Canon item w b S → Canon item w c S → b ≡ c
 
-  -- bytes are the writing of one set of keys
+  -- bytes are the encoding of one set of keys
   abbrev pub HasOneKeySet : Type 0
   HasOneKeySet =
       (w : ℕ) (b : List ℕ) (S T : List (List ℕ)) → Canon item w b S → Canon item w b T → S ≡ T
@@ -34,13 +34,13 @@ module _ (item : List ℕ → Type 0) where
       (w : ℕ) (b : List ℕ) (values : List V) (M : List (List ℕ × V)) → Means item w b values M
       → (m : map.FinMap key_cmp V) × (map.entries m ≡ M) × All (IsValid item) (map.keys m)
 
-  -- the writing of the keys of rows means these rows
+  -- the encoding of the keys of rows means these rows
   abbrev pub WritingMeansRows : Type 0 → Type 0
   WritingMeansRows V =
       (w : ℕ) (b : List ℕ) (rows : List (List ℕ × V))
       → Canon item w b (keys_of rows) → Means item w b (values_of rows) rows
 
-  -- the keys of a finite map, if they are valid, have a writing, or lie too deep for one
+  -- the keys of a finite map, if they are valid, have an encoding, or lie too deep for one
   abbrev pub IsWrittenOrTooDeep : Type 0 → Type 0
   IsWrittenOrTooDeep V =
       (w : ℕ) (m : map.FinMap key_cmp V) → All (IsValid item) (map.keys m)
@@ -95,7 +95,7 @@ module _ (item : List ℕ → Type 0) where
       (w : ℕ) (b : List ℕ) (values : List V) (M : List (List ℕ × V)) (f : Fault) (o : ℕ)
       → Means item w b values M → Stands item w b (length values) f o → ⊥
 
-  -- so such bytes and values have no first fault: for want of memory alone are they refused
+  -- so such bytes and values have no first fault: an allocation failure alone refuses them
   abbrev pub HasNoFirstFaultWhereMeant : Type 0 → Type 0
   HasNoFirstFaultWhereMeant V =
       (w : ℕ) (b : List ℕ) (values : List V) (M : List (List ℕ × V)) (f : Fault) (o : ℕ)

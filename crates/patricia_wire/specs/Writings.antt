@@ -1,4 +1,4 @@
--- What bytes mean, and the one tight writing of a set of keys, which is given as a list in order.
+-- What bytes mean, and the one tight encoding of a set of keys, which is given as a list in order.
 use Rattle.std.specs.Prelude.{◌≡◌, ℕ, ◌<◌, ◌≤◌, ◌^◌, true, false, List, [], ◌∷◌, ◌++◌, length, All, Any}
 use Rattle.patricia_keys.specs.Keys.{Begins}
 use Rattle.patricia_model.specs.Siblings.{keys_of}

@@ -1,4 +1,4 @@
-//! Worked writings and first faults, as contracts of functions that do nothing. Levels are written in two bytes, but
+//! Worked encodings and first faults, as contracts of functions that do nothing. Levels are written in two bytes, but
 //! for one in four.
 ghost use Rattle.std.specs.Prelude.{◌≡◌, ℕ, List, [], ◌∷◌};
 ghost use Rattle.patricia_keys.specs.ByteKind.{IsByteItem};
@@ -56,14 +56,14 @@ pub fn long_text()
     ensures bytes { Canon IsByteItem 2 long_text_and_b_written_as_bytes long_text_and_b }
 {}
 
-/// A writing that is not tight means its rows all the same, and is no key set's writing.
+/// An encoding that is not tight means its rows all the same, and is no key set's encoding.
 pub fn not_tight()
     ensures meant { Means IsByteItem {V = ℕ} 2 ab_in_two (7 ∷ []) ((ab, 7) ∷ []) }
     ensures loose { (S : List (List ℕ)) → Canon IsByteItem 2 ab_in_two S → ⊥ }
     ensures tight { Canon IsByteItem 2 ab_written (ab ∷ []) }
 {}
 
-/// Only the three marks of the flags are read, and in a writing they decide the other bits too.
+/// Only the three marks of the flags are read, and in an encoding they decide the other bits too.
 pub fn other_bits()
     ensures meant { Means IsByteItem {V = ℕ} 2 a_in_other_bits (5 ∷ []) ((97 ∷ [], 5) ∷ []) }
     ensures other { (S : List (List ℕ)) → Canon IsByteItem 2 a_in_other_bits S → ⊥ }

@@ -10,12 +10,12 @@ ghost use Rattle.patricia_wire.specs.WireLaws.{ReadsBack, TellsKeySets, DependsO
 
 use patricia_keys::Bytes;
 
-/// A set of keys has one writing.
+/// A set of keys has one encoding.
 pub fn one_writing<K: Bytes>()
     ensures { HasOneWriting K.item }
 {}
 
-/// Bytes are the writing of one set of keys.
+/// Bytes are the encoding of one set of keys.
 pub fn one_key_set<K: Bytes>()
     ensures { HasOneKeySet K.item }
 {}
@@ -26,12 +26,12 @@ pub fn one_meaning<K: Bytes, V>()
     ensures map { MeansMap K.item V }
 {}
 
-/// The writing of the keys of rows, with their values in turn, means these rows.
+/// The encoding of the keys of rows, with their values in turn, means these rows.
 pub fn writing_means_rows<K: Bytes, V>()
     ensures { WritingMeansRows K.item V }
 {}
 
-/// The keys of a finite map, if they are valid, have a writing or lie too deep for one, and never
+/// The keys of a finite map, if they are valid, have an encoding or lie too deep for one, and never
 /// both.
 pub fn written_or_too_deep<K: Bytes, V>()
     ensures one { IsWrittenOrTooDeep K.item V }

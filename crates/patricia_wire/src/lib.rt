@@ -1,5 +1,5 @@
 //! The wire form of a Patricia tree, as definitions and laws: what tree bytes mean, and the one
-//! tight writing of a set of keys.
+//! tight encoding of a set of keys.
 //!
 //! `patricia_tree` is the library to use. It depends on this crate.
 #![tactic(auto)]

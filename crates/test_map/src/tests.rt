@@ -1,6 +1,9 @@
+mod cursor_examples;
 mod helpers;
 mod listings;
 mod loans;
+mod map_examples;
+mod set_examples;
 mod long_keys;
 mod longest_loans;
 mod refused_text;

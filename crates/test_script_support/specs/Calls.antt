@@ -18,7 +18,7 @@ told_by line [] = []
 told_by line (word ∷ []) = []
 told_by line (kind ∷ name ∷ arguments) = (line, kind, name) ∷ []
 
--- the call that a line is, if it is one: its words are parted by spaces
+-- the call that a line is, if it is one: its words are separated by spaces
 abbrev pub call_of : List ℕ → List Told
 call_of line = told_by line (slice_split (λ b. b == 32) line)
 

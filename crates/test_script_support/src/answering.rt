@@ -33,7 +33,7 @@ pub trait Listed: Drop {
 
 /// One that answers calls on its keys.
 pub trait Answering<'a, Q: Readable<'a>>: Listed {
-    /// Takes out what begins with the prefix.
+    /// Removes what begins with the prefix.
     fn split(&mut self, prefix: Q) -> Result<Self, AllocError>;
 
     /// Adds the answers to a call that is no list, no copy and no split.

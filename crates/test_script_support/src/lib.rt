@@ -1,7 +1,7 @@
 //! What `test_scripts` is made of: calls of the library are read, a line each, and each line is
 //! written with its answers.
 //!
-//! A line is words parted by spaces: the kind of keys, the call, and its arguments. The lines of
+//! A line is words separated by spaces: the kind of keys, the call, and its arguments. The lines of
 //! each kind are called in their order, on one map or set, which is empty at first. Other lines are
 //! left out.
 //!

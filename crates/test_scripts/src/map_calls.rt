@@ -140,7 +140,7 @@ fn add_inserts<'a, Q: Readable<'a>>(
     Ok(())
 }
 
-// A refusal hands the value back, and that very value is then put in.
+// A refusal gives the value back, and the same value is then inserted.
 fn add_insert<Q: BorrowedBytes>(
     asked: &mut MapCalls<Q::Owned>,
     key: Q,

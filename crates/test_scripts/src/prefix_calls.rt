@@ -1,4 +1,4 @@
-//! The calls of a map about beginnings of keys.
+//! The calls of a map about prefixes of keys.
 
 use crate::{key_calls, map_queries};
 use patricia_tree::{BorrowedBytes, Bytes, GenericPatriciaMap};

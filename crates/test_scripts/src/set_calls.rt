@@ -87,7 +87,7 @@ where
     }
 }
 
-// Puts each element in, or takes it out.
+// Inserts each element, or removes it.
 fn add_changes<'a, Q: Readable<'a>>(
     set: &mut Set<Q::Owned>,
     is_insert: bool,
@@ -156,7 +156,7 @@ fn put<'a, Q: Readable<'a>>(
     Ok(())
 }
 
-// So many times nothing, which takes no memory.
+// So many times `()`, which does not allocate.
 fn nothings(alloc: Global, count: usize) -> Result<Vec<()>, AllocError> {
     let mut nothings = Vec::new(alloc);
     for _ in 0..count {
@@ -166,7 +166,7 @@ fn nothings(alloc: Global, count: usize) -> Result<Vec<()>, AllocError> {
 }
 
 // The elements of a set that is read, or the fault. The second argument says how many values there
-// are, each of which is nothing and takes no memory.
+// are, each of which is `()` and does not allocate.
 fn add_read<'a, K: Bytes>(
     alloc: Global,
     asked: &mut SetCalls<K>,

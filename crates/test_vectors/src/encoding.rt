@@ -2,7 +2,7 @@
 //!
 //! A call asks for the bytes (`tree`), for how many bytes and records there are and the deepest
 //! level (`size`), or for their JSON and what is read from it (`json`). Its arguments are the
-//! steps that make a map and a set. A split answers what it takes out, and the last answer is
+//! steps that make a map and a set. A split returns what it removes, and the last answer is
 //! about what is left.
 
 mod made;

@@ -42,7 +42,7 @@ module _ {V : Type 0} where
       by None row = subst (λ o. (lent_at (start m) (option_map (λ e. e.0) o)).map ≡ m) (sym row) refl
       by (Some e) row = subst (λ o. (lent_at (start m) (option_map (λ e. e.0) o)).map ≡ m) (sym row) refl
 
-  -- what is written where a step lends is put in at the key of the first row
+  -- what is written where a step lends is inserted at the key of the first row
   pub put_first : (m n : map.FinMap key_cmp V) (v w : V) → last_value (stepped (start m)) ≡ Some v → n ≡ (written (stepped (start m)) w).map
       → (key : List ℕ) × (old : V) × (next_row (start m) ≡ Some (key, old)) × (n ≡ map.insert m key w)
   put_first m n v w lent put = by (next_row (start m)) refl

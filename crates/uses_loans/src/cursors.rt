@@ -66,7 +66,7 @@ pub fn replace_first_value<V: Drop, K: Bytes>(
     }
 }
 
-/// Puts a value at the first key by two calls. It answers whether there is a key.
+/// Writes a value at the first key by two calls. Returns whether there is a key.
 pub fn set_first<V: Drop, K: Bytes>(
     m: &mut GenericPatriciaMap<K, V>,
     value: V,

@@ -6,7 +6,7 @@ ghost use Rattle.patricia_tree.specs.Prefixes.{longest};
 use patricia_tree::{BorrowedBytes, GenericPatriciaMap};
 use std::mem;
 
-/// Puts a value in place of that of a key, if there is one. It answers whether there is.
+/// Replaces the value of a key, if there is one. Returns whether there is.
 pub fn replace<V: Drop, Q: BorrowedBytes>(
     m: &mut GenericPatriciaMap<Q::Owned, V>,
     key: Q,

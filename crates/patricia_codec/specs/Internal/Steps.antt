@@ -19,7 +19,7 @@ pub record Fronts (r : Record) (bytes : List ℕ) : Type 0 where
   pub spelled : Encodes 2 r first
   pub joined : bytes ≡ first ++ rest
 
--- the fault that an error names, and its offset in bytes of this length; want of memory names none
+-- the fault that an error names, and its offset in bytes of this length; out of memory names none
 abbrev pub named : ℕ → DecodeError → Option (Fault × ℕ)
 named end Memory = None
 named end (Truncated at) = Some (truncated, at)

@@ -1,4 +1,4 @@
--- What is left of nodes in one vector where a value is put in.
+-- What is left of nodes in one vector where a value is inserted.
 use Rattle.std.specs.Prelude.{◌≡◌, ◌≢◌, ◌⊎◌, ℕ, ◌+◌, suc, List, length, take, Option, Some, None, slice_get}
 use Rattle.std.specs.FinMap.{find}
 use Rattle.std.specs.declared.cmp.Ordering.{Ordering}
@@ -65,6 +65,6 @@ module _ {V : Type 0} where
 abbrev pub FindsAt : (List ℕ → Type 0) → {V Q : Type 0} → (Q → List ℕ) → NodeArena V → SeekResult Q → Option V → Type 0
 FindsAt item key_of s place found = (key : List ℕ) → IsSeekResult item key_of s key place → found ≡ find key_cmp key (entries_of s)
 
--- the value was put in at each key whose place this is
+-- the value was inserted at each key whose place this is
 abbrev pub PutsAt : (List ℕ → Type 0) → {V Q : Type 0} → (Q → List ℕ) → NodeArena V → NodeArena V → SeekResult Q → V → Type 0
 PutsAt item key_of old new place x = (key : List ℕ) → IsSeekResult item key_of old key place → Puts item old new key x

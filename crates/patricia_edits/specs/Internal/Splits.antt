@@ -1,4 +1,4 @@
--- What is left of nodes in one vector where those under a prefix are taken out.
+-- What is left of nodes in one vector where those under a prefix are removed.
 use Rattle.std.specs.Prelude.{◌≡◌, ℕ, ◌≤◌, suc, List, ◌++◌, length, drop, Option, Some, slice_get}
 use Rattle.patricia_nodes.specs.declared.arena.Node.{Node}
 use Rattle.patricia_nodes.specs.declared.arena.NodeArena.{NodeArena}
@@ -43,7 +43,7 @@ module _ {V : Type 0} where
   abbrev pub IsTopLabel : NodeArena V → ℕ → List ℕ → ℕ → List ℕ → Type 0
   IsTopLabel s id prefix passed top = (n : Node V) → slice_get s.nodes.items id ≡ Some n → top ≡ prefix ++ drop passed n.label
 
--- what is under the prefix was taken out, and the rest is left
+-- what is under the prefix was removed, and the rest is left
 pub record SplitsOff (item : List ℕ → Type 0) {V : Type 0} (old new : NodeArena V) (prefix : List ℕ) (taken : Taken V) : Type 0 where
   pub whole : IsWellFormed new
   pub canonical : IsCanonical item (siblings_of new)

@@ -44,7 +44,7 @@ module _ {V : Type 0} where
     pub root_is : new.root ≡ old.root
     pub free_is : new.free ≡ old.free
 
-  -- the node was taken out, and its number is the first that is free
+  -- the node was removed, and its number is the first that is free
   pub record Frees (old new : NodeArena V) (id : ℕ) (n : Node V) : Type 0 where
     pub taken : slice_get old.nodes.items id ≡ Some n
     pub nodes_is : new.nodes.items ≡ slice_set old.nodes.items id (linked [] None None old.free)
@@ -74,7 +74,7 @@ pub record Ready (item : List ℕ → Type 0) {V Q : Type 0} (key_of : Q → Lis
 abbrev pub IsPut : {V : Type 0} → NodeArena V → NodeArena V → List ℕ → V → Type 0
 IsPut old new key x = entries_of new ≡ put key_cmp key x (entries_of old)
 
--- the value was put in at the key
+-- the value was inserted at the key
 pub record Puts (item : List ℕ → Type 0) {V : Type 0} (old new : NodeArena V) (key : List ℕ) (x : V) : Type 0 where
   pub whole : IsWellFormed new
   pub canonical : IsCanonical item (siblings_of new)

@@ -1,4 +1,4 @@
-//! Room for more nodes: a larger vector, in which the nodes are laid anew.
+//! Room for more nodes: a larger vector, to which the nodes are relocated.
 //!
 //! The siblings of a row lie side by side, and the rows level by level. The new vector is the
 //! queue of the rows that wait, so nothing else is asked for.

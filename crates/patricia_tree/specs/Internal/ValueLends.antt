@@ -1,4 +1,4 @@
--- What a cursor over values is after a loan of the value that it went on to last.
+-- What a cursor over values is after a loan of the value at which it stands.
 use Rattle.std.specs.Prelude.{[], Option}
 use Rattle.std.specs.Borrow.{Lends, LendsIf, Fml, RattleType, MutBor}
 use mir.Syntax.{named}

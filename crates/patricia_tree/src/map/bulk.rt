@@ -18,6 +18,15 @@ impl<K: Bytes, V: Drop> GenericPatriciaMap<K, V> {
     ///
     /// Out of memory, at a new nonempty key: the pairs before it are inserted; it and the rest are
     /// dropped.
+    ///
+    /// # Examples
+    ///
+    /// ```
+    /// let mut map = StringPatriciaMap::new(rt.alloc());
+    /// map.extend([("foo", 1), ("bar", 2), ("foo", 3)])?;
+    /// assert_eq!(rt; map.len(), 2);
+    /// assert_eq!(rt; map.get("foo"), Some(&3));
+    /// ```
     pub fn extend<Q: BorrowedBytes<Owned = K>, I: IntoIterator<Item = (Q, V)>>(
         &mut self,
         pairs: I,
@@ -44,6 +53,13 @@ impl<K: Bytes, V: Drop> GenericPatriciaMap<K, V> {
     /// # Errors
     ///
     /// Out of memory, at a new nonempty key. All pairs are dropped then.
+    ///
+    /// # Examples
+    ///
+    /// ```
+    /// let map = StringPatriciaMap::from_iter(rt.alloc(), [("foo", 1), ("bar", 2)])?;
+    /// assert_eq!(rt; map.get("bar"), Some(&2));
+    /// ```
     pub fn from_iter<Q: BorrowedBytes<Owned = K>, I: IntoIterator<Item = (Q, V)>>(
         alloc: Global,
         pairs: I,

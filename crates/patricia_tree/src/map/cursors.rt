@@ -50,6 +50,19 @@ impl<K: Bytes, V: Drop> IntoMap<GenericPatriciaMap<K, V>> for ValueCursor<K, V> 
 
 impl<K: Bytes, V: Drop> GenericPatriciaMap<K, V> {
     /// Returns a cursor over the entries, in key order. Making it does not allocate.
+    ///
+    /// # Examples
+    ///
+    /// ```
+    /// let mut map = StringPatriciaMap::from_iter(rt.alloc(), [("foo", 1), ("bar", 2)])?;
+    /// let mut cursor = map.iter_mut();
+    /// assert_eq!(rt; cursor.advance()?.as_deref(), Some("bar"));
+    /// if let Some(value) = cursor.value() {
+    ///     *value = 5;
+    /// }
+    /// drop(cursor);
+    /// assert_eq!(rt; map.get("bar"), Some(&5));
+    /// ```
     pub fn iter_mut(&mut self) -> IterMut<'_, K, V>
         ensures owner { result.owner.ghost_name ≡ self.entry.ghost_name }
         ensures start { result.at ≡ record { map = self.old; prefix = []; last = None } }
@@ -59,6 +72,19 @@ impl<K: Bytes, V: Drop> GenericPatriciaMap<K, V> {
     }
 
     /// Returns a cursor over the values, in the order of their keys. Making it does not allocate.
+    ///
+    /// # Examples
+    ///
+    /// ```
+    /// let mut map = StringPatriciaMap::from_iter(rt.alloc(), [("foo", 1), ("bar", 2)])?;
+    /// let len = map.len();
+    /// let mut cursor = map.values_mut();
+    /// for _ in 0..len {
+    ///     cursor.next_with(|value| *value = 7)?;
+    /// }
+    /// drop(cursor);
+    /// assert_eq!(rt; map.get("foo"), Some(&7));
+    /// ```
     pub fn values_mut(&mut self) -> ValuesMut<'_, K, V>
         ensures owner { result.owner.ghost_name ≡ self.entry.ghost_name }
         ensures start { result.at ≡ record { map = self.old; prefix = []; last = None } }
@@ -69,6 +95,19 @@ impl<K: Bytes, V: Drop> GenericPatriciaMap<K, V> {
 
     /// Returns a cursor over the entries whose key begins with the prefix, in key order. Making it
     /// does not allocate.
+    ///
+    /// # Examples
+    ///
+    /// ```
+    /// let mut map = StringPatriciaMap::from_iter(rt.alloc(), [("foo", 1), ("bar", 2)])?;
+    /// let mut cursor = map.iter_prefix_mut("f");
+    /// let key = cursor.next_with(|key, value| {
+    ///     *value = 7;
+    ///     key
+    /// })?;
+    /// assert_eq!(rt; key.as_deref(), Some("foo"));
+    /// assert!(rt; cursor.next_with(|_, _| ())?.is_none());
+    /// ```
     pub fn iter_prefix_mut<Q: BorrowedBytes<Owned = K>>(
         &mut self,
         prefix: Q,

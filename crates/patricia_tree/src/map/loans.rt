@@ -41,6 +41,18 @@ impl<K: Bytes, V: Drop> GenericPatriciaMap<K, V> {
     ///
     /// The contract says no more than what is read: what the map is where there is no such key, or
     /// after the loan, that of `with_longest_common_prefix_mut` says.
+    ///
+    /// # Examples
+    ///
+    /// ```
+    /// let mut map = StringPatriciaMap::new(rt.alloc());
+    /// map.insert("foo", 1)?;
+    /// if let Some((key, value)) = map.get_longest_common_prefix_mut("foobar") {
+    ///     assert_eq!(rt; key, "foo");
+    ///     *value = 4;
+    /// }
+    /// assert_eq!(rt; map.get("foo"), Some(&4));
+    /// ```
     pub fn get_longest_common_prefix_mut<Q: BorrowedBytes<Owned = K>>(
         &mut self,
         key: Q,
@@ -60,6 +72,16 @@ impl<K: Bytes, V: Drop> GenericPatriciaMap<K, V> {
     ///
     /// The map keeps what the closure leaves there. The key that it is given is a part of the key
     /// that is passed.
+    ///
+    /// # Examples
+    ///
+    /// ```
+    /// let mut map = StringPatriciaMap::new(rt.alloc());
+    /// map.insert("foo", 1)?;
+    /// let found = map.with_longest_common_prefix_mut("foobar", |_key, value| *value = 4);
+    /// assert!(rt; found.is_some());
+    /// assert_eq!(rt; map.get("foo"), Some(&4));
+    /// ```
     pub fn with_longest_common_prefix_mut<
         Q: BorrowedBytes<Owned = K>,
         R,

@@ -16,6 +16,14 @@ impl<T: Bytes> GenericPatriciaSet<T> {
     ///
     /// Out of memory, at a new nonempty element: those before it are inserted; it and the rest are
     /// dropped.
+    ///
+    /// # Examples
+    ///
+    /// ```
+    /// let mut set = StringPatriciaSet::new(rt.alloc());
+    /// set.extend(["foo", "bar", "foo"])?;
+    /// assert_eq!(rt; set.len(), 2);
+    /// ```
     pub fn extend<Q: BorrowedBytes<Owned = T>, I: IntoIterator<Item = Q>>(
         &mut self,
         elements: I,
@@ -38,6 +46,13 @@ impl<T: Bytes> GenericPatriciaSet<T> {
     /// # Errors
     ///
     /// Out of memory, at a new nonempty element. All are dropped then.
+    ///
+    /// # Examples
+    ///
+    /// ```
+    /// let set = StringPatriciaSet::from_iter(rt.alloc(), ["foo", "bar"])?;
+    /// assert!(rt; set.contains("bar"));
+    /// ```
     pub fn from_iter<Q: BorrowedBytes<Owned = T>, I: IntoIterator<Item = Q>>(
         alloc: Global,
         elements: I,

@@ -50,7 +50,7 @@ module _ {V : Type 0} where
     pub arena : p.arena ≡ t.arena
     pub count : p.count ≡ t.count
 
-  -- it went on to the first key that was left, or there was none
+  -- it advanced to the first key that was left, or there was none
   abbrev pub Advances : CursorState V → Option (List ℕ) → CursorState V → Type 0
   Advances t None u = (left_of t ≡ []) × (left_of u ≡ []) × (u.last ≡ t.last)
   Advances t (Some key) u = (h : ValueSlot) × (left_of t ≡ (key, h) ∷ left_of u) × (u.last ≡ Some h)

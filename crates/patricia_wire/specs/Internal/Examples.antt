@@ -1,4 +1,4 @@
--- Worked writings: keys in order, and the bytes that they are written as. Inputs with a fault.
+-- Worked encodings: keys in order, and the bytes that they are written as. Inputs with a fault.
 use Rattle.std.specs.Prelude.{ℕ, List, [], ◌∷◌, ◌++◌, replicate}
 
 -- no keys
@@ -97,7 +97,7 @@ ab = 97 ∷ 98 ∷ []
 abbrev pub ab_in_two : List ℕ
 ab_in_two = 12 ∷ 0 ∷ 0 ∷ 0 ∷ 12 ∷ 1 ∷ 0 ∷ 1 ∷ 97 ∷ 3 ∷ 1 ∷ 0 ∷ 2 ∷ 98 ∷ []
 
--- and its writing
+-- and its encoding
 abbrev pub ab_written : List ℕ
 ab_written = 12 ∷ 0 ∷ 0 ∷ 0 ∷ 3 ∷ 2 ∷ 0 ∷ 1 ∷ ab
 
@@ -105,7 +105,7 @@ ab_written = 12 ∷ 0 ∷ 0 ∷ 0 ∷ 3 ∷ 2 ∷ 0 ∷ 1 ∷ ab
 abbrev pub a_in_other_bits : List ℕ
 a_in_other_bits = 200 ∷ 0 ∷ 0 ∷ 0 ∷ 194 ∷ 1 ∷ 0 ∷ 1 ∷ 97 ∷ []
 
--- and its writing
+-- and its encoding
 abbrev pub a_written : List ℕ
 a_written = 12 ∷ 0 ∷ 0 ∷ 0 ∷ 3 ∷ 1 ∷ 0 ∷ 1 ∷ 97 ∷ []
 

@@ -51,7 +51,7 @@ fn listed_values<K: Bytes, V: Copy + Drop>(
     Ok(list)
 }
 
-// Every entry of a map, taken out.
+// Every entry of a map, by value.
 fn taken<K: Bytes, V: Drop>(
     alloc: Global,
     tree: GenericPatriciaMap<K, V>,

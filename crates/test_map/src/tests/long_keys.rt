@@ -17,7 +17,7 @@ fn put_one<Q: BorrowedBytes>(
     Ok(())
 }
 
-// Puts in a text that is some characters.
+// Inserts a text that is some characters.
 fn put_long_text(
     rt: &impl Abort,
     alloc: Global,
@@ -30,7 +30,7 @@ fn put_long_text(
     put_one(rt, map, key.as_str(), longer.as_str())
 }
 
-// Puts in texts of one character, each of so many bytes or a little less.
+// Inserts texts of one character, each of so many bytes or a little less.
 fn put_long_texts(
     rt: &impl Abort,
     alloc: Global,

@@ -31,7 +31,7 @@ fn are_found<Q: BorrowedBytes, L: Ledger>(
     true
 }
 
-// Puts each key in, and answers whether each was there or was not.
+// Inserts each key, and returns whether each was there or was not.
 fn are_put<Q: BorrowedBytes>(
     map: &mut GenericPatriciaMap<Q::Owned, u64>,
     keys: &[Q],
@@ -50,7 +50,7 @@ fn are_put<Q: BorrowedBytes>(
     true
 }
 
-// Takes each key out, and answers whether each was there or was not.
+// Removes each key, and returns whether each was there or was not.
 fn are_removed<Q: BorrowedBytes>(
     map: &mut GenericPatriciaMap<Q::Owned, u64>,
     keys: &[Q],
@@ -97,7 +97,7 @@ fn make_walks<K: Bytes>(map: GenericPatriciaMap<K, u64>) {
     drop(map.into_iter());
 }
 
-// Clears a map, and answers whether it is empty then.
+// Clears a map, and returns whether it is empty then.
 fn is_cleared<K: Bytes>(mut map: GenericPatriciaMap<K, u64>) -> bool {
     map.clear();
     map.is_empty()
@@ -179,7 +179,7 @@ fn extend_all<Q: BorrowedBytes>(
     Ok(())
 }
 
-// Hands the map over by the empty prefix, and takes it back. It answers whether nothing was left.
+// Hands the map over by the empty prefix, and takes it back. Returns whether nothing was left.
 fn is_handed_over<Q: BorrowedBytes>(
     map: &mut GenericPatriciaMap<Q::Owned, u64>,
     empty: Q,
@@ -190,7 +190,7 @@ fn is_handed_over<Q: BorrowedBytes>(
     Ok(left)
 }
 
-// Makes a map of the empty key alone by a call that takes pairs, and answers whether it is there.
+// Makes a map of the empty key alone by a call that takes pairs, and returns whether it is there.
 fn is_made_of_pairs<Q: BorrowedBytes>(alloc: Global, empty: Q) -> Result<bool, AllocError> {
     let map = GenericPatriciaMap::from_iter(alloc, iter::once((empty, 1)))?;
     Ok(map.get(empty).copied() == Some(1))
@@ -260,7 +260,7 @@ fn call_all<Q: BorrowedBytes>(
     Ok(())
 }
 
-// Makes a map, and answers how many keys it has.
+// Makes a map, and returns how many keys it has.
 fn made_len<Q: BorrowedBytes>(alloc: Global, keys: &[Q]) -> Result<usize, AllocError> {
     Ok(map_of(alloc, keys)?.len())
 }

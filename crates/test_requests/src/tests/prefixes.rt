@@ -1,4 +1,4 @@
-// The calls about beginnings of keys, with each walk along a key read to its end.
+// The calls about prefixes of keys, with each walk along a key read to its end.
 use super::helpers::map_of;
 use patricia_tree::{BorrowedBytes, Bytes, GenericPatriciaMap};
 use std::alloc::{AllocError, Global};

@@ -16,7 +16,7 @@ const UPPER: &str = "12345678901234567890ABCDEFGHIJKLMNOPQRST";
 // Four keys, of which one begins the others. Each label has 20 bytes.
 const KEYS: [&str; 4] = [STEM, DIGITS, LOWER, UPPER];
 
-// Takes keys out, and answers whether each had its length in bytes.
+// Removes keys, and returns whether each had its length in bytes.
 fn are_removed<Q: BorrowedBytes>(
     map: &mut GenericPatriciaMap<Q::Owned, u64>,
     keys: &[Q],

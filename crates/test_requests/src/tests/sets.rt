@@ -38,7 +38,7 @@ fn ask<Q: BorrowedBytes>(
     drop(set.iter_prefix(element));
 }
 
-// Whether there is nothing under a prefix to take out.
+// Whether there is nothing under a prefix to remove.
 fn splits_nothing<Q: BorrowedBytes>(
     set: &mut GenericPatriciaSet<Q::Owned>,
     prefix: Q,

@@ -49,7 +49,7 @@ fn check_numbers<Q: BorrowedBytes>(
     Ok(())
 }
 
-// Each of the commands, over a key that is put in and a beginning of it.
+// Each of the commands, over a key that is inserted and a prefix of it.
 fn commands<Q: Copy>(key: Q, beginning: Q) -> [Command<Q, u32>; 19] {
     [
         Command::Insert(key, 1),

@@ -143,7 +143,8 @@ fn answers_for_each_kind(rt: HostRuntime) -> Result<(), AllocError> {
     check_answer(&rt, alloc, "text", text, output)
 }
 
-// Want of memory that is not real meets the contracts of a wire. So its whole answer is asked for.
+// An allocation failure that did not happen meets the contracts of a wire. So its whole answer is
+// asked for.
 #[test]
 fn wires_for_each_kind(rt: HostRuntime) -> Result<(), AllocError> {
     let text = b"wire\ninsert\ta\t7\nwire\nwire\tx\n".as_slice();
@@ -202,7 +203,7 @@ const STUCK: Streams = Streams {
     ..SOUND
 };
 
-// Want of memory while the input is read counts as a failure to read.
+// An allocation failure while the input is read counts as a failure to read.
 #[test]
 fn failures_to_read(rt: HostRuntime) -> Result<(), AllocError> {
     check_failure(&rt, rt.alloc(), FAILS, "", READ_FAILED)?;

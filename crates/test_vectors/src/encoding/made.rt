@@ -25,7 +25,7 @@ pub trait Made<Q: BorrowedBytes>: Written {
     /// Takes a key out.
     fn take(&mut self, key: Q) -> Result<(), AllocError>;
 
-    /// Takes out what begins with the prefix.
+    /// Removes what begins with the prefix.
     fn split(&mut self, prefix: Q) -> Result<Self, AllocError>;
 }
 

@@ -6,7 +6,7 @@ use super::words::{Readable, Step};
 use patricia_tree::BorrowedBytes;
 use std::alloc::{AllocError, Global};
 
-// Adds what a split takes out.
+// Adds what a split removes.
 fn add_split<Q: BorrowedBytes, M: Made<Q>>(
     alloc: Global,
     made: &mut M,
@@ -31,7 +31,7 @@ fn put_fronts<'a, Q: Readable<'a>, M: Made<Q>>(
     Ok(())
 }
 
-// Makes a step, and adds what a split takes out.
+// Makes a step, and adds what a split removes.
 fn step_one<'a, Q: Readable<'a>, M: Made<Q>>(
     alloc: Global,
     made: &mut M,

@@ -1,7 +1,7 @@
 //! How steps and answers are written.
 //!
 //! A step is a sign, a key, and maybe `=` and the key's value: `+` puts the key in, `^` each of
-//! its prefixes but the empty one, `-` takes it out, and `/` splits by it. A key is parts joined
+//! its prefixes but the empty one, `-` removes it, and `/` splits by it. A key is parts joined
 //! by `.`. A part is a text, or `%` and the number of a byte; `*` and a number behind it say how
 //! often it is repeated, so that `*` alone is the empty key.
 

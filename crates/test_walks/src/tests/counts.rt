@@ -10,7 +10,7 @@ use std::process::Abort;
 use std::sync::ledger::{Blank, Ledger};
 use std::test::Fail;
 
-// The map with this key put in.
+// The map with this key inserted.
 fn with(mut map: PatriciaMap<u32>, key: &[u8], value: u32) -> Result<PatriciaMap<u32>, AllocError>
     ensures { IfOk result (λ m. m ≡ finite.insert map key.now value) }
 {

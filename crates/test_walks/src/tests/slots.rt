@@ -6,7 +6,7 @@ use std::alloc::AllocError;
 use std::process::Abort;
 use std::test::Fail;
 
-// Puts a key in, and answers whether it is new.
+// Inserts a key, and returns whether it is new.
 fn is_put<Q: BorrowedBytes>(
     tree: &mut Tree<Q::Owned, usize>,
     key: Q,
@@ -42,7 +42,7 @@ fn remove_all<Q: BorrowedBytes>(
     Ok(())
 }
 
-// Puts keys in and takes them out.
+// Inserts keys and removes them.
 fn put_and_remove<Q: BorrowedBytes>(
     rt: &impl Abort,
     tree: &mut Tree<Q::Owned, usize>,
@@ -53,7 +53,7 @@ fn put_and_remove<Q: BorrowedBytes>(
     remove_all(rt, tree, keys)
 }
 
-// Puts keys in and takes them out, so often. After each round the vector has so many nodes.
+// Inserts keys and removes them, so often. After each round the vector has so many nodes.
 fn repeat<Q: BorrowedBytes>(
     rt: &impl Abort,
     tree: &mut Tree<Q::Owned, usize>,
@@ -167,7 +167,7 @@ fn copy_slots<K: Bytes>(tree: &Tree<K, usize>) -> Result<usize, AllocError> {
     Ok(copy.slots())
 }
 
-// Puts keys in, takes one out, and asserts how many nodes a copy has. The tree is cleared.
+// Inserts keys, removes one, and asserts how many nodes a copy has. The tree is cleared.
 fn check_copy<Q: BorrowedBytes>(
     rt: &impl Abort,
     tree: &mut Tree<Q::Owned, usize>,

@@ -79,7 +79,7 @@ fn is_part<Q: BorrowedBytes>(part: GenericPatriciaMap<Q::Owned, u64>, longer: Q)
     has(&part, 64_537, longer, 65_536)
 }
 
-// A map of 65,536 keys is parted by a prefix of 1,000 bytes.
+// A map of 65,536 keys is split by a prefix of 1,000 bytes.
 fn check_split<Q: BorrowedBytes>(
     rt: &impl Abort,
     map: &mut GenericPatriciaMap<Q::Owned, u64>,
@@ -91,7 +91,7 @@ fn check_split<Q: BorrowedBytes>(
     Ok(())
 }
 
-// A copy is parted, and the map stays as it is.
+// A copy is split, and the map stays as it is.
 fn check_parted<Q: BorrowedBytes>(
     rt: &impl Abort,
     map: &GenericPatriciaMap<Q::Owned, u64>,

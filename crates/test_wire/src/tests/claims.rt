@@ -4,7 +4,7 @@ use std::alloc::{AllocError, Global};
 use std::process::Abort;
 use std::test::Fail;
 
-// A million times nothing, which takes no memory.
+// A million times `()`, which does not allocate.
 fn nothings(alloc: Global) -> Result<Vec<()>, AllocError> {
     let mut nothings = Vec::new(alloc);
     for _ in 0..1_000_000u32 {

@@ -26,7 +26,7 @@ no_tree E tree =
     let low = subst EndsLow t.records (low_head 0 [] t.value t.row end) in
     cc
 
--- and its beginnings are none
+-- and its prefixes are none
 begun : IsUnfinished IsByteItem (opened ∷ hollow ∷ [])
 begun P X E e tree = elim (back_split (opened ∷ []) hollow P X e) [
   | inl whole ↦ no_tree E (subst (λ R. Root IsByteItem R E) whole.1 tree)

@@ -24,7 +24,7 @@ fn lends_nothing<Q: BorrowedBytes>(map: &mut GenericPatriciaMap<Q::Owned, u32>, 
     lends_no_entry(map) && lends_no_value(map) && lends_none_under(map, prefix)
 }
 
-// Takes one step of a cursor, and answers whether the value was the one that is due.
+// Takes one step of a cursor, and returns whether the value was the one that is due.
 fn lends_one<Q: BorrowedBytes>(
     map: &mut GenericPatriciaMap<Q::Owned, u32>,
     first: Q,

@@ -4,7 +4,7 @@ use patricia_tree::{BorrowedBytes, GenericPatriciaMap};
 // How much is added to a value that is lent.
 const MORE: u32 = 10;
 
-// Adds to a value, and answers whether it is the one that is due.
+// Adds to a value, and returns whether it is the one that is due.
 pub(super) fn add(place: &mut u32, due: u32) -> bool {
     let is_due = *place == due;
     *place = place.saturating_add(MORE);

@@ -295,7 +295,7 @@ fn run_over<Q: BorrowedBytes>(
     }
 }
 
-// Makes a map and runs over it, and answers whether no more steps were refused than may be, and
+// Makes a map and runs over it, and returns whether no more steps were refused than may be, and
 // each value that was lent is changed once, and no other: those of the keys that begin with a
 // prefix.
 fn is_run<Q: BorrowedBytes>(

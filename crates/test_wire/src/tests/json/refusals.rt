@@ -37,7 +37,7 @@ fn text_again(alloc: Global, values: Vec<Value>) -> Result<(String, usize), Allo
     Ok((pair_to_json(alloc, BYTES, values)?, 1))
 }
 
-// Writes the text, and answers how many refusals there were.
+// Writes the text, and returns how many refusals there were.
 fn write_again(rt: &impl Abort, alloc: Global) -> Result<usize, AllocError> {
     let (values, refusals) = values_again(alloc)?;
     let (text, more) = text_again(alloc, values)?;
@@ -45,13 +45,13 @@ fn write_again(rt: &impl Abort, alloc: Global) -> Result<usize, AllocError> {
     Ok(refusals.saturating_add(more))
 }
 
-// Reads the text, and answers whether the bytes and the values are right.
+// Reads the text, and returns whether the bytes and the values are right.
 fn is_right(alloc: Global) -> Result<bool, JsonError> {
     let (bytes, values) = pair_from_json(alloc, TEXT)?;
     Ok(bytes.as_slice() == BYTES && are_values(&values, ITEMS))
 }
 
-// Reads the text, and answers how many refusals there were.
+// Reads the text, and returns how many refusals there were.
 fn read_again(rt: &impl Abort, alloc: Global) -> Result<usize, JsonError> {
     let (holds, refusals) = match is_right(alloc) {
         Ok(holds) => (holds, 0),
@@ -69,7 +69,7 @@ fn fault(alloc: Global) -> Option<JsonError> {
     pair_from_json(alloc, "[[3,256],[7]]").err()
 }
 
-// Reads a text that is no pair, and answers how many refusals there were.
+// Reads a text that is no pair, and returns how many refusals there were.
 fn refuse_again(rt: &impl Abort, alloc: Global) -> usize {
     let first = fault(alloc);
     if first == Some(JsonError::Json) {

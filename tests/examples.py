@@ -1,0 +1,69 @@
+#!/usr/bin/env python3
+"""Compares the examples in doc comments with the code that the tests run.
+
+    tests/examples.py            fails where they differ, or where a call has none
+    tests/examples.py --write    writes the examples into the comments
+
+An example is code between two comments, '// example: MODULE NAME' and '// end'. It stands in the doc comment of the
+function of this name, in a file of CALLS, as the last section. Each public function of these files has one, but for HAS_NONE.
+"""
+import os
+import re
+import sys
+import textwrap
+
+CRATES = os.path.join(os.path.dirname(os.path.dirname(os.path.abspath(__file__))), 'crates')
+EXAMPLES = ['test_map/src/tests/%s_examples.rt' % x for x in ('map', 'set', 'cursor')] + ['example_map/src/main.rt']
+CALLS = {
+    'map': ['map.rt', 'map/bulk.rt', 'map/cursors.rt', 'map/loans.rt'],
+    'set': ['set.rt', 'set/bulk.rt'],
+    'cursor': ['entries.rt'],
+}
+# what does nothing at run time
+HAS_NONE = 'keys_are_valid'
+REGION = re.compile(r'^ *// example: (\w+ \w+)\n(.*?)^ *// end$', re.M | re.S)
+CALL = re.compile(r'^    pub fn (\w+)', re.M)
+SECTION = '    ///\n    /// # Examples\n    ///\n    /// ```\n'
+
+
+def read(path):
+    with open(os.path.join(CRATES, path), encoding='utf-8') as file:
+        return file.read()
+
+
+def comment(code):
+    """The section of a doc comment that has this code."""
+    lines = textwrap.dedent(code).rstrip().split('\n')
+    return SECTION + ''.join(('    /// ' + x).rstrip() + '\n' for x in [*lines, '```'])
+
+
+def main():
+    writes = sys.argv[1:] == ['--write']
+    sections = {name: comment(code) for path in EXAMPLES for name, code in REGION.findall(read(path))}
+    calls, wrong = 0, []
+    for module, files in CALLS.items():
+        for path in ('patricia_tree/src/' + x for x in files):
+            text = ''
+            for part in re.split(r'(?=^    pub fn )', read(path), flags=re.M):
+                # what stands before a call ends with its comment
+                call = CALL.match(part)
+                if call and call[1] != HAS_NONE:
+                    calls += 1
+                    section = sections.get('%s %s' % (module, call[1]))
+                    kept, mark, _ = text.rpartition(SECTION)
+                    is_its_own = mark and re.fullmatch('(    ///.*\n)*', text[len(kept) + len(mark):])
+                    has = text[len(kept):] if is_its_own else ''
+                    if has != section:
+                        wrong.append('%s: %s has %s' % (path, call[1], 'another example' if section else 'none'))
+                    if writes and section:
+                        text = text[:len(text) - len(has)] + section
+                text += part
+            if writes:
+                with open(os.path.join(CRATES, path), 'w', encoding='utf-8') as file:
+                    file.write(text)
+    print(*wrong, '%d calls, %d without their example' % (calls, len(wrong)), sep='\n')
+    sys.exit(1 if wrong and not writes else 0)
+
+
+if __name__ == '__main__':
+    main()
