@@ -1,9 +1,9 @@
 -- The byte kind: each byte list is valid, and the common length is the number of shared bytes.
 use Rattle.std.proofs.Common.{◌≡◌, ℕ, suc, ◌<◌, ◌==◌, inl, inr, true, false, List, [], ◌∷◌, length, take, get_or, refl, ap, subst, arith}
-use Rattle.std.specs.List.{concat}
+use Rattle.std.specs.List.{AllByRecursion, concat}
 use Rattle.std.proofs.lemmas.List.{get_or-take, length-take}
 use Rattle.std.proofs.lemmas.Bool.Decides.{nat_tests}
-use Rattle.patricia_keys.specs.Keys.{AreItems, IsValid, IsCommon, IsFloor, IsSharedLen, IsFirstItem}
+use Rattle.patricia_keys.specs.Keys.{IsValid, IsCommon, IsFloor, IsSharedLen, IsFirstItem}
 use Rattle.patricia_keys.proofs.KeyLemmas.{common_by_floor}
 use Rattle.patricia_keys.specs.ByteKind.{IsByteItem, one_byte}
 
@@ -20,13 +20,13 @@ concat-singles (b ∷ k) = ap (λ r. b ∷ r) (concat-singles k)
 abbrev pub AreBytes : List ℕ → Type 0
 AreBytes k = (i : ℕ) → i < length k → get_or k i 0 < 256
 
-AreItems-singles : (k : List ℕ) → AreBytes k → AreItems IsByteItem (singles k)
-AreItems-singles [] h = tt
-AreItems-singles (b ∷ k) h = (one_byte (h 0 (omega arith)), AreItems-singles k (λ i l. h (suc i) (omega arith)))
+items-singles : (k : List ℕ) → AreBytes k → AllByRecursion IsByteItem (singles k)
+items-singles [] h = tt
+items-singles (b ∷ k) h = (one_byte (h 0 (omega arith)), items-singles k (λ i l. h (suc i) (omega arith)))
 
 -- each list of bytes is a valid byte key
 pub byte_valid : (k : List ℕ) → AreBytes k → IsValid IsByteItem k
-byte_valid k h = (singles k, AreItems-singles k h, concat-singles k)
+byte_valid k h = (singles k, items-singles k h, concat-singles k)
 
 byte_valid_front : (k : List ℕ) (n : ℕ) → AreBytes k → IsValid IsByteItem (take n k)
 byte_valid_front k n h = byte_valid (take n k) (λ i l. let short = length-take n k in let same = get_or-take n k i 0 (omega arith) in rw same (h i (omega arith)))

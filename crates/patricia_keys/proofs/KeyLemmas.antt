@@ -1,6 +1,6 @@
 -- What follows from the definitions of `Keys`, for any item test.
 use Rattle.std.proofs.Common.{◌≡◌, ℕ, ◌-◌, ◌<◌, ◌≤◌, ◌≢◌, ◌⊎◌, inl, inr, List, [], ◌∷◌, ◌++◌, length, take, drop, get_or, refl, sym, ap, subst, ◌∙◌, arith, length-append}
-use Rattle.std.specs.List.{All, concat}
+use Rattle.std.specs.List.{All, AllByRecursion, concat}
 use Rattle.std.proofs.lemmas.List.Elements.{All-nil, All-append}
 use Rattle.std.specs.declared.cmp.Ordering.TheVariants.{Less, Equal}
 use Rattle.std.specs.Cmp.{nat_cmp_is, tied_itself}
@@ -8,7 +8,7 @@ use Rattle.std.specs.Ordering.{ordering_then}
 use Rattle.std.specs.Cmp.Lexicographic.{nat_list_cmp_total}
 use Rattle.std.proofs.lemmas.List.{append_assoc, append-nil, append_cancel_left, length-drop, length-take, take-take, take-append-drop, get_or-take, get_or_append_left}
 use Rattle.std.proofs.lemmas.Bool.{cases_lt}
-use Rattle.patricia_keys.specs.Keys.{Begins, IsKeyKind, AreItems, IsValid, IsCommon, DropsCommon, IsFloor, IsSharedLen, key_cmp}
+use Rattle.patricia_keys.specs.Keys.{Begins, IsKeyKind, IsValid, IsCommon, DropsCommon, IsFloor, IsSharedLen, key_cmp}
 
 -- of two lists with a common extension one begins the other
 pub begins_either : (a b x y : List ℕ) → a ++ x ≡ b ++ y → Begins a b ⊎ Begins b a
@@ -51,9 +51,9 @@ concat-append [] js = refl
 concat-append (i ∷ is) js = ap (λ r. i ++ r) (concat-append is js) ∙ sym (append_assoc i (concat is) (concat js))
 
 module _ (item : List ℕ → Type 0) where
-  AreItems-append : (is js : List (List ℕ)) → AreItems item is → AreItems item js → AreItems item (is ++ js)
-  AreItems-append [] js a b = b
-  AreItems-append (i ∷ is) js a b = (a.0, AreItems-append is js a.1 b)
+  items-append : (is js : List (List ℕ)) → AllByRecursion item is → AllByRecursion item js → AllByRecursion item (is ++ js)
+  items-append [] js a b = b
+  items-append (i ∷ is) js a b = (a.0, items-append is js a.1 b)
 
   -- the empty key is valid
   pub IsValid-nil : IsValid item []
@@ -61,7 +61,7 @@ module _ (item : List ℕ → Type 0) where
 
   -- valid keys joined are valid
   pub IsValid-append : (a b : List ℕ) → IsValid item a → IsValid item b → IsValid item (a ++ b)
-  IsValid-append a b v w = (v.0 ++ w.0, AreItems-append v.0 w.0 v.1 w.1, concat-append v.0 w.0 ∙ ap (λ l. l ++ concat w.0) v.2 ∙ ap (λ l. a ++ l) w.2)
+  IsValid-append a b v w = (v.0 ++ w.0, items-append v.0 w.0 v.1 w.1, concat-append v.0 w.0 ∙ ap (λ l. l ++ concat w.0) v.2 ∙ ap (λ l. a ++ l) w.2)
 
   -- an item is a valid key
   pub IsValid-item : (i : List ℕ) → item i → IsValid item i
@@ -96,7 +96,7 @@ module _ (item : List ℕ → Type 0) where
         let same' : get_or b 0 0 ≡ get_or j 0 0 = rw (← y.1) (get_or_append_left j y.0 0 0 (omega arith)) in
         key_cmp-by_first i j (omega arith) (omega arith) (omega arith)
 
-    valid_rest_of : (is js : List (List ℕ)) (b : List ℕ) → AreItems item is → AreItems item js → concat js ≡ concat is ++ b → IsValid item b
+    valid_rest_of : (is js : List (List ℕ)) (b : List ℕ) → AllByRecursion item is → AllByRecursion item js → concat js ≡ concat is ++ b → IsValid item b
     valid_rest_of [] js b p q e = (js, q, e)
     valid_rest_of (i ∷ is) [] b p q e =
         absurd (item-nonempty i p.0 (let sized = kind.sized i p.0 in let whole = ap length e in let cut = length-append (i ++ concat is) b in let cut' = length-append i (concat is) in absurd (omega arith)))
@@ -105,7 +105,7 @@ module _ (item : List ℕ → Type 0) where
         let same = items_same j i _ _ q.0 p.0 e' in
         valid_rest_of is js b p.1 q.1 (append_cancel_left i _ _ (ap (λ l. l ++ concat js) (sym same) ∙ e'))
 
-    items_bytes : (is : List (List ℕ)) → AreItems item is → All (λ b. b < 256) (concat is)
+    items_bytes : (is : List (List ℕ)) → AllByRecursion item is → All (λ b. b < 256) (concat is)
     items_bytes [] ok = All-nil (λ b. b < 256)
     items_bytes (i ∷ is) ok = All-append (λ b. b < 256) i (concat is) (kind.bytes i ok.0) (items_bytes is ok.1)
 

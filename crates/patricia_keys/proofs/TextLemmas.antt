@@ -1,7 +1,7 @@
 -- The text kind: the valid keys are the texts, cut between characters, and a first byte tells the length of its character.
 use Rattle.std.proofs.Common.{◌≡◌, ℕ, ◌+◌, ◌/◌, ◌<◌, ◌≤◌, Bool, true, false, cond, ltb, List, [], ◌∷◌, ◌++◌, length, get_or, take, drop, inl, inr, refl, sym, ap, subst, ◌∙◌, arith, length-append}
 use Rattle.std.specs.Char.{IsScalar, len_utf8}
-use Rattle.std.specs.List.{concat}
+use Rattle.std.specs.List.{AllByRecursion, concat}
 use Rattle.std.specs.Str.{IsCharBoundary, IsUtf8, IsValidUpTo}
 use Rattle.std.specs.Prelude.{Result, Ok, Err, MatchResult, IsTrue, is_ok}
 use Rattle.std.proofs.lemmas.List.{take_all, take-take, take-append-drop, take_at, length-take-le, get_or_append_left}
@@ -10,7 +10,7 @@ use Rattle.std.proofs.lemmas.Bool.Decides.{nat_tests}
 use Rattle.std.proofs.Math.Utf8.{encode, encodes, next, scalar, scalars}
 use Rattle.std.specs.Cmp.{first_so, second_so}
 use Rattle.std.proofs.lemmas.Str.{IsCharBoundary-from_take, IsUtf8-append, IsUtf8-encode, IsUtf8-nil, IsUtf8-take, len_utf8_bounds, length-encode}
-use Rattle.patricia_keys.specs.Keys.{Begins, AreItems, IsValid, IsFloor, IsFirstItem}
+use Rattle.patricia_keys.specs.Keys.{Begins, IsValid, IsFloor, IsFirstItem}
 use Rattle.patricia_keys.specs.TextKind.{IsTextItem, one_char}
 use Rattle.patricia_keys.proofs.KeyLemmas.{first_of}
 
@@ -27,7 +27,7 @@ text_valid k u = subst (IsValid IsTextItem) u.1.1 (valid_chars u.0 u.1.0)
 item_utf8 : (i : List ℕ) → IsTextItem i → IsUtf8 i
 item_utf8 i (one_char c s e) = subst IsUtf8 e (IsUtf8-encode c s)
 
-items_utf8 : (is : List (List ℕ)) → AreItems IsTextItem is → IsUtf8 (concat is)
+items_utf8 : (is : List (List ℕ)) → AllByRecursion IsTextItem is → IsUtf8 (concat is)
 items_utf8 [] h = IsUtf8-nil
 items_utf8 (i ∷ is) h = IsUtf8-append i (concat is) (item_utf8 i h.0) (items_utf8 is h.1)
 

@@ -1,6 +1,6 @@
 -- Key kinds, valid keys and their order.
 use Rattle.std.specs.Prelude.{◌≡◌, ℕ, ◌<◌, ◌≤◌, ◌≢◌, List, [], ◌∷◌, ◌++◌, length, take, drop, slice_index, ◌⊎◌}
-use Rattle.std.specs.List.{All, concat}
+use Rattle.std.specs.List.{All, AllByRecursion, concat}
 use Rattle.std.specs.declared.cmp.Ordering.{Ordering}
 use Rattle.std.specs.Ordering.{nat_cmp}
 use Rattle.std.specs.Cmp.Lexicographic.{slice_cmp}
@@ -19,14 +19,9 @@ pub record IsKeyKind (item : List ℕ → Type 0) : Type 0 where
 abbrev pub AreSingle : (List ℕ → Type 0) → Type 0
 AreSingle item = (i : List ℕ) → item i → length i ≡ 1
 
--- each member is an item
-abbrev pub AreItems : (List ℕ → Type 0) → List (List ℕ) → Type 0
-AreItems item [] = Unit {0}
-AreItems item (i ∷ is) = (item i) × AreItems item is
-
 -- a valid key is a list of items joined; the empty key is valid
 abbrev pub IsValid : (List ℕ → Type 0) → List ℕ → Type 0
-IsValid item k = (is : List (List ℕ)) × AreItems item is × (concat is ≡ k)
+IsValid item k = (is : List (List ℕ)) × AllByRecursion item is × (concat is ≡ k)
 
 -- n is the greatest number such that the first n bytes of the key q are a valid key and begin b
 pub record IsCommon (item : List ℕ → Type 0) (q b : List ℕ) (n : ℕ) : Type 0 where

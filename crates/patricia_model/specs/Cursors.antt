@@ -1,7 +1,7 @@
 -- Where a cursor stands, and what it has still to lend.
 use Rattle.std.specs.Prelude.{ℕ, List, Option, Some, None, filter, slice_get}
 use Rattle.std.specs.FinMap as map
-use Rattle.std.specs.Option.{option_map}
+use Rattle.std.specs.Option.{option_map, option_or, option_and_then, option_map_or}
 use Rattle.std.specs.Ordering.{is_lt}
 use Rattle.patricia_keys.specs.Keys.{key_cmp}
 use Rattle.patricia_model.specs.Prefixes.{under}
@@ -32,28 +32,15 @@ module _ {V : Type 0} where
   abbrev pub next_value : CursorView V → Option V
   next_value s = option_map (λ e. e.1) (next_row s)
 
-  -- where it stands once it has lent at a key
-  abbrev pub lent_at : CursorView V → Option (List ℕ) → CursorView V
-  lent_at s None = s
-  lent_at s (Some key) = record s { last = Some key }
-
   -- where it stands one row on; where there is none it stays
   abbrev pub stepped : CursorView V → CursorView V
-  stepped s = lent_at s (next_key s)
+  stepped s = record s { last = option_or (next_key s) s.last }
 
   -- the value at the key that it lent last
-  abbrev pub value_at : CursorView V → Option (List ℕ) → Option V
-  value_at s None = None
-  value_at s (Some key) = map.get s.map key
-
   abbrev pub last_value : CursorView V → Option V
-  last_value s = value_at s s.last
-
-  -- the same with another value at a key
-  abbrev pub written_at : CursorView V → Option (List ℕ) → V → CursorView V
-  written_at s None value = s
-  written_at s (Some key) value = record s { map = map.insert s.map key value }
+  last_value s = option_and_then (map.get s.map) s.last
 
   -- the same with another value at the key that it lent last
   abbrev pub written : CursorView V → V → CursorView V
-  written s value = written_at s s.last value
+  written s value =
+      record s { map = option_map_or (λ key. map.insert s.map key value) s.last s.map }

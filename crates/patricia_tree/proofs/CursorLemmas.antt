@@ -5,7 +5,8 @@ use Rattle.std.specs.Option.{option_map}
 use Rattle.std.specs.Ordering.{is_lt}
 use Rattle.std.specs.FinMap as map
 use Rattle.std.specs.FinMap.{entries_sorted, get-entries}
-use Rattle.patricia_model.specs.Cursors.{CursorView, after, remaining_rows, next_row, next_key, stepped, lent_at, last_value, written}
+use Rattle.patricia_model.specs.Cursors.{CursorView, after, remaining_rows, next_row, next_key, stepped, last_value, written}
+use Rattle.patricia_model.specs.Internal.CursorSteps.{lent_at}
 use Rattle.patricia_tree.specs.Internal.Nexts.{IsNext, IsNextValue}
 use Rattle.patricia_keys.specs.Keys.{key_cmp}
 use Rattle.patricia_model.specs.Points.{Has}

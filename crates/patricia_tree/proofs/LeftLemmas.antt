@@ -11,7 +11,8 @@ use Rattle.std.specs.FinMap.Entries.{is_sorted-where_key}
 use Rattle.std.specs.Cmp.Lexicographic.{nat_list_cmp_total}
 use Rattle.patricia_keys.specs.Keys.{key_cmp}
 use Rattle.patricia_keys.proofs.KeyLemmas.{key_cmp-irreflexive}
-use Rattle.patricia_model.specs.Cursors.{CursorView, after, remaining_rows, next_row, next_key, next_value, stepped, lent_at, written, written_at}
+use Rattle.patricia_model.specs.Cursors.{CursorView, after, remaining_rows, next_row, next_key, next_value, stepped, written}
+use Rattle.patricia_model.specs.Internal.CursorSteps.{lent_at, written_at}
 use Rattle.patricia_model.specs.Prefixes.{begins, under}
 use Rattle.patricia_model.proofs.CursorLemmas.{after_first}
 use Rattle.patricia_tree.specs.Left.{left}

@@ -4,7 +4,7 @@ use Rattle.std.specs.Prelude.{is_some}
 use Rattle.std.specs.Iterator.{Yields}
 use Rattle.patricia_tree.specs.Bulk.{insert_all, by_bytes}
 use Rattle.patricia_tree.specs.Clones.{ClonesAreSame}
-use Rattle.patricia_tree.specs.Sets as set
+use Rattle.std.specs.FinMap as finmap
 use Rattle.patricia_tree.specs.Sets.{KeySet, Extends, IsStoppedAt, steps_in_pairs}
 use Rattle.patricia_tree.proofs.BulkLemmas.{puts_one_more, stops_at}
 
@@ -26,7 +26,7 @@ in_pairs_more [] key = refl
 in_pairs_more (first ∷ given) key = ap (λ pairs. (first, tt) ∷ pairs) (in_pairs_more given key)
 
 -- one more turn, at which the key is inserted
-pub puts_one_more_key : {Q : Type 0} (bytes : Q → List ℕ) (old : KeySet) (given : List Q) {here new : KeySet} (key : Q) → here ≡ insert_all old (by_bytes bytes (in_pairs given)) → new ≡ set.insert here (bytes key) → new ≡ insert_all old (by_bytes bytes (in_pairs (given ++ key ∷ [])))
+pub puts_one_more_key : {Q : Type 0} (bytes : Q → List ℕ) (old : KeySet) (given : List Q) {here new : KeySet} (key : Q) → here ≡ insert_all old (by_bytes bytes (in_pairs given)) → new ≡ finmap.insert here (bytes key) tt → new ≡ insert_all old (by_bytes bytes (in_pairs (given ++ key ∷ [])))
 puts_one_more_key bytes old given key so_far put = puts_one_more bytes old (in_pairs given) (key, tt) so_far put ∙ ap (λ pairs. insert_all old (by_bytes bytes pairs)) (sym (in_pairs_more given key))
 
 -- what is not contained has no value
@@ -52,5 +52,5 @@ module _ {I S Q : Type 0} (becomes : I → S → Type 0) (steps : S → Option Q
     }
 
     -- the last turn, at which the key is refused
-    pub refuses_at : {new : KeySet} (key : Q) → steps at (Some key) rest → new ≡ here → bytes key ≢ [] → set.contains here (bytes key) ≡ false → IsStoppedAt becomes steps bytes keys old new
+    pub refuses_at : {new : KeySet} (key : Q) → steps at (Some key) rest → new ≡ here → bytes key ≢ [] → finmap.contains_key here (bytes key) ≡ false → IsStoppedAt becomes steps bytes keys old new
     refuses_at key next same nonempty absent = stops_at start at rest (in_pairs given) (key, tt) is_start (gave_pairs start given at gave) next so_far same nonempty (no_value _ absent)

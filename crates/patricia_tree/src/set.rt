@@ -3,12 +3,11 @@ ghost use Rattle.std.specs.Prelude.{◌≡◌, ◌≢◌, ◌↔◌, [], length,
 ghost use Rattle.std.specs.Option.{option_map};
 ghost use Rattle.patricia_tree.specs.Keys.{Begins};
 ghost use Rattle.patricia_tree.specs.Points.{Joins};
-ghost use Rattle.patricia_tree.specs.Prefixes.{IsReach, under, outside};
+ghost use Rattle.patricia_tree.specs.Prefixes.{IsReach, longest, under, outside};
 ghost use Rattle.patricia_tree.specs.TreeBytes.{AreTreeBytes};
 ghost use Rattle.patricia_tree.specs.Refusals.{IsRefusal};
 ghost use Rattle.patricia_tree.specs.Writings.{Means, TooDeep};
-ghost use Rattle.patricia_tree.specs.Sets as set;
-ghost use Rattle.patricia_tree.specs.Sets.{longest_key};
+ghost use Rattle.std.specs.FinMap as map;
 ghost use Rattle.patricia_tree.specs.Siblings.{keys_of};
 
 mod bulk;
@@ -59,7 +58,7 @@ impl<T: Bytes> GenericPatriciaSet<T> {
     /// assert!(rt; set.is_empty());
     /// ```
     pub fn new(alloc: Global) -> Self
-        ensures { result ≡ set.empty }
+        ensures { result ≡ map.empty }
     {
         GenericPatriciaSet {
             map: GenericPatriciaMap::new(alloc),
@@ -77,7 +76,7 @@ impl<T: Bytes> GenericPatriciaSet<T> {
     /// assert_eq!(rt; set.len(), 1);
     /// ```
     pub fn len(&self) -> usize
-        ensures { result ≡ set.len self.now }
+        ensures { result ≡ map.len self.now }
     {
         self.map.len()
     }
@@ -93,7 +92,7 @@ impl<T: Bytes> GenericPatriciaSet<T> {
     /// assert!(rt; !set.is_empty());
     /// ```
     pub fn is_empty(&self) -> bool
-        ensures { IsTrue result ↔ (set.len self.now ≡ 0) }
+        ensures { IsTrue result ↔ (map.len self.now ≡ 0) }
     {
         self.map.is_empty()
     }
@@ -109,7 +108,7 @@ impl<T: Bytes> GenericPatriciaSet<T> {
     /// assert!(rt; set.is_empty());
     /// ```
     pub fn clear(&mut self)
-        ensures { self.new ≡ set.empty }
+        ensures { self.new ≡ map.empty }
     {
         self.map.clear();
     }
@@ -126,7 +125,7 @@ impl<T: Bytes> GenericPatriciaSet<T> {
     /// assert!(rt; !set.contains("bar"));
     /// ```
     pub fn contains<Q: BorrowedBytes<Owned = T>>(&self, element: Q) -> bool
-        ensures { result ≡ set.contains self.now (Q.key element) }
+        ensures { result ≡ map.contains_key self.now (Q.key element) }
     {
         self.map.contains_key(element)
     }
@@ -146,7 +145,8 @@ impl<T: Bytes> GenericPatriciaSet<T> {
     /// assert_eq!(rt; set.get_longest_common_prefix("bar"), None);
     /// ```
     pub fn get_longest_common_prefix<Q: BorrowedBytes<Owned = T>>(&self, key: Q) -> Option<Q>
-        ensures longest { option_map Q.key result ≡ longest_key (Q.key key) (set.rows self.now) }
+        ensures longest { option_map Q.key result ≡ option_map (λ e. e.0)
+            (longest (Q.key key) (map.entries self.now)) }
         ensures part { IfSome result (λ part. Begins (Q.key part) (Q.key key)) }
     {
         match self.map.get_longest_common_prefix(key) {
@@ -166,7 +166,7 @@ impl<T: Bytes> GenericPatriciaSet<T> {
     /// assert_eq!(rt; set.longest_common_prefix_len("foobaz"), 5);
     /// ```
     pub fn longest_common_prefix_len<Q: BorrowedBytes<Owned = T>>(&self, key: Q) -> usize
-        ensures { IsReach T.item (set.elements self.now) (Q.key key) result }
+        ensures { IsReach T.item (map.keys self.now) (Q.key key) result }
     {
         self.map.longest_common_prefix_len(key)
     }
@@ -186,11 +186,11 @@ impl<T: Bytes> GenericPatriciaSet<T> {
     /// assert!(rt; !set.insert("foo")?);
     /// ```
     pub fn insert<Q: BorrowedBytes<Owned = T>>(&mut self, element: Q) -> Result<bool, AllocError>
-        ensures is_new { IfOk result (λ b. b ≡ not (set.contains self.old (Q.key element))) }
-        ensures ok { OnOk result (self.new ≡ set.insert self.old (Q.key element)) }
+        ensures is_new { IfOk result (λ b. b ≡ not (map.contains_key self.old (Q.key element))) }
+        ensures ok { OnOk result (self.new ≡ map.insert self.old (Q.key element) tt) }
         ensures unchanged { OnErr result (self.new ≡ self.old) }
         ensures err_only_nonempty { OnErr result (Q.key element ≢ []) }
-        ensures only_new { OnErr result (set.contains self.old (Q.key element) ≡ false) }
+        ensures only_new { OnErr result (map.contains_key self.old (Q.key element) ≡ false) }
     {
         match self.map.insert(element, ()) {
             Ok(old) => Ok(old.is_none()),
@@ -215,10 +215,10 @@ impl<T: Bytes> GenericPatriciaSet<T> {
     /// assert!(rt; !set.remove("foo")?);
     /// ```
     pub fn remove<Q: BorrowedBytes<Owned = T>>(&mut self, element: Q) -> Result<bool, AllocError>
-        ensures was_there { IfOk result (λ b. b ≡ set.contains self.old (Q.key element)) }
-        ensures ok { OnOk result (self.new ≡ set.remove self.old (Q.key element)) }
+        ensures was_there { IfOk result (λ b. b ≡ map.contains_key self.old (Q.key element)) }
+        ensures ok { OnOk result (self.new ≡ map.remove self.old (Q.key element)) }
         ensures unchanged { OnErr result (self.new ≡ self.old) }
-        ensures joins { OnErr result (Joins T.item (set.elements self.old) (Q.key element)) }
+        ensures joins { OnErr result (Joins T.item (map.keys self.old) (Q.key element)) }
     {
         Ok(self.map.remove(element)?.is_some())
     }
@@ -240,7 +240,7 @@ impl<T: Bytes> GenericPatriciaSet<T> {
     /// ```
     pub fn clone(&self) -> Result<Self, AllocError>
         ensures same { IfOk result (λ s. s ≡ self.now) }
-        ensures err_only_nonempty { OnErr result (set.len self.now ≢ 0) }
+        ensures err_only_nonempty { OnErr result (map.len self.now ≢ 0) }
     {
         Ok(GenericPatriciaSet {
             map: self.map.clone()?,
@@ -268,12 +268,12 @@ impl<T: Bytes> GenericPatriciaSet<T> {
         prefix: Q,
     ) -> Result<Self, AllocError>
         ensures taken { IfOk result (λ s.
-            set.rows s ≡ under (Q.key prefix) (set.rows self.old)) }
+            map.entries s ≡ under (Q.key prefix) (map.entries self.old)) }
         ensures left { OnOk result (
-            set.rows self.new ≡ outside (Q.key prefix) (set.rows self.old)) }
+            map.entries self.new ≡ outside (Q.key prefix) (map.entries self.old)) }
         ensures unchanged { OnErr result (self.new ≡ self.old) }
         ensures err_only_nonempty { OnErr result (Q.key prefix ≢ []) }
-        ensures err_only_if_matched { OnErr result (under (Q.key prefix) (set.rows self.old) ≢ []) }
+        ensures err_only_if_matched { OnErr result (under (Q.key prefix) (map.entries self.old) ≢ []) }
     {
         Ok(GenericPatriciaSet {
             map: self.map.split_by_prefix(prefix)?,
@@ -295,8 +295,8 @@ impl<T: Bytes> GenericPatriciaSet<T> {
     /// assert_eq!(rt; set.tree_bytes()?.as_slice(), [12, 0, 0, 0, 3, 1, 0, 1, 97].as_slice());
     /// ```
     pub fn tree_bytes(&self) -> Result<Vec<u8>, WireError>
-        ensures ok { IfOk result (λ b. AreTreeBytes T.item 2 b.items (set.rows self.now)) }
-        ensures too_deep { result ≡ Err WireError.TooDeep → TooDeep T.item 2 (set.elements self.now) }
+        ensures ok { IfOk result (λ b. AreTreeBytes T.item 2 b.items (map.entries self.now)) }
+        ensures too_deep { result ≡ Err WireError.TooDeep → TooDeep T.item 2 (map.keys self.now) }
     {
         self.map.tree_bytes()
     }
@@ -320,7 +320,7 @@ impl<T: Bytes> GenericPatriciaSet<T> {
     /// assert!(rt; set.contains("a"));
     /// ```
     pub fn from_wire(alloc: Global, bytes: &[u8], values: Vec<()>) -> Result<Self, DecodeError>
-        ensures ok { IfOk result (λ s. Means T.item 2 bytes.now values.items (set.rows s)) }
+        ensures ok { IfOk result (λ s. Means T.item 2 bytes.now values.items (map.entries s)) }
         ensures refused { IfErr result (λ e. IsRefusal T.item 2 bytes.now (length values.items) e) }
     {
         Ok(GenericPatriciaSet {
@@ -341,7 +341,7 @@ impl<T: Bytes> GenericPatriciaSet<T> {
     /// assert!(rt; elements.next().is_none());
     /// ```
     pub fn iter(&self) -> Iter<'_, T>
-        ensures { result ≡ set.elements self.now }
+        ensures { result ≡ map.keys self.now }
     {
         Iter::new(self.map.keys())
     }
@@ -359,7 +359,7 @@ impl<T: Bytes> GenericPatriciaSet<T> {
     /// assert!(rt; elements.next().is_none());
     /// ```
     pub fn iter_prefix<Q: BorrowedBytes<Owned = T>>(&self, prefix: Q) -> IterPrefix<'_, Q>
-        ensures { result ≡ keys_of (under (Q.key prefix) (set.rows self.now)) }
+        ensures { result ≡ keys_of (under (Q.key prefix) (map.entries self.now)) }
     {
         IterPrefix::new(self.map.iter_prefix(prefix))
     }
@@ -370,7 +370,7 @@ impl<T: Bytes> IntoIterator for GenericPatriciaSet<T> {
 
     type IntoIter = IntoIter<T>;
 
-    ghost into_iter_gives = { λ s elements. elements ≡ set.elements s };
+    ghost into_iter_gives = { λ s elements. elements ≡ map.keys s };
 
     fn into_iter(self) -> IntoIter<T> {
         IntoIter::new(self.map.into_iter())
@@ -382,7 +382,7 @@ impl<'a, T: Bytes> IntoIterator for &'a GenericPatriciaSet<T> {
 
     type IntoIter = Iter<'a, T>;
 
-    ghost into_iter_gives = { λ s elements. elements ≡ set.elements s.now };
+    ghost into_iter_gives = { λ s elements. elements ≡ map.keys s.now };
 
     fn into_iter(self) -> Iter<'a, T> {
         self.iter()

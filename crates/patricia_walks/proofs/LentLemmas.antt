@@ -4,7 +4,8 @@ use Rattle.std.specs.FinMap as map
 use Rattle.std.specs.FinMap.{from_sorted, get-from_sorted}
 use Rattle.std.proofs.lemmas.Option.{slice_get_within}
 use Rattle.patricia_keys.specs.Keys.{IsKeyKind, key_cmp}
-use Rattle.patricia_model.specs.Cursors.{written, written_at, last_value, value_at}
+use Rattle.patricia_model.specs.Cursors.{written, last_value}
+use Rattle.patricia_model.specs.Internal.CursorSteps.{written_at, value_at}
 use Rattle.patricia_model.specs.Siblings.{own}
 use Rattle.patricia_model.specs.Trees.{IsTree, map_of}
 use Rattle.patricia_model.proofs.TreeLemmas.{from_sorted-put, tree_sorted}

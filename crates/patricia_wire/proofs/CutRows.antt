@@ -1,9 +1,9 @@
 -- Each row in memory has a row on the wire, with its long labels cut.
 use Rattle.std.proofs.Common.{◌≡◌, ℕ, suc, zero, ◌≤◌, ◌≢◌, inl, inr, List, [], ◌∷◌, ◌++◌, Option, Some, None, length, refl, sym, ap, subst, ◌∙◌, arith, length-append}
-use Rattle.std.specs.List.{concat}
+use Rattle.std.specs.List.{AllByRecursion, concat}
 use Rattle.std.proofs.lemmas.Bool.{cases_lt}
 use Rattle.std.proofs.lemmas.List.{append_assoc, append-nil}
-use Rattle.patricia_keys.specs.Keys.{Begins, IsKeyKind, AreItems, IsValid}
+use Rattle.patricia_keys.specs.Keys.{Begins, IsKeyKind, IsValid}
 use Rattle.patricia_model.specs.Siblings.{Siblings, end, node, prefixed, own, entries, IsBefore, IsBeforeSiblings, IsCanonicalWithin, EarnsWithin, IsCanonical}
 use Rattle.patricia_model.specs.Internal.Removals.{width}
 use Rattle.patricia_keys.proofs.KeyLemmas.{Begins-trans, begins_same, first_of, item-nonempty, IsValid-append, IsValid-item}
@@ -35,7 +35,7 @@ module _ (item : List ℕ → Type 0) (kind : IsKeyKind item) where
   no_item (x ∷ i) p a = absurd (let h = a.1 in cc)
 
   -- items are taken while they have room
-  take_items : (l : List ℕ) (is : List (List ℕ)) → IsValid item l → l ≢ [] → length l ≤ 255 → AreItems item is → Piece (l ++ concat is)
+  take_items : (l : List ℕ) (is : List (List ℕ)) → IsValid item l → l ≢ [] → length l ≤ 255 → AllByRecursion item is → Piece (l ++ concat is)
   take_items l [] valid nonempty fits ok = record { piece = l; rest = []; joined = refl; valid = valid; nonempty = nonempty; fits = fits; rest_valid = ([], tt, refl); full = λ i p a room. no_item i p a }
   take_items l (i ∷ is) valid nonempty fits ok = elim (cases_lt 255 (length (l ++ i))) [
     | inl over ↦ record {

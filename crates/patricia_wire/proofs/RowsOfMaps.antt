@@ -6,11 +6,11 @@ use Rattle.std.specs.Cmp.Lexicographic.{nat_list_cmp_total}
 use Rattle.std.specs.FinMap as map
 use Rattle.std.specs.FinMap.{put, is_sorted, same_entries_map}
 use Rattle.std.specs.FinMap.Entries.{below_all}
-use Rattle.std.specs.List.{All, concat}
+use Rattle.std.specs.List.{All, AllByRecursion, concat}
 use Rattle.std.specs.Ordering.{is_lt, ordering_reverse}
 use Rattle.std.proofs.lemmas.List.{append_assoc, append-nil}
 use Rattle.std.proofs.lemmas.List.Elements.{All-head, All-tail}
-use Rattle.patricia_keys.specs.Keys.{Begins, IsKeyKind, AreItems, IsValid, key_cmp}
+use Rattle.patricia_keys.specs.Keys.{Begins, IsKeyKind, IsValid, key_cmp}
 use Rattle.patricia_keys.proofs.KeyLemmas.{IsValid-nil, IsValid-item, IsValid-append, first_of, begins_same, item-nonempty, key_cmp-same}
 use Rattle.patricia_model.specs.Internal.LabelCmp.{SharesItem}
 use Rattle.patricia_model.specs.Siblings.{Siblings, end, node, own, entries, IsBefore, IsCanonical, keys_of}
@@ -45,7 +45,7 @@ module _ (item : List ℕ → Type 0) (kind : IsKeyKind item) where
   no_item [] k none is begun = item-nonempty item kind [] is refl
   no_item (x ∷ i) k none is begun = absurd (let h : (x ∷ i) ++ begun.0 ≡ [] = begun.1 ∙ none in cc)
 
-  parted : (is js : List (List ℕ)) → AreItems item is → AreItems item js → Parts (concat is) (concat js)
+  parted : (is js : List (List ℕ)) → AllByRecursion item is → AllByRecursion item js → Parts (concat is) (concat js)
   parted [] js p q = record { front = []; key_rest = []; label_rest = concat js; key = refl; label = refl; front_valid = IsValid-nil item; key_valid = IsValid-nil item; label_valid = (js, q, refl); apart = λ share. no_item share.shared [] refl share.is_item share.begins_first }
   parted (i ∷ is) [] p q = record { front = []; key_rest = concat (i ∷ is); label_rest = []; key = refl; label = refl; front_valid = IsValid-nil item; key_valid = (i ∷ is, p, refl); label_valid = IsValid-nil item; apart = λ share. no_item share.shared [] refl share.is_item share.begins_second }
   parted (i ∷ is) (j ∷ js) p q = by (key_cmp i j) refl (parted is js p.1 q.1)

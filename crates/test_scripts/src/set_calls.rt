@@ -1,7 +1,7 @@
 //! The calls of a set.
 
 ghost use Rattle.std.specs.Prelude.{◌≡◌, []};
-ghost use Rattle.patricia_tree.specs.Sets as set;
+ghost use Rattle.std.specs.FinMap as map;
 ghost use Rattle.test_script_support.specs.Answers.{keys_text};
 
 use crate::set_queries;
@@ -22,9 +22,9 @@ pub(super) struct SetCalls<K: Bytes> {
 }
 
 impl<K: Bytes> Listed for SetCalls<K> {
-    ghost IsEmpty = { λ calls. set.elements calls.set ≡ [] };
+    ghost IsEmpty = { λ calls. map.keys calls.set ≡ [] };
 
-    ghost listing = { λ calls. keys_text (set.elements calls.set) };
+    ghost listing = { λ calls. keys_text (map.keys calls.set) };
 
     fn empty(alloc: Global) -> Self {
         SetCalls {
@@ -111,7 +111,7 @@ fn add_change<Q: BorrowedBytes>(
     let is_changed = if is_insert {
         set.insert(element)?
     } else {
-        set.remove(element)?
+        map.remove(element)?
     };
     out.add_bool(is_changed)
 }

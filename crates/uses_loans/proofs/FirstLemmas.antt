@@ -1,18 +1,22 @@
 -- The first row of a map, as a cursor over the whole map lends it.
 use Rattle.std.proofs.Common.{◌≡◌, ℕ, List, [], ◌∷◌, Option, None, Some, slice_get, cond, refl, sym, ap, subst, ◌∙◌}
-use Rattle.std.specs.Option.{option_map}
+use Rattle.std.specs.Option.{option_map, option_or}
 use Rattle.std.specs.Ordering.{is_eq}
 use Rattle.std.specs.Cmp.{tied_itself}
 use Rattle.std.specs.Cmp.Lexicographic.{nat_list_cmp_total}
 use Rattle.std.specs.FinMap as map
 use Rattle.std.specs.FinMap.{find, get-entries}
-use Rattle.patricia_tree.specs.Cursors.{CursorView, next_row, lent_at, stepped, last_value, written}
+use Rattle.patricia_tree.specs.Cursors.{CursorView, next_row, stepped, last_value, written}
 use Rattle.patricia_tree.specs.Keys.{key_cmp}
 use Rattle.patricia_tree.specs.Prefixes.{under}
 
 module _ {V : Type 0} where
   abbrev pub start : map.FinMap key_cmp V → CursorView V
   start m = record { map = m; prefix = []; last = None }
+
+  -- a cursor that has lent at a key, if there is one
+  abbrev lent_at : CursorView V → Option (List ℕ) → CursorView V
+  lent_at s key = record s { last = option_or key s.last }
 
   -- the value of the first row is found at its key
   first_found : (rows : List (List ℕ × V)) (e : List ℕ × V) → slice_get (under [] rows) 0 ≡ Some e → find key_cmp e.0 rows ≡ Some e.1

@@ -1,7 +1,7 @@
 //! Many elements inserted by one call.
 ghost use Rattle.std.specs.Prelude.{IfOk, OnOk, OnErr};
 ghost use Rattle.std.specs.Iterator.{IsFiniteIterable};
-ghost use Rattle.patricia_tree.specs.Sets as set;
+ghost use Rattle.std.specs.FinMap as map;
 ghost use Rattle.patricia_tree.specs.Sets.{Extends, IsStoppedAt, KeySet};
 
 use super::GenericPatriciaSet;
@@ -59,9 +59,9 @@ impl<T: Bytes> GenericPatriciaSet<T> {
     ) -> Result<Self, AllocError>
         requires { IsFiniteIterable I.into_iter_gives I.IntoIter.can_next I.IntoIter.remaining elements }
         ensures ok { IfOk result
-            (λ made. Extends I.into_iter_gives I.IntoIter.next_gives Q.key elements set.empty made) }
+            (λ made. Extends I.into_iter_gives I.IntoIter.next_gives Q.key elements map.empty made) }
         ensures err { OnErr result ((left : KeySet)
-            × IsStoppedAt I.into_iter_gives I.IntoIter.next_gives Q.key elements set.empty left) }
+            × IsStoppedAt I.into_iter_gives I.IntoIter.next_gives Q.key elements map.empty left) }
     {
         let mut set = GenericPatriciaSet::new(alloc);
         set.extend(elements)?;
