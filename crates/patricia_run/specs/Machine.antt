@@ -3,7 +3,6 @@ use Rattle.std.specs.Prelude.{◌≡◌, ◌≢◌, ℕ, List, [], ◌∷◌, le
 use Rattle.std.specs.Option.{option_map_or}
 use Rattle.std.specs.FinMap as map
 use Rattle.patricia_tree.specs.Bulk.{by_bytes}
-use Rattle.patricia_tree.specs.Clones.{CloneIsSame}
 use Rattle.patricia_tree.specs.Keys.{key_cmp}
 use Rattle.patricia_tree.specs.Points.{Joins}
 use Rattle.patricia_tree.specs.Prefixes.{under, outside, along, longest, IsReach}
@@ -123,7 +122,3 @@ module _ {K V : Type 0} (item : List ℕ → Type 0) (key_of : K → List ℕ) w
   Run old (command ∷ commands) (reply ∷ replies) new =
       (between : State V) × Step old command reply between × Run between commands replies new
   Run old _ _ new = ⊥
-
--- a kind of values each clone of which is the value itself
-abbrev pub AllClonesAreSame : {V : Type 0} → (V → V → Type 0) → Type 0
-AllClonesAreSame {V} is_clone = (v : V) → CloneIsSame is_clone v

@@ -32,19 +32,15 @@ fault_number Faults.BadKey = 4
 abbrev pub fault_line : Fault → List ℕ
 fault_line fault = number_line (codes "fault") (fault_number fault)
 
--- numbers in decimal, with a comma between each two
-abbrev pub joined_by_commas : List ℕ → List ℕ
-joined_by_commas numbers = join_by decimal (codes ",") numbers
-
--- numbers joined so, or - where there is none
+-- numbers in decimal, with a comma between each two, or - where there is none
 abbrev pub joined_or_dash : List ℕ → List ℕ
 joined_or_dash [] = codes "-"
-joined_or_dash (number ∷ numbers) = joined_by_commas (number ∷ numbers)
+joined_or_dash (number ∷ numbers) = join_by decimal (codes ",") (number ∷ numbers)
 
 -- the tree bytes, and the values
 abbrev pub wire_line : List ℕ → List ℕ → List ℕ
 wire_line bytes values =
-    codes "wire " ++ joined_by_commas bytes ++ 32 ∷ joined_or_dash values ++ 10 ∷ []
+    codes "wire " ++ join_by decimal (codes ",") bytes ++ 32 ∷ joined_or_dash values ++ 10 ∷ []
 
 -- the lines of a reply
 abbrev pub reply_lines : {K : Type 0} → KeyFormat → (K → List ℕ) → Reply K ℕ → List ℕ

@@ -6,7 +6,8 @@ ghost use Rattle.patricia_tree.specs.Bulk.{by_bytes};
 ghost use Rattle.patricia_tree.specs.Prefixes.{along, under};
 ghost use Rattle.patricia_tree.specs.TreeBytes.{AreTreeBytes};
 ghost use Rattle.patricia_tree.specs.Writings.{TooDeep};
-ghost use Rattle.patricia_run.specs.Machine.{Step, Run, AllClonesAreSame, empty_state, with_key};
+ghost use Rattle.patricia_tree.specs.Clones.{CloneIsSame};
+ghost use Rattle.patricia_run.specs.Machine.{Step, Run, empty_state, with_key};
 ghost use Rattle.patricia_run.specs.declared.command.Command.TheVariants as Commands;
 
 use crate::command::{Command, Reply};
@@ -233,7 +234,7 @@ impl<K: Bytes, V: Copy> Bench<K, V> {
 
     // Puts a copy of the map aside.
     fn copy(&mut self) -> Reply<K, V>
-        requires { AllClonesAreSame V.is_clone }
+        requires { (v : V) → CloneIsSame V.is_clone v }
         ensures { Step K.item K.key self.old Commands.Copy result self.new }
     {
         match self.main.clone() {
@@ -286,7 +287,7 @@ impl<K: Bytes, V: Copy> Bench<K, V> {
 
     /// Does one command. Each clone of a value is asked to be that value.
     pub fn step<Q: BorrowedBytes<Owned = K>>(&mut self, command: Command<Q, V>) -> Reply<K, V>
-        requires { AllClonesAreSame V.is_clone }
+        requires { (v : V) → CloneIsSame V.is_clone v }
         ensures { Step K.item K.key self.old (with_key Q.key command) result self.new }
     {
         match command {
@@ -315,7 +316,7 @@ pub fn run<K: Bytes, V: Copy, Q: BorrowedBytes<Owned = K>>(
     bench: &mut Bench<K, V>,
     commands: &[Command<Q, V>],
 ) -> Result<Vec<Reply<K, V>>, AllocError>
-    requires { AllClonesAreSame V.is_clone }
+    requires { (v : V) → CloneIsSame V.is_clone v }
     ensures ok { IfOk result (λ replies.
         Run K.item K.key
         bench.old (list_map (with_key Q.key) commands.now) replies.items bench.new) }
