@@ -99,14 +99,18 @@ impl<K: Bytes, V: Drop> GenericPatriciaMap<K, V> {
     /// # Examples
     ///
     /// ```
-    /// let mut map = StringPatriciaMap::from_iter(rt.alloc(), [("foo", 1), ("bar", 2)])?;
-    /// let mut cursor = map.iter_prefix_mut("f");
-    /// let key = cursor.next_with(|key, value| {
-    ///     *value = 7;
-    ///     key
-    /// })?;
-    /// assert_eq!(rt; key.as_deref(), Some("foo"));
-    /// assert!(rt; cursor.next_with(|_, _| ())?.is_none());
+    /// // Sets the values under a prefix to 0.
+    /// fn clear_values<Q: BorrowedBytes>(
+    ///     map: &mut GenericPatriciaMap<Q::Owned, u32>,
+    ///     prefix: Q,
+    /// ) -> Result<(), AllocError> {
+    ///     let len = map.len();
+    ///     let mut cursor = map.iter_prefix_mut(prefix);
+    ///     for _ in 0..len {
+    ///         cursor.next_with(|_key, value| *value = 0)?;
+    ///     }
+    ///     Ok(())
+    /// }
     /// ```
     pub fn iter_prefix_mut<Q: BorrowedBytes<Owned = K>>(
         &mut self,

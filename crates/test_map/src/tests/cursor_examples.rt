@@ -1,5 +1,6 @@
 //! The examples of cursors, as the documentation has them.
-use patricia_tree::StringPatriciaMap;
+use patricia_tree::{BorrowedBytes, GenericPatriciaMap, StringPatriciaMap};
+use std::alloc::AllocError;
 
 #[test]
 fn iter_mut(rt: HostRuntime) -> anyhow::Result<()> {
@@ -85,17 +86,26 @@ fn values_mut(rt: HostRuntime) -> anyhow::Result<()> {
     Ok(())
 }
 
+// example: map iter_prefix_mut
+// Sets the values under a prefix to 0.
+fn clear_values<Q: BorrowedBytes>(
+    map: &mut GenericPatriciaMap<Q::Owned, u32>,
+    prefix: Q,
+) -> Result<(), AllocError> {
+    let len = map.len();
+    let mut cursor = map.iter_prefix_mut(prefix);
+    for _ in 0..len {
+        cursor.next_with(|_key, value| *value = 0)?;
+    }
+    Ok(())
+}
+// end
+
 #[test]
 fn iter_prefix_mut(rt: HostRuntime) -> anyhow::Result<()> {
-    // example: map iter_prefix_mut
     let mut map = StringPatriciaMap::from_iter(rt.alloc(), [("foo", 1), ("bar", 2)])?;
-    let mut cursor = map.iter_prefix_mut("f");
-    let key = cursor.next_with(|key, value| {
-        *value = 7;
-        key
-    })?;
-    assert_eq!(rt; key.as_deref(), Some("foo"));
-    assert!(rt; cursor.next_with(|_, _| ())?.is_none());
-    // end
+    clear_values(&mut map, "f")?;
+    assert_eq!(rt; map.get("foo"), Some(&0));
+    assert_eq!(rt; map.get("bar"), Some(&2));
     Ok(())
 }
