@@ -226,7 +226,10 @@ impl<K: Bytes, V: Drop> GenericPatriciaMap<K, V> {
     /// map.insert("foo", 1)?;
     /// map.insert("foobar", 2)?;
     /// assert_eq!(rt; map.get_longest_common_prefix("foobaz"), Some(("foo", &1)));
-    /// assert_eq!(rt; map.get_longest_common_prefix("foobarbaz"), Some(("foobar", &2)));
+    /// assert_eq!(rt;
+    ///     map.get_longest_common_prefix("foobarbaz"),
+    ///     Some(("foobar", &2))
+    /// );
     /// assert_eq!(rt; map.get_longest_common_prefix("fo"), None);
     /// ```
     pub fn get_longest_common_prefix<Q: BorrowedBytes<Owned = K>>(&self, key: Q) -> Option<(Q, &V)>
@@ -466,7 +469,10 @@ impl<K: Bytes, V: Drop> GenericPatriciaMap<K, V> {
     /// let mut map = StringPatriciaMap::new(rt.alloc());
     /// map.insert("a", 1)?;
     /// // the root, which has a child; and a node at level 1 with the label "a" and a value
-    /// assert_eq!(rt; map.tree_bytes()?.as_slice(), [12, 0, 0, 0, 3, 1, 0, 1, 97].as_slice());
+    /// assert_eq!(rt;
+    ///     map.tree_bytes()?.as_slice(),
+    ///     [12, 0, 0, 0, 3, 1, 0, 1, 97].as_slice()
+    /// );
     /// ```
     pub fn tree_bytes(&self) -> Result<Vec<u8>, WireError>
         ensures ok { IfOk result (λ b. AreTreeBytes K.item 2 b.items (map.entries self.now)) }

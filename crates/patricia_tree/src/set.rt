@@ -292,7 +292,10 @@ impl<T: Bytes> GenericPatriciaSet<T> {
     ///
     /// ```
     /// let set = StringPatriciaSet::from_iter(rt.alloc(), ["a"])?;
-    /// assert_eq!(rt; set.tree_bytes()?.as_slice(), [12, 0, 0, 0, 3, 1, 0, 1, 97].as_slice());
+    /// assert_eq!(rt;
+    ///     set.tree_bytes()?.as_slice(),
+    ///     [12, 0, 0, 0, 3, 1, 0, 1, 97].as_slice()
+    /// );
     /// ```
     pub fn tree_bytes(&self) -> Result<Vec<u8>, WireError>
         ensures ok { IfOk result (λ b. AreTreeBytes T.item 2 b.items (map.entries self.now)) }

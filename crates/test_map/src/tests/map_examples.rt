@@ -86,7 +86,10 @@ fn get_longest_common_prefix(rt: HostRuntime) -> anyhow::Result<()> {
     map.insert("foo", 1)?;
     map.insert("foobar", 2)?;
     assert_eq!(rt; map.get_longest_common_prefix("foobaz"), Some(("foo", &1)));
-    assert_eq!(rt; map.get_longest_common_prefix("foobarbaz"), Some(("foobar", &2)));
+    assert_eq!(rt;
+        map.get_longest_common_prefix("foobarbaz"),
+        Some(("foobar", &2))
+    );
     assert_eq!(rt; map.get_longest_common_prefix("fo"), None);
     // end
     Ok(())
@@ -225,7 +228,10 @@ fn tree_bytes(rt: HostRuntime) -> anyhow::Result<()> {
     let mut map = StringPatriciaMap::new(rt.alloc());
     map.insert("a", 1)?;
     // the root, which has a child; and a node at level 1 with the label "a" and a value
-    assert_eq!(rt; map.tree_bytes()?.as_slice(), [12, 0, 0, 0, 3, 1, 0, 1, 97].as_slice());
+    assert_eq!(rt;
+        map.tree_bytes()?.as_slice(),
+        [12, 0, 0, 0, 3, 1, 0, 1, 97].as_slice()
+    );
     // end
     Ok(())
 }

@@ -126,7 +126,10 @@ fn split_by_prefix(rt: HostRuntime) -> anyhow::Result<()> {
 fn tree_bytes(rt: HostRuntime) -> anyhow::Result<()> {
     // example: set tree_bytes
     let set = StringPatriciaSet::from_iter(rt.alloc(), ["a"])?;
-    assert_eq!(rt; set.tree_bytes()?.as_slice(), [12, 0, 0, 0, 3, 1, 0, 1, 97].as_slice());
+    assert_eq!(rt;
+        set.tree_bytes()?.as_slice(),
+        [12, 0, 0, 0, 3, 1, 0, 1, 97].as_slice()
+    );
     // end
     Ok(())
 }
