@@ -25,7 +25,7 @@ impl<'a, T: Bytes> Model for Iter<'a, T> {
 }
 
 impl<'a, T: Bytes> Iter<'a, T> {
-    /// The keys of a map, which are the elements.
+    /// Returns the keys of a map, which are the elements.
     pub fn new(keys: entries::Keys<'a, T, ()>) -> Self
         ensures { result ≡ keys.entry }
     {
@@ -63,7 +63,7 @@ impl<'a, Q: BorrowedBytes> Model for IterPrefix<'a, Q> {
 }
 
 impl<'a, Q: BorrowedBytes> IterPrefix<'a, Q> {
-    /// The keys of entries, which are the elements.
+    /// Returns the keys of entries, which are the elements.
     pub fn new(entries: prefixes::IterPrefix<'a, Q, ()>) -> Self
         ensures { result ≡ keys_of entries.entry }
     {
@@ -105,7 +105,7 @@ impl<T: Bytes> Model for IntoIter<T> {
 }
 
 impl<T: Bytes> IntoIter<T> {
-    /// The keys of entries, which are the elements.
+    /// Returns the keys of entries, which are the elements.
     pub fn new(entries: entries::IntoIter<T, ()>) -> Self
         ensures { result ≡ keys_of entries }
     {

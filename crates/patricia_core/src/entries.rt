@@ -26,7 +26,7 @@ impl<'a, K: Bytes, V> Model for Iter<'a, K, V> {
 }
 
 impl<'a, K: Bytes, V> Iter<'a, K, V> {
-    /// The entries that a walk comes to.
+    /// Returns the entries that a walk comes to.
     pub fn new(walk: Walk<'a, K, V>) -> Self
         ensures { result ≡ walk.entry }
     {
@@ -65,7 +65,7 @@ impl<'a, K: Bytes, V> Model for Keys<'a, K, V> {
 }
 
 impl<'a, K: Bytes, V> Keys<'a, K, V> {
-    /// The keys of the entries that a walk comes to.
+    /// Returns the keys of the entries that a walk comes to.
     pub fn new(walk: Walk<'a, K, V>) -> Self
         ensures { result ≡ keys_of walk.entry }
     {
@@ -104,7 +104,7 @@ impl<'a, K: Bytes, V> Model for Values<'a, K, V> {
 }
 
 impl<'a, K: Bytes, V> Values<'a, K, V> {
-    /// The values of the entries that a walk comes to.
+    /// Returns the values of the entries that a walk comes to.
     pub fn new(walk: Walk<'a, K, V>) -> Self
         ensures { result ≡ values_of walk.entry }
     {
@@ -142,7 +142,7 @@ impl<K: Bytes, V> Model for IntoIter<K, V> {
 }
 
 impl<K: Bytes, V> IntoIter<K, V> {
-    /// The entries that a walk hands out.
+    /// Returns the entries that a walk hands out.
     pub fn new(walk: IntoWalk<K, V>) -> Self
         ensures { result ≡ walk }
     {

@@ -26,7 +26,7 @@ impl<'a, Q: BorrowedBytes, V> Model for CommonPrefixesIter<'a, Q, V> {
 }
 
 impl<'a, Q: BorrowedBytes, V> CommonPrefixesIter<'a, Q, V> {
-    /// The entries of a walk along a key.
+    /// Returns the entries of a walk along a key.
     pub fn new(along: Along<'a, Q, V>) -> Self
         ensures { result ≡ along.entry }
     {
@@ -65,7 +65,7 @@ impl<'a, Q: BorrowedBytes, V> Model for CommonPrefixValues<'a, Q, V> {
 }
 
 impl<'a, Q: BorrowedBytes, V> CommonPrefixValues<'a, Q, V> {
-    /// The values of the entries of a walk along a key.
+    /// Returns the values of the entries of a walk along a key.
     pub fn new(along: Along<'a, Q, V>) -> Self
         ensures { result ≡ values_of along.entry }
     {
@@ -102,7 +102,7 @@ impl<'a, K: Bytes, V> Model for CommonPrefixValuesOwned<'a, K, V> {
 }
 
 impl<'a, K: Bytes, V> CommonPrefixValuesOwned<'a, K, V> {
-    /// The values of a walk along a key that it owns.
+    /// Returns the values of a walk along a key that it owns.
     pub fn new(walk: AlongOwned<'a, K, V>) -> Self
         ensures { result ≡ walk.entry }
     {
@@ -140,7 +140,7 @@ impl<'a, Q: BorrowedBytes, V> Model for IterPrefix<'a, Q, V> {
 }
 
 impl<'a, Q: BorrowedBytes, V> IterPrefix<'a, Q, V> {
-    /// The entries of a walk under a prefix.
+    /// Returns the entries of a walk under a prefix.
     pub fn new(under: Under<'a, Q, V>) -> Self
         ensures { result ≡ under.entry }
     {

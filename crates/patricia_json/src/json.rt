@@ -25,7 +25,11 @@ pub enum JsonError {
 
 /// Writes an array of two arrays with no space, the bytes as numbers and then the values.
 ///
-/// No value may have a floating-point number in it. An `Err` says that memory ran out.
+/// No value may have a floating-point number in it. Takes time in proportion to the text.
+///
+/// # Errors
+///
+/// Out of memory.
 pub fn pair_to_json(alloc: Global, bytes: &[u8], values: Vec<Value>) -> Result<String, AllocError>
     requires { HaveNoFloat values.items }
     ensures text { IfOk result (λ s. IsTextOf (string_bytes s) bytes.now values.items) }
@@ -42,7 +46,11 @@ pub fn pair_to_json(alloc: Global, bytes: &[u8], values: Vec<Value>) -> Result<S
 /// number even where its value is whole, as in `1.0` and `1e2`, and so is `-0` and an integer
 /// outside of -2^63 to 2^64 - 1: each is refused, as a byte or in a value. A text in which arrays
 /// and objects are nested more than 127 deep is refused too. Of two members of an object with the
-/// same name the later stays.
+/// same name the later stays. Takes time in proportion to the text.
+///
+/// # Errors
+///
+/// `Memory`, or `Json` for all else that is refused.
 pub fn pair_from_json(alloc: Global, text: &str) -> Result<(Vec<u8>, Vec<Value>), JsonError>
     ensures read { IfOk result (λ p. ReadsAs text.now p.0.items p.1.items) }
     ensures no_float { IfOk result (λ p. HaveNoFloat p.1.items) }

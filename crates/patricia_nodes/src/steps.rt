@@ -35,7 +35,8 @@ impl<L: Ledger> Model for Steps<L> {
 }
 
 impl<L: Ledger> Steps<L> {
-    /// No step yet. The blank is one of the ledger's, and nobody else has opened it.
+    /// Makes a count of no step yet. The blank is one of the ledger's, and nobody else has opened
+    /// it.
     pub fn new(blank: Blank) -> Steps<L>
         requires name { blank.name ≡ L.name }
         requires parts { blank.parts ≡ L.parts }
@@ -46,7 +47,7 @@ impl<L: Ledger> Steps<L> {
         Steps { book, share }
     }
 
-    /// One step more.
+    /// Adds a step.
     pub fn tick(&mut self)
         ensures { self.new ≡ self.old + 1 }
     {

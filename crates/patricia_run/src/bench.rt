@@ -114,7 +114,7 @@ fn written<K: Bytes, V: Copy>(
 }
 
 impl<K: Bytes, V: Copy> Bench<K, V> {
-    /// A bench whose maps are empty.
+    /// Makes a bench whose maps are empty.
     pub fn new(alloc: Global) -> Self
         ensures { result ≡ empty_state }
     {
@@ -310,8 +310,12 @@ impl<K: Bytes, V: Copy> Bench<K, V> {
     }
 }
 
-/// Does the commands in order. The list of replies is reserved before the first of them, so its
-/// refusal is the only error. Each clone of a value is asked to be that value.
+/// Does the commands in order. Each clone of a value is asked to be that value.
+///
+/// # Errors
+///
+/// Out of memory for the list of replies, which is reserved before the first command: nothing is
+/// done then.
 pub fn run<K: Bytes, V: Copy, Q: BorrowedBytes<Owned = K>>(
     bench: &mut Bench<K, V>,
     commands: &[Command<Q, V>],

@@ -21,6 +21,8 @@ where
     /// Advances to the next entry and returns its key, or `None` at the end. `value` lends its
     /// value.
     ///
+    /// Takes time in proportion to the nodes that it passes, and to the key that it copies.
+    ///
     /// # Errors
     ///
     /// Out of memory: nothing is changed, and the next call tries the same entry.
@@ -48,6 +50,8 @@ where
 
     /// Lends the value of the entry that it advanced to last, or returns `None` before the first
     /// one.
+    ///
+    /// Takes constant time.
     ///
     /// # Examples
     ///
@@ -95,6 +99,8 @@ where
     /// Advances to the next entry and returns its key, owned, beside a loan of its value, or `None`
     /// at the end.
     ///
+    /// Takes time in proportion to the nodes that it passes, and to the key that it copies.
+    ///
     /// # Errors
     ///
     /// Out of memory: there is a next entry.
@@ -126,6 +132,8 @@ where
 
     /// Advances to the next entry and runs a closure on its key, owned, and a loan of its value. At
     /// the end it is not run.
+    ///
+    /// Takes time in proportion to the nodes that it passes, and to the key that it copies.
     ///
     /// # Errors
     ///

@@ -96,7 +96,7 @@ impl<K: Bytes, V: Drop> GenericPatriciaMap<K, V> {
         self.tree.len()
     }
 
-    /// Returns whether there is no entry.
+    /// Returns whether there is no entry, in constant time.
     ///
     /// # Examples
     ///

@@ -25,6 +25,8 @@ where
     /// Advances to the next entry and returns its key, or `None` at the end. `value` lends its
     /// value.
     ///
+    /// Takes time in proportion to the nodes that it passes, and to the key that it copies.
+    ///
     /// # Errors
     ///
     /// Out of memory: nothing is changed, and the next call tries the same entry.
@@ -42,6 +44,8 @@ where
 
     /// Lends the value of the entry that it advanced to last, or returns `None` before the first
     /// one.
+    ///
+    /// Takes constant time.
     pub fn value(&mut self) -> Option<&mut V>
         ensures* writes { sem 𝓛 (lends_last_under M.row K.row Q.row V.row K.Bytes Q.BorrowedBytes self.entry result) }
         ensures value { option_copied_mut result ≡ last_value self.old.at }
@@ -79,6 +83,8 @@ where
     /// Advances to the next entry and returns its key, owned, beside a loan of its value, or `None`
     /// at the end.
     ///
+    /// Takes time in proportion to the nodes that it passes, and to the key that it copies.
+    ///
     /// # Errors
     ///
     /// Out of memory: there is a next entry.
@@ -97,6 +103,8 @@ where
 
     /// Advances to the next entry and runs a closure on its key, owned, and a loan of its value. At
     /// the end it is not run.
+    ///
+    /// Takes time in proportion to the nodes that it passes, and to the key that it copies.
     ///
     /// # Errors
     ///

@@ -81,7 +81,7 @@ impl<T: Bytes> GenericPatriciaSet<T> {
         self.map.len()
     }
 
-    /// Returns whether there is no element.
+    /// Returns whether there is no element, in constant time.
     ///
     /// # Examples
     ///
@@ -173,6 +173,9 @@ impl<T: Bytes> GenericPatriciaSet<T> {
 
     /// Inserts an element, and returns whether it is a new one.
     ///
+    /// Takes the time of a look-up. Where the vector of nodes is full it is relocated, in time in
+    /// proportion to the number of elements.
+    ///
     /// # Errors
     ///
     /// Out of memory, at a new nonempty element alone: the set is unchanged. A new nonempty element
@@ -199,6 +202,8 @@ impl<T: Bytes> GenericPatriciaSet<T> {
     }
 
     /// Removes an element, and returns whether it was there.
+    ///
+    /// Takes the time of a look-up.
     ///
     /// # Errors
     ///
@@ -249,6 +254,8 @@ impl<T: Bytes> GenericPatriciaSet<T> {
 
     /// Removes the elements that begin with the prefix, and returns them as a set.
     ///
+    /// Takes a look-up, and time in proportion to the elements that are removed.
+    ///
     /// # Errors
     ///
     /// Out of memory: the set is unchanged. Never for the empty prefix, which moves the whole set,
@@ -283,6 +290,8 @@ impl<T: Bytes> GenericPatriciaSet<T> {
     /// Returns the tree bytes: the encoding of the elements, which is the same for each set with
     /// these elements, whatever its history. They are those of a map with these keys.
     ///
+    /// Takes time in proportion to the bytes.
+    ///
     /// # Errors
     ///
     /// `TooDeep` where a record would lie deeper than level 65,535, which takes elements of more
@@ -307,7 +316,8 @@ impl<T: Bytes> GenericPatriciaSet<T> {
     /// Makes a set of tree bytes, with a `()` for each element.
     ///
     /// Any encoding of a whole tree is read, whether of `tree_bytes` or of the Rust crate, and the
-    /// set has the one shape of its elements, as with `from_wire` of a map.
+    /// set has the one shape of its elements, as with `from_wire` of a map. Takes time in proportion
+    /// to the bytes.
     ///
     /// # Errors
     ///

@@ -77,6 +77,8 @@ where
     /// Advances to the next value and returns whether there is one. `value` lends it. No key is
     /// built.
     ///
+    /// Takes time in proportion to the nodes that it passes.
+    ///
     /// # Errors
     ///
     /// Out of memory: nothing is changed, and the next call tries the same value.
@@ -93,6 +95,8 @@ where
     }
 
     /// Lends the value that it advanced to last, or returns `None` before the first one.
+    ///
+    /// Takes constant time.
     pub fn value(&mut self) -> Option<&mut V>
         ensures* writes { sem 𝓛 (lends_last_value M.row K.row V.row K.Bytes self.entry result) }
         ensures value { option_copied_mut result ≡ last_value self.old.at }
@@ -126,6 +130,8 @@ where
 
     /// Advances to the next value and lends it, or returns `None` at the end.
     ///
+    /// Takes time in proportion to the nodes that it passes.
+    ///
     /// # Errors
     ///
     /// Out of memory: there is a next value.
@@ -144,6 +150,8 @@ where
     }
 
     /// Advances to the next value and runs a closure on a loan of it. At the end it is not run.
+    ///
+    /// Takes time in proportion to the nodes that it passes.
     ///
     /// # Errors
     ///

@@ -8,7 +8,7 @@ use super::{BorrowedBytes, Bytes};
 use std::alloc::{AllocError, Global};
 use std::cmp::Ordering;
 
-// How many bytes two lists share at the front.
+/// Returns how many bytes two lists share at the front.
 pub fn shared_len(a: &[u8], b: &[u8]) -> usize
     ensures { IsSharedLen a.now b.now result }
 {

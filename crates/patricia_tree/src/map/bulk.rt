@@ -14,6 +14,8 @@ impl<K: Bytes, V: Drop> GenericPatriciaMap<K, V> {
     /// Inserts pairs, one after the other: of two values for one key the later stays. The iterator
     /// must end.
     ///
+    /// Takes the time of an `insert` for each pair.
+    ///
     /// # Errors
     ///
     /// Out of memory, at a new nonempty key: the pairs before it are inserted; it and the rest are
@@ -49,6 +51,8 @@ impl<K: Bytes, V: Drop> GenericPatriciaMap<K, V> {
 
     /// Makes a map of pairs, inserted one after the other: of two values for one key the later
     /// stays. The iterator must end.
+    ///
+    /// Takes the time of an `insert` for each pair.
     ///
     /// # Errors
     ///

@@ -12,6 +12,8 @@ use std::iter::{IntoIterator, Iterator};
 impl<T: Bytes> GenericPatriciaSet<T> {
     /// Inserts elements, one after the other. The iterator must end.
     ///
+    /// Takes the time of an `insert` for each element.
+    ///
     /// # Errors
     ///
     /// Out of memory, at a new nonempty element: those before it are inserted; it and the rest are
@@ -42,6 +44,8 @@ impl<T: Bytes> GenericPatriciaSet<T> {
     }
 
     /// Makes a set of elements, inserted one after the other. The iterator must end.
+    ///
+    /// Takes the time of an `insert` for each element.
     ///
     /// # Errors
     ///
