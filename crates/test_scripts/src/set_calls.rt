@@ -111,7 +111,7 @@ fn add_change<Q: BorrowedBytes>(
     let is_changed = if is_insert {
         set.insert(element)?
     } else {
-        map.remove(element)?
+        set.remove(element)?
     };
     out.add_bool(is_changed)
 }
