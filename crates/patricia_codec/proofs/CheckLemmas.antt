@@ -1,4 +1,4 @@
--- The rules of a record, tried in the order of their faults.
+-- The rules of a record, tried in the order of their numbers.
 use Rattle.std.proofs.Common.{◌≡◌, ◌≢◌, inl, inr, ℕ, zero, suc, ◌+◌, ◌<◌, ◌≤◌, true, false, List, [], ◌∷◌, ◌++◌, length, take, drop, length-take, length-append, take-append-drop, take_all, refl, sym, ap, subst, ◌∙◌, arith, append-nil}
 use Rattle.std.specs.Prelude.{◌↔◌, Result, Ok, Err, IfErr, IsErrAnd, Bool, ◌&&◌, not, eqb, ◌==◌}
 use Rattle.std.proofs.lemmas.Bool.{cases_lt}
@@ -10,47 +10,11 @@ use Rattle.std.proofs.Common.{is_lt}
 use Rattle.patricia_keys.specs.Keys.{IsKeyKind, IsValid, IsFirstItem, ComparesFirst, Begins, key_cmp}
 use Rattle.patricia_keys.proofs.KeyLemmas.{begins_same, first_of, IsValid-item}
 use Rattle.patricia_wire.specs.Records.{Record}
-use Rattle.patricia_wire.specs.Faults.{Fault, number, truncated, level, root_label, root_sibling, empty_label, invalid_label, sibling_order, no_value_no_child, too_few_values, trailing_bytes, too_many_values}
-use Rattle.patricia_wire.specs.Internal.Readings.{Due, Breaks}
-use Rattle.patricia_wire.proofs.FirstFault.{number_same}
+use Rattle.patricia_wire.specs.Internal.Readings.{Rule, level, root_label, root_sibling, empty_label, invalid_label, sibling_order, no_value_no_child, too_few_values, Due, Breaks, BreaksNone, BreaksNoneBelow}
+use Rattle.patricia_wire.specs.declared.error.DecodeError.{DecodeError}
 use Rattle.patricia_wire.proofs.Orders.{before_compares}
-use Rattle.patricia_codec.specs.Internal.Steps.{named, BreaksNone, BreaksNoneBelow, BreaksFirst, BreaksLabel, KeepsLabel}
-use Rattle.patricia_codec.specs.declared.error.DecodeError.{DecodeError}
-
-module _ (item : List ℕ → Type 0) (due : Due) (left : ℕ) (r : Record) where
-  pub below_level : BreaksNoneBelow item due left r 3
-  below_level truncated h b = b
-  below_level level h b = absurd (omega arith)
-  below_level root_label h b = absurd (omega arith)
-  below_level root_sibling h b = absurd (omega arith)
-  below_level empty_label h b = absurd (omega arith)
-  below_level invalid_label h b = absurd (omega arith)
-  below_level sibling_order h b = absurd (omega arith)
-  below_level no_value_no_child h b = absurd (omega arith)
-  below_level too_few_values h b = absurd (omega arith)
-  below_level trailing_bytes h b = absurd (omega arith)
-  below_level too_many_values h b = absurd (omega arith)
-
-  -- one rule more that is kept
-  pub kept_next : (f : Fault) → BreaksNoneBelow item due left r (number f) → (Breaks item due left r f → ⊥) → BreaksNoneBelow item due left r (number f + 1)
-  kept_next f below kept g h b = elim (cases_lt (number g) (number f)) [
-    | inl less ↦ below g less b
-    | inr least ↦ (let same = number_same g f (omega (arith, h, least)) in kept (subst (λ k. Breaks item due left r k) same b))
-  ]
-
-  -- all rules of records are kept
-  pub kept_all : BreaksNoneBelow item due left r 11 → BreaksNone item due left r
-  kept_all below truncated b = b
-  kept_all below level b = below level (omega arith) b
-  kept_all below root_label b = below root_label (omega arith) b
-  kept_all below root_sibling b = below root_sibling (omega arith) b
-  kept_all below empty_label b = below empty_label (omega arith) b
-  kept_all below invalid_label b = below invalid_label (omega arith) b
-  kept_all below sibling_order b = below sibling_order (omega arith) b
-  kept_all below no_value_no_child b = below no_value_no_child (omega arith) b
-  kept_all below too_few_values b = below too_few_values (omega arith) b
-  kept_all below trailing_bytes b = b
-  kept_all below too_many_values b = b
+use Rattle.patricia_wire.proofs.Rules.{below_level, kept_next, kept_all}
+use Rattle.patricia_codec.specs.Internal.Steps.{NamesFirst, BreaksLabel, KeepsLabel}
 
 take_front : (n : ℕ) (label i rest : List ℕ) → i ++ rest ≡ take n label → take (length i) label ≡ i
 take_front n label [] rest e = refl
@@ -132,10 +96,6 @@ level_zero_not n b e z = not_both (eqb n 0) b e (test_same n 0 z)
 level_some : (n : ℕ) (b : Bool) → not (eqb n 0) && b ≡ true → (n ≢ 0) × (b ≡ true)
 level_some n b e = (let parts = both (not (eqb n 0)) b e in (tested_other n 0 parts.0, parts.1))
 
--- below the root the second test decides
-pub level_some_not : (n : ℕ) (b : Bool) → not (eqb n 0) && b ≡ false → n ≢ 0 → b ≡ false
-level_some_not n b e z = not_both (not (eqb n 0)) b e (test_other n 0 z)
-
 is_nil : (l : List ℕ) (b : Bool) → b ≡ (length l == 0) → b ≡ true → l ≡ []
 is_nil l b is t = nil_from_length l (tested (length l) 0 (sym is ∙ t))
 
@@ -195,10 +155,10 @@ handed_on P (Ok x) e is h = tt
 handed_on P (Err x) e is h = subst P (sym is) h
 
 module _ (item : List ℕ → Type 0) (due : Due) (left : ℕ) (r : Record) where
-  pub broken_label : BreaksNoneBelow item due left r 7 → (offset : ℕ) (e : DecodeError) → BreaksLabel item due r.label offset e → BreaksFirst item due left r offset e
+  pub broken_label : BreaksNoneBelow item due left r 7 → (offset : ℕ) (e : DecodeError) → BreaksLabel item due r.label offset e → NamesFirst item due left r offset e
   broken_label below offset e broken = elim broken [
-    | inl b ↦ (let is = b.0 in record { fault = invalid_label; names = λ end. ap (named end) is; breaks = b.1; first = below })
-    | inr b ↦ (let is = b.0 in let valid = b.1 in record { fault = sibling_order; names = λ end. ap (named end) is; breaks = b.2; first = kept_next item due left r invalid_label below (λ h. h valid) })
+    | inl b ↦ record { rule = invalid_label; names = b.0; broken = (b.1, below) }
+    | inr b ↦ (let valid = b.1 in record { rule = sibling_order; names = b.0; broken = (b.2, kept_next item due left r invalid_label below (λ h. h valid)) })
   ]
 
   -- a label that is valid and in order keeps the rules below number 9

@@ -8,16 +8,17 @@ use Rattle.patricia_keys.specs.Keys.{IsKeyKind}
 use Rattle.patricia_nodes.specs.declared.arena.NodeArena.{NodeArena}
 use Rattle.patricia_nodes.specs.Internal.Plans.{below}
 use Rattle.patricia_wire.specs.Records.{Record, bit_if}
-use Rattle.patricia_wire.specs.Faults.{level, root_label, root_sibling, empty_label, no_value_no_child, value_marks}
-use Rattle.patricia_wire.specs.Internal.Readings.{Due, IsRead, nothing}
+use Rattle.patricia_wire.specs.Forests.{Root}
+use Rattle.patricia_wire.specs.Faults.{value_marks}
+use Rattle.patricia_wire.specs.Internal.Readings.{level, root_label, root_sibling, empty_label, no_value_no_child, Due, IsRead, nothing, IsAfter}
 use Rattle.patricia_wire.proofs.Readings.{same_number, root_due, first_due}
 use Rattle.patricia_wire.proofs.ReadingsFaults.{marks_more}
 use Rattle.patricia_codec.specs.declared.builder.Builder.{Builder}
 use Rattle.patricia_codec.specs.declared.reader.Reader.{Reader}
 use Rattle.patricia_codec.specs.Internal.Growing.{Gap, IsGrown}
 use Rattle.patricia_codec.specs.Internal.Builds.{ids, dues, Fall, IsNew, CanAdd, CanLink, Suits, IsBuiltAs, IsBuilt}
-use Rattle.patricia_codec.specs.Internal.Steps.{IsReaderStart, IsAfter, KeepsRules, IsReading}
-use Rattle.patricia_codec.proofs.EndLemmas.{IsDone, done}
+use Rattle.patricia_codec.specs.Internal.Steps.{IsReaderStart, IsAccepted, IsReading, Ends}
+use Rattle.patricia_codec.proofs.EndLemmas.{grown, grown_tree, IsDone, done}
 use Rattle.patricia_codec.proofs.ReaderLemmas.{spelled_all}
 
 module _ (item : List ℕ → Type 0) where
@@ -61,7 +62,7 @@ module _ (item : List ℕ → Type 0) where
   unset false h = refl
 
   -- a record that keeps the rules suits the place that is due
-  pub suited : (n left : ℕ) (before : List Record) (due : Due) (waiting : List Due) (r : Record) → IsRead item n before (due ∷ waiting) → KeepsRules item due left r → length r.label ≤ 255 → Suits item before due r
+  pub suited : (n left : ℕ) (before : List Record) (due : Due) (waiting : List Due) (r : Record) → IsRead item n before (due ∷ waiting) → IsAccepted item due left r → length r.label ≤ 255 → Suits item before due r
   suited n left before due waiting r read keeps fits = record {
     root = λ none.
         let first = first_due item n before due waiting read none in
@@ -124,13 +125,28 @@ pub some_left : (left len : ℕ) → left ≡ len → (left ≡ 0 → ⊥) → 0
 some_left zero len e h = absurd (h refl)
 some_left (suc left) len e h = omega (arith, e)
 
--- all records are read, and all values taken
-pub finished : (item : List ℕ → Type 0) (kind : IsKeyKind item) {V : Type 0} (p : Reader) (n : ℕ) (R : List Record) → IsReading item n p R [] → p.offset ≡ length p.bytes.now → (b : List ℕ) → p.bytes.now ≡ b
-    → (s : NodeArena V) (value : Option V) (taken items : List V) → IsGrown item s.nodes.items s.root value R taken (below (length s.nodes.items)) (length s.nodes.items) → s.free ≡ None → items ≡ taken → IsDone item s value b items
-finished item kind p n R reading over b bytes s value taken items tree free all =
-    subst (λ l. IsDone item s value l items) bytes (subst (IsDone item s value p.bytes.now) (sym all)
-    (done item kind s value R taken p.bytes.now tree free (spelled_all item p n R [] reading (omega (arith, over)))))
-
 -- where the number is 0, all values are taken
 pub all_taken : {V : Type 0} (all taken rest : List V) (len : ℕ) → all ≡ taken ++ rest → len ≡ length rest → len ≡ 0 → all ≡ taken
 all_taken all taken rest len split is z = split ∙ ap (λ l. taken ++ l) (nil_from_length rest (omega (arith, is, z))) ∙ append-nil taken
+
+-- records are read and built with these values, and nothing more is due
+module _ (item : List ℕ → Type 0) {V : Type 0} (b : Builder V) (p q : Reader) (n : ℕ) (R : List Record) (due : List Due) (taken : List V) (reading : IsReading item n p R due) (built : IsBuilt item b R due taken) (ends : Ends item p q) where
+  pub read_all : IsReading item n q R []
+  read_all = let on = ends n R due reading in on.1
+
+  grown_all : IsGrown item b.nodes.items b.root b.value R taken (below (length b.nodes.items)) (length b.nodes.items)
+  grown_all = let on = ends n R due reading in grown item b R taken (subst (λ l. IsBuilt item b R l taken) on.0 built)
+
+  -- they are a whole tree
+  pub tree_of_all : (E : List (List ℕ)) × Root item R E
+  tree_of_all = (_, grown_tree item b.nodes.items b.root b.value R taken _ _ grown_all)
+
+  -- where neither bytes nor values are left, the bytes and the values are decoded
+  pub decoded : (kind : IsKeyKind item) (bytes : List ℕ) → q.bytes.now ≡ bytes → (items rest : List V) (left : ℕ) → items ≡ taken ++ rest → left ≡ length rest → (q.offset ≡ length q.bytes.now) × (left ≡ 0)
+      → (free : Option ℕ) → free ≡ None → IsDone item (record { nodes = b.nodes; root = b.root; free = free }) b.value bytes items
+  decoded kind bytes same items rest left split count over free none =
+      subst (λ l. IsDone item s b.value l items) same (subst (IsDone item s b.value q.bytes.now) (sym (all_taken items taken rest left split count over.1))
+      (done item kind s b.value R taken q.bytes.now grown_all none (spelled_all item q n R [] read_all (omega (arith, over.0)))))
+    where
+      s : NodeArena V
+      s = record { nodes = b.nodes; root = b.root; free = free }

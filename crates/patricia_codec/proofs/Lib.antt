@@ -8,4 +8,3 @@ pub mod LeftLemmas
 pub mod PieceLemmas
 pub mod ReadLemmas
 pub mod ReaderLemmas
-pub mod RefusalLemmas

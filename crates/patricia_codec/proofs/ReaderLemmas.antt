@@ -1,27 +1,26 @@
 -- Records that are read one after the other, and what is refused.
-use Rattle.std.proofs.Common.{◌≡◌, ◌≢◌, ℕ, ◌+◌, ◌-◌, ◌<◌, ◌≤◌, Bool, true, false, List, [], ◌∷◌, ◌++◌, length, take, drop, Some, None, refl, sym, ap, subst, ◌∙◌, arith, append-nil, append_assoc, length-append, length-drop, take_all}
+use Rattle.std.proofs.Common.{inr, ◌≡◌, ◌≢◌, ℕ, ◌+◌, ◌-◌, ◌<◌, ◌≤◌, Bool, true, false, List, [], ◌∷◌, ◌++◌, length, take, drop, Some, None, refl, sym, ap, subst, ◌∙◌, arith, append-nil, append_assoc, length-append, length-drop, take_all}
 use Rattle.std.specs.Prelude.{reverse, All}
 use Rattle.std.proofs.lemmas.List.{reverse-append, nil_from_length}
 use Rattle.std.proofs.lemmas.List.Elements.{All-nil, All-cons, All-head, All-tail, All-append}
 use Rattle.patricia_keys.specs.Keys.{IsValid}
 use Rattle.patricia_wire.specs.Records.{Record, Encodes, EncodeAll}
 use Rattle.patricia_wire.specs.Forests.{Root}
-use Rattle.patricia_wire.specs.Faults.{Fault, truncated, level, root_label, root_sibling, empty_label, invalid_label, sibling_order, no_value_no_child, too_few_values, trailing_bytes, too_many_values, value_marks, IsFirst, IsCutShort, Reads}
-use Rattle.patricia_wire.specs.Internal.Readings.{Due, due_where, child_due, sibling_due, due_behind, IsRead, one_more}
+use Rattle.patricia_wire.specs.Faults.{value_marks, IsFirst, IsRefusal, IsCutShort, Reads}
+use Rattle.patricia_wire.specs.Internal.Readings.{level, root_sibling, empty_label, Due, due_where, child_due, sibling_due, due_behind, IsRead, one_more, IsAfter}
+use Rattle.patricia_wire.specs.declared.error.DecodeError.{DecodeError}
+use Rattle.patricia_wire.specs.declared.error.DecodeError.TheVariants.{Truncated, TrailingBytes, TooManyValues}
 use Rattle.patricia_wire.proofs.Readings.{same_number}
 use Rattle.patricia_wire.proofs.ReadingsFaults.{faulty, faultless}
 use Rattle.patricia_wire.proofs.ReadingsFirst.{first_in_record, first_cut_short, first_trailing, first_too_many}
-use Rattle.patricia_codec.specs.declared.error.DecodeError.{DecodeError}
-use Rattle.patricia_codec.specs.declared.error.DecodeError.TheVariants.{Memory, Truncated, Level, RootLabel, RootSibling, EmptyLabel, InvalidLabel, SiblingOrder, NoValueNoChild, TooFewValues, TrailingBytes, TooManyValues}
 use Rattle.patricia_codec.specs.declared.reader.Reader.{Reader}
-use Rattle.patricia_codec.specs.Refusals.{IsRefusal}
-use Rattle.patricia_codec.specs.Internal.Steps.{Fronts, named, sibling_then_child, IsAfter, BreaksFirst, KeepsRules, IsReading, Ends}
+use Rattle.patricia_codec.specs.Internal.Steps.{Fronts, sibling_then_child, NamesFirst, IsAccepted, IsReading, Ends}
 
 module _ (item : List ℕ → Type 0) (p : Reader) (n : ℕ) where
   -- bytes are left behind the tree
-  pub refused_behind : (R : List Record) (E : List (List ℕ)) → IsReading item n p R [] → Root item R E → p.offset < length p.bytes.now → IsFirst item 2 p.bytes.now n trailing_bytes p.offset
+  pub refused_behind : (R : List Record) (E : List (List ℕ)) → IsReading item n p R [] → Root item R E → p.offset < length p.bytes.now → IsRefusal item 2 p.bytes.now n (TrailingBytes p.offset)
   refused_behind R E reading tree less =
-      first_trailing item n 2 p.bytes.now R p.offset (drop p.offset p.bytes.now) E reading.read reading.reads tree (λ none. omega (arith, less, ap length none, length-drop p.offset p.bytes.now))
+      inr (first_trailing item n 2 p.bytes.now R p.offset (drop p.offset p.bytes.now) E reading.read reading.reads tree (λ none. omega (arith, less, ap length none, length-drop p.offset p.bytes.now)))
 
   -- all bytes are read
   pub spelled_all : (R : List Record) (due : List Due) → IsReading item n p R due → length p.bytes.now ≤ p.offset → EncodeAll 2 R p.bytes.now
@@ -30,27 +29,9 @@ module _ (item : List ℕ → Type 0) (p : Reader) (n : ℕ) where
       subst (EncodeAll 2 R) (sym (append-nil reading.reads.read) ∙ ap (λ l. reading.reads.read ++ l) (sym none) ∙ reading.reads.joined) reading.reads.spelled
 
   -- values are left behind the tree
-  pub refused_values : (R : List Record) (E : List (List ℕ)) → IsReading item n p R [] → Root item R E → length p.bytes.now ≤ p.offset → value_marks R < n → IsFirst item 2 p.bytes.now n too_many_values (length p.bytes.now)
+  pub refused_values : (R : List Record) (E : List (List ℕ)) → IsReading item n p R [] → Root item R E → length p.bytes.now ≤ p.offset → value_marks R < n → IsRefusal item 2 p.bytes.now n TooManyValues
   refused_values R E reading tree over less =
-      first_too_many item n 2 p.bytes.now R E reading.read (spelled_all R [] reading over) tree less
-
-parts : (a b : Fault × ℕ) → Some a ≡ Some b → (a.0 ≡ b.0) × (a.1 ≡ b.1)
-parts a b is = (let e : a ≡ b = cc in (ap (λ x. x.0) e, ap (λ x. x.1) e))
-
--- a fault that is named
-pub refusal_of : (item : List ℕ → Type 0) (w : ℕ) (b : List ℕ) (n : ℕ) (e : DecodeError) (f : Fault) (at : ℕ) → named (length b) e ≡ Some (f, at) → IsFirst item w b n f at → IsRefusal item w b n e
-refusal_of item w b n Memory f at is first = tt
-refusal_of item w b n (Truncated k) f at is first = (let e = parts (truncated, k) (f, at) is in rw (e.0, e.1) first)
-refusal_of item w b n (Level k) f at is first = (let e = parts (level, k) (f, at) is in rw (e.0, e.1) first)
-refusal_of item w b n (RootLabel k) f at is first = (let e = parts (root_label, k) (f, at) is in rw (e.0, e.1) first)
-refusal_of item w b n (RootSibling k) f at is first = (let e = parts (root_sibling, k) (f, at) is in rw (e.0, e.1) first)
-refusal_of item w b n (EmptyLabel k) f at is first = (let e = parts (empty_label, k) (f, at) is in rw (e.0, e.1) first)
-refusal_of item w b n (InvalidLabel k) f at is first = (let e = parts (invalid_label, k) (f, at) is in rw (e.0, e.1) first)
-refusal_of item w b n (SiblingOrder k) f at is first = (let e = parts (sibling_order, k) (f, at) is in rw (e.0, e.1) first)
-refusal_of item w b n (NoValueNoChild k) f at is first = (let e = parts (no_value_no_child, k) (f, at) is in rw (e.0, e.1) first)
-refusal_of item w b n (TooFewValues k) f at is first = (let e = parts (too_few_values, k) (f, at) is in rw (e.0, e.1) first)
-refusal_of item w b n (TrailingBytes k) f at is first = (let e = parts (trailing_bytes, k) (f, at) is in rw (e.0, e.1) first)
-refusal_of item w b n TooManyValues f at is first = (let e = parts (too_many_values, length b) (f, at) is in rw (e.0, e.1) first)
+      inr (first_too_many item n 2 p.bytes.now R E reading.read (spelled_all R [] reading over) tree less)
 
 spell_all-snoc : (w : ℕ) (R : List Record) (b : List ℕ) (r : Record) (c : List ℕ) → EncodeAll w R b → Encodes w r c → EncodeAll w (R ++ (r ∷ [])) (b ++ c)
 spell_all-snoc w [] b r c none one = record { first = c; rest = []; spelled = one; others = refl; joined = ap (λ l. l ++ c) none ∙ sym (append-nil c) }
@@ -96,22 +77,22 @@ module _ (item : List ℕ → Type 0) where
     left_is = take_all (length p.bytes.now - p.offset) (drop p.offset p.bytes.now) (omega (arith, length-drop p.offset p.bytes.now))
 
     -- too few bytes are left for it
-    pub refused_cut : IsCutShort 2 (take (length p.bytes.now - p.offset) (drop p.offset p.bytes.now)) → IsFirst item 2 p.bytes.now n truncated p.offset
-    refused_cut short = first_cut_short item n 2 p.bytes.now before d (reverse others) p.offset (drop p.offset p.bytes.now) read_on reading.reads (subst (IsCutShort 2) left_is short)
+    pub refused_cut : IsCutShort 2 (take (length p.bytes.now - p.offset) (drop p.offset p.bytes.now)) → IsRefusal item 2 p.bytes.now n (Truncated p.offset)
+    refused_cut short = inr (first_cut_short item n 2 p.bytes.now before d (reverse others) p.offset (drop p.offset p.bytes.now) read_on reading.reads (subst (IsCutShort 2) left_is short))
 
     module _ (left : ℕ) (count : left + value_marks before ≡ n) (r : Record) (front : Fronts r (take (length p.bytes.now - p.offset) (drop p.offset p.bytes.now))) where
       is_front : drop p.offset p.bytes.now ≡ front.first ++ front.rest
       is_front = sym left_is ∙ front.joined
 
       -- it breaks a rule
-      pub refused_record : (e : DecodeError) → BreaksFirst item d left r p.offset e → IsRefusal item 2 p.bytes.now n e
+      pub refused_record : (e : DecodeError) → NamesFirst item d left r p.offset e → IsRefusal item 2 p.bytes.now n e
       refused_record e b =
-          let fault = faulty item n left before d (reverse others) r read_on count b.fault b.breaks b.first in
-          refusal_of item 2 p.bytes.now n e b.fault p.offset (b.names (length p.bytes.now))
-          (first_in_record item n 2 p.bytes.now before d (reverse others) p.offset r front.first front.rest b.fault read_on (subst (Reads 2 p.bytes.now before p.offset) is_front reading.reads) front.spelled fault.0 fault.1)
+          let broken = faulty item n left before d (reverse others) r read_on count b.rule b.broken in
+          let reads = subst (Reads 2 p.bytes.now before p.offset) is_front reading.reads in
+          inr (subst (IsFirst item 2 p.bytes.now n) (sym b.names) (first_in_record item n 2 p.bytes.now before d (reverse others) p.offset r front.first front.rest b.rule read_on reads front.spelled broken))
 
       -- it is read
-      pub read_next : (q : Reader) → KeepsRules item d left r → q.bytes.now ≡ p.bytes.now → q.offset ≡ p.offset + (4 + length r.label) → q.due.items ≡ others ++ sibling_then_child r → IsReading item n q (before ++ (r ∷ [])) (due_behind r ++ reverse others)
+      pub read_next : (q : Reader) → IsAccepted item d left r → q.bytes.now ≡ p.bytes.now → q.offset ≡ p.offset + (4 + length r.label) → q.due.items ≡ others ++ sibling_then_child r → IsReading item n q (before ++ (r ∷ [])) (due_behind r ++ reverse others)
       read_next q keeps bytes offset dues = record {
         read = one_more before r d (reverse others) read_on (faultless item n left before d (reverse others) r read_on count keeps.rules);
         reads = rw (bytes, offset) (record {
@@ -145,6 +126,6 @@ module _ (item : List ℕ → Type 0) where
           sibling_after false alone = All-nil (IsAfter item)
 
     -- a record was read, and what is due behind it takes its place
-    pub went_on : (q : Reader) (left : ℕ) (r : Record) → Fronts r (take (length p.bytes.now - p.offset) (drop p.offset p.bytes.now)) → left + value_marks before ≡ n → KeepsRules item d left r → q.bytes.now ≡ p.bytes.now → q.offset ≡ p.offset + (4 + length r.label) → q.due.items ≡ others ++ sibling_then_child r
-        → (next : Due) × (waiting : List Due) × (due ≡ next ∷ waiting) × KeepsRules item next left r × IsReading item n q (before ++ (r ∷ [])) (due_behind r ++ waiting)
+    pub went_on : (q : Reader) (left : ℕ) (r : Record) → Fronts r (take (length p.bytes.now - p.offset) (drop p.offset p.bytes.now)) → left + value_marks before ≡ n → IsAccepted item d left r → q.bytes.now ≡ p.bytes.now → q.offset ≡ p.offset + (4 + length r.label) → q.due.items ≡ others ++ sibling_then_child r
+        → (next : Due) × (waiting : List Due) × (due ≡ next ∷ waiting) × IsAccepted item next left r × IsReading item n q (before ++ (r ∷ [])) (due_behind r ++ waiting)
     went_on q left r front count keeps bytes offset dues = (d, reverse others, next_due, keeps, read_next left count r front q keeps bytes offset dues)

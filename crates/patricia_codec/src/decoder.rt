@@ -3,14 +3,14 @@ ghost use Rattle.std.specs.Prelude.{◌++◌, length, IfOk, IfErr};
 ghost use Rattle.patricia_model.specs.Siblings.{own, IsCanonical};
 ghost use Rattle.patricia_nodes.specs.Internal.Plans.{IsWellFormed, siblings_of, entries_of};
 ghost use Rattle.patricia_wire.specs.Writings.{Means};
-ghost use Rattle.patricia_codec.specs.Refusals.{IsRefusal};
+ghost use Rattle.patricia_wire.specs.Faults.{IsRefusal};
 
 use crate::builder::Builder;
-use crate::error::DecodeError;
 use crate::reader::Reader;
 use patricia_keys::Bytes;
 use patricia_nodes::arena::NodeArena;
 use patricia_nodes::link::Link;
+use patricia_wire::DecodeError;
 use std::alloc::Global;
 
 /// A tree that was read: the value of the empty key, and the nodes of the other keys.

@@ -2,11 +2,12 @@
 ghost use Rattle.std.specs.Prelude.{ℕ, false, ◌≡◌, ◌≢◌, ◌≤◌, [], IfSome, None, Some, IfErr, OnOk, IsTrue, ◌↔◌};
 ghost use Rattle.std.specs.declared.cmp.Ordering.TheVariants.{Less};
 ghost use Rattle.patricia_keys.specs.Keys.{IsValid, IsFirstItem, ComparesFirst};
-ghost use Rattle.patricia_codec.specs.Internal.Steps.{IsAfter, IsInOrder, IsOutOfOrder, BreaksFirst, BreaksNoneBelow, KeepsRules, KeepsLabel, BreaksLabel};
+ghost use Rattle.patricia_wire.specs.Internal.Readings.{IsAfter, BreaksNoneBelow};
+ghost use Rattle.patricia_codec.specs.Internal.Steps.{IsInOrder, IsOutOfOrder, KeepsLabel, BreaksLabel, IsAccepted, NamesFirst};
 
-use crate::error::DecodeError;
 use crate::record::Record;
 use patricia_keys::Bytes;
+use patricia_wire::DecodeError;
 use std::marker::Model;
 
 /// A record that is due.
@@ -68,7 +69,7 @@ impl<'a> Due<'a> {
     // Whether the record lies where it is due, and is labelled as the root or another record is.
     fn check_place<K: Bytes>(&self, record: &Record<'_>, offset: usize) -> Result<(), DecodeError>
         ensures kept { OnOk result ((left : ℕ) → BreaksNoneBelow K.item self.now left record.now 7) }
-        ensures broken { IfErr result (λ e. (left : ℕ) → BreaksFirst K.item self.now left record.now offset e) }
+        ensures broken { IfErr result (λ e. (left : ℕ) → NamesFirst K.item self.now left record.now offset e) }
     {
         let root = self.level == 0;
         if record.level as u32 != self.level {
@@ -103,7 +104,7 @@ impl<'a> Due<'a> {
     }
 
     /// Looks at the record that comes, where this one is due and so many values are left. The
-    /// rules are tried in the order of their faults.
+    /// rules are tried in the order of their numbers.
     pub fn check<K: Bytes>(
         &self,
         record: &Record<'_>,
@@ -111,9 +112,9 @@ impl<'a> Due<'a> {
         offset: usize,
     ) -> Result<(), DecodeError>
         requires after { IsAfter K.item self.now }
-        ensures kept { OnOk result (KeepsRules K.item self.now left record.now) }
+        ensures kept { OnOk result (IsAccepted K.item self.now left record.now) }
         ensures broken { IfErr result (λ e.
-            BreaksFirst K.item self.now left record.now offset e) }
+            NamesFirst K.item self.now left record.now offset e) }
     {
         self.check_place::<K>(record, offset)?;
         self.check_label::<K>(record.label, offset)?;

@@ -7,12 +7,10 @@ mod builder;
 pub mod decoder;
 mod due;
 pub mod encoder;
-pub mod error;
-pub mod laws;
 mod reader;
 mod record;
 mod records;
 
 pub use decoder::{Decoded, decode};
 pub use encoder::{WireError, encode};
-pub use error::DecodeError;
+pub use patricia_wire::DecodeError;

@@ -1,15 +1,14 @@
 //! Records, read one after the other until one breaks a rule.
 ghost use Rattle.std.specs.Prelude.{◌≡◌, ◌++◌, ◌+◌, ◌<◌, ◌≤◌, ℕ, List, [], drop, length, IfOk, IfErr, OnOk};
 ghost use Rattle.patricia_wire.specs.Records.{Record};
-ghost use Rattle.patricia_wire.specs.Faults.{value_marks};
+ghost use Rattle.patricia_wire.specs.Faults.{IsRefusal, value_marks};
 ghost use Rattle.patricia_wire.specs.Internal.Readings.{Due};
-ghost use Rattle.patricia_codec.specs.Refusals.{IsRefusal};
 ghost use Rattle.patricia_codec.specs.Internal.Steps.{IsReading, IsReaderStart, HasRead, ReadsOn, ReadIsRefused, IsRefusedAfter, sibling_then_child};
 
 use crate::due::Due;
-use crate::error::DecodeError;
 use crate::record::{HEAD, Record};
 use patricia_keys::Bytes;
+use patricia_wire::DecodeError;
 use std::alloc::{AllocError, Global};
 
 /// How far bytes are read.

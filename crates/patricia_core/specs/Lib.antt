@@ -11,7 +11,6 @@ pub use Rattle.patricia_model.specs.Siblings
 pub use Rattle.patricia_model.specs.Internal.ThreeKeys
 pub use Rattle.patricia_model.specs.Trees
 pub use Rattle.patricia_model.specs.Walks
-pub use Rattle.patricia_codec.specs.Refusals
 pub use Rattle.patricia_wire.specs.Counts
 pub use Rattle.patricia_wire.specs.Faults
 pub use Rattle.patricia_wire.specs.Forests

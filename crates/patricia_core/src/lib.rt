@@ -8,7 +8,6 @@ pub mod entries;
 pub mod prefixes;
 pub mod tree;
 
-pub use patricia_codec::laws as refusal_laws;
 pub use patricia_keys::keys;
 pub use patricia_model::laws;
 pub use patricia_nodes::{Steps, steps};

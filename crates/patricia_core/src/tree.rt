@@ -12,7 +12,7 @@ ghost use Rattle.patricia_model.specs.Walks.{values_of};
 ghost use Rattle.patricia_wire.specs.Counts.{IsCount};
 ghost use Rattle.patricia_wire.specs.TreeBytes.{AreTreeBytes};
 ghost use Rattle.patricia_wire.specs.Writings.{Means, TooDeep};
-ghost use Rattle.patricia_codec.specs.Refusals.{IsRefusal};
+ghost use Rattle.patricia_wire.specs.Faults.{IsRefusal};
 
 mod cursors;
 

@@ -1,6 +1,8 @@
 -- What is written for lines in turn.
 use Rattle.std.proofs.Common.{◌≡◌, ℕ, List, [], ◌∷◌, ◌++◌, map, refl, sym, subst, ap, ◌∙◌}
 use Rattle.std.specs.Prelude.{Ok, Err}
+use Rattle.std.specs.List.{filter_map}
+use Rattle.std.specs.Result.{result_ok}
 use Rattle.std.proofs.lemmas.List.{append-nil, append_assoc}
 use Rattle.patricia_run.specs.declared.command.Command.{Command}
 use Rattle.patricia_run.specs.declared.command.Reply.{Reply}
@@ -9,14 +11,14 @@ use Rattle.patricia_run.specs.declared.reading.Fault.{Fault}
 use Rattle.patricia_run.specs.KeyFormats.{KeyFormat}
 use Rattle.patricia_run.specs.Text.{Parsed, parse_line, parse_lines, lines_of}
 use Rattle.patricia_run.specs.Writing.{output_of, fault_line, reply_lines}
-use Rattle.patricia_run.specs.Answers.{Answers, commands_of}
+use Rattle.patricia_run.specs.Answers.{Answers}
 use Rattle.patricia_run.specs.Internal.Turns.{AnswersFrom}
 
 module _ {K : Type 0} (item : List ℕ → Type 0) (s : KeyFormat) (key_of : K → List ℕ) (old mid new : State ℕ) (rest : List Parsed) (first later : List ℕ) where
   fault_first : (fault : Fault) (replies : List (Reply K ℕ)) → Run item key_of old [] replies mid → first ≡ fault_line fault ++ output_of s key_of [] replies → AnswersFrom item s key_of mid rest later new → AnswersFrom item s key_of old (Err fault ∷ rest) (first ++ later) new
   fault_first fault [] same is more = (
     more.0,
-    subst (λ (m : State ℕ). Run item key_of m (commands_of rest) more.0 new) same more.1,
+    subst (λ (m : State ℕ). Run item key_of m (filter_map result_ok rest) more.0 new) same more.1,
     ap (λ f. f ++ later) (is ∙ append-nil (fault_line fault)) ∙ ap (λ l. fault_line fault ++ l) more.2,
   )
   fault_first fault (r ∷ rs) run is more = absurd run
@@ -25,7 +27,7 @@ module _ {K : Type 0} (item : List ℕ → Type 0) (s : KeyFormat) (key_of : K �
   reply_first command [] run is more = absurd run
   reply_first command (r ∷ []) run is more = (
     r ∷ more.0,
-    (run.0, run.1, subst (λ (m : State ℕ). Run item key_of m (commands_of rest) more.0 new) run.2 more.1),
+    (run.0, run.1, subst (λ (m : State ℕ). Run item key_of m (filter_map result_ok rest) more.0 new) run.2 more.1),
     ap (λ f. f ++ later) (is ∙ append-nil (reply_lines s key_of r)) ∙ ap (λ l. reply_lines s key_of r ++ l) more.2,
   )
   reply_first command (r ∷ q ∷ rs) run is more = absurd run.2
@@ -57,7 +59,7 @@ module _ {K : Type 0} (item : List ℕ → Type 0) (s : KeyFormat) (key_of : K �
     completes_first bench lines out new_bench all nothing later new more = (
       more.0,
       new,
-      subst (λ (b : State ℕ). Run item key_of b (commands_of (parse_lines s input)) more.0 new) new_bench (subst (λ (ls : List (List ℕ)). Run item key_of bench (commands_of (map (parse_line s) ls)) more.0 new) all more.1),
+      subst (λ (b : State ℕ). Run item key_of b (filter_map result_ok (parse_lines s input)) more.0 new) new_bench (subst (λ (ls : List (List ℕ)). Run item key_of bench (filter_map result_ok (map (parse_line s) ls)) more.0 new) all more.1),
       ap (λ o. o ++ later) nothing ∙ more.2 ∙ ap (λ ls. output_of s key_of (map (parse_line s) ls) more.0) all,
     )
 

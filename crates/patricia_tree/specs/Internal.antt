@@ -1,4 +1,3 @@
 -- Words of contracts that no user of the library meets: a reader need not believe them.
 pub mod Longest
 pub mod Nexts
-pub mod ValueLends

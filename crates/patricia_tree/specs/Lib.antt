@@ -18,7 +18,6 @@ pub use Rattle.patricia_core.specs.Counts
 pub use Rattle.patricia_core.specs.Faults
 pub use Rattle.patricia_core.specs.Forests
 pub use Rattle.patricia_core.specs.Records
-pub use Rattle.patricia_core.specs.Refusals
 pub use Rattle.patricia_core.specs.TreeBytes
 pub use Rattle.patricia_core.specs.WireLaws
 pub use Rattle.patricia_core.specs.Writings

@@ -2,7 +2,7 @@
 ghost use Rattle.std.specs.Prelude.{◌≡◌, ◌≢◌, ◌+◌, None, Some, IfOk, OnOk, OnErr, IsSome, MatchOption};
 ghost use Rattle.std.specs.Borrow.{sem};
 ghost use Rattle.std.specs.Option.{option_copied_mut, option_map};
-ghost use Rattle.patricia_model.specs.Cursors.{last_value, next_key, next_row, stepped};
+ghost use Rattle.patricia_model.specs.Cursors.{last_value, next_key, next_row, stepped, written};
 
 use crate::guard::{CursorGuard, IntoMap};
 use patricia_keys::Bytes;
@@ -13,6 +13,7 @@ impl<'a, M: Drop, K: Bytes, V: Drop> CursorGuard<'a, M, Cursor<K, V>>
 where
     Cursor<K, V>: IntoMap<M>,
 {
+    ghost use Rattle.patricia_walks.specs.contracts.cursor.Cursor.{the_row};
     ghost use Rattle.patricia_tree.specs.Left.{left};
     ghost use Rattle.patricia_tree.specs.Lends.{lends_last};
     ghost use Rattle.patricia_tree.specs.Internal.Nexts.{IsNext, lends_next};
@@ -63,7 +64,7 @@ where
     /// assert_eq!(rt; cursor.value(), Some(&mut 2));
     /// ```
     pub fn value(&mut self) -> Option<&mut V>
-        ensures* writes { sem 𝓛 (lends_last M.row K.row V.row K.Bytes self.entry result) }
+        ensures* writes { sem 𝓛 (lends_last M.row (the_row K.row V.row K.Bytes) V.row written self.entry result) }
         ensures value { option_copied_mut result ≡ last_value self.old.at }
     {
         self.at.value()
@@ -87,7 +88,7 @@ where
     // Lends the value of the entry that it advanced to last.
     fn there(&mut self) -> &mut V
         requires { IsSome (last_value self.old.at) }
-        ensures* writes { sem 𝓛 (lends_next M.row K.row V.row K.Bytes self.entry result) }
+        ensures* writes { sem 𝓛 (lends_next M.row (the_row K.row V.row K.Bytes) V.row written self.entry result) }
         ensures value { last_value self.old.at ≡ Some result.now }
     {
         match self.value() {

@@ -10,7 +10,7 @@ ghost use Rattle.patricia_core.specs.Points.{CountsVisits, Joins};
 ghost use Rattle.patricia_core.specs.Prefixes.{along, longest, outside, under, IsReach};
 ghost use Rattle.patricia_core.specs.Walks.{values_of};
 ghost use Rattle.patricia_core.specs.TreeBytes.{AreTreeBytes};
-ghost use Rattle.patricia_core.specs.Refusals.{IsRefusal};
+ghost use Rattle.patricia_core.specs.Faults.{IsRefusal};
 ghost use Rattle.patricia_core.specs.Writings.{Means, TooDeep};
 
 mod bulk;

@@ -2,7 +2,7 @@
 ghost use Rattle.std.specs.Prelude.{◌≡◌, ◌≢◌, ◌+◌, None, Some, IfOk, OnOk, OnErr, IsSome, MatchOption};
 ghost use Rattle.std.specs.Borrow.{sem};
 ghost use Rattle.std.specs.Option.{option_copied_mut, option_map};
-ghost use Rattle.patricia_model.specs.Cursors.{last_value, next_key, next_row, stepped};
+ghost use Rattle.patricia_model.specs.Cursors.{last_value, next_key, next_row, stepped, written};
 
 use crate::guard::{CursorGuard, IntoMap};
 use patricia_keys::{BorrowedBytes, Bytes};
@@ -17,9 +17,10 @@ impl<'a, M: Drop, K: Bytes, Q: BorrowedBytes<Owned = K>, V: Drop> CursorGuard<
 where
     PrefixCursor<Q, V>: IntoMap<M>,
 {
+    ghost use Rattle.patricia_walks.specs.contracts.cursor.PrefixCursor.{the_row};
     ghost use Rattle.patricia_tree.specs.Left.{left};
-    ghost use Rattle.patricia_tree.specs.Lends.{lends_last_under};
-    ghost use Rattle.patricia_tree.specs.Internal.Nexts.{IsNext, lends_next_under};
+    ghost use Rattle.patricia_tree.specs.Lends.{lends_last};
+    ghost use Rattle.patricia_tree.specs.Internal.Nexts.{IsNext, lends_next};
     ghost use Rattle.patricia_tree.specs.Steps.{StepsWith, TakesNext};
 
     /// Advances to the next entry and returns its key, or `None` at the end. `value` lends its
@@ -47,7 +48,7 @@ where
     ///
     /// Takes constant time.
     pub fn value(&mut self) -> Option<&mut V>
-        ensures* writes { sem 𝓛 (lends_last_under M.row K.row Q.row V.row K.Bytes Q.BorrowedBytes self.entry result) }
+        ensures* writes { sem 𝓛 (lends_last M.row (the_row Q.row V.row K.row Q.BorrowedBytes K.Bytes) V.row written self.entry result) }
         ensures value { option_copied_mut result ≡ last_value self.old.at }
     {
         self.at.value()
@@ -71,7 +72,7 @@ where
     // Lends the value of the entry that it advanced to last.
     fn there(&mut self) -> &mut V
         requires { IsSome (last_value self.old.at) }
-        ensures* writes { sem 𝓛 (lends_next_under M.row K.row Q.row V.row K.Bytes Q.BorrowedBytes self.entry result) }
+        ensures* writes { sem 𝓛 (lends_next M.row (the_row Q.row V.row K.row Q.BorrowedBytes K.Bytes) V.row written self.entry result) }
         ensures value { last_value self.old.at ≡ Some result.now }
     {
         match self.value() {

@@ -5,7 +5,7 @@ ghost use Rattle.patricia_tree.specs.Keys.{Begins};
 ghost use Rattle.patricia_tree.specs.Points.{Joins};
 ghost use Rattle.patricia_tree.specs.Prefixes.{IsReach, longest, under, outside};
 ghost use Rattle.patricia_tree.specs.TreeBytes.{AreTreeBytes};
-ghost use Rattle.patricia_tree.specs.Refusals.{IsRefusal};
+ghost use Rattle.patricia_tree.specs.Faults.{IsRefusal};
 ghost use Rattle.patricia_tree.specs.Writings.{Means, TooDeep};
 ghost use Rattle.std.specs.FinMap as map;
 ghost use Rattle.patricia_tree.specs.Siblings.{keys_of};

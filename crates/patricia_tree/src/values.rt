@@ -2,7 +2,7 @@
 ghost use Rattle.std.specs.Prelude.{◌≡◌, ◌≢◌, ◌+◌, ◌↔◌, None, Some, false, IfOk, OnOk, OnErr, IsSome, IsTrue, MatchOption};
 ghost use Rattle.std.specs.Borrow.{sem};
 ghost use Rattle.std.specs.Option.{option_copied_mut, option_map};
-ghost use Rattle.patricia_model.specs.Cursors.{last_value, next_key, next_row, next_value, stepped};
+ghost use Rattle.patricia_model.specs.Cursors.{last_value, next_key, next_row, next_value, stepped, written};
 
 use crate::guard::{CursorGuard, IntoMap};
 use patricia_keys::Bytes;
@@ -28,7 +28,8 @@ impl<K: Bytes, V> Model for ValueCursor<K, V> {
 }
 
 impl<K: Bytes, V: Drop> ValueCursor<K, V> {
-    ghost use Rattle.patricia_tree.specs.Internal.ValueLends.{lends_value};
+    ghost use Rattle.std.specs.Borrow.{LendsIf};
+    ghost use Rattle.patricia_tree.specs.contracts.values.ValueCursor.{the_row};
 
     /// Makes a cursor that lends the values alone.
     pub fn new(cursor: Cursor<K, V>) -> Self
@@ -57,7 +58,7 @@ impl<K: Bytes, V: Drop> ValueCursor<K, V> {
 
     // Lends the value that it advanced to last.
     fn value(&mut self) -> Option<&mut V>
-        ensures* writes { sem 𝓛 (lends_value K.row V.row K.Bytes self.entry result) }
+        ensures* writes { sem 𝓛 (LendsIf (the_row K.row V.row K.Bytes) V.row self.entry result (written self.entry.now) self.entry.now) }
         ensures value { option_copied_mut result ≡ last_value self.old }
     {
         self.cursor.value()
@@ -69,9 +70,9 @@ where
     ValueCursor<K, V>: IntoMap<M>,
 {
     ghost use Rattle.patricia_tree.specs.Left.{left};
-    ghost use Rattle.patricia_tree.specs.Lends.{lends_last_value};
-    ghost use Rattle.patricia_tree.specs.Internal.ValueLends.{lends_next_value};
-    ghost use Rattle.patricia_tree.specs.Internal.Nexts.{IsNextValue};
+    ghost use Rattle.patricia_tree.specs.Lends.{lends_last};
+    ghost use Rattle.patricia_tree.specs.Internal.Nexts.{IsNextValue, lends_next};
+    ghost use Rattle.patricia_tree.specs.contracts.values.ValueCursor.{the_row};
     ghost use Rattle.patricia_tree.specs.Steps.{StepsWithValue, TakesNextValue};
 
     /// Advances to the next value and returns whether there is one. `value` lends it. No key is
@@ -98,7 +99,7 @@ where
     ///
     /// Takes constant time.
     pub fn value(&mut self) -> Option<&mut V>
-        ensures* writes { sem 𝓛 (lends_last_value M.row K.row V.row K.Bytes self.entry result) }
+        ensures* writes { sem 𝓛 (lends_last M.row (the_row K.row V.row K.Bytes) V.row written self.entry result) }
         ensures value { option_copied_mut result ≡ last_value self.old.at }
     {
         self.at.value()
@@ -119,7 +120,7 @@ where
     // Lends the value that it advanced to last.
     fn there(&mut self) -> &mut V
         requires { IsSome (last_value self.old.at) }
-        ensures* writes { sem 𝓛 (lends_next_value M.row K.row V.row K.Bytes self.entry result) }
+        ensures* writes { sem 𝓛 (lends_next M.row (the_row K.row V.row K.Bytes) V.row written self.entry result) }
         ensures value { last_value self.old.at ≡ Some result.now }
     {
         match self.value() {

@@ -1,52 +1,49 @@
 -- There is one first fault.
-use Rattle.std.proofs.Common.{◌≡◌, ℕ, suc, zero, inl, inr, List, refl, sym, ap, ◌∙◌, arith}
-use Rattle.patricia_wire.specs.Faults.{Fault, truncated, level, root_label, root_sibling, empty_label, invalid_label, sibling_order, no_value_no_child, too_few_values, trailing_bytes, too_many_values, number, IsFirst}
+use Rattle.std.proofs.Common.{◌≡◌, ℕ, inl, inr, List, [], ◌∷◌, get_or, refl, sym, ap, ◌∙◌, arith}
+use Rattle.patricia_wire.specs.Records.{Record}
+use Rattle.patricia_wire.specs.Faults.{Breaks, other_level, labelled_root, root_of_siblings, no_label, not_valid, falling, bare, no_value, Stands, cut_short, in_record, trailing, too_many, IsFirst}
+use Rattle.patricia_wire.specs.declared.error.DecodeError.{DecodeError}
+use Rattle.patricia_wire.specs.declared.error.DecodeError.TheVariants.{Memory, Truncated, Level, RootLabel, RootSibling, EmptyLabel, InvalidLabel, SiblingOrder, NoValueNoChild, TooFewValues, TrailingBytes, TooManyValues}
 
--- the fault past truncated by so many
-abbrev past : ℕ → Fault
-past zero = truncated
-past (suc zero) = level
-past (suc (suc zero)) = root_label
-past (suc (suc (suc zero))) = root_sibling
-past (suc (suc (suc (suc zero)))) = empty_label
-past (suc (suc (suc (suc (suc zero))))) = invalid_label
-past (suc (suc (suc (suc (suc (suc zero)))))) = sibling_order
-past (suc (suc (suc (suc (suc (suc (suc zero))))))) = no_value_no_child
-past (suc (suc (suc (suc (suc (suc (suc (suc zero)))))))) = too_few_values
-past (suc (suc (suc (suc (suc (suc (suc (suc (suc zero))))))))) = trailing_bytes
-past (suc (suc (suc (suc (suc (suc (suc (suc (suc (suc n)))))))))) = too_many_values
+-- the error of a number at an offset
+abbrev named : ℕ → ℕ → DecodeError
+named k at = get_or (Memory ∷ Memory ∷ Truncated at ∷ Level at ∷ RootLabel at ∷ RootSibling at ∷ EmptyLabel at ∷ InvalidLabel at ∷ SiblingOrder at ∷ NoValueNoChild at ∷ TooFewValues at ∷ TrailingBytes at ∷ TooManyValues ∷ []) k Memory
 
-abbrev numbered : ℕ → Fault
-numbered zero = truncated
-numbered (suc zero) = truncated
-numbered (suc (suc n)) = past n
+module _ (item : List ℕ → Type 0) where
+  rule_named : (before : List Record) (r : Record) (n at k : ℕ) (e : DecodeError) → Breaks item before r n at k e → e ≡ named k at
+  rule_named before r n at k e (other_level h) = refl
+  rule_named before r n at k e (labelled_root first some) = refl
+  rule_named before r n at k e (root_of_siblings first set) = refl
+  rule_named before r n at k e (no_label later none) = refl
+  rule_named before r n at k e (not_valid h) = refl
+  rule_named before r n at k e (falling x last same h) = refl
+  rule_named before r n at k e (bare later value child) = refl
+  rule_named before r n at k e (no_value less) = refl
 
-numbered-number : (f : Fault) → numbered (number f) ≡ f
-numbered-number truncated = refl
-numbered-number level = refl
-numbered-number root_label = refl
-numbered-number root_sibling = refl
-numbered-number empty_label = refl
-numbered-number invalid_label = refl
-numbered-number sibling_order = refl
-numbered-number no_value_no_child = refl
-numbered-number too_few_values = refl
-numbered-number trailing_bytes = refl
-numbered-number too_many_values = refl
+  stands_named : (w : ℕ) (b : List ℕ) (n k at : ℕ) (e : DecodeError) → Stands item w b n k at e → e ≡ named k at
+  stands_named w b n k at e (cut_short before rest reads begun cut) = refl
+  stands_named w b n k at e (in_record before r first rest reads begun spells broken) = rule_named before r n at k e broken
+  stands_named w b n k at e (trailing R E rest reads tree some) = refl
+  stands_named w b n k at e (too_many R E spelled tree less) = refl
 
--- faults with one number are one fault
-pub number_same : (f g : Fault) → number f ≡ number g → f ≡ g
-number_same f g e = sym (numbered-number f) ∙ ap numbered e ∙ numbered-number g
+  -- an input has at most one first fault
+  pub one_first : (w : ℕ) (b : List ℕ) (n : ℕ) (e f : DecodeError) → IsFirst item w b n e → IsFirst item w b n f → e ≡ f
+  one_first w b n e f x y = stands_named w b n x.number x.at e x.stands ∙ ap (λ k. named k x.at) numbers ∙ ap (named y.number) places ∙ sym (stands_named w b n y.number y.at f y.stands)
+    where
+      both : (x.at ≡ y.at) × (x.number ≡ y.number)
+      both = elim (x.first y.number y.at f y.stands) [
+        | inl early ↦ elim (y.first x.number x.at e x.stands) [
+          | inl late ↦ absurd (omega (arith, early, late))
+          | inr same ↦ absurd (omega (arith, early, same.0))
+        ]
+        | inr same ↦ elim (y.first x.number x.at e x.stands) [
+          | inl late ↦ absurd (omega (arith, late, same.0))
+          | inr back ↦ (same.0, omega (arith, same.1, back.1))
+        ]
+      ]
 
--- an input has at most one first fault
-pub one_first : (item : List ℕ → Type 0) (w : ℕ) (b : List ℕ) (n : ℕ) (f g : Fault) (o p : ℕ) → IsFirst item w b n f o → IsFirst item w b n g p → (f ≡ g) × (o ≡ p)
-one_first item w b n f g o p x y = elim (x.first g p y.stands) [
-  | inl early ↦ elim (y.first f o x.stands) [
-    | inl late ↦ absurd (omega arith)
-    | inr same ↦ absurd (let h = same.0 in omega arith)
-  ]
-  | inr same ↦ elim (y.first f o x.stands) [
-    | inl late ↦ absurd (let h = same.0 in omega arith)
-    | inr back ↦ (number_same f g (let h = same.1 in let k = back.1 in omega arith), same.0)
-  ]
-]
+      places : x.at ≡ y.at
+      places = both.0
+
+      numbers : x.number ≡ y.number
+      numbers = both.1

@@ -12,13 +12,15 @@ use Rattle.patricia_wire.specs.Records.{Record, Encodes, EncodeAll, bit_if}
 use Rattle.patricia_wire.specs.Forests.{Root}
 use Rattle.patricia_wire.specs.Writings.{Means}
 use Rattle.patricia_wire.specs.WireLaws.{TellsValid, MeansOrHasFirstFault, NeverLacksBoth}
-use Rattle.patricia_wire.specs.Internal.Readings.{Due, due_where, child_due, sibling_due, due_behind, IsRead, nothing, one_more, Breaks}
-use Rattle.patricia_wire.specs.Faults.{Fault, truncated, level, root_label, root_sibling, empty_label, invalid_label, sibling_order, no_value_no_child, too_few_values, trailing_bytes, too_many_values, number, value_marks, Reads, IsFirst}
-use Rattle.patricia_wire.proofs.FirstFault.{number_same}
+use Rattle.patricia_wire.specs.Internal.Readings.{Rule, level, root_label, root_sibling, empty_label, invalid_label, sibling_order, no_value_no_child, too_few_values, number, error_at, Due, due_where, child_due, sibling_due, due_behind, IsRead, nothing, one_more, IsAfter, Breaks, BreaksNone, BreaksNoneBelow, BreaksFirst}
+use Rattle.patricia_wire.specs.Faults.{value_marks, Reads, IsFirst}
+use Rattle.patricia_wire.specs.declared.error.DecodeError.{DecodeError}
+use Rattle.patricia_wire.specs.declared.error.DecodeError.TheVariants.{Truncated, TrailingBytes, TooManyValues}
 use Rattle.patricia_wire.proofs.NoFault.{marks}
 use Rattle.patricia_wire.proofs.Orders.{before_compares, before_or_not}
 use Rattle.patricia_wire.proofs.ReadingsFaults.{marks_more, faulty, faultless}
 use Rattle.patricia_wire.proofs.ReadingsFirst.{first_in_record, first_cut_short, first_trailing, first_too_many}
+use Rattle.patricia_wire.proofs.Rules.{below_level, kept_next, kept_all}
 use Rattle.patricia_wire.proofs.RecordFronts.{Fronts, cut_or_fronts}
 use Rattle.patricia_wire.proofs.WholeTrees.{Closes, nothing_closes, closed, KeepsRules, closes_more}
 
@@ -58,92 +60,47 @@ module _ {V : Type 0} where
 abbrev pub Tells : (List ℕ → Type 0) → Type 0 → Type 0
 Tells item G = (l : List ℕ) → (IsValid item l → G) → ((IsValid item l → ⊥) → G) → G
 
--- a label that is waited behind is valid and not empty, and not the root's
-abbrev pub IsAfter : (List ℕ → Type 0) → Due → Type 0
-IsAfter item due = (l : List ℕ) → due.after ≡ Some l → IsValid item l × (l ≢ []) × (due.level ≢ 0)
-
 -- a record keeps all rules, or breaks one before all others
 module _ (item : List ℕ → Type 0) (kind : IsKeyKind item) (due : Due) (left : ℕ) (r : Record) where
-  -- no rule whose fault has a lower number is broken
-  abbrev BreaksNoneBelow : ℕ → Type 0
-  BreaksNoneBelow n = (f : Fault) → number f < n → Breaks item due left r f → ⊥
-
-  -- one rule is broken, and none before it
-  abbrev pub BreaksFirst : Fault → Type 0
-  BreaksFirst f = Breaks item due left r f × BreaksNoneBelow (number f)
-
-  start : BreaksNoneBelow 3
-  start truncated less b = b
-  start level less b = omega (arith, less)
-  start root_label less b = omega (arith, less)
-  start root_sibling less b = omega (arith, less)
-  start empty_label less b = omega (arith, less)
-  start invalid_label less b = omega (arith, less)
-  start sibling_order less b = omega (arith, less)
-  start no_value_no_child less b = omega (arith, less)
-  start too_few_values less b = omega (arith, less)
-  start trailing_bytes less b = omega (arith, less)
-  start too_many_values less b = omega (arith, less)
-
-  -- one rule more that is kept
-  next : (f : Fault) → BreaksNoneBelow (number f) → (Breaks item due left r f → ⊥) → BreaksNoneBelow (number f + 1)
-  next f below kept g less b = elim (cases_lt (number g) (number f)) [
-    | inl fewer ↦ below g fewer b
-    | inr least ↦ kept (subst (Breaks item due left r) (number_same g f (omega (arith, less, least))) b)
-  ]
-
-  all : BreaksNoneBelow 11 → (f : Fault) → Breaks item due left r f → ⊥
-  all below truncated b = b
-  all below level b = below level (omega arith) b
-  all below root_label b = below root_label (omega arith) b
-  all below root_sibling b = below root_sibling (omega arith) b
-  all below empty_label b = below empty_label (omega arith) b
-  all below invalid_label b = below invalid_label (omega arith) b
-  all below sibling_order b = below sibling_order (omega arith) b
-  all below no_value_no_child b = below no_value_no_child (omega arith) b
-  all below too_few_values b = below too_few_values (omega arith) b
-  all below trailing_bytes b = b
-  all below too_many_values b = b
-
   -- each rule is broken or kept, where the label is valid or is not
-  pub rules : (G : Type 0) → Tells item G → IsAfter item due → length r.label ≤ 255 → ((f : Fault) → BreaksFirst f → G) → (((f : Fault) → Breaks item due left r f → ⊥) → KeepsRules item due r → G) → G
+  pub rules : (G : Type 0) → Tells item G → IsAfter item due → length r.label ≤ 255 → ((rule : Rule) → BreaksFirst item due left r rule → G) → (BreaksNone item due left r → KeepsRules item due r → G) → G
   rules G tells after fits broken kept = elim (same_or_not r.level due.level) [
     | inl same ↦ elim (same_or_not due.level 0) [
       | inl top ↦ as_root same top
       | inr some ↦ inner same some
     ]
-    | inr other ↦ broken level (other, start)
+    | inr other ↦ broken level (other, below_level item due left r)
   ]
     where
       -- the marks, where the label keeps its rules
-      marked : BreaksNoneBelow 9 → ((due.level ≢ 0 → (r.value ≡ true) ⊎ (r.child ≡ true)) → KeepsRules item due r) → (due.level ≡ 0) ⊎ (due.level ≢ 0) → G
+      marked : BreaksNoneBelow item due left r 9 → ((due.level ≢ 0 → (r.value ≡ true) ⊎ (r.child ≡ true)) → KeepsRules item due r) → (due.level ≡ 0) ⊎ (due.level ≢ 0) → G
       marked below makes root = go root (set_or_clear r.value) (set_or_clear r.child) (same_or_not left 0)
         where
-          last : BreaksNoneBelow 10 → (Breaks item due left r too_few_values → ⊥) → (due.level ≢ 0 → (r.value ≡ true) ⊎ (r.child ≡ true)) → G
-          last under enough marks = kept (all (next too_few_values under enough)) (makes marks)
+          last : BreaksNoneBelow item due left r 10 → (Breaks item due left r too_few_values → ⊥) → (due.level ≢ 0 → (r.value ≡ true) ⊎ (r.child ≡ true)) → G
+          last under enough marks = kept (kept_all item due left r (kept_next item due left r too_few_values under enough)) (makes marks)
 
-          few : BreaksNoneBelow 10 → (due.level ≢ 0 → (r.value ≡ true) ⊎ (r.child ≡ true)) → (r.value ≡ true) ⊎ (r.value ≡ false) → (left ≡ 0) ⊎ (left ≢ 0) → G
+          few : BreaksNoneBelow item due left r 10 → (due.level ≢ 0 → (r.value ≡ true) ⊎ (r.child ≡ true)) → (r.value ≡ true) ⊎ (r.value ≡ false) → (left ≡ 0) ⊎ (left ≢ 0) → G
           few under marks (inl set) (inl none) = broken too_few_values ((set, none), under)
           few under marks (inl set) (inr some) = last under (λ b. some b.1) marks
           few under marks (inr clear) zero_or = last under (λ b. (let no : true ≡ false = sym b.0 ∙ clear in cc)) marks
 
           go : (due.level ≡ 0) ⊎ (due.level ≢ 0) → (r.value ≡ true) ⊎ (r.value ≡ false) → (r.child ≡ true) ⊎ (r.child ≡ false) → (left ≡ 0) ⊎ (left ≢ 0) → G
-          go (inl top) value child zero_or = few (next no_value_no_child below (λ b. b.0 top)) (λ some. absurd (some top)) value zero_or
-          go (inr some) (inl set) child zero_or = few (next no_value_no_child below (λ b. (let no : true ≡ false = sym set ∙ b.1 in cc))) (λ x. inl set) (inl set) zero_or
-          go (inr some) (inr clear) (inl set) zero_or = few (next no_value_no_child below (λ b. (let no : true ≡ false = sym set ∙ b.2 in cc))) (λ x. inr set) (inr clear) zero_or
+          go (inl top) value child zero_or = few (kept_next item due left r no_value_no_child below (λ b. b.0 top)) (λ some. absurd (some top)) value zero_or
+          go (inr some) (inl set) child zero_or = few (kept_next item due left r no_value_no_child below (λ b. (let no : true ≡ false = sym set ∙ b.1 in cc))) (λ x. inl set) (inl set) zero_or
+          go (inr some) (inr clear) (inl set) zero_or = few (kept_next item due left r no_value_no_child below (λ b. (let no : true ≡ false = sym set ∙ b.2 in cc))) (λ x. inr set) (inr clear) zero_or
           go (inr some) (inr clear) (inr leaf) zero_or = broken no_value_no_child ((some, clear, leaf), below)
 
       -- the order of siblings, where the label is valid and not empty
-      ordered : BreaksNoneBelow 8 → r.level ≡ due.level → due.level ≢ 0 → r.label ≢ [] → IsValid item r.label → (o : Option (List ℕ)) → due.after ≡ o → G
+      ordered : BreaksNoneBelow item due left r 8 → r.level ≡ due.level → due.level ≢ 0 → r.label ≢ [] → IsValid item r.label → (o : Option (List ℕ)) → due.after ≡ o → G
       ordered below same some nonempty valid None is =
-          marked (next sibling_order below (λ b. (let no : Some b.0 ≡ None = sym b.1 ∙ is in cc)))
+          marked (kept_next item due left r sibling_order below (λ b. (let no : Some b.0 ≡ None = sym b.1 ∙ is in cc)))
           (λ marks. record { level = same; fits = fits; valid = valid; root = λ top. absurd (some top); nonempty = λ x. nonempty; marked = marks; ordered = λ l given. absurd (let no : Some l ≡ None = sym given ∙ is in cc) })
           (inr some)
       ordered below same some nonempty valid (Some l) is =
           let before = after l is in
           elim (before_or_not item kind l r.label before.0 valid before.1 nonempty) [
             | inl less ↦
-                marked (next sibling_order below (λ b. (let one : b.0 ≡ l = (let both : Some b.0 ≡ Some l = sym b.1 ∙ is in cc) in b.2 (subst (λ k. ComparesFirst item k r.label Less) (sym one) (before_compares item l r.label less)))))
+                marked (kept_next item due left r sibling_order below (λ b. (let one : b.0 ≡ l = (let both : Some b.0 ≡ Some l = sym b.1 ∙ is in cc) in b.2 (subst (λ k. ComparesFirst item k r.label Less) (sym one) (before_compares item l r.label less)))))
                 (λ marks. record { level = same; fits = fits; valid = valid; root = λ top. absurd (some top); nonempty = λ x. nonempty; marked = marks; ordered = λ k given. (let one : l ≡ k = (let both : Some l ≡ Some k = sym is ∙ given in cc) in subst (λ k. IsBefore item k r.label) one less) })
                 (inr some)
             | inr later ↦ broken sibling_order ((l, is, λ compared. later (compared_less item l r.label before.1 nonempty compared)), below)
@@ -153,34 +110,34 @@ module _ (item : List ℕ → Type 0) (kind : IsKeyKind item) (due : Due) (left 
       inner : r.level ≡ due.level → due.level ≢ 0 → G
       inner same some = go (nil_or_not r.label)
         where
-          under : BreaksNoneBelow 6
-          under = next root_sibling (next root_label (next level start (λ b. b same)) (λ b. some b.0)) (λ b. some b.0)
+          under : BreaksNoneBelow item due left r 6
+          under = kept_next item due left r root_sibling (kept_next item due left r root_label (kept_next item due left r level (below_level item due left r) (λ b. b same)) (λ b. some b.0)) (λ b. some b.0)
 
           go : (r.label ≡ []) ⊎ (r.label ≢ []) → G
           go (inl none) = broken empty_label ((some, none), under)
           go (inr nonempty) =
-              let filled_under = next empty_label under (λ b. nonempty b.1) in
+              let filled_under = kept_next item due left r empty_label under (λ b. nonempty b.1) in
               tells r.label
-              (λ valid. ordered (next invalid_label filled_under (λ b. b valid)) same some nonempty valid due.after refl)
+              (λ valid. ordered (kept_next item due left r invalid_label filled_under (λ b. b valid)) same some nonempty valid due.after refl)
               (λ not_valid. broken invalid_label (not_valid, filled_under))
 
       -- the root
       as_root : r.level ≡ due.level → due.level ≡ 0 → G
       as_root same top = go (nil_or_not r.label) (set_or_clear r.sibling)
         where
-          under : BreaksNoneBelow 4
-          under = next level start (λ b. b same)
+          under : BreaksNoneBelow item due left r 4
+          under = kept_next item due left r level (below_level item due left r) (λ b. b same)
 
           no_after : (l : List ℕ) → due.after ≡ Some l → ⊥
           no_after l given = (let last = after l given in last.2 top)
 
           go : (r.label ≡ []) ⊎ (r.label ≢ []) → (r.sibling ≡ true) ⊎ (r.sibling ≡ false) → G
           go (inr nonempty) sibling = broken root_label ((top, nonempty), under)
-          go (inl none) (inl set) = broken root_sibling ((top, set), next root_label under (λ b. b.1 none))
+          go (inl none) (inl set) = broken root_sibling ((top, set), kept_next item due left r root_label under (λ b. b.1 none))
           go (inl none) (inr alone) =
-              let bare_under = next empty_label (next root_sibling (next root_label under (λ b. b.1 none)) (λ b. (let no : true ≡ false = sym b.1 ∙ alone in cc))) (λ b. b.0 top) in
+              let bare_under = kept_next item due left r empty_label (kept_next item due left r root_sibling (kept_next item due left r root_label under (λ b. b.1 none)) (λ b. (let no : true ≡ false = sym b.1 ∙ alone in cc))) (λ b. b.0 top) in
               tells r.label
-              (λ valid. marked (next sibling_order (next invalid_label bare_under (λ b. b valid)) (λ b. no_after b.0 b.1))
+              (λ valid. marked (kept_next item due left r sibling_order (kept_next item due left r invalid_label bare_under (λ b. b valid)) (λ b. no_after b.0 b.1))
               (λ marks. record { level = same; fits = fits; valid = valid; root = λ x. (none, alone); nonempty = λ some. absurd (some top); marked = marks; ordered = λ l given. absurd (no_after l given) })
               (inl top))
               (λ not_valid. broken invalid_label (not_valid, bare_under))
@@ -219,7 +176,7 @@ module _ (item : List ℕ → Type 0) (kind : IsKeyKind item) where
       inner : r.sibling ≡ true → due.level ≢ 0
       inner set top = (let bare = kept.root top in let no : true ≡ false = sym set ∙ bare.1 in cc)
 
-  module _ {V : Type 0} (w : ℕ) (b : List ℕ) (values : List V) (G : Type 0) (tells : Tells item G) (meant : (M : List (List ℕ × V)) → Means item w b values M → G) (refused : (f : Fault) (o : ℕ) → IsFirst item w b (length values) f o → G) where
+  module _ {V : Type 0} (w : ℕ) (b : List ℕ) (values : List V) (G : Type 0) (tells : Tells item G) (meant : (M : List (List ℕ × V)) → Means item w b values M → G) (refused : (e : DecodeError) → IsFirst item w b (length values) e → G) where
     -- so much is read, without a fault, and so many values are left
     record IsSoFar (left : ℕ) (before : List Record) (D : List Due) (offset : ℕ) (rest : List ℕ) : Type 0 where
       read : IsRead item (length values) before D
@@ -233,7 +190,7 @@ module _ (item : List ℕ → Type 0) (kind : IsKeyKind item) where
     ends : (left : ℕ) (before : List Record) (offset : ℕ) (rest : List ℕ) → IsSoFar left before [] offset rest → G
     ends left before offset (x ∷ rest) s =
         let tree = closed item before s.closes in
-        refused trailing_bytes offset (first_trailing item (length values) w b before offset (x ∷ rest) tree.0 s.read s.reads tree.1 (λ none. cc))
+        refused (TrailingBytes offset) (first_trailing item (length values) w b before offset (x ∷ rest) tree.0 s.read s.reads tree.1 (λ none. cc))
     ends left before offset [] s = go (closed item before s.closes) (same_or_not left 0)
       where
         spelled : EncodeAll w before b
@@ -243,10 +200,10 @@ module _ (item : List ℕ → Type 0) (kind : IsKeyKind item) where
         go (E, tree) (inl none) =
             let rows = rows_with E values (omega (arith, s.counted, none, marks item before E tree)) in
             meant rows.0 (record { records = before; spelled = spelled; root = subst (Root item before) (sym rows.1) tree; in_place = rows.2 })
-        go (E, tree) (inr some) = refused too_many_values (length b) (first_too_many item (length values) w b before E s.read spelled tree (omega (arith, s.counted, some)))
+        go (E, tree) (inr some) = refused TooManyValues (first_too_many item (length values) w b before E s.read spelled tree (omega (arith, s.counted, some)))
 
     -- a record that keeps all rules is read
-    further : (left : ℕ) (before : List Record) (due : Due) (W : List Due) (offset : ℕ) (rest : List ℕ) → (s : IsSoFar left before (due ∷ W) offset rest) (r : Record) (front : Fronts w r rest) → ((f : Fault) → Breaks item due left r f → ⊥) → KeepsRules item due r → (more : ℕ) × IsSoFar more (before ++ (r ∷ [])) (due_behind r ++ W) (length (s.reads.read ++ front.first)) front.rest
+    further : (left : ℕ) (before : List Record) (due : Due) (W : List Due) (offset : ℕ) (rest : List ℕ) → (s : IsSoFar left before (due ∷ W) offset rest) (r : Record) (front : Fronts w r rest) → BreaksNone item due left r → KeepsRules item due r → (more : ℕ) × IsSoFar more (before ++ (r ∷ [])) (due_behind r ++ W) (length (s.reads.read ++ front.first)) front.rest
     further left before due W offset rest s r front fine kept =
         let value = take_value r.value left (fine too_few_values) in (
           value.0,
@@ -273,14 +230,14 @@ module _ (item : List ℕ → Type 0) (kind : IsKeyKind item) where
     run zero left before D offset rest less s = absurd (omega (arith, less))
     run (suc fuel) left before [] offset rest less s = ends left before offset rest s
     run (suc fuel) left before (due ∷ W) offset rest less s = elim (cut_or_fronts w rest s.bytes) [
-      | inl cut ↦ refused truncated offset (first_cut_short item (length values) w b before due W offset rest s.read s.reads cut)
+      | inl cut ↦ refused (Truncated offset) (first_cut_short item (length values) w b before due W offset rest s.read s.reads cut)
       | inr found ↦
           let front = found.1 in
           let reads = subst (Reads w b before offset) front.joined s.reads in
           rules item kind due left found.0 G tells s.after.0 front.spelled.room.label
-          (λ f broken. (
-          let first = faulty item (length values) left before due W found.0 s.read s.counted f broken.0 broken.1 in
-          refused f offset (first_in_record item (length values) w b before due W offset found.0 front.first front.rest f s.read reads front.spelled first.0 first.1)
+          (λ rule broken. (
+          let first = faulty item (length values) left before due W found.0 s.read s.counted rule broken in
+          refused (error_at offset rule) (first_in_record item (length values) w b before due W offset found.0 front.first front.rest rule s.read reads front.spelled first)
           ))
           (λ fine kept. (
           let more = further left before due W offset rest s found.0 front fine kept in
@@ -306,7 +263,7 @@ meant_or_first item kind V told w b values bytes =
     meant_or_refused item kind w b values _ (λ l yes not_so. elim (told l) [
       | inl valid ↦ yes valid
       | inr other ↦ not_so other
-    ]) (λ M means. inl (M, means)) (λ f o first. inr (f, o, first)) bytes
+    ]) (λ M means. inl (M, means)) (λ e first. inr (e, first)) bytes
 
 -- and none is neither
 pub never_neither : (item : List ℕ → Type 0) → IsKeyKind item → (V : Type 0) → NeverLacksBoth item V

@@ -11,7 +11,8 @@ use Rattle.patricia_wire.specs.Records.{Record, Encodes, EncodeAll, bit_if, afte
 use Rattle.patricia_wire.specs.Forests.{Root}
 use Rattle.patricia_wire.specs.Internal.WrittenRows.{record_of, records_of, tree_records, IsWritable}
 use Rattle.patricia_wire.specs.Writings.{Means}
-use Rattle.patricia_wire.specs.Faults.{Fault, truncated, level, root_label, root_sibling, empty_label, invalid_label, sibling_order, no_value_no_child, too_few_values, trailing_bytes, too_many_values, value_marks, IsLastUpTo, IsFaulty, IsCutShort, Stands, cut_short, in_record, trailing, too_many}
+use Rattle.patricia_wire.specs.Faults.{value_marks, IsLastUpTo, Breaks, other_level, labelled_root, root_of_siblings, no_label, not_valid, falling, bare, no_value, IsCutShort, Stands, cut_short, in_record, trailing, too_many}
+use Rattle.patricia_wire.specs.declared.error.DecodeError.{DecodeError}
 use Rattle.patricia_wire.proofs.CountLemmas.{length-prefixed}
 use Rattle.patricia_wire.proofs.Orders.{before_compares}
 use Rattle.patricia_wire.proofs.Places.{nil_split, deep, tree_due, behind, IsGood, good, rising}
@@ -98,61 +99,58 @@ module _ (item : List ℕ → Type 0) where
         | inr later ↦ rising item 1 row ok before r Y tails x later same
       ]
 
-  not_faulty : (R before : List Record) (r : Record) (Y : List Record) (E : List (List ℕ)) (n : ℕ) → n ≡ length E → Root item R E → R ≡ before ++ (r ∷ Y) → (f : Fault) → IsFaulty item before r n f → ⊥
-  not_faulty R before r Y E n count root e f fault = go f fault
+  not_faulty : (R before : List Record) (r : Record) (Y : List Record) (E : List (List ℕ)) (n : ℕ) → n ≡ length E → Root item R E → R ≡ before ++ (r ∷ Y) → (at k : ℕ) (f : DecodeError) → Breaks item before r n at k f → ⊥
+  not_faulty R before r Y E n count root e at k f broken = go k f broken
     where
       t : StandsTree item R E
       t = stands_tree item R E root
 
-      at : tree_records t.value t.row ≡ before ++ (r ∷ Y)
-      at = t.records ∙ e
+      place : tree_records t.value t.row ≡ before ++ (r ∷ Y)
+      place = t.records ∙ e
 
       kind : ((before ≡ []) × (r.label ≡ []) × (r.sibling ≡ false)) ⊎ ((before ≢ []) × IsGood item r)
-      kind = root_or t.value t.row before r Y t.ok at
+      kind = root_or t.value t.row before r Y t.ok place
 
-      go : (f : Fault) → IsFaulty item before r n f → ⊥
-      go truncated h = h
-      go level h = h (tree_due t.value t.row before r Y at)
-      go root_label h = elim kind [
-        | inl root ↦ h.1 root.1
-        | inr inner ↦ inner.0 h.0
+      go : (k : ℕ) (f : DecodeError) → Breaks item before r n at k f → ⊥
+      go k f (other_level h) = h (tree_due t.value t.row before r Y place)
+      go k f (labelled_root none some) = elim kind [
+        | inl root ↦ some root.1
+        | inr inner ↦ inner.0 none
       ]
-      go root_sibling h = elim kind [
-        | inl root ↦ (let no : true ≡ false = sym h.1 ∙ root.2 in cc)
-        | inr inner ↦ inner.0 h.0
+      go k f (root_of_siblings none set) = elim kind [
+        | inl root ↦ (let no : true ≡ false = sym set ∙ root.2 in cc)
+        | inr inner ↦ inner.0 none
       ]
-      go empty_label h = elim kind [
-        | inl root ↦ h.0 root.0
-        | inr inner ↦ (let nonempty = inner.1.nonempty in nonempty h.1)
+      go k f (no_label later none) = elim kind [
+        | inl root ↦ later root.0
+        | inr inner ↦ (let nonempty = inner.1.nonempty in nonempty none)
       ]
-      go invalid_label h = elim kind [
+      go k f (not_valid h) = elim kind [
         | inl root ↦ h (subst (IsValid item) (sym root.1) (IsValid-nil item))
         | inr inner ↦ h inner.1.valid
       ]
-      go sibling_order h = h.3 (before_compares item h.0.label r.label (tree_rising t.value t.row before r Y t.ok at h.0 h.1 h.2))
-      go no_value_no_child h = elim kind [
-        | inl root ↦ h.0 root.0
+      go k f (falling x last same h) = h (before_compares item x.label r.label (tree_rising t.value t.row before r Y t.ok place x last same))
+      go k f (bare later value child) = elim kind [
+        | inl root ↦ later root.0
         | inr inner ↦ elim inner.1.marked [
-          | inl v ↦ (let no : true ≡ false = sym v ∙ h.1 in cc)
-          | inr c ↦ (let no : true ≡ false = sym c ∙ h.2 in cc)
+          | inl v ↦ (let no : true ≡ false = sym v ∙ value in cc)
+          | inr c ↦ (let no : true ≡ false = sym c ∙ child in cc)
         ]
       ]
-      go too_few_values h =
+      go k f (no_value less) =
           let all = marks R E root in
           let parts : value_marks R ≡ value_marks (before ++ (r ∷ [])) + value_marks Y = ap value_marks (e ∙ sym (append_assoc before (r ∷ []) Y)) ∙ sum_by-append one_if (before ++ (r ∷ [])) Y in
-          omega (arith, all, parts, count)
-      go trailing_bytes h = h
-      go too_many_values h = h
+          omega (arith, all, parts, count, less)
 
-  no_fault : (w : ℕ) (b : List ℕ) (R : List Record) (E : List (List ℕ)) (n : ℕ) → n ≡ length E → EncodeAll w R b → Root item R E → (f : Fault) (o : ℕ) → Stands item w b n f o → ⊥
-  no_fault w b R E n count spelled root f o (cut_short before rest reads unfinished short) =
+  no_fault : (w : ℕ) (b : List ℕ) (R : List Record) (E : List (List ℕ)) (n : ℕ) → n ≡ length E → EncodeAll w R b → Root item R E → (k at : ℕ) (f : DecodeError) → Stands item w b n k at f → ⊥
+  no_fault w b R E n count spelled root k at f (cut_short before rest reads unfinished short) =
       let more = prefix w before R b reads.read rest reads.spelled reads.joined spelled in
       go more.0 more.1 more.2
     where
       go : (Y : List Record) → R ≡ before ++ Y → EncodeAll w Y rest → ⊥
       go [] e s = unfinished R [] E (sym (append-nil before) ∙ sym e ∙ sym (append-nil R)) root
       go (y ∷ Y) e s = enough w y s.first s.rest s.spelled (subst (IsCutShort w) s.joined short)
-  no_fault w b R E n count spelled root f o (in_record before r first rest reads unfinished one fault) =
+  no_fault w b R E n count spelled root k at f (in_record before r first rest reads unfinished one broken) =
       let more = prefix w before R b reads.read (first ++ rest) reads.spelled reads.joined spelled in
       go more.0 more.1 more.2
     where
@@ -160,16 +158,16 @@ module _ (item : List ℕ → Type 0) where
       go [] e s = unfinished R [] E (sym (append-nil before) ∙ sym e ∙ sym (append-nil R)) root
       go (y ∷ Y) e s =
           let both = record_same w r y first s.first rest s.rest one s.spelled s.joined in
-          not_faulty R before r Y E n count root (e ∙ ap (λ x. before ++ (x ∷ Y)) (sym both.0)) f fault
-  no_fault w b R E n count spelled root f o (trailing P F rest reads tree over) =
+          not_faulty R before r Y E n count root (e ∙ ap (λ x. before ++ (x ∷ Y)) (sym both.0)) at k f broken
+  no_fault w b R E n count spelled root k at f (trailing P F rest reads tree over) =
       let more = prefix w P R b reads.read rest reads.spelled reads.joined spelled in
       let none = whole R P more.0 E F root tree more.1 in
       over (subst (λ Y. EncodeAll w Y rest) none more.2)
-  no_fault w b R E n count spelled root f o (too_many P F other tree less) =
+  no_fault w b R E n count spelled root k at f (too_many P F other tree less) =
       let same = one_list w P R b other spelled in
       omega (arith, marks R E root, ap value_marks same, count)
 
   -- no fault stands in what means rows
-  pub no_fault_meant : {V : Type 0} (w : ℕ) (b : List ℕ) (values : List V) (M : List (List ℕ × V)) (f : Fault) (o : ℕ) → Means item w b values M → Stands item w b (length values) f o → ⊥
-  no_fault_meant w b values M f o m stands =
-      no_fault w b m.records (keys_of M) (length values) (ap length m.in_place ∙ length-map M (λ e. e.1) ∙ sym (length-map M (λ e. e.0))) m.spelled m.root f o stands
+  pub no_fault_meant : {V : Type 0} (w : ℕ) (b : List ℕ) (values : List V) (M : List (List ℕ × V)) (k at : ℕ) (e : DecodeError) → Means item w b values M → Stands item w b (length values) k at e → ⊥
+  no_fault_meant w b values M k at e m stands =
+      no_fault w b m.records (keys_of M) (length values) (ap length m.in_place ∙ length-map M (λ e. e.1) ∙ sym (length-map M (λ e. e.0))) m.spelled m.root k at e stands

@@ -1,8 +1,10 @@
 -- What was written is read back, unless an allocation fails.
-use Rattle.std.proofs.Common.{◌≡◌, ℕ, List, length}
+use Rattle.std.proofs.Common.{◌≡◌, ℕ, List, length, inl, inr}
 use Rattle.patricia_model.specs.Walks.{values_of}
 use Rattle.patricia_wire.specs.Writings.{Means}
-use Rattle.patricia_wire.specs.Faults.{Fault, IsFirst}
+use Rattle.patricia_wire.specs.Faults.{IsFirst, IsRefusal}
+use Rattle.patricia_wire.specs.declared.error.DecodeError.{DecodeError}
+use Rattle.patricia_wire.specs.declared.error.DecodeError.TheVariants.{Memory}
 use Rattle.patricia_wire.specs.TreeBytes.{AreTreeBytes}
 use Rattle.patricia_wire.proofs.NoFault.{no_fault_meant}
 use Rattle.patricia_wire.proofs.OneMeaning.{one_meaning}
@@ -13,5 +15,10 @@ module _ (item : List ℕ → Type 0) {V : Type 0} where
   reads_back w b rows M x means = one_meaning item w b (values_of rows) M rows means x.means
 
   -- a first fault stands
-  pub no_first_fault : (w : ℕ) (b : List ℕ) (values : List V) (M : List (List ℕ × V)) (f : Fault) (o : ℕ) → Means item w b values M → IsFirst item w b (length values) f o → ⊥
-  no_first_fault w b values M f o means first = no_fault_meant item w b values M f o means first.stands
+  pub no_first_fault : (w : ℕ) (b : List ℕ) (values : List V) (M : List (List ℕ × V)) (e : DecodeError) → Means item w b values M → IsFirst item w b (length values) e → ⊥
+  no_first_fault w b values M e means first = no_fault_meant item w b values M first.number first.at e means first.stands
+
+  -- so nothing but out of memory refuses it
+  pub memory_alone : (w : ℕ) (b : List ℕ) (values : List V) (M : List (List ℕ × V)) (e : DecodeError) → Means item w b values M → IsRefusal item w b (length values) e → e ≡ Memory
+  memory_alone w b values M e means (inl memory) = memory
+  memory_alone w b values M e means (inr first) = absurd (no_first_fault w b values M e means first)

@@ -8,7 +8,7 @@ use Rattle.patricia_wire.specs.Records.{Record}
 use Rattle.patricia_wire.specs.Forests.{Root}
 use Rattle.patricia_wire.specs.Internal.Readings.{Due, due_where, due_behind, IsRead, nothing, one_more}
 use Rattle.patricia_wire.specs.Internal.WrittenRows.{record_of, records_of, tree_records}
-use Rattle.patricia_wire.specs.Faults.{Fault, IsLastUpTo, Waits, IsLastWaiting, IsDue, at_first, below, beside, IsUnfinished}
+use Rattle.patricia_wire.specs.Faults.{IsLastUpTo, Waits, IsLastWaiting, IsDue, at_first, below, beside, IsUnfinished, other_level, root_of_siblings}
 use Rattle.patricia_wire.proofs.Places.{All-left, All-middle, nil_split, low_head, waited}
 use Rattle.patricia_wire.proofs.RowTrees.{Nothing, stands_tree}
 use Rattle.patricia_wire.proofs.TightRows.{EndsLow}
@@ -340,8 +340,8 @@ module _ (item : List ℕ → Type 0) where
   held n before D (one_more ahead r due waiting read fine) =
       let h = held n ahead (due ∷ waiting) read in
       let right : IsDue ahead due.level = held_due ahead due waiting h in
-      let level = same_number r.level due.level (λ other. fine Fault.level (λ given. other (one_due ahead r.level due.level given right))) in
-      held_more ahead r due waiting h level (λ none sibling. fine Fault.root_sibling (none, sibling))
+      let level = same_number r.level due.level (λ other. fine 0 3 _ (other_level (λ given. other (one_due ahead r.level due.level given right)))) in
+      held_more ahead r due waiting h level (λ none sibling. fine 0 5 _ (root_of_siblings none sibling))
 
   -- the level of the record that is due is the level that is due
   pub is_due : (n : ℕ) (before : List Record) (due : Due) (waiting : List Due) → IsRead item n before (due ∷ waiting) → IsDue before due.level

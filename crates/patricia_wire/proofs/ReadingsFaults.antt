@@ -1,12 +1,14 @@
 -- Where records are read, the fault of the next one is told by what is due.
-use Rattle.std.proofs.Common.{◌≡◌, ℕ, ◌+◌, ◌<◌, ◌≢◌, inl, inr, Bool, true, false, List, [], ◌∷◌, ◌++◌, refl, sym, subst, ◌∙◌, arith}
+use Rattle.std.proofs.Common.{◌≡◌, ℕ, ◌+◌, ◌<◌, ◌≤◌, ◌≢◌, inl, inr, Bool, true, false, List, [], ◌∷◌, ◌++◌, refl, sym, subst, ◌∙◌, arith}
 use Rattle.std.proofs.lemmas.Bool.{cases_lt}
 use Rattle.std.proofs.lemmas.List.Sums.{sum_by-append}
 use Rattle.std.specs.declared.cmp.Ordering.TheVariants.{Less}
 use Rattle.patricia_keys.specs.Keys.{ComparesFirst}
 use Rattle.patricia_wire.specs.Records.{Record, bit_if}
-use Rattle.patricia_wire.specs.Internal.Readings.{Due, IsRead, Breaks}
-use Rattle.patricia_wire.specs.Faults.{Fault, truncated, level, root_label, root_sibling, empty_label, invalid_label, sibling_order, no_value_no_child, too_few_values, trailing_bytes, too_many_values, number, value_marks, IsLastUpTo, IsDue, IsFaulty}
+use Rattle.patricia_wire.specs.Internal.Readings.{Rule, level, root_label, root_sibling, empty_label, invalid_label, sibling_order, no_value_no_child, too_few_values, number, error_at, Due, IsRead, Breaks, BreaksNone, BreaksNoneBelow, BreaksFirst, IsFaultless}
+use Rattle.patricia_wire.specs.Faults as faults
+use Rattle.patricia_wire.specs.Faults.{value_marks, IsLastUpTo, IsDue, other_level, labelled_root, root_of_siblings, no_label, not_valid, falling, bare, no_value}
+use Rattle.patricia_wire.specs.declared.error.DecodeError.{DecodeError}
 use Rattle.patricia_wire.proofs.Readings.{same_number, one_due, is_due, root_due, first_due, after_given, after_is}
 
 -- one value more, where the mark is set
@@ -23,81 +25,84 @@ mark_counts : (value : Bool) → value ≡ true → bit_if value 1 ≡ 1
 mark_counts true e = refl
 mark_counts false e = absurd (cc)
 
+-- no rule has a lower number than that of the level
+pub least_broken : (item : List ℕ → Type 0) (before : List Record) (r : Record) (n at k : ℕ) (e : DecodeError) → faults.Breaks item before r n at k e → 3 ≤ k
+least_broken item before r n at k e (other_level h) = omega arith
+least_broken item before r n at k e (labelled_root first some) = omega arith
+least_broken item before r n at k e (root_of_siblings first set) = omega arith
+least_broken item before r n at k e (no_label later none) = omega arith
+least_broken item before r n at k e (not_valid h) = omega arith
+least_broken item before r n at k e (falling x last same h) = omega arith
+least_broken item before r n at k e (bare later value child) = omega arith
+least_broken item before r n at k e (no_value less) = omega arith
+
+module _ (item : List ℕ → Type 0) (n : ℕ) (before : List Record) (r : Record) where
+  -- the record breaks the rule behind these records, and none before it
+  abbrev pub IsFirstBroken : Rule → Type 0
+  IsFirstBroken rule = record {
+    broken : (at : ℕ) → faults.Breaks item before r n at (number rule) (error_at at rule);
+    first : (at k : ℕ) (e : DecodeError) → k < number rule → faults.Breaks item before r n at k e → ⊥;
+  }
+
 module _ (item : List ℕ → Type 0) (n left : ℕ) (before : List Record) (due : Due) (waiting : List Due) (r : Record) where
-  -- at the level that is due the rules are those of the faults
-  breaks_fault : IsRead item n before (due ∷ waiting) → left + value_marks before ≡ n → r.level ≡ due.level → (f : Fault) → Breaks item due left r f → IsFaulty item before r n f
-  breaks_fault read count same truncated b = b
-  breaks_fault read count same level b = absurd (b same)
-  breaks_fault read count same root_label b = (root_due item n before due waiting read b.0, b.1)
-  breaks_fault read count same root_sibling b = (root_due item n before due waiting read b.0, b.1)
-  breaks_fault read count same empty_label b = (λ none. b.0 (let first = first_due item n before due waiting read none in first.0), b.1)
-  breaks_fault read count same invalid_label b = b
-  breaks_fault read count same sibling_order b =
+  -- at the level that is due the rules are those of the records before
+  breaks_behind : IsRead item n before (due ∷ waiting) → left + value_marks before ≡ n → r.level ≡ due.level → (at : ℕ) (rule : Rule) → Breaks item due left r rule → faults.Breaks item before r n at (number rule) (error_at at rule)
+  breaks_behind read count same at level b = absurd (b same)
+  breaks_behind read count same at root_label b = labelled_root (root_due item n before due waiting read b.0) b.1
+  breaks_behind read count same at root_sibling b = root_of_siblings (root_due item n before due waiting read b.0) b.1
+  breaks_behind read count same at empty_label b = no_label (λ none. b.0 (let first = first_due item n before due waiting read none in first.0)) b.1
+  breaks_behind read count same at invalid_label b = not_valid b
+  breaks_behind read count same at sibling_order b =
       let sibling = after_given item n before due waiting read b.0 b.1 in
-      (sibling.0, subst (λ d. IsLastUpTo before d sibling.0) (sym same) sibling.1, sibling.2 ∙ sym same, λ ordered. b.2 (subst (λ l. ComparesFirst item l r.label Less) sibling.3 ordered))
-  breaks_fault read count same no_value_no_child b = (λ none. b.0 (let first = first_due item n before due waiting read none in first.0), b.1, b.2)
-  breaks_fault read count same too_few_values b = omega (arith, count, marks_more before r, mark_counts r.value b.0, b.1)
-  breaks_fault read count same trailing_bytes b = b
-  breaks_fault read count same too_many_values b = b
+      falling sibling.0 (subst (λ d. IsLastUpTo before d sibling.0) (sym same) sibling.1) (sibling.2 ∙ sym same) (λ ordered. b.2 (subst (λ l. ComparesFirst item l r.label Less) sibling.3 ordered))
+  breaks_behind read count same at no_value_no_child b = bare (λ none. b.0 (let first = first_due item n before due waiting read none in first.0)) b.1 b.2
+  breaks_behind read count same at too_few_values b = no_value (omega (arith, count, marks_more before r, mark_counts r.value b.0, b.1))
 
   -- and the other way round
-  fault_breaks : IsRead item n before (due ∷ waiting) → left + value_marks before ≡ n → r.level ≡ due.level → (f : Fault) → IsFaulty item before r n f → Breaks item due left r f
-  fault_breaks read count same truncated h = h
-  fault_breaks read count same level h = absurd (h (subst (IsDue before) (sym same) (is_due item n before due waiting read)))
-  fault_breaks read count same root_label h = ((let first = first_due item n before due waiting read h.0 in first.0), h.1)
-  fault_breaks read count same root_sibling h = ((let first = first_due item n before due waiting read h.0 in first.0), h.1)
-  fault_breaks read count same empty_label h = (λ zero. h.0 (root_due item n before due waiting read zero), h.1)
-  fault_breaks read count same invalid_label h = h
-  fault_breaks read count same sibling_order h =
-      let label = after_is item n before due waiting read h.0 (subst (λ d. IsLastUpTo before d h.0) same h.1) (h.2 ∙ same) in
-      (h.0.label, label, h.3)
-  fault_breaks read count same no_value_no_child h = (λ zero. h.0 (root_due item n before due waiting read zero), h.1, h.2)
-  fault_breaks read count same too_few_values h = none_left r.value left (omega (arith, count, marks_more before r, h))
-  fault_breaks read count same trailing_bytes h = h
-  fault_breaks read count same too_many_values h = h
+  breaks_due : IsRead item n before (due ∷ waiting) → left + value_marks before ≡ n → r.level ≡ due.level → (at k : ℕ) (e : DecodeError) → faults.Breaks item before r n at k e → (rule : Rule) × (k ≡ number rule) × Breaks item due left r rule
+  breaks_due read count same at k e (other_level h) = absurd (h (subst (IsDue before) (sym same) (is_due item n before due waiting read)))
+  breaks_due read count same at k e (labelled_root none some) = (root_label, refl, ((let first = first_due item n before due waiting read none in first.0), some))
+  breaks_due read count same at k e (root_of_siblings none set) = (root_sibling, refl, ((let first = first_due item n before due waiting read none in first.0), set))
+  breaks_due read count same at k e (no_label later none) = (empty_label, refl, ((λ zero. later (root_due item n before due waiting read zero)), none))
+  breaks_due read count same at k e (not_valid h) = (invalid_label, refl, h)
+  breaks_due read count same at k e (falling x last sibling h) =
+      let label = after_is item n before due waiting read x (subst (λ d. IsLastUpTo before d x) same last) (sibling ∙ same) in
+      (sibling_order, refl, (x.label, label, h))
+  breaks_due read count same at k e (bare later value child) = (no_value_no_child, refl, ((λ zero. later (root_due item n before due waiting read zero)), value, child))
+  breaks_due read count same at k e (no_value less) = (too_few_values, refl, none_left r.value left (omega (arith, count, marks_more before r, less)))
 
-  -- another level than the one that is due is a fault, and none comes before it
-  under_level : (g : Fault) → number g < 3 → IsFaulty item before r n g → ⊥
-  under_level truncated less h = h
-  under_level level less h = omega (arith, less)
-  under_level root_label less h = omega (arith, less)
-  under_level root_sibling less h = omega (arith, less)
-  under_level empty_label less h = omega (arith, less)
-  under_level invalid_label less h = omega (arith, less)
-  under_level sibling_order less h = omega (arith, less)
-  under_level no_value_no_child less h = omega (arith, less)
-  under_level too_few_values less h = omega (arith, less)
-  under_level trailing_bytes less h = omega (arith, less)
-  under_level too_many_values less h = omega (arith, less)
+  -- where the level is not the one that is due, its rule is the first that is broken
+  at_other_level : IsRead item n before (due ∷ waiting) → r.level ≢ due.level → (rule : Rule) → BreaksNoneBelow item due left r (number rule) → IsFirstBroken item n before r rule
+  at_other_level read other level lower = record {
+    broken = λ at. other_level (λ given. other (one_due before r.level due.level given (is_due item n before due waiting read)));
+    first = λ at k e less h. omega (arith, less, least_broken item before r n at k e h);
+  }
+  at_other_level read other root_label lower = absurd (lower level (omega arith) other)
+  at_other_level read other root_sibling lower = absurd (lower level (omega arith) other)
+  at_other_level read other empty_label lower = absurd (lower level (omega arith) other)
+  at_other_level read other invalid_label lower = absurd (lower level (omega arith) other)
+  at_other_level read other sibling_order lower = absurd (lower level (omega arith) other)
+  at_other_level read other no_value_no_child lower = absurd (lower level (omega arith) other)
+  at_other_level read other too_few_values lower = absurd (lower level (omega arith) other)
 
-  -- where the level is not the one that is due, that is the first fault
-  other_level : IsRead item n before (due ∷ waiting) → r.level ≢ due.level → (f : Fault) → Breaks item due left r f → ((g : Fault) → number g < number f → Breaks item due left r g → ⊥) → (IsFaulty item before r n f) × ((g : Fault) → number g < number f → IsFaulty item before r n g → ⊥)
-  other_level read other truncated b lower = absurd b
-  other_level read other level b lower = (λ given. other (one_due before r.level due.level given (is_due item n before due waiting read)), under_level)
-  other_level read other root_label b lower = absurd (lower level (omega arith) other)
-  other_level read other root_sibling b lower = absurd (lower level (omega arith) other)
-  other_level read other empty_label b lower = absurd (lower level (omega arith) other)
-  other_level read other invalid_label b lower = absurd (lower level (omega arith) other)
-  other_level read other sibling_order b lower = absurd (lower level (omega arith) other)
-  other_level read other no_value_no_child b lower = absurd (lower level (omega arith) other)
-  other_level read other too_few_values b lower = absurd (lower level (omega arith) other)
-  other_level read other trailing_bytes b lower = absurd b
-  other_level read other too_many_values b lower = absurd b
-
-  -- the first rule that is broken is the first fault of the record
-  pub faulty : IsRead item n before (due ∷ waiting) → left + value_marks before ≡ n → (f : Fault) → Breaks item due left r f → ((g : Fault) → number g < number f → Breaks item due left r g → ⊥) → (IsFaulty item before r n f) × ((g : Fault) → number g < number f → IsFaulty item before r n g → ⊥)
-  faulty read count f b lower = elim (cases_lt r.level due.level) [
-    | inl less ↦ other_level read (λ e. omega (arith, less, e)) f b lower
+  -- the first rule that is broken by what is due is the first that is broken behind the records
+  pub faulty : IsRead item n before (due ∷ waiting) → left + value_marks before ≡ n → (rule : Rule) → BreaksFirst item due left r rule → IsFirstBroken item n before r rule
+  faulty read count rule b = elim (cases_lt r.level due.level) [
+    | inl less ↦ at_other_level read (λ e. omega (arith, less, e)) rule b.1
     | inr least ↦ elim (cases_lt due.level r.level) [
-      | inl more ↦ other_level read (λ e. omega (arith, more, e)) f b lower
+      | inl more ↦ at_other_level read (λ e. omega (arith, more, e)) rule b.1
       | inr most ↦
           let same : r.level ≡ due.level = omega (arith, least, most) in
-          (breaks_fault read count same f b, λ g less h. lower g less (fault_breaks read count same g h))
+          record {
+            broken = λ at. breaks_behind read count same at rule b.0;
+            first = λ at k e less h. (let found = breaks_due read count same at k e h in b.1 found.0 (omega (arith, less, found.1)) found.2);
+          }
     ]
   ]
 
   -- where no rule is broken the record has no fault
-  pub faultless : IsRead item n before (due ∷ waiting) → left + value_marks before ≡ n → ((f : Fault) → Breaks item due left r f → ⊥) → (f : Fault) → IsFaulty item before r n f → ⊥
-  faultless read count fine f h =
+  pub faultless : IsRead item n before (due ∷ waiting) → left + value_marks before ≡ n → BreaksNone item due left r → IsFaultless item before r n
+  faultless read count fine at k e h =
       let same = same_number r.level due.level (fine level) in
-      fine f (fault_breaks read count same f h)
+      let found = breaks_due read count same at k e h in
+      fine found.0 found.2

@@ -3,11 +3,14 @@ use Rattle.std.proofs.Common.{◌≡◌, ℕ, ◌+◌, ◌<◌, ◌≤◌, ◌�
 use Rattle.std.proofs.lemmas.Bool.{cases_lt}
 use Rattle.patricia_wire.specs.Records.{Record, Encodes, EncodeAll}
 use Rattle.patricia_wire.specs.Forests.{Root}
-use Rattle.patricia_wire.specs.Internal.Readings.{Due, IsRead, nothing, one_more}
-use Rattle.patricia_wire.specs.Faults.{Fault, truncated, level, root_label, root_sibling, empty_label, invalid_label, sibling_order, no_value_no_child, too_few_values, trailing_bytes, too_many_values, number, value_marks, IsFaulty, IsUnfinished, Reads, IsCutShort, Stands, cut_short, in_record, trailing, too_many, IsFirst}
+use Rattle.patricia_wire.specs.Internal.Readings.{Rule, number, error_at, Due, IsRead, nothing, one_more}
+use Rattle.patricia_wire.specs.Faults.{value_marks, Breaks, IsUnfinished, Reads, IsCutShort, Stands, cut_short, in_record, trailing, too_many, IsFirst}
+use Rattle.patricia_wire.specs.declared.error.DecodeError.{DecodeError}
+use Rattle.patricia_wire.specs.declared.error.DecodeError.TheVariants.{Truncated, TrailingBytes, TooManyValues}
 use Rattle.patricia_wire.proofs.NoFault.{not_empty, enough}
 use Rattle.patricia_wire.proofs.Places.{nil_split}
 use Rattle.patricia_wire.proofs.Readings.{back_split, unfinished}
+use Rattle.patricia_wire.proofs.ReadingsFaults.{least_broken, IsFirstBroken}
 use Rattle.patricia_wire.proofs.Spellings.{record_same}
 
 -- of two lists of records that are read from one input, one begins the other
@@ -50,33 +53,19 @@ compare w b P Q o u x y X p q none same = go (align w P Q p.read q.read x y p.sp
     go (further Y z e spelled f) = far Y z e spelled f
     go (nearer s S one others e spelled f) = absurd (none s S one others e spelled f)
 
--- no number is lower than the first
-least : (g : Fault) → 2 ≤ number g
-least truncated = omega arith
-least level = omega arith
-least root_label = omega arith
-least root_sibling = omega arith
-least empty_label = omega arith
-least invalid_label = omega arith
-least sibling_order = omega arith
-least no_value_no_child = omega arith
-least too_few_values = omega arith
-least trailing_bytes = omega arith
-least too_many_values = omega arith
-
 module _ (item : List ℕ → Type 0) (n : ℕ) where
   -- no record that was read had a fault
-  none_faulty : (before : List Record) (D : List Due) → IsRead item n before D → (A : List Record) (s : Record) (Z : List Record) → before ≡ A ++ (s ∷ Z) → (f : Fault) → IsFaulty item A s n f → ⊥
-  none_faulty before D nothing A s Z e f h = nil_split A s Z e
-  none_faulty before D (one_more ahead r due waiting read fine) A s Z e f h = elim (back_split ahead r A (s ∷ Z) e) [
+  none_faulty : (before : List Record) (D : List Due) → IsRead item n before D → (A : List Record) (s : Record) (Z : List Record) → before ≡ A ++ (s ∷ Z) → (at k : ℕ) (f : DecodeError) → Breaks item A s n at k f → ⊥
+  none_faulty before D nothing A s Z e at k f h = nil_split A s Z e
+  none_faulty before D (one_more ahead r due waiting read fine) A s Z e at k f h = elim (back_split ahead r A (s ∷ Z) e) [
     | inl none ↦ (let no = none.0 in cc)
-    | inr split ↦ go (λ Y same. none_faulty ahead (due ∷ waiting) read A s Y same f h) split.0 split.1 split.2
+    | inr split ↦ go (λ Y same. none_faulty ahead (due ∷ waiting) read A s Y same at k f h) split.0 split.1 split.2
   ]
     where
       go : ((Y : List Record) → ahead ≡ A ++ (s ∷ Y) → ⊥) → (Y : List Record) → s ∷ Z ≡ Y ++ (r ∷ []) → ahead ≡ A ++ Y → ⊥
       go earlier [] e split =
           let head : s ≡ r = cc in
-          fine f (subst (λ B. IsFaulty item B r n f) (sym (split ∙ append-nil A)) (subst (λ (z : Record). IsFaulty item A z n f) head h))
+          fine at k f (subst (λ B. Breaks item B r n at k f) (sym (split ∙ append-nil A)) (subst (λ (z : Record). Breaks item A z n at k f) head h))
       go earlier (y ∷ Y) e split =
           let head : y ≡ s = cc in
           earlier Y (split ∙ ap (λ z. A ++ (z ∷ Y)) head)
@@ -90,94 +79,92 @@ module _ (item : List ℕ → Type 0) (n : ℕ) where
   ]
 
   module _ (w : ℕ) (b : List ℕ) where
-    -- the fault stands right behind what was read
-    data IsNext (before : List Record) (rest : List ℕ) (g : Fault) : Type 0 where
-      short : g ≡ truncated → IsUnfinished item before → IsCutShort w rest → IsNext before rest g
-      bad : (r : Record) (first more : List ℕ) → IsUnfinished item before → rest ≡ first ++ more → Encodes w r first → IsFaulty item before r n g → IsNext before rest g
-      over : (E : List (List ℕ)) → g ≡ trailing_bytes → Root item before E → rest ≢ [] → IsNext before rest g
-      many : (E : List (List ℕ)) → g ≡ too_many_values → Root item before E → rest ≡ [] → IsNext before rest g
+    -- a fault of this number stands right behind what was read
+    data IsNext (before : List Record) (rest : List ℕ) (k : ℕ) : Type 0 where
+      short : k ≡ 2 → IsUnfinished item before → IsCutShort w rest → IsNext before rest k
+      bad : (r : Record) (first more : List ℕ) (at : ℕ) (e : DecodeError) → IsUnfinished item before → rest ≡ first ++ more → Encodes w r first → Breaks item before r n at k e → IsNext before rest k
+      over : (E : List (List ℕ)) → k ≡ 11 → Root item before E → rest ≢ [] → IsNext before rest k
+      many : (E : List (List ℕ)) → k ≡ 12 → Root item before E → rest ≡ [] → IsNext before rest k
 
     -- a fault stands past what was read or right behind it
-    place : (before : List Record) (D : List Due) (offset : ℕ) (rest : List ℕ) → IsRead item n before D → Reads w b before offset rest → (g : Fault) (other : ℕ) → Stands item w b n g other → (offset < other) ⊎ ((offset ≡ other) × IsNext before rest g)
-    place before D offset rest read reads g other (cut_short ahead more found unfinished cut) =
-        compare w b before ahead offset other rest more (IsNext before rest g) reads found
-        (λ s S one others e spelled f. enough w s one others spelled (subst (IsCutShort w) f cut))
+    place : (before : List Record) (D : List Due) (offset : ℕ) (rest : List ℕ) → IsRead item n before D → Reads w b before offset rest → (k other : ℕ) (f : DecodeError) → Stands item w b n k other f → (offset < other) ⊎ ((offset ≡ other) × IsNext before rest k)
+    place before D offset rest read reads k other f (cut_short ahead more found unfinished cut) =
+        compare w b before ahead offset other rest more (IsNext before rest k) reads found
+        (λ s S one others e spelled g. enough w s one others spelled (subst (IsCutShort w) g cut))
         (λ same bytes. short refl (subst (IsUnfinished item) same unfinished) (subst (IsCutShort w) bytes cut))
-    place before D offset rest read reads g other (in_record ahead r first more found unfinished spells fault) =
-        compare w b before ahead offset other rest (first ++ more) (IsNext before rest g) reads found
-        (λ s S one others e spelled f. (let both = record_same w r s first one more others spells spelled f in none_faulty before D read ahead r S (e ∙ ap (λ z. ahead ++ (z ∷ S)) (sym both.0)) g fault))
-        (λ same bytes. bad r first more (subst (IsUnfinished item) same unfinished) (sym bytes) spells (subst (λ B. IsFaulty item B r n g) same fault))
-    place before D offset rest read reads g other (trailing R E more found tree some) =
-        compare w b before R offset other rest more (IsNext before rest g) reads found
-        (λ s S one others e spelled f. none_whole before D read R s S E e tree)
+    place before D offset rest read reads k other f (in_record ahead r first more found unfinished spells broken) =
+        compare w b before ahead offset other rest (first ++ more) (IsNext before rest k) reads found
+        (λ s S one others e spelled g. (let both = record_same w r s first one more others spells spelled g in none_faulty before D read ahead r S (e ∙ ap (λ z. ahead ++ (z ∷ S)) (sym both.0)) other k f broken))
+        (λ same bytes. bad r first more other f (subst (IsUnfinished item) same unfinished) (sym bytes) spells (subst (λ B. Breaks item B r n other k f) same broken))
+    place before D offset rest read reads k other f (trailing R E more found tree some) =
+        compare w b before R offset other rest more (IsNext before rest k) reads found
+        (λ s S one others e spelled g. none_whole before D read R s S E e tree)
         (λ same bytes. over E refl (subst (λ B. Root item B E) same tree) (subst (λ l. l ≢ []) bytes some))
-    place before D offset rest read reads g other (too_many R E spelled tree less) =
-        compare w b before R offset (length b) rest [] (IsNext before rest too_many_values) reads (record { read = b; spelled = spelled; joined = append-nil b; ends = refl })
-        (λ s S one others e spelled f. none_whole before D read R s S E e tree)
+    place before D offset rest read reads k other f (too_many R E spelled tree less) =
+        compare w b before R offset (length b) rest [] (IsNext before rest 12) reads (record { read = b; spelled = spelled; joined = append-nil b; ends = refl })
+        (λ s S one others e spelled g. none_whole before D read R s S E e tree)
         (λ same bytes. many E refl (subst (λ B. Root item B E) same tree) (sym bytes))
 
-    -- the first fault of the record that is read next
-    pub first_in_record : (before : List Record) (due : Due) (waiting : List Due) (offset : ℕ) (r : Record) (bytes rest : List ℕ) (f : Fault) → IsRead item n before (due ∷ waiting) → Reads w b before offset (bytes ++ rest) → Encodes w r bytes → IsFaulty item before r n f → ((g : Fault) → number g < number f → IsFaulty item before r n g → ⊥) → IsFirst item w b n f offset
-    first_in_record before due waiting offset r bytes rest f read reads spells fault lower = record {
-      stands = in_record before r bytes rest reads begun spells fault;
-      first = λ g other stands. elim (place before (due ∷ waiting) offset (bytes ++ rest) read reads g other stands) [
+    -- a fault that stands is the first, where those right behind what was read have no lower number
+    first_of : (before : List Record) (D : List Due) (offset : ℕ) (rest : List ℕ) → IsRead item n before D → Reads w b before offset rest → (k : ℕ) (e : DecodeError) → Stands item w b n k offset e → ((j : ℕ) → IsNext before rest j → k ≤ j) → IsFirst item w b n e
+    first_of before D offset rest read reads k e stands least = record {
+      number = k;
+      at = offset;
+      stands = stands;
+      first = λ j other f found. elim (place before D offset rest read reads j other f found) [
         | inl later ↦ inl later
-        | inr here ↦ inr (here.0, next g here.1)
+        | inr here ↦ inr (here.0, least j here.1)
       ];
     }
+
+    -- the first fault of the record that is read next
+    pub first_in_record : (before : List Record) (due : Due) (waiting : List Due) (offset : ℕ) (r : Record) (bytes rest : List ℕ) (rule : Rule) → IsRead item n before (due ∷ waiting) → Reads w b before offset (bytes ++ rest) → Encodes w r bytes → IsFirstBroken item n before r rule → IsFirst item w b n (error_at offset rule)
+    first_in_record before due waiting offset r bytes rest rule read reads spells broken =
+        first_of before (due ∷ waiting) offset (bytes ++ rest) read reads (number rule) (error_at offset rule) (in_record before r bytes rest reads begun spells (broken.broken offset)) least
       where
         begun : IsUnfinished item before
         begun = unfinished item n before due waiting read
 
-        next : (g : Fault) → IsNext before (bytes ++ rest) g → number f ≤ number g
-        next g (short e unread cut) = absurd (enough w r bytes rest spells cut)
-        next g (bad s first more unread e spelled other) =
+        least : (j : ℕ) → IsNext before (bytes ++ rest) j → number rule ≤ j
+        least j (short e unread cut) = absurd (enough w r bytes rest spells cut)
+        least j (bad s first more at f unread e spelled other) =
             let both = record_same w r s bytes first rest more spells spelled e in
-            elim (cases_lt (number g) (number f)) [
-              | inl less ↦ absurd (lower g less (subst (λ (z : Record). IsFaulty item before z n g) (sym both.0) other))
+            elim (cases_lt j (number rule)) [
+              | inl less ↦ absurd (broken.first at j f less (subst (λ (z : Record). Breaks item before z n at j f) (sym both.0) other))
               | inr more ↦ more
             ]
-        next g (over E e tree some) = absurd (begun before [] E (sym (append-nil before)) tree)
-        next g (many E e tree none) = absurd (begun before [] E (sym (append-nil before)) tree)
+        least j (over E e tree some) = absurd (begun before [] E (sym (append-nil before)) tree)
+        least j (many E e tree none) = absurd (begun before [] E (sym (append-nil before)) tree)
 
     -- bytes that end within a record
-    pub first_cut_short : (before : List Record) (due : Due) (waiting : List Due) (offset : ℕ) (rest : List ℕ) → IsRead item n before (due ∷ waiting) → Reads w b before offset rest → IsCutShort w rest → IsFirst item w b n truncated offset
-    first_cut_short before due waiting offset rest read reads cut = record {
-      stands = cut_short before rest reads (unfinished item n before due waiting read) cut;
-      first = λ g other stands. elim (place before (due ∷ waiting) offset rest read reads g other stands) [
-        | inl later ↦ inl later
-        | inr here ↦ inr (here.0, least g)
-      ];
-    }
+    pub first_cut_short : (before : List Record) (due : Due) (waiting : List Due) (offset : ℕ) (rest : List ℕ) → IsRead item n before (due ∷ waiting) → Reads w b before offset rest → IsCutShort w rest → IsFirst item w b n (Truncated offset)
+    first_cut_short before due waiting offset rest read reads cut =
+        first_of before (due ∷ waiting) offset rest read reads 2 (Truncated offset) (cut_short before rest reads (unfinished item n before due waiting read) cut) least
+      where
+        least : (j : ℕ) → IsNext before rest j → 2 ≤ j
+        least j (short e begun cut) = omega (arith, e)
+        least j (bad s first more at f begun e spelled other) = omega (arith, least_broken item before s n at j f other)
+        least j (over E e tree some) = omega (arith, e)
+        least j (many E e tree none) = omega (arith, e)
 
     -- bytes behind a tree
-    pub first_trailing : (R : List Record) (offset : ℕ) (rest : List ℕ) (E : List (List ℕ)) → IsRead item n R [] → Reads w b R offset rest → Root item R E → rest ≢ [] → IsFirst item w b n trailing_bytes offset
-    first_trailing R offset rest E read reads tree some = record {
-      stands = trailing R E rest reads tree some;
-      first = λ g other stands. elim (place R [] offset rest read reads g other stands) [
-        | inl later ↦ inl later
-        | inr here ↦ inr (here.0, next g here.1)
-      ];
-    }
+    pub first_trailing : (R : List Record) (offset : ℕ) (rest : List ℕ) (E : List (List ℕ)) → IsRead item n R [] → Reads w b R offset rest → Root item R E → rest ≢ [] → IsFirst item w b n (TrailingBytes offset)
+    first_trailing R offset rest E read reads tree some =
+        first_of R [] offset rest read reads 11 (TrailingBytes offset) (trailing R E rest reads tree some) least
       where
-        next : (g : Fault) → IsNext R rest g → 11 ≤ number g
-        next g (short e begun cut) = absurd (begun R [] E (sym (append-nil R)) tree)
-        next g (bad s first more begun e spelled other) = absurd (begun R [] E (sym (append-nil R)) tree)
-        next g (over F e other more) = omega (arith, ap number e)
-        next g (many F e other none) = absurd (some none)
+        least : (j : ℕ) → IsNext R rest j → 11 ≤ j
+        least j (short e begun cut) = absurd (begun R [] E (sym (append-nil R)) tree)
+        least j (bad s first more at f begun e spelled other) = absurd (begun R [] E (sym (append-nil R)) tree)
+        least j (over F e other more) = omega (arith, e)
+        least j (many F e other none) = absurd (some none)
 
     -- values that no record takes
-    pub first_too_many : (R : List Record) (E : List (List ℕ)) → IsRead item n R [] → EncodeAll w R b → Root item R E → value_marks R < n → IsFirst item w b n too_many_values (length b)
-    first_too_many R E read spelled tree less = record {
-      stands = too_many R E spelled tree less;
-      first = λ g other stands. elim (place R [] (length b) [] read (record { read = b; spelled = spelled; joined = append-nil b; ends = refl }) g other stands) [
-        | inl later ↦ inl later
-        | inr here ↦ inr (here.0, next g here.1)
-      ];
-    }
+    pub first_too_many : (R : List Record) (E : List (List ℕ)) → IsRead item n R [] → EncodeAll w R b → Root item R E → value_marks R < n → IsFirst item w b n TooManyValues
+    first_too_many R E read spelled tree less =
+        first_of R [] (length b) [] read (record { read = b; spelled = spelled; joined = append-nil b; ends = refl }) 12 TooManyValues (too_many R E spelled tree less) least
       where
-        next : (g : Fault) → IsNext R [] g → 12 ≤ number g
-        next g (short e begun cut) = absurd (begun R [] E (sym (append-nil R)) tree)
-        next g (bad s first more begun e spelled other) = absurd (begun R [] E (sym (append-nil R)) tree)
-        next g (over F e other some) = absurd (some refl)
-        next g (many F e other none) = omega (arith, ap number e)
+        least : (j : ℕ) → IsNext R [] j → 12 ≤ j
+        least j (short e begun cut) = absurd (begun R [] E (sym (append-nil R)) tree)
+        least j (bad s first more at f begun e spelled other) = absurd (begun R [] E (sym (append-nil R)) tree)
+        least j (over F e other some) = absurd (some refl)
+        least j (many F e other none) = omega (arith, e)

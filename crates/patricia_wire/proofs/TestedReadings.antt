@@ -11,46 +11,40 @@ use Rattle.patricia_keys.proofs.KeyLemmas.{IsValid-nil}
 use Rattle.patricia_model.specs.Siblings.{IsBefore}
 use Rattle.patricia_model.proofs.MeetingLemmas.{before_by_first_byte}
 use Rattle.patricia_wire.specs.Records.{Record, Encodes, canonical_bytes, canonical_bytes_of}
-use Rattle.patricia_wire.specs.Internal.Readings.{Due, due_behind, IsRead, nothing, one_more, Breaks}
-use Rattle.patricia_wire.specs.Faults.{Fault, truncated, level, root_label, root_sibling, empty_label, invalid_label, sibling_order, no_value_no_child, too_few_values, trailing_bytes, too_many_values, number, value_marks, Reads, IsFirst}
+use Rattle.patricia_wire.specs.Internal.Readings.{Rule, level, root_label, root_sibling, empty_label, invalid_label, sibling_order, no_value_no_child, too_few_values, number, error_at, Due, due_behind, IsRead, nothing, one_more, Breaks}
+use Rattle.patricia_wire.specs.Faults.{value_marks, Reads, IsFirst}
 use Rattle.patricia_wire.proofs.Orders.{before_compares}
 use Rattle.patricia_wire.proofs.ReadingsFaults.{faulty, faultless}
 use Rattle.patricia_wire.proofs.ReadingsFirst.{first_in_record}
 use Rattle.patricia_wire.proofs.TestedRows.{are_bytes, byte_valid, either, filled_of, has_room, byte_room, byte_rooms}
 use Rattle.patricia_wire.proofs.Spellings.{clean_spells, clean_spell_all}
 
--- each fault passes the test
-abbrev pub each_passes : (Fault → Bool) → Bool
-each_passes t = t truncated && (t level && (t root_label && (t root_sibling && (t empty_label && (t invalid_label && (t sibling_order && (t no_value_no_child && (t too_few_values && (t trailing_bytes && t too_many_values)))))))))
+-- each rule passes the test
+abbrev pub each_passes : (Rule → Bool) → Bool
+each_passes t = t level && (t root_label && (t root_sibling && (t empty_label && (t invalid_label && (t sibling_order && (t no_value_no_child && t too_few_values))))))
 
 -- where each passes, one does
-passes : (t : Fault → Bool) → each_passes t ≡ true → (f : Fault) → t f ≡ true
-passes t all f = go f
+passes : (t : Rule → Bool) → each_passes t ≡ true → (rule : Rule) → t rule ≡ true
+passes t all rule = go rule
   where
-    from_label : (t root_label && (t root_sibling && (t empty_label && (t invalid_label && (t sibling_order && (t no_value_no_child && (t too_few_values && (t trailing_bytes && t too_many_values)))))))) ≡ true
-    from_label = second_so (t level) _ (second_so (t truncated) _ all)
+    from_sibling : (t root_sibling && (t empty_label && (t invalid_label && (t sibling_order && (t no_value_no_child && t too_few_values))))) ≡ true
+    from_sibling = second_so (t root_label) _ (second_so (t level) _ all)
 
-    from_empty : (t empty_label && (t invalid_label && (t sibling_order && (t no_value_no_child && (t too_few_values && (t trailing_bytes && t too_many_values)))))) ≡ true
-    from_empty = second_so (t root_sibling) _ (second_so (t root_label) _ from_label)
+    from_label : (t invalid_label && (t sibling_order && (t no_value_no_child && t too_few_values))) ≡ true
+    from_label = second_so (t empty_label) _ (second_so (t root_sibling) _ from_sibling)
 
-    from_order : (t sibling_order && (t no_value_no_child && (t too_few_values && (t trailing_bytes && t too_many_values)))) ≡ true
-    from_order = second_so (t invalid_label) _ (second_so (t empty_label) _ from_empty)
+    from_marks : (t no_value_no_child && t too_few_values) ≡ true
+    from_marks = second_so (t sibling_order) _ (second_so (t invalid_label) _ from_label)
 
-    from_few : (t too_few_values && (t trailing_bytes && t too_many_values)) ≡ true
-    from_few = second_so (t no_value_no_child) _ (second_so (t sibling_order) _ from_order)
-
-    go : (f : Fault) → t f ≡ true
-    go truncated = first_so (t truncated) _ all
-    go level = first_so (t level) _ (second_so (t truncated) _ all)
-    go root_label = first_so (t root_label) _ from_label
-    go root_sibling = first_so (t root_sibling) _ (second_so (t root_label) _ from_label)
-    go empty_label = first_so (t empty_label) _ from_empty
-    go invalid_label = first_so (t invalid_label) _ (second_so (t empty_label) _ from_empty)
-    go sibling_order = first_so (t sibling_order) _ from_order
-    go no_value_no_child = first_so (t no_value_no_child) _ (second_so (t sibling_order) _ from_order)
-    go too_few_values = first_so (t too_few_values) _ from_few
-    go trailing_bytes = first_so (t trailing_bytes) _ (second_so (t too_few_values) _ from_few)
-    go too_many_values = second_so (t trailing_bytes) _ (second_so (t too_few_values) _ from_few)
+    go : (rule : Rule) → t rule ≡ true
+    go level = first_so (t level) _ all
+    go root_label = first_so (t root_label) _ (second_so (t level) _ all)
+    go root_sibling = first_so (t root_sibling) _ from_sibling
+    go empty_label = first_so (t empty_label) _ (second_so (t root_sibling) _ from_sibling)
+    go invalid_label = first_so (t invalid_label) _ from_label
+    go sibling_order = first_so (t sibling_order) _ (second_so (t invalid_label) _ from_label)
+    go no_value_no_child = first_so (t no_value_no_child) _ from_marks
+    go too_few_values = second_so (t no_value_no_child) _ from_marks
 
 -- a list is empty
 abbrev pub is_nil : List ℕ → Bool
@@ -83,9 +77,8 @@ follows ordered None m = true
 follows ordered (Some l) m = ordered l m
 
 module _ (item : List ℕ → Type 0) (tests : LabelTests item) where
-  -- the record keeps the rule that the fault names
-  abbrev pub keeps : Due → ℕ → Record → Fault → Bool
-  keeps due left r truncated = true
+  -- the record keeps the rule
+  abbrev pub keeps : Due → ℕ → Record → Rule → Bool
   keeps due left r level = nat_eq r.level due.level
   keeps due left r root_label = nat_lt 0 due.level || is_nil r.label
   keeps due left r root_sibling = nat_lt 0 due.level || not r.sibling
@@ -94,12 +87,9 @@ module _ (item : List ℕ → Type 0) (tests : LabelTests item) where
   keeps due left r sibling_order = follows tests.ordered due.after r.label
   keeps due left r no_value_no_child = nat_eq due.level 0 || (r.value || r.child)
   keeps due left r too_few_values = not r.value || nat_lt 0 left
-  keeps due left r trailing_bytes = true
-  keeps due left r too_many_values = true
 
   -- a rule that is kept is not broken
-  kept : (due : Due) (left : ℕ) (r : Record) (f : Fault) → keeps due left r f ≡ true → Breaks item due left r f → ⊥
-  kept due left r truncated test b = b
+  kept : (due : Due) (left : ℕ) (r : Record) (rule : Rule) → keeps due left r rule ≡ true → Breaks item due left r rule → ⊥
   kept due left r level test b = b (eqb-true r.level due.level test)
   kept due left r root_label test b = elim (either (nat_lt 0 due.level) (is_nil r.label) test) [
     | inl inner ↦ (let more = ltb-true 0 due.level inner in omega (arith, more, b.0))
@@ -126,27 +116,24 @@ module _ (item : List ℕ → Type 0) (tests : LabelTests item) where
     | inl clear ↦ clear_is r.value clear b.0
     | inr more ↦ (let some = ltb-true 0 left more in omega (arith, some, b.1))
   ]
-  kept due left r trailing_bytes test b = b
-  kept due left r too_many_values test b = b
 
   -- a record that keeps each rule is read
   pub read_one : (n left : ℕ) (before : List Record) (due : Due) (waiting : List Due) (r : Record) → IsRead item n before (due ∷ waiting) → left + value_marks before ≡ n → each_passes (keeps due left r) ≡ true → IsRead item n (before ++ (r ∷ [])) (due_behind r ++ waiting)
   read_one n left before due waiting r read count test =
-      one_more before r due waiting read (faultless item n left before due waiting r read count (λ f. kept due left r f (passes (keeps due left r) test f)))
+      one_more before r due waiting read (faultless item n left before due waiting r read count (λ rule. kept due left r rule (passes (keeps due left r) test rule)))
 
-  -- the rules before that of the fault are kept
-  abbrev pub keeps_before : Due → ℕ → Record → Fault → Bool
-  keeps_before due left r f = each_passes (λ g. not (nat_lt (number g) (number f)) || keeps due left r g)
+  -- the rules before it are kept
+  abbrev pub keeps_before : Due → ℕ → Record → Rule → Bool
+  keeps_before due left r rule = each_passes (λ g. not (nat_lt (number g) (number rule)) || keeps due left r g)
 
   -- the first rule that a record breaks is the first fault
-  pub first_broken : (w : ℕ) (b : List ℕ) (n left : ℕ) (before : List Record) (due : Due) (waiting : List Due) (offset : ℕ) (r : Record) (bytes rest : List ℕ) (f : Fault) → IsRead item n before (due ∷ waiting) → left + value_marks before ≡ n → Reads w b before offset (bytes ++ rest) → Encodes w r bytes → Breaks item due left r f → keeps_before due left r f ≡ true → IsFirst item w b n f offset
-  first_broken w b n left before due waiting offset r bytes rest f read count reads spells broken test =
-      let fault = faulty item n left before due waiting r read count f broken lower in
-      first_in_record item n w b before due waiting offset r bytes rest f read reads spells fault.0 fault.1
+  pub first_broken : (w : ℕ) (b : List ℕ) (n left : ℕ) (before : List Record) (due : Due) (waiting : List Due) (offset : ℕ) (r : Record) (bytes rest : List ℕ) (rule : Rule) → IsRead item n before (due ∷ waiting) → left + value_marks before ≡ n → Reads w b before offset (bytes ++ rest) → Encodes w r bytes → Breaks item due left r rule → keeps_before due left r rule ≡ true → IsFirst item w b n (error_at offset rule)
+  first_broken w b n left before due waiting offset r bytes rest rule read count reads spells broken test =
+      first_in_record item n w b before due waiting offset r bytes rest rule read reads spells (faulty item n left before due waiting r read count rule (broken, lower))
     where
-      lower : (g : Fault) → number g < number f → Breaks item due left r g → ⊥
-      lower g less h = elim (either (not (nat_lt (number g) (number f))) (keeps due left r g) (passes (λ g. not (nat_lt (number g) (number f)) || keeps due left r g) test g)) [
-        | inl past ↦ clear_is (nat_lt (number g) (number f)) past (lt-ltb (number g) (number f) less)
+      lower : (g : Rule) → number g < number rule → Breaks item due left r g → ⊥
+      lower g less h = elim (either (not (nat_lt (number g) (number rule))) (keeps due left r g) (passes (λ g. not (nat_lt (number g) (number rule)) || keeps due left r g) test g)) [
+        | inl past ↦ clear_is (nat_lt (number g) (number rule)) past (lt-ltb (number g) (number rule) less)
         | inr held ↦ kept due left r g held h
       ]
 
@@ -192,9 +179,9 @@ pub reads_clean : (w : ℕ) (R : List Record) (rest : List ℕ) → list_all (ha
 reads_clean w R rest test = record { read = canonical_bytes_of w R; spelled = clean_spell_all w R (byte_rooms w R test); joined = refl; ends = refl }
 
 -- the first fault of a record of byte keys, which is spelled clean behind others
-pub first_of_bytes : (w n left : ℕ) (before : List Record) (due : Due) (waiting : List Due) (r : Record) (rest : List ℕ) (f : Fault) → IsRead IsByteItem n before (due ∷ waiting) → left + value_marks before ≡ n → list_all (has_room w) before ≡ true → has_room w r ≡ true → Breaks IsByteItem due left r f → keeps_before IsByteItem byte_tests due left r f ≡ true → IsFirst IsByteItem w (canonical_bytes_of w before ++ (canonical_bytes w r ++ rest)) n f (length (canonical_bytes_of w before))
-first_of_bytes w n left before due waiting r rest f read count rooms room broken test =
-    first_broken IsByteItem byte_tests w (canonical_bytes_of w before ++ (canonical_bytes w r ++ rest)) n left before due waiting (length (canonical_bytes_of w before)) r (canonical_bytes w r) rest f read count
+pub first_of_bytes : (w n left : ℕ) (before : List Record) (due : Due) (waiting : List Due) (r : Record) (rest : List ℕ) (rule : Rule) → IsRead IsByteItem n before (due ∷ waiting) → left + value_marks before ≡ n → list_all (has_room w) before ≡ true → has_room w r ≡ true → Breaks IsByteItem due left r rule → keeps_before IsByteItem byte_tests due left r rule ≡ true → IsFirst IsByteItem w (canonical_bytes_of w before ++ (canonical_bytes w r ++ rest)) n (error_at (length (canonical_bytes_of w before)) rule)
+first_of_bytes w n left before due waiting r rest rule read count rooms room broken test =
+    first_broken IsByteItem byte_tests w (canonical_bytes_of w before ++ (canonical_bytes w r ++ rest)) n left before due waiting (length (canonical_bytes_of w before)) r (canonical_bytes w r) rest rule read count
     (reads_clean w before (canonical_bytes w r ++ rest) rooms) (clean_spells w r (byte_room w r room)) broken test
 
 -- the root is due
@@ -214,5 +201,5 @@ pub opened_read : (item : List ℕ → Type 0) (n : ℕ) → IsRead item n (open
 opened_read item n = read_one item (no_tests item) n n [] the_root [] opened nothing (omega arith) refl
 
 -- the first fault of a record of byte keys behind such a root
-pub first_below : (n : ℕ) (r : Record) (rest : List ℕ) (f : Fault) → has_room 2 r ≡ true → Breaks IsByteItem first_child n r f → keeps_before IsByteItem byte_tests first_child n r f ≡ true → IsFirst IsByteItem 2 (canonical_bytes_of 2 (opened ∷ []) ++ (canonical_bytes 2 r ++ rest)) n f 4
-first_below n r rest f room broken test = first_of_bytes 2 n n (opened ∷ []) first_child [] r rest f (opened_read IsByteItem n) (omega arith) refl room broken test
+pub first_below : (n : ℕ) (r : Record) (rest : List ℕ) (rule : Rule) → has_room 2 r ≡ true → Breaks IsByteItem first_child n r rule → keeps_before IsByteItem byte_tests first_child n r rule ≡ true → IsFirst IsByteItem 2 (canonical_bytes_of 2 (opened ∷ []) ++ (canonical_bytes 2 r ++ rest)) n (error_at 4 rule)
+first_below n r rest rule room broken test = first_of_bytes 2 n n (opened ∷ []) first_child [] r rest rule (opened_read IsByteItem n) (omega arith) refl room broken test

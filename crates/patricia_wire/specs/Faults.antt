@@ -1,37 +1,12 @@
--- The faults of an input, as conditions on the records that it begins with.
+-- What may be wrong with an input, as conditions on the records that it begins with, and the error
+-- that names it.
 use Rattle.std.specs.Prelude.{◌≡◌, ◌≢◌, ◌⊎◌, ℕ, ◌+◌, ◌<◌, ◌≤◌, true, false, List, [], ◌∷◌, ◌++◌, length, All, sum_by, slice_index}
 use Rattle.std.specs.declared.cmp.Ordering.TheVariants.{Less}
 use Rattle.patricia_keys.specs.Keys.{IsValid, ComparesFirst}
 use Rattle.patricia_wire.specs.Records.{Record, Encodes, EncodeAll, bit_if}
 use Rattle.patricia_wire.specs.Forests.{Root}
-
--- the named faults, in the order in which they are tried
-pub data Fault : Type 0 where
-  truncated : Fault
-  level : Fault
-  root_label : Fault
-  root_sibling : Fault
-  empty_label : Fault
-  invalid_label : Fault
-  sibling_order : Fault
-  no_value_no_child : Fault
-  too_few_values : Fault
-  trailing_bytes : Fault
-  too_many_values : Fault
-
--- their numbers: of two faults at one place the lower number comes first
-abbrev pub number : Fault → ℕ
-number truncated = 2
-number level = 3
-number root_label = 4
-number root_sibling = 5
-number empty_label = 6
-number invalid_label = 7
-number sibling_order = 8
-number no_value_no_child = 9
-number too_few_values = 10
-number trailing_bytes = 11
-number too_many_values = 12
+use Rattle.patricia_wire.specs.declared.error.DecodeError.{DecodeError}
+use Rattle.patricia_wire.specs.declared.error.DecodeError.TheVariants.{Memory, Truncated, Level, RootLabel, RootSibling, EmptyLabel, InvalidLabel, SiblingOrder, NoValueNoChild, TooFewValues, TrailingBytes, TooManyValues}
 
 -- how many of the records have a value mark
 abbrev pub value_marks : List Record → ℕ
@@ -82,50 +57,56 @@ abbrev pub IsCutShort : ℕ → List ℕ → Type 0
 IsCutShort w rest = (length rest < 2 + w) ⊎ (length rest < 2 + w + slice_index rest 1)
 
 module _ (item : List ℕ → Type 0) where
-  -- the record r, behind these records and with n values, breaks the rule that the fault names;
-  -- three faults are of no record. A label is out of order where the first item of the label before
-  -- is not less than its own; no item is less than any item
-  abbrev pub IsFaulty : List Record → Record → ℕ → Fault → Type 0
-  IsFaulty before r n truncated = ⊥
-  IsFaulty before r n level = IsDue before r.level → ⊥
-  IsFaulty before r n root_label = (before ≡ []) × (r.label ≢ [])
-  IsFaulty before r n root_sibling = (before ≡ []) × (r.sibling ≡ true)
-  IsFaulty before r n empty_label = (before ≢ []) × (r.label ≡ [])
-  IsFaulty before r n invalid_label = IsValid item r.label → ⊥
-  IsFaulty before r n sibling_order =
-      (x : Record) × IsLastUpTo before r.level x × (x.level ≡ r.level)
-      × (ComparesFirst item x.label r.label Less → ⊥)
-  IsFaulty before r n no_value_no_child =
-      (before ≢ []) × (r.value ≡ false) × (r.child ≡ false)
-  IsFaulty before r n too_few_values = n < value_marks (before ++ (r ∷ []))
-  IsFaulty before r n trailing_bytes = ⊥
-  IsFaulty before r n too_many_values = ⊥
+  -- the record r, behind these records and with n values, breaks a rule. Each rule has a number, and
+  -- an error that names it with the offset at which the record begins. Siblings fall where the first
+  -- item of the label before is not less than that of r's label; no item is less than any item
+  pub data Breaks (before : List Record) (r : Record) (n at : ℕ) : ℕ → DecodeError → Type 0 where
+    other_level : (IsDue before r.level → ⊥) → Breaks before r n at 3 (Level at)
+    labelled_root : before ≡ [] → r.label ≢ [] → Breaks before r n at 4 (RootLabel at)
+    root_of_siblings : before ≡ [] → r.sibling ≡ true → Breaks before r n at 5 (RootSibling at)
+    no_label : before ≢ [] → r.label ≡ [] → Breaks before r n at 6 (EmptyLabel at)
+    not_valid : (IsValid item r.label → ⊥) → Breaks before r n at 7 (InvalidLabel at)
+    falling :
+        (x : Record) → IsLastUpTo before r.level x → x.level ≡ r.level
+        → (ComparesFirst item x.label r.label Less → ⊥) → Breaks before r n at 8 (SiblingOrder at)
+    bare :
+        before ≢ [] → r.value ≡ false → r.child ≡ false
+        → Breaks before r n at 9 (NoValueNoChild at)
+    no_value :
+        n < value_marks (before ++ (r ∷ [])) → Breaks before r n at 10 (TooFewValues at)
 
   -- no prefix of the records is a whole tree
   abbrev pub IsUnfinished : List Record → Type 0
   IsUnfinished before =
       (P X : List Record) (E : List (List ℕ)) → before ≡ P ++ X → Root item P E → ⊥
 
-  -- the fault stands at the offset in the input b with n values: all before the offset are whole
-  -- records, and no fault but the last two stands behind a whole tree
-  pub data Stands (w : ℕ) (b : List ℕ) (n : ℕ) : Fault → ℕ → Type 0 where
+  -- the rule of this number is broken at the offset in the input b with n values, and the error
+  -- names it: all before the offset are whole records, and none but the last two rules can be
+  -- broken behind a whole tree
+  pub data Stands (w : ℕ) (b : List ℕ) (n : ℕ) : ℕ → ℕ → DecodeError → Type 0 where
     cut_short :
-        {offset : ℕ} (before : List Record) (rest : List ℕ) → Reads w b before offset rest
-        → IsUnfinished before → IsCutShort w rest → Stands w b n truncated offset
+        {at : ℕ} (before : List Record) (rest : List ℕ) → Reads w b before at rest
+        → IsUnfinished before → IsCutShort w rest → Stands w b n 2 at (Truncated at)
     in_record :
-        {f : Fault} {offset : ℕ} (before : List Record) (r : Record) (first rest : List ℕ)
-        → Reads w b before offset (first ++ rest) → IsUnfinished before → Encodes w r first
-        → IsFaulty before r n f → Stands w b n f offset
+        {number at : ℕ} {e : DecodeError} (before : List Record) (r : Record)
+        (first rest : List ℕ) → Reads w b before at (first ++ rest) → IsUnfinished before
+        → Encodes w r first → Breaks before r n at number e → Stands w b n number at e
     trailing :
-        {offset : ℕ} (R : List Record) (E : List (List ℕ)) (rest : List ℕ)
-        → Reads w b R offset rest → Root item R E → rest ≢ [] → Stands w b n trailing_bytes offset
+        {at : ℕ} (R : List Record) (E : List (List ℕ)) (rest : List ℕ) → Reads w b R at rest
+        → Root item R E → rest ≢ [] → Stands w b n 11 at (TrailingBytes at)
     too_many :
         (R : List Record) (E : List (List ℕ)) → EncodeAll w R b → Root item R E
-        → value_marks R < n → Stands w b n too_many_values (length b)
+        → value_marks R < n → Stands w b n 12 (length b) TooManyValues
 
-  -- the standing fault of least offset, then of least number
-  pub record IsFirst (w : ℕ) (b : List ℕ) (n : ℕ) (f : Fault) (offset : ℕ) : Type 0 where
-    pub stands : Stands w b n f offset
+  -- the error names the broken rule of least offset, and there of least number
+  pub record IsFirst (w : ℕ) (b : List ℕ) (n : ℕ) (e : DecodeError) : Type 0 where
+    pub number : ℕ
+    pub at : ℕ
+    pub stands : Stands w b n number at e
     pub first :
-        (g : Fault) (other : ℕ) → Stands w b n g other
-        → (offset < other) ⊎ ((offset ≡ other) × (number f ≤ number g))
+        (other place : ℕ) (f : DecodeError) → Stands w b n other place f
+        → (at < place) ⊎ ((at ≡ place) × (number ≤ other))
+
+  -- the error is out of memory, which says nothing of the input, or it names what is first wrong
+  abbrev pub IsRefusal : ℕ → List ℕ → ℕ → DecodeError → Type 0
+  IsRefusal w b n e = (e ≡ Memory) ⊎ IsFirst w b n e

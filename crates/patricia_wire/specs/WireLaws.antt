@@ -9,7 +9,9 @@ use Rattle.patricia_wire.specs.Forests.{Root}
 use Rattle.patricia_wire.specs.Writings.{Means, IsTight, Canon, TooDeep}
 use Rattle.patricia_wire.specs.Counts.{LabelsAreFronts, RecordsArePoints, AreFew}
 use Rattle.patricia_wire.specs.TreeBytes.{AreTreeBytes}
-use Rattle.patricia_wire.specs.Faults.{Fault, IsFirst, Stands}
+use Rattle.patricia_wire.specs.Faults.{IsFirst, Stands, IsRefusal}
+use Rattle.patricia_wire.specs.declared.error.DecodeError.{DecodeError}
+use Rattle.patricia_wire.specs.declared.error.DecodeError.TheVariants.{Memory}
 
 module _ (item : List ℕ → Type 0) where
   -- a set of keys has one encoding
@@ -83,41 +85,47 @@ module _ (item : List ℕ → Type 0) where
       (R : List Record) (S : List (List ℕ)) → Root item R S
       → (m : map.FinMap key_cmp (Unit {0})) × (map.keys m ≡ S) × All (IsValid item) S
 
-  -- an input has one first fault, at one offset
+  -- an input has one first fault
   abbrev pub HasOneFirstFault : Type 0
   HasOneFirstFault =
-      (w : ℕ) (b : List ℕ) (n : ℕ) (f g : Fault) (o p : ℕ)
-      → IsFirst item w b n f o → IsFirst item w b n g p → (f ≡ g) × (o ≡ p)
+      (w : ℕ) (b : List ℕ) (n : ℕ) (e f : DecodeError)
+      → IsFirst item w b n e → IsFirst item w b n f → e ≡ f
 
   -- no fault stands in bytes that mean rows with so many values
   abbrev pub HasNoFaultWhereMeant : Type 0 → Type 0
   HasNoFaultWhereMeant V =
-      (w : ℕ) (b : List ℕ) (values : List V) (M : List (List ℕ × V)) (f : Fault) (o : ℕ)
-      → Means item w b values M → Stands item w b (length values) f o → ⊥
+      (w : ℕ) (b : List ℕ) (values : List V) (M : List (List ℕ × V)) (number at : ℕ)
+      (e : DecodeError) → Means item w b values M → Stands item w b (length values) number at e → ⊥
 
   -- so such bytes and values have no first fault: an allocation failure alone refuses them
   abbrev pub HasNoFirstFaultWhereMeant : Type 0 → Type 0
   HasNoFirstFaultWhereMeant V =
-      (w : ℕ) (b : List ℕ) (values : List V) (M : List (List ℕ × V)) (f : Fault) (o : ℕ)
-      → Means item w b values M → IsFirst item w b (length values) f o → ⊥
+      (w : ℕ) (b : List ℕ) (values : List V) (M : List (List ℕ × V)) (e : DecodeError)
+      → Means item w b values M → IsFirst item w b (length values) e → ⊥
+
+  -- bytes and values that mean rows are refused by no error but that of memory
+  abbrev pub RefusesNothingMeant : Type 0 → Type 0
+  RefusesNothingMeant V =
+      (w : ℕ) (b : List ℕ) (values : List V) (M : List (List ℕ × V)) (e : DecodeError)
+      → Means item w b values M → IsRefusal item w b (length values) e → e ≡ Memory
 
   -- of each list of bytes it can be told whether it is a valid key
   abbrev pub TellsValid : Type 0
   TellsValid = (l : List ℕ) → IsValid item l ⊎ (IsValid item l → ⊥)
 
-  -- bytes and values mean rows, or one of the faults is the first to stand in them
+  -- bytes and values mean rows, or have a first fault
   abbrev pub MeansOrHasFirstFault : Type 0 → Type 0
   MeansOrHasFirstFault V =
       (w : ℕ) (b : List ℕ) (values : List V) → All (λ x. x < 256) b
       → ((M : List (List ℕ × V)) × Means item w b values M)
-      ⊎ ((f : Fault) × (o : ℕ) × IsFirst item w b (length values) f o)
+      ⊎ ((e : DecodeError) × IsFirst item w b (length values) e)
 
   -- no bytes and values are without rows and without a first fault
   abbrev pub NeverLacksBoth : Type 0 → Type 0
   NeverLacksBoth V =
       (w : ℕ) (b : List ℕ) (values : List V) → All (λ x. x < 256) b
       → ((M : List (List ℕ × V)) → Means item w b values M → ⊥)
-      → ((f : Fault) (o : ℕ) → IsFirst item w b (length values) f o → ⊥) → ⊥
+      → ((e : DecodeError) → IsFirst item w b (length values) e → ⊥) → ⊥
 
   -- the tree bytes of rows, with the values of the rows in turn, mean these rows and no others
   abbrev pub ReadsBack : Type 0 → Type 0

@@ -7,7 +7,8 @@ ghost use Rattle.patricia_model.specs.Internal.ThreeKeys.{three_keys};
 ghost use Rattle.patricia_model.specs.Points.{IsPoint};
 ghost use Rattle.patricia_wire.specs.Counts.{IsCount, IsFront};
 ghost use Rattle.patricia_wire.specs.Writings.{Canon, Means};
-ghost use Rattle.patricia_wire.specs.Faults.{Fault, IsFirst, Stands};
+ghost use Rattle.patricia_wire.specs.Faults.{IsFirst, Stands};
+ghost use Rattle.patricia_wire.specs.declared.error.DecodeError.TheVariants.{Truncated, Level, RootLabel, RootSibling, EmptyLabel, InvalidLabel, SiblingOrder, NoValueNoChild, TooFewValues, TrailingBytes, TooManyValues};
 ghost use Rattle.patricia_wire.specs.Internal.Examples.{nothing_written, three_keys_written, three_keys_written_wide, empty_key_and_a, empty_key_and_a_written, lone_key, lone_key_written};
 ghost use Rattle.patricia_wire.specs.Internal.Examples.{long_text_and_b, long_text_and_b_written, long_text_and_b_written_as_bytes};
 ghost use Rattle.patricia_wire.specs.Internal.Examples.{two_texts, two_texts_written, two_texts_written_as_bytes, long_key, long_key_written, ab, ab_in_two, ab_written, a_in_other_bits, a_written, falling_siblings};
@@ -72,63 +73,63 @@ pub fn other_bits()
 
 /// The first faults of inputs that are one record, a part of one or little more.
 pub fn short_inputs()
-    ensures empty { IsFirst IsByteItem 2 [] 0 Fault.truncated 0 }
-    ensures level { IsFirst IsByteItem 2 (0 ∷ 0 ∷ 0 ∷ 1 ∷ []) 0 Fault.level 0 }
-    ensures label { IsFirst IsByteItem 2 (2 ∷ 1 ∷ 0 ∷ 0 ∷ 97 ∷ []) 1 Fault.root_label 0 }
-    ensures sibling { IsFirst IsByteItem 2 (32 ∷ 0 ∷ 0 ∷ 0 ∷ []) 0 Fault.root_sibling 0 }
-    ensures few { IsFirst IsByteItem 2 (3 ∷ 0 ∷ 0 ∷ 0 ∷ []) 0 Fault.too_few_values 0 }
-    ensures trailing { IsFirst IsByteItem 2 (0 ∷ 0 ∷ 0 ∷ 0 ∷ 0 ∷ []) 0 Fault.trailing_bytes 4 }
-    ensures many { IsFirst IsByteItem 2 (0 ∷ 0 ∷ 0 ∷ 0 ∷ []) 1 Fault.too_many_values 4 }
+    ensures empty { IsFirst IsByteItem 2 [] 0 (Truncated 0) }
+    ensures level { IsFirst IsByteItem 2 (0 ∷ 0 ∷ 0 ∷ 1 ∷ []) 0 (Level 0) }
+    ensures label { IsFirst IsByteItem 2 (2 ∷ 1 ∷ 0 ∷ 0 ∷ 97 ∷ []) 1 (RootLabel 0) }
+    ensures sibling { IsFirst IsByteItem 2 (32 ∷ 0 ∷ 0 ∷ 0 ∷ []) 0 (RootSibling 0) }
+    ensures few { IsFirst IsByteItem 2 (3 ∷ 0 ∷ 0 ∷ 0 ∷ []) 0 (TooFewValues 0) }
+    ensures trailing { IsFirst IsByteItem 2 (0 ∷ 0 ∷ 0 ∷ 0 ∷ 0 ∷ []) 0 (TrailingBytes 4) }
+    ensures many { IsFirst IsByteItem 2 (0 ∷ 0 ∷ 0 ∷ 0 ∷ []) 1 TooManyValues }
 {}
 
 /// Behind a root with a child the input ends at once, or within a label.
 pub fn cut_inputs()
-    ensures at_once { IsFirst IsByteItem 2 (behind_root []) 0 Fault.truncated 4 }
-    ensures in_label { IsFirst IsByteItem 2 (behind_root (3 ∷ 2 ∷ 0 ∷ 1 ∷ 97 ∷ [])) 1 Fault.truncated 4 }
+    ensures at_once { IsFirst IsByteItem 2 (behind_root []) 0 (Truncated 4) }
+    ensures in_label { IsFirst IsByteItem 2 (behind_root (3 ∷ 2 ∷ 0 ∷ 1 ∷ 97 ∷ [])) 1 (Truncated 4) }
 {}
 
 /// A child lies one level below its parent.
 pub fn skipped_level()
-    ensures { IsFirst IsByteItem 2 (behind_root (3 ∷ 1 ∷ 0 ∷ 2 ∷ 97 ∷ [])) 1 Fault.level 4 }
+    ensures { IsFirst IsByteItem 2 (behind_root (3 ∷ 1 ∷ 0 ∷ 2 ∷ 97 ∷ [])) 1 (Level 4) }
 {}
 
 /// Only the root has an empty label.
 pub fn empty_label()
-    ensures { IsFirst IsByteItem 2 (behind_root (0 ∷ 0 ∷ 0 ∷ 1 ∷ [])) 0 Fault.empty_label 4 }
+    ensures { IsFirst IsByteItem 2 (behind_root (0 ∷ 0 ∷ 0 ∷ 1 ∷ [])) 0 (EmptyLabel 4) }
 {}
 
 /// Half a character is no label of a text, and it is one of a byte string.
 pub fn cut_character()
-    ensures texts { IsFirst IsTextItem 2 half_written 1 Fault.invalid_label 4 }
+    ensures texts { IsFirst IsTextItem 2 half_written 1 (InvalidLabel 4) }
     ensures bytes { Canon IsByteItem 2 half_written ((240 ∷ 159 ∷ []) ∷ []) }
 {}
 
 /// Siblings that fall, b and then a, are out of order at the second.
 pub fn sibling_order()
-    ensures { IsFirst IsByteItem 2 falling_siblings 2 Fault.sibling_order 9 }
+    ensures { IsFirst IsByteItem 2 falling_siblings 2 (SiblingOrder 9) }
 {}
 
 /// Only the root may have neither a value nor a child.
 pub fn bare_leaf()
-    ensures { IsFirst IsByteItem 2 (behind_root (0 ∷ 1 ∷ 0 ∷ 1 ∷ 97 ∷ [])) 0 Fault.no_value_no_child 4 }
+    ensures { IsFirst IsByteItem 2 (behind_root (0 ∷ 1 ∷ 0 ∷ 1 ∷ 97 ∷ [])) 0 (NoValueNoChild 4) }
 {}
 
 /// A value mark takes a value.
 pub fn missing_value()
-    ensures { IsFirst IsByteItem 2 (behind_root (3 ∷ 1 ∷ 0 ∷ 1 ∷ 97 ∷ [])) 0 Fault.too_few_values 4 }
+    ensures { IsFirst IsByteItem 2 (behind_root (3 ∷ 1 ∷ 0 ∷ 1 ∷ 97 ∷ [])) 0 (TooFewValues 4) }
 {}
 
 /// Of two faults at one place the lower number comes first: a wrong level before an empty label, the
 /// root's label before its sibling, and bytes left before values left.
 pub fn two_faults()
-    ensures level { IsFirst IsByteItem 2 (behind_root (0 ∷ 0 ∷ 0 ∷ 2 ∷ [])) 0 Fault.level 4 }
-    ensures label { IsFirst IsByteItem 2 (32 ∷ 1 ∷ 0 ∷ 0 ∷ 97 ∷ []) 0 Fault.root_label 0 }
-    ensures trailing { IsFirst IsByteItem 2 (0 ∷ 0 ∷ 0 ∷ 0 ∷ 0 ∷ []) 1 Fault.trailing_bytes 4 }
+    ensures level { IsFirst IsByteItem 2 (behind_root (0 ∷ 0 ∷ 0 ∷ 2 ∷ [])) 0 (Level 4) }
+    ensures label { IsFirst IsByteItem 2 (32 ∷ 1 ∷ 0 ∷ 0 ∷ 97 ∷ []) 0 (RootLabel 0) }
+    ensures trailing { IsFirst IsByteItem 2 (0 ∷ 0 ∷ 0 ∷ 0 ∷ 0 ∷ []) 1 (TrailingBytes 4) }
 {}
 
 /// Of faults at two places the earlier comes first, whatever their numbers: here a record has an
 /// empty label, and the one behind it a wrong level.
 pub fn later_fault()
-    ensures first { IsFirst IsByteItem 2 hollow_then_deep 1 Fault.empty_label 4 }
-    ensures later { Stands IsByteItem 2 hollow_then_deep 1 Fault.level 8 }
+    ensures first { IsFirst IsByteItem 2 hollow_then_deep 1 (EmptyLabel 4) }
+    ensures later { Stands IsByteItem 2 hollow_then_deep 1 3 8 (Level 8) }
 {}

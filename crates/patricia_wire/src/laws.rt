@@ -4,7 +4,7 @@ ghost use Rattle.patricia_keys.specs.ByteKind.{IsByteItem};
 ghost use Rattle.patricia_keys.specs.TextKind.{IsTextItem};
 ghost use Rattle.patricia_wire.specs.WireLaws.{HasOneWriting, HasOneKeySet, HasOneMeaning, MeansMap, WritingMeansRows, IsWrittenOrTooDeep, IsNeverBoth};
 ghost use Rattle.patricia_wire.specs.WireLaws.{CountsFronts, CountsPoints, HasFewRecords, HasOneTightTree, HasOneKeyList, HoldsKeysOfMap};
-ghost use Rattle.patricia_wire.specs.WireLaws.{HasOneFirstFault, HasNoFaultWhereMeant, HasNoFirstFaultWhereMeant};
+ghost use Rattle.patricia_wire.specs.WireLaws.{HasOneFirstFault, HasNoFaultWhereMeant, HasNoFirstFaultWhereMeant, RefusesNothingMeant};
 ghost use Rattle.patricia_wire.specs.WireLaws.{TellsValid, MeansOrHasFirstFault, NeverLacksBoth};
 ghost use Rattle.patricia_wire.specs.WireLaws.{ReadsBack, TellsKeySets, DependsOnKeysAlone};
 
@@ -80,10 +80,14 @@ pub fn tree_bytes_read_back<K: Bytes, V>()
     ensures { ReadsBack K.item V }
 {}
 
-/// Bytes and values that mean rows have no first fault, so decoding them is refused for want of
-/// memory alone.
+/// Bytes and values that mean rows have no first fault.
 pub fn meant_is_never_faulty<K: Bytes, V>()
     ensures { HasNoFirstFaultWhereMeant K.item V }
+{}
+
+/// Bytes and values that mean rows are refused where memory runs out, and by no other error.
+pub fn meant_is_never_refused<K: Bytes, V>()
+    ensures { RefusesNothingMeant K.item V }
 {}
 
 /// Whatever bytes and values are given, they mean rows or have a first fault: none lack both. Where

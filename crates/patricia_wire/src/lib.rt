@@ -4,6 +4,9 @@
 //! `patricia_tree` is the library to use. It depends on this crate.
 #![tactic(auto)]
 
+pub mod error;
 pub mod examples;
 pub mod laws;
 pub mod rows;
+
+pub use error::DecodeError;

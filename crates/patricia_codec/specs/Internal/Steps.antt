@@ -5,12 +5,11 @@ use Rattle.patricia_keys.specs.Keys.{IsValid, ComparesFirst}
 use Rattle.patricia_model.specs.Siblings.{IsBefore}
 use Rattle.patricia_wire.specs.Records.{Record, Encodes}
 use Rattle.patricia_wire.specs.Forests.{Root}
-use Rattle.patricia_wire.specs.Faults.{Fault, number, truncated, level, root_label, root_sibling, empty_label, invalid_label, sibling_order, no_value_no_child, too_few_values, trailing_bytes, too_many_values, value_marks, Reads}
-use Rattle.patricia_wire.specs.Internal.Readings.{Due, child_due, sibling_due, due_behind, IsRead, Breaks}
-use Rattle.patricia_codec.specs.declared.error.DecodeError.{DecodeError}
-use Rattle.patricia_codec.specs.declared.error.DecodeError.TheVariants.{Memory, Truncated, Level, RootLabel, RootSibling, EmptyLabel, InvalidLabel, SiblingOrder, NoValueNoChild, TooFewValues, TrailingBytes, TooManyValues}
+use Rattle.patricia_wire.specs.Faults.{value_marks, Reads, IsRefusal}
+use Rattle.patricia_wire.specs.Internal.Readings.{Rule, error_at, Due, child_due, sibling_due, due_behind, IsRead, IsAfter, BreaksNone, BreaksFirst}
+use Rattle.patricia_wire.specs.declared.error.DecodeError.{DecodeError}
+use Rattle.patricia_wire.specs.declared.error.DecodeError.TheVariants.{InvalidLabel, SiblingOrder}
 use Rattle.patricia_codec.specs.declared.reader.Reader.{Reader}
-use Rattle.patricia_codec.specs.Refusals.{IsRefusal}
 
 -- the bytes begin with the spelling of the record
 pub record Fronts (r : Record) (bytes : List ℕ) : Type 0 where
@@ -18,21 +17,6 @@ pub record Fronts (r : Record) (bytes : List ℕ) : Type 0 where
   pub rest : List ℕ
   pub spelled : Encodes 2 r first
   pub joined : bytes ≡ first ++ rest
-
--- the fault that an error names, and its offset in bytes of this length; out of memory names none
-abbrev pub named : ℕ → DecodeError → Option (Fault × ℕ)
-named end Memory = None
-named end (Truncated at) = Some (truncated, at)
-named end (Level at) = Some (level, at)
-named end (RootLabel at) = Some (root_label, at)
-named end (RootSibling at) = Some (root_sibling, at)
-named end (EmptyLabel at) = Some (empty_label, at)
-named end (InvalidLabel at) = Some (invalid_label, at)
-named end (SiblingOrder at) = Some (sibling_order, at)
-named end (NoValueNoChild at) = Some (no_value_no_child, at)
-named end (TooFewValues at) = Some (too_few_values, at)
-named end (TrailingBytes at) = Some (trailing_bytes, at)
-named end TooManyValues = Some (too_many_values, end)
 
 -- what is due behind a record, the next last
 abbrev pub sibling_then_child : Record → List Due
@@ -44,10 +28,6 @@ pub record IsReaderStart (p : Reader) : Type 0 where
   pub due : p.due.items ≡ (record { level = 0; after = None }) ∷ []
 
 module _ (item : List ℕ → Type 0) where
-  -- a label that is waited behind is valid and not empty, and not the root's
-  abbrev pub IsAfter : Due → Type 0
-  IsAfter due = (l : List ℕ) → due.after ≡ Some l → IsValid item l × (l ≢ []) × (due.level ≢ 0)
-
   -- the first item of the sibling before is not less than that of a sibling's label
   abbrev pub IsOutOfOrder : Due → List ℕ → Type 0
   IsOutOfOrder due label =
@@ -57,20 +37,11 @@ module _ (item : List ℕ → Type 0) where
   abbrev pub IsInOrder : Due → List ℕ → Type 0
   IsInOrder due label = (l : List ℕ) → due.after ≡ Some l → IsBefore item l label
 
-  -- the record breaks no rule
-  abbrev pub BreaksNone : Due → ℕ → Record → Type 0
-  BreaksNone due left r = (f : Fault) → Breaks item due left r f → ⊥
-
-  -- the record breaks no rule whose fault has a lower number
-  abbrev pub BreaksNoneBelow : Due → ℕ → Record → ℕ → Type 0
-  BreaksNoneBelow due left r n = (f : Fault) → number f < n → Breaks item due left r f → ⊥
-
   -- the error names the first rule that the record breaks
-  pub record BreaksFirst (due : Due) (left : ℕ) (r : Record) (offset : ℕ) (e : DecodeError) : Type 0 where
-    pub fault : Fault
-    pub names : (end : ℕ) → named end e ≡ Some (fault, offset)
-    pub breaks : Breaks item due left r fault
-    pub first : BreaksNoneBelow due left r (number fault)
+  pub record NamesFirst (due : Due) (left : ℕ) (r : Record) (offset : ℕ) (e : DecodeError) : Type 0 where
+    pub rule : Rule
+    pub names : e ≡ error_at offset rule
+    pub broken : BreaksFirst item due left r rule
 
   -- a label is valid and in order; or the error names which of the two it is not
   abbrev pub KeepsLabel : Due → List ℕ → Type 0
@@ -82,8 +53,8 @@ module _ (item : List ℕ → Type 0) where
       ⊎ ((e ≡ SiblingOrder offset) × IsValid item label × IsOutOfOrder due label)
 
   -- the record keeps all rules
-  pub record KeepsRules (due : Due) (left : ℕ) (r : Record) : Type 0 where
-    pub rules : BreaksNone due left r
+  pub record IsAccepted (due : Due) (left : ℕ) (r : Record) : Type 0 where
+    pub rules : BreaksNone item due left r
     pub label : KeepsLabel due r.label
 
   -- these records are read, and these are due, the next first
@@ -91,7 +62,7 @@ module _ (item : List ℕ → Type 0) where
     pub read : IsRead item n before due
     pub reads : Reads 2 p.bytes.now before p.offset (drop p.offset p.bytes.now)
     pub due_is : reverse p.due.items ≡ due
-    pub after : All IsAfter due
+    pub after : All (IsAfter item) due
 
   -- some records are read, and so many values are left
   pub record HasRead (p : Reader) (left : ℕ) : Type 0 where
@@ -107,7 +78,7 @@ module _ (item : List ℕ → Type 0) where
     pub fits : length r.label ≤ 255
     pub reading :
         (n : ℕ) (before : List Record) (due : List Due) → IsReading n old before due → left + value_marks before ≡ n
-        → (next : Due) × (waiting : List Due) × (due ≡ next ∷ waiting) × KeepsRules next left r
+        → (next : Due) × (waiting : List Due) × (due ≡ next ∷ waiting) × IsAccepted next left r
         × IsReading n new (before ++ (r ∷ [])) (due_behind r ++ waiting)
 
   -- nothing is due, whatever was read

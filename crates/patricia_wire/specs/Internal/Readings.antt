@@ -1,9 +1,43 @@
 -- What is due while records are read one after the other.
-use Rattle.std.specs.Prelude.{◌≡◌, ◌≢◌, ℕ, ◌+◌, Bool, true, false, List, [], ◌∷◌, ◌++◌, Option, Some, None}
+use Rattle.std.specs.Prelude.{◌≡◌, ◌≢◌, ℕ, ◌+◌, ◌<◌, Bool, true, false, List, [], ◌∷◌, ◌++◌, Option, Some, None}
 use Rattle.std.specs.declared.cmp.Ordering.TheVariants.{Less}
 use Rattle.patricia_keys.specs.Keys.{IsValid, ComparesFirst}
 use Rattle.patricia_wire.specs.Records.{Record}
-use Rattle.patricia_wire.specs.Faults.{Fault, truncated, level, root_label, root_sibling, empty_label, invalid_label, sibling_order, no_value_no_child, too_few_values, trailing_bytes, too_many_values, IsFaulty}
+use Rattle.patricia_wire.specs.Faults as faults
+use Rattle.patricia_wire.specs.declared.error.DecodeError.{DecodeError}
+use Rattle.patricia_wire.specs.declared.error.DecodeError.TheVariants.{Level, RootLabel, RootSibling, EmptyLabel, InvalidLabel, SiblingOrder, NoValueNoChild, TooFewValues}
+
+-- the rules of a record, in the order in which they are tried
+pub data Rule : Type 0 where
+  level : Rule
+  root_label : Rule
+  root_sibling : Rule
+  empty_label : Rule
+  invalid_label : Rule
+  sibling_order : Rule
+  no_value_no_child : Rule
+  too_few_values : Rule
+
+abbrev pub number : Rule → ℕ
+number level = 3
+number root_label = 4
+number root_sibling = 5
+number empty_label = 6
+number invalid_label = 7
+number sibling_order = 8
+number no_value_no_child = 9
+number too_few_values = 10
+
+-- the error that names the rule, where the record begins at the offset
+abbrev pub error_at : ℕ → Rule → DecodeError
+error_at at level = Level at
+error_at at root_label = RootLabel at
+error_at at root_sibling = RootSibling at
+error_at at empty_label = EmptyLabel at
+error_at at invalid_label = InvalidLabel at
+error_at at sibling_order = SiblingOrder at
+error_at at no_value_no_child = NoValueNoChild at
+error_at at too_few_values = TooFewValues at
 
 -- a record that is due: its level, and the label of the sibling before it, if there is one
 pub record Due : Type 0 where
@@ -26,18 +60,26 @@ abbrev pub due_behind : Record → List Due
 due_behind r = child_due r ++ sibling_due r
 
 module _ (item : List ℕ → Type 0) where
-  -- these records were read without a fault, with n values; this is due behind them, the next first
+  -- behind these records, and with n values, the record breaks no rule
+  abbrev pub IsFaultless : List Record → Record → ℕ → Type 0
+  IsFaultless before r n =
+      (at k : ℕ) (e : DecodeError) → faults.Breaks item before r n at k e → ⊥
+
+  -- these records were read, and none broke a rule; this is due behind them, the next first
   pub data IsRead (n : ℕ) : List Record → List Due → Type 0 where
     nothing : IsRead n [] (record { level = 0; after = None } ∷ [])
     one_more :
         (before : List Record) (r : Record) (due : Due) (waiting : List Due)
-        → IsRead n before (due ∷ waiting) → ((f : Fault) → IsFaulty item before r n f → ⊥)
+        → IsRead n before (due ∷ waiting) → IsFaultless before r n
         → IsRead n (before ++ (r ∷ [])) (due_behind r ++ waiting)
 
-  -- the record breaks the rule that the fault names, by what is due, where so many values are left;
-  -- the record that is due at level 0 is the root
-  abbrev pub Breaks : Due → ℕ → Record → Fault → Type 0
-  Breaks due left r truncated = ⊥
+  -- a label that is waited behind is valid and not empty, and not the root's
+  abbrev pub IsAfter : Due → Type 0
+  IsAfter due = (l : List ℕ) → due.after ≡ Some l → IsValid item l × (l ≢ []) × (due.level ≢ 0)
+
+  -- the record breaks the rule, by what is due, where so many values are left; the record that is due
+  -- at level 0 is the root
+  abbrev pub Breaks : Due → ℕ → Record → Rule → Type 0
   Breaks due left r level = r.level ≢ due.level
   Breaks due left r root_label = (due.level ≡ 0) × (r.label ≢ [])
   Breaks due left r root_sibling = (due.level ≡ 0) × (r.sibling ≡ true)
@@ -48,5 +90,14 @@ module _ (item : List ℕ → Type 0) where
   Breaks due left r no_value_no_child =
       (due.level ≢ 0) × (r.value ≡ false) × (r.child ≡ false)
   Breaks due left r too_few_values = (r.value ≡ true) × (left ≡ 0)
-  Breaks due left r trailing_bytes = ⊥
-  Breaks due left r too_many_values = ⊥
+
+  -- the record breaks no rule, and none whose number is below another
+  abbrev pub BreaksNone : Due → ℕ → Record → Type 0
+  BreaksNone due left r = (rule : Rule) → Breaks due left r rule → ⊥
+
+  abbrev pub BreaksNoneBelow : Due → ℕ → Record → ℕ → Type 0
+  BreaksNoneBelow due left r k = (rule : Rule) → number rule < k → Breaks due left r rule → ⊥
+
+  -- the record breaks the rule, and none before it
+  abbrev pub BreaksFirst : Due → ℕ → Record → Rule → Type 0
+  BreaksFirst due left r rule = Breaks due left r rule × BreaksNoneBelow due left r (number rule)

@@ -3,13 +3,11 @@ use Rattle.std.proofs.lemmas.Grind.{common_steps}
 use Rattle.std.specs.Option.{option_to_list}
 use Rattle.std.specs.Vec.Iter.{into_iter_items, into_iter_len}
 use Rattle.patricia_wire.specs.Records.{Record}
-use Rattle.patricia_wire.specs.Faults.{too_few_values}
-use Rattle.patricia_wire.specs.Internal.Readings.{due_behind, IsRead}
+use Rattle.patricia_wire.specs.Internal.Readings.{too_few_values, due_behind, IsRead}
 use Rattle.patricia_codec.specs.Internal.Builds.{IsBuilt}
-use Rattle.patricia_codec.specs.Refusals.{IsRefusal}
+use Rattle.patricia_wire.specs.Faults.{IsRefusal}
 use Rattle.patricia_codec.proofs.CheckLemmas.{handed_on}
-use Rattle.patricia_codec.proofs.DecodeLemmas.{finished, all_taken, Takes, takes_some, takes_none, some_left, started, new_built, can_add, suited, counted, split_on, marks_on, left_on}
-use Rattle.patricia_codec.proofs.EndLemmas.{grown, grown_tree}
+use Rattle.patricia_codec.proofs.DecodeLemmas.{read_all, tree_of_all, decoded, Takes, takes_some, takes_none, some_left, started, new_built, can_add, suited, counted, split_on, marks_on, left_on}
 use Rattle.patricia_codec.proofs.decoder.decode.Goals as goal
 use Rattle.patricia_codec.proofs.decoder.decode.Goals.{then-record, else-record}
 
@@ -81,18 +79,18 @@ pub finish-requires : goal.finish-requires
 finish-requires g c =
     let inv = c.loop-builder.invariant in
     let ends = rw c.in_default.is at c.in_ok-record.ensures.ok in
-    let on = ends _ inv.before inv.due inv.reading in
-    record { n = _; before = inv.before; due = []; reading = on.1; counted = counted _ inv.taken _ inv.before c.len-2.result inv.split inv.marks (c.len-2.ensures ∙ inv.left) }
+    let reading = read_all g.K.Bytes.item c.loop-builder.builder _ _ _ inv.before inv.due inv.taken inv.reading inv.built ends in
+    record { n = _; before = inv.before; due = []; reading = reading; counted = counted _ inv.taken _ inv.before c.len-2.result inv.split inv.marks (c.len-2.ensures ∙ inv.left) }
 
 pub returns-in_err-finish-clause-first_fault : goal.returns-in_err-finish-clause-first_fault
 returns-in_err-finish-clause-first_fault g c =
     let inv = c.loop-builder.invariant in
     let ends = rw c.in_default.is at c.in_ok-record.ensures.ok in
-    let on = ends _ inv.before inv.due inv.reading in
-    let tree = grown g.K.Bytes.item c.loop-builder.builder inv.before inv.taken (subst (λ l. IsBuilt g.K.Bytes.item c.loop-builder.builder inv.before l inv.taken) on.0 inv.built) in
     let bytes = ap (λ b. b.now) (c.in_ok-record.ensures.bytes ∙ inv.bytes) ∙ c.in_ok-reader.ensures.bytes in
     let count = counted _ inv.taken _ inv.before c.len-2.result inv.split inv.marks (c.len-2.ensures ∙ inv.left) in
-    let refused = c.in_err-finish.ensures.refused _ inv.before _ on.1 count (grown_tree g.K.Bytes.item _ _ _ _ _ _ _ tree) in
+    let reading = read_all g.K.Bytes.item c.loop-builder.builder _ _ _ inv.before inv.due inv.taken inv.reading inv.built ends in
+    let tree = tree_of_all g.K.Bytes.item c.loop-builder.builder _ _ _ inv.before inv.due inv.taken inv.reading inv.built ends in
+    let refused = c.in_err-finish.ensures.refused _ inv.before tree.0 reading count tree.1 in
     handed_on (λ e. IsRefusal g.K.Bytes.item 2 c.args.bytes.now (length c.args.values.items) e) c.from_residual-in_err-finish.result c.in_err-finish.field-0.0 c.from_residual-in_err-finish.ensures.1
     (subst (λ b. IsRefusal g.K.Bytes.item 2 b (length c.args.values.items) c.in_err-finish.field-0.0) bytes
     (subst (λ l. IsRefusal g.K.Bytes.item 2 c.next.new.self.bytes.now (length l) c.in_err-finish.field-0.0) c.into_iter-values.ensures.rest refused))
@@ -101,37 +99,31 @@ pub returns-clause-whole : goal.returns-clause-whole
 returns-clause-whole g c =
     let inv = c.loop-builder.invariant in
     let ends = rw c.in_default.is at c.in_ok-record.ensures.ok in
-    let on = ends _ inv.before inv.due inv.reading in
-    let tree = grown g.K.Bytes.item c.loop-builder.builder inv.before inv.taken (subst (λ l. IsBuilt g.K.Bytes.item c.loop-builder.builder inv.before l inv.taken) on.0 inv.built) in
     let bytes = ap (λ b. b.now) (c.in_ok-record.ensures.bytes ∙ inv.bytes) ∙ c.in_ok-reader.ensures.bytes in
-    let over = c.in_ok-finish.ensures.whole in
-    let values = sym c.into_iter-values.ensures.rest ∙ all_taken _ inv.taken _ c.len-2.result inv.split (c.len-2.ensures ∙ inv.left) over.1 in
-    let finish = finished g.K.Bytes.item g.met.K.Bytes.lawful c.next.new.self _ inv.before on.1 over.0 c.args.bytes.now bytes (record { nodes = c.loop-builder.builder.nodes; root = c.loop-builder.builder.root; free = c.none.result }) c.loop-builder.builder.value inv.taken c.args.values.items tree c.none.ensures values in
-    finish.whole
+    let split = sym c.into_iter-values.ensures.rest ∙ inv.split in
+    let done = decoded g.K.Bytes.item c.loop-builder.builder _ _ _ inv.before inv.due inv.taken inv.reading inv.built ends
+        g.met.K.Bytes.lawful _ bytes _ _ c.len-2.result split (c.len-2.ensures ∙ inv.left) c.in_ok-finish.ensures.whole c.none.result c.none.ensures in
+    done.whole
 
 pub returns-clause-row : goal.returns-clause-row
 returns-clause-row g c =
     let inv = c.loop-builder.invariant in
     let ends = rw c.in_default.is at c.in_ok-record.ensures.ok in
-    let on = ends _ inv.before inv.due inv.reading in
-    let tree = grown g.K.Bytes.item c.loop-builder.builder inv.before inv.taken (subst (λ l. IsBuilt g.K.Bytes.item c.loop-builder.builder inv.before l inv.taken) on.0 inv.built) in
     let bytes = ap (λ b. b.now) (c.in_ok-record.ensures.bytes ∙ inv.bytes) ∙ c.in_ok-reader.ensures.bytes in
-    let over = c.in_ok-finish.ensures.whole in
-    let values = sym c.into_iter-values.ensures.rest ∙ all_taken _ inv.taken _ c.len-2.result inv.split (c.len-2.ensures ∙ inv.left) over.1 in
-    let finish = finished g.K.Bytes.item g.met.K.Bytes.lawful c.next.new.self _ inv.before on.1 over.0 c.args.bytes.now bytes (record { nodes = c.loop-builder.builder.nodes; root = c.loop-builder.builder.root; free = c.none.result }) c.loop-builder.builder.value inv.taken c.args.values.items tree c.none.ensures values in
-    finish.canonical
+    let split = sym c.into_iter-values.ensures.rest ∙ inv.split in
+    let done = decoded g.K.Bytes.item c.loop-builder.builder _ _ _ inv.before inv.due inv.taken inv.reading inv.built ends
+        g.met.K.Bytes.lawful _ bytes _ _ c.len-2.result split (c.len-2.ensures ∙ inv.left) c.in_ok-finish.ensures.whole c.none.result c.none.ensures in
+    done.canonical
 
 pub returns-clause-means : goal.returns-clause-means
 returns-clause-means g c =
     let inv = c.loop-builder.invariant in
     let ends = rw c.in_default.is at c.in_ok-record.ensures.ok in
-    let on = ends _ inv.before inv.due inv.reading in
-    let tree = grown g.K.Bytes.item c.loop-builder.builder inv.before inv.taken (subst (λ l. IsBuilt g.K.Bytes.item c.loop-builder.builder inv.before l inv.taken) on.0 inv.built) in
     let bytes = ap (λ b. b.now) (c.in_ok-record.ensures.bytes ∙ inv.bytes) ∙ c.in_ok-reader.ensures.bytes in
-    let over = c.in_ok-finish.ensures.whole in
-    let values = sym c.into_iter-values.ensures.rest ∙ all_taken _ inv.taken _ c.len-2.result inv.split (c.len-2.ensures ∙ inv.left) over.1 in
-    let finish = finished g.K.Bytes.item g.met.K.Bytes.lawful c.next.new.self _ inv.before on.1 over.0 c.args.bytes.now bytes (record { nodes = c.loop-builder.builder.nodes; root = c.loop-builder.builder.root; free = c.none.result }) c.loop-builder.builder.value inv.taken c.args.values.items tree c.none.ensures values in
-    finish.means
+    let split = sym c.into_iter-values.ensures.rest ∙ inv.split in
+    let done = decoded g.K.Bytes.item c.loop-builder.builder _ _ _ inv.before inv.due inv.taken inv.reading inv.built ends
+        g.met.K.Bytes.lawful _ bytes _ _ c.len-2.result split (c.len-2.ensures ∙ inv.left) c.in_ok-finish.ensures.whole c.none.result c.none.ensures in
+    done.means
 
 pub loop-builder-smaller : goal.loop-builder-smaller
 loop-builder-smaller g c = grind (arith, common_steps)

@@ -1,6 +1,6 @@
 use Rattle.std.proofs.Common.{[], ◌∷◌, false, refl}
 use Rattle.patricia_wire.specs.Records.{Record}
-use Rattle.patricia_wire.specs.Faults.{no_value_no_child}
+use Rattle.patricia_wire.specs.Internal.Readings.{no_value_no_child}
 use Rattle.patricia_wire.proofs.TestedReadings.{first_below}
 use Rattle.patricia_wire.proofs.examples.bare_leaf.Goals as goal
 

@@ -4,7 +4,7 @@ use Rattle.patricia_keys.specs.TextKind.{IsTextItem}
 use Rattle.patricia_keys.proofs.TextLemmas.{first_tells, text_first}
 use Rattle.patricia_model.specs.Siblings.{end, node}
 use Rattle.patricia_wire.specs.Records.{Record}
-use Rattle.patricia_wire.specs.Faults.{invalid_label}
+use Rattle.patricia_wire.specs.Internal.Readings.{invalid_label}
 use Rattle.patricia_wire.proofs.Spellings.{clean_spells}
 use Rattle.patricia_wire.proofs.TestedReadings.{opened, opened_read, first_child, no_tests, reads_clean, first_broken}
 use Rattle.patricia_wire.proofs.TestedRows.{byte_room, byte_written}

@@ -1,6 +1,6 @@
 use Rattle.std.proofs.Common.{[], false, refl}
 use Rattle.patricia_wire.specs.Records.{Record}
-use Rattle.patricia_wire.specs.Faults.{empty_label}
+use Rattle.patricia_wire.specs.Internal.Readings.{empty_label}
 use Rattle.patricia_wire.proofs.TestedReadings.{first_below}
 use Rattle.patricia_wire.proofs.examples.empty_label.Goals as goal
 

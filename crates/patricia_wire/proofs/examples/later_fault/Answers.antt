@@ -3,7 +3,8 @@ use Rattle.patricia_keys.specs.ByteKind.{IsByteItem}
 use Rattle.patricia_model.specs.Siblings.{end}
 use Rattle.patricia_wire.specs.Records.{Record}
 use Rattle.patricia_wire.specs.Forests.{Root}
-use Rattle.patricia_wire.specs.Faults.{empty_label, IsUnfinished, IsDue, below, in_record}
+use Rattle.patricia_wire.specs.Internal.Readings.{empty_label}
+use Rattle.patricia_wire.specs.Faults.{IsUnfinished, IsDue, below, in_record, other_level}
 use Rattle.patricia_wire.proofs.Places.{low_head}
 use Rattle.patricia_wire.proofs.Readings.{back_split, one_due, unfinished}
 use Rattle.patricia_wire.proofs.RowTrees.{stands_tree}
@@ -43,4 +44,4 @@ returns-clause-first c = first_below 1 hollow (3 ∷ 1 ∷ 0 ∷ 5 ∷ 97 ∷ []
 pub returns-clause-later : goal.returns-clause-later
 returns-clause-later c =
     in_record (opened ∷ hollow ∷ []) deep (3 ∷ 1 ∷ 0 ∷ 5 ∷ 97 ∷ []) []
-    (reads_clean 2 (opened ∷ hollow ∷ []) (3 ∷ 1 ∷ 0 ∷ 5 ∷ 97 ∷ []) refl) begun (clean_spells 2 deep (byte_room 2 deep refl)) not_due
+    (reads_clean 2 (opened ∷ hollow ∷ []) (3 ∷ 1 ∷ 0 ∷ 5 ∷ 97 ∷ []) refl) begun (clean_spells 2 deep (byte_room 2 deep refl)) (other_level not_due)

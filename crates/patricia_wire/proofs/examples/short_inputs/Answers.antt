@@ -2,8 +2,7 @@ use Rattle.std.proofs.Common.{ℕ, Bool, true, false, [], ◌∷◌, None, inl, 
 use Rattle.patricia_keys.specs.ByteKind.{IsByteItem}
 use Rattle.patricia_wire.specs.Records.{Record, Encodes}
 use Rattle.patricia_wire.specs.Forests.{Root}
-use Rattle.patricia_wire.specs.Internal.Readings.{IsRead, nothing}
-use Rattle.patricia_wire.specs.Faults.{level, root_label, root_sibling, too_few_values}
+use Rattle.patricia_wire.specs.Internal.Readings.{IsRead, nothing, level, root_label, root_sibling, too_few_values}
 use Rattle.patricia_model.specs.Siblings.{end}
 use Rattle.patricia_wire.proofs.ReadingsFirst.{first_cut_short, first_trailing, first_too_many}
 use Rattle.patricia_wire.proofs.RowTrees.{Nothing, tree_of}

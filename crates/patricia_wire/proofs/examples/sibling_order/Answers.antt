@@ -6,8 +6,7 @@ use Rattle.patricia_keys.specs.Internal.ByteLaw.{byte_lawful}
 use Rattle.patricia_keys.proofs.KeyLemmas.{begins_same}
 use Rattle.patricia_model.proofs.GetLemmas.{compared_less}
 use Rattle.patricia_wire.specs.Records.{Record}
-use Rattle.patricia_wire.specs.Internal.Readings.{Due, IsRead}
-use Rattle.patricia_wire.specs.Faults.{Fault}
+use Rattle.patricia_wire.specs.Internal.Readings.{Rule, Due, IsRead}
 use Rattle.patricia_wire.proofs.TestedReadings.{opened, opened_read, first_child, byte_tests, read_one, first_of_bytes}
 use Rattle.patricia_wire.proofs.examples.sibling_order.Goals as goal
 
@@ -33,4 +32,4 @@ not_before compared =
     cc
 
 pub returns : goal.returns
-returns c = first_of_bytes 2 2 1 (opened ∷ b ∷ []) behind_b [] a [] Fault.sibling_order read refl refl refl (98 ∷ [], refl, not_before) refl
+returns c = first_of_bytes 2 2 1 (opened ∷ b ∷ []) behind_b [] a [] Rule.sibling_order read refl refl refl (98 ∷ [], refl, not_before) refl

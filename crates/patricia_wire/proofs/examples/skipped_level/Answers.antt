@@ -1,6 +1,6 @@
 use Rattle.std.proofs.Common.{[], ◌∷◌, true, false, refl}
 use Rattle.patricia_wire.specs.Records.{Record}
-use Rattle.patricia_wire.specs.Faults.{level}
+use Rattle.patricia_wire.specs.Internal.Readings.{level}
 use Rattle.patricia_wire.proofs.TestedReadings.{first_below}
 use Rattle.patricia_wire.proofs.examples.skipped_level.Goals as goal
 

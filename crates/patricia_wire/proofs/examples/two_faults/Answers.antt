@@ -2,8 +2,7 @@ use Rattle.std.proofs.Common.{[], ◌∷◌, None, true, false, refl, arith}
 use Rattle.patricia_keys.specs.ByteKind.{IsByteItem}
 use Rattle.patricia_model.specs.Siblings.{end}
 use Rattle.patricia_wire.specs.Records.{Record, Encodes}
-use Rattle.patricia_wire.specs.Internal.Readings.{nothing}
-use Rattle.patricia_wire.specs.Faults.{level, root_label}
+use Rattle.patricia_wire.specs.Internal.Readings.{nothing, level, root_label}
 use Rattle.patricia_wire.proofs.ReadingsFirst.{first_trailing}
 use Rattle.patricia_wire.proofs.RowTrees.{Nothing, tree_of}
 use Rattle.patricia_wire.proofs.Spellings.{set, clear}

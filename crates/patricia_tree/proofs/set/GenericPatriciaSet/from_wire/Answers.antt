@@ -1,7 +1,7 @@
 use Rattle.std.proofs.Common.{length, sym, subst}
 use Rattle.std.proofs.lemmas.Result.{err_from_is_err_and}
 use Rattle.std.specs.Prelude.{IfErr}
-use Rattle.patricia_core.specs.Refusals.{IsRefusal}
+use Rattle.patricia_core.specs.Faults.{IsRefusal}
 use Rattle.patricia_tree.proofs.set.GenericPatriciaSet.from_wire.Goals as goal
 
 pub returns-in_err-from_wire-clause-refused : goal.returns-in_err-from_wire-clause-refused

@@ -48,7 +48,7 @@ pub enum DecodeError {
 
 impl From<AllocError> for DecodeError {
     ghost use Rattle.std.specs.Prelude.{◌≡◌};
-    ghost use Rattle.patricia_codec.specs.declared.error.DecodeError.TheVariants.{Memory};
+    ghost use Rattle.patricia_wire.specs.declared.error.DecodeError.TheVariants.{Memory};
 
     ghost from_gives = { λ _ e. e ≡ Memory };
 
