@@ -27,8 +27,12 @@ take_front (suc n) (z ∷ label) (y ∷ i) rest e =
 
 module _ (item : List ℕ → Type 0) (kind : IsKeyKind item) where
   -- the fewest bytes that are valid are an item
-  pub fewest_item : (label : List ℕ) (n : ℕ) → 1 ≤ n → n ≤ length label → ((m : ℕ) → 1 ≤ m → m < n → IsValid item (take m label) → ⊥) → IsValid item (take n label) → IsFirstItem item label (take n label)
-  fewest_item label n some within fewest valid = by (first_of item (take n label) valid (λ none. omega (arith, some, within, length-take n label, ap length none)))
+  pub fewest_item : (label : List ℕ) (n : ℕ) → 1 ≤ n → n ≤ length label
+      → ((m : ℕ) → 1 ≤ m → m < n → IsValid item (take m label) → ⊥) → IsValid item (take n label)
+      → IsFirstItem item label (take n label)
+  fewest_item label n some within fewest valid =
+      by (first_of item (take n label) valid
+      (λ none. omega (arith, some, within, length-take n label, ap length none)))
     where
       by : (i : List ℕ) × (item i) × Begins i (take n label) → IsFirstItem item label (take n label)
       by (i, is_item, (rest, joins)) = go rest joins
@@ -44,10 +48,13 @@ module _ (item : List ℕ → Type 0) (kind : IsKeyKind item) where
           go (x ∷ rest) e =
               let size = length-append i (x ∷ rest) in
               let shorter : take (length i) label ≡ i = take_front n label i (x ∷ rest) e in
-              absurd (fewest (length i) sized.0 (omega (arith, size, ap length e, length-take n label)) (subst (IsValid item) (sym shorter) (IsValid-item item i is_item)))
+              absurd (fewest (length i) sized.0
+              (omega (arith, size, ap length e, length-take n label))
+              (subst (IsValid item) (sym shorter) (IsValid-item item i is_item)))
 
   -- the first items tell which label comes before the other
-  pub first_items : (a b i j : List ℕ) → a ≢ [] → b ≢ [] → IsFirstItem item a i → IsFirstItem item b j → (key_cmp i j ≡ Less) ↔ ComparesFirst item a b Less
+  pub first_items : (a b i j : List ℕ) → a ≢ [] → b ≢ [] → IsFirstItem item a i
+      → IsFirstItem item b j → (key_cmp i j ≡ Less) ↔ ComparesFirst item a b Less
   first_items a b i j some other x y = (
     λ less. record { first = i; second = j; first_of = x; second_of = y; is = sym less },
     λ compared. (
@@ -57,7 +64,8 @@ module _ (item : List ℕ → Type 0) (kind : IsKeyKind item) where
         ),
   )
     where
-      one_first_item : (l i j : List ℕ) → l ≢ [] → IsFirstItem item l i → IsFirstItem item l j → i ≡ j
+      one_first_item : (l i j : List ℕ) → l ≢ [] → IsFirstItem item l i → IsFirstItem item l j
+          → i ≡ j
       one_first_item l i j some x y = elim x [
         | inl none ↦ absurd (some none.0)
         | inr first ↦ elim y [
@@ -115,27 +123,38 @@ module _ (item : List ℕ → Type 0) (due : Due) (left : ℕ) (r : Record) wher
   kept_level e = kept_next item due left r level (below_level item due left r) (λ b. b e)
 
   -- a root without a label keeps the rules below number 5
-  pub kept_root_label : r.level ≡ due.level → (b : Bool) → b ≡ (length r.label == 0) → eqb due.level 0 && not b ≡ false → BreaksNoneBelow item due left r 5
-  kept_root_label e b is f = kept_next item due left r root_label (kept_level e) (λ (z, some). some (is_nil r.label b is (not_false b (level_zero_not due.level (not b) f z))))
+  pub kept_root_label : r.level ≡ due.level → (b : Bool) → b ≡ (length r.label == 0)
+      → eqb due.level 0 && not b ≡ false → BreaksNoneBelow item due left r 5
+  kept_root_label e b is f = kept_next item due left r root_label (kept_level e)
+      (λ (z, some). some (is_nil r.label b is (not_false b (level_zero_not due.level (not b) f z))))
 
   -- and one without a sibling those below 6
-  pub kept_root_sibling : BreaksNoneBelow item due left r 5 → eqb due.level 0 && r.sibling ≡ false → BreaksNoneBelow item due left r 6
-  kept_root_sibling below f = kept_next item due left r root_sibling below (λ (z, some). (let none = level_zero_not due.level r.sibling f z in let h : true ≡ false = sym some ∙ none in cc))
+  pub kept_root_sibling : BreaksNoneBelow item due left r 5 → eqb due.level 0 && r.sibling ≡ false
+      → BreaksNoneBelow item due left r 6
+  kept_root_sibling below f = kept_next item due left r root_sibling below
+      (λ (z, some).
+      (let none = level_zero_not due.level r.sibling f z in
+      let h : true ≡ false = sym some ∙ none in cc))
 
   -- a root with a label breaks that rule
-  pub breaks_root_label : (b : Bool) → b ≡ (length r.label == 0) → eqb due.level 0 && not b ≡ true → Breaks item due left r root_label
+  pub breaks_root_label : (b : Bool) → b ≡ (length r.label == 0) → eqb due.level 0 && not b ≡ true
+      → Breaks item due left r root_label
   breaks_root_label b is t = (let both = level_zero due.level (not b) t in (both.0, not_nil r.label b is (not_true b both.1)))
 
   -- and so does one with a sibling
-  pub breaks_root_sibling : eqb due.level 0 && r.sibling ≡ true → Breaks item due left r root_sibling
+  pub breaks_root_sibling : eqb due.level 0 && r.sibling ≡ true
+      → Breaks item due left r root_sibling
   breaks_root_sibling t = level_zero due.level r.sibling t
 
   -- a record below the root without a label breaks that rule
-  pub breaks_empty_label : (b : Bool) → b ≡ (length r.label == 0) → not (eqb due.level 0) && b ≡ true → Breaks item due left r empty_label
+  pub breaks_empty_label : (b : Bool) → b ≡ (length r.label == 0)
+      → not (eqb due.level 0) && b ≡ true → Breaks item due left r empty_label
   breaks_empty_label b is t = (let both = level_some due.level b t in (both.0, is_nil r.label b is both.1))
 
 -- one byte more, where so many are not valid
-pub one_more_not : (item : List ℕ → Type 0) (label : List ℕ) (n : ℕ) → 1 ≤ n → n ≤ length label → ((m : ℕ) → 1 ≤ m → m < n → IsValid item (take m label) → ⊥) → IsValid item label → (IsValid item (take n label) → ⊥)
+pub one_more_not : (item : List ℕ → Type 0) (label : List ℕ) (n : ℕ) → 1 ≤ n → n ≤ length label
+    → ((m : ℕ) → 1 ≤ m → m < n → IsValid item (take m label) → ⊥) → IsValid item label
+    → (IsValid item (take n label) → ⊥)
     → record { some : 1 ≤ n + 1; within : n + 1 ≤ length label; fewest : (m : ℕ) → 1 ≤ m → m < n + 1 → IsValid item (take m label) → ⊥ }
 one_more_not item label n some within fewest valid fails = record {
   some = omega arith;
@@ -150,30 +169,38 @@ one_more_not item label n some within fewest valid fails = record {
 }
 
 -- an error that is passed up
-pub handed_on : {T E : Type 0} (P : E → Type 0) (out : Result T E) (e : E) → IsErrAnd out (λ x. x ≡ e) → P e → IfErr out P
+pub handed_on : {T E : Type 0} (P : E → Type 0) (out : Result T E) (e : E)
+    → IsErrAnd out (λ x. x ≡ e) → P e → IfErr out P
 handed_on P (Ok x) e is h = tt
 handed_on P (Err x) e is h = subst P (sym is) h
 
 module _ (item : List ℕ → Type 0) (due : Due) (left : ℕ) (r : Record) where
-  pub broken_label : BreaksNoneBelow item due left r 7 → (offset : ℕ) (e : DecodeError) → BreaksLabel item due r.label offset e → NamesFirst item due left r offset e
+  pub broken_label : BreaksNoneBelow item due left r 7 → (offset : ℕ) (e : DecodeError)
+      → BreaksLabel item due r.label offset e → NamesFirst item due left r offset e
   broken_label below offset e broken = elim broken [
     | inl b ↦ record { rule = invalid_label; names = b.0; broken = (b.1, below) }
     | inr b ↦ (let valid = b.1 in record { rule = sibling_order; names = b.0; broken = (b.2, kept_next item due left r invalid_label below (λ h. h valid)) })
   ]
 
   -- a label that is valid and in order keeps the rules below number 9
-  pub kept_label : BreaksNoneBelow item due left r 7 → KeepsLabel item due r.label → BreaksNoneBelow item due left r 9
-  kept_label below kept = kept_next item due left r sibling_order (kept_next item due left r invalid_label below (λ h. h kept.0)) (λ (l, is, not_before). not_before (before_compares item l r.label (kept.1 l is)))
+  pub kept_label : BreaksNoneBelow item due left r 7 → KeepsLabel item due r.label
+      → BreaksNoneBelow item due left r 9
+  kept_label below kept = kept_next item due left r sibling_order
+      (kept_next item due left r invalid_label below (λ h. h kept.0))
+      (λ (l, is, not_before). not_before (before_compares item l r.label (kept.1 l is)))
 
   -- a record below the root with neither value nor child breaks that rule
-  pub breaks_marks : (not (eqb due.level 0) && not r.value) && not r.child ≡ true → Breaks item due left r no_value_no_child
+  pub breaks_marks : (not (eqb due.level 0) && not r.value) && not r.child ≡ true
+      → Breaks item due left r no_value_no_child
   breaks_marks t =
       let outer = both (not (eqb due.level 0) && not r.value) (not r.child) t in
       let inner = level_some due.level (not r.value) outer.0 in
       (inner.0, not_true r.value inner.1, not_true r.child outer.1)
 
   -- and one with either keeps the rules below 10
-  pub kept_marks : BreaksNoneBelow item due left r 9 → (not (eqb due.level 0) && not r.value) && not r.child ≡ false → BreaksNoneBelow item due left r 10
+  pub kept_marks : BreaksNoneBelow item due left r 9
+      → (not (eqb due.level 0) && not r.value) && not r.child ≡ false
+      → BreaksNoneBelow item due left r 10
   kept_marks below f = kept_next item due left r no_value_no_child below (λ (some, no_value, no_child). (
       let h : true ≡ false = (λ i. (sym (test_other due.level 0 some) i && not (sym no_value i)) && not (sym no_child i)) ∙ f in
       cc
@@ -185,7 +212,8 @@ module _ (item : List ℕ → Type 0) (due : Due) (left : ℕ) (r : Record) wher
 
 module _ (item : List ℕ → Type 0) (due : Due) (left : ℕ) (r : Record) where
   -- and a value is left for a mark, so that no rule is broken
-  pub kept_rules : BreaksNoneBelow item due left r 10 → r.value && eqb left 0 ≡ false → BreaksNone item due left r
+  pub kept_rules : BreaksNoneBelow item due left r 10 → r.value && eqb left 0 ≡ false
+      → BreaksNone item due left r
   kept_rules below f = kept_all item due left r (kept_next item due left r too_few_values below (λ (set, none). (
       let h : true ≡ false = sym (test_same left 0 none) ∙ not_both r.value (eqb left 0) f set in
       cc

@@ -23,7 +23,8 @@ use Rattle.patricia_codec.proofs.ReaderLemmas.{spelled_all}
 
 module _ (item : List ℕ → Type 0) where
   -- at the start the root is due
-  pub started : (n : ℕ) (p : Reader) → IsReaderStart p → IsReading item n p [] ((record { level = 0; after = None }) ∷ [])
+  pub started : (n : ℕ) (p : Reader) → IsReaderStart p
+      → IsReading item n p [] ((record { level = 0; after = None }) ∷ [])
   started n p start = record {
     read = nothing;
     reads = rw start.offset (record { read = []; spelled = refl; joined = refl; ends = refl });
@@ -32,14 +33,20 @@ module _ (item : List ℕ → Type 0) where
   }
 
   -- a new builder has built nothing, and the root is due
-  pub new_built : {V : Type 0} (b : Builder V) → IsNew b → IsBuilt item b [] ((record { level = 0; after = None }) ∷ []) []
+  pub new_built : {V : Type 0} (b : Builder V) → IsNew b
+      → IsBuilt item b [] ((record { level = 0; after = None }) ∷ []) []
   new_built b new = subst (λ n. IsBuiltAs item n b [] ((record { level = 0; after = None }) ∷ []) []) (sym new.next) (refl, refl, refl, new)
 
   -- where a record is due beside a node, this node waits
-  pub can_add : {V : Type 0} (b : Builder V) (R : List Record) (due : Due) (waiting : List Due) (vs : List V) → IsBuilt item b R (due ∷ waiting) vs → CanAdd b
-  can_add b R due waiting vs built beside = (let s = subst (λ n. IsBuiltAs item n b R (due ∷ waiting) vs) beside built in by s.gaps s.due_is s.wait.ids_are s.wait.fall)
+  pub can_add :
+      {V : Type 0} (b : Builder V) (R : List Record) (due : Due) (waiting : List Due) (vs : List V)
+      → IsBuilt item b R (due ∷ waiting) vs → CanAdd b
+  can_add b R due waiting vs built beside =
+      (let s = subst (λ n. IsBuiltAs item n b R (due ∷ waiting) vs) beside built in by s.gaps
+      s.due_is s.wait.ids_are s.wait.fall)
     where
-      by : (gaps : List Gap) → due ∷ waiting ≡ dues gaps → ids gaps ≡ reverse b.waiting.items → Fall (length b.nodes.items) gaps → CanLink b
+      by : (gaps : List Gap) → due ∷ waiting ≡ dues gaps → ids gaps ≡ reverse b.waiting.items
+          → Fall (length b.nodes.items) gaps → CanLink b
       by [] e same fall = absurd (cc)
       by (g ∷ gaps) e same fall = record {
         others = reverse (ids gaps);
@@ -62,7 +69,9 @@ module _ (item : List ℕ → Type 0) where
   unset false h = refl
 
   -- a record that keeps the rules suits the place that is due
-  pub suited : (n left : ℕ) (before : List Record) (due : Due) (waiting : List Due) (r : Record) → IsRead item n before (due ∷ waiting) → IsAccepted item due left r → length r.label ≤ 255 → Suits item before due r
+  pub suited : (n left : ℕ) (before : List Record) (due : Due) (waiting : List Due) (r : Record)
+      → IsRead item n before (due ∷ waiting) → IsAccepted item due left r → length r.label ≤ 255
+      → Suits item before due r
   suited n left before due waiting r read keeps fits = record {
     root = λ none.
         let first = first_due item n before due waiting read none in
@@ -85,25 +94,33 @@ module _ (item : List ℕ → Type 0) where
 
 module _ {V : Type 0} where
   -- how many values are left
-  pub counted : (all taken items : List V) (before : List Record) (left : ℕ) → all ≡ taken ++ items → length taken ≡ value_marks before → left ≡ length items → left + value_marks before ≡ length all
+  pub counted : (all taken items : List V) (before : List Record) (left : ℕ) → all ≡ taken ++ items
+      → length taken ≡ value_marks before → left ≡ length items
+      → left + value_marks before ≡ length all
   counted all taken items before left split marks is = omega (arith, ap length split, length-append taken items, marks, is)
 
   -- a value is taken off the front of those that are left
-  pub split_on : (all taken items rest : List V) (value : Option V) → all ≡ taken ++ items → items ≡ option_to_list value ++ rest → all ≡ (taken ++ option_to_list value) ++ rest
+  pub split_on : (all taken items rest : List V) (value : Option V) → all ≡ taken ++ items
+      → items ≡ option_to_list value ++ rest → all ≡ (taken ++ option_to_list value) ++ rest
   split_on all taken items rest value split e = split ∙ ap (λ l. taken ++ l) e ∙ sym (append_assoc taken (option_to_list value) rest)
 
-  given_mark : (value : Option V) (b : Bool) → is_some value ≡ b → length (option_to_list value) ≡ bit_if b 1
+  given_mark : (value : Option V) (b : Bool) → is_some value ≡ b
+      → length (option_to_list value) ≡ bit_if b 1
   given_mark (Some x) true e = refl
   given_mark (Some x) false e = absurd (cc)
   given_mark None true e = absurd (cc)
   given_mark None false e = refl
 
   -- as many values are taken as there are marks
-  pub marks_on : (taken : List V) (value : Option V) (before : List Record) (r : Record) → length taken ≡ value_marks before → is_some value ≡ r.value → length (taken ++ option_to_list value) ≡ value_marks (before ++ (r ∷ []))
+  pub marks_on : (taken : List V) (value : Option V) (before : List Record) (r : Record)
+      → length taken ≡ value_marks before → is_some value ≡ r.value
+      → length (taken ++ option_to_list value) ≡ value_marks (before ++ (r ∷ []))
   marks_on taken value before r marks is = omega (arith, length-append taken (option_to_list value), marks, given_mark value r.value is, marks_more before r)
 
   -- how many are left
-  pub left_on : (items rest : List V) (value : Option V) (len was : ℕ) → items ≡ option_to_list value ++ rest → len + length (option_to_list value) ≡ was → was ≡ length items → len ≡ length rest
+  pub left_on : (items rest : List V) (value : Option V) (len was : ℕ)
+      → items ≡ option_to_list value ++ rest → len + length (option_to_list value) ≡ was
+      → was ≡ length items → len ≡ length rest
   left_on items rest value len was e step is = omega (arith, ap length e, length-append (option_to_list value) rest, step, is)
 
   -- a record takes a value where it has the mark
@@ -113,11 +130,15 @@ module _ {V : Type 0} where
     pub len : left + length (option_to_list value) ≡ was
 
   -- a record with a value mark takes a value
-  pub takes_some : (mark : Bool) → mark ≡ true → (value : Option V) (items rest : List V) (was len : ℕ) → IsSome value → items ≡ option_to_list value ++ rest → len + length (option_to_list value) ≡ was → Takes mark value items rest was len
+  pub takes_some : (mark : Bool) → mark ≡ true
+      → (value : Option V) (items rest : List V) (was len : ℕ) → IsSome value
+      → items ≡ option_to_list value ++ rest → len + length (option_to_list value) ≡ was
+      → Takes mark value items rest was len
   takes_some mark set value items rest was len some e step = record { is = some ∙ sym set; items = e; len = step }
 
   -- and one without takes none
-  pub takes_none : (mark : Bool) → mark ≡ false → (items : List V) (was : ℕ) → Takes mark None items items was was
+  pub takes_none : (mark : Bool) → mark ≡ false → (items : List V) (was : ℕ)
+      → Takes mark None items items was was
   takes_none mark unset items was = record { is = sym unset; items = refl; len = omega arith }
 
 -- where the number is not 0, a value is left
@@ -126,15 +147,19 @@ some_left zero len e h = absurd (h refl)
 some_left (suc left) len e h = omega (arith, e)
 
 -- where the number is 0, all values are taken
-pub all_taken : {V : Type 0} (all taken rest : List V) (len : ℕ) → all ≡ taken ++ rest → len ≡ length rest → len ≡ 0 → all ≡ taken
+pub all_taken : {V : Type 0} (all taken rest : List V) (len : ℕ) → all ≡ taken ++ rest
+    → len ≡ length rest → len ≡ 0 → all ≡ taken
 all_taken all taken rest len split is z = split ∙ ap (λ l. taken ++ l) (nil_from_length rest (omega (arith, is, z))) ∙ append-nil taken
 
 -- records are read and built with these values, and nothing more is due
-module _ (item : List ℕ → Type 0) {V : Type 0} (b : Builder V) (p q : Reader) (n : ℕ) (R : List Record) (due : List Due) (taken : List V) (reading : IsReading item n p R due) (built : IsBuilt item b R due taken) (ends : Ends item p q) where
+module _ (item : List ℕ → Type 0) {V : Type 0} (b : Builder V) (p q : Reader) (n : ℕ)
+    (R : List Record) (due : List Due) (taken : List V) (reading : IsReading item n p R due)
+    (built : IsBuilt item b R due taken) (ends : Ends item p q) where
   pub read_all : IsReading item n q R []
   read_all = let on = ends n R due reading in on.1
 
-  grown_all : IsGrown item b.nodes.items b.root b.value R taken (below (length b.nodes.items)) (length b.nodes.items)
+  grown_all : IsGrown item b.nodes.items b.root b.value R taken (below (length b.nodes.items))
+      (length b.nodes.items)
   grown_all = let on = ends n R due reading in grown item b R taken (subst (λ l. IsBuilt item b R l taken) on.0 built)
 
   -- they are a whole tree
@@ -142,8 +167,10 @@ module _ (item : List ℕ → Type 0) {V : Type 0} (b : Builder V) (p q : Reader
   tree_of_all = (_, grown_tree item b.nodes.items b.root b.value R taken _ _ grown_all)
 
   -- where neither bytes nor values are left, the bytes and the values are decoded
-  pub decoded : (kind : IsKeyKind item) (bytes : List ℕ) → q.bytes.now ≡ bytes → (items rest : List V) (left : ℕ) → items ≡ taken ++ rest → left ≡ length rest → (q.offset ≡ length q.bytes.now) × (left ≡ 0)
-      → (free : Option ℕ) → free ≡ None → IsDone item (record { nodes = b.nodes; root = b.root; free = free }) b.value bytes items
+  pub decoded : (kind : IsKeyKind item) (bytes : List ℕ) → q.bytes.now ≡ bytes
+      → (items rest : List V) (left : ℕ) → items ≡ taken ++ rest → left ≡ length rest
+      → (q.offset ≡ length q.bytes.now) × (left ≡ 0) → (free : Option ℕ) → free ≡ None
+      → IsDone item (record { nodes = b.nodes; root = b.root; free = free }) b.value bytes items
   decoded kind bytes same items rest left split count over free none =
       subst (λ l. IsDone item s b.value l items) same (subst (IsDone item s b.value q.bytes.now) (sym (all_taken items taken rest left split count over.1))
       (done item kind s b.value R taken q.bytes.now grown_all none (spelled_all item q n R [] read_all (omega (arith, over.0)))))

@@ -24,21 +24,25 @@ use Rattle.patricia_codec.proofs.LeftLemmas.{has_link}
 use Rattle.patricia_codec.proofs.PieceLemmas.{some_records}
 
 -- spellings one after the other
-pub spellings-snoc : (w : ℕ) (A : List Record) (r : Record) → canonical_bytes_of w (A ++ r ∷ []) ≡ canonical_bytes_of w A ++ canonical_bytes w r
+pub spellings-snoc : (w : ℕ) (A : List Record) (r : Record)
+    → canonical_bytes_of w (A ++ r ∷ []) ≡ canonical_bytes_of w A ++ canonical_bytes w r
 spellings-snoc w [] r = append-nil (canonical_bytes w r)
-spellings-snoc w (x ∷ A) r = ap (λ b. canonical_bytes w x ++ b) (spellings-snoc w A r) ∙ sym (append_assoc (canonical_bytes w x) (canonical_bytes_of w A) (canonical_bytes w r))
+spellings-snoc w (x ∷ A) r = ap (λ b. canonical_bytes w x ++ b) (spellings-snoc w A r) ∙ sym
+    (append_assoc (canonical_bytes w x) (canonical_bytes_of w A) (canonical_bytes w r))
 
 -- no record is deeper than two bytes can tell
 abbrev pub AreShallow : List Record → Type 0
 AreShallow A = All (λ r. r.level < 65536) A
 
 -- one more record that is not too deep
-pub shallow-snoc : (A : List Record) (r : Record) → AreShallow A → r.level < 65536 → AreShallow (A ++ r ∷ [])
+pub shallow-snoc : (A : List Record) (r : Record) → AreShallow A → r.level < 65536
+    → AreShallow (A ++ r ∷ [])
 shallow-snoc A r all one = All-append (λ r. r.level < 65536) A (r ∷ []) all (All-cons (λ r. r.level < 65536) r [] one (All-nil (λ r. r.level < 65536)))
 
 module _ (item : List ℕ → Type 0) (kind : IsKeyKind item) {V : Type 0} (arena : NodeArena V) where
   -- at the start all records are left
-  pub at_start : (p : Records V) → IsWellFormed arena → IsEncoderStart p → p.arena.now ≡ arena → IsAt item arena p []
+  pub at_start : (p : Records V) → IsWellFormed arena → IsEncoderStart p → p.arena.now ≡ arena
+      → IsAt item arena p []
   at_start p whole start same R a = (
     R,
     refl,
@@ -53,27 +57,32 @@ module _ (item : List ℕ → Type 0) (kind : IsKeyKind item) {V : Type 0} (aren
   )
 
   -- and there are some
-  pub some_left : (p : Records V) (A : List Record) → IsCanonical item (siblings_of arena) → IsAt item arena p A → SomeLeft item p
+  pub some_left : (p : Records V) (A : List Record) → IsCanonical item (siblings_of arena)
+      → IsAt item arena p A → SomeLeft item p
   some_left p A ok at = (let some = some_records item kind 1 (siblings_of arena) ok in let left = at some.0 some.1 in (left.0, left.2))
 
   -- a record that is taken is written behind those that are written
-  pub at_next : (p q : Records V) (A : List Record) (r : Record) → IsAt item arena p A → TakesRecord item p r q → IsAt item arena q (A ++ r ∷ [])
+  pub at_next : (p q : Records V) (A : List Record) (r : Record) → IsAt item arena p A
+      → TakesRecord item p r q → IsAt item arena q (A ++ r ∷ [])
   at_next p q A r at taken R a =
       let left = at R a in
       let rest = taken.left left.0 left.2 in
       (rest.0, left.1 ∙ ap (λ l. A ++ l) rest.1 ∙ sym (append_assoc A (r ∷ []) rest.0), rest.2)
 
   -- what is too deep among those that are left is too deep
-  pub deep_left : (p : Records V) (A : List Record) → IsAt item arena p A → IsDeep item p → AreDeep item arena
+  pub deep_left : (p : Records V) (A : List Record) → IsAt item arena p A → IsDeep item p
+      → AreDeep item arena
   deep_left p A at deep R a =
       let left = at R a in
       rw left.1 (any_right (λ r. 65536 ≤ r.level) A left.0 (deep left.0 left.2))
 
   -- where nothing is left, all is written
-  pub at_end : (p : Records V) (A : List Record) → IsAt item arena p A → IsOver item p → (R : List Record) → AreRecords item 1 (siblings_of arena) R → R ≡ A
+  pub at_end : (p : Records V) (A : List Record) → IsAt item arena p A → IsOver item p
+      → (R : List Record) → AreRecords item 1 (siblings_of arena) R → R ≡ A
   at_end p A at over R a = (let left = at R a in left.1 ∙ ap (λ l. A ++ l) (over left.0 left.2) ∙ append-nil A)
 
-module _ (item : List ℕ → Type 0) (kind : IsKeyKind item) {V : Type 0} (value : Option V) (row : Siblings V) (R : List Record) (a : AreRecords item 1 row R) where
+module _ (item : List ℕ → Type 0) (kind : IsKeyKind item) {V : Type 0} (value : Option V)
+    (row : Siblings V) (R : List Record) (a : AreRecords item 1 row R) where
   same_rows : own value ++ entries a.cut ≡ own value ++ entries row
   same_rows = ap (λ es. own value ++ es) a.same
 
@@ -81,7 +90,8 @@ module _ (item : List ℕ → Type 0) (kind : IsKeyKind item) {V : Type 0} (valu
   cut_node : has_node a.cut ≡ has_node row
   cut_node = by a.cut row a.cut_ok a.canonical a.same
     where
-      by : (r s : Siblings V) → IsCanonicalWithin item (Some 255) r → IsCanonical item s → entries r ≡ entries s → has_node r ≡ has_node s
+      by : (r s : Siblings V) → IsCanonicalWithin item (Some 255) r → IsCanonical item s
+          → entries r ≡ entries s → has_node r ≡ has_node s
       by end end ok ok' e = refl
       by (node l v c s) (node l' v' c' s') ok ok' e = refl
       by end (node l v c s) ok ok' e =
@@ -107,10 +117,23 @@ module _ (item : List ℕ → Type 0) (kind : IsKeyKind item) {V : Type 0} (valu
   is_tree = subst (λ es. Root item (tree_records value a.cut) (keys_of es)) same_rows (tree_of item value a.cut (within_writable item a.cut a.cut_ok))
 
   -- its clean spelling is the tree bytes where no record lies too deep
-  pub written : AreShallow R → AreTreeBytes item 2 (canonical_bytes 2 root_record ++ canonical_bytes_of 2 R) (own value ++ entries row)
+  pub written : AreShallow R
+      → AreTreeBytes item 2 (canonical_bytes 2 root_record ++ canonical_bytes_of 2 R)
+      (own value ++ entries row)
   written shallow = elim (tree_room_or_deep item kind 2 value a.cut (within_writable item a.cut a.cut_ok)) [
-    | inl room ↦ tree_bytes item kind 2 _ _ (record { records = tree_records value a.cut; root = is_tree; tight = within_apart item 1 a.cut a.cut_ok; room = room; is = ap (canonical_bytes_of 2) (sym tree_is) })
-    | inr deep ↦ absurd (none_deep (root_record ∷ R) (All-cons (λ r. r.level < 65536) root_record R (omega arith) shallow) (subst (Any (λ r. 65536 ≤ r.level)) tree_is deep))
+    | inl room ↦ tree_bytes item kind 2 _ _
+        (record {
+          records = tree_records value a.cut;
+          root = is_tree;
+          tight = within_apart item 1
+              a.cut a.cut_ok;
+          room = room;
+          is = ap (canonical_bytes_of 2) (sym tree_is);
+        })
+    | inr deep ↦ absurd
+        (none_deep (root_record ∷ R)
+        (All-cons (λ r. r.level < 65536) root_record R (omega arith) shallow)
+        (subst (Any (λ r. 65536 ≤ r.level)) tree_is deep))
   ]
 
   -- and it is too deep where one does
@@ -122,20 +145,32 @@ module _ (item : List ℕ → Type 0) (kind : IsKeyKind item) {V : Type 0} (valu
     deep = subst HasDeep (sym tree_is) (any_there (λ r. 65536 ≤ r.level) root_record R some);
   }
 
-module _ (item : List ℕ → Type 0) (kind : IsKeyKind item) {V : Type 0} (arena : NodeArena V) (value : Option V) (ok : IsCanonical item (siblings_of arena)) where
+module _ (item : List ℕ → Type 0) (kind : IsKeyKind item) {V : Type 0} (arena : NodeArena V)
+    (value : Option V) (ok : IsCanonical item (siblings_of arena)) where
   -- so the nodes lie too deep where one of their records does
-  pub too_deep : AreDeep item arena → TooDeep item 2 (keys_of (own value ++ entries (siblings_of arena)))
+  pub too_deep : AreDeep item arena
+      → TooDeep item 2 (keys_of (own value ++ entries (siblings_of arena)))
   too_deep all = (let some = some_records item kind 1 (siblings_of arena) ok in deep item kind value (siblings_of arena) some.0 some.1 (all some.0 some.1))
 
   -- and where no record is left, what is written is the tree bytes
-  pub all_written : (p : Records V) (A : List Record) (b : List ℕ) (root : Record) → IsWellFormed arena → IsAt item arena p A → IsOver item p → AreShallow A
-      → root ≡ record { level = 0; label = []; value = is_some value; child = is_some arena.root; sibling = false } → b ≡ canonical_bytes 2 root ++ canonical_bytes_of 2 A
+  pub all_written : (p : Records V) (A : List Record) (b : List ℕ) (root : Record)
+      → IsWellFormed arena → IsAt item arena p A → IsOver item p → AreShallow A
+      → root ≡ record { level = 0; label = []; value = is_some value; child = is_some arena.root; sibling = false }
+      → b ≡ canonical_bytes 2 root ++ canonical_bytes_of 2 A
       → AreTreeBytes item 2 b (own value ++ entries (siblings_of arena))
   all_written p A b root whole at over shallow root_is is =
       let some = some_records item kind 1 (siblings_of arena) ok in
       let R = some.0 in
       let all = at_end item kind arena p A at over R some.1 in
       let child = has_link arena.nodes.items arena.root (whole_plan arena whole) in
-      let same_root : root_record item kind value (siblings_of arena) R some.1 ≡ root = (λ i. record { level = 0; label = []; value = is_some value; child = sym child i; sibling = false }) ∙ sym root_is in
-      subst (λ c. AreTreeBytes item 2 c (own value ++ entries (siblings_of arena))) ((λ i. canonical_bytes 2 (same_root i) ++ canonical_bytes_of 2 (all i)) ∙ sym is)
+      let same_root : root_record item kind value (siblings_of arena) R some.1 ≡ root =
+      (λ i. record {
+        level = 0;
+        label = [];
+        value = is_some value;
+        child = sym child i;
+        sibling = false;
+      }) ∙ sym root_is in
+      subst (λ c. AreTreeBytes item 2 c (own value ++ entries (siblings_of arena)))
+      ((λ i. canonical_bytes 2 (same_root i) ++ canonical_bytes_of 2 (all i)) ∙ sym is)
       (written item kind value (siblings_of arena) R some.1 (subst AreShallow (sym all) shallow))

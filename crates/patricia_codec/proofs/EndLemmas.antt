@@ -28,36 +28,71 @@ use Rattle.patricia_codec.proofs.BuildLemmas.{some_snoc, due_next}
 none_below : (n at : ℕ) → n ≡ 0 → below n at ≡ 0
 none_below n at e = grind (arith, nat_tests)
 
-module _ (item : List ℕ → Type 0) {V : Type 0} (nodes : List (Node V)) (root : Option ℕ) (value : Option V) where
+module _ (item : List ℕ → Type 0) {V : Type 0} (nodes : List (Node V)) (root : Option ℕ)
+    (value : Option V) where
   -- a tree of a root and a row
-  rooted : (later : List (Node V)) (plan : Plan V) (written : Siblings V) → nodes ≡ [] → Hangs item later root plan written → (r : Record) → r.level ≡ 0 → r.label ≡ [] → r.sibling ≡ false → is_some value ≡ r.value → has_node written ≡ r.child
-      → (R2 : List Record) (vs2 : List V) (ids : ℕ → ℕ) (n : ℕ) → AreBeside item later [] R2 vs2 ids n
-      → IsGrown item later root value ((r ∷ []) ++ (records_of 1 written ++ R2)) (option_to_list value ++ (values_of (entries written) ++ vs2)) (λ at. below (length nodes) at + (count plan at + ids at)) (length nodes + (size plan + n))
+  rooted : (later : List (Node V)) (plan : Plan V) (written : Siblings V) → nodes ≡ []
+      → Hangs item later root plan written → (r : Record) → r.level ≡ 0 → r.label ≡ []
+      → r.sibling ≡ false → is_some value ≡ r.value → has_node written ≡ r.child
+      → (R2 : List Record) (vs2 : List V) (ids : ℕ → ℕ) (n : ℕ)
+      → AreBeside item later [] R2 vs2 ids n
+      → IsGrown item later root value ((r ∷ []) ++ (records_of 1 written ++ R2))
+      (option_to_list value ++ (values_of (entries written) ++ vs2))
+      (λ at. below (length nodes) at + (count plan at + ids at)) (length nodes + (size plan + n))
   rooted later plan written none hangs r level label alone vm cm R2 vs2 ids n (no_records, no_values, no_ids, zero) = record {
     plan = plan;
     written = written;
     hangs = hangs;
-    records = (λ i. record { level = level i; label = label i; value = sym vm i; child = sym cm i; sibling = alone i } ∷ (records_of 1 written ++ no_records i)) ∙ ap (λ l. record_of 0 [] value written end ∷ l) (append-nil (records_of 1 written));
-    values = ap (λ l. option_to_list value ++ (values_of (entries written) ++ l)) no_values ∙ ap (λ l. option_to_list value ++ l) (append-nil (values_of (entries written))) ∙ sym (values_inside value written);
+    records =
+        (λ i. record {
+          level = level i;
+          label = label i;
+          value = sym vm i;
+          child = sym cm i;
+          sibling = alone i;
+        } ∷ (records_of 1 written ++ no_records i)) ∙ ap
+        (λ l. record_of 0 [] value written end ∷ l) (append-nil (records_of 1 written));
+    values = ap (λ l. option_to_list value ++ (values_of (entries written) ++ l)) no_values ∙ ap
+        (λ l. option_to_list value ++ l) (append-nil (values_of (entries written))) ∙ sym
+        (values_inside value written);
     numbers = λ at. omega (arith, none_below (length nodes) at (ap length none), no_ids at);
     sizes = omega (arith, ap length none, zero);
   }
 
-  start_above : nodes ≡ [] → root ≡ Some 0 → (r : Record) → r.level ≡ 0 → r.label ≡ [] → r.sibling ≡ false → is_some value ≡ r.value → r.child ≡ true → IsOpenAt item nodes root value (λ w. Unit {0}) 1 [] (r ∷ []) (option_to_list value)
+  start_above : nodes ≡ [] → root ≡ Some 0 → (r : Record) → r.level ≡ 0 → r.label ≡ []
+      → r.sibling ≡ false → is_some value ≡ r.value → r.child ≡ true
+      → IsOpenAt item nodes root value (λ w. Unit {0}) 1 [] (r ∷ []) (option_to_list value)
   start_above none top r level label alone vm cm later is_later plan written hangs there allowed R2 vs2 ids n beside =
-      rooted later plan written none (subst (λ at. Hangs item later at plan written) (ap (λ (l : List (Node V)). Some (length l)) none ∙ sym top) hangs) r level label alone vm (there ∙ sym cm) R2 vs2 ids n beside
+      rooted later plan written none
+      (subst (λ at. Hangs item later at plan written)
+      (ap (λ (l : List (Node V)). Some (length l)) none ∙ sym top) hangs) r level label alone
+      vm (there ∙ sym cm) R2 vs2 ids n beside
 
-  start_alone : nodes ≡ [] → root ≡ None → (r : Record) → r.level ≡ 0 → r.label ≡ [] → r.sibling ≡ false → is_some value ≡ r.value → r.child ≡ false → IsOpenBeside item nodes root value [] (r ∷ []) (option_to_list value)
+  start_alone : nodes ≡ [] → root ≡ None → (r : Record) → r.level ≡ 0 → r.label ≡ []
+      → r.sibling ≡ false → is_some value ≡ r.value → r.child ≡ false
+      → IsOpenBeside item nodes root value [] (r ∷ []) (option_to_list value)
   start_alone none top r level label alone vm cm later is_later R2 vs2 ids n beside =
-      let grown = rooted later Nil end none (record { stands = tt; at_is = top; same = refl; writable = tt }) r level label alone vm (sym cm) R2 vs2 ids n beside in
-      record { plan = grown.plan; written = grown.written; hangs = grown.hangs; records = grown.records; values = grown.values; numbers = λ at. grown.numbers at ∙ omega arith; sizes = grown.sizes ∙ omega arith }
+      let grown = rooted later Nil end none
+      (record { stands = tt; at_is = top; same = refl; writable = tt }) r level label alone
+      vm (sym cm) R2 vs2 ids n beside in
+      record {
+        plan = grown.plan;
+        written = grown.written;
+        hangs = grown.hangs;
+        records = grown.records;
+        values = grown.values;
+        numbers = λ at. grown.numbers at ∙ omega arith;
+        sizes = grown.sizes ∙ omega arith;
+      }
 
 module _ (item : List ℕ → Type 0) {V : Type 0} where
   -- the root is added
-  pub root_added : (old new : Builder V) (r : Record) (x : Option V) → old.next ≡ next.Root → AddsRoot old x r.child new → AddsRecord item old r x new
+  pub root_added : (old new : Builder V) (r : Record) (x : Option V) → old.next ≡ next.Root
+      → AddsRoot old x r.child new → AddsRecord item old r x new
   root_added old new r x is_root adds R due waiting vs built suits vm = by r.child refl (subst (λ n. IsBuiltAs item n old R (due ∷ waiting) vs) is_root built)
     where
-      by : (child : Bool) → r.child ≡ child → IsBuiltAs item next.Root old R (due ∷ waiting) vs → IsBuilt item new (R ++ (r ∷ [])) (due_behind r ++ waiting) (vs ++ option_to_list x)
+      by : (child : Bool) → r.child ≡ child → IsBuiltAs item next.Root old R (due ∷ waiting) vs
+          → IsBuilt item new (R ++ (r ∷ [])) (due_behind r ++ waiting) (vs ++ option_to_list x)
       by true c (none, e, no_values, start) =
           let (level, label, alone) = suits.root none in
           let nodes = ap (λ l. l.items) adds.nodes ∙ start.nodes in
@@ -68,9 +103,17 @@ module _ (item : List ℕ → Type 0) {V : Type 0} where
           subst (λ n. IsBuiltAs item n new (R ++ (r ∷ [])) (due_behind r ++ waiting) (vs ++ option_to_list x)) (sym (adds.below c)) (record {
             level = 1;
             gaps = [];
-            goes = subst (λ l. IsOpenAt item new.nodes.items new.root new.value (λ w. Unit {0}) 1 [] l (vs ++ option_to_list x)) (ap (λ l. l ++ (r ∷ [])) (sym none)) (subst (λ l. IsOpenAt item new.nodes.items new.root new.value (λ w. Unit {0}) 1 [] (r ∷ []) l) (held ∙ ap (λ l. l ++ option_to_list x) (sym no_values)) goes);
+            goes = subst
+                (λ l. IsOpenAt item new.nodes.items new.root new.value (λ w. Unit {0}) 1 [] l
+                (vs ++ option_to_list x)) (ap (λ l. l ++ (r ∷ [])) (sym none))
+                (subst (λ l. IsOpenAt item new.nodes.items new.root new.value (λ w. Unit {0}) 1 []
+                (r ∷ []) l) (held ∙ ap (λ l. l ++ option_to_list x) (sym no_values)) goes);
             wait = record { ids_are = ap reverse (sym waits); fall = tt };
-            due_is = ap (λ w. due_behind r ++ w) tails ∙ due_next r 0 0 [] level ∙ ap (λ b. due_where b (record { level = 1; after = None }) ++ dues (gap_if r.sibling 0 r.label 0 ++ [])) c ∙ ap (λ b. (record { level = 1; after = None }) ∷ dues (gap_if b 0 r.label 0 ++ [])) alone;
+            due_is = ap (λ w. due_behind r ++ w) tails ∙ due_next r 0 0 [] level ∙ ap
+                (λ b. due_where b (record { level = 1; after = None }) ++ dues
+                (gap_if r.sibling 0 r.label 0 ++ [])) c ∙ ap
+                (λ b. (record { level = 1; after = None }) ∷ dues (gap_if b 0 r.label 0 ++ []))
+                alone;
             label = ap (λ l. l.items) adds.label ∙ start.label;
             some = some_snoc R r;
           })
@@ -79,26 +122,37 @@ module _ (item : List ℕ → Type 0) {V : Type 0} where
           let nodes = ap (λ l. l.items) adds.nodes ∙ start.nodes in
           let waits = ap (λ l. l.items) adds.waiting ∙ start.waiting in
           let held = ap option_to_list adds.value_is in
-          let goes = start_alone item new.nodes.items new.root new.value nodes (adds.no_root c ∙ start.root) r level label alone (ap is_some adds.value_is ∙ vm) c in
+          let goes = start_alone item new.nodes.items new.root new.value nodes
+          (adds.no_root c ∙ start.root) r level label alone (ap is_some adds.value_is ∙ vm)
+          c in
           let tails : waiting ≡ [] = cc in
           subst (λ n. IsBuiltAs item n new (R ++ (r ∷ [])) (due_behind r ++ waiting) (vs ++ option_to_list x)) (sym (adds.beside c)) (record {
             gaps = [];
-            goes = subst (λ l. IsOpenBeside item new.nodes.items new.root new.value [] l (vs ++ option_to_list x)) (ap (λ l. l ++ (r ∷ [])) (sym none)) (subst (λ l. IsOpenBeside item new.nodes.items new.root new.value [] (r ∷ []) l) (held ∙ ap (λ l. l ++ option_to_list x) (sym no_values)) goes);
+            goes = subst
+                (λ l. IsOpenBeside item new.nodes.items new.root new.value [] l
+                (vs ++ option_to_list x)) (ap (λ l. l ++ (r ∷ [])) (sym none))
+                (subst (λ l. IsOpenBeside item new.nodes.items new.root new.value [] (r ∷ []) l)
+                (held ∙ ap (λ l. l ++ option_to_list x) (sym no_values)) goes);
             wait = record { ids_are = ap reverse (sym waits); fall = tt };
-            due_is = ap (λ w. due_behind r ++ w) tails ∙ due_next r 0 0 [] level ∙ ap (λ b. due_where b (record { level = 1; after = None }) ++ dues (gap_if r.sibling 0 r.label 0 ++ [])) c ∙ ap (λ b. dues (gap_if b 0 r.label 0 ++ [])) alone;
+            due_is = ap (λ w. due_behind r ++ w) tails ∙ due_next r 0 0 [] level ∙ ap
+                (λ b. due_where b (record { level = 1; after = None }) ++ dues
+                (gap_if r.sibling 0 r.label 0 ++ [])) c ∙ ap
+                (λ b. dues (gap_if b 0 r.label 0 ++ [])) alone;
             label = ap (λ l. l.items) adds.label ∙ start.label;
             some = some_snoc R r;
           })
 
   -- where no record is due, the nodes stand for a tree of the records
-  pub grown : (b : Builder V) (R : List Record) (vs : List V) → IsBuilt item b R [] vs → IsGrown item b.nodes.items b.root b.value R vs (below (count_of b)) (count_of b)
+  pub grown : (b : Builder V) (R : List Record) (vs : List V) → IsBuilt item b R [] vs
+      → IsGrown item b.nodes.items b.root b.value R vs (below (count_of b)) (count_of b)
   grown b R vs built = by b.next built
     where
       open_none : (gaps : List Gap) → [] ≡ dues gaps → gaps ≡ []
       open_none [] e = refl
       open_none (g ∷ gaps) e = absurd (cc)
 
-      by : (n : Next) → IsBuiltAs item n b R [] vs → IsGrown item b.nodes.items b.root b.value R vs (below (count_of b)) (count_of b)
+      by : (n : Next) → IsBuiltAs item n b R [] vs
+          → IsGrown item b.nodes.items b.root b.value R vs (below (count_of b)) (count_of b)
       by next.Root (none, e, no_values, start) = absurd (cc)
       by next.Below s = absurd (let e = s.due_is in cc)
       by next.Within s = absurd (let e = s.due_is in cc)
@@ -116,8 +170,12 @@ module _ (item : List ℕ → Type 0) {V : Type 0} where
           }
 
   -- and these are the keys of the tree
-  pub grown_tree : (nodes : List (Node V)) (root : Option ℕ) (value : Option V) (R : List Record) (vs : List V) (ids : ℕ → ℕ) (n : ℕ) → (g : IsGrown item nodes root value R vs ids n) → Root item R (keys_of (own value ++ entries g.written))
-  grown_tree nodes root value R vs ids n g = subst (λ l. Root item l (keys_of (own value ++ entries g.written))) (sym g.records) (tree_of item value g.written g.hangs.writable)
+  pub grown_tree : (nodes : List (Node V)) (root : Option ℕ) (value : Option V) (R : List Record)
+      (vs : List V) (ids : ℕ → ℕ) (n : ℕ) → (g : IsGrown item nodes root value R vs ids n)
+      → Root item R (keys_of (own value ++ entries g.written))
+  grown_tree nodes root value R vs ids n g = subst
+      (λ l. Root item l (keys_of (own value ++ entries g.written))) (sym g.records)
+      (tree_of item value g.written g.hangs.writable)
 
   -- nodes that are grown are whole, and mean what was read
   pub record IsDone (s : NodeArena V) (value : Option V) (b : List ℕ) (vs : List V) : Type 0 where
@@ -126,7 +184,10 @@ module _ (item : List ℕ → Type 0) {V : Type 0} where
     pub means : Means item 2 b vs (own value ++ entries_of s)
 
   -- when nothing is due, the nodes are those that the bytes and values mean
-  pub done : (kind : IsKeyKind item) (s : NodeArena V) (value : Option V) (R : List Record) (vs : List V) (b : List ℕ) → IsGrown item s.nodes.items s.root value R vs (below (length s.nodes.items)) (length s.nodes.items) → s.free ≡ None → EncodeAll 2 R b → IsDone s value b vs
+  pub done : (kind : IsKeyKind item) (s : NodeArena V) (value : Option V) (R : List Record)
+      (vs : List V) (b : List ℕ)
+      → IsGrown item s.nodes.items s.root value R vs (below (length s.nodes.items))
+      (length s.nodes.items) → s.free ≡ None → EncodeAll 2 R b → IsDone s value b vs
   done kind s value R vs b g free spelled =
       let plan : IsPlan s.nodes.items s.root g.plan = record { stands = g.hangs.stands; at_is = g.hangs.at_is; fits = omega (arith, g.sizes) } in
       let is = plan_is s.nodes.items s.root g.plan plan in

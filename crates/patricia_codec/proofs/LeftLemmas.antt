@@ -23,21 +23,26 @@ module _ {V : Type 0} where
   plan_link (Cell id l v c s) = refl
 
   -- a row is there where its number is
-  pub has_link : (nodes : List (Node V)) (at : Option ℕ) → IsPlan nodes at (plan_at nodes at) → is_some at ≡ has_node (row_at nodes at)
+  pub has_link : (nodes : List (Node V)) (at : Option ℕ) → IsPlan nodes at (plan_at nodes at)
+      → is_some at ≡ has_node (row_at nodes at)
   has_link nodes at w = ap is_some w.at_is ∙ plan_link (plan_at nodes at)
 
-  behind_zero : (m : ℕ) (l : List ℕ) (v : Option V) (c s : Siblings V) → m ≡ 0 → behind m (node l v c s) ≡ node (drop m l) v c s
+  behind_zero : (m : ℕ) (l : List ℕ) (v : Option V) (c s : Siblings V) → m ≡ 0
+      → behind m (node l v c s) ≡ node (drop m l) v c s
   behind_zero zero l v c s e = refl
   behind_zero (suc m) l v c s e = absurd (omega arith)
 
   -- what is behind a piece of a label is one node
-  pub behind_some : (m : ℕ) (l : List ℕ) (v : Option V) (c s : Siblings V) → m ≢ 0 → behind m (node l v c s) ≡ node (drop m l) v c end
+  pub behind_some : (m : ℕ) (l : List ℕ) (v : Option V) (c s : Siblings V) → m ≢ 0
+      → behind m (node l v c s) ≡ node (drop m l) v c end
   behind_some zero l v c s f = absurd (f refl)
   behind_some (suc m) l v c s f = refl
 
 module _ (item : List ℕ → Type 0) {V : Type 0} (nodes : List (Node V)) where
   -- one more row that waits
-  all_wait-snoc : (fs : List (ℕ × Option ℕ)) (f : ℕ × Option ℕ) (W X : List Record) → AllWait item nodes fs W → WaitsToWrite item nodes f X → AllWait item nodes (fs ++ f ∷ []) (X ++ W)
+  all_wait-snoc : (fs : List (ℕ × Option ℕ)) (f : ℕ × Option ℕ) (W X : List Record)
+      → AllWait item nodes fs W → WaitsToWrite item nodes f X
+      → AllWait item nodes (fs ++ f ∷ []) (X ++ W)
   all_wait-snoc [] f W X w x = ([], X, refl, x, rw w (append-nil X))
   all_wait-snoc (g ∷ fs) f W X (A, B, a, b, e) x = (X ++ A, B, all_wait-snoc fs f A X a x, b, ap (λ l. X ++ l) e ∙ sym (append_assoc X A B))
 
@@ -50,17 +55,27 @@ module _ (item : List ℕ → Type 0) {V : Type 0} (nodes : List (Node V)) where
     pub is : R ≡ here ++ waiting
 
   -- the last of the siblings that wait has its records
-  pub all_wait-last : (fs : List (ℕ × Option ℕ)) (f : ℕ × Option ℕ) (R : List Record) → AllWait item nodes (fs ++ f ∷ []) R → Last fs f R
+  pub all_wait-last : (fs : List (ℕ × Option ℕ)) (f : ℕ × Option ℕ) (R : List Record)
+      → AllWait item nodes (fs ++ f ∷ []) R → Last fs f R
   all_wait-last [] f R (A, B, a, b, e) = record { here = B; waiting = []; waits = b; all = refl; is = e ∙ ap (λ l. l ++ B) a ∙ sym (append-nil B) }
   all_wait-last (g ∷ fs) f R (A, B, a, b, e) =
       let last = all_wait-last fs f A a in
-      record { here = last.here; waiting = last.waiting ++ B; waits = last.waits; all = (last.waiting, B, last.all, b, refl); is = e ∙ ap (λ l. l ++ B) last.is ∙ append_assoc last.here last.waiting B }
+      record {
+        here = last.here;
+        waiting = last.waiting ++ B;
+        waits = last.waits;
+        all = (last.waiting, B, last.all, b, refl);
+        is = e ∙ ap (λ l. l ++ B) last.is ∙ append_assoc last.here last.waiting B;
+      }
 
-  weight_waiting-snoc : (fs : List (ℕ × Option ℕ)) (f : ℕ × Option ℕ) → weight_waiting nodes (fs ++ f ∷ []) ≡ weight (row_at nodes f.1) + weight_waiting nodes fs
+  weight_waiting-snoc : (fs : List (ℕ × Option ℕ)) (f : ℕ × Option ℕ)
+      → weight_waiting nodes (fs ++ f ∷ []) ≡ weight (row_at nodes f.1) + weight_waiting nodes fs
   weight_waiting-snoc [] f = omega arith
   weight_waiting-snoc (g ∷ fs) f = omega (arith, weight_waiting-snoc fs f)
 
-module _ (item : List ℕ → Type 0) (kind : IsKeyKind item) {V : Type 0} (p : Records V) (id : ℕ) (n : Node V) (plan : IsPlan (nodes_of p) p.next (plan_at (nodes_of p) p.next)) (next : p.next ≡ Some id) (reads : n ≡ get_or (nodes_of p) id n) where
+module _ (item : List ℕ → Type 0) (kind : IsKeyKind item) {V : Type 0} (p : Records V) (id : ℕ)
+    (n : Node V) (plan : IsPlan (nodes_of p) p.next (plan_at (nodes_of p) p.next))
+    (next : p.next ≡ Some id) (reads : n ≡ get_or (nodes_of p) id n) where
   abbrev pub children : Siblings V
   children = row_at (nodes_of p) n.child
 
@@ -73,13 +88,18 @@ module _ (item : List ℕ → Type 0) (kind : IsKeyKind item) {V : Type 0} (p : 
   sibling_plan : IsPlan (nodes_of p) n.sibling (plan_at (nodes_of p) n.sibling)
   sibling_plan = rw (plan_is (nodes_of p) n.sibling open_here.sibling open_here.sibling_plan) open_here.sibling_plan
 
-  row_is : row_at (nodes_of p) p.next ≡ node n.label n.value children (row_at (nodes_of p) n.sibling)
-  row_is = ap row open_here.is ∙ (λ i. node n.label n.value (row (sym (plan_is (nodes_of p) n.child open_here.child open_here.child_plan) i)) (row (sym (plan_is (nodes_of p) n.sibling open_here.sibling open_here.sibling_plan) i)))
+  row_is :
+      row_at (nodes_of p) p.next ≡ node n.label n.value children (row_at (nodes_of p) n.sibling)
+  row_is = ap row open_here.is ∙
+      (λ i. node n.label n.value
+      (row (sym (plan_is (nodes_of p) n.child open_here.child open_here.child_plan) i))
+      (row (sym (plan_is (nodes_of p) n.sibling open_here.sibling open_here.sibling_plan) i)))
 
   -- the row beside the record, which waits afterwards
   pub record Beside (at : Option ℕ) : Type 0 where
     pub stands : IsPlan (nodes_of p) at (plan_at (nodes_of p) at)
-    pub row_is : next_row p ≡ node (drop p.skipped n.label) n.value children (row_at (nodes_of p) at)
+    pub row_is :
+        next_row p ≡ node (drop p.skipped n.label) n.value children (row_at (nodes_of p) at)
 
   -- the first piece of a label has the node's sibling
   pub beside_first : (at : Option ℕ) → p.skipped ≡ 0 → at ≡ n.sibling → Beside at
@@ -95,7 +115,9 @@ module _ (item : List ℕ → Type 0) (kind : IsKeyKind item) {V : Type 0} (p : 
       let none = plan_is (nodes_of p) None Nil nothing in
       rw is (record {
         stands = rw none nothing;
-        row_is = ap (behind p.skipped) row_is ∙ behind_some p.skipped n.label n.value children (row_at (nodes_of p) n.sibling) some ∙ ap (λ r. node (drop p.skipped n.label) n.value children (row r)) (sym none);
+        row_is = ap (behind p.skipped) row_is ∙ behind_some p.skipped n.label n.value children
+            (row_at (nodes_of p) n.sibling) some ∙ ap
+            (λ r. node (drop p.skipped n.label) n.value children (row r)) (sym none);
       })
 
   -- what is next is some of the node
@@ -112,7 +134,8 @@ module _ (item : List ℕ → Type 0) (kind : IsKeyKind item) {V : Type 0} (p : 
     pub valid : IsValid item (drop p.skipped n.label)
     pub nonempty : drop p.skipped n.label ≢ []
 
-  row_left : (R : List Record) (a : AreRecordsLeft item p R) → AreRecords item p.level (node (drop p.skipped n.label) n.value children (row_at (nodes_of p) beside_some.0)) a.here
+  row_left : (R : List Record) (a : AreRecordsLeft item p R)
+      → AreRecords item p.level (node (drop p.skipped n.label) n.value children (row_at (nodes_of p) beside_some.0)) a.here
   row_left R a = let b = beside_some.1 in subst (λ r. AreRecords item p.level r a.here) b.row_is a.are_here
 
   -- where a record is left, its label is
@@ -137,12 +160,21 @@ module _ (item : List ℕ → Type 0) (kind : IsKeyKind item) {V : Type 0} (p : 
     pub record Below (value child : Bool) (under : Siblings V) : Type 0 where
       pub next_is : next_row q ≡ under
       pub stands : IsPlan (nodes_of q) q.next (plan_at (nodes_of q) q.next)
-      pub off : (b : Siblings V) (R : List Record) → AreRecords item p.level (node (drop p.skipped n.label) n.value children b) R
-          → Off item kind p.level (record { level = p.level; label = take k (drop p.skipped n.label); value = value; child = child; sibling = has_node b }) under b R
+      pub off : (b : Siblings V) (R : List Record)
+          → AreRecords item p.level (node (drop p.skipped n.label) n.value children b) R
+          → Off item kind p.level
+          (record {
+            level = p.level;
+            label = take k (drop p.skipped n.label);
+            value = value;
+            child = child;
+            sibling = has_node b;
+          }) under b R
       pub lighter : weight under < suc (length (drop p.skipped n.label) + weight children)
 
     -- behind the last piece come the children
-    pub below_whole : k ≡ length (drop p.skipped n.label) → q.next ≡ n.child → q.skipped ≡ 0 → Below (is_some n.value) (is_some n.child) children
+    pub below_whole : k ≡ length (drop p.skipped n.label) → q.next ≡ n.child → q.skipped ≡ 0
+        → Below (is_some n.value) (is_some n.child) children
     below_whole whole next_is none = record {
       next_is = rw (kept, next_is, none) refl;
       stands = rw (kept, next_is) child_plan;
@@ -150,26 +182,47 @@ module _ (item : List ℕ → Type 0) (kind : IsKeyKind item) {V : Type 0} (p : 
           let l = drop p.skipped n.label in
           let first = off_whole item kind p.level l n.value children b R a (omega (arith, whole, piece.fits)) in
           let label : take k l ≡ l = take_all k l (omega (arith, whole)) in
-          subst (λ r. Off item kind p.level r children b R) (λ i. record { level = p.level; label = sym label i; value = is_some n.value; child = sym (has_link (nodes_of p) n.child child_plan) i; sibling = has_node b }) first;
+          subst (λ r. Off item kind p.level r children b R)
+          (λ i. record {
+            level = p.level;
+            label = sym label i;
+            value = is_some n.value;
+            child =
+                sym (has_link (nodes_of p) n.child child_plan) i;
+            sibling = has_node b;
+          }) first;
       lighter = omega arith;
     }
 
     -- behind another piece comes the rest of the label
-    pub below_part : k < length (drop p.skipped n.label) → q.next ≡ p.next → q.skipped ≡ p.skipped + k → Below false true (node (drop k (drop p.skipped n.label)) n.value children end)
+    pub below_part : k < length (drop p.skipped n.label) → q.next ≡ p.next
+        → q.skipped ≡ p.skipped + k
+        → Below false true (node (drop k (drop p.skipped n.label)) n.value children end)
     below_part short next_is more = record {
-      next_is = rw (kept, next_is, more) (ap (behind (p.skipped + k)) row_is ∙ behind_some (p.skipped + k) n.label n.value children (row_at (nodes_of p) n.sibling) (λ e. omega (arith, e, piece.nonempty)) ∙ ap (λ l. node l n.value children end) (sym (drop-drop k p.skipped n.label)));
+      next_is = rw (kept, next_is, more)
+          (ap (behind (p.skipped + k)) row_is ∙ behind_some (p.skipped + k) n.label n.value
+          children (row_at (nodes_of p) n.sibling) (λ e. omega (arith, e, piece.nonempty)) ∙ ap
+          (λ l. node l n.value children end) (sym (drop-drop k p.skipped n.label)));
       stands = rw (kept, next_is) plan;
       off = λ b R a. off_part item kind p.level k (drop p.skipped n.label) n.value children b R a piece short;
       lighter = omega (arith, length-drop k (drop p.skipped n.label), piece.nonempty, short);
     }
 
     -- both together are the step
-    pub taken : (r : Record) (at : Option ℕ) (under : Siblings V) → Beside at → q.stack.items ≡ p.stack.items ++ (p.level, at) ∷ [] → Below r.value r.child under
-        → r.level ≡ p.level → r.label ≡ take k (drop p.skipped n.label) → r.sibling ≡ is_some at → p.level < 65536 → TakesRecord item p r q
+    pub taken : (r : Record) (at : Option ℕ) (under : Siblings V) → Beside at
+        → q.stack.items ≡ p.stack.items ++ (p.level, at) ∷ [] → Below r.value r.child under
+        → r.level ≡ p.level → r.label ≡ take k (drop p.skipped n.label) → r.sibling ≡ is_some at
+        → p.level < 65536 → TakesRecord item p r q
     taken r at under beside stack below level_is label_is sibling_is shallow =
         let b = row_at (nodes_of p) at in
         let first : Record = record { level = p.level; label = take k (drop p.skipped n.label); value = r.value; child = r.child; sibling = has_node b } in
-        let same : first ≡ r = λ i. record { level = sym level_is i; label = sym label_is i; value = r.value; child = r.child; sibling = sym (sibling_is ∙ has_link (nodes_of p) at beside.stands) i } in
+        let same : first ≡ r = λ i. record {
+          level = sym level_is i;
+          label = sym label_is i;
+          value = r.value;
+          child = r.child;
+          sibling = sym (sibling_is ∙ has_link (nodes_of p) at beside.stands) i;
+        } in
         subst (λ r. TakesRecord item p r q) same (record {
           left = λ R a.
               let off = below.off b a.here (subst (λ r. AreRecords item p.level r a.here) beside.row_is a.are_here) in
@@ -181,11 +234,23 @@ module _ (item : List ℕ → Type 0) (kind : IsKeyKind item) {V : Type 0} (p : 
                   here = off.below_records;
                   waiting = waiting;
                   are_here = rw (level, below.next_is) off.below;
-                  are_waiting = rw (kept, stack) (all_wait-snoc item (nodes_of p) p.stack.items (p.level, at) a.waiting off.beside_records a.are_waiting (beside.stands, off.later));
+                  are_waiting = rw (kept, stack)
+                      (all_wait-snoc item (nodes_of p) p.stack.items (p.level, at) a.waiting
+                      off.beside_records a.are_waiting (beside.stands, off.later));
                   is = refl;
                 },
               );
-          less = omega (arith, ap weight beside.row_is, ap weight below.next_is, ap (λ nodes. weight_waiting nodes q.stack.items) kept, ap (weight_waiting (nodes_of p)) stack, weight_waiting-snoc item (nodes_of p) p.stack.items (p.level, at), below.lighter);
+          less = omega (
+            arith,
+            ap weight beside.row_is,
+            ap weight below.next_is,
+            ap
+                (λ nodes. weight_waiting nodes q.stack.items) kept,
+            ap (weight_waiting (nodes_of p))
+                stack,
+            weight_waiting-snoc item (nodes_of p) p.stack.items (p.level, at),
+            below.lighter,
+          );
           fits = omega (arith, length-take k (drop p.skipped n.label), piece.fits);
           shallow = shallow;
         })
@@ -197,12 +262,14 @@ module _ {V : Type 0} where
   behind_end (suc m) (node l v c s) e = absurd (cc)
 
 -- an error that is passed up is the same error
-pub err_from : {A B E : Type 0} (x : Result A E) (y : Result B E) (e d : E) → x ≡ Err e → IsErrAnd y (λ f. f ≡ e) → y ≡ Err d → x ≡ Err d
+pub err_from : {A B E : Type 0} (x : Result A E) (y : Result B E) (e d : E) → x ≡ Err e
+    → IsErrAnd y (λ f. f ≡ e) → y ≡ Err d → x ≡ Err d
 err_from x (Ok b) e d is same again = absurd (cc)
 err_from x (Err f) e d is same again = (let found : f ≡ d = cc in is ∙ ap Err (sym same ∙ found))
 
 -- where no row is next
-module _ (item : List ℕ → Type 0) (kind : IsKeyKind item) {V : Type 0} (p : Records V) (next : p.next ≡ None) where
+module _ (item : List ℕ → Type 0) (kind : IsKeyKind item) {V : Type 0} (p : Records V)
+    (next : p.next ≡ None) where
   nothing : next_row p ≡ end
   nothing = behind_end p.skipped (row_at (nodes_of p) p.next) (ap (row_at (nodes_of p)) next ∙ row_none (nodes_of p))
 
@@ -214,10 +281,13 @@ module _ (item : List ℕ → Type 0) (kind : IsKeyKind item) {V : Type 0} (p : 
   ended none R a = none_here R a ∙ subst (λ l. AllWait item (nodes_of p) l a.waiting) none a.are_waiting
 
   -- and else the row that waits last is next
-  module _ (q : Records V) (level : ℕ) (at : Option ℕ) (stack : p.stack.items ≡ q.stack.items ++ (level, at) ∷ []) (kept : nodes_of q ≡ nodes_of p) (level_is : q.level ≡ level) (next_is : q.next ≡ at) (skipped : q.skipped ≡ 0) where
+  module _ (q : Records V) (level : ℕ) (at : Option ℕ)
+      (stack : p.stack.items ≡ q.stack.items ++ (level, at) ∷ []) (kept : nodes_of q ≡ nodes_of p)
+      (level_is : q.level ≡ level) (next_is : q.next ≡ at) (skipped : q.skipped ≡ 0) where
     back : (R : List Record) → AreRecordsLeft item p R → AreRecordsLeft item q R
     back R a =
-        let last = all_wait-last item (nodes_of p) q.stack.items (level, at) a.waiting (subst (λ l. AllWait item (nodes_of p) l a.waiting) stack a.are_waiting) in
+        let last = all_wait-last item (nodes_of p) q.stack.items (level, at) a.waiting
+        (subst (λ l. AllWait item (nodes_of p) l a.waiting) stack a.are_waiting) in
         record {
           plan = rw (kept, next_is) last.waits.0;
           here = last.here;
@@ -230,7 +300,16 @@ module _ (item : List ℕ → Type 0) (kind : IsKeyKind item) {V : Type 0} (p : 
     back_weight : weight_left q ≡ weight_left p
     back_weight =
         let here : next_row q ≡ row_at (nodes_of p) at = rw (kept, next_is, skipped) refl in
-        omega (arith, ap weight nothing, ap weight here, ap (λ nodes. weight_waiting nodes q.stack.items) kept, ap (weight_waiting (nodes_of p)) stack, weight_waiting-snoc item (nodes_of p) q.stack.items (level, at))
+        omega (
+          arith,
+          ap weight nothing,
+          ap weight here,
+          ap
+              (λ nodes. weight_waiting nodes q.stack.items) kept,
+          ap (weight_waiting (nodes_of p))
+              stack,
+          weight_waiting-snoc item (nodes_of p) q.stack.items (level, at),
+        )
 
     -- a step back to the siblings that wait last
     pub goes_back : vec_len q.stack < vec_len p.stack → GoesBack item p q

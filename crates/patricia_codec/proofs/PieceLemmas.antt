@@ -31,7 +31,8 @@ module _ (item : List ℕ → Type 0) (kind : IsKeyKind item) where
   no_item i p b = (let h = kind.sized i p in omega (arith, ap length b.1, length-append i b.0, h.0))
 
   -- a label of at most 255 bytes is one piece
-  pub piece_whole : (l : List ℕ) → IsValid item l → l ≢ [] → length l ≤ 255 → IsPiece item l (length l)
+  pub piece_whole : (l : List ℕ) → IsValid item l → l ≢ [] → length l ≤ 255
+      → IsPiece item l (length l)
   piece_whole l valid nonempty fits = record {
     within = omega arith;
     fits = fits;
@@ -49,7 +50,8 @@ module _ (item : List ℕ → Type 0) (kind : IsKeyKind item) where
       none (x ∷ l) = none l
 
   -- and else the floor of what fits
-  pub piece_floor : (l : List ℕ) (n : ℕ) → IsValid item l → l ≢ [] → 255 < length l → IsFloor item (take 255 l) n → IsPiece item l n
+  pub piece_floor : (l : List ℕ) (n : ℕ) → IsValid item l → l ≢ [] → 255 < length l
+      → IsFloor item (take 255 l) n → IsPiece item l n
   piece_floor l n valid nonempty long floor =
       let len = length-take 255 l in
       let short : n ≤ 255 = omega (arith, floor.within) in
@@ -75,7 +77,9 @@ module _ (item : List ℕ → Type 0) (kind : IsKeyKind item) where
       }
     where
       -- whole items at the front of a label that fit are in what fits
-      takes : (a i r : List ℕ) → IsValid item a → item i → a ++ (i ++ r) ≡ l → length a + length i ≤ 255 → (length (a ++ i) ≤ length (take 255 l)) × IsValid item (take (length (a ++ i)) (take 255 l))
+      takes : (a i r : List ℕ) → IsValid item a → item i → a ++ (i ++ r) ≡ l
+          → length a + length i ≤ 255
+          → (length (a ++ i) ≤ length (take 255 l)) × IsValid item (take (length (a ++ i)) (take 255 l))
       takes a i r ok p is room =
           let whole : (a ++ i) ++ r ≡ l = append_assoc a i r ∙ is in
           let at : take (length (a ++ i)) l ≡ a ++ i = ap (take (length (a ++ i))) (sym whole) ∙ take_at (a ++ i) r (length (a ++ i)) refl in
@@ -93,7 +97,8 @@ pub record First (d : ℕ) (R : List Record) : Type 0 where
 
 module _ (item : List ℕ → Type 0) (kind : IsKeyKind item) {V : Type 0} where
   -- a row has records
-  pub some_records : (d : ℕ) (r : Siblings V) → IsCanonical item r → (R : List Record) × AreRecords item d r R
+  pub some_records : (d : ℕ) (r : Siblings V) → IsCanonical item r
+      → (R : List Record) × AreRecords item d r R
   some_records d r ok = let c = cut_row item kind r ok in (records_of d c.row, record { canonical = ok; cut = c.row; cut_ok = c.ok; same = c.same; is = refl })
 
   -- no node has no record
@@ -109,13 +114,22 @@ module _ (item : List ℕ → Type 0) (kind : IsKeyKind item) {V : Type 0} where
     pub later : AreRecords item d beside beside_records
 
   -- a whole label is taken off
-  pub off_whole : (d : ℕ) (l : List ℕ) (v : Option V) (c s : Siblings V) (R : List Record) → AreRecords item d (node l v c s) R → length l ≤ 255 → Off d (record_of d l v c s) c s R
+  pub off_whole : (d : ℕ) (l : List ℕ) (v : Option V) (c s : Siblings V) (R : List Record)
+      → AreRecords item d (node l v c s) R → length l ≤ 255 → Off d (record_of d l v c s) c s R
   off_whole d l v c s R a fits =
       let ok = a.canonical in
       let child = cut_row item kind c ok.child in
       let sibling = cut_row item kind s ok.sibling in
       let made = node l v child.row sibling.row in
-      let made_ok : IsCanonicalWithin item (Some 255) made = record { valid = ok.valid; nonempty = ok.nonempty; fits = fits; earns = earns_on item kind l l v c child.row ok.child ok.earns child.wide; rises = sibling.before l ok.rises; child = child.ok; sibling = sibling.ok } in
+      let made_ok : IsCanonicalWithin item (Some 255) made = record {
+        valid = ok.valid;
+        nonempty = ok.nonempty;
+        fits = fits;
+        earns = earns_on item kind l l v c child.row ok.child ok.earns child.wide;
+        rises = sibling.before l ok.rises;
+        child = child.ok;
+        sibling = sibling.ok;
+      } in
       let same : entries made ≡ entries (node l v c s) = λ i. prefixed l (own v ++ child.same i) ++ sibling.same i in
       let one = same_row item kind (Some 255) a.cut made a.cut_ok made_ok (a.same ∙ sym same) in
       let has_child = has_node-width child.row c child.wide in
@@ -123,19 +137,30 @@ module _ (item : List ℕ → Type 0) (kind : IsKeyKind item) {V : Type 0} where
       record {
         below_records = records_of (d + 1) child.row;
         beside_records = records_of d sibling.row;
-        is = a.is ∙ ap (records_of d) one ∙ (λ i. record { level = d; label = l; value = (record_of d l v c s).value; child = has_child i; sibling = has_sibling i } ∷ (records_of (d + 1) child.row ++ records_of d sibling.row));
+        is = a.is ∙ ap (records_of d) one ∙
+            (λ i. record {
+              level = d;
+              label = l;
+              value = (record_of d l v c s).value;
+              child =
+                  has_child i;
+              sibling = has_sibling i;
+            } ∷ (records_of (d + 1) child.row ++ records_of d sibling.row));
         below = record { canonical = ok.child; cut = child.row; cut_ok = child.ok; same = child.same; is = refl };
         later = record { canonical = ok.sibling; cut = sibling.row; cut_ok = sibling.ok; same = sibling.same; is = refl };
       }
 
-  earns_any : (l m : List ℕ) (v : Option V) (c : Siblings V) → EarnsWithin item None l v c → EarnsWithin item None m v c
+  earns_any : (l m : List ℕ) (v : Option V) (c : Siblings V) → EarnsWithin item None l v c
+      → EarnsWithin item None m v c
   earns_any l m (Some x) c e = tt
   earns_any l m None end e = e
   earns_any l m None (node l1 v1 c1 end) e = e
   earns_any l m None (node l1 v1 c1 (node l2 v2 c2 s2)) e = tt
 
   -- the rest of a label with what is below it is a row
-  rest_row : (n : ℕ) (l : List ℕ) (v : Option V) (c s : Siblings V) → IsCanonical item (node l v c s) → IsPiece item l n → n < length l → IsCanonical item (node (drop n l) v c end)
+  rest_row : (n : ℕ) (l : List ℕ) (v : Option V) (c s : Siblings V)
+      → IsCanonical item (node l v c s) → IsPiece item l n → n < length l
+      → IsCanonical item (node (drop n l) v c end)
   rest_row n l v c s ok piece short = record {
     valid = valid_rest item kind (take n l) (drop n l) piece.valid (rw (take-append-drop n l) ok.valid);
     nonempty = drop_filled n l short;
@@ -147,14 +172,19 @@ module _ (item : List ℕ → Type 0) (kind : IsKeyKind item) {V : Type 0} where
   }
 
   -- a piece is taken off
-  pub off_part : (d n : ℕ) (l : List ℕ) (v : Option V) (c s : Siblings V) (R : List Record) → AreRecords item d (node l v c s) R → IsPiece item l n → n < length l
-      → Off d (record { level = d; label = take n l; value = false; child = true; sibling = has_node s }) (node (drop n l) v c end) s R
+  pub off_part : (d n : ℕ) (l : List ℕ) (v : Option V) (c s : Siblings V) (R : List Record)
+      → AreRecords item d (node l v c s) R → IsPiece item l n → n < length l
+      → Off d (record { level = d; label = take n l; value = false; child = true; sibling = has_node s })
+      (node (drop n l) v c end) s R
   off_part d n l v c s R a piece short =
       let ok = a.canonical in
       let rest_ok = rest_row n l v c s ok piece short in
       let child = cut_row item kind c ok.child in
       let sibling = cut_row item kind s ok.sibling in
-      let b = chain item kind (length (drop n l)) (drop n l) v child.row end (omega arith) rest_ok.valid rest_ok.nonempty (λ m. earns_on item kind l m v c child.row ok.child ok.earns child.wide) child.ok tt tt in
+      let b = chain item kind (length (drop n l)) (drop n l) v child.row end (omega arith)
+      rest_ok.valid rest_ok.nonempty
+      (λ m. earns_on item kind l m v c child.row ok.child ok.earns child.wide) child.ok tt
+      tt in
       let inner = node b.label b.value b.child end in
       let inner_same : entries inner ≡ entries (node (drop n l) v c end) = b.same ∙ (λ i. prefixed (drop n l) (own v ++ child.same i) ++ []) in
       let joined = take-append-drop n l in
@@ -163,8 +193,12 @@ module _ (item : List ℕ → Type 0) (kind : IsKeyKind item) {V : Type 0} where
         valid = piece.valid;
         nonempty = take_filled n l piece.nonempty piece.within;
         fits = omega (arith, length-take n l, piece.fits);
-        earns = λ i p begins room. (let over = piece.full i p (Begins-trans i b.label (drop n l) begins b.begins) in omega (arith, length-append (take n l) i, length-take n l, piece.within));
-        rises = before_row_left item kind l (take n l) sibling.row piece.valid (take_filled n l piece.nonempty piece.within) (drop n l, joined) (sibling.before l ok.rises);
+        earns = λ i p begins room.
+            (let over = piece.full i p (Begins-trans i b.label (drop n l) begins b.begins) in omega
+            (arith, length-append (take n l) i, length-take n l, piece.within));
+        rises = before_row_left item kind l (take n l) sibling.row piece.valid
+            (take_filled n l piece.nonempty piece.within) (drop n l, joined)
+            (sibling.before l ok.rises);
         child = b.ok;
         sibling = sibling.ok;
       } in
@@ -177,13 +211,22 @@ module _ (item : List ℕ → Type 0) (kind : IsKeyKind item) {V : Type 0} where
       record {
         below_records = records_of (d + 1) inner;
         beside_records = records_of d sibling.row;
-        is = a.is ∙ ap (records_of d) one ∙ (λ i. record { level = d; label = take n l; value = false; child = true; sibling = has_sibling i } ∷ (records_of (d + 1) inner ++ records_of d sibling.row));
+        is = a.is ∙ ap (records_of d) one ∙
+            (λ i. record {
+              level = d;
+              label = take n l;
+              value = false;
+              child = true;
+              sibling =
+                  has_sibling i;
+            } ∷ (records_of (d + 1) inner ++ records_of d sibling.row));
         below = record { canonical = rest_ok; cut = inner; cut_ok = b.ok; same = inner_same; is = refl };
         later = record { canonical = ok.sibling; cut = sibling.row; cut_ok = sibling.ok; same = sibling.same; is = refl };
       }
 
   -- the first record of a node is the first piece of its label
-  pub first_record : (d : ℕ) (l : List ℕ) (v : Option V) (c s : Siblings V) (R : List Record) → AreRecords item d (node l v c s) R → First d R
+  pub first_record : (d : ℕ) (l : List ℕ) (v : Option V) (c s : Siblings V) (R : List Record)
+      → AreRecords item d (node l v c s) R → First d R
   first_record d l v c s R a = by a.cut refl
     where
       by : (r : Siblings V) → a.cut ≡ r → First d R
@@ -191,4 +234,9 @@ module _ (item : List ℕ → Type 0) (kind : IsKeyKind item) {V : Type 0} where
           let some = has_entry item kind None l v c s a.canonical in
           let none : [] ≡ prefixed l (some.0 ∷ some.1) ++ entries s = ap entries (sym e) ∙ a.same ∙ ap (λ es. prefixed l es ++ entries s) some.2 in
           absurd (cc)
-      by (node l' v' c' s') e = record { first = record_of d l' v' c' s'; more = records_of (d + 1) c' ++ records_of d s'; is = a.is ∙ ap (records_of d) e; level = refl }
+      by (node l' v' c' s') e = record {
+        first = record_of d l' v' c' s';
+        more = records_of (d + 1) c' ++ records_of d s';
+        is = a.is ∙ ap (records_of d) e;
+        level = refl;
+      }

@@ -18,24 +18,38 @@ use Rattle.patricia_codec.specs.Internal.Steps.{Fronts, sibling_then_child, Name
 
 module _ (item : List ℕ → Type 0) (p : Reader) (n : ℕ) where
   -- bytes are left behind the tree
-  pub refused_behind : (R : List Record) (E : List (List ℕ)) → IsReading item n p R [] → Root item R E → p.offset < length p.bytes.now → IsRefusal item 2 p.bytes.now n (TrailingBytes p.offset)
+  pub refused_behind : (R : List Record) (E : List (List ℕ)) → IsReading item n p R []
+      → Root item R E → p.offset < length p.bytes.now
+      → IsRefusal item 2 p.bytes.now n (TrailingBytes p.offset)
   refused_behind R E reading tree less =
-      inr (first_trailing item n 2 p.bytes.now R p.offset (drop p.offset p.bytes.now) E reading.read reading.reads tree (λ none. omega (arith, less, ap length none, length-drop p.offset p.bytes.now)))
+      inr (first_trailing item n 2 p.bytes.now R p.offset (drop p.offset p.bytes.now) E
+      reading.read reading.reads tree
+      (λ none. omega (arith, less, ap length none, length-drop p.offset p.bytes.now)))
 
   -- all bytes are read
-  pub spelled_all : (R : List Record) (due : List Due) → IsReading item n p R due → length p.bytes.now ≤ p.offset → EncodeAll 2 R p.bytes.now
+  pub spelled_all : (R : List Record) (due : List Due) → IsReading item n p R due
+      → length p.bytes.now ≤ p.offset → EncodeAll 2 R p.bytes.now
   spelled_all R due reading over =
       let none = nil_from_length (drop p.offset p.bytes.now) (omega (arith, over, length-drop p.offset p.bytes.now)) in
       subst (EncodeAll 2 R) (sym (append-nil reading.reads.read) ∙ ap (λ l. reading.reads.read ++ l) (sym none) ∙ reading.reads.joined) reading.reads.spelled
 
   -- values are left behind the tree
-  pub refused_values : (R : List Record) (E : List (List ℕ)) → IsReading item n p R [] → Root item R E → length p.bytes.now ≤ p.offset → value_marks R < n → IsRefusal item 2 p.bytes.now n TooManyValues
+  pub refused_values : (R : List Record) (E : List (List ℕ)) → IsReading item n p R []
+      → Root item R E → length p.bytes.now ≤ p.offset → value_marks R < n
+      → IsRefusal item 2 p.bytes.now n TooManyValues
   refused_values R E reading tree over less =
       inr (first_too_many item n 2 p.bytes.now R E reading.read (spelled_all R [] reading over) tree less)
 
-spell_all-snoc : (w : ℕ) (R : List Record) (b : List ℕ) (r : Record) (c : List ℕ) → EncodeAll w R b → Encodes w r c → EncodeAll w (R ++ (r ∷ [])) (b ++ c)
+spell_all-snoc : (w : ℕ) (R : List Record) (b : List ℕ) (r : Record) (c : List ℕ) → EncodeAll w R b
+    → Encodes w r c → EncodeAll w (R ++ (r ∷ [])) (b ++ c)
 spell_all-snoc w [] b r c none one = record { first = c; rest = []; spelled = one; others = refl; joined = ap (λ l. l ++ c) none ∙ sym (append-nil c) }
-spell_all-snoc w (x ∷ R) b r c all one = record { first = all.first; rest = all.rest ++ c; spelled = all.spelled; others = spell_all-snoc w R all.rest r c all.others one; joined = ap (λ l. l ++ c) all.joined ∙ append_assoc all.first all.rest c }
+spell_all-snoc w (x ∷ R) b r c all one = record {
+  first = all.first;
+  rest = all.rest ++ c;
+  spelled = all.spelled;
+  others = spell_all-snoc w R all.rest r c all.others one;
+  joined = ap (λ l. l ++ c) all.joined ∙ append_assoc all.first all.rest c;
+}
 
 drop_front : (a b : List ℕ) (n : ℕ) → n ≡ length a → drop n (a ++ b) ≡ b
 drop_front a b n e = ap (λ k. drop k (a ++ b)) e ∙ go a
@@ -44,7 +58,8 @@ drop_front a b n e = ap (λ k. drop k (a ++ b)) e ∙ go a
     go [] = refl
     go (x ∷ a) = go a
 
-flipped : (s c : Bool) (x y : Due) → reverse (due_where s x ++ due_where c y) ≡ due_where c y ++ due_where s x
+flipped : (s c : Bool) (x y : Due)
+    → reverse (due_where s x ++ due_where c y) ≡ due_where c y ++ due_where s x
 flipped true true x y = refl
 flipped true false x y = refl
 flipped false true x y = refl
@@ -55,12 +70,23 @@ spelled_length r b s = omega (arith, ap length s.is)
 
 module _ (item : List ℕ → Type 0) where
   -- nothing is due
-  pub ended : (p q : Reader) → q.bytes.now ≡ p.bytes.now → q.offset ≡ p.offset → p.due.items ≡ [] → q.due.items ≡ [] → Ends item p q
+  pub ended : (p q : Reader) → q.bytes.now ≡ p.bytes.now → q.offset ≡ p.offset → p.due.items ≡ []
+      → q.due.items ≡ [] → Ends item p q
   ended p q bytes offset none also n before due reading =
-      let over : due ≡ [] = sym reading.due_is ∙ ap reverse none in
-      (over, record { read = subst (IsRead item n before) over reading.read; reads = rw (bytes, offset) reading.reads; due_is = ap reverse also; after = All-nil (IsAfter item) })
+      let over : due ≡ [] = sym reading.due_is ∙ ap reverse none in (
+        over,
+        record {
+          read = subst (IsRead item n before) over reading.read;
+          reads =
+              rw (bytes, offset) reading.reads;
+          due_is = ap reverse also;
+          after = All-nil (IsAfter item);
+        },
+      )
 
-  module _ (p : Reader) (d : Due) (others : List Due) (top : p.due.items ≡ others ++ d ∷ []) (n : ℕ) (before : List Record) (due : List Due) (reading : IsReading item n p before due) where
+  module _ (p : Reader) (d : Due) (others : List Due) (top : p.due.items ≡ others ++ d ∷ [])
+      (n : ℕ) (before : List Record) (due : List Due)
+      (reading : IsReading item n p before due) where
     -- the record that is due next
     pub next_due : due ≡ d ∷ reverse others
     next_due = sym reading.due_is ∙ ap reverse top ∙ reverse-append others (d ∷ [])
@@ -73,59 +99,94 @@ module _ (item : List ℕ → Type 0) where
     pub after_next : IsAfter item d
     after_next = All-head (IsAfter item) d (reverse others) (subst (All (IsAfter item)) next_due reading.after)
 
-    left_is : take (length p.bytes.now - p.offset) (drop p.offset p.bytes.now) ≡ drop p.offset p.bytes.now
+    left_is :
+        take (length p.bytes.now - p.offset) (drop p.offset p.bytes.now) ≡ drop p.offset p.bytes.now
     left_is = take_all (length p.bytes.now - p.offset) (drop p.offset p.bytes.now) (omega (arith, length-drop p.offset p.bytes.now))
 
     -- too few bytes are left for it
-    pub refused_cut : IsCutShort 2 (take (length p.bytes.now - p.offset) (drop p.offset p.bytes.now)) → IsRefusal item 2 p.bytes.now n (Truncated p.offset)
-    refused_cut short = inr (first_cut_short item n 2 p.bytes.now before d (reverse others) p.offset (drop p.offset p.bytes.now) read_on reading.reads (subst (IsCutShort 2) left_is short))
+    pub refused_cut :
+        IsCutShort 2 (take (length p.bytes.now - p.offset) (drop p.offset p.bytes.now))
+        → IsRefusal item 2 p.bytes.now n (Truncated p.offset)
+    refused_cut short = inr
+        (first_cut_short item n 2 p.bytes.now before d (reverse others) p.offset
+        (drop p.offset p.bytes.now) read_on reading.reads (subst (IsCutShort 2) left_is short))
 
-    module _ (left : ℕ) (count : left + value_marks before ≡ n) (r : Record) (front : Fronts r (take (length p.bytes.now - p.offset) (drop p.offset p.bytes.now))) where
+    module _ (left : ℕ) (count : left + value_marks before ≡ n) (r : Record)
+        (front : Fronts r (take (length p.bytes.now - p.offset) (drop p.offset p.bytes.now))) where
       is_front : drop p.offset p.bytes.now ≡ front.first ++ front.rest
       is_front = sym left_is ∙ front.joined
 
       -- it breaks a rule
-      pub refused_record : (e : DecodeError) → NamesFirst item d left r p.offset e → IsRefusal item 2 p.bytes.now n e
+      pub refused_record : (e : DecodeError) → NamesFirst item d left r p.offset e
+          → IsRefusal item 2 p.bytes.now n e
       refused_record e b =
           let broken = faulty item n left before d (reverse others) r read_on count b.rule b.broken in
           let reads = subst (Reads 2 p.bytes.now before p.offset) is_front reading.reads in
-          inr (subst (IsFirst item 2 p.bytes.now n) (sym b.names) (first_in_record item n 2 p.bytes.now before d (reverse others) p.offset r front.first front.rest b.rule read_on reads front.spelled broken))
+          inr (subst (IsFirst item 2 p.bytes.now n) (sym b.names)
+          (first_in_record item n 2 p.bytes.now before d (reverse others) p.offset r
+          front.first front.rest b.rule read_on reads front.spelled broken))
 
       -- it is read
-      pub read_next : (q : Reader) → IsAccepted item d left r → q.bytes.now ≡ p.bytes.now → q.offset ≡ p.offset + (4 + length r.label) → q.due.items ≡ others ++ sibling_then_child r → IsReading item n q (before ++ (r ∷ [])) (due_behind r ++ reverse others)
+      pub read_next : (q : Reader) → IsAccepted item d left r → q.bytes.now ≡ p.bytes.now
+          → q.offset ≡ p.offset + (4 + length r.label)
+          → q.due.items ≡ others ++ sibling_then_child r
+          → IsReading item n q (before ++ (r ∷ [])) (due_behind r ++ reverse others)
       read_next q keeps bytes offset dues = record {
         read = one_more before r d (reverse others) read_on (faultless item n left before d (reverse others) r read_on count keeps.rules);
         reads = rw (bytes, offset) (record {
           read = reading.reads.read ++ front.first;
           spelled = spell_all-snoc 2 before reading.reads.read r front.first reading.reads.spelled front.spelled;
-          joined = ap (λ l. (reading.reads.read ++ front.first) ++ l) rest_is ∙ append_assoc reading.reads.read front.first front.rest ∙ ap (λ l. reading.reads.read ++ l) (sym is_front) ∙ reading.reads.joined;
+          joined = ap (λ l. (reading.reads.read ++ front.first) ++ l) rest_is ∙ append_assoc
+              reading.reads.read front.first front.rest ∙ ap (λ l. reading.reads.read ++ l)
+              (sym is_front) ∙ reading.reads.joined;
           ends = omega (arith, length-append reading.reads.read front.first, reading.reads.ends, spelled_length r front.first front.spelled);
         });
         due_is = ap reverse dues ∙ reverse-append others (sibling_then_child r) ∙ ap (λ l. l ++ reverse others) (flipped r.sibling r.child _ _);
-        after = All-append (IsAfter item) (due_behind r) (reverse others) (All-append (IsAfter item) (child_due r) (sibling_due r) (child_after r.child) (sibling_after r.sibling refl)) (All-tail (IsAfter item) d (reverse others) (subst (All (IsAfter item)) next_due reading.after));
+        after = All-append (IsAfter item) (due_behind r) (reverse others)
+            (All-append (IsAfter item) (child_due r) (sibling_due r) (child_after r.child)
+            (sibling_after r.sibling refl))
+            (All-tail (IsAfter item) d (reverse others)
+            (subst (All (IsAfter item)) next_due reading.after));
       }
         where
           whole : p.bytes.now ≡ (reading.reads.read ++ front.first) ++ front.rest
           whole = sym reading.reads.joined ∙ ap (λ l. reading.reads.read ++ l) is_front ∙ sym (append_assoc reading.reads.read front.first front.rest)
 
           rest_is : drop (p.offset + (4 + length r.label)) p.bytes.now ≡ front.rest
-          rest_is = ap (drop (p.offset + (4 + length r.label))) whole ∙ drop_front (reading.reads.read ++ front.first) front.rest (p.offset + (4 + length r.label)) (omega (arith, length-append reading.reads.read front.first, reading.reads.ends, spelled_length r front.first front.spelled))
+          rest_is = ap (drop (p.offset + (4 + length r.label))) whole ∙ drop_front
+              (reading.reads.read ++ front.first) front.rest (p.offset + (4 + length r.label))
+              (omega (
+                arith,
+                length-append reading.reads.read front.first,
+                reading.reads.ends,
+                spelled_length r front.first front.spelled,
+              ))
 
           at_level : r.level ≡ d.level
           at_level = same_number r.level d.level (keeps.rules level)
 
-          child_after : (b : Bool) → All (IsAfter item) (due_where b (record { level = r.level + 1; after = None }))
+          child_after : (b : Bool)
+              → All (IsAfter item) (due_where b (record { level = r.level + 1; after = None }))
           child_after true = All-cons (IsAfter item) (record { level = r.level + 1; after = None }) [] (λ l none. absurd (cc)) (All-nil (IsAfter item))
           child_after false = All-nil (IsAfter item)
 
-          sibling_after : (b : Bool) → r.sibling ≡ b → All (IsAfter item) (due_where b (record { level = r.level; after = Some r.label }))
+          sibling_after : (b : Bool) → r.sibling ≡ b
+              → All (IsAfter item) (due_where b (record { level = r.level; after = Some r.label }))
           sibling_after true many = All-cons (IsAfter item) (record { level = r.level; after = Some r.label }) [] (λ l is.
               let same : r.label ≡ l = cc in
-              let inner : d.level ≢ 0 = λ z. keeps.rules root_sibling (z, many) in
-              (subst (IsValid item) same keeps.label.0, (λ none. keeps.rules empty_label (inner, same ∙ none)), λ z. inner (sym at_level ∙ z))) (All-nil (IsAfter item))
+              let inner : d.level ≢ 0 = λ z. keeps.rules root_sibling (z, many) in (
+                subst (IsValid item) same keeps.label.0,
+                (λ none. keeps.rules empty_label (inner, same ∙ none)),
+                λ z. inner
+                    (sym at_level ∙ z),
+              )) (All-nil (IsAfter item))
           sibling_after false alone = All-nil (IsAfter item)
 
     -- a record was read, and what is due behind it takes its place
-    pub went_on : (q : Reader) (left : ℕ) (r : Record) → Fronts r (take (length p.bytes.now - p.offset) (drop p.offset p.bytes.now)) → left + value_marks before ≡ n → IsAccepted item d left r → q.bytes.now ≡ p.bytes.now → q.offset ≡ p.offset + (4 + length r.label) → q.due.items ≡ others ++ sibling_then_child r
-        → (next : Due) × (waiting : List Due) × (due ≡ next ∷ waiting) × IsAccepted item next left r × IsReading item n q (before ++ (r ∷ [])) (due_behind r ++ waiting)
+    pub went_on : (q : Reader) (left : ℕ) (r : Record)
+        → Fronts r (take (length p.bytes.now - p.offset) (drop p.offset p.bytes.now))
+        → left + value_marks before ≡ n → IsAccepted item d left r → q.bytes.now ≡ p.bytes.now
+        → q.offset ≡ p.offset + (4 + length r.label) → q.due.items ≡ others ++ sibling_then_child r
+        → (next : Due) × (waiting : List Due) × (due ≡ next ∷ waiting) × IsAccepted item next left r × IsReading item n q (before ++ (r ∷ []))
+        (due_behind r ++ waiting)
     went_on q left r front count keeps bytes offset dues = (d, reverse others, next_due, keeps, read_next left count r front q keeps bytes offset dues)

@@ -25,16 +25,33 @@ module _ {V : Type 0} where
   -- each entry has its node
   entries_few : (d : ℕ) (row : Siblings V) → length (entries row) ≤ length (records_of d row)
   entries_few d end = omega arith
-  entries_few d (node l v c s) = omega (arith, entries_few (d + 1) c, entries_few d s, own_few v, length-append (records_of (d + 1) c) (records_of d s), length-append (prefixed l (own v ++ entries c)) (entries s), length-prefixed l (own v ++ entries c), length-append (own v) (entries c))
+  entries_few d (node l v c s) = omega (
+    arith,
+    entries_few (d + 1) c,
+    entries_few d s,
+    own_few v,
+    length-append
+        (records_of (d + 1) c) (records_of d s),
+    length-append (prefixed l (own v ++ entries c))
+        (entries s),
+    length-prefixed l (own v ++ entries c),
+    length-append (own v) (entries c),
+  )
 
 -- there are at most half as many values as bytes
-pub few_values : (item : List ℕ → Type 0) {V : Type 0} (w : ℕ) (b : List ℕ) (values : List V) (rows : List (List ℕ × V)) → Means item w b values rows → 2 * length values ≤ length b
+pub few_values : (item : List ℕ → Type 0) {V : Type 0} (w : ℕ) (b : List ℕ) (values : List V)
+    (rows : List (List ℕ × V)) → Means item w b values rows → 2 * length values ≤ length b
 few_values item w b values rows m =
     let t = stands_tree item m.records _ m.root in
-    let count = ap length m.in_place ∙ length-map rows (λ e. e.1) ∙ sym (length-map rows (λ e. e.0)) ∙ sym (ap length t.keys) ∙ length-map (own t.value ++ entries t.row) (λ e. e.0) ∙ length-append (own t.value) (entries t.row) in
+    let count = ap length m.in_place ∙ length-map rows (λ e. e.1) ∙ sym
+    (length-map rows (λ e. e.0)) ∙ sym (ap length t.keys) ∙ length-map
+    (own t.value ++ entries t.row) (λ e. e.0) ∙ length-append (own t.value) (entries t.row)
+    in
     omega (arith, count, own_few t.value, entries_few 1 t.row, ap length t.records, spelled_long w m.records b m.spelled)
 
 -- the keys that are not empty are as many as the values, less one where the empty key has a value
-pub row_count : (item : List ℕ → Type 0) {V : Type 0} (w : ℕ) (b : List ℕ) (values : List V) (value : Option V) (es : List (List ℕ × V)) → Means item w b values (own value ++ es) → length values ≡ length es + cond (is_some value) 1 0
+pub row_count : (item : List ℕ → Type 0) {V : Type 0} (w : ℕ) (b : List ℕ) (values : List V)
+    (value : Option V) (es : List (List ℕ × V)) → Means item w b values (own value ++ es)
+    → length values ≡ length es + cond (is_some value) 1 0
 row_count item w b values None es m = ap length m.in_place ∙ length-map es (λ e. e.1) ∙ omega arith
 row_count item w b values (Some v) es m = ap length m.in_place ∙ length-map (own (Some v) ++ es) (λ e. e.1) ∙ omega arith

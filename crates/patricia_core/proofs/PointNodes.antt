@@ -17,11 +17,28 @@ module _ {V : Type 0} where
   -- each node has one path
   path_each : (p : Plan V) → length (paths (row p)) ≡ size p
   path_each Nil = refl
-  path_each (Cell id l v c s) = omega (arith, path_each c, path_each s, length-append (map (λ p. l ++ p) (paths (row c))) (paths (row s)), length-map (paths (row c)) (λ p. l ++ p))
+  path_each (Cell id l v c s) = omega (
+    arith,
+    path_each c,
+    path_each s,
+    length-append (map (λ p. l ++ p) (paths (row c)))
+        (paths (row s)),
+    length-map (paths (row c)) (λ p. l ++ p),
+  )
 
   -- there is a node for each point of the keys
-  pub node_each : (item : List ℕ → Type 0) → IsKeyKind item → (v : Option V) (s : NodeArena V) → IsWellFormed s → IsCanonical item (siblings_of s) → (n : ℕ) × IsCount (IsPoint item (map.keys (map_of v (siblings_of s)))) n × (n ≤ length s.nodes.items)
+  pub node_each : (item : List ℕ → Type 0) → IsKeyKind item → (v : Option V) (s : NodeArena V)
+      → IsWellFormed s → IsCanonical item (siblings_of s)
+      → (n : ℕ) × IsCount (IsPoint item (map.keys (map_of v (siblings_of s)))) n × (n ≤ length s.nodes.items)
   node_each item kind v s whole ok =
       let plan = whole_plan s whole in
-      let fits = plan.fits in
-      (length (paths (siblings_of s)), record { counted = paths (siblings_of s); once = paths_apart item kind (siblings_of s) ok; exactly = tree_points item kind v (siblings_of s) ok; is = refl }, omega (arith, path_each (plan_at s.nodes.items s.root), fits))
+      let fits = plan.fits in (
+        length (paths (siblings_of s)),
+        record {
+          counted = paths (siblings_of s);
+          once = paths_apart item kind (siblings_of s) ok;
+          exactly = tree_points item kind v (siblings_of s) ok;
+          is = refl;
+        },
+        omega (arith, path_each (plan_at s.nodes.items s.root), fits),
+      )

@@ -16,7 +16,8 @@ use Rattle.patricia_nodes.proofs.WriteLemmas.{get-set_same, get-set_other, stand
 
 module _ {V : Type 0} where
   -- a plan that is taken below or beside a node keeps its numbers
-  count_takes : (c d q : Plan V) → IsBelowOrBeside c d q → (at : ℕ) → count c at + count d at ≡ count q at
+  count_takes : (c d q : Plan V) → IsBelowOrBeside c d q → (at : ℕ)
+      → count c at + count d at ≡ count q at
   count_takes c d q (inl e) at = rw (e.0, e.1) (omega arith)
   count_takes c d q (inr e) at = rw (e.0, e.1) (omega arith)
 
@@ -24,33 +25,42 @@ module _ {V : Type 0} where
   size_takes c d q (inl e) = rw (e.0, e.1) (omega arith)
   size_takes c d q (inr e) = rw (e.0, e.1) (omega arith)
 
-  stands_takes : (nodes : List (Node V)) (c d q : Plan V) → IsBelowOrBeside c d q → LaidOut nodes q → LaidOut nodes c × LaidOut nodes d
+  stands_takes : (nodes : List (Node V)) (c d q : Plan V) → IsBelowOrBeside c d q → LaidOut nodes q
+      → LaidOut nodes c × LaidOut nodes d
   stands_takes nodes c d q (inl e) s = rw (e.0, e.1) (s, tt)
   stands_takes nodes c d q (inr e) s = rw (e.0, e.1) (tt, s)
 
-module _ {V : Type 0} (old made new : NodeArena V) (c d q : Plan V) (takes : IsBelowOrBeside c d q) (n : Node V) (id : ℕ) (child_is : n.child ≡ head c) (sibling_is : n.sibling ≡ head d) (free_is : new.free ≡ made.free) (spare : List ℕ) (m : Makes old made spare n id) where
+module _ {V : Type 0} (old made new : NodeArena V) (c d q : Plan V) (takes : IsBelowOrBeside c d q)
+    (n : Node V) (id : ℕ) (child_is : n.child ≡ head c) (sibling_is : n.sibling ≡ head d)
+    (free_is : new.free ≡ made.free) (spare : List ℕ) (m : Makes old made spare n id) where
   abbrev cell : Plan V
   cell = Cell id n.label n.value c d
 
   -- what is written at a node that is not the new one, and is not in the plan, leaves the new one with the plan
-  stands_cell : (nodes : List (Node V)) → slice_get nodes id ≡ slice_get made.nodes.items id → ((i : ℕ) → count q i ≢ 0 → slice_get nodes i ≡ slice_get old.nodes.items i) → LaidOut old.nodes.items q → LaidOut nodes cell
+  stands_cell : (nodes : List (Node V)) → slice_get nodes id ≡ slice_get made.nodes.items id
+      → ((i : ℕ) → count q i ≢ 0 → slice_get nodes i ≡ slice_get old.nodes.items i)
+      → LaidOut old.nodes.items q → LaidOut nodes cell
   stands_cell nodes here k s =
       let t = stands_takes nodes c d q takes (stands-keep old.nodes.items nodes q k s) in
       (here ∙ m.there ∙ ap (λ h. Some (linked n.label n.value h n.sibling)) child_is ∙ ap (λ h. Some (linked n.label n.value (head c) h)) sibling_is, t.0, t.1)
 
   -- the new number is in neither the plan nor the rest of the free list
-  fresh : (whole : Plan V) → IsSound old.nodes.items old.root old.free whole spare → count whole id + times m.left id ≡ 0
+  fresh : (whole : Plan V) → IsSound old.nodes.items old.root old.free whole spare
+      → count whole id + times m.left id ≡ 0
   fresh whole sound = omega (arith, sound.once id, m.counted id, below_le (length made.nodes.items) id, one-same id)
 
   -- the numbers add up
-  sums : (nodes : List (Node V)) → length nodes ≡ length made.nodes.items → (i : ℕ) → count cell i + times m.left i + below (length old.nodes.items) i ≡ count q i + times spare i + below (length nodes) i
+  sums : (nodes : List (Node V)) → length nodes ≡ length made.nodes.items → (i : ℕ)
+      → count cell i + times m.left i + below (length old.nodes.items) i ≡ count q i + times spare i + below (length nodes) i
   sums nodes long i = rw long (omega (arith, m.counted i, count_takes c d q takes i))
 
-  sizes : (nodes : List (Node V)) → length nodes ≡ length made.nodes.items → size cell + length m.left + length old.nodes.items ≡ size q + length spare + length nodes
+  sizes : (nodes : List (Node V)) → length nodes ≡ length made.nodes.items
+      → size cell + length m.left + length old.nodes.items ≡ size q + length spare + length nodes
   sizes nodes long = omega (arith, m.longer, size_takes c d q takes)
 
   -- at the top
-  sound-add_root : IsSound old.nodes.items old.root old.free q spare → Relinks made new Root (Some id) → IsSound new.nodes.items new.root new.free cell m.left
+  sound-add_root : IsSound old.nodes.items old.root old.free q spare
+      → Relinks made new Root (Some id) → IsSound new.nodes.items new.root new.free cell m.left
   sound-add_root sound links =
       let f = fresh q sound in
       rw (links.0, links.1, free_is) (sound-swap old.nodes.items made.nodes.items old.root (Some id) old.free made.free [] q cell spare m.left sound
@@ -62,7 +72,10 @@ module _ {V : Type 0} (old made new : NodeArena V) (c d q : Plan V) (takes : IsB
       (sizes made.nodes.items refl))
 
   -- below or beside a node of the plan, with another plan at its other link
-  module _ (whole : Plan V) (sound : IsSound old.nodes.items old.root old.free whole spare) (fs : List (Frame V)) (k : ℕ) (o : Plan V) (counts : (i : ℕ) → count whole i ≡ count_frames fs i + (one k i + (count q i + count o i))) (holder : Node V) where
+  module _ (whole : Plan V) (sound : IsSound old.nodes.items old.root old.free whole spare)
+      (fs : List (Frame V)) (k : ℕ) (o : Plan V)
+      (counts : (i : ℕ) → count whole i ≡ count_frames fs i + (one k i + (count q i + count o i)))
+      (holder : Node V) where
     abbrev final : List (Node V)
     final = set made.nodes.items k holder
 
@@ -73,7 +86,15 @@ module _ {V : Type 0} (old made new : NodeArena V) (c d q : Plan V) (takes : IsB
     kept : (i : ℕ) → rest i ≢ 0 → slice_get final i ≡ slice_get old.nodes.items i
     kept i some =
         let new : rest id ≡ 0 = omega (arith, fresh whole sound, counts id) in
-        let mine : rest k ≡ 0 = omega (arith, sound.once k, counts k, m.counted k, below_le (length made.nodes.items) k, below_le (length old.nodes.items) k, one-same k) in
+        let mine : rest k ≡ 0 = omega (
+          arith,
+          sound.once k,
+          counts k,
+          m.counted k,
+          below_le (length made.nodes.items) k,
+          below_le (length old.nodes.items) k,
+          one-same k,
+        ) in
         get-set_other made.nodes.items k i holder (λ e. some (ap rest e ∙ mine)) ∙ m.others i (λ e. some (ap rest e ∙ new))
 
     apart : id ≢ k
@@ -88,7 +109,8 @@ module _ {V : Type 0} (old made new : NodeArena V) (c d q : Plan V) (takes : IsB
     chained : IsChain final m.left
     chained = chain-keep old.nodes.items final m.left (λ i n. kept i (λ z. n (omega arith))) m.chain
 
-    holds : (n : Node V) → slice_get old.nodes.items k ≡ Some n → (slice_get made.nodes.items k ≡ Some n) × (slice_get final k ≡ Some holder)
+    holds : (n : Node V) → slice_get old.nodes.items k ≡ Some n
+        → (slice_get made.nodes.items k ≡ Some n) × (slice_get final k ≡ Some holder)
     holds n at =
         let there = m.others k (λ e. apart (sym e)) ∙ at in
         (there, get-set_same made.nodes.items k holder (slice_get_within made.nodes.items k n there))
@@ -97,7 +119,10 @@ module _ {V : Type 0} (old made new : NodeArena V) (c d q : Plan V) (takes : IsB
     framed i n = kept i (λ z. n (omega arith))
 
   -- the nodes are sound with the new one in its place
-  pub sound-add : (fs : List (Frame V)) → IsSound old.nodes.items old.root old.free (fill fs q) spare → Relinks made new (link_ref_of fs) (Some id) → IsSound new.nodes.items new.root new.free (fill fs cell) m.left
+  pub sound-add : (fs : List (Frame V))
+      → IsSound old.nodes.items old.root old.free (fill fs q) spare
+      → Relinks made new (link_ref_of fs) (Some id)
+      → IsSound new.nodes.items new.root new.free (fill fs cell) m.left
   sound-add [] sound links = sound-add_root sound links
   sound-add (InChild k l v o ∷ fs) sound links =
       let q' = Cell k l v q o in
@@ -107,7 +132,9 @@ module _ {V : Type 0} (old made new : NodeArena V) (c d q : Plan V) (takes : IsB
       let at = stands-within old.nodes.items fs q' sound.plan_ok.stands in
       let here = holds (fill fs q') sound fs k o counts holder _ at.0 in
       let long : length (set made.nodes.items k holder) ≡ length made.nodes.items = length-set made.nodes.items k holder in
-      rw (links.0 _ here.0, links.1, free_is, m.root_is) (sound-swap old.nodes.items (set made.nodes.items k holder) old.root old.root old.free made.free fs q' p' spare m.left sound
+      rw (links.0 _ here.0, links.1, free_is, m.root_is)
+      (sound-swap old.nodes.items (set made.nodes.items k holder) old.root old.root old.free
+      made.free fs q' p' spare m.left sound
       (stands-refill old.nodes.items (set made.nodes.items k holder) fs q' p' (framed (fill fs q') sound fs k o counts holder) refl sound.plan_ok.stands
       (here.1, cell_stands (fill fs q') sound fs k o counts holder at.1, other_stands (fill fs q') sound fs k o counts holder at.2))
       (sound.plan_ok.at_is ∙ head-refill fs p' q' refl)
@@ -123,7 +150,9 @@ module _ {V : Type 0} (old made new : NodeArena V) (c d q : Plan V) (takes : IsB
       let at = stands-within old.nodes.items fs q' sound.plan_ok.stands in
       let here = holds (fill fs q') sound fs k o counts holder _ at.0 in
       let long : length (set made.nodes.items k holder) ≡ length made.nodes.items = length-set made.nodes.items k holder in
-      rw (links.0 _ here.0, links.1, free_is, m.root_is) (sound-swap old.nodes.items (set made.nodes.items k holder) old.root old.root old.free made.free fs q' p' spare m.left sound
+      rw (links.0 _ here.0, links.1, free_is, m.root_is)
+      (sound-swap old.nodes.items (set made.nodes.items k holder) old.root old.root old.free
+      made.free fs q' p' spare m.left sound
       (stands-refill old.nodes.items (set made.nodes.items k holder) fs q' p' (framed (fill fs q') sound fs k o counts holder) refl sound.plan_ok.stands
       (here.1, other_stands (fill fs q') sound fs k o counts holder at.1, cell_stands (fill fs q') sound fs k o counts holder at.2))
       (sound.plan_ok.at_is ∙ head-refill fs p' q' refl)
@@ -134,8 +163,10 @@ module _ {V : Type 0} (old made new : NodeArena V) (c d q : Plan V) (takes : IsB
 
 module _ {V : Type 0} where
   -- a node that was made and linked stands in the place
-  pub adds : (old made new : NodeArena V) (link_ref : LinkRef) (n : Node V) (id : ℕ) → new.free ≡ made.free → length new.nodes.items ≡ length made.nodes.items → vec_capacity new.nodes ≡ vec_capacity old.nodes
-      → MakesNode old made n id → Relinks made new link_ref (Some id) → AddsNode old new link_ref n id
+  pub adds : (old made new : NodeArena V) (link_ref : LinkRef) (n : Node V) (id : ℕ)
+      → new.free ≡ made.free → length new.nodes.items ≡ length made.nodes.items
+      → vec_capacity new.nodes ≡ vec_capacity old.nodes → MakesNode old made n id
+      → Relinks made new link_ref (Some id) → AddsNode old new link_ref n id
   adds old made new link_ref n id free_is long capacity makes links fs c d q at takes child_is sibling_is h =
       let m = makes h.0 (h.1.chain, h.1.free_is) in
       let sound = sound-add old made new c d q takes n id child_is sibling_is free_is h.0 m fs h.1 (rw at at links) in (
@@ -145,9 +176,12 @@ module _ {V : Type 0} where
             (m.left, (sound.chain, sound.free_is), omega (arith, room.2, m.longer, ap length same)),
       )
 
-module _ {V : Type 0} (s : NodeArena V) (id : ℕ) (r : Node V) (reads : r ≡ get_or s.nodes.items id r) where
+module _ {V : Type 0} (s : NodeArena V) (id : ℕ) (r : Node V)
+    (reads : r ≡ get_or s.nodes.items id r) where
   -- the room stays
-  pub room_write : (fs : List (Frame V)) (l l' : List ℕ) (v v' : Option V) (c d : Plan V) → Holds s (fill fs (Cell id l v c d)) → (n : ℕ) → HasRoomFor s n → RoomFor (set s.nodes.items id (linked l' v' r.child r.sibling)) s.free (vec_capacity s.nodes) n
+  pub room_write : (fs : List (Frame V)) (l l' : List ℕ) (v v' : Option V) (c d : Plan V)
+      → Holds s (fill fs (Cell id l v c d)) → (n : ℕ) → HasRoomFor s n
+      → RoomFor (set s.nodes.items id (linked l' v' r.child r.sibling)) s.free (vec_capacity s.nodes) n
   room_write fs l l' v v' c d h n room =
       let mid = holds_write s id r reads fs l l' v v' c d h in
       let same = one_chain s.nodes.items room.0 h.0 room.1.0 h.1.chain (sym room.1.1 ∙ h.1.free_is) in
@@ -158,9 +192,13 @@ module _ {V : Type 0} (s : NodeArena V) (id : ℕ) (r : Node V) (reads : r ≡ g
       )
 
   -- a node in two: the upper one is written, and the lower one added below it
-  module _ (new : NodeArena V) (n k : ℕ) (lower : Node V) (ul : List ℕ) (w uv : Option V) (label_is : ul ≡ take n r.label) (value_is : uv ≡ w) (moved : lower.value ≡ r.value) (child_is : lower.child ≡ r.child) (sibling_is : lower.sibling ≡ None) where
-    pub splits : ((fs : List (Frame V)) (c d q : Plan V) → Child id ≡ link_ref_of fs → IsBelowOrBeside c d q → lower.child ≡ head c → lower.sibling ≡ head d
-        → (spare : List ℕ) × IsSound (set s.nodes.items id (linked ul uv r.child r.sibling)) s.root s.free (fill fs q) spare
+  module _ (new : NodeArena V) (n k : ℕ) (lower : Node V) (ul : List ℕ) (w uv : Option V)
+      (label_is : ul ≡ take n r.label) (value_is : uv ≡ w) (moved : lower.value ≡ r.value)
+      (child_is : lower.child ≡ r.child) (sibling_is : lower.sibling ≡ None) where
+    pub splits :
+        ((fs : List (Frame V)) (c d q : Plan V) → Child id ≡ link_ref_of fs → IsBelowOrBeside c d q
+        → lower.child ≡ head c → lower.sibling ≡ head d → (spare : List ℕ) × IsSound
+        (set s.nodes.items id (linked ul uv r.child r.sibling)) s.root s.free (fill fs q) spare
         → Holds new (fill fs (Cell k lower.label lower.value c d))
         × ((j : ℕ) → RoomFor (set s.nodes.items id (linked ul uv r.child r.sibling)) s.free (vec_capacity s.nodes) (suc j) → HasRoomFor new j))
         → SplitsNode s new id n lower.label w k
@@ -173,7 +211,10 @@ module _ {V : Type 0} (s : NodeArena V) (id : ℕ) (r : Node V) (reads : r ≡ g
         (rw (← label, ← value_is, ← value) grown.0, λ j room. grown.1 j (room_write fs l ul v uv c d h (suc j) room))
 
   -- the place below it
-  pub spot_below : (ul : List ℕ) (uv : Option V) → HasCell s id → (fs : List (Frame V)) × (q : Plan V) × (Child id ≡ link_ref_of fs) × ((spare : List ℕ) × IsSound (set s.nodes.items id (linked ul uv r.child r.sibling)) s.root s.free (fill fs q) spare)
+  pub spot_below : (ul : List ℕ) (uv : Option V) → HasCell s id
+      → (fs : List (Frame V)) × (q : Plan V) × (Child id ≡ link_ref_of fs) ×
+      ((spare : List ℕ) × IsSound (set s.nodes.items id (linked ul uv r.child r.sibling))
+      s.root s.free (fill fs q) spare)
   spot_below ul uv h = (InChild id ul uv h.4 ∷ h.0, h.3, refl, holds_write s id r reads h.0 h.1 ul h.2 uv h.3 h.4 h.5)
 
 -- a number of the plan is in the vector

@@ -13,7 +13,8 @@ use Rattle.patricia_edits.specs.Internal.Copies.{RowKept}
 
 module _ {V : Type 0} where
   -- what lies behind makes the new nodes no fewer
-  pub not_fewer : (to final : List (Node V)) (w : Plan V) → final ≡ to ++ laid (length to) w → length to ≤ length final
+  pub not_fewer : (to final : List (Node V)) (w : Plan V) → final ≡ to ++ laid (length to) w
+      → length to ≤ length final
   not_fewer to final w comes = omega (arith, ap length comes, length-append to (laid (length to) w))
 
 module _ {V : Type 0} (is_clone : V → V → Type 0) where
@@ -27,7 +28,8 @@ module _ {V : Type 0} (is_clone : V → V → Type 0) where
 
   module _ {from to0 : List (Node V)} {w : Plan V} {at : Option ℕ} {id : ℕ} {to : List (Node V)} (m : Copying from to0 w at to) (e : at ≡ Some id) where
     -- the next node, with what it has and what comes behind it
-    next_node : (l : List ℕ) × (v : Option V) × (c : Plan V) × (d : Plan V) × (m.rest ≡ Cell id l v c d) × (slice_get from id ≡ Some (linked l v (head c) (head d)))
+    next_node :
+        (l : List ℕ) × (v : Option V) × (c : Plan V) × (d : Plan V) × (m.rest ≡ Cell id l v c d) × (slice_get from id ≡ Some (linked l v (head c) (head d)))
     next_node = opens_top from id m.rest (rw e at m.top)
 
     -- the next node is there
@@ -39,16 +41,24 @@ module _ {V : Type 0} (is_clone : V → V → Type 0) where
     copying_room = omega (arith, m.counted, ap (λ p. length (tops p)) next_node.4)
 
     -- and clones of its value are the same
-    pub copying_kept : RowKept is_clone (row w) → (n : Node V) → n ≡ get_or from id n → IfSome n.value (CloneIsSame is_clone)
+    pub copying_kept : RowKept is_clone (row w) → (n : Node V) → n ≡ get_or from id n
+        → IfSome n.value (CloneIsSame is_clone)
     copying_kept kept n reads = rw (node_is from id n _ next_node.5 reads) (rw next_node.4 at m.kept kept).0
 
-  module _ (from to0 : List (Node V)) (w : Plan V) (id : ℕ) (to : List (Node V)) (m : Copying from to0 w (Some id) to) (n : Node V) (reads : n ≡ get_or from id n) where
+  module _ (from to0 : List (Node V)) (w : Plan V) (id : ℕ) (to : List (Node V))
+      (m : Copying from to0 w (Some id) to) (n : Node V) (reads : n ≡ get_or from id n) where
     -- one node more is copied
-    pub copying_next : (number : Option ℕ) → ((d : Plan V) → n.sibling ≡ head d → number ≡ head (numbered_siblings (suc (length to)) d))
-        → (to' : List (Node V)) → to' ≡ to ++ linked n.label n.value n.child number ∷ [] → Copying from to0 w n.sibling to'
+    pub copying_next : (number : Option ℕ)
+        → ((d : Plan V) → n.sibling ≡ head d → number ≡ head (numbered_siblings (suc (length to)) d))
+        → (to' : List (Node V)) → to' ≡ to ++ linked n.label n.value n.child number ∷ []
+        → Copying from to0 w n.sibling to'
     copying_next number numbers to' pushed = by m.rest m.top m.copied m.counted m.kept
       where
-        by : (r : Plan V) → IsTopRow from (Some id) r → to ++ laid (length to) r ≡ to0 ++ laid (length to0) w → length to + length (tops r) ≡ length to0 + length (tops w) → (RowKept is_clone (row w) → RowKept is_clone (row r)) → Copying from to0 w n.sibling to'
+        by : (r : Plan V) → IsTopRow from (Some id) r
+            → to ++ laid (length to) r ≡ to0 ++ laid (length to0) w
+            → length to + length (tops r) ≡ length to0 + length (tops w)
+            → (RowKept is_clone (row w) → RowKept is_clone (row r))
+            → Copying from to0 w n.sibling to'
         by Nil top copied counted kept = let e = top.at_is in absurd (cc)
         by (Cell i l v c d) top copied counted kept =
             let same : id ≡ i = let e = top.at_is in cc in
@@ -64,9 +74,11 @@ module _ {V : Type 0} (is_clone : V → V → Type 0) where
             }
 
   -- at the end all is copied
-  pub copying_done : (from to0 : List (Node V)) (w : Plan V) (to : List (Node V)) → Copying from to0 w None to → to ≡ to0 ++ laid (length to0) w
+  pub copying_done : (from to0 : List (Node V)) (w : Plan V) (to : List (Node V))
+      → Copying from to0 w None to → to ≡ to0 ++ laid (length to0) w
   copying_done from to0 w to m = by m.rest m.top.at_is m.copied
     where
-      by : (r : Plan V) → None ≡ head r → to ++ laid (length to) r ≡ to0 ++ laid (length to0) w → to ≡ to0 ++ laid (length to0) w
+      by : (r : Plan V) → None ≡ head r → to ++ laid (length to) r ≡ to0 ++ laid (length to0) w
+          → to ≡ to0 ++ laid (length to0) w
       by Nil e copied = sym (append-nil to) ∙ copied
       by (Cell i l v c d) e copied = absurd (cc)

@@ -15,9 +15,17 @@ module _ {V : Type 0} where
     pub counted : used ≡ size p + length rest
 
   -- all are at first
-  pub counting_start : (s : NodeArena V) (n : ℕ) → n ≡ length s.nodes.items → IsWellFormed s → Counting s.nodes.items (plan_at s.nodes.items s.root) s.free n
+  pub counting_start : (s : NodeArena V) (n : ℕ) → n ≡ length s.nodes.items → IsWellFormed s
+      → Counting s.nodes.items (plan_at s.nodes.items s.root) s.free n
   counting_start s n e (p, (spare, sound)) =
-      rw (plan_is s.nodes.items s.root p sound.plan_ok) (record { rest = spare; chain = sound.chain; at_is = sound.free_is; counted = omega (arith, e, sound.total) })
+      rw (plan_is s.nodes.items s.root p sound.plan_ok)
+      (record {
+        rest = spare;
+        chain = sound.chain;
+        at_is = sound.free_is;
+        counted = omega
+            (arith, e, sound.total);
+      })
 
   -- a free node, and those after it
   record Opens (nodes : List (Node V)) (id : ℕ) (rest : List ℕ) : Type 0 where
@@ -28,18 +36,22 @@ module _ {V : Type 0} where
     next : n.sibling ≡ first ids
     chain : IsChain nodes ids
 
-  opens : (nodes : List (Node V)) (id : ℕ) (rest : List ℕ) → IsChain nodes rest → Some id ≡ first rest → Opens nodes id rest
+  opens : (nodes : List (Node V)) (id : ℕ) (rest : List ℕ) → IsChain nodes rest
+      → Some id ≡ first rest → Opens nodes id rest
   opens nodes id [] c e = absurd (cc)
   opens nodes id (i ∷ ids) c e =
       let same : i ≡ id = cc in
       record { ids = ids; more = omega arith; n = c.0.0; there = rw (← same) c.0.1; next = c.0.2; chain = c.1 }
 
   -- it is in the vector
-  pub free_within : (nodes : List (Node V)) (p : Plan V) (id used : ℕ) → Counting nodes p (Some id) used → id < length nodes
+  pub free_within : (nodes : List (Node V)) (p : Plan V) (id used : ℕ)
+      → Counting nodes p (Some id) used → id < length nodes
   free_within nodes p id used c = let o = opens nodes id c.rest c.chain c.at_is in slice_get_within nodes id o.n o.there
 
   -- and one that is not used
-  pub counting_next : (nodes : List (Node V)) (p : Plan V) (id used : ℕ) (n : Node V) → n ≡ get_or nodes id n → Counting nodes p (Some id) used → Counting nodes p n.sibling (used - 1)
+  pub counting_next : (nodes : List (Node V)) (p : Plan V) (id used : ℕ) (n : Node V)
+      → n ≡ get_or nodes id n → Counting nodes p (Some id) used
+      → Counting nodes p n.sibling (used - 1)
   counting_next nodes p id used n reads c =
       let o = opens nodes id c.rest c.chain c.at_is in
       record { rest = o.ids; chain = o.chain; at_is = rw (node_is nodes id n o.n o.there reads) o.next; counted = omega (arith, c.counted, o.more) }

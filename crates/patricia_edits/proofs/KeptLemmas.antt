@@ -35,14 +35,20 @@ module _ {V : Type 0} (is_clone : V → V → Type 0) where
       let inner = kept_both (own v) (entries c) (kept-prefixed l (own v ++ entries c) both.0) in
       (kept-own v inner.0, kept-entries c inner.1, kept-entries s both.1)
 
-  kept_values : (es : List (List ℕ × V)) → AllByRecursion (CloneIsSame is_clone) (map (λ e. e.1) es) → Kept es
+  kept_values : (es : List (List ℕ × V)) → AllByRecursion (CloneIsSame is_clone) (map (λ e. e.1) es)
+      → Kept es
   kept_values [] k = tt
   kept_values (e ∷ es) k = (k.0, kept_values es k.1)
 
   -- the values of a tree are that of the empty key and those of its entries
-  pub kept_parts : (v : Option V) (r : Siblings V) → ClonesAreSame is_clone (map (λ e. e.1) (own v ++ entries r)) → IfSome v (CloneIsSame is_clone) × All (λ e. CloneIsSame is_clone e.1) (entries r)
+  pub kept_parts : (v : Option V) (r : Siblings V)
+      → ClonesAreSame is_clone (map (λ e. e.1) (own v ++ entries r))
+      → IfSome v (CloneIsSame is_clone) × All (λ e. CloneIsSame is_clone e.1) (entries r)
   kept_parts v r k =
-      let both = kept_both (own v) (entries r) (kept_values (own v ++ entries r) (recursion_from_All (CloneIsSame is_clone) (map (λ e. e.1) (own v ++ entries r)) k)) in
+      let both = kept_both (own v) (entries r)
+      (kept_values (own v ++ entries r)
+      (recursion_from_All (CloneIsSame is_clone) (map (λ e. e.1) (own v ++ entries r)) k))
+      in
       (kept-own v both.0, All-from_recursion (λ e. CloneIsSame is_clone e.1) (entries r) both.1)
 
   -- the values of the entries are those of the row
@@ -50,7 +56,8 @@ module _ {V : Type 0} (is_clone : V → V → Type 0) where
   row_kept s k = kept-entries (siblings_of s) (recursion_from_All (λ e. CloneIsSame is_clone e.1) (entries (siblings_of s)) k)
 
   -- the children of a node have some of them
-  kept-open : (i : ℕ) (q : Mix V) (w : Plan V) → OpenAt i q w → RowKept is_clone (row (flat q)) → RowKept is_clone (row w)
+  kept-open : (i : ℕ) (q : Mix V) (w : Plan V) → OpenAt i q w → RowKept is_clone (row (flat q))
+      → RowKept is_clone (row w)
   kept-open i Empty w due k = absurd due
   kept-open i (Done id l v c d) w (inl due) k = kept-open i c w due k.1
   kept-open i (Done id l v c d) w (inr due) k = kept-open i d w due k.2
@@ -58,5 +65,7 @@ module _ {V : Type 0} (is_clone : V → V → Type 0) where
   kept-open i (Open id l v c d) w (inr due) k = kept-open i d w due k.2
 
   -- and so has the next row that is laid
-  pub next_row_kept : (p : Plan V) (from : List (Node V)) (i : ℕ) (to : List (Node V)) (root : Option ℕ) (l : Laying p from i to root) (next : NextRow p from i to l.mix) → RowKept is_clone (row p) → RowKept is_clone (row next.row)
+  pub next_row_kept : (p : Plan V) (from : List (Node V)) (i : ℕ) (to : List (Node V))
+      (root : Option ℕ) (l : Laying p from i to root) (next : NextRow p from i to l.mix)
+      → RowKept is_clone (row p) → RowKept is_clone (row next.row)
   next_row_kept p from i to root l next kept = kept-open i l.mix next.row next.due (subst (λ r. RowKept is_clone r) (sym l.row_is) kept)

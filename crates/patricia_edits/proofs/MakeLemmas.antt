@@ -12,24 +12,29 @@ use Rattle.patricia_nodes.proofs.PlanLemmas.{node_is}
 use Rattle.patricia_nodes.proofs.WriteLemmas.{get-set_same, get-set_other, get-push_same, get-push_other}
 
 -- where no node is free, room is behind the last
-pub room_behind : {V : Type 0} (s : NodeArena V) (n : ℕ) → HasRoomFor s n → s.free ≡ None → n + length s.nodes.items ≤ vec_capacity s.nodes
+pub room_behind : {V : Type 0} (s : NodeArena V) (n : ℕ) → HasRoomFor s n → s.free ≡ None
+    → n + length s.nodes.items ≤ vec_capacity s.nodes
 room_behind s n ([], free, fits) none = omega arith
 room_behind s n (i ∷ ids, free, fits) none = absurd (let e = free.1 in cc)
 
-module _ {V : Type 0} (old new : NodeArena V) (spare : List ℕ) (n : Node V) (id : ℕ) (free : IsFree old.nodes.items old.free spare) (root_is : new.root ≡ old.root) where
+module _ {V : Type 0} (old new : NodeArena V) (spare : List ℕ) (n : Node V) (id : ℕ)
+    (free : IsFree old.nodes.items old.free spare) (root_is : new.root ≡ old.root) where
   -- the first free number is that of a node
   pub free_within : old.free ≡ Some id → id < length old.nodes.items
   free_within e = by spare free.0 free.1
     where
-      by : (spare : List ℕ) → IsChain old.nodes.items spare → old.free ≡ first spare → id < length old.nodes.items
+      by : (spare : List ℕ) → IsChain old.nodes.items spare → old.free ≡ first spare
+          → id < length old.nodes.items
       by [] c f = absurd (cc)
       by (i ∷ ids) c f = let same : id ≡ i = cc in rw same (slice_get_within old.nodes.items i c.0.0 c.0.1)
 
   -- the first free node is taken
-  pub makes_free : (m : Node V) → old.free ≡ Some id → m ≡ get_or old.nodes.items id m → new.nodes.items ≡ set old.nodes.items id n → new.free ≡ m.sibling → Makes old new spare n id
+  pub makes_free : (m : Node V) → old.free ≡ Some id → m ≡ get_or old.nodes.items id m
+      → new.nodes.items ≡ set old.nodes.items id n → new.free ≡ m.sibling → Makes old new spare n id
   makes_free m e reads is after = by spare free.0 free.1
     where
-      by : (spare : List ℕ) → IsChain old.nodes.items spare → old.free ≡ first spare → Makes old new spare n id
+      by : (spare : List ℕ) → IsChain old.nodes.items spare → old.free ≡ first spare
+          → Makes old new spare n id
       by [] c f = absurd (cc)
       by (i ∷ ids) c f =
           let same : i ≡ id = cc in
@@ -47,7 +52,8 @@ module _ {V : Type 0} (old new : NodeArena V) (spare : List ℕ) (n : Node V) (i
           }
 
   -- or the vector grows
-  pub makes_push : new.nodes.items ≡ old.nodes.items ++ n ∷ [] → id ≡ length old.nodes.items → new.free ≡ old.free → Makes old new spare n id
+  pub makes_push : new.nodes.items ≡ old.nodes.items ++ n ∷ [] → id ≡ length old.nodes.items
+      → new.free ≡ old.free → Makes old new spare n id
   makes_push is at_end after =
       let long : length new.nodes.items ≡ suc (length old.nodes.items) = omega (arith, ap length is, length-append old.nodes.items (n ∷ [])) in
       record {

@@ -8,14 +8,21 @@ use Rattle.patricia_nodes.proofs.SeekLemmas.{Opened, opened, head_within}
 use Rattle.patricia_edits.specs.Internal.Splits.{values}
 
 -- entries under a label are as many
-pub length-prefixed : {V : Type 0} (l : List ℕ) (es : List (List ℕ × V)) → length (prefixed l es) ≡ length es
+pub length-prefixed : {V : Type 0} (l : List ℕ) (es : List (List ℕ × V))
+    → length (prefixed l es) ≡ length es
 length-prefixed l [] = refl
 length-prefixed l (e ∷ es) = ap (λ n. suc n) (length-prefixed l es)
 
 module _ {V : Type 0} where
   -- a value, those below it and those beside it
-  pub values-cell : (id : ℕ) (l : List ℕ) (v : Option V) (c d : Plan V) → values (Cell id l v c d) ≡ length (own v) + (values c + values d)
-  values-cell id l v c d = omega (arith, length-append (prefixed l (own v ++ entries (row c))) (entries (row d)), length-prefixed l (own v ++ entries (row c)), length-append (own v) (entries (row c)))
+  pub values-cell : (id : ℕ) (l : List ℕ) (v : Option V) (c d : Plan V)
+      → values (Cell id l v c d) ≡ length (own v) + (values c + values d)
+  values-cell id l v c d = omega (
+    arith,
+    length-append (prefixed l (own v ++ entries (row c))) (entries (row d)),
+    length-prefixed l (own v ++ entries (row c)),
+    length-append (own v) (entries (row c)),
+  )
 
   -- no more of them than nodes
   pub own-one : (v : Option V) → length (own v) ≤ 1
@@ -43,19 +50,23 @@ module _ {V : Type 0} where
     AllPlans [] = Unit {0}
     AllPlans (at ∷ ats) = IsPlan nodes at (plan_at nodes at) × AllPlans ats
 
-    size-last : (ats : List (Option ℕ)) (at : Option ℕ) → size_of (ats ++ at ∷ []) ≡ size_of ats + size (plan_at nodes at)
+    size-last : (ats : List (Option ℕ)) (at : Option ℕ)
+        → size_of (ats ++ at ∷ []) ≡ size_of ats + size (plan_at nodes at)
     size-last [] at = omega arith
     size-last (b ∷ ats) at = omega (arith, size-last ats at)
 
-    values-last : (ats : List (Option ℕ)) (at : Option ℕ) → values_of (ats ++ at ∷ []) ≡ values_of ats + values (plan_at nodes at)
+    values-last : (ats : List (Option ℕ)) (at : Option ℕ)
+        → values_of (ats ++ at ∷ []) ≡ values_of ats + values (plan_at nodes at)
     values-last [] at = omega arith
     values-last (b ∷ ats) at = omega (arith, values-last ats at)
 
-    plans-last : (ats : List (Option ℕ)) (at : Option ℕ) → AllPlans ats → IsPlan nodes at (plan_at nodes at) → AllPlans (ats ++ at ∷ [])
+    plans-last : (ats : List (Option ℕ)) (at : Option ℕ) → AllPlans ats
+        → IsPlan nodes at (plan_at nodes at) → AllPlans (ats ++ at ∷ [])
     plans-last [] at all p = (p, tt)
     plans-last (b ∷ ats) at all p = (all.0, plans-last ats at all.1 p)
 
-    plans-but_last : (ats : List (Option ℕ)) (at : Option ℕ) → AllPlans (ats ++ at ∷ []) → AllPlans ats × IsPlan nodes at (plan_at nodes at)
+    plans-but_last : (ats : List (Option ℕ)) (at : Option ℕ) → AllPlans (ats ++ at ∷ [])
+        → AllPlans ats × IsPlan nodes at (plan_at nodes at)
     plans-but_last [] at all = (tt, all.0)
     plans-but_last (b ∷ ats) at all = let rest = plans-but_last ats at all.1 in ((all.0, rest.0), rest.1)
 
@@ -68,7 +79,8 @@ module _ {V : Type 0} where
       pub here : IsPlan nodes at (plan_at nodes at)
       pub waits : AllPlans waiting
       pub sized : n + (size (plan_at nodes at) + size_of waiting) ≡ size (plan_at nodes first)
-      pub valued : m + (values (plan_at nodes at) + values_of waiting) ≡ values (plan_at nodes first)
+      pub valued :
+          m + (values (plan_at nodes at) + values_of waiting) ≡ values (plan_at nodes first)
       pub within : size (plan_at nodes first) ≤ length nodes
 
     -- what is left to do
@@ -76,7 +88,8 @@ module _ {V : Type 0} where
     left at waiting = 2 * (size (plan_at nodes at) + size_of waiting) + length waiting
 
     -- at first nothing is counted
-    pub measuring_start : (first : Option ℕ) (p : Plan V) → IsPlan nodes first p → Measuring first first [] 0 0
+    pub measuring_start : (first : Option ℕ) (p : Plan V) → IsPlan nodes first p
+        → Measuring first first [] 0 0
     measuring_start first p plan =
         let is = plan_is nodes first p plan in
         let here : IsPlan nodes first (plan_at nodes first) = rw is plan in
@@ -98,11 +111,21 @@ module _ {V : Type 0} where
           sibling_is : plan_at nodes r.sibling ≡ o.sibling
           sibling_is = plan_is nodes r.sibling o.sibling o.sibling_plan
 
-          sizes_are : size (plan_at nodes at) ≡ suc (size (plan_at nodes r.child) + size (plan_at nodes r.sibling))
+          sizes_are :
+              size (plan_at nodes at) ≡ suc (size (plan_at nodes r.child) + size (plan_at nodes r.sibling))
           sizes_are = omega (arith, ap (λ (p : Plan V). size p) o.is, ap (λ (p : Plan V). size p) child_is, ap (λ (p : Plan V). size p) sibling_is)
 
-          values_are : values (plan_at nodes at) ≡ length (own r.value) + (values (plan_at nodes r.child) + values (plan_at nodes r.sibling))
-          values_are = omega (arith, ap (λ (p : Plan V). values p) o.is, values-cell id r.label r.value o.child o.sibling, ap (λ (p : Plan V). values p) child_is, ap (λ (p : Plan V). values p) sibling_is)
+          values_are :
+              values (plan_at nodes at) ≡ length (own r.value) + (values (plan_at nodes r.child) + values (plan_at nodes r.sibling))
+          values_are = omega (
+            arith,
+            ap (λ (p : Plan V). values p) o.is,
+            values-cell id r.label r.value o.child
+                o.sibling,
+            ap (λ (p : Plan V). values p) child_is,
+            ap (λ (p : Plan V). values p)
+                sibling_is,
+          )
 
           -- not all nodes are counted yet, so the count does not overflow
           pub not_all : n < length nodes
@@ -113,7 +136,9 @@ module _ {V : Type 0} where
           not_full = omega (arith, w.valued, w.within, values_are, values-within (plan_at nodes first))
 
           -- the node is counted, and its sibling waits
-          pub measuring_down : (n' m' : ℕ) → n' ≡ n + 1 → m' ≡ m + length (own r.value) → (more : List (Option ℕ)) → more ≡ waiting ++ r.sibling ∷ [] → Measuring first r.child more n' m'
+          pub measuring_down : (n' m' : ℕ) → n' ≡ n + 1 → m' ≡ m + length (own r.value)
+              → (more : List (Option ℕ)) → more ≡ waiting ++ r.sibling ∷ []
+              → Measuring first r.child more n' m'
           measuring_down n' m' ns ms more is = rw (is) (record {
             here = rw child_is o.child_plan;
             waits = plans-last waiting r.sibling w.waits (rw sibling_is o.sibling_plan);
@@ -123,7 +148,8 @@ module _ {V : Type 0} where
           })
 
           -- less is left below it
-          pub less_down : (more : List (Option ℕ)) → more ≡ waiting ++ r.sibling ∷ [] → left r.child more < left at waiting
+          pub less_down : (more : List (Option ℕ)) → more ≡ waiting ++ r.sibling ∷ []
+              → left r.child more < left at waiting
           less_down more is = rw is (omega (arith, sizes_are, size-last waiting r.sibling, length-append waiting (r.sibling ∷ [])))
 
       -- the end of a row
@@ -136,7 +162,8 @@ module _ {V : Type 0} where
             by (Cell id l v c d) h = let e = h.at_is in absurd (cc)
 
         -- at the end of a row the last one that waits is next
-        pub measuring_back : (rest : List (Option ℕ)) (next : Option ℕ) → waiting ≡ rest ++ next ∷ [] → Measuring first next rest n m
+        pub measuring_back : (rest : List (Option ℕ)) (next : Option ℕ)
+            → waiting ≡ rest ++ next ∷ [] → Measuring first next rest n m
         measuring_back rest next is =
             let all = plans-but_last rest next (rw (← is) w.waits) in
             record {
@@ -148,11 +175,13 @@ module _ {V : Type 0} where
             }
 
         -- less is left then too
-        pub less_back : (rest : List (Option ℕ)) (next : Option ℕ) → waiting ≡ rest ++ next ∷ [] → left next rest < left at waiting
+        pub less_back : (rest : List (Option ℕ)) (next : Option ℕ) → waiting ≡ rest ++ next ∷ []
+            → left next rest < left at waiting
         less_back rest next is = omega (arith, ap size_of is, ap length is, size-last rest next, length-append rest (next ∷ []))
 
         -- at the end all nodes and values are counted
-        pub measuring_done : length waiting ≡ 0 → (p : Plan V) → IsPlan nodes first p → (n ≡ size p) × (m ≡ values p)
+        pub measuring_done : length waiting ≡ 0 → (p : Plan V) → IsPlan nodes first p
+            → (n ≡ size p) × (m ≡ values p)
         measuring_done none_left p plan =
             let is = plan_is nodes first p plan in
             let over : waiting ≡ [] = no_rows waiting none_left in (

@@ -11,7 +11,8 @@ use Rattle.patricia_nodes.proofs.FillLemmas.{stands-within, count-fill}
 use Rattle.patricia_nodes.proofs.WriteLemmas.{get-set_same, get-set_other, stands-keep, chain-keep, stands-refill, head-refill, sound-swap}
 use Rattle.patricia_edits.proofs.NodeLemmas.{node_within}
 
-module _ {V : Type 0} (s : NodeArena V) (id : ℕ) (fs : List (Frame V)) (l : List ℕ) (v : Option V) (c d : Plan V) (h : Holds s (fill fs (Cell id l v c d))) where
+module _ {V : Type 0} (s : NodeArena V) (id : ℕ) (fs : List (Frame V)) (l : List ℕ) (v : Option V)
+    (c d : Plan V) (h : Holds s (fill fs (Cell id l v c d))) where
   abbrev old : Plan V
   old = Cell id l v c d
 
@@ -19,7 +20,8 @@ module _ {V : Type 0} (s : NodeArena V) (id : ℕ) (fs : List (Frame V)) (l : Li
   abbrev pub bare : Plan V
   bare = Cell id l None Nil d
 
-  all : (i : ℕ) → (count_frames fs i + (one id i + (count c i + count d i))) + times h.0 i ≡ below (length s.nodes.items) i
+  all : (i : ℕ)
+      → (count_frames fs i + (one id i + (count c i + count d i))) + times h.0 i ≡ below (length s.nodes.items) i
   all i = omega (arith, h.1.once i, count-fill fs old i)
 
   apart : (count_frames fs id + (count c id + count d id)) + times h.0 id ≡ 0
@@ -31,7 +33,9 @@ module _ {V : Type 0} (s : NodeArena V) (id : ℕ) (fs : List (Frame V)) (l : Li
     moved = Cell id top v c Nil
 
     -- as the node is read, and written
-    pub bare_is : (n : Node V) → n ≡ linked l v (head c) (head d) → (i : ℕ) → i ≡ id → (child : Option ℕ) → child ≡ None → (value : Option V) → value ≡ None → set s.nodes.items i (linked n.label value child n.sibling) ≡ set s.nodes.items id (linked l None None (head d))
+    pub bare_is : (n : Node V) → n ≡ linked l v (head c) (head d) → (i : ℕ) → i ≡ id
+        → (child : Option ℕ) → child ≡ None → (value : Option V) → value ≡ None
+        → set s.nodes.items i (linked n.label value child n.sibling) ≡ set s.nodes.items id (linked l None None (head d))
     bare_is n is i at child none value gone = rw (is, at, none, gone) refl
 
     module _ (nodes : List (Node V)) (nodes_is : nodes ≡ set s.nodes.items id (linked l None None (head d))) where
@@ -42,10 +46,16 @@ module _ {V : Type 0} (s : NodeArena V) (id : ℕ) (fs : List (Frame V)) (l : Li
       long = ap length nodes_is ∙ length-set s.nodes.items id (linked l None None (head d))
 
       -- the moved node is the top row of the new vector
-      pub laid_top : (to : List (Node V)) → to ≡ linked top v (head c) None ∷ [] → IsLaid nodes to moved
+      pub laid_top : (to : List (Node V)) → to ≡ linked top v (head c) None ∷ []
+          → IsLaid nodes to moved
       laid_top to is = record {
         laid_is = is;
-        below_stands = (stands-keep s.nodes.items nodes c (λ i k. kept i (λ e. k (omega (arith, apart, ap (count c) e)))) (stands-within s.nodes.items fs old h.1.plan_ok.stands).1, tt);
+        below_stands = (
+          stands-keep s.nodes.items nodes c
+              (λ i k. kept i (λ e. k (omega (arith, apart, ap (count c) e))))
+              (stands-within s.nodes.items fs old h.1.plan_ok.stands).1,
+          tt,
+        );
         once = λ i. omega (arith, all i, below_le (length s.nodes.items) i);
       }
 
@@ -53,19 +63,29 @@ module _ {V : Type 0} (s : NodeArena V) (id : ℕ) (fs : List (Frame V)) (l : Li
       free_kept free is = (chain-keep s.nodes.items nodes h.0 (λ i k. kept i (λ e. k (omega (arith, apart, ap (times h.0) e)))) h.1.chain, is ∙ h.1.free_is)
 
     -- what is left is whole
-    pub emptied : (first last : NodeArena V) → first.nodes.items ≡ set s.nodes.items id (linked l None None (head d)) → first.root ≡ s.root → first.free ≡ s.free → TakesBelow first last moved → Holds last (fill fs bare)
+    pub emptied : (first last : NodeArena V)
+        → first.nodes.items ≡ set s.nodes.items id (linked l None None (head d))
+        → first.root ≡ s.root → first.free ≡ s.free → TakesBelow first last moved
+        → Holds last (fill fs bare)
     emptied first last nodes_is root_is free_is takes =
         let left = takes.freed h.0 (free_kept first.nodes.items nodes_is first.free free_is) (λ i. omega (arith, all i, below_le (length s.nodes.items) i)) in
-        let still : (i : ℕ) → count c i ≡ 0 → i ≢ id → slice_get last.nodes.items i ≡ slice_get s.nodes.items i = λ i none k. takes.others i (omega (arith, none)) ∙ kept first.nodes.items nodes_is i k in
+        let still : (i : ℕ) → count c i ≡ 0 → i ≢ id → slice_get last.nodes.items i ≡ slice_get
+        s.nodes.items i = λ i none k. takes.others i (omega (arith, none)) ∙ kept
+        first.nodes.items nodes_is i k in
         let same : length last.nodes.items ≡ length s.nodes.items = takes.long ∙ long first.nodes.items nodes_is in
         let outside : (i : ℕ) → count_frames fs i + count d i ≢ 0 → slice_get last.nodes.items i ≡ slice_get s.nodes.items i =
-        λ i some. still i (omega (arith, all i, below_le (length s.nodes.items) i, some)) (λ e. some (omega (arith, apart, ap (count_frames fs) e, ap (count d) e))) in (
+        λ i some. still i (omega (arith, all i, below_le (length s.nodes.items) i, some))
+        (λ e. some (omega (arith, apart, ap (count_frames fs) e, ap (count d) e))) in (
           left.0,
           sound-swap s.nodes.items last.nodes.items s.root last.root s.free last.free fs old bare h.0 left.0 h.1
               (stands-refill s.nodes.items last.nodes.items fs old bare (λ i k. outside i (λ e. k (omega arith))) refl h.1.plan_ok.stands (
-                takes.others id (omega (arith, apart)) ∙ ap (λ xs. slice_get xs id) nodes_is ∙ get-set_same s.nodes.items id (linked l None None (head d)) (node_within s id fs l v c d h),
+                takes.others id (omega (arith, apart)) ∙ ap (λ xs. slice_get xs id) nodes_is ∙
+                    get-set_same s.nodes.items id (linked l None None (head d))
+                    (node_within s id fs l v c d h),
                 tt,
-                stands-keep s.nodes.items last.nodes.items d (λ i k. outside i (λ e. k (omega arith))) (stands-within s.nodes.items fs old h.1.plan_ok.stands).2,
+                stands-keep s.nodes.items last.nodes.items d
+                    (λ i k. outside i (λ e. k (omega arith)))
+                    (stands-within s.nodes.items fs old h.1.plan_ok.stands).2,
               ))
               (takes.root_is ∙ root_is ∙ h.1.plan_ok.at_is ∙ head-refill fs bare old refl)
               left.1.0

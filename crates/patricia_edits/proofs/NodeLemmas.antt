@@ -15,7 +15,8 @@ use Rattle.patricia_edits.proofs.MeasureLemmas.{values-within, own-one}
 pub own_as : {V : Type 0} (n m : Node V) → n ≡ m → length (own n.value) ≡ length (own m.value)
 own_as n m is = ap (λ (x : Node _). length (own x.value)) is
 
-module _ {V : Type 0} (s : NodeArena V) (id : ℕ) (fs : List (Frame V)) (l : List ℕ) (v : Option V) (c d : Plan V) (h : Holds s (fill fs (Cell id l v c d))) where
+module _ {V : Type 0} (s : NodeArena V) (id : ℕ) (fs : List (Frame V)) (l : List ℕ) (v : Option V)
+    (c d : Plan V) (h : Holds s (fill fs (Cell id l v c d))) where
   pub node_there : slice_get s.nodes.items id ≡ Some (linked l v (head c) (head d))
   node_there = (stands-within s.nodes.items fs (Cell id l v c d) h.1.plan_ok.stands).0
 
@@ -45,7 +46,9 @@ module _ {V : Type 0} (s : NodeArena V) (id : ℕ) (fs : List (Frame V)) (l : Li
     }
 
     -- counts of what is below it give the counts with it
-    pub tree_counted : (n m room count : ℕ) → (n ≡ size c) × (m ≡ values c) → n + 1 ≤ room → count ≡ m + length (own r.value) → (suc (size c) ≤ room) × (count ≡ length (own v ++ entries (row c)))
+    pub tree_counted : (n m room count : ℕ) → (n ≡ size c) × (m ≡ values c) → n + 1 ≤ room
+        → count ≡ m + length (own r.value)
+        → (suc (size c) ≤ room) × (count ≡ length (own v ++ entries (row c)))
     tree_counted n m room count is wide counted = (
       omega (arith, is.0, wide),
       omega (arith, is.1, counted, length-append (own v) (entries (row c)), ap (λ (x : Node V). length (own x.value)) node_read),

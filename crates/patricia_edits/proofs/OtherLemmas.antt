@@ -13,9 +13,14 @@ use Rattle.patricia_nodes.proofs.FillLemmas.{row-within, stands-within}
 use Rattle.patricia_edits.proofs.TakeLemmas.{Gone, gone_past, gone_joined, gone-fill}
 
 -- the node of this number, label, value and children stands in the place, and what is left of its row without it
-module _ (item : List ℕ → Type 0) (kind : IsKeyKind item) {V : Type 0} (left : List ℕ → List (List ℕ × V) → List (List ℕ × V)) (leaves : Leaves item left)
-    (id : ℕ) (l : List ℕ) (x : Option V) (c : Plan V) (key rest : List ℕ) (goes : (s : Siblings V) → IsCanonical item (node l x (row c) s) → Gone item left (node l x (row c) s) s rest)
-    (fs : List (Frame V)) (d : Plan V) (leads : Leads item fs key rest) (ok : IsCanonical item (row (fill fs (Cell id l x c d)))) (u o : ℕ) (other : LeavesOther fs d u o) where
+module _ (item : List ℕ → Type 0) (kind : IsKeyKind item) {V : Type 0}
+    (left : List ℕ → List (List ℕ × V) → List (List ℕ × V)) (leaves : Leaves item left)
+    (id : ℕ) (l : List ℕ) (x : Option V) (c : Plan V) (key rest : List ℕ)
+    (goes : (s : Siblings V) → IsCanonical item (node l x (row c) s) → Gone item left
+    (node l x (row c) s) s rest)
+    (fs : List (Frame V)) (d : Plan V) (leads : Leads item fs key rest)
+    (ok : IsCanonical item (row (fill fs (Cell id l x c d)))) (u o : ℕ)
+    (other : LeavesOther fs d u o) where
   abbrev after : Plan V
   after = Cell u (other.label ++ other.inner) other.own other.below other.beside
 
@@ -29,7 +34,8 @@ module _ (item : List ℕ → Type 0) (kind : IsKeyKind item) {V : Type 0} (left
   -- the two of them, and what is left of them
   pub record Inside : Type 0 where
     pub old : Plan V
-    pub was : fill fs (Cell id l x c d) ≡ fill other.outer (Cell u other.label None old other.beside)
+    pub was :
+        fill fs (Cell id l x c d) ≡ fill other.outer (Cell u other.label None old other.beside)
     pub before : List ℕ
     pub through : Passes item before other.label rest
     pub nonempty : rest ≢ []
@@ -53,7 +59,9 @@ module _ (item : List ℕ → Type 0) (kind : IsKeyKind item) {V : Type 0} (left
           alone = λ is leaf. inl (is, leaf, refl);
         }
     | inr e ↦
-        let way : Leads item (InSibling o other.inner other.own other.below ∷ InChild u other.label None other.beside ∷ other.outer) key rest = rw e.0 at leads in
+        let way : Leads item
+        (InSibling o other.inner other.own other.below ∷ InChild u other.label None
+        other.beside ∷ other.outer) key rest = rw e.0 at leads in
         record {
           old = Cell o other.inner other.own other.below (Cell id l x c Nil);
           was = rw (e.0, e.1) refl;
@@ -61,13 +69,15 @@ module _ (item : List ℕ → Type 0) (kind : IsKeyKind item) {V : Type 0} (left
           through = way.1.1;
           nonempty = way.1.2;
           outer_leads = way.1.3;
-          gone = λ inner. gone_past item kind left leaves other.inner other.own (row other.below) (node l x (row c) end) end inner rest way.0 (goes end inner.sibling);
+          gone = λ inner. gone_past item kind left leaves other.inner other.own (row other.below)
+              (node l x (row c) end) end inner rest way.0 (goes end inner.sibling);
           alone = λ is leaf. inr (is, leaf, refl);
         }
   ]
 
   -- the node above takes in the other
-  pub whole_ok : IsCanonical item (row (fill other.outer (Cell u other.label None inside.old other.beside)))
+  pub whole_ok :
+      IsCanonical item (row (fill other.outer (Cell u other.label None inside.old other.beside)))
   whole_ok = subst (λ (q : Plan V). IsCanonical item (row q)) inside.was ok
 
   -- the node above and its children keep the invariant
@@ -75,21 +85,31 @@ module _ (item : List ℕ → Type 0) (kind : IsKeyKind item) {V : Type 0} (left
   upper_ok = row-within item other.outer (Cell u other.label None inside.old other.beside) whole_ok
 
   -- both are in the vector, with their labels
-  pub labels_are : (nodes : List (Node V)) → LaidOut nodes (fill fs (Cell id l x c d)) → ((n : Node V) × (slice_get nodes u ≡ Some n) × (n.label ≡ other.label)) × ((m : Node V) × (slice_get nodes o ≡ Some m) × (m.label ≡ other.inner))
+  pub labels_are : (nodes : List (Node V)) → LaidOut nodes (fill fs (Cell id l x c d))
+      → ((n : Node V) × (slice_get nodes u ≡ Some n) × (n.label ≡ other.label)) × ((m : Node V) × (slice_get nodes o ≡ Some m) × (m.label ≡ other.inner))
   labels_are nodes stands = elim other.stands [
     | inl e ↦
         let all : LaidOut nodes (fill other.outer (Cell u other.label None (Cell id l x c lone) other.beside)) = rw (e.0, e.1) at stands in
         let at = stands-within nodes other.outer (Cell u other.label None (Cell id l x c lone) other.beside) all in
         ((linked other.label None (Some id) (head other.beside), at.0, refl), (linked other.inner other.own (head other.below) None, at.1.2.0, refl))
     | inr e ↦
-        let all : LaidOut nodes (fill other.outer (Cell u other.label None (Cell o other.inner other.own other.below (Cell id l x c Nil)) other.beside)) = rw (e.0, e.1) at stands in
+        let all : LaidOut nodes
+        (fill other.outer
+        (Cell u other.label None
+        (Cell o other.inner other.own other.below (Cell id l x c Nil)) other.beside)) =
+        rw (e.0, e.1) at stands in
         let at = stands-within nodes other.outer (Cell u other.label None (Cell o other.inner other.own other.below (Cell id l x c Nil)) other.beside) all in
         ((linked other.label None (Some o) (head other.beside), at.0, refl), (linked other.inner other.own (head other.below) (Some id), at.1.0, refl))
   ]
 
   -- merged with the other child, the rows keep the invariant, and the rest of the entries is left
-  pub other_gone : Gone item left (row (fill fs (Cell id l x c d))) (row (fill other.outer after)) key
+  pub other_gone :
+      Gone item left (row (fill fs (Cell id l x c d))) (row (fill other.outer after)) key
   other_gone =
       subst (λ (q : Plan V). Gone item left (row q) (row (fill other.outer after)) key) (sym inside.was)
-      (gone-fill item kind left leaves other.outer (Cell u other.label None inside.old other.beside) after whole_ok key inside.before inside.outer_leads (omega arith)
-      (gone_joined item kind left leaves other.label (row inside.old) (row other.beside) other.inner other.own (row other.below) upper_ok inside.before rest inside.through inside.nonempty (inside.gone upper_ok.child)))
+      (gone-fill item kind left leaves other.outer
+      (Cell u other.label None inside.old other.beside) after whole_ok key inside.before
+      inside.outer_leads (omega arith)
+      (gone_joined item kind left leaves other.label (row inside.old) (row other.beside)
+      other.inner other.own (row other.below) upper_ok inside.before rest inside.through
+      inside.nonempty (inside.gone upper_ok.child)))

@@ -26,17 +26,28 @@ use Rattle.patricia_model.proofs.DivideLemmas.{Divides, divides_label, ends_at_c
 
 module _ (item : List ℕ → Type 0) (kind : IsKeyKind item) {V : Type 0} (x : V) where
   -- a new node before a plan
-  row_first : (k : ℕ) (focus : Plan V) → IsCanonical item (row focus) → (rest : List ℕ) → Matches item focus rest Absent → IsValid item rest → rest ≢ []
+  row_first : (k : ℕ) (focus : Plan V) → IsCanonical item (row focus) → (rest : List ℕ)
+      → Matches item focus rest Absent → IsValid item rest → rest ≢ []
       → IsCanonical item (row (Cell k rest (Some x) Nil focus))
   row_first k Nil ok rest h valid nonempty = record { valid = valid; nonempty = nonempty; fits = tt; earns = tt; rises = tt; child = tt; sibling = tt }
-  row_first k (Cell i l v c d) ok rest h valid nonempty = record { valid = valid; nonempty = nonempty; fits = tt; earns = tt; rises = h; child = tt; sibling = ok }
+  row_first k (Cell i l v c d) ok rest h valid nonempty = record {
+    valid = valid;
+    nonempty = nonempty;
+    fits = tt;
+    earns = tt;
+    rises = h;
+    child = tt;
+    sibling = ok;
+  }
 
-  put_first : (k : ℕ) (focus : Plan V) → IsCanonical item (row focus) → (rest : List ℕ) → Matches item focus rest Absent
+  put_first : (k : ℕ) (focus : Plan V) → IsCanonical item (row focus) → (rest : List ℕ)
+      → Matches item focus rest Absent
       → entries (row (Cell k rest (Some x) Nil focus)) ≡ put key_cmp rest x (entries (row focus))
   put_first k Nil ok rest h = single item kind x rest
   put_first k (Cell i l v c d) ok rest h = put_before item kind x l v (row c) (row d) ok rest h
 
-module _ {item : List ℕ → Type 0} {V : Type 0} {s : NodeArena V} {key : List ℕ} {link_ref : LinkRef} {at : Option ℕ} {rest : List ℕ} {matched : Match}
+module _ {item : List ℕ → Type 0} {V : Type 0} {s : NodeArena V} {key : List ℕ}
+    {link_ref : LinkRef} {at : Option ℕ} {rest : List ℕ} {matched : Match}
     (sought : Sought item s key link_ref at rest matched) where
   open sought use {kind, whole, canonical as ok, place as p}
 
@@ -45,8 +56,9 @@ module _ {item : List ℕ → Type 0} {V : Type 0} {s : NodeArena V} {key : List
   place_link_ref = (p.frames, p.focus, p.link_ref_is, place_holds sought)
 
   -- between two nodes
-  pub puts_first : (new : NodeArena V) (x : V) (leaf : Node V) (k : ℕ) → matched ≡ Absent → IsValid item rest → leaf.label ≡ rest → leaf.value ≡ Some x
-      → leaf.child ≡ None → leaf.sibling ≡ at → AddsNode s new link_ref leaf k → Puts item s new key x
+  pub puts_first : (new : NodeArena V) (x : V) (leaf : Node V) (k : ℕ) → matched ≡ Absent
+      → IsValid item rest → leaf.label ≡ rest → leaf.value ≡ Some x → leaf.child ≡ None
+      → leaf.sibling ≡ at → AddsNode s new link_ref leaf k → Puts item s new key x
   puts_first new x leaf k is valid label value child sibling adds =
       let is_match = subst (λ k. Matches item p.focus rest k) is p.is_match in
       let holds = (adds p.frames Nil p.focus p.focus p.link_ref_is (inr (refl, refl)) child (sibling ∙ p.at_is) (place_holds sought)).0 in
@@ -98,17 +110,23 @@ module _ {item : List ℕ → Type 0} {V : Type 0} {s : NodeArena V} {key : List
         div = divides_label item kind rest r.label n valid there_ok.valid ends
 
         -- what is said of the row at the node, is said of what is in the place
-        puts_there : (new : NodeArena V) (x : V) (focus : Plan V) → Holds new (fill p.frames focus) → IsCanonical item (row focus)
-            → entries (row focus) ≡ put key_cmp rest x (entries (node r.label r.value (row there.child) (row there.sibling))) → Puts item s new key x
-        puts_there new x focus holds canonical put_is = puts sought new x focus holds canonical (put_is ∙ ap (λ (q : Plan V). put key_cmp rest x (entries (row q))) (sym there.is))
+        puts_there : (new : NodeArena V) (x : V) (focus : Plan V) → Holds new (fill p.frames focus)
+            → IsCanonical item (row focus)
+            → entries (row focus) ≡ put key_cmp rest x (entries (node r.label r.value (row there.child) (row there.sibling)))
+            → Puts item s new key x
+        puts_there new x focus holds canonical put_is = puts sought new x focus holds canonical
+            (put_is ∙ ap (λ (q : Plan V). put key_cmp rest x (entries (row q))) (sym there.is))
 
         -- the key ends there
-        pub puts_cut : (new : NodeArena V) (x : V) (lower : List ℕ) (k : ℕ) → lower ≡ drop n r.label → drop n rest ≡ [] → SplitsNode s new id n lower (Some x) k → Puts item s new key x
+        pub puts_cut : (new : NodeArena V) (x : V) (lower : List ℕ) (k : ℕ) → lower ≡ drop n r.label
+            → drop n rest ≡ [] → SplitsNode s new id n lower (Some x) k → Puts item s new key x
         puts_cut new x lower k label none splits =
             puts_there new x (Cell id (take n r.label) (Some x) (Cell k (drop n r.label) r.value there.child Nil) there.sibling)
             (rw (← label) (splits p.frames r.label r.value there.child there.sibling there_holds).0)
-            (ends_at_cut item kind x r.label r.value (row there.child) (row there.sibling) there_ok rest (take n r.label) (drop n rest) (drop n r.label) div none)
-            (put_at_cut item kind x r.label r.value (row there.child) (row there.sibling) there_ok rest (take n r.label) (drop n rest) (drop n r.label) div none)
+            (ends_at_cut item kind x r.label r.value (row there.child) (row there.sibling) there_ok
+            rest (take n r.label) (drop n rest) (drop n r.label) div none)
+            (put_at_cut item kind x r.label r.value (row there.child) (row there.sibling) there_ok
+            rest (take n r.label) (drop n rest) (drop n r.label) div none)
 
         -- or goes on beside the rest of the label
         module _ (mid : NodeArena V) (lower : List ℕ) (k : ℕ) (label : lower ≡ drop n r.label) (splits : SplitsNode s mid id n lower None k) where
@@ -139,27 +157,42 @@ module _ {item : List ℕ → Type 0} {V : Type 0} {s : NodeArena V} {key : List
           module _ (new : NodeArena V) (x : V) (leaf : Node V) (j : ℕ) (nonempty : drop n rest ≢ []) (leaf_label : leaf.label ≡ drop n rest)
               (leaf_value : leaf.value ≡ Some x) (leaf_child : leaf.child ≡ None) where
             -- the new node comes before the lower one
-            puts_before : ComparesFirst item (drop n rest) (drop n r.label) Less → leaf.sibling ≡ Some k → AddsNode mid new (Child id) leaf j → Puts item s new key x
+            puts_before : ComparesFirst item (drop n rest) (drop n r.label) Less
+                → leaf.sibling ≡ Some k → AddsNode mid new (Child id) leaf j → Puts item s new key x
             puts_before compared sibling adds =
                 let before = compared_less item (drop n rest) (drop n r.label) nonempty div.label_nonempty compared in
                 puts_there new x (Cell id (take n r.label) None (Cell j (drop n rest) (Some x) Nil low) there.sibling)
                 (rw (← leaf_label, ← leaf_value) (adds above Nil low low refl (inr (refl, refl)) leaf_child sibling cut_holds).0)
-                (row_before_cut item kind x r.label r.value (row there.child) (row there.sibling) there_ok rest (take n r.label) (drop n rest) (drop n r.label) div nonempty before)
-                (put_before_cut item kind x r.label r.value (row there.child) (row there.sibling) there_ok rest (take n r.label) (drop n rest) (drop n r.label) div before)
+                (row_before_cut item kind x r.label r.value (row there.child) (row there.sibling)
+                there_ok rest (take n r.label) (drop n rest) (drop n r.label) div nonempty
+                before)
+                (put_before_cut item kind x r.label r.value (row there.child) (row there.sibling)
+                there_ok rest (take n r.label) (drop n rest) (drop n r.label) div before)
 
             -- or the new node comes behind it
-            puts_after : (o : Ordering) → ComparesFirst item (drop n rest) (drop n r.label) o → (o ≡ Less → ⊥) → leaf.sibling ≡ None
+            puts_after : (o : Ordering) → ComparesFirst item (drop n rest) (drop n r.label) o
+                → (o ≡ Less → ⊥) → leaf.sibling ≡ None
                 → AddsNode mid new (Sibling k (Some id)) leaf j → Puts item s new key x
             puts_after o compared not_less sibling adds =
-                let after = past_cut item kind x r.label r.value (row there.child) (row there.sibling) there_ok rest (take n r.label) (drop n rest) (drop n r.label) div nonempty o compared not_less in
-                puts_there new x (Cell id (take n r.label) None (Cell k (drop n r.label) r.value there.child (Cell j (drop n rest) (Some x) Nil Nil)) there.sibling)
+                let after = past_cut item kind x r.label r.value (row there.child)
+                (row there.sibling) there_ok rest (take n r.label) (drop n rest)
+                (drop n r.label) div nonempty o compared not_less in
+                puts_there new x
+                (Cell id (take n r.label) None
+                (Cell k (drop n r.label) r.value there.child
+                (Cell j (drop n rest) (Some x) Nil Nil)) there.sibling)
                 (rw (← leaf_label, ← leaf_value) (adds beside Nil Nil Nil refl (inr (refl, refl)) leaf_child sibling cut_holds).0)
-                (row_after_cut item kind x r.label r.value (row there.child) (row there.sibling) there_ok rest (take n r.label) (drop n rest) (drop n r.label) div nonempty after)
-                (put_after_cut item kind x r.label r.value (row there.child) (row there.sibling) there_ok rest (take n r.label) (drop n rest) (drop n r.label) div after)
+                (row_after_cut item kind x r.label r.value (row there.child) (row there.sibling)
+                there_ok rest (take n r.label) (drop n rest) (drop n r.label) div nonempty
+                after)
+                (put_after_cut item kind x r.label r.value (row there.child) (row there.sibling)
+                there_ok rest (take n r.label) (drop n rest) (drop n r.label) div after)
 
           -- so it is by the order of the two
-          pub puts_leaf : (new : NodeArena V) (x : V) (j : ℕ) (o : Ordering) {more : List ℕ} → more ≡ drop n rest → drop n rest ≢ []
-              → ComparesFirst item (drop n rest) (drop n r.label) o → AddsLeaf mid new id k o more x j → Puts item s new key x
+          pub puts_leaf : (new : NodeArena V) (x : V) (j : ℕ) (o : Ordering) {more : List ℕ}
+              → more ≡ drop n rest → drop n rest ≢ []
+              → ComparesFirst item (drop n rest) (drop n r.label) o
+              → AddsLeaf mid new id k o more x j → Puts item s new key x
           puts_leaf new x j Less {more} is some compared adds =
               puts_before new x (linked more (Some x) None (Some k)) j some is refl refl compared refl (adds.0 refl)
           puts_leaf new x j Equal {more} is some compared adds =
@@ -168,8 +201,9 @@ module _ {item : List ℕ → Type 0} {V : Type 0} {s : NodeArena V} {key : List
               puts_after new x (linked more (Some x) None None) j some is refl refl Greater compared (λ e. absurd (cc)) refl (adds.1 (λ e. absurd (cc)))
 
 -- what holds after a value was inserted, or refused
-pub put_or_same : (item : List ℕ → Type 0) {T E : Type 0} (r : Result T E) {V : Type 0} (old new : NodeArena V) (key : List ℕ) (x : V)
-    → OnOk r (Puts item old new key x) → OnErr r (new ≡ old) → IsWellFormed old → IsCanonical item (siblings_of old)
+pub put_or_same : (item : List ℕ → Type 0) {T E : Type 0} (r : Result T E) {V : Type 0}
+    (old new : NodeArena V) (key : List ℕ) (x : V) → OnOk r (Puts item old new key x)
+    → OnErr r (new ≡ old) → IsWellFormed old → IsCanonical item (siblings_of old)
     → IsWellFormed new × IsCanonical item (siblings_of new)
 put_or_same item (Ok y) old new key x ok err whole canonical = (ok.whole, ok.canonical)
 put_or_same item (Err e) old new key x ok err whole canonical = rw err (whole, canonical)

@@ -35,33 +35,45 @@ label_is item q l passes = sym (append-nil l) ∙ passes.splits
 
 module _ {V : Type 0} where
   -- what is left of a first node, by what stands below it
-  first_none : (l : List ℕ) (v : Option V) (c s : Siblings V) → v ≡ None → without_first (node l v c s) ≡ node l v c s
+  first_none : (l : List ℕ) (v : Option V) (c s : Siblings V) → v ≡ None
+      → without_first (node l v c s) ≡ node l v c s
   first_none l None c s e = refl
   first_none l (Some x) c s e = absurd (cc)
 
-  first_leaf : (l : List ℕ) (v : Option V) (s : Siblings V) → (v ≡ None → ⊥) → without_first (node l v end s) ≡ s
+  first_leaf : (l : List ℕ) (v : Option V) (s : Siblings V) → (v ≡ None → ⊥)
+      → without_first (node l v end s) ≡ s
   first_leaf l None s e = absurd (e refl)
   first_leaf l (Some x) s e = refl
 
-  first_lone : (l : List ℕ) (v : Option V) (m : List ℕ) (w : Option V) (d s : Siblings V) → (v ≡ None → ⊥) → without_first (node l v (node m w d end) s) ≡ node (l ++ m) w d s
+  first_lone : (l : List ℕ) (v : Option V) (m : List ℕ) (w : Option V) (d s : Siblings V)
+      → (v ≡ None → ⊥) → without_first (node l v (node m w d end) s) ≡ node (l ++ m) w d s
   first_lone l None m w d s e = absurd (e refl)
   first_lone l (Some x) m w d s e = refl
 
-  first_more : (l : List ℕ) (v : Option V) (m : List ℕ) (w : Option V) (d : Siblings V) (m' : List ℕ) (w' : Option V) (d' t s : Siblings V)
+  first_more : (l : List ℕ) (v : Option V) (m : List ℕ) (w : Option V) (d : Siblings V)
+      (m' : List ℕ) (w' : Option V) (d' t s : Siblings V)
       → without_first (node l v (node m w d (node m' w' d' t)) s) ≡ node l None (node m w d (node m' w' d' t)) s
   first_more l None m w d m' w' d' t s = refl
   first_more l (Some x) m w d m' w' d' t s = refl
 
-  lone_parent : (l : List ℕ) (v : Option V) (m : List ℕ) (w : Option V) (d s : Siblings V) → (v ≡ None → ⊥) → IsLoneParent (node l v (node m w d end) s)
+  lone_parent : (l : List ℕ) (v : Option V) (m : List ℕ) (w : Option V) (d s : Siblings V)
+      → (v ≡ None → ⊥) → IsLoneParent (node l v (node m w d end) s)
   lone_parent l None m w d s e = absurd (e refl)
   lone_parent l (Some x) m w d s e = tt
 
 module _ (item : List ℕ → Type 0) (kind : IsKeyKind item) {V : Type 0} where
   -- the first node goes, or its value does
-  first_gone : (l : List ℕ) (v : Option V) (c s : Siblings V) → IsCanonical item (node l v c s) → (q : List ℕ) → Passes item q l [] → Gone item others (node l v c s) (without_first (node l v c s)) q
-  first_gone l v c s ok q passes = record { canonical = row_first_removed item kind (node l v c s) ok; left_is = entries_first_removed item kind l v c s ok q [] passes refl }
+  first_gone : (l : List ℕ) (v : Option V) (c s : Siblings V) → IsCanonical item (node l v c s)
+      → (q : List ℕ) → Passes item q l []
+      → Gone item others (node l v c s) (without_first (node l v c s)) q
+  first_gone l v c s ok q passes =
+      record {
+        canonical = row_first_removed item kind (node l v c s) ok;
+        left_is = entries_first_removed item kind l v c s ok q [] passes refl;
+      }
 
-module _ {item : List ℕ → Type 0} {V : Type 0} {s : NodeArena V} {key : List ℕ} {link_ref : LinkRef} {at : Option ℕ} {rest : List ℕ} {matched : Match}
+module _ {item : List ℕ → Type 0} {V : Type 0} {s : NodeArena V} {key : List ℕ}
+    {link_ref : LinkRef} {at : Option ℕ} {rest : List ℕ} {matched : Match}
     (sought : Sought item s key link_ref at rest matched) {id : ℕ} (is : matched ≡ Exact id) {r : Node V} (reads : r ≡ get_or s.nodes.items id r) where
   open sought use {kind, whole, canonical as ok, place as p}
 
@@ -96,9 +108,12 @@ module _ {item : List ℕ → Type 0} {V : Type 0} {s : NodeArena V} {key : List
 
   -- it is what the vector has at its number
   pub here_is : slice_get s.nodes.items id ≡ Some r
-  here_is = (stands-within s.nodes.items p.frames cell holds.1.plan_ok.stands).0 ∙ ap Some (sym (node_is s.nodes.items id r _ (stands-within s.nodes.items p.frames cell holds.1.plan_ok.stands).0 reads))
+  here_is = (stands-within s.nodes.items p.frames cell holds.1.plan_ok.stands).0 ∙ ap Some
+      (sym (node_is s.nodes.items id r _
+      (stands-within s.nodes.items p.frames cell holds.1.plan_ok.stands).0 reads))
 
-  removes : (new : NodeArena V) (plan : Plan V) → Holds new plan → Gone item others (row (fill p.frames cell)) (row plan) key → Removes item s new key
+  removes : (new : NodeArena V) (plan : Plan V) → Holds new plan
+      → Gone item others (row (fill p.frames cell)) (row plan) key → Removes item s new key
   removes new plan h gone =
       let same : plan_at new.nodes.items new.root ≡ plan = plan_is new.nodes.items new.root plan h.1.plan_ok in
       record {
@@ -130,33 +145,45 @@ module _ {item : List ℕ → Type 0} {V : Type 0} {s : NodeArena V} {key : List
 
       -- where a sibling follows it, there are two children
       pub two_children : {j : ℕ} → m.sibling ≡ Some j → 2 ≤ width (row there.child)
-      two_children {j} next = let more = plan_more s.nodes.items m.sibling first_child.sibling j first_child.sibling_plan next in omega (arith, ap (λ (q : Plan V). width (row q)) first_child.is)
+      two_children {j} next =
+          let more = plan_more s.nodes.items m.sibling first_child.sibling j first_child.sibling_plan next in
+          omega (arith, ap (λ (q : Plan V). width (row q)) first_child.is)
 
       -- where none does, it is the only one
       pub lone_child : m.sibling ≡ None → there.child ≡ Cell k m.label m.value first_child.child Nil
-      lone_child last = first_child.is ∙ ap (Cell k m.label m.value first_child.child) (plan_end s.nodes.items m.sibling first_child.sibling first_child.sibling_plan last)
+      lone_child last = first_child.is ∙ ap (Cell k m.label m.value first_child.child)
+          (plan_end s.nodes.items m.sibling first_child.sibling first_child.sibling_plan last)
 
   gone_cell : Gone item others (row cell) (without_first (row cell)) rest
   gone_cell = first_gone item kind r.label r.value (row there.child) (row there.sibling) inner_ok rest passes
 
   -- a node stays in the place
-  removes_in : (new : NodeArena V) (q : Plan V) → Holds new (fill p.frames q) → without_first (row cell) ≡ row q → 1 + width (row there.sibling) ≤ width (row q) → Removes item s new key
+  removes_in : (new : NodeArena V) (q : Plan V) → Holds new (fill p.frames q)
+      → without_first (row cell) ≡ row q → 1 + width (row there.sibling) ≤ width (row q)
+      → Removes item s new key
   removes_in new q h same wide =
-      removes new (fill p.frames q) h (gone-fill item kind others (others_leave item kind) p.frames cell q whole_ok' key rest p.leads (omega arith) (subst (λ (x : Siblings V). Gone item others (row cell) x rest) same gone_cell))
+      removes new (fill p.frames q) h
+      (gone-fill item kind others (others_leave item kind) p.frames cell q whole_ok' key rest
+      p.leads (omega arith)
+      (subst (λ (x : Siblings V). Gone item others (row cell) x rest) same gone_cell))
 
   -- a node without value stays as it is
   pub removes_none : r.value ≡ None → Removes item s s key
   removes_none none = removes_in s cell holds (first_none r.label r.value (row there.child) (row there.sibling) none) (omega arith)
 
   -- one with two children loses its value
-  pub removes_value : (new : NodeArena V) (v : Option V) → v ≡ None → 2 ≤ width (row there.child) → (n : Node V) → n ≡ get_or s.nodes.items id n
-      → new.nodes.items ≡ set s.nodes.items id (linked n.label v n.child n.sibling) → new.root ≡ s.root → new.free ≡ s.free → Removes item s new key
+  pub removes_value : (new : NodeArena V) (v : Option V) → v ≡ None → 2 ≤ width (row there.child)
+      → (n : Node V) → n ≡ get_or s.nodes.items id n
+      → new.nodes.items ≡ set s.nodes.items id (linked n.label v n.child n.sibling)
+      → new.root ≡ s.root → new.free ≡ s.free → Removes item s new key
   removes_value new v none two n reads_n written root_is free_is =
-      let nodes_is : new.nodes.items ≡ set s.nodes.items id (linked r.label v r.child r.sibling) = rw (← node_is s.nodes.items id n r here_is reads_n) written in
+      let nodes_is : new.nodes.items ≡ set s.nodes.items id (linked r.label v r.child r.sibling) =
+      rw (← node_is s.nodes.items id n r here_is reads_n) written in
       let held = holds_write s id r reads p.frames r.label r.label r.value v there.child there.sibling holds in
       removes_in new (Cell id r.label None there.child there.sibling) (rw (nodes_is, root_is, free_is, ← none) held) (more (row there.child) two) (omega arith)
     where
-      more : (c : Siblings V) → 2 ≤ width c → without_first (node r.label r.value c (row there.sibling)) ≡ node r.label None c (row there.sibling)
+      more : (c : Siblings V) → 2 ≤ width c
+          → without_first (node r.label r.value c (row there.sibling)) ≡ node r.label None c (row there.sibling)
       more end two = absurd (omega arith)
       more (node m w d end) two = absurd (omega arith)
       more (node m w d (node m' w' d' t)) two = first_more r.label r.value m w d m' w' d' t (row there.sibling)
@@ -175,7 +202,8 @@ module _ {item : List ℕ → Type 0} {V : Type 0} {s : NodeArena V} {key : List
       has_lone = (p.frames, r.label, r.value, m, w, e, there.sibling, subst (λ (q : Plan V). Holds s (fill p.frames q)) cell_is holds)
 
       -- merging them removes the key
-      pub removes_lone : (new : NodeArena V) (joined : List ℕ) (taken : Option V) → joined ≡ r.label ++ m → Absorbs s new id k joined taken → Removes item s new key
+      pub removes_lone : (new : NodeArena V) (joined : List ℕ) (taken : Option V)
+          → joined ≡ r.label ++ m → Absorbs s new id k joined taken → Removes item s new key
       removes_lone new joined taken is absorbs =
           removes_in new (Cell id (r.label ++ m) w e there.sibling)
           (rw (← is) (absorbs p.frames r.label r.value m w e there.sibling (subst (λ (q : Plan V). Holds s (fill p.frames q)) cell_is holds)).0)
@@ -183,9 +211,12 @@ module _ {item : List ℕ → Type 0} {V : Type 0} {s : NodeArena V} {key : List
           (omega arith)
 
       -- the value that is returned is that of the node
-      pub lone_value : (new : NodeArena V) (joined : List ℕ) (taken : Option V) → Absorbs s new id k joined taken → HasValue s id taken
+      pub lone_value : (new : NodeArena V) (joined : List ℕ) (taken : Option V)
+          → Absorbs s new id k joined taken → HasValue s id taken
       lone_value new joined taken absorbs n at_n =
-          (absorbs p.frames r.label r.value m w e there.sibling (subst (λ (q : Plan V). Holds s (fill p.frames q)) cell_is holds)).1 ∙ ap (λ (x : Node V). x.value) (read_is n at_n)
+          (absorbs p.frames r.label r.value m w e there.sibling
+          (subst (λ (q : Plan V). Holds s (fill p.frames q)) cell_is holds)).1 ∙ ap
+          (λ (x : Node V). x.value) (read_is n at_n)
 
       -- without the key the two labels are joined
       pub joins_here : Joins item (keys_of (entries_of s)) key
@@ -193,7 +224,9 @@ module _ {item : List ℕ → Type 0} {V : Type 0} {s : NodeArena V} {key : List
           subst (λ (q : Plan V). Joins item (keys_of (entries (row q))) key) fills
           (joins-fill item kind p.frames cell whole_ok' key rest p.leads
           (subst (λ (q : Plan V). Joins item (keys_of (entries (row q))) rest) (sym cell_is)
-          (joins_lone item kind r.label r.value (node m w (row e) end) (row there.sibling) (subst (λ (q : Plan V). IsCanonical item (row q)) cell_is inner_ok) rest [] passes refl (lone_parent r.label r.value m w (row e) (row there.sibling) valued))))
+          (joins_lone item kind r.label r.value (node m w (row e) end) (row there.sibling)
+          (subst (λ (q : Plan V). IsCanonical item (row q)) cell_is inner_ok) rest [] passes
+          refl (lone_parent r.label r.value m w (row e) (row there.sibling) valued))))
 
     -- a leaf goes
     module _ (child_is : there.child ≡ Nil) where
@@ -209,30 +242,42 @@ module _ {item : List ℕ → Type 0} {V : Type 0} {s : NodeArena V} {key : List
       leaf_ok : IsCanonical item (row (fill p.frames leaf_cell))
       leaf_ok = subst (λ (q : Plan V). IsCanonical item (row (fill p.frames q))) leaf_is whole_ok'
 
-      leaf_goes : (beside : Siblings V) → IsCanonical item (node r.label r.value end beside) → Gone item others (node r.label r.value end beside) beside rest
-      leaf_goes beside inner = subst (λ x. Gone item others (node r.label r.value end beside) x rest) (first_leaf r.label r.value beside valued) (first_gone item kind r.label r.value end beside inner rest passes)
+      leaf_goes : (beside : Siblings V) → IsCanonical item (node r.label r.value end beside)
+          → Gone item others (node r.label r.value end beside) beside rest
+      leaf_goes beside inner = subst
+          (λ x. Gone item others (node r.label r.value end beside) x rest)
+          (first_leaf r.label r.value beside valued)
+          (first_gone item kind r.label r.value end beside inner rest passes)
 
       -- it stands at its spot
       pub has_leaf : HasLeafAt s link_ref id
       has_leaf = (p.frames, r.label, r.value, there.sibling, p.link_ref_is, leaf_holds)
 
       -- unlinking it removes the key, where the node above keeps its place
-      pub removes_leaf : (new : NodeArena V) (taken : Option V) → Unlinks s new link_ref id taken → Spares p.frames there.sibling → Removes item s new key
+      pub removes_leaf : (new : NodeArena V) (taken : Option V) → Unlinks s new link_ref id taken
+          → Spares p.frames there.sibling → Removes item s new key
       removes_leaf new taken unlinks spares =
           removes new (fill p.frames there.sibling) (unlinks p.frames r.label r.value there.sibling p.link_ref_is leaf_holds).0
           (spared-fill item kind others (others_leave item kind) p.frames cell there.sibling whole_ok' key rest p.leads spares
-          (subst (λ (q : Plan V). Gone item others (row q) (row there.sibling) rest) (sym leaf_is) (leaf_goes (row there.sibling) (row-within item p.frames leaf_cell leaf_ok))))
+          (subst (λ (q : Plan V). Gone item others (row q) (row there.sibling) rest) (sym leaf_is)
+          (leaf_goes (row there.sibling) (row-within item p.frames leaf_cell leaf_ok))))
 
       -- and the node above takes in the other child
       module _ (u o : ℕ) (left : LeavesOther p.frames there.sibling u o) where
-        left_is : fill p.frames there.sibling ≡ fill left.outer (Cell u left.label None (Cell o left.inner left.own left.below Nil) left.beside)
+        left_is :
+            fill p.frames there.sibling ≡ fill left.outer (Cell u left.label None (Cell o left.inner left.own left.below Nil) left.beside)
         left_is = left_plan item kind others (others_leave item kind) id r.label r.value Nil key rest leaf_goes p.frames there.sibling p.leads leaf_ok u o left
 
         -- the labels of the node above and of its other child
-        pub labels_left : ((n : Node V) × (slice_get s.nodes.items u ≡ Some n) × (n.label ≡ left.label)) × ((m : Node V) × (slice_get s.nodes.items o ≡ Some m) × (m.label ≡ left.inner))
-        labels_left = labels_are item kind others (others_leave item kind) id r.label r.value Nil key rest leaf_goes p.frames there.sibling p.leads leaf_ok u o left s.nodes.items leaf_holds.1.plan_ok.stands
+        pub labels_left :
+            ((n : Node V) × (slice_get s.nodes.items u ≡ Some n) × (n.label ≡ left.label)) ×
+            ((m : Node V) × (slice_get s.nodes.items o ≡ Some m) × (m.label ≡ left.inner))
+        labels_left = labels_are item kind others (others_leave item kind) id r.label r.value Nil
+            key rest leaf_goes p.frames there.sibling p.leads leaf_ok u o left s.nodes.items
+            leaf_holds.1.plan_ok.stands
 
-        abbrev two : Inside item kind others (others_leave item kind) id r.label r.value Nil key rest leaf_goes p.frames there.sibling p.leads leaf_ok u o left
+        abbrev two :
+            Inside item kind others (others_leave item kind) id r.label r.value Nil key rest leaf_goes p.frames there.sibling p.leads leaf_ok u o left
         two = inside item kind others (others_leave item kind) id r.label r.value Nil key rest leaf_goes p.frames there.sibling p.leads leaf_ok u o left
 
         -- without the key these are joined
@@ -240,11 +285,19 @@ module _ {item : List ℕ → Type 0} {V : Type 0} {s : NodeArena V} {key : List
         joins_left =
             subst (λ (q : Plan V). Joins item (keys_of (entries (row q))) key) (ap (fill p.frames) (sym leaf_is) ∙ fills)
             (subst (λ (q : Plan V). Joins item (keys_of (entries (row q))) key) (sym two.was)
-            (joins-fill item kind left.outer (Cell u left.label None two.old left.beside) (whole_ok item kind others (others_leave item kind) id r.label r.value Nil key rest leaf_goes p.frames there.sibling p.leads leaf_ok u o left) key two.before two.outer_leads
-            (joins_alone item kind left.label None (row two.old) (row left.beside) (upper_ok item kind others (others_leave item kind) id r.label r.value Nil key rest leaf_goes p.frames there.sibling p.leads leaf_ok u o left) two.before rest left.inner two.through two.nonempty refl (two.alone (label_is item rest r.label passes) refl))))
+            (joins-fill item kind left.outer (Cell u left.label None two.old left.beside)
+            (whole_ok item kind others (others_leave item kind) id r.label r.value Nil key rest
+            leaf_goes p.frames there.sibling p.leads leaf_ok u o left) key two.before
+            two.outer_leads
+            (joins_alone item kind left.label None (row two.old) (row left.beside)
+            (upper_ok item kind others (others_leave item kind) id r.label r.value Nil key rest
+            leaf_goes p.frames there.sibling p.leads leaf_ok u o left) two.before rest
+            left.inner two.through two.nonempty refl
+            (two.alone (label_is item rest r.label passes) refl))))
 
         module _ (mid : NodeArena V) (taken : Option V) (unlinks : Unlinks s mid link_ref id taken) where
-          mid_holds : Holds mid (fill left.outer (Cell u left.label None (Cell o left.inner left.own left.below Nil) left.beside))
+          mid_holds :
+              Holds mid (fill left.outer (Cell u left.label None (Cell o left.inner left.own left.below Nil) left.beside))
           mid_holds = subst (λ (q : Plan V). Holds mid q) left_is (unlinks p.frames r.label r.value there.sibling p.link_ref_is leaf_holds).0
 
           -- once the leaf is unlinked, the other child is the only one
@@ -252,14 +305,20 @@ module _ {item : List ℕ → Type 0} {V : Type 0} {s : NodeArena V} {key : List
           mid_lone = (left.outer, left.label, None, left.inner, left.own, left.below, left.beside, mid_holds)
 
           -- merging the two then removes the key
-          pub removes_left : (new : NodeArena V) (joined : List ℕ) (none : Option V) → joined ≡ left.label ++ left.inner → Absorbs mid new u o joined none → Removes item s new key
+          pub removes_left : (new : NodeArena V) (joined : List ℕ) (none : Option V)
+              → joined ≡ left.label ++ left.inner → Absorbs mid new u o joined none
+              → Removes item s new key
           removes_left new joined _ is absorbs =
               removes new (fill left.outer (Cell u (left.label ++ left.inner) left.own left.below left.beside))
               (rw (← is) (absorbs left.outer left.label None left.inner left.own left.below left.beside mid_holds).0)
-              (subst (λ (q : Plan V). Gone item others (row (fill p.frames q)) (row (fill left.outer (Cell u (left.label ++ left.inner) left.own left.below left.beside))) key) (sym leaf_is)
+              (subst (λ (q : Plan V). Gone item others (row (fill p.frames q))
+              (row (fill left.outer
+              (Cell u (left.label ++ left.inner) left.own left.below left.beside))) key)
+              (sym leaf_is)
               (other_gone item kind others (others_leave item kind) id r.label r.value Nil key rest leaf_goes p.frames there.sibling p.leads leaf_ok u o left))
 
-module _ {item : List ℕ → Type 0} {V : Type 0} {s : NodeArena V} {key : List ℕ} {link_ref : LinkRef} {at : Option ℕ} {rest : List ℕ} {matched : Match}
+module _ {item : List ℕ → Type 0} {V : Type 0} {s : NodeArena V} {key : List ℕ}
+    {link_ref : LinkRef} {at : Option ℕ} {rest : List ℕ} {matched : Match}
     (sought : Sought item s key link_ref at rest matched) {id : ℕ} (is : matched ≡ Exact id) where
   open sought use {kind, whole, canonical as ok, place as p}
 
@@ -267,7 +326,8 @@ module _ {item : List ℕ → Type 0} {V : Type 0} {s : NodeArena V} {key : List
   pub node_here : (r : Node V) × (r ≡ get_or s.nodes.items id r)
   node_here = by p.focus (focus_plan_at sought) (p.at_is ∙ stop_at item rest p.focus id matched p.is_match (ap node_of is))
     where
-      by : (q : Plan V) → IsPlan s.nodes.items at q → at ≡ Some id → (r : Node V) × (r ≡ get_or s.nodes.items id r)
+      by : (q : Plan V) → IsPlan s.nodes.items at q → at ≡ Some id
+          → (r : Node V) × (r ≡ get_or s.nodes.items id r)
       by Nil w e = let h = w.at_is in absurd (cc)
       by (Cell i l v c d) w e =
           let same : i ≡ id = let h = w.at_is in cc in
@@ -275,12 +335,14 @@ module _ {item : List ℕ → Type 0} {V : Type 0} {s : NodeArena V} {key : List
           (n, sym (get_or_from_slice_get s.nodes.items id n n (ap (slice_get s.nodes.items) (sym same) ∙ w.stands.0)))
 
 -- the value of a node that is there
-value_is : {V : Type 0} (nodes : List (Node V)) (id : ℕ) (n : Node V) (l : List ℕ) (v : Option V) (c d : Option ℕ) → slice_get nodes id ≡ Some n
-    → slice_get nodes id ≡ Some (linked l v c d) → v ≡ n.value
+value_is : {V : Type 0} (nodes : List (Node V)) (id : ℕ) (n : Node V) (l : List ℕ) (v : Option V)
+    (c d : Option ℕ) → slice_get nodes id ≡ Some n → slice_get nodes id ≡ Some (linked l v c d)
+    → v ≡ n.value
 value_is nodes id n l v c d there is = let same : linked l v c d ≡ n = cc in ap (λ (m : Node _). m.value) same
 
 -- a leaf with a value at the place of a key
-module _ {item : List ℕ → Type 0} {V : Type 0} {s : NodeArena V} {key : List ℕ} {link_ref : LinkRef} {at : Option ℕ} {rest : List ℕ} {matched : Match}
+module _ {item : List ℕ → Type 0} {V : Type 0} {s : NodeArena V} {key : List ℕ}
+    {link_ref : LinkRef} {at : Option ℕ} {rest : List ℕ} {matched : Match}
     (sought : Sought item s key link_ref at rest matched) {id : ℕ} (is : matched ≡ Exact id) (leaf : IsLeaf s id) (valued : IsValued s id) where
   open sought use {kind, whole, canonical as ok, place as p}
 
@@ -317,13 +379,17 @@ module _ {item : List ℕ → Type 0} {V : Type 0} {s : NodeArena V} {key : List
   leaf_at = has_leaf sought is reads has_value no_child
 
   -- its value is what is taken
-  pub leaf_value : (new : NodeArena V) (taken : Option V) → Unlinks s new link_ref id taken → HasValue s id taken
+  pub leaf_value : (new : NodeArena V) (taken : Option V) → Unlinks s new link_ref id taken
+      → HasValue s id taken
   leaf_value new taken unlinks n there =
       (unlinks leaf_at.0 leaf_at.1 leaf_at.2 leaf_at.3 leaf_at.4 leaf_at.5).1
-      ∙ value_is s.nodes.items id n leaf_at.1 leaf_at.2 None (head leaf_at.3) there (stands-within s.nodes.items leaf_at.0 (Cell id leaf_at.1 leaf_at.2 Nil leaf_at.3) leaf_at.5.1.plan_ok.stands).0
+      ∙ value_is s.nodes.items id n leaf_at.1 leaf_at.2 None (head leaf_at.3) there
+      (stands-within s.nodes.items leaf_at.0 (Cell id leaf_at.1 leaf_at.2 Nil leaf_at.3)
+      leaf_at.5.1.plan_ok.stands).0
 
   -- the node above keeps its place
-  pub leaf_spared : (new : NodeArena V) (taken : Option V) → LeftAlone item s link_ref id None → Unlinks s new link_ref id taken → Removes item s new key
+  pub leaf_spared : (new : NodeArena V) (taken : Option V) → LeftAlone item s link_ref id None
+      → Unlinks s new link_ref id taken → Removes item s new key
   leaf_spared new taken alone unlinks =
       removes_leaf sought is reads has_value no_child new taken unlinks
       (alone p.frames r.label r.value around.child around.sibling (stands_at sought is reads))
@@ -334,7 +400,9 @@ module _ {item : List ℕ → Type 0} {V : Type 0} {s : NodeArena V} {key : List
     abbrev pub left : LeavesOther p.frames around.sibling u o
     left = alone p.frames r.label r.value around.child around.sibling (stands_at sought is reads)
 
-    abbrev labels : ((n : Node V) × (slice_get s.nodes.items u ≡ Some n) × (n.label ≡ left.label)) × ((m : Node V) × (slice_get s.nodes.items o ≡ Some m) × (m.label ≡ left.inner))
+    abbrev labels :
+        ((n : Node V) × (slice_get s.nodes.items u ≡ Some n) × (n.label ≡ left.label)) ×
+        ((m : Node V) × (slice_get s.nodes.items o ≡ Some m) × (m.label ≡ left.inner))
     labels = labels_left sought is reads has_value no_child u o left
 
     -- both are in the vector
@@ -351,7 +419,8 @@ module _ {item : List ℕ → Type 0} {V : Type 0} {s : NodeArena V} {key : List
       leaf_lone = mid_lone sought is reads has_value no_child u o left mid taken unlinks
 
       -- merging the two removes the key
-      pub leaf_left : (new : NodeArena V) (joined : List ℕ) (none : Option V) → IsJoined s u o joined → Absorbs mid new u o joined none → Removes item s new key
+      pub leaf_left : (new : NodeArena V) (joined : List ℕ) (none : Option V)
+          → IsJoined s u o joined → Absorbs mid new u o joined none → Removes item s new key
       leaf_left new joined none is_joined absorbs =
           removes_left sought is reads has_value no_child u o left mid taken unlinks new joined none
           (is_joined labels.0.0 labels.1.0 labels.0.1 labels.1.1 ∙ ap (λ k. k ++ labels.1.0.label) labels.0.2 ∙ ap (λ k. left.label ++ k) labels.1.2) absorbs
@@ -368,14 +437,16 @@ some_number (Some x) e = (x, refl)
 
 -- a key that is not there
 module _ (item : List ℕ → Type 0) (kind : IsKeyKind item) {V : Type 0} where
-  absent : (focus : Plan V) → IsCanonical item (row focus) → (rest : List ℕ) (matched : Match) → Matches item focus rest matched → node_of matched ≡ None
+  absent : (focus : Plan V) → IsCanonical item (row focus) → (rest : List ℕ) (matched : Match)
+      → Matches item focus rest matched → node_of matched ≡ None
       → others rest (entries (row focus)) ≡ entries (row focus)
   absent Nil ok rest matched h none = refl
   absent (Cell id l v c d) ok rest Absent h none = others_before item kind l v (row c) (row d) ok rest h
   absent (Cell id l v c d) ok rest (InsideLabel i n) h none = others_within item kind l v (row c) (row d) ok rest n h.1
   absent (Cell id l v c d) ok rest (Exact i) h none = absurd (cc)
 
-module _ {item : List ℕ → Type 0} {V : Type 0} {s : NodeArena V} {key : List ℕ} {link_ref : LinkRef} {at : Option ℕ} {rest : List ℕ} {matched : Match}
+module _ {item : List ℕ → Type 0} {V : Type 0} {s : NodeArena V} {key : List ℕ}
+    {link_ref : LinkRef} {at : Option ℕ} {rest : List ℕ} {matched : Match}
     (sought : Sought item s key link_ref at rest matched) where
   open sought use {kind, whole, canonical as ok, place as p}
 
@@ -384,12 +455,19 @@ module _ {item : List ℕ → Type 0} {V : Type 0} {s : NodeArena V} {key : List
   others_none none =
       let around = place_row sought in
       let inner = row-within item p.frames p.focus around in
-      let gone = gone-fill item kind others (others_leave item kind) p.frames p.focus p.focus around key rest p.leads (omega arith) (record { canonical = inner; left_is = sym (absent item kind p.focus inner rest matched p.is_match none) }) in
+      let gone = gone-fill item kind others (others_leave item kind) p.frames p.focus p.focus
+      around key rest p.leads (omega arith)
+      (record {
+        canonical = inner;
+        left_is = sym
+            (absent item kind p.focus inner rest matched p.is_match none);
+      }) in
       subst (λ (q : Plan V). entries (row q) ≡ others key (entries (row q))) p.fills gone.left_is
 
 -- what holds after a value was removed, or not
-pub removed_or_same : (item : List ℕ → Type 0) {T E : Type 0} (r : Result T E) {V : Type 0} (old new : NodeArena V) (key : List ℕ)
-    → OnOk r (Removes item old new key) → OnErr r (new ≡ old) → IsWellFormed old → IsCanonical item (siblings_of old)
+pub removed_or_same : (item : List ℕ → Type 0) {T E : Type 0} (r : Result T E) {V : Type 0}
+    (old new : NodeArena V) (key : List ℕ) → OnOk r (Removes item old new key) → OnErr r (new ≡ old)
+    → IsWellFormed old → IsCanonical item (siblings_of old)
     → IsWellFormed new × IsCanonical item (siblings_of new)
 removed_or_same item (Ok y) old new key ok err whole canonical = (ok.whole, ok.canonical)
 removed_or_same item (Err e) old new key ok err whole canonical = rw err (whole, canonical)

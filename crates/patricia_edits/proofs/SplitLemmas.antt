@@ -49,17 +49,34 @@ record Topmost (item : List ℕ → Type 0) {V : Type 0} (rest : List ℕ) (id :
   shares : SharesItem item rest label
   begun : Begins rest label
 
-topmost : (item : List ℕ → Type 0) {V : Type 0} (focus : Plan V) (rest : List ℕ) (matched : Match) → Matches item focus rest matched → (id : ℕ)
-    → node_under rest matched ≡ Some id → Topmost item rest id focus
+topmost : (item : List ℕ → Type 0) {V : Type 0} (focus : Plan V) (rest : List ℕ) (matched : Match)
+    → Matches item focus rest matched → (id : ℕ) → node_under rest matched ≡ Some id
+    → Topmost item rest id focus
 topmost item Nil rest matched h id e = absurd (let f = rw h at e in cc)
 topmost item (Cell i l v c d) rest Absent h id e = absurd (cc)
 topmost item (Cell i l v c d) rest (InsideLabel k n) h id e =
     let same = within_node k id n rest e in
     let all : take n rest ≡ rest = take_all n rest (omega (arith, same.1)) in
-    record { label = l; value = v; child = c; sibling = d; is = ap (λ j. Cell j l v c d) (sym h.0 ∙ same.0); shares = h.1.shares; begun = subst (λ q. Begins q l) all h.1.common.begins }
+    record {
+      label = l;
+      value = v;
+      child = c;
+      sibling = d;
+      is = ap (λ j. Cell j l v c d) (sym h.0 ∙ same.0);
+      shares = h.1.shares;
+      begun = subst (λ q. Begins q l) all h.1.common.begins;
+    }
 topmost item (Cell i l v c d) rest (Exact k) h id e =
     let same : i ≡ id = let f = h.0 in cc in
-    record { label = l; value = v; child = c; sibling = d; is = ap (λ j. Cell j l v c d) same; shares = h.1.shares; begun = ([], append-nil rest ∙ sym h.1.splits ∙ append-nil l) }
+    record {
+      label = l;
+      value = v;
+      child = c;
+      sibling = d;
+      is = ap (λ j. Cell j l v c d) same;
+      shares = h.1.shares;
+      begun = ([], append-nil rest ∙ sym h.1.splits ∙ append-nil l);
+    }
 
 -- the topmost node under a prefix, in its place
 pub record Found (item : List ℕ → Type 0) {V : Type 0} (s : NodeArena V) (prefix : List ℕ) (link_ref : LinkRef) (rest : List ℕ) (id : ℕ) : Type 0 where
@@ -75,10 +92,12 @@ pub record Found (item : List ℕ → Type 0) {V : Type 0} (s : NodeArena V) (pr
   pub path : List ℕ
   pub path_is : path ++ rest ≡ prefix
   pub path_valid : IsValid item path
-  pub rows : under prefix (entries_of s) ≡ prefixed (path ++ label) (own value ++ entries (row child))
+  pub rows :
+      under prefix (entries_of s) ≡ prefixed (path ++ label) (own value ++ entries (row child))
   pub read : plan_at s.nodes.items s.root ≡ fill frames (Cell id label value child sibling)
 
-module _ {item : List ℕ → Type 0} {V : Type 0} {s : NodeArena V} {prefix : List ℕ} {link_ref : LinkRef} {at : Option ℕ} {rest : List ℕ} {matched : Match}
+module _ {item : List ℕ → Type 0} {V : Type 0} {s : NodeArena V} {prefix : List ℕ}
+    {link_ref : LinkRef} {at : Option ℕ} {rest : List ℕ} {matched : Match}
     (sought : Sought item s prefix link_ref at rest matched) {id : ℕ} (is_under : node_under rest matched ≡ Some id) where
   open sought use {kind, whole, canonical as ok, place as p}
 
@@ -105,7 +124,8 @@ module _ {item : List ℕ → Type 0} {V : Type 0} {s : NodeArena V} {prefix : L
   focus_row : IsCanonical item (row p.focus)
   focus_row = rw (t.is) (row-within item p.frames cell whole_row)
 
-  first_rows : under rest (entries (row cell)) ≡ prefixed t.label (own t.value ++ entries (row t.child))
+  first_rows :
+      under rest (entries (row cell)) ≡ prefixed t.label (own t.value ++ entries (row t.child))
   first_rows = rw t.is at (stop_some item kind p.focus focus_row rest matched p.is_match id is_under).1
 
   -- the topmost node under the prefix stands in its place
@@ -123,11 +143,13 @@ module _ {item : List ℕ → Type 0} {V : Type 0} {s : NodeArena V} {prefix : L
     path = passed.path;
     path_is = passed.splits;
     path_valid = passed.valid;
-    rows = ap (λ (q : Plan V). under prefix (entries (row q))) (sym fills) ∙ passed.under_is ∙ ap (prefixed passed.path) first_rows ∙ prefixed-prefixed passed.path t.label _;
+    rows = ap (λ (q : Plan V). under prefix (entries (row q))) (sym fills) ∙ passed.under_is ∙ ap
+        (prefixed passed.path) first_rows ∙ prefixed-prefixed passed.path t.label _;
     read = sym fills;
   }
 
-module _ {item : List ℕ → Type 0} (kind : IsKeyKind item) {V : Type 0} {s : NodeArena V} {prefix : List ℕ} {link_ref : LinkRef} {rest : List ℕ} {id : ℕ}
+module _ {item : List ℕ → Type 0} (kind : IsKeyKind item) {V : Type 0} {s : NodeArena V}
+    {prefix : List ℕ} {link_ref : LinkRef} {rest : List ℕ} {id : ℕ}
     (f : Found item s prefix link_ref rest id) where
   abbrev here : Plan V
   here = Cell id f.label f.value f.child f.sibling
@@ -145,12 +167,31 @@ module _ {item : List ℕ → Type 0} (kind : IsKeyKind item) {V : Type 0} {s : 
 
   -- there is room for it and those below it
   pub has_tree_at : (room count : ℕ) → CountsTree s id room count → HasTreeAt s link_ref id room
-  has_tree_at room count counts = (f.frames, f.label, f.value, f.child, f.sibling, f.at.link_ref_is, f.at.holds, (counts f.frames f.label f.value f.child f.sibling f.at.holds).0)
+  has_tree_at room count counts = (
+    f.frames,
+    f.label,
+    f.value,
+    f.child,
+    f.sibling,
+    f.at.link_ref_is,
+    f.at.holds,
+    (counts f.frames f.label f.value f.child f.sibling f.at.holds).0,
+  )
 
   -- some row is under the prefix
   pub some_under : under prefix (entries_of s) ≢ []
   some_under none =
-      let some = has_entry item kind None f.label f.value (row f.child) end (record { valid = here_row.valid; nonempty = here_row.nonempty; fits = tt; earns = here_row.earns; rises = tt; child = here_row.child; sibling = tt }) in
+      let some = has_entry item kind None f.label f.value (row f.child) end
+      (record {
+        valid = here_row.valid;
+        nonempty = here_row.nonempty;
+        fits = tt;
+        earns =
+            here_row.earns;
+        rises = tt;
+        child = here_row.child;
+        sibling = tt;
+      }) in
       let all = sym f.rows ∙ none in
       absurd (empty (own f.value ++ entries (row f.child)) all (λ e. let gone = rw e at some.2 in cc))
     where
@@ -170,7 +211,8 @@ module _ {item : List ℕ → Type 0} (kind : IsKeyKind item) {V : Type 0} {s : 
   node_short = slice_get_within s.nodes.items id _ (stands-within s.nodes.items f.frames here f.at.holds.1.plan_ok.stands).0
 
   -- the rows under the prefix go
-  goes : (b : Siblings V) → IsCanonical item (node f.label f.value (row f.child) b) → Gone item outside (node f.label f.value (row f.child) b) b rest
+  goes : (b : Siblings V) → IsCanonical item (node f.label f.value (row f.child) b)
+      → Gone item outside (node f.label f.value (row f.child) b) b rest
   goes b inner = record { canonical = inner.sibling; left_is = sym (outside_first item kind f.label f.value (row f.child) b inner rest f.shares f.begun) }
 
   module _ (top : List ℕ) (labelled : IsTopLabel s id prefix (length rest) top) where
@@ -194,12 +236,18 @@ module _ {item : List ℕ → Type 0} (kind : IsKeyKind item) {V : Type 0} {s : 
     module _ (count : ℕ) (counted : count ≡ length (own f.value ++ entries (row f.child))) (moved : NodeArena V) (q : Plan V) (h : Holds moved q)
         (q_is : row q ≡ node top f.value (row f.child) end) where
       -- so are they removed, wherever what is left is whole
-      splits : (new : NodeArena V) (plan : Plan V) → Holds new plan → Gone item outside (row (fill f.frames here)) (row plan) prefix
+      splits : (new : NodeArena V) (plan : Plan V) → Holds new plan
+          → Gone item outside (row (fill f.frames here)) (row plan) prefix
           → SplitsOff item s new prefix (record { arena = moved; count = count })
       splits new plan held gone =
           let left : plan_at new.nodes.items new.root ≡ plan = plan_is new.nodes.items new.root plan held.1.plan_ok in
-          let out : siblings_of moved ≡ node top f.value (row f.child) end = ap (λ (x : Plan V). row x) (plan_is moved.nodes.items moved.root q h.1.plan_ok) ∙ q_is in
-          let rows : entries_of moved ≡ prefixed (f.path ++ f.label) (own f.value ++ entries (row f.child)) = ap (λ (r : Siblings V). entries r) out ∙ append-nil _ ∙ ap (λ l. prefixed l (own f.value ++ entries (row f.child))) top_is in
+          let out : siblings_of moved ≡ node top f.value (row f.child) end = ap
+          (λ (x : Plan V). row x) (plan_is moved.nodes.items moved.root q h.1.plan_ok) ∙
+          q_is in
+          let rows : entries_of moved ≡ prefixed (f.path ++ f.label)
+          (own f.value ++ entries (row f.child)) = ap (λ (r : Siblings V). entries r) out ∙
+          append-nil _ ∙ ap (λ l. prefixed l (own f.value ++ entries (row f.child))) top_is
+          in
           record {
             whole = (plan, held);
             canonical = rw left gone.canonical;
@@ -211,27 +259,35 @@ module _ {item : List ℕ → Type 0} (kind : IsKeyKind item) {V : Type 0} {s : 
           }
 
       -- where the node above keeps its place
-      pub splits_spared : (new : NodeArena V) → Holds new (fill f.frames f.sibling) → LeftAlone item s link_ref id None → SplitsOff item s new prefix (record { arena = moved; count = count })
+      pub splits_spared : (new : NodeArena V) → Holds new (fill f.frames f.sibling)
+          → LeftAlone item s link_ref id None
+          → SplitsOff item s new prefix (record { arena = moved; count = count })
       splits_spared new held alone =
           splits new (fill f.frames f.sibling) held
           (spared-fill item kind outside (outside_leave item kind) f.frames here f.sibling f.at.canonical prefix rest f.leads
           (alone f.frames f.label f.value f.child f.sibling f.at) (goes (row f.sibling) here_row))
 
       -- or takes in the other child
-      pub splits_other : (u o : ℕ) → (other : LeavesOther f.frames f.sibling u o) (new : NodeArena V)
+      pub splits_other : (u o : ℕ)
+          → (other : LeavesOther f.frames f.sibling u o) (new : NodeArena V)
           → Holds new (fill other.outer (Cell u (other.label ++ other.inner) other.own other.below other.beside))
           → SplitsOff item s new prefix (record { arena = moved; count = count })
       splits_other u o other new held =
           splits new (fill other.outer (Cell u (other.label ++ other.inner) other.own other.below other.beside)) held
-          (other_gone item kind outside (outside_leave item kind) id f.label f.value f.child prefix rest goes f.frames f.sibling f.leads f.at.canonical u o other)
+          (other_gone item kind outside (outside_leave item kind) id f.label f.value f.child prefix
+          rest goes f.frames f.sibling f.leads f.at.canonical u o other)
 
   module _ (u o : ℕ) (alone : LeftAlone item s link_ref id (Some (u, o))) where
     abbrev pub other : LeavesOther f.frames f.sibling u o
     other = alone f.frames f.label f.value f.child f.sibling f.at
 
     -- the labels of the node above and of its other child
-    pub both_labels : ((n : Node V) × (slice_get s.nodes.items u ≡ Some n) × (n.label ≡ other.label)) × ((m : Node V) × (slice_get s.nodes.items o ≡ Some m) × (m.label ≡ other.inner))
-    both_labels = labels_are item kind outside (outside_leave item kind) id f.label f.value f.child prefix rest goes f.frames f.sibling f.leads f.at.canonical u o other s.nodes.items f.at.holds.1.plan_ok.stands
+    pub both_labels :
+        ((n : Node V) × (slice_get s.nodes.items u ≡ Some n) × (n.label ≡ other.label)) ×
+        ((m : Node V) × (slice_get s.nodes.items o ≡ Some m) × (m.label ≡ other.inner))
+    both_labels = labels_are item kind outside (outside_leave item kind) id f.label f.value f.child
+        prefix rest goes f.frames f.sibling f.leads f.at.canonical u o other s.nodes.items
+        f.at.holds.1.plan_ok.stands
 
     -- both are in the vector
     pub both_short : (u < length s.nodes.items) × (o < length s.nodes.items)
@@ -243,22 +299,30 @@ module _ {item : List ℕ → Type 0} (kind : IsKeyKind item) {V : Type 0} {s : 
 
     -- the nodes are that plan then
     pub other_left : (mid : NodeArena V) → Holds mid (fill f.frames f.sibling) → Holds mid between
-    other_left mid held = subst (λ (x : Plan V). Holds mid x) (left_plan item kind outside (outside_leave item kind) id f.label f.value f.child prefix rest goes f.frames f.sibling f.leads f.at.canonical u o other) held
+    other_left mid held = subst (λ (x : Plan V). Holds mid x)
+        (left_plan item kind outside (outside_leave item kind) id f.label f.value f.child prefix
+        rest goes f.frames f.sibling f.leads f.at.canonical u o other) held
 
     -- the other child is then the only one
     pub other_lone : (mid : NodeArena V) → Holds mid (fill f.frames f.sibling) → HasLone mid u o
     other_lone mid held = (other.outer, other.label, None, other.inner, other.own, other.below, other.beside, other_left mid held)
 
     -- merging the two leaves one node in their place
-    pub other_absorbed : (mid new : NodeArena V) (joined : List ℕ) (own : Option V) → IsJoined s u o joined → Holds mid (fill f.frames f.sibling)
-        → Absorbs mid new u o joined own → Holds new (fill other.outer (Cell u (other.label ++ other.inner) other.own other.below other.beside))
+    pub other_absorbed : (mid new : NodeArena V) (joined : List ℕ) (own : Option V)
+        → IsJoined s u o joined → Holds mid (fill f.frames f.sibling)
+        → Absorbs mid new u o joined own
+        → Holds new (fill other.outer (Cell u (other.label ++ other.inner) other.own other.below other.beside))
     other_absorbed mid new joined own is_joined held absorbs =
-        let is : joined ≡ other.label ++ other.inner = is_joined both_labels.0.0 both_labels.1.0 both_labels.0.1 both_labels.1.1 ∙ ap (λ k. k ++ both_labels.1.0.label) both_labels.0.2 ∙ ap (λ k. other.label ++ k) both_labels.1.2 in
+        let is : joined ≡ other.label ++ other.inner = is_joined both_labels.0.0 both_labels.1.0
+        both_labels.0.1 both_labels.1.1 ∙ ap (λ k. k ++ both_labels.1.0.label)
+        both_labels.0.2 ∙ ap (λ k. other.label ++ k) both_labels.1.2 in
         rw (← is) (absorbs other.outer other.label None other.inner other.own other.below other.beside (other_left mid held)).0
 
 -- where nothing is under the prefix, nothing goes
-module _ (item : List ℕ → Type 0) {V : Type 0} (s : NodeArena V) (prefix : List ℕ) (whole : IsWellFormed s) (ok : IsCanonical item (siblings_of s)) where
-  pub splits_none : under prefix (entries_of s) ≡ [] → (out : NodeArena V) → IsWellFormed out → siblings_of out ≡ end → SplitsOff item s s prefix (record { arena = out; count = 0 })
+module _ (item : List ℕ → Type 0) {V : Type 0} (s : NodeArena V) (prefix : List ℕ)
+    (whole : IsWellFormed s) (ok : IsCanonical item (siblings_of s)) where
+  pub splits_none : under prefix (entries_of s) ≡ [] → (out : NodeArena V) → IsWellFormed out
+      → siblings_of out ≡ end → SplitsOff item s s prefix (record { arena = out; count = 0 })
   splits_none nothing out out_whole is = record {
     whole = whole;
     canonical = ok;

@@ -14,11 +14,13 @@ module _ {V : Type 0} where
   no_nodes (Cell id l v c d) e = absurd (cc)
 
   -- the plan of whole nodes, as it is read
-  whole_readable : (s : NodeArena V) → IsWellFormed s → Readable s.nodes.items s.root (plan_at s.nodes.items s.root)
+  whole_readable : (s : NodeArena V) → IsWellFormed s
+      → Readable s.nodes.items s.root (plan_at s.nodes.items s.root)
   whole_readable s whole = readable s.nodes.items s.root s.free whole.0 whole.1.0 whole.1.1
 
   -- where there is no row, no node is used, none is the first, and none is laid
-  pub none_used : (s : NodeArena V) (n : ℕ) → n ≡ size (plan_at s.nodes.items s.root) → siblings_of s ≡ end → n ≡ 0
+  pub none_used : (s : NodeArena V) (n : ℕ) → n ≡ size (plan_at s.nodes.items s.root)
+      → siblings_of s ≡ end → n ≡ 0
   none_used s n used e = used ∙ ap (λ (p : Plan V). size p) (no_nodes _ e)
 
   -- where there is no row, there is no root
@@ -26,15 +28,20 @@ module _ {V : Type 0} where
   none_first s whole e = (whole_readable s whole).top.at_is ∙ ap (λ (p : Plan V). head p) (no_nodes _ e)
 
   -- and nothing is laid
-  pub none_laid : (s : NodeArena V) (to0 to : List (Node V)) → siblings_of s ≡ end → to0 ≡ [] → to ≡ to0 ++ laid (length to0) (plan_at s.nodes.items s.root) → to ≡ []
+  pub none_laid : (s : NodeArena V) (to0 to : List (Node V)) → siblings_of s ≡ end → to0 ≡ []
+      → to ≡ to0 ++ laid (length to0) (plan_at s.nodes.items s.root) → to ≡ []
   none_laid s to0 to e none comes = rw (none, no_nodes _ e) at comes
 
   -- the top row is there
-  pub top_there : (s : NodeArena V) → IsWellFormed s → (from : List (Node V)) → from ≡ s.nodes.items → IsTopRow from s.root (plan_at s.nodes.items s.root)
+  pub top_there : (s : NodeArena V) → IsWellFormed s → (from : List (Node V)) → from ≡ s.nodes.items
+      → IsTopRow from s.root (plan_at s.nodes.items s.root)
   top_there s whole from same = rw same (whole_readable s whole).top
 
   -- once it is copied, what is below it still stands there
-  pub top_copied : (s : NodeArena V) → IsWellFormed s → (from : List (Node V)) → from ≡ s.nodes.items → (to0 to : List (Node V)) → to0 ≡ [] → to ≡ to0 ++ laid (length to0) (plan_at s.nodes.items s.root) → IsLaid from to (plan_at s.nodes.items s.root)
+  pub top_copied : (s : NodeArena V) → IsWellFormed s → (from : List (Node V))
+      → from ≡ s.nodes.items → (to0 to : List (Node V)) → to0 ≡ []
+      → to ≡ to0 ++ laid (length to0) (plan_at s.nodes.items s.root)
+      → IsLaid from to (plan_at s.nodes.items s.root)
   top_copied s whole from same to0 to none comes =
       let r = whole_readable s whole in
       rw same (laid_apart s.nodes.items s.nodes.items (plan_at s.nodes.items s.root) to0 to r.stands r.once (λ at k. refl) none comes)

@@ -63,7 +63,8 @@ object_float v members vs is same =
     ∙ (members_float members.entries ∙ sym (ap (list_any (λ v. has_float (view v))) same)))
 
 -- an array of two has length 2, and its items are those taken from its end and its front
-pub two_long : (vs : List Value) (a b : Data) → items_view vs ≡ item a (item b no_items) → length vs ≡ 2
+pub two_long : (vs : List Value) (a b : Data) → items_view vs ≡ item a (item b no_items)
+    → length vs ≡ 2
 two_long [] a b h = cc
 two_long (x ∷ []) a b h = cc
 two_long (x ∷ y ∷ []) a b h = refl

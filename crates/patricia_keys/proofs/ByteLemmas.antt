@@ -29,20 +29,27 @@ pub byte_valid : (k : List ℕ) → AreBytes k → IsValid IsByteItem k
 byte_valid k h = (singles k, items-singles k h, concat-singles k)
 
 byte_valid_front : (k : List ℕ) (n : ℕ) → AreBytes k → IsValid IsByteItem (take n k)
-byte_valid_front k n h = byte_valid (take n k) (λ i l. let short = length-take n k in let same = get_or-take n k i 0 (omega arith) in rw same (h i (omega arith)))
+byte_valid_front k n h = byte_valid (take n k)
+    (λ i l. let short = length-take n k in let same = get_or-take n k i 0 (omega arith) in rw same
+    (h i (omega arith)))
 
 -- all of a byte list is its longest valid prefix
 pub byte_floor : (k : List ℕ) → AreBytes k → IsFloor IsByteItem k (length k)
 byte_floor k h = record { within = omega arith; valid = byte_valid_front k _ h; greatest = λ m l v. l }
 
 -- two byte lists have in common what they share at the front
-pub byte_common : (a b : List ℕ) (n : ℕ) → AreBytes a → IsSharedLen a b n → IsCommon IsByteItem a b n
+pub byte_common : (a b : List ℕ) (n : ℕ) → AreBytes a → IsSharedLen a b n
+    → IsCommon IsByteItem a b n
 byte_common a b n h s =
     let short = length-take n a in
-    common_by_floor IsByteItem a b n n s (subst (IsFloor IsByteItem (take n a)) (omega (arith, s.within_first)) (byte_floor (take n a) (λ i l. let same = get_or-take n a i 0 (omega arith) in rw same (h i (omega arith)))))
+    common_by_floor IsByteItem a b n n s
+    (subst (IsFloor IsByteItem (take n a)) (omega (arith, s.within_first))
+    (byte_floor (take n a)
+    (λ i l. let same = get_or-take n a i 0 (omega arith) in rw same (h i (omega arith)))))
 
 -- the first byte is the first item
-pub byte_first : (k : List ℕ) → AreBytes k → false ≡ (length k == 0) → IsFirstItem IsByteItem k (take 1 k)
+pub byte_first : (k : List ℕ) → AreBytes k → false ≡ (length k == 0)
+    → IsFirstItem IsByteItem k (take 1 k)
 byte_first [] h nonempty = absurd (cc)
 byte_first (b ∷ k) h nonempty = inr (one_byte (h 0 (omega arith)), (k, refl))
 

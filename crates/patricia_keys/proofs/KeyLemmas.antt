@@ -27,7 +27,8 @@ pub Begins-trans : (a b c : List ℕ) → Begins a b → Begins b c → Begins a
 Begins-trans a b c (x, e) (y, f) = (x ++ y, sym (append_assoc a x y) ∙ ap (λ l. l ++ y) e ∙ f)
 
 -- where two lists still agree one place on
-agrees : (a b : List ℕ) (n m : ℕ) → m ≤ length a → n < m → Begins (take m a) b → get_or a n 0 ≡ get_or b n 0
+agrees : (a b : List ℕ) (n m : ℕ) → m ≤ length a → n < m → Begins (take m a) b
+    → get_or a n 0 ≡ get_or b n 0
 agrees a b n m within below (rest, e) =
     let short = length-take m a in
     sym (get_or-take m a n 0 below) ∙ sym (get_or_append_left (take m a) rest 0 n (omega arith)) ∙ ap (λ l. get_or l n 0) e
@@ -41,7 +42,8 @@ pub key_cmp-irreflexive : (a b : List ℕ) → a ≡ b → key_cmp a b ≡ Less 
 key_cmp-irreflexive a b same less = let tie = key_cmp-same a in let less' : key_cmp a a ≡ Less = rw (← same) at less in cc
 
 -- lists that differ in their first bytes are ordered by them
-key_cmp-by_first : (i j : List ℕ) → 0 < length i → 0 < length j → get_or i 0 0 < get_or j 0 0 → key_cmp i j ≡ Less
+key_cmp-by_first : (i j : List ℕ) → 0 < length i → 0 < length j → get_or i 0 0 < get_or j 0 0
+    → key_cmp i j ≡ Less
 key_cmp-by_first [] j some other less = absurd (omega arith)
 key_cmp-by_first (x ∷ i) [] some other less = absurd (omega arith)
 key_cmp-by_first (x ∷ i) (y ∷ j) some other less = ap (λ o. ordering_then o (key_cmp i j)) (sym (nat_cmp_is x y Less less))
@@ -51,7 +53,8 @@ concat-append [] js = refl
 concat-append (i ∷ is) js = ap (λ r. i ++ r) (concat-append is js) ∙ sym (append_assoc i (concat is) (concat js))
 
 module _ (item : List ℕ → Type 0) where
-  items-append : (is js : List (List ℕ)) → AllByRecursion item is → AllByRecursion item js → AllByRecursion item (is ++ js)
+  items-append : (is js : List (List ℕ)) → AllByRecursion item is → AllByRecursion item js
+      → AllByRecursion item (is ++ js)
   items-append [] js a b = b
   items-append (i ∷ is) js a b = (a.0, items-append is js a.1 b)
 
@@ -88,7 +91,8 @@ module _ (item : List ℕ → Type 0) where
     begins_same i j k p q a b = items_same i j a.0 b.0 p q (a.1 ∙ sym b.1)
 
     -- where the first bytes of two keys differ, they order the first items
-    pub first_bytes_decide : (a b i j : List ℕ) → item i → item j → Begins i a → Begins j b → get_or a 0 0 < get_or b 0 0 → key_cmp i j ≡ Less
+    pub first_bytes_decide : (a b i j : List ℕ) → item i → item j → Begins i a → Begins j b
+        → get_or a 0 0 < get_or b 0 0 → key_cmp i j ≡ Less
     first_bytes_decide a b i j p q x y less =
         let some = kind.sized i p in
         let other = kind.sized j q in
@@ -96,10 +100,14 @@ module _ (item : List ℕ → Type 0) where
         let same' : get_or b 0 0 ≡ get_or j 0 0 = rw (← y.1) (get_or_append_left j y.0 0 0 (omega arith)) in
         key_cmp-by_first i j (omega arith) (omega arith) (omega arith)
 
-    valid_rest_of : (is js : List (List ℕ)) (b : List ℕ) → AllByRecursion item is → AllByRecursion item js → concat js ≡ concat is ++ b → IsValid item b
+    valid_rest_of : (is js : List (List ℕ)) (b : List ℕ) → AllByRecursion item is
+        → AllByRecursion item js → concat js ≡ concat is ++ b → IsValid item b
     valid_rest_of [] js b p q e = (js, q, e)
     valid_rest_of (i ∷ is) [] b p q e =
-        absurd (item-nonempty i p.0 (let sized = kind.sized i p.0 in let whole = ap length e in let cut = length-append (i ++ concat is) b in let cut' = length-append i (concat is) in absurd (omega arith)))
+        absurd (item-nonempty i p.0
+        (let sized = kind.sized i p.0 in let whole = ap length e in
+        let cut = length-append (i ++ concat is) b in let cut' = length-append i (concat is) in
+        absurd (omega arith)))
     valid_rest_of (i ∷ is) (j ∷ js) b p q e =
         let e' : j ++ concat js ≡ i ++ (concat is ++ b) = e ∙ append_assoc i (concat is) b in
         let same = items_same j i _ _ q.0 p.0 e' in
@@ -119,11 +127,13 @@ module _ (item : List ℕ → Type 0) where
 
 module _ (item : List ℕ → Type 0) where
   -- how many bytes were dropped is how much shorter the rest is
-  pub dropped_len : (q b rest : List ℕ) (drops : DropsCommon item q b rest) → drops.count ≡ length q - length rest
+  pub dropped_len : (q b rest : List ℕ) (drops : DropsCommon item q b rest)
+      → drops.count ≡ length q - length rest
   dropped_len q b rest drops = omega (arith, drops.common.within, ap length drops.is, length-drop drops.count q)
 
   -- the common length is the whole items of the bytes that are shared
-  pub common_by_floor : (q b : List ℕ) (shared n : ℕ) → IsSharedLen q b shared → IsFloor item (take shared q) n → IsCommon item q b n
+  pub common_by_floor : (q b : List ℕ) (shared n : ℕ) → IsSharedLen q b shared
+      → IsFloor item (take shared q) n → IsCommon item q b n
   common_by_floor q b shared n s f =
       let short = length-take shared q in
       let le : n ≤ shared = omega (arith, f.within, s.within_first) in
@@ -135,7 +145,10 @@ module _ (item : List ℕ → Type 0) where
         valid = rw front at f.valid;
         begins = (drop n b, rw same (take-append-drop n b));
         greatest = λ m within v begins. elim (cases_lt shared m) [
-          | inl below ↦ absurd (s.greatest (omega arith) (let short' = length-take m q in let joined = length-append (take m q) begins.0 in omega (arith, ap length begins.1)) (agrees q b shared m within below begins))
+          | inl below ↦ absurd
+              (s.greatest (omega arith)
+              (let short' = length-take m q in let joined = length-append (take m q) begins.0 in
+              omega (arith, ap length begins.1)) (agrees q b shared m within below begins))
           | inr le' ↦ f.greatest m (omega arith) (rw (take-take m shared q le') v)
         ];
       }

@@ -48,12 +48,16 @@ text_floor_up_to k n u = record {
 }
 
 -- std's test of UTF-8 tells whether bytes are a valid text key
-pub text_tests : {A E : Type 0} (P : A → Type 0) (Q : E → Type 0) (k : List ℕ) (r : Result A E) → MatchResult r (λ s. P s × IsUtf8 k) (λ e. ¬ (IsUtf8 k) × Q e) → (IsTrue (is_ok r) → IsValid IsTextItem k) × (IsValid IsTextItem k → IsTrue (is_ok r))
+pub text_tests : {A E : Type 0} (P : A → Type 0) (Q : E → Type 0) (k : List ℕ) (r : Result A E)
+    → MatchResult r (λ s. P s × IsUtf8 k) (λ e. ¬ (IsUtf8 k) × Q e)
+    → (IsTrue (is_ok r) → IsValid IsTextItem k) × (IsValid IsTextItem k → IsTrue (is_ok r))
 text_tests P Q k (Ok x) h = (λ _. text_valid k h.1, λ _. refl)
 text_tests P Q k (Err e) h = (λ no. absurd (cc), λ v. absurd (h.0 (valid_text k v)))
 
 -- where a text ends at the last boundary of its first bytes
-pub text_floor_boundary : (k : List ℕ) (shared n : ℕ) → IsUtf8 k → shared ≤ length k → n ≤ shared → IsCharBoundary k n → ((i : ℕ) → n < i → i ≤ shared → ¬ (IsCharBoundary k i)) → IsFloor IsTextItem (take shared k) n
+pub text_floor_boundary : (k : List ℕ) (shared n : ℕ) → IsUtf8 k → shared ≤ length k → n ≤ shared
+    → IsCharBoundary k n → ((i : ℕ) → n < i → i ≤ shared → ¬ (IsCharBoundary k i))
+    → IsFloor IsTextItem (take shared k) n
 text_floor_boundary k shared n u long le cut nearest =
     let short = length-take-le shared k long in
     record {
@@ -79,23 +83,45 @@ pub first_tells : (c : ℕ) → IsScalar c → TellsLen (get_or (encode c) 0 0) 
 unfolding encode
 first_tells c scalar = single (ltb c 128) refl
   where
-    three : (t : Bool) → ltb c 65536 ≡ t → 2048 ≤ c → TellsLen (get_or (cond t ((224 + c / 4096) ∷ next (c / 64) ∷ next c ∷ []) ((240 + c / 262144) ∷ next (c / 4096) ∷ next (c / 64) ∷ next c ∷ [])) 0 0) (cond t 3 4)
-    three true e low = let high : c < 65536 = grind (arith, nat_tests) in record { one = λ h. absurd (omega arith); two = λ h h'. absurd (omega arith); three = λ h h'. refl; four = λ h. absurd (omega arith) }
+    three : (t : Bool) → ltb c 65536 ≡ t → 2048 ≤ c
+        → TellsLen (get_or (cond t ((224 + c / 4096) ∷ next (c / 64) ∷ next c ∷ []) ((240 + c / 262144) ∷ next (c / 4096) ∷ next (c / 64) ∷ next c ∷ [])) 0 0)
+        (cond t 3 4)
+    three true e low =
+        let high : c < 65536 = grind (arith, nat_tests) in
+        record { one = λ h. absurd (omega arith); two = λ h h'. absurd (omega arith); three = λ h h'. refl; four = λ h. absurd (omega arith) }
     three false e low = record { one = λ h. absurd (omega arith); two = λ h h'. absurd (omega arith); three = λ h h'. absurd (omega arith); four = λ h. refl }
 
-    two : (t : Bool) → ltb c 2048 ≡ t → TellsLen (get_or (cond t ((192 + c / 64) ∷ next c ∷ []) (cond (ltb c 65536) ((224 + c / 4096) ∷ next (c / 64) ∷ next c ∷ []) ((240 + c / 262144) ∷ next (c / 4096) ∷ next (c / 64) ∷ next c ∷ []))) 0 0) (cond t 2 (cond (ltb c 65536) 3 4))
-    two true e = let high : c < 2048 = grind (arith, nat_tests) in record { one = λ h. absurd (omega arith); two = λ h h'. refl; three = λ h h'. absurd (omega arith); four = λ h. absurd (omega arith) }
+    two : (t : Bool) → ltb c 2048 ≡ t
+        → TellsLen
+        (get_or (cond t ((192 + c / 64) ∷ next c ∷ [])
+        (cond (ltb c 65536) ((224 + c / 4096) ∷ next (c / 64) ∷ next c ∷ [])
+        ((240 + c / 262144) ∷ next (c / 4096) ∷ next (c / 64) ∷ next c ∷ []))) 0 0)
+        (cond t 2 (cond (ltb c 65536) 3 4))
+    two true e =
+        let high : c < 2048 = grind (arith, nat_tests) in
+        record { one = λ h. absurd (omega arith); two = λ h h'. refl; three = λ h h'. absurd (omega arith); four = λ h. absurd (omega arith) }
     two false e = three (ltb c 65536) refl (grind (arith, nat_tests))
 
-    single : (t : Bool) → ltb c 128 ≡ t → TellsLen (get_or (cond t (c ∷ []) (cond (ltb c 2048) ((192 + c / 64) ∷ next c ∷ []) (cond (ltb c 65536) ((224 + c / 4096) ∷ next (c / 64) ∷ next c ∷ []) ((240 + c / 262144) ∷ next (c / 4096) ∷ next (c / 64) ∷ next c ∷ [])))) 0 0) (cond t 1 (cond (ltb c 2048) 2 (cond (ltb c 65536) 3 4)))
-    single true e = let high : c < 128 = grind (arith, nat_tests) in record { one = λ h. refl; two = λ h h'. absurd (omega arith); three = λ h h'. absurd (omega arith); four = λ h. absurd (omega arith) }
+    single : (t : Bool) → ltb c 128 ≡ t
+        → TellsLen
+        (get_or (cond t (c ∷ [])
+        (cond (ltb c 2048) ((192 + c / 64) ∷ next c ∷ [])
+        (cond (ltb c 65536) ((224 + c / 4096) ∷ next (c / 64) ∷ next c ∷ [])
+        ((240 + c / 262144) ∷ next (c / 4096) ∷ next (c / 64) ∷ next c ∷ [])))) 0 0)
+        (cond t 1 (cond (ltb c 2048) 2 (cond (ltb c 65536) 3 4)))
+    single true e =
+        let high : c < 128 = grind (arith, nat_tests) in
+        record { one = λ h. refl; two = λ h h'. absurd (omega arith); three = λ h h'. absurd (omega arith); four = λ h. absurd (omega arith) }
     single false e = two (ltb c 2048) refl
 
 -- the bytes of the first character are the first item
-pub text_first : (k : List ℕ) (n : ℕ) → IsValid IsTextItem k → 0 < length k → ((c : ℕ) → IsScalar c → get_or (encode c) 0 0 ≡ get_or k 0 0 → n ≡ len_utf8 c) → (n ≤ length k) × IsFirstItem IsTextItem k (take n k)
+pub text_first : (k : List ℕ) (n : ℕ) → IsValid IsTextItem k → 0 < length k
+    → ((c : ℕ) → IsScalar c → get_or (encode c) 0 0 ≡ get_or k 0 0 → n ≡ len_utf8 c)
+    → (n ≤ length k) × IsFirstItem IsTextItem k (take n k)
 text_first k n v nonempty tells = by (first_of IsTextItem k v (λ none. let empty = ap length none in omega arith))
   where
-    by : (i : List ℕ) × (IsTextItem i) × Begins i k → (n ≤ length k) × IsFirstItem IsTextItem k (take n k)
+    by : (i : List ℕ) × (IsTextItem i) × Begins i k
+        → (n ≤ length k) × IsFirstItem IsTextItem k (take n k)
     by (i, one_char c ok e, begun) =
         let long : length i ≡ len_utf8 c = rw (← e) (length-encode c) in
         let some = len_utf8_bounds c in

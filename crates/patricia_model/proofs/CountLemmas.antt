@@ -34,7 +34,8 @@ filled_length (b ∷ k) nonempty = omega arith
 
 module _ (item : List ℕ → Type 0) (kind : IsKeyKind item) where
   -- where items are bytes, the first item is the first byte
-  first_is : AreSingle item → (i l : List ℕ) → item i → Begins i l → (i ≡ get_or l 0 256 ∷ []) × (get_or l 0 256 < 256)
+  first_is : AreSingle item → (i l : List ℕ) → item i → Begins i l
+      → (i ≡ get_or l 0 256 ∷ []) × (get_or l 0 256 < 256)
   first_is single [] l p b = absurd (let one = single [] p in omega arith)
   first_is single (x ∷ y ∷ i) l p b = absurd (let one = single (x ∷ y ∷ i) p in omega arith)
   first_is single (x ∷ []) l p (rest, e) =
@@ -54,11 +55,27 @@ module _ (item : List ℕ → Type 0) (kind : IsKeyKind item) where
 
   -- a key before the label ends the search there
   stops_before : (l k : List ℕ) → IsBefore item k l → Matches item l k
-  stops_before l k b = record { first = b.second; second = b.first; first_item = b.second_item; second_item = b.first_item; first_begins = b.second_begins; second_begins = b.first_begins; not_less = less_once item kind b.first b.second b.less }
+  stops_before l k b = record {
+    first = b.second;
+    second = b.first;
+    first_item = b.second_item;
+    second_item = b.first_item;
+    first_begins = b.second_begins;
+    second_begins = b.first_begins;
+    not_less = less_once item kind b.first b.second b.less;
+  }
 
   -- so does a key that shares its first item
   stops_shared : (l k : List ℕ) → SharesItem item k l → Matches item l k
-  stops_shared l k share = record { first = share.shared; second = share.shared; first_item = share.is_item; second_item = share.is_item; first_begins = share.begins_second; second_begins = share.begins_first; not_less = key_cmp-irreflexive share.shared share.shared refl }
+  stops_shared l k share = record {
+    first = share.shared;
+    second = share.shared;
+    first_item = share.is_item;
+    second_item = share.is_item;
+    first_begins = share.begins_second;
+    second_begins = share.begins_first;
+    not_less = key_cmp-irreflexive share.shared share.shared refl;
+  }
 
 module _ (item : List ℕ → Type 0) (kind : IsKeyKind item) {V : Type 0} where
   -- past the last node nothing is counted
@@ -70,9 +87,12 @@ module _ (item : List ℕ → Type 0) (kind : IsKeyKind item) {V : Type 0} where
     bounded = λ single. let some = filled_length k nonempty in omega arith;
   }
 
-module _ (item : List ℕ → Type 0) (kind : IsKeyKind item) {V : Type 0} (l : List ℕ) (v : Option V) (c s : Siblings V) (ok : IsCanonical item (node l v c s)) (k : List ℕ) (nonempty : k ≢ []) (n b : ℕ) (ticked : b ≡ n + 1) where
+module _ (item : List ℕ → Type 0) (kind : IsKeyKind item) {V : Type 0} (l : List ℕ) (v : Option V)
+    (c s : Siblings V) (ok : IsCanonical item (node l v c s)) (k : List ℕ) (nonempty : k ≢ [])
+    (n b : ℕ) (ticked : b ≡ n + 1) where
   -- where the search ends at the label, one step is counted
-  counted_stop : Matches item l k → ((t : List ℕ) → t ≢ [] → l ++ t ≡ k → ⊥) → IsCounted item (node l v c s) k n b
+  counted_stop : Matches item l k → ((t : List ℕ) → t ≢ [] → l ++ t ≡ k → ⊥)
+      → IsCounted item (node l v c s) k n b
   counted_stop stop short = record {
     visited = l ∷ [];
     visits = visits_stop item kind _ _ _ l (splits item kind l v c s ok) k nonempty stop short;
@@ -83,19 +103,25 @@ module _ (item : List ℕ → Type 0) (kind : IsKeyKind item) {V : Type 0} (l : 
   -- the key comes before the label
   pub counted_before : IsBefore item k l → IsCounted item (node l v c s) k n b
   counted_before before = counted_stop (stops_before item kind l k before) (λ t some e.
-      let same = begins_same item kind before.first before.second k before.first_item before.second_item before.first_begins (Begins-trans before.second l k before.second_begins (t, e)) in
+      let same = begins_same item kind before.first before.second k before.first_item
+      before.second_item before.first_begins
+      (Begins-trans before.second l k before.second_begins (t, e)) in
       key_cmp-irreflexive before.first before.second same before.less)
 
   -- the key ends within it
   pub counted_within : (m : ℕ) → EndsWithin item k l m → IsCounted item (node l v c s) k n b
-  counted_within m ends = counted_stop (stops_shared item kind l k ends.shares) (λ t some e. let long = common_whole item k l m ok.valid ends.common (t, e) in let short = ends.short in omega arith)
+  counted_within m ends = counted_stop (stops_shared item kind l k ends.shares)
+      (λ t some e. let long = common_whole item k l m ok.valid ends.common (t, e) in
+      let short = ends.short in omega arith)
 
   -- the key is the label
   pub counted_here : (t : List ℕ) → Passes item k l t → t ≡ [] → IsCounted item (node l v c s) k n b
-  counted_here t passes none = counted_stop (stops_shared item kind l k passes.shares) (λ u some e. some (append_cancel_left l u t (e ∙ sym passes.splits) ∙ none))
+  counted_here t passes none = counted_stop (stops_shared item kind l k passes.shares)
+      (λ u some e. some (append_cancel_left l u t (e ∙ sym passes.splits) ∙ none))
 
   -- past the label the rest of the row counts on
-  pub counted_past : (m : ℕ) → IsBefore item l k → IsCounted item s k b m → IsCounted item (node l v c s) k n m
+  pub counted_past : (m : ℕ) → IsBefore item l k → IsCounted item s k b m
+      → IsCounted item (node l v c s) k n m
   counted_past m before later = record {
     visited = l ∷ later.visited;
     visits = visits_past item kind _ _ _ l (splits item kind l v c s ok) k later.visited nonempty before later.visits;
@@ -103,15 +129,20 @@ module _ (item : List ℕ → Type 0) (kind : IsKeyKind item) {V : Type 0} (l : 
     bounded = λ single. let rise = rises_next single s ok.rises in omega (arith, later.bounded single);
   }
     where
-      rises_next : AreSingle item → (s : Siblings V) → IsBeforeSiblings item l s → get_or l 0 256 < first_byte s
+      rises_next : AreSingle item → (s : Siblings V) → IsBeforeSiblings item l s
+          → get_or l 0 256 < first_byte s
       rises_next single end rises = byte_below item kind single l ok.valid ok.nonempty
       rises_next single (node m v' c' s') rises = bytes_rise item kind single l m rises
 
   -- and through it the children do
-  pub counted_through : (m : ℕ) (t : List ℕ) → Passes item k l t → t ≢ [] → IsCounted item c t b m → IsCounted item (node l v c s) k n m
+  pub counted_through : (m : ℕ) (t : List ℕ) → Passes item k l t → t ≢ [] → IsCounted item c t b m
+      → IsCounted item (node l v c s) k n m
   counted_through m t passes some deeper = record {
     visited = l ∷ map (λ p. l ++ p) deeper.visited;
-    visits = visits_through item kind _ _ _ l (splits item kind l v c s ok) k t deeper.visited some passes.splits (stops_shared item kind l k passes.shares) (AreVisits-same item kind _ _ (own_within v (entries c)) (within_own v (entries c)) t deeper.visited deeper.visits);
+    visits = visits_through item kind _ _ _ l (splits item kind l v c s ok) k t deeper.visited some
+        passes.splits (stops_shared item kind l k passes.shares)
+        (AreVisits-same item kind _ _ (own_within v (entries c)) (within_own v (entries c)) t
+        deeper.visited deeper.visits);
     is = omega (arith, deeper.is, length-map deeper.visited (λ p. l ++ p));
     bounded = λ single.
         let below = byte_below item kind single l ok.valid ok.nonempty in
@@ -119,7 +150,8 @@ module _ (item : List ℕ → Type 0) (kind : IsKeyKind item) {V : Type 0} (l : 
         omega (arith, deeper.bounded single, length-map deeper.visited (λ p. l ++ p), length-append l t, ap length passes.splits);
   }
 
-module _ (item : List ℕ → Type 0) (kind : IsKeyKind item) {V : Type 0} (v : Option V) (r : Siblings V) (ok : IsCanonical item r) where
+module _ (item : List ℕ → Type 0) (kind : IsKeyKind item) {V : Type 0} (v : Option V)
+    (r : Siblings V) (ok : IsCanonical item r) where
   -- the keys of the map are those of the entries
   root_keys : keys (map_of v r) ≡ keys_of (own v ++ entries r)
   root_keys = ap keys_of (entries-from_sorted key_cmp (own v ++ entries r) (tree_sorted item kind v r ok))
@@ -131,8 +163,10 @@ module _ (item : List ℕ → Type 0) (kind : IsKeyKind item) {V : Type 0} (v : 
       record { visited = []; once = visits.once; exactly = visits.exactly; is = refl }
 
   -- and at others the row counts
-  pub counted_row : (k : List ℕ) (n m : ℕ) (row : IsCounted item r k n m) → IsVisitCount item (keys (map_of v r)) k (1 + length row.visited)
+  pub counted_row : (k : List ℕ) (n m : ℕ) (row : IsCounted item r k n m)
+      → IsVisitCount item (keys (map_of v r)) k (1 + length row.visited)
   counted_row k n m row =
-      let visits = AreVisits-same item kind (keys_of (entries r)) (keys_of (own v ++ entries r)) (own_within v (entries r)) (within_own v (entries r)) k row.visited row.visits in
+      let visits = AreVisits-same item kind (keys_of (entries r)) (keys_of (own v ++ entries r))
+      (own_within v (entries r)) (within_own v (entries r)) k row.visited row.visits in
       let whole = subst (λ S. AreVisits item S k row.visited) (sym root_keys) visits in
       record { visited = row.visited; once = whole.once; exactly = whole.exactly; is = refl }

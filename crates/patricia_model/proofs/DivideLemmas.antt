@@ -35,7 +35,8 @@ module _ (item : List ℕ → Type 0) (kind : IsKeyKind item) where
   longer a i q b = (b.0, append_assoc a i b.0 ∙ ap (λ r. a ++ r) b.1)
 
   -- a key that ends within a label, or leaves it, is cut with the label at the last common item
-  pub divides : (q l : List ℕ) (n : ℕ) → IsValid item q → IsValid item l → EndsWithin item q l n → Divides item q l (take n q) (drop n q) (drop n l)
+  pub divides : (q l : List ℕ) (n : ℕ) → IsValid item q → IsValid item l → EndsWithin item q l n
+      → Divides item q l (take n q) (drop n q) (drop n l)
   divides q l n q_valid l_valid ends =
       let same = front_of q l n ends.common in
       let key = take-append-drop n q in
@@ -55,7 +56,9 @@ module _ (item : List ℕ → Type 0) (kind : IsKeyKind item) where
             let fits = length-append i b.0 in
             let total = ap length b.1 in
             let front : take (length i) q ≡ i = rw (← b.1) (take_at i b.0 (length i) refl) in
-            let atleast = ends.common.greatest (length i) (omega arith) (rw front (IsValid-item item i ends.shares.is_item)) (rw front ends.shares.begins_second) in
+            let atleast = ends.common.greatest (length i) (omega arith)
+            (rw front (IsValid-item item i ends.shares.is_item))
+            (rw front ends.shares.begins_second) in
             let zero = nil_length (take n q) none in
             omega arith;
         key_valid = valid_rest item kind (take n q) (drop n q) ends.common.valid (rw key q_valid);
@@ -71,22 +74,39 @@ module _ (item : List ℕ → Type 0) (kind : IsKeyKind item) where
             let more = length-append (take n q) i in
             let fits = length-append (take n q ++ i) b'.0 in
             let total = ap length b'.1 in
-            let front : take (n + length i) q ≡ take n q ++ i = subst (λ k. take (n + length i) k ≡ take n q ++ i) b'.1 (take_at (take n q ++ i) b'.0 (n + length i) (omega arith)) in
-            let atleast = ends.common.greatest (n + length i) (omega arith) (rw front (IsValid-append item (take n q) i ends.common.valid (IsValid-item item i share.is_item))) (rw front d') in
+            let front : take (n + length i) q ≡ take n q ++ i = subst
+            (λ k. take (n + length i) k ≡ take n q ++ i) b'.1
+            (take_at (take n q ++ i) b'.0 (n + length i) (omega arith)) in
+            let atleast = ends.common.greatest (n + length i) (omega arith)
+            (rw front
+            (IsValid-append item (take n q) i ends.common.valid
+            (IsValid-item item i share.is_item))) (rw front d') in
             omega arith;
       }
 
   -- the same, with the common part taken from the label
-  pub divides_label : (q l : List ℕ) (n : ℕ) → IsValid item q → IsValid item l → EndsWithin item q l n → Divides item q l (take n l) (drop n q) (drop n l)
-  divides_label q l n q_valid l_valid ends = subst (λ p. Divides item q l p (drop n q) (drop n l)) (front_of q l n ends.common) (divides q l n q_valid l_valid ends)
+  pub divides_label : (q l : List ℕ) (n : ℕ) → IsValid item q → IsValid item l
+      → EndsWithin item q l n → Divides item q l (take n l) (drop n q) (drop n l)
+  divides_label q l n q_valid l_valid ends = subst (λ p. Divides item q l p (drop n q) (drop n l))
+      (front_of q l n ends.common) (divides q l n q_valid l_valid ends)
 
-module _ (item : List ℕ → Type 0) (kind : IsKeyKind item) {V : Type 0} (x : V) (l : List ℕ) (v : Option V) (c s : Siblings V) (ok : IsCanonical item (node l v c s)) (q p t d : List ℕ) (div : Divides item q l p t d) where
+module _ (item : List ℕ → Type 0) (kind : IsKeyKind item) {V : Type 0} (x : V) (l : List ℕ)
+    (v : Option V) (c s : Siblings V) (ok : IsCanonical item (node l v c s)) (q p t d : List ℕ)
+    (div : Divides item q l p t d) where
   -- the node below the cut
   abbrev lower : Siblings V
   lower = node d v c end
 
   lower_row : IsCanonical item lower
-  lower_row = record { valid = div.label_valid; nonempty = div.label_nonempty; fits = tt; earns = earns_elsewhere item kind l d v c ok.earns; rises = tt; child = ok.child; sibling = tt }
+  lower_row = record {
+    valid = div.label_valid;
+    nonempty = div.label_nonempty;
+    fits = tt;
+    earns = earns_elsewhere item kind l d v c ok.earns;
+    rises = tt;
+    child = ok.child;
+    sibling = tt;
+  }
 
   front_rises : IsBeforeSiblings item p s
   front_rises = by s ok.rises
@@ -102,19 +122,31 @@ module _ (item : List ℕ → Type 0) (kind : IsKeyKind item) {V : Type 0} (x : 
       ∙ ap (λ es. es ++ entries s) (prefixed-prefixed p d (own v ++ entries c))
       ∙ ap (λ k. prefixed k (own v ++ entries c) ++ entries s) div.label
 
-  written : (v' : Option V) (c' : Siblings V) → own v' ++ entries c' ≡ put key_cmp t x (entries lower) → entries (node p v' c' s) ≡ put key_cmp q x (entries (node l v c s))
+  written : (v' : Option V) (c' : Siblings V)
+      → own v' ++ entries c' ≡ put key_cmp t x (entries lower)
+      → entries (node p v' c' s) ≡ put key_cmp q x (entries (node l v c s))
   written v' c' e = put_front item kind x p None lower s ok.sibling front_rises q t v' c' div.key e ∙ ap (put key_cmp q x) cut_same
 
   -- the key ends at the cut
   pub ends_at_cut : t ≡ [] → IsCanonical item (node p (Some x) lower s)
-  ends_at_cut none = record { valid = div.front_valid; nonempty = div.front_filled; fits = tt; earns = tt; rises = front_rises; child = lower_row; sibling = ok.sibling }
+  ends_at_cut none = record {
+    valid = div.front_valid;
+    nonempty = div.front_filled;
+    fits = tt;
+    earns = tt;
+    rises = front_rises;
+    child = lower_row;
+    sibling = ok.sibling;
+  }
 
   -- the key ends at the cut: its value stands in the upper part
-  pub put_at_cut : t ≡ [] → entries (node p (Some x) lower s) ≡ put key_cmp q x (entries (node l v c s))
+  pub put_at_cut : t ≡ []
+      → entries (node p (Some x) lower s) ≡ put key_cmp q x (entries (node l v c s))
   put_at_cut none = written (Some x) lower (put_own item kind x None lower lower_row ∙ ap (λ k. put key_cmp k x (entries lower)) (sym none))
 
   -- it goes on before the rest of the label
-  pub row_before_cut : t ≢ [] → IsBefore item t d → IsCanonical item (node p None (node t (Some x) end lower) s)
+  pub row_before_cut : t ≢ [] → IsBefore item t d
+      → IsCanonical item (node p None (node t (Some x) end lower) s)
   row_before_cut nonempty before = record {
     valid = div.front_valid;
     nonempty = div.front_filled;
@@ -126,27 +158,49 @@ module _ (item : List ℕ → Type 0) (kind : IsKeyKind item) {V : Type 0} (x : 
   }
 
   -- the rest of the key comes before the rest of the label: a leaf before the lower part
-  pub put_before_cut : IsBefore item t d → entries (node p None (node t (Some x) end lower) s) ≡ put key_cmp q x (entries (node l v c s))
+  pub put_before_cut : IsBefore item t d
+      → entries (node p None (node t (Some x) end lower) s) ≡ put key_cmp q x (entries (node l v c s))
   put_before_cut before = written None (node t (Some x) end lower) (put_before item kind x d v c end lower_row t before)
 
   -- or past it
-  pub row_after_cut : t ≢ [] → IsBefore item d t → IsCanonical item (node p None (node d v c (node t (Some x) end end)) s)
+  pub row_after_cut : t ≢ [] → IsBefore item d t
+      → IsCanonical item (node p None (node d v c (node t (Some x) end end)) s)
   row_after_cut nonempty before = record {
     valid = div.front_valid;
     nonempty = div.front_filled;
     fits = tt;
     earns = tt;
     rises = front_rises;
-    child = record { valid = div.label_valid; nonempty = div.label_nonempty; fits = tt; earns = earns_elsewhere item kind l d v c ok.earns; rises = before; child = ok.child; sibling = record { valid = div.key_valid; nonempty = nonempty; fits = tt; earns = tt; rises = tt; child = tt; sibling = tt } };
+    child = record {
+      valid = div.label_valid;
+      nonempty = div.label_nonempty;
+      fits = tt;
+      earns = earns_elsewhere item kind l d v c ok.earns;
+      rises = before;
+      child = ok.child;
+      sibling = record {
+        valid = div.key_valid;
+        nonempty = nonempty;
+        fits = tt;
+        earns = tt;
+        rises = tt;
+        child = tt;
+        sibling = tt;
+      };
+    };
     sibling = ok.sibling;
   }
 
   -- and behind it, where it comes later
-  pub put_after_cut : IsBefore item d t → entries (node p None (node d v c (node t (Some x) end end)) s) ≡ put key_cmp q x (entries (node l v c s))
-  put_after_cut before = written None (node d v c (node t (Some x) end end)) (put_past item kind x d v c end lower_row t (node t (Some x) end end) before (single item kind x t))
+  pub put_after_cut : IsBefore item d t
+      → entries (node p None (node d v c (node t (Some x) end end)) s) ≡ put key_cmp q x (entries (node l v c s))
+  put_after_cut before = written None (node d v c (node t (Some x) end end))
+      (put_past item kind x d v c end lower_row t (node t (Some x) end end) before
+      (single item kind x t))
 
   -- a key that isn't before the cut label is past it
-  pub past_cut : t ≢ [] → (r : Ordering) → ComparesFirst item t d r → (r ≡ Less → ⊥) → IsBefore item d t
+  pub past_cut : t ≢ [] → (r : Ordering) → ComparesFirst item t d r → (r ≡ Less → ⊥)
+      → IsBefore item d t
   past_cut nonempty Less c not_less = absurd (not_less refl)
   past_cut nonempty Equal c not_less = absurd (div.apart (compared_equal item t d nonempty div.label_nonempty c))
   past_cut nonempty Greater c not_less = compared_greater item t d nonempty div.label_nonempty c

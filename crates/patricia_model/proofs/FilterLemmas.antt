@@ -40,7 +40,8 @@ module _ {A : Type 0} (f : A → Bool) where
   has_filter [] x h = absurd h
   has_filter (y ∷ xs) x h = by (f y) refl (has_filter xs x)
     where
-      by : (b : Bool) → f y ≡ b → (Has (filter f xs) x → Has xs x × (f x ≡ true)) → Has (y ∷ xs) x × (f x ≡ true)
+      by : (b : Bool) → f y ≡ b → (Has (filter f xs) x → Has xs x × (f x ≡ true))
+          → Has (y ∷ xs) x × (f x ≡ true)
       by true e rest = elim (subst (λ b. Has (cond b (y ∷ filter f xs) (filter f xs)) x) e h) [
         | inl same ↦ (inl same, ap f (sym same) ∙ e)
         | inr later ↦ let found = rest later in (inr found.0, found.1)
@@ -58,14 +59,17 @@ module _ {A : Type 0} (f : A → Bool) where
       by false h = h
 
 module _ {V : Type 0} where
-  pub under_has : (p : List ℕ) (rows : List (List ℕ × V)) (r : List ℕ × V) → Has (under p rows) r ↔ (Has rows r × Begins p r.0)
+  pub under_has : (p : List ℕ) (rows : List (List ℕ × V)) (r : List ℕ × V)
+      → Has (under p rows) r ↔ (Has rows r × Begins p r.0)
   under_has p rows r = (λ h. let found = has_filter _ rows r h in (found.0, begins_is p r.0 found.1), λ h. filter_has _ rows r h.0 (begins_from p r.0 h.1))
 
   -- the rows along a key are those whose key is a prefix of it
-  pub along_has : (k : List ℕ) (rows : List (List ℕ × V)) (r : List ℕ × V) → Has (along k rows) r ↔ (Has rows r × Begins r.0 k)
+  pub along_has : (k : List ℕ) (rows : List (List ℕ × V)) (r : List ℕ × V)
+      → Has (along k rows) r ↔ (Has rows r × Begins r.0 k)
   along_has k rows r = (λ h. let found = has_filter _ rows r h in (found.0, begins_is r.0 k found.1), λ h. filter_has _ rows r h.0 (begins_from r.0 k h.1))
 
-  below_is : (q : List ℕ) (es : List (List ℕ × V)) (e : List ℕ × V) → T (below_all key_cmp q es) → Has es e → key_cmp q e.0 ≡ Less
+  below_is : (q : List ℕ) (es : List (List ℕ × V)) (e : List ℕ × V) → T (below_all key_cmp q es)
+      → Has es e → key_cmp q e.0 ≡ Less
   below_is q [] e below h = absurd h
   below_is q (x ∷ es) e below (inl same) = subst (λ y. key_cmp q y.0 ≡ Less) same (lt_is _ (first_of _ _ below))
   below_is q (x ∷ es) e below (inr h) = below_is q es e (second_of _ _ below) h
@@ -77,37 +81,57 @@ module _ {V : Type 0} where
     longest_is : (e : List ℕ × V) → Has es e → Begins e.0 k → length e.0 ≤ length r.0
     before_is : (e : List ℕ × V) → o ≡ Some e → length e.0 ≤ length r.0
 
-  last_is : (k : List ℕ) (o : Option (List ℕ × V)) (es : List (List ℕ × V)) (r : List ℕ × V) → T (is_sorted key_cmp es)
-      → ((x : List ℕ × V) → o ≡ Some x → Begins x.0 k × T (below_all key_cmp x.0 es)) → last_or o (along k es) ≡ Some r → IsLast k o es r
-  last_is k o [] r sorted before e = record { has = inr e; begun = (before r e).0; longest_is = λ x h b. absurd h; before_is = λ x f. let same : x ≡ r = (let g = sym f ∙ e in cc) in rw same (omega arith) }
+  last_is : (k : List ℕ) (o : Option (List ℕ × V)) (es : List (List ℕ × V)) (r : List ℕ × V)
+      → T (is_sorted key_cmp es)
+      → ((x : List ℕ × V) → o ≡ Some x → Begins x.0 k × T (below_all key_cmp x.0 es))
+      → last_or o (along k es) ≡ Some r → IsLast k o es r
+  last_is k o [] r sorted before e = record {
+    has = inr e;
+    begun = (before r e).0;
+    longest_is = λ x h b. absurd h;
+    before_is = λ x f. let same : x ≡ r = (let g = sym f ∙ e in cc) in rw same (omega arith);
+  }
   last_is k o (x ∷ es) r sorted before e =
       by (begins x.0 k) refl (last_is k (Some x) es r (second_of _ _ sorted)) (last_is k o es r (second_of _ _ sorted))
     where
       by : (b : Bool) → begins x.0 k ≡ b
-          → (((y : List ℕ × V) → Some x ≡ Some y → Begins y.0 k × T (below_all key_cmp y.0 es)) → last_or (Some x) (along k es) ≡ Some r → IsLast k (Some x) es r)
+          → (((y : List ℕ × V) → Some x ≡ Some y → Begins y.0 k × T (below_all key_cmp y.0 es)) →
+          last_or (Some x) (along k es) ≡ Some r → IsLast k (Some x) es r)
           → (((y : List ℕ × V) → o ≡ Some y → Begins y.0 k × T (below_all key_cmp y.0 es)) → last_or o (along k es) ≡ Some r → IsLast k o es r)
           → IsLast k o (x ∷ es) r
       by true f here past =
           let begun = begins_is x.0 k f in
-          let found = here (λ y same. let is : x ≡ y = cc in subst (λ z. Begins z.0 k × T (below_all key_cmp z.0 es)) is (begun, first_of _ _ sorted)) (subst (λ b. last_or o (cond b (x ∷ along k es) (along k es)) ≡ Some r) f e) in
+          let found = here
+          (λ y same. let is : x ≡ y = cc in subst
+          (λ z. Begins z.0 k × T (below_all key_cmp z.0 es)) is
+          (begun, first_of _ _ sorted))
+          (subst (λ b. last_or o (cond b (x ∷ along k es) (along k es)) ≡ Some r) f e) in
           let long = found.before_is x refl in
           record {
             has = elim found.has [ inl h ↦ inl (inr h) | inr same ↦ inl (inl (let is : x ≡ r = cc in is)) ];
             begun = found.begun;
             longest_is = λ y h b. elim h [ inl same ↦ subst (λ z. length z.0 ≤ length r.0) same long | inr later ↦ found.longest_is y later b ];
-            before_is = λ y g. let first = before y g in let less = lt_is _ (first_of _ _ first.1) in let short = no_shorter y.0 x.0 k first.0 begun less in omega arith;
+            before_is = λ y g. let first = before y g in
+                let less = lt_is _ (first_of _ _ first.1) in
+                let short = no_shorter y.0 x.0 k first.0 begun less in omega arith;
           }
       by false f here past =
-          let found = past (λ y same. let first = before y same in (first.0, second_of _ _ first.1)) (subst (λ b. last_or o (cond b (x ∷ along k es) (along k es)) ≡ Some r) f e) in
+          let found = past
+          (λ y same. let first = before y same in (first.0, second_of _ _ first.1))
+          (subst (λ b. last_or o (cond b (x ∷ along k es) (along k es)) ≡ Some r) f e) in
           record {
             has = elim found.has [ inl h ↦ inl (inr h) | inr same ↦ inr same ];
             begun = found.begun;
-            longest_is = λ y h b. elim h [ inl same ↦ absurd (begins_other x.0 k f (subst (λ z. Begins z.0 k) (sym same) b)) | inr later ↦ found.longest_is y later b ];
+            longest_is = λ y h b. elim h [
+              | inl same ↦ absurd (begins_other x.0 k f (subst (λ z. Begins z.0 k) (sym same) b))
+              | inr later ↦ found.longest_is y later b
+            ];
             before_is = found.before_is;
           }
 
   -- the longest row of a sorted list is the last one along the key
-  pub longest_last : (es : List (List ℕ × V)) → T (is_sorted key_cmp es) → (k : List ℕ) (r : List ℕ × V) → longest k es ≡ Some r
+  pub longest_last : (es : List (List ℕ × V)) → T (is_sorted key_cmp es)
+      → (k : List ℕ) (r : List ℕ × V) → longest k es ≡ Some r
       → Has (along k es) r × ((e : List ℕ × V) → Has (along k es) e → length e.0 ≤ length r.0)
   longest_last es sorted k r e =
       let found = last_is k None es r sorted (λ x none. absurd (cc)) e in (
@@ -116,7 +140,8 @@ module _ {V : Type 0} where
       )
 
 -- there is one reach
-pub one_reach : (item : List ℕ → Type 0) (S : List (List ℕ)) (q : List ℕ) (n m : ℕ) → IsReach item S q n → IsReach item S q m → n ≡ m
+pub one_reach : (item : List ℕ → Type 0) (S : List (List ℕ)) (q : List ℕ) (n m : ℕ)
+    → IsReach item S q n → IsReach item S q m → n ≡ m
 one_reach item S q n m a b = elim a.reached [
   | inl none ↦ elim b.reached [
     | inl also ↦ none.1 ∙ sym also.1

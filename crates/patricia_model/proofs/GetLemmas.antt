@@ -14,29 +14,48 @@ use Rattle.patricia_model.proofs.ListLemmas.{IsBelow, key_cmp-equal, find_absent
 use Rattle.patricia_model.proofs.OrderLemmas.{IsBefore-less, below_row}
 
 -- a key that is below each key is none of them
-not_below : {V : Type 0} (q : List ℕ) (es : List (List ℕ × V)) → IsBelow q es → AllKeys (λ k. q ≡ k → ⊥) es
+not_below : {V : Type 0} (q : List ℕ) (es : List (List ℕ × V)) → IsBelow q es
+    → AllKeys (λ k. q ≡ k → ⊥) es
 not_below q [] h = tt
 not_below q (e ∷ es) h = (λ same. key_cmp-irreflexive q e.0 same h.0, not_below q es h.1)
 
 module _ (item : List ℕ → Type 0) where
-  pub compared_less : (a b : List ℕ) → a ≢ [] → b ≢ [] → ComparesFirst item a b Less → IsBefore item a b
+  pub compared_less : (a b : List ℕ) → a ≢ [] → b ≢ [] → ComparesFirst item a b Less
+      → IsBefore item a b
   compared_less a b p q c =
       elim c.first_of [
         | inl none ↦ absurd (p none.0)
         | inr one ↦ elim c.second_of [
           | inl none ↦ absurd (q none.0)
-          | inr two ↦ record { first = c.first; second = c.second; first_item = one.0; second_item = two.0; first_begins = one.1; second_begins = two.1; less = sym c.is }
+          | inr two ↦ record {
+            first = c.first;
+            second = c.second;
+            first_item = one.0;
+            second_item = two.0;
+            first_begins = one.1;
+            second_begins = two.1;
+            less = sym c.is;
+          }
         ]
       ]
 
   -- a greater first item puts the other key before
-  pub compared_greater : (a b : List ℕ) → a ≢ [] → b ≢ [] → ComparesFirst item a b Greater → IsBefore item b a
+  pub compared_greater : (a b : List ℕ) → a ≢ [] → b ≢ [] → ComparesFirst item a b Greater
+      → IsBefore item b a
   compared_greater a b p q c =
       elim c.first_of [
         | inl none ↦ absurd (p none.0)
         | inr one ↦ elim c.second_of [
           | inl none ↦ absurd (q none.0)
-          | inr two ↦ record { first = c.second; second = c.first; first_item = two.0; second_item = one.0; first_begins = two.1; second_begins = one.1; less = turned c.first c.second (sym c.is) }
+          | inr two ↦ record {
+            first = c.second;
+            second = c.first;
+            first_item = two.0;
+            second_item = one.0;
+            first_begins = two.1;
+            second_begins = one.1;
+            less = turned c.first c.second (sym c.is);
+          }
         ]
       ]
     where
@@ -44,18 +63,26 @@ module _ (item : List ℕ → Type 0) where
       turned x y e = nat_list_cmp_total.antisymm y x ∙ ap ordering_reverse e
 
   -- equal first items are one shared item
-  pub compared_equal : (a b : List ℕ) → a ≢ [] → b ≢ [] → ComparesFirst item a b Equal → SharesItem item a b
+  pub compared_equal : (a b : List ℕ) → a ≢ [] → b ≢ [] → ComparesFirst item a b Equal
+      → SharesItem item a b
   compared_equal a b p q c =
       elim c.first_of [
         | inl none ↦ absurd (p none.0)
         | inr one ↦ elim c.second_of [
           | inl none ↦ absurd (q none.0)
-          | inr two ↦ record { shared = c.first; is_item = one.0; begins_first = one.1; begins_second = subst (λ i. Begins i b) (sym (key_cmp-equal c.first c.second (sym c.is))) two.1 }
+          | inr two ↦ record {
+            shared = c.first;
+            is_item = one.0;
+            begins_first = one.1;
+            begins_second = subst (λ i. Begins i b)
+                (sym (key_cmp-equal c.first c.second (sym c.is))) two.1;
+          }
         ]
       ]
 
   -- a label that begins the key is common to both, whole
-  pub common_whole : (q l : List ℕ) (n : ℕ) → IsValid item l → IsCommon item q l n → Begins l q → length l ≤ n
+  pub common_whole : (q l : List ℕ) (n : ℕ) → IsValid item l → IsCommon item q l n → Begins l q
+      → length l ≤ n
   common_whole q l n valid c begun =
       let whole : take (length l) q ≡ l = rw (← begun.1) (take_at l begun.0 (length l) refl) in
       let long = length-append l begun.0 in
@@ -63,7 +90,8 @@ module _ (item : List ℕ → Type 0) where
       c.greatest (length l) (omega arith) (rw whole valid) ([], append-nil (take (length l) q) ∙ whole)
 
   -- where the common part is as long as the label, the label begins the key
-  pub common_splits : (q l : List ℕ) (n : ℕ) → IsCommon item q l n → length l ≤ n → l ++ drop n q ≡ q
+  pub common_splits : (q l : List ℕ) (n : ℕ) → IsCommon item q l n → length l ≤ n
+      → l ++ drop n q ≡ q
   common_splits q l n c long =
       let short = length-take-le n q c.within in
       let joined = length-append (take n q) c.begins.0 in
@@ -74,7 +102,8 @@ module _ (item : List ℕ → Type 0) where
 
 module _ (item : List ℕ → Type 0) (kind : IsKeyKind item) {V : Type 0} where
   -- at the empty key stands the node's own value
-  pub find_own : (v : Option V) (c : Siblings V) → IsCanonical item c → find key_cmp [] (own v ++ entries c) ≡ v
+  pub find_own : (v : Option V) (c : Siblings V) → IsCanonical item c
+      → find key_cmp [] (own v ++ entries c) ≡ v
   find_own None c ok = find_absent [] (entries c) (turn (entries c) (lacks_empty item kind None c ok))
     where
       turn : (es : List (List ℕ × V)) → AllKeys (λ k. k ≡ [] → ⊥) es → AllKeys (λ k. [] ≡ k → ⊥) es
@@ -83,20 +112,26 @@ module _ (item : List ℕ → Type 0) (kind : IsKeyKind item) {V : Type 0} where
   find_own (Some x) c ok = refl
 
   -- and at other keys the children decide
-  pub find_child : (t : List ℕ) (v : Option V) (c : Siblings V) → t ≢ [] → find key_cmp t (own v ++ entries c) ≡ find key_cmp t (entries c)
+  pub find_child : (t : List ℕ) (v : Option V) (c : Siblings V) → t ≢ []
+      → find key_cmp t (own v ++ entries c) ≡ find key_cmp t (entries c)
   find_child t v c nonempty = find-append_left t (own v) (entries c) (none v)
     where
       none : (v : Option V) → find key_cmp t (own v) ≡ None
       none None = refl
       none (Some x) = find_absent t (own (Some x)) (nonempty, tt)
 
-module _ (item : List ℕ → Type 0) (kind : IsKeyKind item) {V : Type 0} (l : List ℕ) (v : Option V) (c s : Siblings V) (ok : IsCanonical item (node l v c s)) where
+module _ (item : List ℕ → Type 0) (kind : IsKeyKind item) {V : Type 0} (l : List ℕ) (v : Option V)
+    (c s : Siblings V) (ok : IsCanonical item (node l v c s)) where
   -- the key is not among the entries of a node before it, of a row behind it, of a row whose first label it ends within, and of the nodes past a label that begins it
-  pub lacks_past : (q : List ℕ) → IsBefore item l q → AllKeys (λ k. q ≡ k → ⊥) (prefixed l (own v ++ entries c))
-  lacks_past q before = AllKeys-prefixed _ l (λ t same. key_cmp-irreflexive (l ++ t) (q ++ []) (sym same ∙ sym (append-nil q)) (IsBefore-less item kind l q t [] before)) _
+  pub lacks_past : (q : List ℕ) → IsBefore item l q
+      → AllKeys (λ k. q ≡ k → ⊥) (prefixed l (own v ++ entries c))
+  lacks_past q before = AllKeys-prefixed _ l
+      (λ t same. key_cmp-irreflexive (l ++ t) (q ++ []) (sym same ∙ sym (append-nil q))
+      (IsBefore-less item kind l q t [] before)) _
 
   -- a key that comes before a label is in none of its siblings
-  pub lacks_before : (q : List ℕ) → IsBefore item q l → AllKeys (λ k. q ≡ k → ⊥) (entries (node l v c s))
+  pub lacks_before : (q : List ℕ) → IsBefore item q l
+      → AllKeys (λ k. q ≡ k → ⊥) (entries (node l v c s))
   lacks_before q before = not_below q _ (subst (λ k. IsBelow k (entries (node l v c s))) (append-nil q) (below_row item kind q [] (node l v c s) ok before))
 
   -- a key that shares a label's first item is in no later sibling
@@ -104,39 +139,47 @@ module _ (item : List ℕ → Type 0) (kind : IsKeyKind item) {V : Type 0} (l : 
   later_lacks q share =
       turn (entries s) (lacks_item item kind None share.shared l share.is_item share.begins_second s ok.sibling ok.rises)
     where
-      turn : (es : List (List ℕ × V)) → AllKeys (λ k. Begins share.shared k → ⊥) es → AllKeys (λ k. q ≡ k → ⊥) es
+      turn : (es : List (List ℕ × V)) → AllKeys (λ k. Begins share.shared k → ⊥) es
+          → AllKeys (λ k. q ≡ k → ⊥) es
       turn [] h = tt
       turn (e ∷ es) h = (λ same. h.0 (subst (Begins share.shared) same share.begins_first), turn es h.1)
 
   -- a key that ends within a label is in none of the siblings
-  pub lacks_within : (q : List ℕ) (n : ℕ) → EndsWithin item q l n → AllKeys (λ k. q ≡ k → ⊥) (entries (node l v c s))
+  pub lacks_within : (q : List ℕ) (n : ℕ) → EndsWithin item q l n
+      → AllKeys (λ k. q ≡ k → ⊥) (entries (node l v c s))
   lacks_within q n ends =
       AllKeys-append _ (prefixed l (own v ++ entries c)) (entries s)
       (AllKeys-prefixed _ l (λ t same. let long = common_whole item q l n ok.valid ends.common (t, sym same) in let short = ends.short in omega arith) _)
       (later_lacks q ends.shares)
 
   -- a look-up goes past a sibling that comes before the key
-  pub find_past : (q : List ℕ) → IsBefore item l q → find key_cmp q (entries (node l v c s)) ≡ find key_cmp q (entries s)
+  pub find_past : (q : List ℕ) → IsBefore item l q
+      → find key_cmp q (entries (node l v c s)) ≡ find key_cmp q (entries s)
   find_past q before = find-append_left q (prefixed l (own v ++ entries c)) (entries s) (find_absent q _ (lacks_past q before))
 
   -- and finds nothing where the key comes before all siblings
-  pub find_before : (q : List ℕ) → IsBefore item q l → find key_cmp q (entries (node l v c s)) ≡ None
+  pub find_before : (q : List ℕ) → IsBefore item q l
+      → find key_cmp q (entries (node l v c s)) ≡ None
   find_before q before = find_absent q _ (lacks_before q before)
 
   -- nor where the key ends within a label
-  pub find_within : (q : List ℕ) (n : ℕ) → EndsWithin item q l n → find key_cmp q (entries (node l v c s)) ≡ None
+  pub find_within : (q : List ℕ) (n : ℕ) → EndsWithin item q l n
+      → find key_cmp q (entries (node l v c s)) ≡ None
   find_within q n ends = find_absent q _ (lacks_within q n ends)
 
-  find_through : (q t : List ℕ) → Passes item q l t → find key_cmp q (entries (node l v c s)) ≡ find key_cmp t (own v ++ entries c)
+  find_through : (q t : List ℕ) → Passes item q l t
+      → find key_cmp q (entries (node l v c s)) ≡ find key_cmp t (own v ++ entries c)
   find_through q t passes =
       find-append_right q (prefixed l (own v ++ entries c)) (entries s) (find_absent q _ (later_lacks q passes.shares))
       ∙ ap (λ k. find key_cmp k (prefixed l (own v ++ entries c))) (sym passes.splits)
       ∙ find-prefixed l t (own v ++ entries c)
 
   -- at the end of the key it finds the node's value
-  pub find_here : (q t : List ℕ) → Passes item q l t → t ≡ [] → find key_cmp q (entries (node l v c s)) ≡ v
+  pub find_here : (q t : List ℕ) → Passes item q l t → t ≡ []
+      → find key_cmp q (entries (node l v c s)) ≡ v
   find_here q t passes none = find_through q t passes ∙ ap (λ k. find key_cmp k (own v ++ entries c)) none ∙ find_own item kind v c ok.child
 
   -- else it goes on among the children
-  pub find_deeper : (q t : List ℕ) → Passes item q l t → t ≢ [] → find key_cmp q (entries (node l v c s)) ≡ find key_cmp t (entries c)
+  pub find_deeper : (q t : List ℕ) → Passes item q l t → t ≢ []
+      → find key_cmp q (entries (node l v c s)) ≡ find key_cmp t (entries c)
   find_deeper q t passes nonempty = find_through q t passes ∙ find_child item kind t v c nonempty

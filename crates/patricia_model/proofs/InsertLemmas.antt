@@ -18,28 +18,63 @@ begins_longer i m t b = Begins-trans i m (m ++ t) b (t, refl)
 -- the order of first items looks at no more than the first items
 module _ (item : List ℕ → Type 0) (kind : IsKeyKind item) where
   IsBefore-longer : (l m t : List ℕ) → IsBefore item l m → IsBefore item l (m ++ t)
-  IsBefore-longer l m t b = record { first = b.first; second = b.second; first_item = b.first_item; second_item = b.second_item; first_begins = b.first_begins; second_begins = begins_longer b.second m t b.second_begins; less = b.less }
+  IsBefore-longer l m t b = record {
+    first = b.first;
+    second = b.second;
+    first_item = b.first_item;
+    second_item = b.second_item;
+    first_begins = b.first_begins;
+    second_begins = begins_longer b.second m t b.second_begins;
+    less = b.less;
+  }
 
   -- a key with more behind it still comes before
   pub IsBefore-longer_left : (l m t : List ℕ) → IsBefore item l m → IsBefore item (l ++ t) m
-  IsBefore-longer_left l m t b = record { first = b.first; second = b.second; first_item = b.first_item; second_item = b.second_item; first_begins = begins_longer b.first l t b.first_begins; second_begins = b.second_begins; less = b.less }
+  IsBefore-longer_left l m t b = record {
+    first = b.first;
+    second = b.second;
+    first_item = b.first_item;
+    second_item = b.second_item;
+    first_begins = begins_longer b.first l t b.first_begins;
+    second_begins = b.second_begins;
+    less = b.less;
+  }
 
-  IsBefore-shorter : (l m t : List ℕ) → IsValid item m → m ≢ [] → IsBefore item l (m ++ t) → IsBefore item l m
+  IsBefore-shorter : (l m t : List ℕ) → IsValid item m → m ≢ [] → IsBefore item l (m ++ t)
+      → IsBefore item l m
   IsBefore-shorter l m t valid nonempty b =
       let first = first_of item m valid nonempty in
       let same = begins_same item kind first.0 b.second (m ++ t) first.1 b.second_item (begins_longer first.0 m t first.2) b.second_begins in
-      record { first = b.first; second = b.second; first_item = b.first_item; second_item = b.second_item; first_begins = b.first_begins; second_begins = subst (λ i. Begins i m) same first.2; less = b.less }
+      record {
+        first = b.first;
+        second = b.second;
+        first_item = b.first_item;
+        second_item = b.second_item;
+        first_begins = b.first_begins;
+        second_begins = subst (λ i. Begins i m) same first.2;
+        less = b.less;
+      }
 
   -- and so does a nonempty front of it
-  pub IsBefore-shorter_left : (l m t : List ℕ) → IsValid item l → l ≢ [] → IsBefore item (l ++ t) m → IsBefore item l m
+  pub IsBefore-shorter_left : (l m t : List ℕ) → IsValid item l → l ≢ [] → IsBefore item (l ++ t) m
+      → IsBefore item l m
   IsBefore-shorter_left l m t valid nonempty b =
       let first = first_of item l valid nonempty in
       let same = begins_same item kind first.0 b.first (l ++ t) first.1 b.first_item (begins_longer first.0 l t first.2) b.first_begins in
-      record { first = b.first; second = b.second; first_item = b.first_item; second_item = b.second_item; first_begins = subst (λ i. Begins i l) same first.2; second_begins = b.second_begins; less = b.less }
+      record {
+        first = b.first;
+        second = b.second;
+        first_item = b.first_item;
+        second_item = b.second_item;
+        first_begins = subst (λ i. Begins i l) same first.2;
+        second_begins = b.second_begins;
+        less = b.less;
+      }
 
 -- what is said of a row by its entries alone
 module _ (item : List ℕ → Type 0) (kind : IsKeyKind item) {V : Type 0} where
-  pub keys_rise : (l : List ℕ) (s : Siblings V) → IsCanonical item s → IsBeforeSiblings item l s → AllKeys (λ k. IsBefore item l k) (entries s)
+  pub keys_rise : (l : List ℕ) (s : Siblings V) → IsCanonical item s → IsBeforeSiblings item l s
+      → AllKeys (λ k. IsBefore item l k) (entries s)
   keys_rise l end ok before = tt
   keys_rise l (node m v c s) ok before =
       AllKeys-append _ (prefixed m (own v ++ entries c)) (entries s)
@@ -47,7 +82,8 @@ module _ (item : List ℕ → Type 0) (kind : IsKeyKind item) {V : Type 0} where
       (keys_rise l s ok.sibling (rises_on item kind l m s before ok.rises))
 
   -- siblings rise where the label comes before each of their keys
-  pub rises_by_keys : (l : List ℕ) (s : Siblings V) → IsCanonical item s → AllKeys (λ k. IsBefore item l k) (entries s) → IsBeforeSiblings item l s
+  pub rises_by_keys : (l : List ℕ) (s : Siblings V) → IsCanonical item s
+      → AllKeys (λ k. IsBefore item l k) (entries s) → IsBeforeSiblings item l s
   rises_by_keys l end ok all = tt
   rises_by_keys l (node m v c s) ok all =
       let some = has_entry item kind None m v c s ok in
@@ -55,13 +91,18 @@ module _ (item : List ℕ → Type 0) (kind : IsKeyKind item) {V : Type 0} where
       IsBefore-shorter item kind l m some.0.0 ok.valid ok.nonempty all'.0
 
   -- a row whose keys do not all begin with one item has two nodes
-  earns_by_keys : (l i : List ℕ) → item i → (c : Siblings V) → IsCanonical item c → ((i : List ℕ) → item i → AllKeys (λ k. Begins i k) (entries c) → ⊥) → EarnsWithin item None l None c
+  earns_by_keys : (l i : List ℕ) → item i → (c : Siblings V) → IsCanonical item c
+      → ((i : List ℕ) → item i → AllKeys (λ k. Begins i k) (entries c) → ⊥)
+      → EarnsWithin item None l None c
   earns_by_keys l i p end ok parts = parts i p tt
-  earns_by_keys l i p (node m v c end) ok parts = λ j q begun _. parts j q (AllKeys-append _ (prefixed m (own v ++ entries c)) [] (AllKeys-prefixed _ m (λ t. begins_longer j m t begun) (own v ++ entries c)) tt)
+  earns_by_keys l i p (node m v c end) ok parts = λ j q begun _. parts j q
+      (AllKeys-append _ (prefixed m (own v ++ entries c)) []
+      (AllKeys-prefixed _ m (λ t. begins_longer j m t begun) (own v ++ entries c)) tt)
   earns_by_keys l i p (node m v c (node m' v' c' s')) ok parts = tt
 
   -- without a limit the label does not matter
-  pub earns_elsewhere : (l m : List ℕ) (v : Option V) (c : Siblings V) → EarnsWithin item None l v c → EarnsWithin item None m v c
+  pub earns_elsewhere : (l m : List ℕ) (v : Option V) (c : Siblings V) → EarnsWithin item None l v c
+      → EarnsWithin item None m v c
   earns_elsewhere l m (Some x) c e = tt
   earns_elsewhere l m None end e = e
   earns_elsewhere l m None (node k v c end) e = e
@@ -73,7 +114,8 @@ module _ (item : List ℕ → Type 0) (kind : IsKeyKind item) {V : Type 0} (x : 
   single q = ap (λ k. (k, x) ∷ []) (append-nil q)
 
   -- an insert of the empty key sets the value above the children
-  pub put_own : (v : Option V) (c : Siblings V) → IsCanonical item c → own (Some x) ++ entries c ≡ put key_cmp [] x (own v ++ entries c)
+  pub put_own : (v : Option V) (c : Siblings V) → IsCanonical item c
+      → own (Some x) ++ entries c ≡ put key_cmp [] x (own v ++ entries c)
   put_own None c ok = sym (put_below [] x (entries c) (below_own item kind (Some x) c ok).0)
   put_own (Some y) c ok = refl
 
@@ -82,7 +124,9 @@ module _ (item : List ℕ → Type 0) (kind : IsKeyKind item) {V : Type 0} (x : 
   empty_below (b ∷ t) nonempty = refl
 
   -- an insert among the children leaves the value above them
-  pub put_child : (t : List ℕ) (v : Option V) (c c' : Siblings V) → t ≢ [] → entries c' ≡ put key_cmp t x (entries c) → own v ++ entries c' ≡ put key_cmp t x (own v ++ entries c)
+  pub put_child : (t : List ℕ) (v : Option V) (c c' : Siblings V) → t ≢ []
+      → entries c' ≡ put key_cmp t x (entries c)
+      → own v ++ entries c' ≡ put key_cmp t x (own v ++ entries c)
   put_child t v c c' nonempty e = ap (λ es. own v ++ es) e ∙ sym (put-append_right t x (own v) (entries c) (above v))
     where
       above : (v : Option V) → IsAbove t (own v)
@@ -90,7 +134,10 @@ module _ (item : List ℕ → Type 0) (kind : IsKeyKind item) {V : Type 0} (x : 
       above (Some y) = (empty_below t nonempty, tt)
 
   -- a write behind the label of the first node
-  pub put_front : (l : List ℕ) (v : Option V) (c s : Siblings V) → IsCanonical item s → IsBeforeSiblings item l s → (q t : List ℕ) (v' : Option V) (c' : Siblings V) → l ++ t ≡ q → own v' ++ entries c' ≡ put key_cmp t x (own v ++ entries c) → entries (node l v' c' s) ≡ put key_cmp q x (entries (node l v c s))
+  pub put_front : (l : List ℕ) (v : Option V) (c s : Siblings V) → IsCanonical item s
+      → IsBeforeSiblings item l s → (q t : List ℕ) (v' : Option V) (c' : Siblings V) → l ++ t ≡ q
+      → own v' ++ entries c' ≡ put key_cmp t x (own v ++ entries c)
+      → entries (node l v' c' s) ≡ put key_cmp q x (entries (node l v c s))
   put_front l v c s ok rises q t v' c' splits e =
       ap (λ es. prefixed l es ++ entries s) e
       ∙ ap (λ es. es ++ entries s) (sym (put-prefixed l t x (own v ++ entries c)))
@@ -99,32 +146,42 @@ module _ (item : List ℕ → Type 0) (kind : IsKeyKind item) {V : Type 0} (x : 
 
   module _ (l : List ℕ) (v : Option V) (c s : Siblings V) (ok : IsCanonical item (node l v c s)) where
     -- the key goes before the row
-    pub put_before : (q : List ℕ) → IsBefore item q l → entries (node q (Some x) end (node l v c s)) ≡ put key_cmp q x (entries (node l v c s))
+    pub put_before : (q : List ℕ) → IsBefore item q l
+        → entries (node q (Some x) end (node l v c s)) ≡ put key_cmp q x (entries (node l v c s))
     put_before q before =
         ap (λ es. es ++ entries (node l v c s)) (ap (λ k. (k, x) ∷ []) (append-nil q))
-        ∙ sym (put_below q x (entries (node l v c s)) (subst (λ k. IsBelow k (entries (node l v c s))) (append-nil q) (below_row item kind q [] (node l v c s) ok before)))
+        ∙ sym (put_below q x (entries (node l v c s))
+        (subst (λ k. IsBelow k (entries (node l v c s))) (append-nil q)
+        (below_row item kind q [] (node l v c s) ok before)))
 
     -- it goes into the rest of the row
-    pub put_past : (q : List ℕ) (s' : Siblings V) → IsBefore item l q → entries s' ≡ put key_cmp q x (entries s) → entries (node l v c s') ≡ put key_cmp q x (entries (node l v c s))
+    pub put_past : (q : List ℕ) (s' : Siblings V) → IsBefore item l q
+        → entries s' ≡ put key_cmp q x (entries s)
+        → entries (node l v c s') ≡ put key_cmp q x (entries (node l v c s))
     put_past q s' before e =
         ap (λ es. prefixed l (own v ++ entries c) ++ es) e
         ∙ sym (put-append_right q x (prefixed l (own v ++ entries c)) (entries s)
         (AllKeys-prefixed _ l (λ t. subst (λ k. key_cmp (l ++ t) k ≡ Less) (append-nil q) (IsBefore-less item kind l q t [] before)) _))
 
     -- an insert into later siblings keeps the siblings canonical
-    pub row_past : (q : List ℕ) (s' : Siblings V) → IsBefore item l q → IsCanonical item s' → entries s' ≡ put key_cmp q x (entries s) → IsCanonical item (node l v c s')
+    pub row_past : (q : List ℕ) (s' : Siblings V) → IsBefore item l q → IsCanonical item s'
+        → entries s' ≡ put key_cmp q x (entries s) → IsCanonical item (node l v c s')
     row_past q s' before ok' e = record {
       valid = ok.valid;
       nonempty = ok.nonempty;
       fits = tt;
       earns = ok.earns;
-      rises = rises_by_keys item kind l s' ok' (subst (AllKeys (λ k. IsBefore item l k)) (sym e) (put-AllKeys _ q x (entries s) before (keys_rise item kind l s ok.sibling ok.rises)));
+      rises = rises_by_keys item kind l s' ok'
+          (subst (AllKeys (λ k. IsBefore item l k)) (sym e)
+          (put-AllKeys _ q x (entries s) before (keys_rise item kind l s ok.sibling ok.rises)));
       child = ok.child;
       sibling = ok';
     }
 
     -- it goes through the label
-    pub put_through : (q t : List ℕ) (v' : Option V) (c' : Siblings V) → Passes item q l t → own v' ++ entries c' ≡ put key_cmp t x (own v ++ entries c) → entries (node l v' c' s) ≡ put key_cmp q x (entries (node l v c s))
+    pub put_through : (q t : List ℕ) (v' : Option V) (c' : Siblings V) → Passes item q l t
+        → own v' ++ entries c' ≡ put key_cmp t x (own v ++ entries c)
+        → entries (node l v' c' s) ≡ put key_cmp q x (entries (node l v c s))
     put_through q t v' c' passes e = put_front l v c s ok.sibling ok.rises q t v' c' passes.splits e
 
     -- a new value keeps them canonical
@@ -132,11 +189,33 @@ module _ (item : List ℕ → Type 0) (kind : IsKeyKind item) {V : Type 0} (x : 
     row_valued = record { valid = ok.valid; nonempty = ok.nonempty; fits = tt; earns = tt; rises = ok.rises; child = ok.child; sibling = ok.sibling }
 
     -- and so does an insert among the children
-    pub row_child : (t : List ℕ) (c' : Siblings V) → IsCanonical item c' → entries c' ≡ put key_cmp t x (entries c) → IsCanonical item (node l v c' s)
+    pub row_child : (t : List ℕ) (c' : Siblings V) → IsCanonical item c'
+        → entries c' ≡ put key_cmp t x (entries c) → IsCanonical item (node l v c' s)
     row_child t c' ok' e =
-        record { valid = ok.valid; nonempty = ok.nonempty; fits = tt; earns = earns v ok.earns (λ i p all v'. branches item kind None i p l None c s (record { valid = ok.valid; nonempty = ok.nonempty; fits = tt; earns = v'; rises = ok.rises; child = ok.child; sibling = ok.sibling }) tt all); rises = ok.rises; child = ok'; sibling = ok.sibling }
+        record {
+          valid = ok.valid;
+          nonempty = ok.nonempty;
+          fits = tt;
+          earns = earns v ok.earns
+              (λ i p all v'. branches item kind None i p l None c s
+              (record {
+                valid = ok.valid;
+                nonempty = ok.nonempty;
+                fits = tt;
+                earns = v';
+                rises =
+                    ok.rises;
+                child = ok.child;
+                sibling = ok.sibling;
+              }) tt all);
+          rises = ok.rises;
+          child = ok';
+          sibling = ok.sibling;
+        }
       where
-        earns : (v : Option V) → EarnsWithin item None l v c → ((i : List ℕ) → item i → AllKeys (λ k. Begins i k) (entries c) → EarnsWithin item None l None c → ⊥) → EarnsWithin item None l v c'
+        earns : (v : Option V) → EarnsWithin item None l v c
+            → ((i : List ℕ) → item i → AllKeys (λ k. Begins i k) (entries c) → EarnsWithin item None l None c → ⊥)
+            → EarnsWithin item None l v c'
         earns (Some y) h parts = tt
         earns None h parts =
             let first = first_of item l ok.valid ok.nonempty in

@@ -12,9 +12,14 @@ use Rattle.patricia_model.proofs.RemovalLemmas.{AllKeys-others, others_past, oth
 
 -- what is left without a key, or without a prefix, by how it compares with the first label
 pub record Leaves (item : List ℕ → Type 0) {V : Type 0} (left : List ℕ → List (List ℕ × V) → List (List ℕ × V)) : Type 0 where
-  pub past : (l : List ℕ) (v : Option V) (c s : Siblings V) → IsCanonical item (node l v c s) → (q : List ℕ) → IsBefore item l q → left q (entries (node l v c s)) ≡ prefixed l (own v ++ entries c) ++ left q (entries s)
-  pub deeper : (l : List ℕ) (v : Option V) (c s : Siblings V) → IsCanonical item (node l v c s) → (q t : List ℕ) → Passes item q l t → t ≢ [] → left q (entries (node l v c s)) ≡ prefixed l (own v ++ left t (entries c)) ++ entries s
-  pub keys : (l q : List ℕ) (es : List (List ℕ × V)) → AllKeys (λ k. IsBefore item l k) es → AllKeys (λ k. IsBefore item l k) (left q es)
+  pub past : (l : List ℕ) (v : Option V) (c s : Siblings V) → IsCanonical item (node l v c s)
+      → (q : List ℕ) → IsBefore item l q
+      → left q (entries (node l v c s)) ≡ prefixed l (own v ++ entries c) ++ left q (entries s)
+  pub deeper : (l : List ℕ) (v : Option V) (c s : Siblings V) → IsCanonical item (node l v c s)
+      → (q t : List ℕ) → Passes item q l t → t ≢ []
+      → left q (entries (node l v c s)) ≡ prefixed l (own v ++ left t (entries c)) ++ entries s
+  pub keys : (l q : List ℕ) (es : List (List ℕ × V)) → AllKeys (λ k. IsBefore item l k) es
+      → AllKeys (λ k. IsBefore item l k) (left q es)
 
 module _ (item : List ℕ → Type 0) (kind : IsKeyKind item) {V : Type 0} where
   pub others_leave : Leaves item {V = V} others
@@ -32,19 +37,25 @@ module _ (item : List ℕ → Type 0) (kind : IsKeyKind item) {V : Type 0} where
     keys = λ l q es all. AllKeys-outside _ q es all;
   }
 
-  module _ (left : List ℕ → List (List ℕ × V) → List (List ℕ × V)) (leaves : Leaves item left) (l : List ℕ) (v : Option V) (c s : Siblings V) (ok : IsCanonical item (node l v c s)) where
+  module _ (left : List ℕ → List (List ℕ × V) → List (List ℕ × V)) (leaves : Leaves item left)
+      (l : List ℕ) (v : Option V) (c s : Siblings V) (ok : IsCanonical item (node l v c s)) where
     -- they were in the rest of the row
-    pub row_past_left : (q : List ℕ) (s' : Siblings V) → IsCanonical item s' → entries s' ≡ left q (entries s) → IsCanonical item (node l v c s')
+    pub row_past_left : (q : List ℕ) (s' : Siblings V) → IsCanonical item s'
+        → entries s' ≡ left q (entries s) → IsCanonical item (node l v c s')
     row_past_left q s' ok' e = record {
       valid = ok.valid;
       nonempty = ok.nonempty;
       fits = tt;
       earns = ok.earns;
-      rises = rises_by_keys item kind l s' ok' (subst (AllKeys (λ k. IsBefore item l k)) (sym e) (leaves.keys l q (entries s) (keys_rise item kind l s ok.sibling ok.rises)));
+      rises = rises_by_keys item kind l s' ok'
+          (subst (AllKeys (λ k. IsBefore item l k)) (sym e)
+          (leaves.keys l q (entries s) (keys_rise item kind l s ok.sibling ok.rises)));
       child = ok.child;
       sibling = ok';
     }
 
     -- what leaves later siblings leaves all of them
-    pub entries_past_left : (q : List ℕ) (s' : Siblings V) → IsBefore item l q → entries s' ≡ left q (entries s) → entries (node l v c s') ≡ left q (entries (node l v c s))
+    pub entries_past_left : (q : List ℕ) (s' : Siblings V) → IsBefore item l q
+        → entries s' ≡ left q (entries s)
+        → entries (node l v c s') ≡ left q (entries (node l v c s))
     entries_past_left q s' before e = ap (λ es. prefixed l (own v ++ entries c) ++ es) e ∙ sym (leaves.past l v c s ok q before)

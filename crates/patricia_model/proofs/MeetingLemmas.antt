@@ -8,7 +8,8 @@ use Rattle.patricia_keys.proofs.KeyLemmas.{Begins-trans, first_of, first_bytes_d
 
 module _ (item : List ℕ → Type 0) where
   -- of two keys the one with the lesser first byte comes first
-  pub before_by_first_byte : (kind : IsKeyKind item) (a b : List ℕ) → IsValid item a → IsValid item b → a ≢ [] → b ≢ [] → get_or a 0 0 < get_or b 0 0 → IsBefore item a b
+  pub before_by_first_byte : (kind : IsKeyKind item) (a b : List ℕ) → IsValid item a
+      → IsValid item b → a ≢ [] → b ≢ [] → get_or a 0 0 < get_or b 0 0 → IsBefore item a b
   before_by_first_byte kind a b v w some other less =
       let first = first_of item a v some in
       let second = first_of item b w other in

@@ -26,7 +26,8 @@ module _ {A : Type 0} where
   ]
 
   -- parts without a common member stay apart when joined
-  pub AreApart-append : (xs ys : List A) → AreApart xs → AreApart ys → ((x : A) → Has xs x → Has ys x → ⊥) → AreApart (xs ++ ys)
+  pub AreApart-append : (xs ys : List A) → AreApart xs → AreApart ys
+      → ((x : A) → Has xs x → Has ys x → ⊥) → AreApart (xs ++ ys)
   AreApart-append [] ys a b c = b
   AreApart-append (x ∷ xs) ys a b c = (
     λ h. elim (Has-either xs ys x h) [
@@ -37,7 +38,8 @@ module _ {A : Type 0} where
   )
 
   -- the list without one place where x stands
-  taken : (ys : List A) (x : A) → Has ys x → (zs : List A) × (length ys ≡ suc (length zs)) × ((y : A) → Has ys y → (x ≡ y) ⊎ Has zs y)
+  taken : (ys : List A) (x : A) → Has ys x
+      → (zs : List A) × (length ys ≡ suc (length zs)) × ((y : A) → Has ys y → (x ≡ y) ⊎ Has zs y)
   taken [] x h = absurd h
   taken (y ∷ ys) x (inl e) = (
     ys,
@@ -61,7 +63,8 @@ module _ {A : Type 0} where
       )
 
   -- with fewer members, each once, a list is no longer
-  no_longer : (xs ys : List A) → AreApart xs → ((x : A) → Has xs x → Has ys x) → length xs ≤ length ys
+  no_longer : (xs ys : List A) → AreApart xs → ((x : A) → Has xs x → Has ys x)
+      → length xs ≤ length ys
   no_longer [] ys a f = omega arith
   no_longer (x ∷ xs) ys a f =
       let less = taken ys x (f x (inl refl)) in
@@ -72,23 +75,27 @@ module _ {A : Type 0} where
       omega (arith, less.1, no_longer xs less.0 a.1 kept)
 
   -- lists with the same members, none of them twice, are equally long
-  pub same_length : (xs ys : List A) → AreApart xs → AreApart ys → ((x : A) → Has xs x ↔ Has ys x) → length xs ≡ length ys
+  pub same_length : (xs ys : List A) → AreApart xs → AreApart ys → ((x : A) → Has xs x ↔ Has ys x)
+      → length xs ≡ length ys
   same_length xs ys a b same = omega (arith, no_longer xs ys a (λ x. (same x).0), no_longer ys xs b (λ x. (same x).1))
 
 -- the members behind a common front
-pub Has-behind : (p : List ℕ) (qs : List (List ℕ)) (q : List ℕ) → Has qs q → Has (map (λ t. p ++ t) qs) (p ++ q)
+pub Has-behind : (p : List ℕ) (qs : List (List ℕ)) (q : List ℕ) → Has qs q
+    → Has (map (λ t. p ++ t) qs) (p ++ q)
 Has-behind p [] q h = absurd h
 Has-behind p (x ∷ qs) q (inl e) = inl (ap (λ t. p ++ t) e)
 Has-behind p (x ∷ qs) q (inr h) = inr (Has-behind p qs q h)
 
 -- each of them has the front
-pub Has-behind_of : (p : List ℕ) (qs : List (List ℕ)) (x : List ℕ) → Has (map (λ t. p ++ t) qs) x → (q : List ℕ) × (p ++ q ≡ x) × Has qs q
+pub Has-behind_of : (p : List ℕ) (qs : List (List ℕ)) (x : List ℕ) → Has (map (λ t. p ++ t) qs) x
+    → (q : List ℕ) × (p ++ q ≡ x) × Has qs q
 Has-behind_of p [] x h = absurd h
 Has-behind_of p (y ∷ qs) x (inl e) = (y, e, inl refl)
 Has-behind_of p (y ∷ qs) x (inr h) = let r = Has-behind_of p qs x h in (r.0, r.1, inr r.2)
 
 -- a common front leaves them apart
-pub AreApart-behind : (p : List ℕ) (qs : List (List ℕ)) → AreApart qs → AreApart (map (λ t. p ++ t) qs)
+pub AreApart-behind : (p : List ℕ) (qs : List (List ℕ)) → AreApart qs
+    → AreApart (map (λ t. p ++ t) qs)
 AreApart-behind p [] a = tt
 AreApart-behind p (q ∷ qs) a =
     (λ h. let r = Has-behind_of p qs (p ++ q) h in a.0 (subst (Has qs) (append_cancel_left p r.0 q r.1) r.2), AreApart-behind p qs a.1)

@@ -27,21 +27,25 @@ pair true b x y = y
 pair false b x y = x
 
 module _ {V : Type 0} where
-  below_append : (q : List ℕ) (xs ys : List (List ℕ × V)) → T (below_all key_cmp q xs) → IsBelow q ys → T (below_all key_cmp q (xs ++ ys))
+  below_append : (q : List ℕ) (xs ys : List (List ℕ × V)) → T (below_all key_cmp q xs)
+      → IsBelow q ys → T (below_all key_cmp q (xs ++ ys))
   below_append q [] ys a b = below_all-from q ys b
   below_append q (x ∷ xs) ys a b = pair _ _ (first_part _ _ a) (below_append q xs ys (second_part _ _ a) b)
 
   -- two sorted lists, each key of the first before the second, are sorted together
-  pub sorted-append : (xs ys : List (List ℕ × V)) → T (is_sorted key_cmp xs) → T (is_sorted key_cmp ys) → AllKeys (λ q. IsBelow q ys) xs → T (is_sorted key_cmp (xs ++ ys))
+  pub sorted-append : (xs ys : List (List ℕ × V)) → T (is_sorted key_cmp xs)
+      → T (is_sorted key_cmp ys) → AllKeys (λ q. IsBelow q ys) xs → T (is_sorted key_cmp (xs ++ ys))
   sorted-append [] ys a b c = b
   sorted-append (x ∷ xs) ys a b c = pair _ _ (below_append x.0 xs ys (first_part _ _ a) c.0) (sorted-append xs ys (second_part _ _ a) b c.1)
 
-  below-prefixed : (p q : List ℕ) (es : List (List ℕ × V)) → T (below_all key_cmp q es) → T (below_all key_cmp (p ++ q) (prefixed p es))
+  below-prefixed : (p q : List ℕ) (es : List (List ℕ × V)) → T (below_all key_cmp q es)
+      → T (below_all key_cmp (p ++ q) (prefixed p es))
   below-prefixed p q [] a = tt
   below-prefixed p q (e ∷ es) a = pair _ _ (rw key_cmp-front (first_part _ _ a)) (below-prefixed p q es (second_part _ _ a))
 
   -- a common prefix keeps rows sorted
-  pub sorted-prefixed : (p : List ℕ) (es : List (List ℕ × V)) → T (is_sorted key_cmp es) → T (is_sorted key_cmp (prefixed p es))
+  pub sorted-prefixed : (p : List ℕ) (es : List (List ℕ × V)) → T (is_sorted key_cmp es)
+      → T (is_sorted key_cmp (prefixed p es))
   sorted-prefixed p [] a = tt
   sorted-prefixed p (e ∷ es) a = pair _ _ (below-prefixed p e.0 es (first_part _ _ a)) (sorted-prefixed p es (second_part _ _ a))
 
@@ -62,7 +66,8 @@ module _ (item : List ℕ → Type 0) (kind : IsKeyKind item) where
 
 module _ (item : List ℕ → Type 0) (kind : IsKeyKind item) {V : Type 0} where
   -- a key behind an earlier label is below the row
-  pub below_row : (l t : List ℕ) (s : Siblings V) → IsCanonical item s → IsBeforeSiblings item l s → IsBelow (l ++ t) (entries s)
+  pub below_row : (l t : List ℕ) (s : Siblings V) → IsCanonical item s → IsBeforeSiblings item l s
+      → IsBelow (l ++ t) (entries s)
   below_row l t end ok before = tt
   below_row l t (node m v c s) ok before =
       AllKeys-append _ (prefixed m (own v ++ entries c)) (entries s)
@@ -70,7 +75,8 @@ module _ (item : List ℕ → Type 0) (kind : IsKeyKind item) {V : Type 0} where
       (below_row l t s ok.sibling (rises_on item kind l m s before ok.rises))
 
   -- the value above the children comes before them
-  pub below_own : (v : Option V) (c : Siblings V) → IsCanonical item c → AllKeys (λ q. IsBelow q (entries c)) (own v)
+  pub below_own : (v : Option V) (c : Siblings V) → IsCanonical item c
+      → AllKeys (λ q. IsBelow q (entries c)) (own v)
   below_own None c ok = tt
   below_own (Some x) c ok = (each (entries c) (lacks_empty item kind None c ok), tt)
     where

@@ -13,10 +13,12 @@ use Rattle.patricia_model.proofs.PrefixLemmas.{begins-front, begins_from, filter
 use Rattle.patricia_model.proofs.FilterLemmas.{has_filter, filter_has}
 
 module _ {V : Type 0} where
-  outside-append : (p : List ℕ) (xs ys : List (List ℕ × V)) → outside p (xs ++ ys) ≡ outside p xs ++ outside p ys
+  outside-append : (p : List ℕ) (xs ys : List (List ℕ × V))
+      → outside p (xs ++ ys) ≡ outside p xs ++ outside p ys
   outside-append p xs ys = filter-append _ xs ys
 
-  outside-prefixed : (l p : List ℕ) (es : List (List ℕ × V)) → outside (l ++ p) (prefixed l es) ≡ prefixed l (outside p es)
+  outside-prefixed : (l p : List ℕ) (es : List (List ℕ × V))
+      → outside (l ++ p) (prefixed l es) ≡ prefixed l (outside p es)
   outside-prefixed l p es = filter-prefixed (λ k. not (begins (l ++ p) k)) (λ k. not (begins p k)) l (λ k. ap not (begins-front l p k)) es
 
   -- all rows, or none
@@ -24,7 +26,8 @@ module _ {V : Type 0} where
   outside_all p [] none = refl
   outside_all p (e ∷ es) none = by (begins p e.0) refl (outside_all p es)
     where
-      by : (b : Bool) → begins p e.0 ≡ b → (under p es ≡ [] → outside p es ≡ es) → outside p (e ∷ es) ≡ e ∷ es
+      by : (b : Bool) → begins p e.0 ≡ b → (under p es ≡ [] → outside p es ≡ es)
+          → outside p (e ∷ es) ≡ e ∷ es
       by true f rest = absurd (let no = rw f at none in cc)
       by false f rest = let left = rw f at none in rw f (ap (λ r. e ∷ r) (rest left))
 
@@ -41,7 +44,8 @@ module _ {V : Type 0} where
       all (e ∷ es) = ((e.0, refl), all es)
 
   -- what holds of each key holds of those outside
-  pub AllKeys-outside : (P : List ℕ → Type 0) (p : List ℕ) (es : List (List ℕ × V)) → AllKeys P es → AllKeys P (outside p es)
+  pub AllKeys-outside : (P : List ℕ → Type 0) (p : List ℕ) (es : List (List ℕ × V)) → AllKeys P es
+      → AllKeys P (outside p es)
   AllKeys-outside P p [] h = tt
   AllKeys-outside P p (e ∷ es) h = by (begins p e.0) refl (AllKeys-outside P p es h.1)
     where
@@ -50,18 +54,21 @@ module _ {V : Type 0} where
       by false f rest = rw f (h.0, rest)
 
   -- each row is under the prefix or outside it
-  pub outside_together : (p : List ℕ) (rows : List (List ℕ × V)) (r : List ℕ × V) → Has rows r ↔ (Has (under p rows) r ⊎ Has (outside p rows) r)
+  pub outside_together : (p : List ℕ) (rows : List (List ℕ × V)) (r : List ℕ × V)
+      → Has rows r ↔ (Has (under p rows) r ⊎ Has (outside p rows) r)
   outside_together p rows r = (
     λ h. by h (begins p r.0) refl,
     λ h. elim h [ inl a ↦ (has_filter _ rows r a).0 | inr b ↦ (has_filter _ rows r b).0 ],
   )
     where
-      by : Has rows r → (b : Bool) → begins p r.0 ≡ b → Has (under p rows) r ⊎ Has (outside p rows) r
+      by : Has rows r → (b : Bool) → begins p r.0 ≡ b
+          → Has (under p rows) r ⊎ Has (outside p rows) r
       by h true f = inl (filter_has _ rows r h f)
       by h false f = inr (filter_has _ rows r h (ap not f))
 
   -- and no key is in both
-  pub outside_apart : (p : List ℕ) (rows : List (List ℕ × V)) (r s : List ℕ × V) → Has (under p rows) r → Has (outside p rows) s → r.0 ≢ s.0
+  pub outside_apart : (p : List ℕ) (rows : List (List ℕ × V)) (r s : List ℕ × V)
+      → Has (under p rows) r → Has (outside p rows) s → r.0 ≢ s.0
   outside_apart p rows r s a b same =
       let yes = (has_filter _ rows r a).1 in
       let no : not (begins p s.0) ≡ true = (has_filter _ rows s b).1 in
@@ -69,24 +76,32 @@ module _ {V : Type 0} where
       absurd (let f = rw yes at turned in cc)
 
   -- and their numbers add up
-  pub outside_counted : (p : List ℕ) (es : List (List ℕ × V)) → length (under p es) + length (outside p es) ≡ length es
+  pub outside_counted : (p : List ℕ) (es : List (List ℕ × V))
+      → length (under p es) + length (outside p es) ≡ length es
   outside_counted p [] = refl
-  outside_counted p (e ∷ es) = elim (begins p e.0) as (λ b. length (cond b (e ∷ under p es) (under p es)) + length (cond (not b) (e ∷ outside p es) (outside p es)) ≡ length (e ∷ es)) [
-    | true ↦ omega (arith, outside_counted p es)
-    | false ↦ omega (arith, outside_counted p es)
-  ]
+  outside_counted p (e ∷ es) = elim (begins p e.0) as
+      (λ b. length (cond b (e ∷ under p es) (under p es)) + length
+      (cond (not b) (e ∷ outside p es) (outside p es)) ≡ length (e ∷ es)) [
+        | true ↦ omega (arith, outside_counted p es)
+        | false ↦ omega (arith, outside_counted p es)
+      ]
 
   -- the empty key is outside each other prefix
-  pub outside_filled : (p : List ℕ) → p ≢ [] → (v : Option V) (es : List (List ℕ × V)) → outside p (own v ++ es) ≡ own v ++ outside p es
+  pub outside_filled : (p : List ℕ) → p ≢ [] → (v : Option V) (es : List (List ℕ × V))
+      → outside p (own v ++ es) ≡ own v ++ outside p es
   outside_filled p some v es = outside-append p (own v) es ∙ ap (λ r. r ++ outside p es) (outside_all p (own v) (under_own p some v))
 
-module _ (item : List ℕ → Type 0) (kind : IsKeyKind item) {V : Type 0} (l : List ℕ) (v : Option V) (c s : Siblings V) (ok : IsCanonical item (node l v c s)) where
+module _ (item : List ℕ → Type 0) (kind : IsKeyKind item) {V : Type 0} (l : List ℕ) (v : Option V)
+    (c s : Siblings V) (ok : IsCanonical item (node l v c s)) where
   -- a prefix past the label
-  pub outside_past : (p : List ℕ) → IsBefore item l p → outside p (entries (node l v c s)) ≡ prefixed l (own v ++ entries c) ++ outside p (entries s)
-  outside_past p before = outside-append p (prefixed l (own v ++ entries c)) (entries s) ∙ ap (λ r. r ++ outside p (entries s)) (outside_all p _ (first_none item kind l v c s ok p before))
+  pub outside_past : (p : List ℕ) → IsBefore item l p
+      → outside p (entries (node l v c s)) ≡ prefixed l (own v ++ entries c) ++ outside p (entries s)
+  outside_past p before = outside-append p (prefixed l (own v ++ entries c)) (entries s) ∙ ap
+      (λ r. r ++ outside p (entries s)) (outside_all p _ (first_none item kind l v c s ok p before))
 
   -- one that goes on past the label
-  pub outside_deeper : (p t : List ℕ) → Passes item p l t → t ≢ [] → outside p (entries (node l v c s)) ≡ prefixed l (own v ++ outside t (entries c)) ++ entries s
+  pub outside_deeper : (p t : List ℕ) → Passes item p l t → t ≢ []
+      → outside p (entries (node l v c s)) ≡ prefixed l (own v ++ outside t (entries c)) ++ entries s
   outside_deeper p t passes some =
       outside-append p (prefixed l (own v ++ entries c)) (entries s)
       ∙ ap (λ r. outside p (prefixed l (own v ++ entries c)) ++ r) (outside_all p (entries s) (past_none item kind l v c s ok p passes.shares))
@@ -94,7 +109,8 @@ module _ (item : List ℕ → Type 0) (kind : IsKeyKind item) {V : Type 0} (l : 
       ∙ ap (λ r. r ++ entries s) (outside-prefixed l t (own v ++ entries c) ∙ ap (prefixed l) (outside_filled t some v (entries c)))
 
   -- one that begins the label
-  pub outside_first : (p : List ℕ) → SharesItem item p l → Begins p l → outside p (entries (node l v c s)) ≡ entries s
+  pub outside_first : (p : List ℕ) → SharesItem item p l → Begins p l
+      → outside p (entries (node l v c s)) ≡ entries s
   outside_first p share begun =
       outside-append p (prefixed l (own v ++ entries c)) (entries s)
       ∙ ap (λ r. outside p (prefixed l (own v ++ entries c)) ++ r) (outside_all p (entries s) (past_none item kind l v c s ok p share))

@@ -67,34 +67,44 @@ pub begins_other : (p k : List ℕ) → begins p k ≡ false → Begins p k → 
 begins_other p k none b = let some = begins_from p k b in absurd (cc)
 
 module _ {V : Type 0} where
-  pub under-append : (p : List ℕ) (xs ys : List (List ℕ × V)) → under p (xs ++ ys) ≡ under p xs ++ under p ys
+  pub under-append : (p : List ℕ) (xs ys : List (List ℕ × V))
+      → under p (xs ++ ys) ≡ under p xs ++ under p ys
   under-append p xs ys = filter-append _ xs ys
 
   -- the rows along a key, of two lists
-  pub along-append : (k : List ℕ) (xs ys : List (List ℕ × V)) → along k (xs ++ ys) ≡ along k xs ++ along k ys
+  pub along-append : (k : List ℕ) (xs ys : List (List ℕ × V))
+      → along k (xs ++ ys) ≡ along k xs ++ along k ys
   along-append k xs ys = filter-append _ xs ys
 
   -- a test that looks past a front
-  pub filter-prefixed : (f g : List ℕ → Bool) (l : List ℕ) → ((k : List ℕ) → f (l ++ k) ≡ g k) → (es : List (List ℕ × V)) → filter (λ e. f e.0) (prefixed l es) ≡ prefixed l (filter (λ e. g e.0) es)
+  pub filter-prefixed : (f g : List ℕ → Bool) (l : List ℕ) → ((k : List ℕ) → f (l ++ k) ≡ g k)
+      → (es : List (List ℕ × V))
+      → filter (λ e. f e.0) (prefixed l es) ≡ prefixed l (filter (λ e. g e.0) es)
   filter-prefixed f g l same [] = refl
   filter-prefixed f g l same (e ∷ es) =
       ap (λ b. cond b ((l ++ e.0, e.1) ∷ filter (λ e. f e.0) (prefixed l es)) (filter (λ e. f e.0) (prefixed l es))) (same e.0)
       ∙ ap (λ r. cond (g e.0) ((l ++ e.0, e.1) ∷ r) r) (filter-prefixed f g l same es)
-      ∙ elim (g e.0) as (λ b. cond b ((l ++ e.0, e.1) ∷ prefixed l (filter (λ e. g e.0) es)) (prefixed l (filter (λ e. g e.0) es)) ≡ prefixed l (cond b (e ∷ filter (λ e. g e.0) es) (filter (λ e. g e.0) es))) [
+      ∙ elim (g e.0) as
+      (λ b. cond b ((l ++ e.0, e.1) ∷ prefixed l (filter (λ e. g e.0) es))
+      (prefixed l (filter (λ e. g e.0) es)) ≡ prefixed l
+      (cond b (e ∷ filter (λ e. g e.0) es) (filter (λ e. g e.0) es))) [
         | true ↦ refl
         | false ↦ refl
       ]
 
   -- a front that both have goes before all answers
-  pub under-prefixed : (l p : List ℕ) (es : List (List ℕ × V)) → under (l ++ p) (prefixed l es) ≡ prefixed l (under p es)
+  pub under-prefixed : (l p : List ℕ) (es : List (List ℕ × V))
+      → under (l ++ p) (prefixed l es) ≡ prefixed l (under p es)
   under-prefixed l p es = filter-prefixed (begins (l ++ p)) (begins p) l (begins-front l p) es
 
   -- and below a common prefix
-  pub along-prefixed : (l k : List ℕ) (es : List (List ℕ × V)) → along (l ++ k) (prefixed l es) ≡ prefixed l (along k es)
+  pub along-prefixed : (l k : List ℕ) (es : List (List ℕ × V))
+      → along (l ++ k) (prefixed l es) ≡ prefixed l (along k es)
   along-prefixed l k es = filter-prefixed (λ q. begins q (l ++ k)) (λ q. begins q k) l (λ q. begins-front l q k) es
 
   -- all rows, or none
-  pub under_none : (p : List ℕ) (es : List (List ℕ × V)) → AllKeys (λ k. Begins p k → ⊥) es → under p es ≡ []
+  pub under_none : (p : List ℕ) (es : List (List ℕ × V)) → AllKeys (λ k. Begins p k → ⊥) es
+      → under p es ≡ []
   under_none p [] all = refl
   under_none p (e ∷ es) all = rw (begins_not p e.0 all.0) (under_none p es all.1)
 
@@ -104,11 +114,13 @@ module _ {V : Type 0} where
   under_all p (e ∷ es) all = rw (begins_from p e.0 all.0) (ap (λ r. e ∷ r) (under_all p es all.1))
 
   -- where no key is a prefix of the key, no row is along it
-  pub along_none : (k : List ℕ) (es : List (List ℕ × V)) → AllKeys (λ q. Begins q k → ⊥) es → along k es ≡ []
+  pub along_none : (k : List ℕ) (es : List (List ℕ × V)) → AllKeys (λ q. Begins q k → ⊥) es
+      → along k es ≡ []
   along_none k [] all = refl
   along_none k (e ∷ es) all = rw (begins_not e.0 k all.0) (along_none k es all.1)
 
-  AllKeys-follows : (P Q : List ℕ → Type 0) → ((k : List ℕ) → P k → Q k) → (es : List (List ℕ × V)) → AllKeys P es → AllKeys Q es
+  AllKeys-follows : (P Q : List ℕ → Type 0) → ((k : List ℕ) → P k → Q k) → (es : List (List ℕ × V))
+      → AllKeys P es → AllKeys Q es
   AllKeys-follows P Q follows [] all = tt
   AllKeys-follows P Q follows (e ∷ es) all = (follows e.0 all.0, AllKeys-follows P Q follows es all.1)
 
@@ -134,9 +146,11 @@ module _ {V : Type 0} where
   along_above : (q : List ℕ) (es : List (List ℕ × V)) → IsBelow q es → along q es ≡ []
   along_above q es above = along_none q es (AllKeys-follows (λ k. key_cmp q k ≡ Less) (λ k. Begins k q → ⊥) (λ k less b. not_above q k b less) es above)
 
-module _ (item : List ℕ → Type 0) (kind : IsKeyKind item) {V : Type 0} (l : List ℕ) (v : Option V) (c s : Siblings V) (ok : IsCanonical item (node l v c s)) where
+module _ (item : List ℕ → Type 0) (kind : IsKeyKind item) {V : Type 0} (l : List ℕ) (v : Option V)
+    (c s : Siblings V) (ok : IsCanonical item (node l v c s)) where
   -- along a key that the label begins
-  pub along_down : (t : List ℕ) → along (l ++ t) (entries (node l v c s)) ≡ prefixed l (own v ++ along t (entries c))
+  pub along_down : (t : List ℕ)
+      → along (l ++ t) (entries (node l v c s)) ≡ prefixed l (own v ++ along t (entries c))
   along_down t =
       along-append (l ++ t) (prefixed l (own v ++ entries c)) (entries s)
       ∙ ap (λ r. along (l ++ t) (prefixed l (own v ++ entries c)) ++ r) (along_above (l ++ t) (entries s) (below_row item kind l t s ok.sibling ok.rises))
@@ -145,17 +159,24 @@ module _ (item : List ℕ → Type 0) (kind : IsKeyKind item) {V : Type 0} (l : 
       ∙ ap (prefixed l) (along-append t (own v) (entries c) ∙ ap (λ r. r ++ along t (entries c)) (along_own t v))
 
   -- along another, past the node
-  pub along_past : (q : List ℕ) → (Begins l q → ⊥) → along q (entries (node l v c s)) ≡ along q (entries s)
+  pub along_past : (q : List ℕ) → (Begins l q → ⊥)
+      → along q (entries (node l v c s)) ≡ along q (entries s)
   along_past q other =
       along-append q (prefixed l (own v ++ entries c)) (entries s)
-      ∙ ap (λ r. r ++ along q (entries s)) (along_none q _ (AllKeys-prefixed (λ k. Begins k q → ⊥) l (λ t b. other (Begins-trans l (l ++ t) q (t, refl) b)) (own v ++ entries c)))
+      ∙ ap (λ r. r ++ along q (entries s))
+      (along_none q _
+      (AllKeys-prefixed (λ k. Begins k q → ⊥) l
+      (λ t b. other (Begins-trans l (l ++ t) q (t, refl) b)) (own v ++ entries c)))
 
   -- and none where the key is before the label
-  pub along_stop : (q : List ℕ) → (Begins l q → ⊥) → key_cmp q l ≡ Less → along q (entries (node l v c s)) ≡ []
+  pub along_stop : (q : List ℕ) → (Begins l q → ⊥) → key_cmp q l ≡ Less
+      → along q (entries (node l v c s)) ≡ []
   along_stop q other less =
       along_above q _ (AllKeys-append _ (prefixed l (own v ++ entries c)) (entries s)
       (AllKeys-prefixed _ l below (own v ++ entries c))
-      (AllKeys-follows (λ k. key_cmp (l ++ []) k ≡ Less) (λ k. key_cmp q k ≡ Less) (λ k more. nat_list_cmp_total.trans q l k less (rw append-nil at more)) (entries s) (below_row item kind l [] s ok.sibling ok.rises)))
+      (AllKeys-follows (λ k. key_cmp (l ++ []) k ≡ Less) (λ k. key_cmp q k ≡ Less)
+      (λ k more. nat_list_cmp_total.trans q l k less (rw append-nil at more)) (entries s)
+      (below_row item kind l [] s ok.sibling ok.rises)))
     where
       nonempty : (rest t : List ℕ) → rest ≢ [] → key_cmp [] (rest ++ t) ≡ Less
       nonempty [] t some = absurd (some refl)
@@ -172,14 +193,22 @@ module _ (item : List ℕ → Type 0) (kind : IsKeyKind item) {V : Type 0} (l : 
 
   -- under a prefix past the label, and before it
   pub first_none : (p : List ℕ) → IsBefore item l p → under p (prefixed l (own v ++ entries c)) ≡ []
-  first_none p before = under_none p _ (AllKeys-prefixed (λ k. Begins p k → ⊥) l (λ t b. key_cmp-irreflexive (l ++ t) (p ++ b.0) (sym b.1) (IsBefore-less item kind l p t b.0 before)) (own v ++ entries c))
+  first_none p before = under_none p _
+      (AllKeys-prefixed (λ k. Begins p k → ⊥) l
+      (λ t b. key_cmp-irreflexive (l ++ t) (p ++ b.0) (sym b.1)
+      (IsBefore-less item kind l p t b.0 before)) (own v ++ entries c))
 
   -- no row under a prefix is among siblings that come before it
-  pub under_past : (p : List ℕ) → IsBefore item l p → under p (entries (node l v c s)) ≡ under p (entries s)
+  pub under_past : (p : List ℕ) → IsBefore item l p
+      → under p (entries (node l v c s)) ≡ under p (entries s)
   under_past p before = under-append p (prefixed l (own v ++ entries c)) (entries s) ∙ ap (λ r. r ++ under p (entries s)) (first_none p before)
 
-  lacks : (p i k : List ℕ) → item i → Begins i k → Begins i p → (r : Siblings V) → IsCanonical item r → IsBeforeSiblings item k r → under p (entries r) ≡ []
-  lacks p i k is b d r canonical before = under_none p _ (AllKeys-follows (λ q. Begins i q → ⊥) (λ q. Begins p q → ⊥) (λ q none more. none (Begins-trans i p q d more)) (entries r) (lacks_item item kind None i k is b r canonical before))
+  lacks : (p i k : List ℕ) → item i → Begins i k → Begins i p → (r : Siblings V)
+      → IsCanonical item r → IsBeforeSiblings item k r → under p (entries r) ≡ []
+  lacks p i k is b d r canonical before = under_none p _
+      (AllKeys-follows (λ q. Begins i q → ⊥) (λ q. Begins p q → ⊥)
+      (λ q none more. none (Begins-trans i p q d more)) (entries r)
+      (lacks_item item kind None i k is b r canonical before))
 
   -- none is there where the prefix comes before all siblings
   pub under_before : (p : List ℕ) → IsBefore item p l → under p (entries (node l v c s)) ≡ []
@@ -190,7 +219,8 @@ module _ (item : List ℕ → Type 0) (kind : IsKeyKind item) {V : Type 0} (l : 
   past_none p share = lacks p share.shared l share.is_item share.begins_second share.begins_first s ok.sibling ok.rises
 
   -- under one that goes on past the label
-  pub under_through : (p t : List ℕ) → Passes item p l t → under p (entries (node l v c s)) ≡ prefixed l (under t (own v ++ entries c))
+  pub under_through : (p t : List ℕ) → Passes item p l t
+      → under p (entries (node l v c s)) ≡ prefixed l (under t (own v ++ entries c))
   under_through p t passes =
       under-append p (prefixed l (own v ++ entries c)) (entries s)
       ∙ ap (λ r. under p (prefixed l (own v ++ entries c)) ++ r) (past_none p passes.shares)
@@ -199,16 +229,19 @@ module _ (item : List ℕ → Type 0) (kind : IsKeyKind item) {V : Type 0} (l : 
       ∙ under-prefixed l t (own v ++ entries c)
 
   -- the rows under a prefix that passes a label are among the children
-  pub under_deeper : (p t : List ℕ) → Passes item p l t → t ≢ [] → under p (entries (node l v c s)) ≡ prefixed l (under t (entries c))
+  pub under_deeper : (p t : List ℕ) → Passes item p l t → t ≢ []
+      → under p (entries (node l v c s)) ≡ prefixed l (under t (entries c))
   under_deeper p t passes some =
       under_through p t passes ∙ ap (prefixed l) (under-append t (own v) (entries c) ∙ ap (λ r. r ++ under t (entries c)) (under_own t some v))
 
   -- at the node where it ends
-  pub under_here : (p : List ℕ) → Passes item p l [] → under p (entries (node l v c s)) ≡ prefixed l (own v ++ entries c)
+  pub under_here : (p : List ℕ) → Passes item p l []
+      → under p (entries (node l v c s)) ≡ prefixed l (own v ++ entries c)
   under_here p passes = under_through p [] passes ∙ ap (prefixed l) (under_empty (own v ++ entries c))
 
   -- in whose label it ends
-  pub under_within : (p : List ℕ) → SharesItem item p l → Begins p l → under p (entries (node l v c s)) ≡ prefixed l (own v ++ entries c)
+  pub under_within : (p : List ℕ) → SharesItem item p l → Begins p l
+      → under p (entries (node l v c s)) ≡ prefixed l (own v ++ entries c)
   under_within p share begun =
       under-append p (prefixed l (own v ++ entries c)) (entries s)
       ∙ ap (λ r. under p (prefixed l (own v ++ entries c)) ++ r) (past_none p share)
@@ -216,7 +249,8 @@ module _ (item : List ℕ → Type 0) (kind : IsKeyKind item) {V : Type 0} (l : 
       ∙ under_all p _ (AllKeys-prefixed (Begins p) l (λ t. Begins-trans p l (l ++ t) begun (t, refl)) (own v ++ entries c))
 
   -- and none where it ends beside the label
-  pub under_beside : (p : List ℕ) → SharesItem item p l → (Begins p l → ⊥) → (Begins l p → ⊥) → under p (entries (node l v c s)) ≡ []
+  pub under_beside : (p : List ℕ) → SharesItem item p l → (Begins p l → ⊥) → (Begins l p → ⊥)
+      → under p (entries (node l v c s)) ≡ []
   under_beside p share other longer =
       under-append p (prefixed l (own v ++ entries c)) (entries s)
       ∙ ap (λ r. r ++ under p (entries s)) (under_none p _ (AllKeys-prefixed (λ k. Begins p k → ⊥) l beside (own v ++ entries c)))
@@ -234,20 +268,26 @@ module _ {V : Type 0} where
   along_begin k [] = tt
   along_begin k (e ∷ es) = by (begins e.0 k) refl (along_begin k es)
     where
-      by : (b : Bool) → begins e.0 k ≡ b → AllKeys (λ q. Begins q k) (along k es) → AllKeys (λ q. Begins q k) (along k (e ∷ es))
+      by : (b : Bool) → begins e.0 k ≡ b → AllKeys (λ q. Begins q k) (along k es)
+          → AllKeys (λ q. Begins q k) (along k (e ∷ es))
       by true f rest = rw f (begins_is e.0 k f, rest)
       by false f rest = rw f rest
 
   -- the last of some rows is one of them
-  last_of : (P : List ℕ → Type 0) (o : Option (List ℕ × V)) (es : List (List ℕ × V)) (r : List ℕ × V) → AllKeys P es → ((x : List ℕ × V) → o ≡ Some x → P x.0) → last_or o es ≡ Some r → P r.0
+  last_of :
+      (P : List ℕ → Type 0) (o : Option (List ℕ × V)) (es : List (List ℕ × V)) (r : List ℕ × V)
+      → AllKeys P es → ((x : List ℕ × V) → o ≡ Some x → P x.0) → last_or o es ≡ Some r → P r.0
   last_of P o [] r all start e = start r e
   last_of P o (x ∷ es) r all start e = last_of P (Some x) es r all.1 (λ y same. let is : x ≡ y = cc in subst (λ z. P z.0) is all.0) e
 
   -- so does that of the longest
-  pub longest_begins : (k : List ℕ) (es : List (List ℕ × V)) (r : List ℕ × V) → longest k es ≡ Some r → Begins r.0 k
+  pub longest_begins : (k : List ℕ) (es : List (List ℕ × V)) (r : List ℕ × V)
+      → longest k es ≡ Some r → Begins r.0 k
   longest_begins k es r e = last_of (λ q. Begins q k) None (along k es) r (along_begin k es) (λ x none. absurd (cc)) e
 
   -- the key of the longest row is a prefix of the key
-  pub some_begins : {A : Type 0} (shows : A → List ℕ × V) (k : List ℕ) (es : List (List ℕ × V)) (o : Option A) → option_map shows o ≡ longest k es → IfSome o (λ x. Begins (shows x).0 k)
+  pub some_begins :
+      {A : Type 0} (shows : A → List ℕ × V) (k : List ℕ) (es : List (List ℕ × V)) (o : Option A)
+      → option_map shows o ≡ longest k es → IfSome o (λ x. Begins (shows x).0 k)
   some_begins shows k es None e = tt
   some_begins shows k es (Some x) e = longest_begins k es (shows x) (sym e)

@@ -19,11 +19,13 @@ pub record Reaches (item : List ℕ → Type 0) (S : List (List ℕ)) (q : List 
   pub within : n ≤ length q
   pub valid : IsValid item (take n q)
   pub met : (n ≡ 0) ⊎ ((k : List ℕ) × Has S k × Begins (take n q) k)
-  pub furthest : (k : List ℕ) (m : ℕ) → Has S k → m ≤ length q → IsValid item (take m q) → Begins (take m q) k → m ≤ n
+  pub furthest : (k : List ℕ) (m : ℕ) → Has S k → m ≤ length q → IsValid item (take m q)
+      → Begins (take m q) k → m ≤ n
 
 module _ (item : List ℕ → Type 0) where
   -- some valid bytes of a key are none, or begin with its first item
-  none_or_item : (q : List ℕ) (m : ℕ) → m ≤ length q → IsValid item (take m q) → (m ≡ 0) ⊎ ((i : List ℕ) × item i × Begins i (take m q))
+  none_or_item : (q : List ℕ) (m : ℕ) → m ≤ length q → IsValid item (take m q)
+      → (m ≡ 0) ⊎ ((i : List ℕ) × item i × Begins i (take m q))
   none_or_item q m within ([], ok, e) = inl (let none = ap length e in let long = length-take-le m q within in omega arith)
   none_or_item q m within (i ∷ is, ok, e) = inr (i, ok.0, (_, e))
 
@@ -39,7 +41,8 @@ module _ (item : List ℕ → Type 0) where
   reaches_end q = record { within = omega arith; valid = IsValid-nil item; met = inl refl; furthest = λ k m has within valid b. absurd has }
 
   -- the empty key changes nothing
-  pub reaches_own : {V : Type 0} (q : List ℕ) (v : Option V) (es : List (List ℕ × V)) (n : ℕ) → Reaches item (keys_of es) q n → Reaches item (keys_of (own v ++ es)) q n
+  pub reaches_own : {V : Type 0} (q : List ℕ) (v : Option V) (es : List (List ℕ × V)) (n : ℕ)
+      → Reaches item (keys_of es) q n → Reaches item (keys_of (own v ++ es)) q n
   reaches_own q None es n r = r
   reaches_own q (Some v) es n r = record {
     within = r.within;
@@ -63,23 +66,44 @@ module _ (item : List ℕ → Type 0) where
   pub reach_is : (S : List (List ℕ)) (q : List ℕ) (n : ℕ) → Reaches item S q n → IsReach item S q n
   reach_is S q n r = record { reached = by S r; furthest = λ k m has c. r.furthest k m has c.within c.valid c.begins }
     where
-      by : (S : List (List ℕ)) → Reaches item S q n → ((S ≡ []) × (n ≡ 0)) ⊎ ((k : List ℕ) × Has S k × IsCommon item q k n)
+      by : (S : List (List ℕ)) → Reaches item S q n
+          → ((S ≡ []) × (n ≡ 0)) ⊎ ((k : List ℕ) × Has S k × IsCommon item q k n)
       by [] r = elim r.met [
         | inl none ↦ inl (refl, none)
         | inr some ↦ absurd (some.1)
       ]
       by (x ∷ S) r = elim r.met [
-        | inl none ↦ inr (x, inl refl, record { within = r.within; valid = r.valid; begins = rw none (x, refl); greatest = λ m within valid b. r.furthest x m (inl refl) within valid b })
-        | inr some ↦ inr (some.0, some.1, record { within = r.within; valid = r.valid; begins = some.2; greatest = λ m within valid b. r.furthest some.0 m some.1 within valid b })
+        | inl none ↦ inr (
+          x,
+          inl refl,
+          record {
+            within = r.within;
+            valid = r.valid;
+            begins = rw none (x, refl);
+            greatest = λ m within valid b. r.furthest x m (inl refl) within valid b;
+          },
+        )
+        | inr some ↦ inr (
+          some.0,
+          some.1,
+          record {
+            within = r.within;
+            valid = r.valid;
+            begins = some.2;
+            greatest = λ m within valid b. r.furthest some.0 m some.1 within valid b;
+          },
+        )
       ]
 
-module _ (item : List ℕ → Type 0) (kind : IsKeyKind item) {V : Type 0} (l : List ℕ) (v : Option V) (c s : Siblings V) (ok : IsCanonical item (node l v c s)) (q : List ℕ) where
+module _ (item : List ℕ → Type 0) (kind : IsKeyKind item) {V : Type 0} (l : List ℕ) (v : Option V)
+    (c s : Siblings V) (ok : IsCanonical item (node l v c s)) (q : List ℕ) where
   -- the keys of the row
   abbrev S : List (List ℕ)
   S = keys_of (entries (node l v c s))
 
   -- no byte is common with a key that another first item begins
-  none_common : (i k : List ℕ) → item i → Begins i q → (Begins i k → ⊥) → (m : ℕ) → m ≤ length q → IsValid item (take m q) → Begins (take m q) k → m ≤ 0
+  none_common : (i k : List ℕ) → item i → Begins i q → (Begins i k → ⊥) → (m : ℕ) → m ≤ length q
+      → IsValid item (take m q) → Begins (take m q) k → m ≤ 0
   none_common i k is b other m within valid begun = elim (none_or_item item q m within valid) [
     | inl none ↦ omega arith
     | inr some ↦
@@ -88,7 +112,8 @@ module _ (item : List ℕ → Type 0) (kind : IsKeyKind item) {V : Type 0} (l : 
   ]
 
   -- past the label
-  pub reaches_past : IsBefore item l q → (n : ℕ) → Reaches item (keys_of (entries s)) q n → Reaches item S q n
+  pub reaches_past : IsBefore item l q → (n : ℕ) → Reaches item (keys_of (entries s)) q n
+      → Reaches item S q n
   reaches_past before n r = record {
     within = r.within;
     valid = r.valid;
@@ -99,7 +124,9 @@ module _ (item : List ℕ → Type 0) (kind : IsKeyKind item) {V : Type 0} (l : 
     furthest = λ k m has within valid b. elim (has_one l (own v ++ entries c) (entries s) k has) [
       | inl mine ↦
           let other : Begins before.second k → ⊥ = λ d.
-          let same = begins_same item kind before.first before.second k before.first_item before.second_item (Begins-trans before.first l k before.first_begins (mine.0, mine.1)) d in
+          let same = begins_same item kind before.first before.second k before.first_item
+          before.second_item
+          (Begins-trans before.first l k before.first_begins (mine.0, mine.1)) d in
           key_cmp-irreflexive before.first before.second same before.less in
           let none = none_common before.second k before.second_item before.second_begins other m within valid b in
           omega arith
@@ -115,15 +142,20 @@ module _ (item : List ℕ → Type 0) (kind : IsKeyKind item) {V : Type 0} (l : 
     met = inl refl;
     furthest = λ k m has within valid b.
         none_common before.first k before.first_item before.first_begins
-        (AllKeys-at (λ k. Begins before.first k → ⊥) (entries (node l v c s)) k (lacks_item item kind None before.first q before.first_item before.first_begins (node l v c s) ok before) has)
+        (AllKeys-at (λ k. Begins before.first k → ⊥) (entries (node l v c s)) k
+        (lacks_item item kind None before.first q before.first_item before.first_begins
+        (node l v c s) ok before) has)
         m within valid b;
   }
 
   -- the keys beside a label that shares the first item have no common byte
-  beside_none : SharesItem item q l → (k : List ℕ) → Has (keys_of (entries s)) k → (m : ℕ) → m ≤ length q → IsValid item (take m q) → Begins (take m q) k → m ≤ 0
+  beside_none : SharesItem item q l → (k : List ℕ) → Has (keys_of (entries s)) k → (m : ℕ)
+      → m ≤ length q → IsValid item (take m q) → Begins (take m q) k → m ≤ 0
   beside_none share k has m within valid b =
       none_common share.shared k share.is_item share.begins_first
-      (AllKeys-at (λ k. Begins share.shared k → ⊥) (entries s) k (lacks_item item kind None share.shared l share.is_item share.begins_second s ok.sibling ok.rises) has)
+      (AllKeys-at (λ k. Begins share.shared k → ⊥) (entries s) k
+      (lacks_item item kind None share.shared l share.is_item share.begins_second s ok.sibling
+      ok.rises) has)
       m within valid b
 
   -- into the label
@@ -145,13 +177,19 @@ module _ (item : List ℕ → Type 0) (kind : IsKeyKind item) {V : Type 0} (l : 
   }
 
   -- through the label
-  pub reaches_through : (t : List ℕ) → Passes item q l t → (n : ℕ) → Reaches item (keys_of (own v ++ entries c)) t n → Reaches item S q (length l + n)
+  pub reaches_through : (t : List ℕ) → Passes item q l t → (n : ℕ)
+      → Reaches item (keys_of (own v ++ entries c)) t n → Reaches item S q (length l + n)
   reaches_through t passes n r = record {
     within = omega (arith, r.within, total);
     valid = rw front (IsValid-append item l (take n t) ok.valid r.valid);
     met = elim r.met [
       | inl none ↦ let some = some_key item kind l v c s ok in inr (l ++ some.0, some.1, rw front (rw none (some.0, ap (λ p. p ++ some.0) (append-nil l))))
-      | inr some ↦ inr (l ++ some.0, has_prefixed l (own v ++ entries c) (entries s) some.0 some.1, rw front (some.2.0, append_assoc l (take n t) some.2.0 ∙ ap (λ p. l ++ p) some.2.1))
+      | inr some ↦ inr (
+        l ++ some.0,
+        has_prefixed l (own v ++ entries c) (entries s) some.0 some.1,
+        rw front
+            (some.2.0, append_assoc l (take n t) some.2.0 ∙ ap (λ p. l ++ p) some.2.1),
+      )
     ];
     furthest = λ k m has within valid b. elim (has_one l (own v ++ entries c) (entries s) k has) [
       | inl mine ↦ deeper mine.0 mine.2 m within valid (b.0, b.1 ∙ sym mine.1)
@@ -165,7 +203,8 @@ module _ (item : List ℕ → Type 0) (kind : IsKeyKind item) {V : Type 0} (l : 
       total : length q ≡ length l + length t
       total = ap length (sym passes.splits) ∙ length-append l t
 
-      deeper : (k : List ℕ) → Has (keys_of (own v ++ entries c)) k → (m : ℕ) → m ≤ length q → IsValid item (take m q) → Begins (take m q) (l ++ k) → m ≤ length l + n
+      deeper : (k : List ℕ) → Has (keys_of (own v ++ entries c)) k → (m : ℕ) → m ≤ length q
+          → IsValid item (take m q) → Begins (take m q) (l ++ k) → m ≤ length l + n
       deeper k has m within valid b = elim (cases_lt (length l) m) [
         | inl more ↦
             let d = m - length l in

@@ -18,7 +18,8 @@ use Rattle.patricia_model.proofs.PointLemmas.{nil_first}
 
 module _ {V : Type 0} where
   -- a key that is not there leaves nothing out
-  pub others_absent : (q : List ℕ) (es : List (List ℕ × V)) → AllKeys (λ k. q ≡ k → ⊥) es → others q es ≡ es
+  pub others_absent : (q : List ℕ) (es : List (List ℕ × V)) → AllKeys (λ k. q ≡ k → ⊥) es
+      → others q es ≡ es
   others_absent q [] h = refl
   others_absent q (e ∷ es) h = by (key_cmp q e.0) refl (others_absent q es h.1)
     where
@@ -28,61 +29,74 @@ module _ {V : Type 0} where
       by Greater f rest = rw f (ap (λ l. e ∷ l) rest)
 
   -- behind a common front
-  pub others-prefixed : (p q : List ℕ) (es : List (List ℕ × V)) → others (p ++ q) (prefixed p es) ≡ prefixed p (others q es)
+  pub others-prefixed : (p q : List ℕ) (es : List (List ℕ × V))
+      → others (p ++ q) (prefixed p es) ≡ prefixed p (others q es)
   others-prefixed p q [] = refl
   others-prefixed p q (e ∷ es) =
       ap (λ r. cond (not (is_eq r)) ((p ++ e.0, e.1) ∷ others (p ++ q) (prefixed p es)) (others (p ++ q) (prefixed p es))) (key_cmp-front p q e.0)
       ∙ ap (λ l. cond (not (is_eq (key_cmp q e.0))) ((p ++ e.0, e.1) ∷ l) l) (others-prefixed p q es)
-      ∙ elim (key_cmp q e.0) as (λ r. cond (not (is_eq r)) ((p ++ e.0, e.1) ∷ prefixed p (others q es)) (prefixed p (others q es)) ≡ prefixed p (cond (not (is_eq r)) (e ∷ others q es) (others q es))) [
+      ∙ elim (key_cmp q e.0) as
+      (λ r. cond (not (is_eq r)) ((p ++ e.0, e.1) ∷ prefixed p (others q es))
+      (prefixed p (others q es)) ≡ prefixed p
+      (cond (not (is_eq r)) (e ∷ others q es) (others q es))) [
         | Less ↦ refl
         | Equal ↦ refl
         | Greater ↦ refl
       ]
 
   -- what holds of each key holds of the others
-  pub AllKeys-others : (P : List ℕ → Type 0) (q : List ℕ) (es : List (List ℕ × V)) → AllKeys P es → AllKeys P (others q es)
+  pub AllKeys-others : (P : List ℕ → Type 0) (q : List ℕ) (es : List (List ℕ × V)) → AllKeys P es
+      → AllKeys P (others q es)
   AllKeys-others P q [] h = tt
   AllKeys-others P q (e ∷ es) h = by (key_cmp q e.0) refl (AllKeys-others P q es h.1)
     where
-      by : (r : Ordering) → key_cmp q e.0 ≡ r → AllKeys P (others q es) → AllKeys P (others q (e ∷ es))
+      by : (r : Ordering) → key_cmp q e.0 ≡ r → AllKeys P (others q es)
+          → AllKeys P (others q (e ∷ es))
       by Less f rest = rw f (h.0, rest)
       by Equal f rest = rw f rest
       by Greater f rest = rw f (h.0, rest)
 
 module _ (item : List ℕ → Type 0) (kind : IsKeyKind item) {V : Type 0} where
   -- without the empty key a node has the entries of its children left
-  pub others_own : (v : Option V) (c : Siblings V) → IsCanonical item c → others [] (own v ++ entries c) ≡ entries c
+  pub others_own : (v : Option V) (c : Siblings V) → IsCanonical item c
+      → others [] (own v ++ entries c) ≡ entries c
   others_own v c ok = by v (others_absent [] (entries c) (turn (entries c) (lacks_empty item kind None c ok)))
     where
       turn : (es : List (List ℕ × V)) → AllKeys (λ k. k ≡ [] → ⊥) es → AllKeys (λ k. [] ≡ k → ⊥) es
       turn [] h = tt
       turn (e ∷ es) h = (λ same. h.0 (sym same), turn es h.1)
 
-      by : (v : Option V) → others [] (entries c) ≡ entries c → others [] (own v ++ entries c) ≡ entries c
+      by : (v : Option V) → others [] (entries c) ≡ entries c
+          → others [] (own v ++ entries c) ≡ entries c
       by None h = h
       by (Some x) h = h
 
   -- another key is left out of the children
-  pub others_below : (t : List ℕ) (v : Option V) (c : Siblings V) → t ≢ [] → others t (own v ++ entries c) ≡ own v ++ others t (entries c)
+  pub others_below : (t : List ℕ) (v : Option V) (c : Siblings V) → t ≢ []
+      → others t (own v ++ entries c) ≡ own v ++ others t (entries c)
   others_below t None c nonempty = refl
   others_below [] (Some x) c nonempty = absurd (nonempty refl)
   others_below (b ∷ t) (Some x) c nonempty = refl
 
   -- a node without value earns its place by two children
-  pub earns_by_width : (l : List ℕ) (v : Option V) (c : Siblings V) → (v ≡ None → 2 ≤ width c) → EarnsWithin item None l v c
+  pub earns_by_width : (l : List ℕ) (v : Option V) (c : Siblings V) → (v ≡ None → 2 ≤ width c)
+      → EarnsWithin item None l v c
   earns_by_width l (Some x) c two = tt
   earns_by_width l None end two = absurd (let h = two refl in omega arith)
   earns_by_width l None (node m w d end) two = absurd (let h = two refl in omega arith)
   earns_by_width l None (node m w d (node m' w' d' t')) two = tt
 
   -- a node without a value has two children at least
-  pub width_of_earned : (l : List ℕ) (c s : Siblings V) → IsCanonical item (node l None c s) → 2 ≤ width c
+  pub width_of_earned : (l : List ℕ) (c s : Siblings V) → IsCanonical item (node l None c s)
+      → 2 ≤ width c
   width_of_earned l end s ok = absurd ok.earns
   width_of_earned l (node m w d end) s ok = let first = first_of item m ok.child.valid ok.child.nonempty in absurd (ok.earns first.0 first.1 first.2 tt)
   width_of_earned l (node m w d (node m' w' d' t')) s ok = omega arith
 
   -- a lone child that is taken in
-  pub taken_in_row : (l : List ℕ) (v : Option V) (m : List ℕ) (w : Option V) (d s : Siblings V) → IsValid item l → l ≢ [] → IsBeforeSiblings item l s → IsCanonical item s → IsCanonical item (node m w d end) → IsCanonical item (node (l ++ m) w d s)
+  pub taken_in_row : (l : List ℕ) (v : Option V) (m : List ℕ) (w : Option V) (d s : Siblings V)
+      → IsValid item l → l ≢ [] → IsBeforeSiblings item l s → IsCanonical item s
+      → IsCanonical item (node m w d end) → IsCanonical item (node (l ++ m) w d s)
   taken_in_row l v m w d s valid nonempty rises ok child = record {
     valid = IsValid-append item l m valid child.valid;
     nonempty = λ none. nonempty (nil_first l m none);
@@ -98,23 +112,31 @@ module _ (item : List ℕ → Type 0) (kind : IsKeyKind item) {V : Type 0} where
       longer (node k u c t) h = IsBefore-longer_left item kind l k m h
 
   -- joined labels have the same entries
-  pub taken_in_entries : (l m : List ℕ) (w : Option V) (d s : Siblings V) → entries (node (l ++ m) w d s) ≡ prefixed l (entries (node m w d end)) ++ entries s
+  pub taken_in_entries : (l m : List ℕ) (w : Option V) (d s : Siblings V)
+      → entries (node (l ++ m) w d s) ≡ prefixed l (entries (node m w d end)) ++ entries s
   taken_in_entries l m w d s =
       ap (λ es. es ++ entries s) (sym (prefixed-prefixed l m (own w ++ entries d)) ∙ ap (prefixed l) (sym (append-nil (prefixed m (own w ++ entries d)))))
 
-module _ (item : List ℕ → Type 0) (kind : IsKeyKind item) {V : Type 0} (l : List ℕ) (v : Option V) (c s : Siblings V) (ok : IsCanonical item (node l v c s)) where
-  pub others_past : (q : List ℕ) → IsBefore item l q → others q (entries (node l v c s)) ≡ prefixed l (own v ++ entries c) ++ others q (entries s)
-  others_past q before = filter-append _ (prefixed l (own v ++ entries c)) (entries s) ∙ ap (λ es. es ++ others q (entries s)) (others_absent q _ (lacks_past item kind l v c s ok q before))
+module _ (item : List ℕ → Type 0) (kind : IsKeyKind item) {V : Type 0} (l : List ℕ) (v : Option V)
+    (c s : Siblings V) (ok : IsCanonical item (node l v c s)) where
+  pub others_past : (q : List ℕ) → IsBefore item l q
+      → others q (entries (node l v c s)) ≡ prefixed l (own v ++ entries c) ++ others q (entries s)
+  others_past q before = filter-append _ (prefixed l (own v ++ entries c)) (entries s) ∙ ap
+      (λ es. es ++ others q (entries s))
+      (others_absent q _ (lacks_past item kind l v c s ok q before))
 
   -- a removal of a key before all siblings changes nothing
-  pub others_before : (q : List ℕ) → IsBefore item q l → others q (entries (node l v c s)) ≡ entries (node l v c s)
+  pub others_before : (q : List ℕ) → IsBefore item q l
+      → others q (entries (node l v c s)) ≡ entries (node l v c s)
   others_before q before = others_absent q _ (lacks_before item kind l v c s ok q before)
 
   -- nor does one of a key that ends within a label
-  pub others_within : (q : List ℕ) (n : ℕ) → EndsWithin item q l n → others q (entries (node l v c s)) ≡ entries (node l v c s)
+  pub others_within : (q : List ℕ) (n : ℕ) → EndsWithin item q l n
+      → others q (entries (node l v c s)) ≡ entries (node l v c s)
   others_within q n ends = others_absent q _ (lacks_within item kind l v c s ok q n ends)
 
-  others_through : (q t : List ℕ) → Passes item q l t → others q (entries (node l v c s)) ≡ prefixed l (others t (own v ++ entries c)) ++ entries s
+  others_through : (q t : List ℕ) → Passes item q l t
+      → others q (entries (node l v c s)) ≡ prefixed l (others t (own v ++ entries c)) ++ entries s
   others_through q t passes =
       filter-append _ (prefixed l (own v ++ entries c)) (entries s)
       ∙ ap (λ es. others q (prefixed l (own v ++ entries c)) ++ es) (others_absent q _ (later_lacks item kind l v c s ok q passes.shares))
@@ -122,11 +144,14 @@ module _ (item : List ℕ → Type 0) (kind : IsKeyKind item) {V : Type 0} (l : 
       ∙ ap (λ es. es ++ entries s) (others-prefixed l t (own v ++ entries c))
 
   -- a removal at a node takes its value
-  pub others_here : (q t : List ℕ) → Passes item q l t → t ≡ [] → others q (entries (node l v c s)) ≡ prefixed l (entries c) ++ entries s
-  others_here q t passes none = others_through q t passes ∙ ap (λ es. prefixed l es ++ entries s) (ap (λ k. others k (own v ++ entries c)) none ∙ others_own item kind v c ok.child)
+  pub others_here : (q t : List ℕ) → Passes item q l t → t ≡ []
+      → others q (entries (node l v c s)) ≡ prefixed l (entries c) ++ entries s
+  others_here q t passes none = others_through q t passes ∙ ap (λ es. prefixed l es ++ entries s)
+      (ap (λ k. others k (own v ++ entries c)) none ∙ others_own item kind v c ok.child)
 
   -- and one past its label is a removal among the children
-  pub others_deeper : (q t : List ℕ) → Passes item q l t → t ≢ [] → others q (entries (node l v c s)) ≡ prefixed l (own v ++ others t (entries c)) ++ entries s
+  pub others_deeper : (q t : List ℕ) → Passes item q l t → t ≢ []
+      → others q (entries (node l v c s)) ≡ prefixed l (own v ++ others t (entries c)) ++ entries s
   others_deeper q t passes nonempty = others_through q t passes ∙ ap (λ es. prefixed l es ++ entries s) (others_below item kind t v c nonempty)
 
 module _ (item : List ℕ → Type 0) (kind : IsKeyKind item) where
@@ -134,7 +159,16 @@ module _ (item : List ℕ → Type 0) (kind : IsKeyKind item) where
   passes_whole : (l q : List ℕ) → IsValid item l → l ≢ [] → l ≡ q → Passes item q l []
   passes_whole l q valid nonempty e =
       let first = first_of item l valid nonempty in
-      record { shares = record { shared = first.0; is_item = first.1; begins_first = subst (Begins first.0) e first.2; begins_second = first.2 }; splits = append-nil l ∙ e }
+      record {
+        shares =
+            record {
+              shared = first.0;
+              is_item = first.1;
+              begins_first = subst (Begins first.0) e first.2;
+              begins_second = first.2;
+            };
+        splits = append-nil l ∙ e;
+      }
 
 -- the key was that of the first node
 module _ (item : List ℕ → Type 0) (kind : IsKeyKind item) {V : Type 0} where
@@ -143,20 +177,33 @@ module _ (item : List ℕ → Type 0) (kind : IsKeyKind item) {V : Type 0} where
   row_first_removed (node l None c s) ok = ok
   row_first_removed (node l (Some x) end s) ok = ok.sibling
   row_first_removed (node l (Some x) (node m w d end) s) ok = taken_in_row item kind l (Some x) m w d s ok.valid ok.nonempty ok.rises ok.sibling ok.child
-  row_first_removed (node l (Some x) (node m w d (node m' w' d' t')) s) ok = record { valid = ok.valid; nonempty = ok.nonempty; fits = tt; earns = tt; rises = ok.rises; child = ok.child; sibling = ok.sibling }
+  row_first_removed (node l (Some x) (node m w d (node m' w' d' t')) s) ok =
+      record {
+        valid = ok.valid;
+        nonempty = ok.nonempty;
+        fits = tt;
+        earns = tt;
+        rises = ok.rises;
+        child = ok.child;
+        sibling = ok.sibling;
+      }
 
-  left_first : (l : List ℕ) (v : Option V) (c s : Siblings V) → IsCanonical item (node l v c s) → entries (without_first (node l v c s)) ≡ prefixed l (entries c) ++ entries s
+  left_first : (l : List ℕ) (v : Option V) (c s : Siblings V) → IsCanonical item (node l v c s)
+      → entries (without_first (node l v c s)) ≡ prefixed l (entries c) ++ entries s
   left_first l None c s ok = refl
   left_first l (Some x) end s ok = refl
   left_first l (Some x) (node m w d end) s ok = taken_in_entries item kind l m w d s
   left_first l (Some x) (node m w d (node m' w' d' t')) s ok = refl
 
   -- the entries of siblings whose first node lost its value
-  pub entries_first_removed : (l : List ℕ) (v : Option V) (c s : Siblings V) (ok : IsCanonical item (node l v c s)) (q t : List ℕ) → Passes item q l t → t ≡ [] → entries (without_first (node l v c s)) ≡ others q (entries (node l v c s))
+  pub entries_first_removed : (l : List ℕ) (v : Option V) (c s : Siblings V)
+      (ok : IsCanonical item (node l v c s)) (q t : List ℕ) → Passes item q l t → t ≡ []
+      → entries (without_first (node l v c s)) ≡ others q (entries (node l v c s))
   entries_first_removed l v c s ok q t passes none = left_first l v c s ok ∙ sym (others_here item kind l v c s ok q t passes none)
 
   -- what is left of two children, where one was the leaf at the key
-  pub survivor : (t : List ℕ) (c : Siblings V) (m : List ℕ) → IsCanonical item c → LeavesAlone t c m → (w : Option V) × (d : Siblings V) × IsCanonical item (node m w d end) × (entries (node m w d end) ≡ others t (entries c))
+  pub survivor : (t : List ℕ) (c : Siblings V) (m : List ℕ) → IsCanonical item c → LeavesAlone t c m
+      → (w : Option V) × (d : Siblings V) × IsCanonical item (node m w d end) × (entries (node m w d end) ≡ others t (entries c))
   survivor t end m ok alone = absurd alone
   survivor t (node a v ca end) m ok alone = absurd alone
   survivor t (node a v ca (node b w cb (node b' w' cb' s'))) m ok alone = absurd alone
@@ -169,6 +216,20 @@ module _ (item : List ℕ → Type 0) (kind : IsKeyKind item) {V : Type 0} where
         let left = others_past item kind a v ca (node b w cb end) ok t (subst (IsBefore item a) h.0 ok.rises) in
         let here = others_here item kind b w cb end ok.sibling t [] (passes_whole item kind b t ok.sibling.valid ok.sibling.nonempty h.0) refl in
         let gone = ap (λ (r : Siblings V). prefixed b (entries r) ++ []) h.1 in
-        let first : IsCanonical item (node a v ca end) = record { valid = ok.valid; nonempty = ok.nonempty; fits = tt; earns = ok.earns; rises = tt; child = ok.child; sibling = tt } in
-        (v, ca, subst (λ k. IsCanonical item (node k v ca end)) (sym h.2) first, ap (λ k. entries (node k v ca end)) h.2 ∙ sym (left ∙ ap (λ es. prefixed a (own v ++ entries ca) ++ es) (here ∙ gone)))
+        let first : IsCanonical item (node a v ca end) = record {
+          valid = ok.valid;
+          nonempty = ok.nonempty;
+          fits = tt;
+          earns = ok.earns;
+          rises = tt;
+          child = ok.child;
+          sibling = tt;
+        } in (
+          v,
+          ca,
+          subst (λ k. IsCanonical item (node k v ca end)) (sym h.2) first,
+          ap
+              (λ k. entries (node k v ca end)) h.2 ∙ sym
+              (left ∙ ap (λ es. prefixed a (own v ++ entries ca) ++ es) (here ∙ gone)),
+        )
   ]

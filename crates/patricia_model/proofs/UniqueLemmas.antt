@@ -8,7 +8,9 @@ use Rattle.patricia_model.proofs.RowLemmas.{AllKeys, AllKeys-left, AllKeys-right
 
 module _ {V : Type 0} where
   -- where a fact holds of the first entries alone, they end at one place
-  pub split_once : (P : List ℕ → Type 0) (xs ys us vs : List (List ℕ × V)) → AllKeys P xs → AllKeys (λ k. P k → ⊥) ys → AllKeys P us → AllKeys (λ k. P k → ⊥) vs → xs ++ ys ≡ us ++ vs → (xs ≡ us) × (ys ≡ vs)
+  pub split_once : (P : List ℕ → Type 0) (xs ys us vs : List (List ℕ × V)) → AllKeys P xs
+      → AllKeys (λ k. P k → ⊥) ys → AllKeys P us → AllKeys (λ k. P k → ⊥) vs → xs ++ ys ≡ us ++ vs
+      → (xs ≡ us) × (ys ≡ vs)
   split_once P [] ys [] vs a b c d e = (refl, e)
   split_once P [] [] (u ∷ us) vs a b c d e = absurd (cc)
   split_once P [] (y ∷ ys) (u ∷ us) vs a b c d e = absurd (b.0 (subst P (let same : u.0 ≡ y.0 = cc in same) c.0))
@@ -22,7 +24,8 @@ module _ {V : Type 0} where
       (cc, rest.1)
 
   -- the bytes before the keys cancel
-  pub prefixed_cancel : (p : List ℕ) (xs ys : List (List ℕ × V)) → prefixed p xs ≡ prefixed p ys → xs ≡ ys
+  pub prefixed_cancel : (p : List ℕ) (xs ys : List (List ℕ × V)) → prefixed p xs ≡ prefixed p ys
+      → xs ≡ ys
   prefixed_cancel p [] [] e = refl
   prefixed_cancel p [] (y ∷ ys) e = absurd (cc)
   prefixed_cancel p (x ∷ xs) [] e = absurd (cc)
@@ -54,7 +57,9 @@ Fits-shorter (Some most) n m le fit = omega arith
 
 module _ (item : List ℕ → Type 0) (kind : IsKeyKind item) (limit : Option ℕ) {V : Type 0} where
   -- a node of a row stands for at least one entry
-  pub has_entry : (l : List ℕ) (v : Option V) (c s : Siblings V) → IsCanonicalWithin item limit (node l v c s) → (e : List ℕ × V) × (es : List (List ℕ × V)) × (own v ++ entries c ≡ e ∷ es)
+  pub has_entry : (l : List ℕ) (v : Option V) (c s : Siblings V)
+      → IsCanonicalWithin item limit (node l v c s)
+      → (e : List ℕ × V) × (es : List (List ℕ × V)) × (own v ++ entries c ≡ e ∷ es)
   has_entry l (Some x) c s ok = (([], x), entries c, refl)
   has_entry l None end s ok = absurd ok.earns
   has_entry l None (node l' v' c' s') s ok =
@@ -62,7 +67,9 @@ module _ (item : List ℕ → Type 0) (kind : IsKeyKind item) (limit : Option �
       ((l' ++ below.0.0, below.0.1), prefixed l' below.1 ++ entries s', ap (λ es. prefixed l' es ++ entries s') below.2)
 
   -- where each key of a node begins with one item, the node has a longer label
-  meets : (i : List ℕ) → item i → (l : List ℕ) (v : Option V) (c s : Siblings V) → IsCanonicalWithin item limit (node l v c s) → AllKeys (λ k. Begins i k) (prefixed l (own v ++ entries c)) → Begins i l
+  meets : (i : List ℕ) → item i → (l : List ℕ) (v : Option V) (c s : Siblings V)
+      → IsCanonicalWithin item limit (node l v c s)
+      → AllKeys (λ k. Begins i k) (prefixed l (own v ++ entries c)) → Begins i l
   meets i p l v c s ok all =
       let some = has_entry l v c s ok in
       let first = first_of item l ok.valid ok.nonempty in
@@ -71,7 +78,9 @@ module _ (item : List ℕ → Type 0) (kind : IsKeyKind item) (limit : Option �
       rw same first.2
 
   -- where the label has room for an item, not every key below the node begins with it
-  pub branches : (i : List ℕ) → item i → (l : List ℕ) (v : Option V) (c s : Siblings V) → IsCanonicalWithin item limit (node l v c s) → Fits limit (length (l ++ i)) → AllKeys (λ k. Begins i k) (own v ++ entries c) → ⊥
+  pub branches : (i : List ℕ) → item i → (l : List ℕ) (v : Option V) (c s : Siblings V)
+      → IsCanonicalWithin item limit (node l v c s) → Fits limit (length (l ++ i))
+      → AllKeys (λ k. Begins i k) (own v ++ entries c) → ⊥
   branches i p l (Some x) c s ok room all = item-nonempty item kind i p (none i all.0.0 all.0.1)
     where
       none : (a b : List ℕ) → a ++ b ≡ [] → a ≡ []
@@ -91,16 +100,31 @@ module _ (item : List ℕ → Type 0) (kind : IsKeyKind item) (limit : Option �
       key_cmp-irreflexive before.first before.second (sym same1 ∙ same2) before.less
 
   -- the label is the longest key that begins them all
-  no_longer : (l d : List ℕ) (v : Option V) (c s : Siblings V) (es : List (List ℕ × V)) → IsCanonicalWithin item limit (node l v c s) → IsValid item (l ++ d) → Fits limit (length (l ++ d)) → prefixed l (own v ++ entries c) ≡ prefixed (l ++ d) es → d ≡ []
+  no_longer : (l d : List ℕ) (v : Option V) (c s : Siblings V) (es : List (List ℕ × V))
+      → IsCanonicalWithin item limit (node l v c s) → IsValid item (l ++ d)
+      → Fits limit (length (l ++ d)) → prefixed l (own v ++ entries c) ≡ prefixed (l ++ d) es
+      → d ≡ []
   no_longer l [] v c s es ok valid room e = refl
   no_longer l (x ∷ d) v c s es ok valid room e =
       let first = first_of item (x ∷ d) (valid_rest item kind l (x ∷ d) ok.valid valid) (λ none. cc) in
       let inner = prefixed_cancel l (own v ++ entries c) (prefixed (x ∷ d) es) (e ∙ sym (prefixed-prefixed l (x ∷ d) es)) in
-      let room' : length (l ++ first.0) ≤ length (l ++ (x ∷ d)) = omega (arith, length-append l first.0, length-append l (x ∷ d), length-append first.0 first.2.0, ap length first.2.1) in
-      absurd (branches first.0 first.1 l v c s ok (Fits-shorter limit _ _ room' room) (subst (AllKeys (λ k. Begins first.0 k)) (sym inner) (AllKeys-prefixed _ (x ∷ d) (λ t. Begins-trans first.0 (x ∷ d) _ first.2 (t, refl)) es)))
+      let room' : length (l ++ first.0) ≤ length (l ++ (x ∷ d)) = omega (
+        arith,
+        length-append l first.0,
+        length-append l (x ∷ d),
+        length-append first.0
+            first.2.0,
+        ap length first.2.1,
+      ) in
+      absurd (branches first.0 first.1 l v c s ok (Fits-shorter limit _ _ room' room)
+      (subst (AllKeys (λ k. Begins first.0 k)) (sym inner)
+      (AllKeys-prefixed _ (x ∷ d) (λ t. Begins-trans first.0 (x ∷ d) _ first.2 (t, refl)) es)))
 
   -- the groups of the first nodes of two rows are the same
-  groups : (l m : List ℕ) (v w : Option V) (c d s t : Siblings V) → IsCanonicalWithin item limit (node l v c s) → IsCanonicalWithin item limit (node m w d t) → entries (node l v c s) ≡ entries (node m w d t) → (prefixed l (own v ++ entries c) ≡ prefixed m (own w ++ entries d)) × (entries s ≡ entries t)
+  groups : (l m : List ℕ) (v w : Option V) (c d s t : Siblings V)
+      → IsCanonicalWithin item limit (node l v c s) → IsCanonicalWithin item limit (node m w d t)
+      → entries (node l v c s) ≡ entries (node m w d t)
+      → (prefixed l (own v ++ entries c) ≡ prefixed m (own w ++ entries d)) × (entries s ≡ entries t)
   groups l m v w c d s t ok ok' e =
       let some = has_entry l v c s ok in
       let some' = has_entry m w d t ok' in
@@ -109,7 +133,10 @@ module _ (item : List ℕ → Type 0) (kind : IsKeyKind item) (limit : Option �
       let e' : prefixed l (some.0 ∷ some.1) ++ entries s ≡ prefixed m (some'.0 ∷ some'.1) ++ entries t = rw (some.2, some'.2) at e in
       let heads : ◌≡◌ {A = List ℕ × V} (l ++ some.0.0, some.0.1) (m ++ some'.0.0, some'.0.1) = cc in
       let keys = ap (λ (h : List ℕ × V). h.0) heads in
-      let one = begins_same item kind first.0 first'.0 (l ++ some.0.0) first.1 first'.1 (Begins-trans first.0 l _ first.2 (some.0.0, refl)) (subst (Begins first'.0) (sym keys) (Begins-trans first'.0 m _ first'.2 (some'.0.0, refl))) in
+      let one = begins_same item kind first.0 first'.0 (l ++ some.0.0) first.1 first'.1
+      (Begins-trans first.0 l _ first.2 (some.0.0, refl))
+      (subst (Begins first'.0) (sym keys)
+      (Begins-trans first'.0 m _ first'.2 (some'.0.0, refl))) in
       let begun : Begins first.0 m = rw one first'.2 in
       split_once (λ k. Begins first.0 k) _ (entries s) _ (entries t)
       (AllKeys-prefixed _ l (λ u. Begins-trans first.0 l _ first.2 (u, refl)) _)
@@ -119,7 +146,9 @@ module _ (item : List ℕ → Type 0) (kind : IsKeyKind item) (limit : Option �
       e
 
   -- so are their labels
-  labels : (l m : List ℕ) (v w : Option V) (c d s t : Siblings V) → IsCanonicalWithin item limit (node l v c s) → IsCanonicalWithin item limit (node m w d t) → prefixed l (own v ++ entries c) ≡ prefixed m (own w ++ entries d) → l ≡ m
+  labels : (l m : List ℕ) (v w : Option V) (c d s t : Siblings V)
+      → IsCanonicalWithin item limit (node l v c s) → IsCanonicalWithin item limit (node m w d t)
+      → prefixed l (own v ++ entries c) ≡ prefixed m (own w ++ entries d) → l ≡ m
   labels l m v w c d s t ok ok' e =
       let some = has_entry l v c s ok in
       let some' = has_entry m w d t ok' in
@@ -136,13 +165,18 @@ module _ (item : List ℕ → Type 0) (kind : IsKeyKind item) (limit : Option �
       ]
 
   -- and their values and the entries below them
-  pub insides : (v w : Option V) (c d : Siblings V) → IsCanonicalWithin item limit c → IsCanonicalWithin item limit d → own v ++ entries c ≡ own w ++ entries d → (v ≡ w) × (entries c ≡ entries d)
+  pub insides : (v w : Option V) (c d : Siblings V) → IsCanonicalWithin item limit c
+      → IsCanonicalWithin item limit d → own v ++ entries c ≡ own w ++ entries d
+      → (v ≡ w) × (entries c ≡ entries d)
   insides v w c d ok ok' e =
-      let parts = split_once (λ k. k ≡ []) (own v) (entries c) (own w) (entries d) (own_keys v) (lacks_empty item kind limit c ok) (own_keys w) (lacks_empty item kind limit d ok') e in
+      let parts = split_once (λ k. k ≡ []) (own v) (entries c) (own w) (entries d) (own_keys v)
+      (lacks_empty item kind limit c ok) (own_keys w) (lacks_empty item kind limit d ok') e
+      in
       (own_same v w parts.0, parts.1)
 
   -- canonical siblings with the same entries are the same
-  pub same_row : (r s : Siblings V) → IsCanonicalWithin item limit r → IsCanonicalWithin item limit s → entries r ≡ entries s → r ≡ s
+  pub same_row : (r s : Siblings V) → IsCanonicalWithin item limit r
+      → IsCanonicalWithin item limit s → entries r ≡ entries s → r ≡ s
   same_row end end ok ok' e = refl
   same_row end (node m w d t) ok ok' e =
       let some = has_entry m w d t ok' in

@@ -12,12 +12,14 @@ use Rattle.patricia_model.proofs.TreeLemmas.{keys_map}
 
 module _ (item : List ℕ → Type 0) {V : Type 0} where
   -- keys behind a valid label are valid
-  valid_behind : (l : List ℕ) → IsValid item l → (es : List (List ℕ × V)) → AllKeys (IsValid item) es → AllKeys (IsValid item) (prefixed l es)
+  valid_behind : (l : List ℕ) → IsValid item l → (es : List (List ℕ × V))
+      → AllKeys (IsValid item) es → AllKeys (IsValid item) (prefixed l es)
   valid_behind l valid [] all = tt
   valid_behind l valid (e ∷ es) all = (IsValid-append item l e.0 valid all.0, valid_behind l valid es all.1)
 
   -- so is the empty key
-  valid_own : (v : Option V) (es : List (List ℕ × V)) → AllKeys (IsValid item) es → AllKeys (IsValid item) (own v ++ es)
+  valid_own : (v : Option V) (es : List (List ℕ × V)) → AllKeys (IsValid item) es
+      → AllKeys (IsValid item) (own v ++ es)
   valid_own None es all = all
   valid_own (Some v) es all = (IsValid-nil item, all)
 
@@ -33,12 +35,15 @@ module _ (item : List ℕ → Type 0) {V : Type 0} where
   all_keys P (e ∷ es) all = All-cons P e.0 (keys_of es) all.0 (all_keys P es all.1)
 
 -- a fact of each member gives another that follows from it
-All-follows : {A : Type 0} (P Q : A → Type 0) → ((x : A) → P x → Q x) → (xs : List A) → All P xs → All Q xs
+All-follows : {A : Type 0} (P Q : A → Type 0) → ((x : A) → P x → Q x) → (xs : List A) → All P xs
+    → All Q xs
 All-follows P Q follows xs all = λ i d short. follows _ (all i d short)
 
-module _ (item : List ℕ → Type 0) (kind : IsKeyKind item) {V : Type 0} (v : Option V) (r : Siblings V) (ok : IsCanonical item r) where
+module _ (item : List ℕ → Type 0) (kind : IsKeyKind item) {V : Type 0} (v : Option V)
+    (r : Siblings V) (ok : IsCanonical item r) where
   pub keys_valid : All (IsValid item) (keys (map_of v r))
-  keys_valid = subst (All (IsValid item)) (sym (keys_map item kind v r ok)) (all_keys item (IsValid item) _ (valid_own item v (entries r) (valid_entries item r ok)))
+  keys_valid = subst (All (IsValid item)) (sym (keys_map item kind v r ok))
+      (all_keys item (IsValid item) _ (valid_own item v (entries r) (valid_entries item r ok)))
 
   -- each key of the map is a list of bytes
   pub keys_bytes : All (All (λ b. b < 256)) (keys (map_of v r))

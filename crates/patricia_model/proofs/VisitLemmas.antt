@@ -28,15 +28,32 @@ module _ (item : List ℕ → Type 0) (kind : IsKeyKind item) where
   less_once a b e f = let turned = key_cmp-turned a b e in cc
 
   -- where the earlier point stands in another set with the same parent, it cuts off there
-  moved : (S T : List (List ℕ)) (k q p : List ℕ) (cut : IsCutOff item S k q p) → IsPoint item T cut.earlier → IsParent item T cut.earlier q → IsCutOff item T k q p
-  moved S T k q p cut point parent = record { earlier = cut.earlier; point = point; parent = parent; before = cut.before; first = cut.first; second = cut.second; first_item = cut.first_item; second_item = cut.second_item; first_begins = cut.first_begins; second_begins = cut.second_begins; not_less = cut.not_less }
+  moved : (S T : List (List ℕ)) (k q p : List ℕ) (cut : IsCutOff item S k q p)
+      → IsPoint item T cut.earlier → IsParent item T cut.earlier q → IsCutOff item T k q p
+  moved S T k q p cut point parent = record {
+    earlier = cut.earlier;
+    point = point;
+    parent = parent;
+    before = cut.before;
+    first = cut.first;
+    second = cut.second;
+    first_item = cut.first_item;
+    second_item = cut.second_item;
+    first_begins = cut.first_begins;
+    second_begins = cut.second_begins;
+    not_less = cut.not_less;
+  }
 
   -- with the same filled keys the same is cut off
-  IsCutOff-same : (S T : List (List ℕ)) → Within S T → Within T S → (k q p : List ℕ) → IsCutOff item S k q p → IsCutOff item T k q p
-  IsCutOff-same S T w w' k q p cut = moved S T k q p cut (IsPoint-within item kind S T w cut.earlier cut.point) (IsParent-same item kind S T w w' cut.earlier q cut.parent)
+  IsCutOff-same : (S T : List (List ℕ)) → Within S T → Within T S → (k q p : List ℕ)
+      → IsCutOff item S k q p → IsCutOff item T k q p
+  IsCutOff-same S T w w' k q p cut = moved S T k q p cut
+      (IsPoint-within item kind S T w cut.earlier cut.point)
+      (IsParent-same item kind S T w w' cut.earlier q cut.parent)
 
   -- the empty key counts for nothing
-  pub IsVisited-same : (S T : List (List ℕ)) → Within S T → Within T S → (k p : List ℕ) → IsVisited item S k p → IsVisited item T k p
+  pub IsVisited-same : (S T : List (List ℕ)) → Within S T → Within T S → (k p : List ℕ)
+      → IsVisited item S k p → IsVisited item T k p
   IsVisited-same S T w w' k p v = record {
     point = IsPoint-within item kind S T w p v.point;
     parent = v.parent;
@@ -46,7 +63,8 @@ module _ (item : List ℕ → Type 0) (kind : IsKeyKind item) where
   }
 
   -- and the same is visited
-  pub AreVisits-same : (S T : List (List ℕ)) → Within S T → Within T S → (k : List ℕ) (ps : List (List ℕ)) → AreVisits item S k ps → AreVisits item T k ps
+  pub AreVisits-same : (S T : List (List ℕ)) → Within S T → Within T S
+      → (k : List ℕ) (ps : List (List ℕ)) → AreVisits item S k ps → AreVisits item T k ps
   AreVisits-same S T w w' k ps a = record {
     once = a.once;
     exactly = λ p. ((λ h. IsVisited-same S T w w' k p ((a.exactly p).0 h)), λ v. (a.exactly p).1 (IsVisited-same T S w' w k p v));
@@ -60,7 +78,8 @@ module _ (item : List ℕ → Type 0) (kind : IsKeyKind item) where
   pub empty_visits : (S : List (List ℕ)) → AreVisits item S [] []
   empty_visits S = record { once = tt; exactly = λ p. ((λ h. absurd h), λ v. v.begins.1 (nil_second v.parent v.begins.0 v.begins.2)) }
 
-module _ (item : List ℕ → Type 0) (kind : IsKeyKind item) (S G T : List (List ℕ)) (l : List ℕ) (split : Splits item S G T l) where
+module _ (item : List ℕ → Type 0) (kind : IsKeyKind item) (S G T : List (List ℕ)) (l : List ℕ)
+    (split : Splits item S G T l) where
   -- the label's parent is empty
   parent_label : IsParent item S l []
   parent_label = record { begins = (l, split.nonempty, refl); stands = inl refl; longest = λ r pt b. absurd (none_within item kind S G T l split r b pt) }
@@ -87,7 +106,8 @@ module _ (item : List ℕ → Type 0) (kind : IsKeyKind item) (S G T : List (Lis
   }
 
   -- and no others
-  parent_below_of : (p q : List ℕ) → p ≢ [] → IsParent item S (l ++ p) q → (r : List ℕ) × (l ++ r ≡ q) × IsParent item G p r
+  parent_below_of : (p q : List ℕ) → p ≢ [] → IsParent item S (l ++ p) q
+      → (r : List ℕ) × (l ++ r ≡ q) × IsParent item G p r
   parent_below_of p q nonempty a =
       elim (begins_either l q p a.begins.0 (sym a.begins.2)) [
         | inl t ↦ (t.0, t.1, below t.0 t.1)
@@ -108,7 +128,14 @@ module _ (item : List ℕ → Type 0) (kind : IsKeyKind item) (S G T : List (Lis
             | inr (inr pt') ↦ absurd (beside_apart item kind S G T l split q [] r pt' (append-nil q ∙ sym e))
           ]
         ];
-        longest = λ t pt b. omega (arith, a.longest (l ++ t) (point_below item kind S G T l split t pt) (BeginsProperly-behind l t p b), ap length e, length-append l t, length-append l r);
+        longest = λ t pt b. omega (
+          arith,
+          a.longest (l ++ t) (point_below item kind S G T l split t pt)
+              (BeginsProperly-behind l t p b),
+          ap length e,
+          length-append l t,
+          length-append l r,
+        );
       }
 
       whole : (d : List ℕ) → q ++ d ≡ l → (r : List ℕ) × (l ++ r ≡ q) × IsParent item G p r
@@ -123,7 +150,9 @@ module _ (item : List ℕ → Type 0) (kind : IsKeyKind item) (S G T : List (Lis
       | inl e ↦ inl e
       | inr pt' ↦ inr (point_beside item kind S G T l split q pt')
     ];
-    longest = λ r pt' b. let key = reaches item T p pt in a.longest r (point_beside_of item kind S G T l split r key.0 key.1 (Begins-trans r p key.0 (b.0, b.2) key.2) pt') b;
+    longest = λ r pt' b. let key = reaches item T p pt in a.longest r
+        (point_beside_of item kind S G T l split r key.0 key.1
+        (Begins-trans r p key.0 (b.0, b.2) key.2) pt') b;
   }
 
   -- and no others
@@ -132,14 +161,18 @@ module _ (item : List ℕ → Type 0) (kind : IsKeyKind item) (S G T : List (Lis
     begins = a.begins;
     stands = elim a.stands [
       | inl e ↦ inl e
-      | inr pt' ↦ let key = reaches item T p pt in inr (point_beside_of item kind S G T l split q key.0 key.1 (Begins-trans q p key.0 (a.begins.0, a.begins.2) key.2) pt')
+      | inr pt' ↦ let key = reaches item T p pt in inr
+          (point_beside_of item kind S G T l split q key.0 key.1
+          (Begins-trans q p key.0 (a.begins.0, a.begins.2) key.2) pt')
     ];
     longest = λ r pt' b. a.longest r (point_beside item kind S G T l split r pt') b;
   }
 
   -- the label comes before each point of T
   label_less : (p : List ℕ) → IsPoint item T p → key_cmp l p ≡ Less
-  label_less p pt = ap (key_cmp l) (sym (append-nil p)) ∙ ap (λ x. key_cmp x (p ++ [])) (sym (append-nil l)) ∙ IsBefore-less item kind l p [] [] (point_rises item kind S G T l split p pt)
+  label_less p pt = ap (key_cmp l) (sym (append-nil p)) ∙ ap (λ x. key_cmp x (p ++ []))
+      (sym (append-nil l)) ∙ IsBefore-less item kind l p [] []
+      (point_rises item kind S G T l split p pt)
 
   -- the label is always visited
   pub visit_label : (k : List ℕ) → k ≢ [] → IsVisited item S k l
@@ -176,7 +209,8 @@ module _ (item : List ℕ → Type 0) (kind : IsKeyKind item) (S G T : List (Lis
   }
 
   -- and only what is cut off in G
-  cut_below_of : (k q p : List ℕ) → IsCutOff item S (l ++ k) (l ++ q) (l ++ p) → IsCutOff item G k q p
+  cut_below_of : (k q p : List ℕ) → IsCutOff item S (l ++ k) (l ++ q) (l ++ p)
+      → IsCutOff item G k q p
   cut_below_of k q p cut = elim (point_cases item kind S G T l split cut.earlier cut.point) [
     | inl e ↦ absurd (split.nonempty (nil_first l q (parent_label_of (l ++ q) (subst (λ r. IsParent item S r (l ++ q)) (sym e) cut.parent))))
     | inr (inl t) ↦
@@ -196,7 +230,9 @@ module _ (item : List ℕ → Type 0) (kind : IsKeyKind item) (S G T : List (Lis
           second_begins = Begins-behind_of l (q ++ cut.second) k begins';
           not_less = cut.not_less;
         }
-    | inr (inr pt) ↦ absurd (beside_apart item kind S G T l split cut.earlier [] (q ++ cut.parent.begins.0) pt (append-nil cut.earlier ∙ sym cut.parent.begins.2 ∙ append_assoc l q cut.parent.begins.0))
+    | inr (inr pt) ↦ absurd
+        (beside_apart item kind S G T l split cut.earlier [] (q ++ cut.parent.begins.0) pt
+        (append-nil cut.earlier ∙ sym cut.parent.begins.2 ∙ append_assoc l q cut.parent.begins.0))
   ]
 
   -- a visit in G is one behind the label
@@ -210,7 +246,8 @@ module _ (item : List ℕ → Type 0) (kind : IsKeyKind item) (S G T : List (Lis
   }
 
   -- a visit behind the label goes through it
-  visit_below_of : (k p : List ℕ) → IsPoint item G p → IsVisited item S k (l ++ p) → (t : List ℕ) × (t ≢ []) × (l ++ t ≡ k) × IsVisited item G t p
+  visit_below_of : (k p : List ℕ) → IsPoint item G p → IsVisited item S k (l ++ p)
+      → (t : List ℕ) × (t ≢ []) × (l ++ t ≡ k) × IsVisited item G t p
   visit_below_of k p pt v =
       let parent = parent_below_of p v.parent pt.nonempty v.parent_of in
       let rest = v.begins.0 in
@@ -223,16 +260,22 @@ module _ (item : List ℕ → Type 0) (kind : IsKeyKind item) (S G T : List (Lis
           parent = parent.0;
           parent_of = parent.2;
           begins = (rest, v.begins.1, refl);
-          reached = λ cut. v.reached (subst (λ x. IsCutOff item S k x (l ++ p)) parent.1 (subst (λ x. IsCutOff item S x (l ++ parent.0) (l ++ p)) splits (cut_below (parent.0 ++ rest) parent.0 p cut)));
+          reached = λ cut. v.reached
+              (subst (λ x. IsCutOff item S k x (l ++ p)) parent.1
+              (subst (λ x. IsCutOff item S x (l ++ parent.0) (l ++ p)) splits
+              (cut_below (parent.0 ++ rest) parent.0 p cut)));
         },
       )
 
   -- what is cut off in T is so in S
   cut_beside : (k q p : List ℕ) → IsCutOff item T k q p → IsCutOff item S k q p
-  cut_beside k q p cut = moved item kind T S k q p cut (point_beside item kind S G T l split cut.earlier cut.point) (parent_beside cut.earlier q cut.point cut.parent)
+  cut_beside k q p cut = moved item kind T S k q p cut
+      (point_beside item kind S G T l split cut.earlier cut.point)
+      (parent_beside cut.earlier q cut.point cut.parent)
 
   -- where the search goes past the label, only what is cut off in T
-  cut_beside_of : (k q p : List ℕ) → IsBefore item l k → IsPoint item T p → Begins q p → IsCutOff item S k q p → IsCutOff item T k q p
+  cut_beside_of : (k q p : List ℕ) → IsBefore item l k → IsPoint item T p → Begins q p
+      → IsCutOff item S k q p → IsCutOff item T k q p
   cut_beside_of k q p before pt b cut = elim (point_cases item kind S G T l split cut.earlier cut.point) [
     | inl e ↦
         let none = parent_label_of q (subst (λ r. IsParent item S r q) (sym e) cut.parent) in
@@ -243,12 +286,15 @@ module _ (item : List ℕ → Type 0) (kind : IsKeyKind item) (S G T : List (Lis
         absurd (cut.not_less (ap (key_cmp cut.first) (sym same') ∙ ap (λ x. key_cmp x before.second) (sym same) ∙ before.less))
     | inr (inl t) ↦
         let parent = parent_below_of t.0 q t.2.nonempty (subst (λ r. IsParent item S r q) (sym t.1) cut.parent) in
-        absurd (beside_apart item kind S G T l split p [] (parent.0 ++ b.0) pt (append-nil p ∙ sym b.1 ∙ ap (λ x. x ++ b.0) (sym parent.1) ∙ append_assoc l parent.0 b.0))
+        absurd (beside_apart item kind S G T l split p [] (parent.0 ++ b.0) pt
+        (append-nil p ∙ sym b.1 ∙ ap (λ x. x ++ b.0) (sym parent.1) ∙ append_assoc l parent.0
+        b.0))
     | inr (inr pt') ↦ moved item kind S T k q p cut pt' (parent_beside_of cut.earlier q pt' cut.parent)
   ]
 
   -- a visit in T is then one in S
-  pub visit_beside : (k p : List ℕ) → IsBefore item l k → IsVisited item T k p → IsVisited item S k p
+  pub visit_beside : (k p : List ℕ) → IsBefore item l k → IsVisited item T k p
+      → IsVisited item S k p
   visit_beside k p before v = record {
     point = point_beside item kind S G T l split p v.point;
     parent = v.parent;
@@ -277,7 +323,10 @@ module _ (item : List ℕ → Type 0) (kind : IsKeyKind item) (S G T : List (Lis
         let point = point_beside_of item kind S G T l split q key.0 key.1 (Begins-trans q p key.0 (v.parent_of.begins.0, v.parent_of.begins.2) key.2) pt' in
         let before = point_rises item kind S G T l split q point in
         let same = begins_same item kind before.first stop.first l before.first_item stop.first_item before.first_begins stop.first_begins in
-        let same' = begins_same item kind before.second stop.second k before.second_item stop.second_item (Begins-trans before.second q k before.second_begins (v.begins.0, v.begins.2)) stop.second_begins in
+        let same' = begins_same item kind before.second stop.second k before.second_item
+        stop.second_item
+        (Begins-trans before.second q k before.second_begins (v.begins.0, v.begins.2))
+        stop.second_begins in
         stop.not_less (ap (key_cmp stop.first) (sym same') ∙ ap (λ x. key_cmp x before.second) (sym same) ∙ before.less)
   ]
     where
@@ -297,7 +346,11 @@ module _ (item : List ℕ → Type 0) (kind : IsKeyKind item) (S G T : List (Lis
       }
 
   -- a visit is at the label, or behind it, or beside it
-  visit_cases : (k p : List ℕ) → IsVisited item S k p → (l ≡ p) ⊎ (((r : List ℕ) × (l ++ r ≡ p) × ((t : List ℕ) × (t ≢ []) × (l ++ t ≡ k) × IsVisited item G t r)) ⊎ ((Matches item l k → ⊥) × IsVisited item T k p))
+  visit_cases : (k p : List ℕ) → IsVisited item S k p
+      → (l ≡ p) ⊎
+      (((r : List ℕ) × (l ++ r ≡ p) ×
+      ((t : List ℕ) × (t ≢ []) × (l ++ t ≡ k) × IsVisited item G t r)) ⊎
+      ((Matches item l k → ⊥) × IsVisited item T k p))
   visit_cases k p v = elim (point_cases item kind S G T l split p v.point) [
     | inl e ↦ inl e
     | inr (inl r) ↦ inr (inl (r.0, r.1, visit_below_of k r.0 r.2 (subst (IsVisited item S k) (sym r.1) v)))
@@ -305,7 +358,8 @@ module _ (item : List ℕ → Type 0) (kind : IsKeyKind item) (S G T : List (Lis
   ]
 
   -- the search stops at the label
-  pub visits_stop : (k : List ℕ) → k ≢ [] → Matches item l k → ((t : List ℕ) → t ≢ [] → l ++ t ≡ k → ⊥) → AreVisits item S k (l ∷ [])
+  pub visits_stop : (k : List ℕ) → k ≢ [] → Matches item l k
+      → ((t : List ℕ) → t ≢ [] → l ++ t ≡ k → ⊥) → AreVisits item S k (l ∷ [])
   visits_stop k nonempty stop short = record {
     once = ((λ h. h), tt);
     exactly = λ p. (
@@ -322,7 +376,8 @@ module _ (item : List ℕ → Type 0) (kind : IsKeyKind item) (S G T : List (Lis
   }
 
   -- it goes on past the label
-  pub visits_past : (k : List ℕ) (ps : List (List ℕ)) → k ≢ [] → IsBefore item l k → AreVisits item T k ps → AreVisits item S k (l ∷ ps)
+  pub visits_past : (k : List ℕ) (ps : List (List ℕ)) → k ≢ [] → IsBefore item l k
+      → AreVisits item T k ps → AreVisits item S k (l ∷ ps)
   visits_past k ps nonempty before later = record {
     once = ((λ h. beside_apart item kind S G T l split l [] [] ((later.exactly l).0 h).point refl), later.once);
     exactly = λ p. (
@@ -340,13 +395,21 @@ module _ (item : List ℕ → Type 0) (kind : IsKeyKind item) (S G T : List (Lis
     where
       elsewhere : (t : List ℕ) → l ++ t ≡ k → ⊥
       elsewhere t e =
-          let same = begins_same item kind before.first before.second k before.first_item before.second_item (Begins-trans before.first l k before.first_begins (t, e)) before.second_begins in
+          let same = begins_same item kind before.first before.second k before.first_item
+          before.second_item (Begins-trans before.first l k before.first_begins (t, e))
+          before.second_begins in
           key_cmp-irreflexive before.first before.second same before.less
 
   -- it goes on below the label
-  pub visits_through : (k t : List ℕ) (ps : List (List ℕ)) → t ≢ [] → l ++ t ≡ k → Matches item l k → AreVisits item G t ps → AreVisits item S k (l ∷ map (λ p. l ++ p) ps)
+  pub visits_through : (k t : List ℕ) (ps : List (List ℕ)) → t ≢ [] → l ++ t ≡ k → Matches item l k
+      → AreVisits item G t ps → AreVisits item S k (l ∷ map (λ p. l ++ p) ps)
   visits_through k t ps nonempty e stop deeper = record {
-    once = ((λ h. let r = Has-behind_of l ps l h in ((deeper.exactly r.0).0 r.2).point.nonempty (append_cancel_left l r.0 [] (r.1 ∙ sym (append-nil l)))), AreApart-behind l ps deeper.once);
+    once = (
+      (λ h. let r = Has-behind_of l ps l h in ((deeper.exactly r.0).0 r.2).point.nonempty
+          (append_cancel_left l r.0 [] (r.1 ∙ sym (append-nil l)))),
+      AreApart-behind l ps
+          deeper.once,
+    );
     exactly = λ p. (
       (λ h. elim h [
         | inl same ↦ subst (IsVisited item S k) same (visit_label k (λ none. split.nonempty (nil_first l t (e ∙ none))))

@@ -15,39 +15,46 @@ module _ {V : Type 0} where
   prefixed-nil (e ∷ es) = ap (λ r. e ∷ r) (prefixed-nil es)
 
   -- at its start a walk has the empty key's entry and those of the row left
-  pub left_start : (s : WalkState V) → s.path ≡ [] → s.stack ≡ [] → left s ≡ own s.pending ++ entries s.row
+  pub left_start : (s : WalkState V) → s.path ≡ [] → s.stack ≡ []
+      → left s ≡ own s.pending ++ entries s.row
   left_start s path stack =
       let es = own s.pending ++ entries s.row in
       ap (λ (p : List ℕ × List (ℕ × Siblings V)). prefixed p.0 es ++ waiting p.0 p.1) (both path stack) ∙ append-nil (prefixed [] es) ∙ prefixed-nil es
     where
-      both : {p : List ℕ} {q : List (ℕ × Siblings V)} → p ≡ [] → q ≡ [] → ◌≡◌ {A = List ℕ × List (ℕ × Siblings V)} (p, q) ([], [])
+      both : {p : List ℕ} {q : List (ℕ × Siblings V)} → p ≡ [] → q ≡ []
+          → ◌≡◌ {A = List ℕ × List (ℕ × Siblings V)} (p, q) ([], [])
       both a b = cc
 
   -- the row that waits last is walked first
-  waiting-snoc : (path : List ℕ) (fs : List (ℕ × Siblings V)) (n : ℕ) (r : Siblings V) → waiting path (fs ++ (n, r) ∷ []) ≡ prefixed (take n path) (entries r) ++ waiting path fs
+  waiting-snoc : (path : List ℕ) (fs : List (ℕ × Siblings V)) (n : ℕ) (r : Siblings V)
+      → waiting path (fs ++ (n, r) ∷ []) ≡ prefixed (take n path) (entries r) ++ waiting path fs
   waiting-snoc path [] n r = sym (append-nil (prefixed (take n path) (entries r)))
   waiting-snoc path (f ∷ fs) n r =
       ap (λ l. l ++ prefixed (take f.0 path) (entries f.1)) (waiting-snoc path fs n r)
       ∙ append_assoc (prefixed (take n path) (entries r)) (waiting path fs) (prefixed (take f.0 path) (entries f.1))
 
   -- a bound of all numbers, and of one more at the end
-  within_all-snoc : (m : ℕ) (fs : List (ℕ × Siblings V)) (n : ℕ) (r : Siblings V) → IsWithinAll m fs → m ≤ n → IsWithinAll m (fs ++ (n, r) ∷ [])
+  within_all-snoc : (m : ℕ) (fs : List (ℕ × Siblings V)) (n : ℕ) (r : Siblings V) → IsWithinAll m fs
+      → m ≤ n → IsWithinAll m (fs ++ (n, r) ∷ [])
   within_all-snoc m [] n r h le = (le, tt)
   within_all-snoc m (f ∷ fs) n r h le = (h.0, within_all-snoc m fs n r h.1 le)
 
   -- a bound of the last number, and of those before it
-  within_all-last : (m : ℕ) (fs : List (ℕ × Siblings V)) (n : ℕ) (r : Siblings V) → IsWithinAll m (fs ++ (n, r) ∷ []) → (m ≤ n) × IsWithinAll m fs
+  within_all-last : (m : ℕ) (fs : List (ℕ × Siblings V)) (n : ℕ) (r : Siblings V)
+      → IsWithinAll m (fs ++ (n, r) ∷ []) → (m ≤ n) × IsWithinAll m fs
   within_all-last m [] n r h = (h.0, tt)
   within_all-last m (f ∷ fs) n r h = let later = within_all-last m fs n r h.1 in (later.0, (h.0, later.1))
 
   -- one more row that waits adds its steps
-  steps_waiting-snoc : (fs : List (ℕ × Siblings V)) (n : ℕ) (r : Siblings V) → steps_waiting (fs ++ (n, r) ∷ []) ≡ steps_in r + steps_waiting fs
+  steps_waiting-snoc : (fs : List (ℕ × Siblings V)) (n : ℕ) (r : Siblings V)
+      → steps_waiting (fs ++ (n, r) ∷ []) ≡ steps_in r + steps_waiting fs
   steps_waiting-snoc [] n r = omega arith
   steps_waiting-snoc (f ∷ fs) n r = omega (arith, steps_waiting-snoc fs n r)
 
   -- a spot is made of its parts
-  state_is : (s : WalkState V) (path : List ℕ) (pending : Option V) (row : Siblings V) (stack : List (ℕ × Siblings V)) → s.path ≡ path → s.pending ≡ pending → s.row ≡ row → s.stack ≡ stack
-      → s ≡ record { path = path; pending = pending; row = row; stack = stack }
+  state_is : (s : WalkState V) (path : List ℕ) (pending : Option V) (row : Siblings V)
+      (stack : List (ℕ × Siblings V)) → s.path ≡ path → s.pending ≡ pending → s.row ≡ row
+      → s.stack ≡ stack → s ≡ record { path = path; pending = pending; row = row; stack = stack }
   state_is s path pending row stack a b c e =
       ap (λ (x : List ℕ). record { path = x; pending = s.pending; row = s.row; stack = s.stack }) a
       ∙ ap (λ (x : Option V). record { path = path; pending = x; row = s.row; stack = s.stack }) b
@@ -56,7 +63,8 @@ module _ {V : Type 0} where
 
 module _ (item : List ℕ → Type 0) {V : Type 0} where
   -- a longer path leaves the entries of the rows that wait
-  waiting-longer : (path l : List ℕ) (fs : List (ℕ × Siblings V)) → WaitsWithin item path fs → waiting (path ++ l) fs ≡ waiting path fs
+  waiting-longer : (path l : List ℕ) (fs : List (ℕ × Siblings V)) → WaitsWithin item path fs
+      → waiting (path ++ l) fs ≡ waiting path fs
   waiting-longer path l [] w = refl
   waiting-longer path l (f ∷ fs) w =
       let front = take-append-le f.0 path l w.within in
@@ -64,7 +72,8 @@ module _ (item : List ℕ → Type 0) {V : Type 0} where
       cc
 
   -- a longer path keeps them waiting
-  WaitsWithin-longer : (path l : List ℕ) (fs : List (ℕ × Siblings V)) → WaitsWithin item path fs → WaitsWithin item (path ++ l) fs
+  WaitsWithin-longer : (path l : List ℕ) (fs : List (ℕ × Siblings V)) → WaitsWithin item path fs
+      → WaitsWithin item (path ++ l) fs
   WaitsWithin-longer path l [] w = tt
   WaitsWithin-longer path l (f ∷ fs) w =
       let long = length-append path l in
@@ -77,11 +86,25 @@ module _ (item : List ℕ → Type 0) {V : Type 0} where
       }
 
   -- a row behind the whole path may wait too
-  WaitsWithin-push : (path : List ℕ) (fs : List (ℕ × Siblings V)) (r : Siblings V) → WaitsWithin item path fs → IsValid item path → IsCanonical item r → WaitsWithin item path (fs ++ (length path, r) ∷ [])
+  WaitsWithin-push : (path : List ℕ) (fs : List (ℕ × Siblings V)) (r : Siblings V)
+      → WaitsWithin item path fs → IsValid item path → IsCanonical item r
+      → WaitsWithin item path (fs ++ (length path, r) ∷ [])
   WaitsWithin-push path [] r w valid ok =
-      record { within = omega arith; below = tt; valid = subst (IsValid item) (sym (take_all (length path) path (omega arith))) valid; canonical = ok; rest = tt }
+      record {
+        within = omega arith;
+        below = tt;
+        valid = subst (IsValid item) (sym (take_all (length path) path (omega arith))) valid;
+        canonical = ok;
+        rest = tt;
+      }
   WaitsWithin-push path (f ∷ fs) r w valid ok =
-      record { within = w.within; below = within_all-snoc f.0 fs (length path) r w.below w.within; valid = w.valid; canonical = w.canonical; rest = WaitsWithin-push path fs r w.rest valid ok }
+      record {
+        within = w.within;
+        below = within_all-snoc f.0 fs (length path) r w.below w.within;
+        valid = w.valid;
+        canonical = w.canonical;
+        rest = WaitsWithin-push path fs r w.rest valid ok;
+      }
 
   -- the last row that waits, and the rows below it as they are behind its front
   record Last (path : List ℕ) (fs : List (ℕ × Siblings V)) (n : ℕ) (r : Siblings V) : Type 0 where
@@ -91,7 +114,8 @@ module _ (item : List ℕ → Type 0) {V : Type 0} where
     same : waiting (take n path) fs ≡ waiting path fs
 
   -- each last row is such
-  last_of : (path : List ℕ) (fs : List (ℕ × Siblings V)) (n : ℕ) (r : Siblings V) → WaitsWithin item path (fs ++ (n, r) ∷ []) → Last path fs n r
+  last_of : (path : List ℕ) (fs : List (ℕ × Siblings V)) (n : ℕ) (r : Siblings V)
+      → WaitsWithin item path (fs ++ (n, r) ∷ []) → Last path fs n r
   last_of path [] n r w = record { valid = w.valid; canonical = w.canonical; waits = tt; same = refl }
   last_of path (f ∷ fs) n r w =
       let later = last_of path fs n r w.rest in
@@ -102,23 +126,36 @@ module _ (item : List ℕ → Type 0) {V : Type 0} where
       record {
         valid = later.valid;
         canonical = later.canonical;
-        waits = record { within = omega (arith, w.within, below.0); below = below.1; valid = subst (IsValid item) (sym front) w.valid; canonical = w.canonical; rest = later.waits };
+        waits = record {
+          within = omega (arith, w.within, below.0);
+          below = below.1;
+          valid = subst (IsValid item) (sym front) w.valid;
+          canonical = w.canonical;
+          rest = later.waits;
+        };
         same = cc;
       }
 
   -- the entries that are left, before and after the step to the children
-  left-down : (path l : List ℕ) (v : Option V) (c s : Siblings V) (fs : List (ℕ × Siblings V)) → WaitsWithin item path fs → prefixed path (entries (node l v c s)) ++ waiting path fs ≡ prefixed (path ++ l) (own v ++ entries c) ++ waiting (path ++ l) (fs ++ (length path, s) ∷ [])
+  left-down : (path l : List ℕ) (v : Option V) (c s : Siblings V) (fs : List (ℕ × Siblings V))
+      → WaitsWithin item path fs
+      → prefixed path (entries (node l v c s)) ++ waiting path fs ≡ prefixed (path ++ l)
+      (own v ++ entries c) ++ waiting (path ++ l) (fs ++ (length path, s) ∷ [])
   left-down path l v c s fs w =
       let es = own v ++ entries c in
       let front : take (length path) (path ++ l) ≡ path = take_at path l (length path) refl in
       ap (λ r. r ++ waiting path fs) (prefixed-append path (prefixed l es) (entries s) ∙ ap (λ r. r ++ prefixed path (entries s)) (prefixed-prefixed path l es))
       ∙ append_assoc (prefixed (path ++ l) es) (prefixed path (entries s)) (waiting path fs)
-      ∙ ap (λ r. prefixed (path ++ l) es ++ r) (sym (waiting-snoc (path ++ l) fs (length path) s ∙ ap (λ k. prefixed k (entries s) ++ waiting (path ++ l) fs) front ∙ ap (λ r. prefixed path (entries s) ++ r) (waiting-longer path l fs w)))
+      ∙ ap (λ r. prefixed (path ++ l) es ++ r)
+      (sym (waiting-snoc (path ++ l) fs (length path) s ∙ ap
+      (λ k. prefixed k (entries s) ++ waiting (path ++ l) fs) front ∙ ap
+      (λ r. prefixed path (entries s) ++ r) (waiting-longer path l fs w)))
 
   -- the step to the children, where the rest of the row waits
   down : (path l : List ℕ) (v : Option V) (c s : Siblings V) (fs : List (ℕ × Siblings V))
       → IsWalkState item (record { path = path; pending = None; row = node l v c s; stack = fs })
-      → IsStep item (record { path = path; pending = None; row = node l v c s; stack = fs }) (record { path = path ++ l; pending = v; row = c; stack = fs ++ (length path, s) ∷ [] })
+      → IsStep item (record { path = path; pending = None; row = node l v c s; stack = fs })
+      (record { path = path ++ l; pending = v; row = c; stack = fs ++ (length path, s) ∷ [] })
   down path l v c s fs w = record {
     state = record {
       valid = IsValid-append item path l w.valid w.canonical.valid;
@@ -132,7 +169,8 @@ module _ (item : List ℕ → Type 0) {V : Type 0} where
   -- the step back to the row that waits last
   back : (path : List ℕ) (fs : List (ℕ × Siblings V)) (n : ℕ) (r : Siblings V)
       → IsWalkState item (record { path = path; pending = None; row = end; stack = fs ++ (n, r) ∷ [] })
-      → IsStep item (record { path = path; pending = None; row = end; stack = fs ++ (n, r) ∷ [] }) (record { path = take n path; pending = None; row = r; stack = fs })
+      → IsStep item (record { path = path; pending = None; row = end; stack = fs ++ (n, r) ∷ [] })
+      (record { path = take n path; pending = None; row = r; stack = fs })
   back path fs n r w =
       let last = last_of path fs n r w.waits in
       record {
@@ -143,9 +181,8 @@ module _ (item : List ℕ → Type 0) {V : Type 0} where
 
   -- the same two steps between any two spots
   pub step_down : (s t : WalkState V) (l : List ℕ) (v : Option V) (c r : Siblings V)
-      → IsWalkState item s → s.pending ≡ None → s.row ≡ node l v c r
-      → t.path ≡ s.path ++ l → t.pending ≡ v → t.row ≡ c → t.stack ≡ s.stack ++ (length s.path, r) ∷ []
-      → IsStep item s t
+      → IsWalkState item s → s.pending ≡ None → s.row ≡ node l v c r → t.path ≡ s.path ++ l
+      → t.pending ≡ v → t.row ≡ c → t.stack ≡ s.stack ++ (length s.path, r) ∷ [] → IsStep item s t
   step_down s t l v c r w pending row path' pending' row' stack' =
       let from = state_is s s.path None (node l v c r) s.stack refl pending row refl in
       let to = state_is t (s.path ++ l) v c (s.stack ++ (length s.path, r) ∷ []) path' pending' row' stack' in
@@ -162,7 +199,8 @@ module _ (item : List ℕ → Type 0) {V : Type 0} where
       subst (λ q. IsStep item q t) (sym from) (subst (IsStep item _) (sym to) (back s.path t.stack n r (subst (IsWalkState item) from w)))
 
   -- a row that is not empty has an entry
-  entries_filled : (l : List ℕ) (v : Option V) (c s : Siblings V) → IsCanonical item (node l v c s) → entries (node l v c s) ≢ []
+  entries_filled : (l : List ℕ) (v : Option V) (c s : Siblings V) → IsCanonical item (node l v c s)
+      → entries (node l v c s) ≢ []
   entries_filled l (Some x) c s ok = λ e. absurd (cc)
   entries_filled l None end s ok = absurd (ok.earns)
   entries_filled l None (node m v c t) s ok = child (entries (node m v c t)) (entries_filled m v c t ok.child)
@@ -172,12 +210,14 @@ module _ (item : List ℕ → Type 0) {V : Type 0} where
       child (x ∷ cs) nonempty = λ e. absurd (cc)
 
   -- where a node is next, an entry is left
-  pub left_filled : (s : WalkState V) (l : List ℕ) (v : Option V) (c r : Siblings V) → IsWalkState item s → s.row ≡ node l v c r → left s ≢ []
+  pub left_filled : (s : WalkState V) (l : List ℕ) (v : Option V) (c r : Siblings V)
+      → IsWalkState item s → s.row ≡ node l v c r → left s ≢ []
   left_filled s l v c r w row =
       subst (λ q. prefixed s.path (own s.pending ++ entries q) ++ waiting s.path s.stack ≢ []) (sym row)
       (by s.pending (entries (node l v c r)) (entries_filled l v c r (subst (IsCanonical item) row w.canonical)))
     where
-      by : (pending : Option V) (es : List (List ℕ × V)) → es ≢ [] → prefixed s.path (own pending ++ es) ++ waiting s.path s.stack ≢ []
+      by : (pending : Option V) (es : List (List ℕ × V)) → es ≢ []
+          → prefixed s.path (own pending ++ es) ++ waiting s.path s.stack ≢ []
       by None [] nonempty = absurd (nonempty refl)
       by None (x ∷ es) nonempty = λ e. absurd (cc)
       by (Some y) es nonempty = λ e. absurd (cc)

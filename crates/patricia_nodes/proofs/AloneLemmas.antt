@@ -24,12 +24,14 @@ some_not_none (Some x) e n = absurd (cc)
 
 module _ {V : Type 0} where
   -- a row without its last link
-  pub plan_end : (nodes : List (Node V)) (at : Option ℕ) (p : Plan V) → IsPlan nodes at p → at ≡ None → p ≡ Nil
+  pub plan_end : (nodes : List (Node V)) (at : Option ℕ) (p : Plan V) → IsPlan nodes at p
+      → at ≡ None → p ≡ Nil
   plan_end nodes at Nil w e = refl
   plan_end nodes at (Cell id l v c d) w e = let h = w.at_is in absurd (cc)
 
   -- a row with a next node has one more
-  pub plan_more : (nodes : List (Node V)) (at : Option ℕ) (p : Plan V) (id : ℕ) → IsPlan nodes at p → at ≡ Some id → 1 ≤ width (row p)
+  pub plan_more : (nodes : List (Node V)) (at : Option ℕ) (p : Plan V) (id : ℕ) → IsPlan nodes at p
+      → at ≡ Some id → 1 ≤ width (row p)
   plan_more nodes at Nil id w e = let h = w.at_is in absurd (cc)
   plan_more nodes at (Cell i l v c d) id w e = omega arith
 
@@ -48,7 +50,8 @@ module _ {V : Type 0} where
   AllBeside (InSibling id l v c ∷ fs) = AllBeside fs
   AllBeside (InChild id l v d ∷ fs) = ⊥
 
-  wide_beside : (near : List (Frame V)) (x : Plan V) → AllBeside near → width (row (fill near x)) ≡ length near + width (row x)
+  wide_beside : (near : List (Frame V)) (x : Plan V) → AllBeside near
+      → width (row (fill near x)) ≡ length near + width (row x)
   wide_beside [] x s = omega arith
   wide_beside (InSibling id l v c ∷ near) x s = omega (arith, wide_beside near (Cell id l v c x) s)
   wide_beside (InChild id l v d ∷ near) x s = absurd s
@@ -71,7 +74,19 @@ module _ {V : Type 0} where
   above [] u e = absurd (cc)
   above (InChild id l v d ∷ fs) u e =
       let same : id ≡ u = cc in
-      rw same (record { near = []; outer = fs; label = l; value = v; beside = d; sides = tt; is = refl; nonempty = λ x. refl; wide = λ x. omega arith; spares = λ x h none. let two = h none in omega arith })
+      rw same (record {
+        near = [];
+        outer = fs;
+        label = l;
+        value = v;
+        beside = d;
+        sides = tt;
+        is =
+            refl;
+        nonempty = λ x. refl;
+        wide = λ x. omega arith;
+        spares = λ x h none. let two = h none in omega arith;
+      })
   above (InSibling id l v c ∷ fs) u e =
       let up = above fs u e in
       record {
@@ -94,14 +109,17 @@ module _ {V : Type 0} where
   spares_top (InSibling id l v c ∷ fs) x e = spares_top fs (Cell id l v c x) e
 
   -- the second node of a row is there
-  pub second_within : {nodes : List (Node V)} {at : Option ℕ} {p : Plan V} {a b : ℕ} {n : Node V} → IsPlan nodes at p → at ≡ Some a → n ≡ get_or nodes a n → n.sibling ≡ Some b → b < length nodes
+  pub second_within : {nodes : List (Node V)} {at : Option ℕ} {p : Plan V} {a b : ℕ} {n : Node V}
+      → IsPlan nodes at p → at ≡ Some a → n ≡ get_or nodes a n → n.sibling ≡ Some b
+      → b < length nodes
   second_within {nodes} {at} {p} {a} {b} {n} w is reads next =
       let o = opened nodes at p a n w is reads in
       head_within nodes n.sibling o.sibling b o.sibling_plan next
 
   -- the two nodes of a row, as they are read
-  pub pair_is : {nodes : List (Node V)} {at : Option ℕ} {p : Plan V} {a b : ℕ} {n m : Node V} → IsPlan nodes at p → at ≡ Some a → n ≡ get_or nodes a n
-      → n.sibling ≡ Some b → m ≡ get_or nodes b m → m.sibling ≡ None → IsPair p a b
+  pub pair_is : {nodes : List (Node V)} {at : Option ℕ} {p : Plan V} {a b : ℕ} {n m : Node V}
+      → IsPlan nodes at p → at ≡ Some a → n ≡ get_or nodes a n → n.sibling ≡ Some b
+      → m ≡ get_or nodes b m → m.sibling ≡ None → IsPair p a b
   pair_is {nodes} {at} {p} {a} {b} {n} {m} w is reads next reads' last =
       let o = opened nodes at p a n w is reads in
       let o' = opened nodes n.sibling o.sibling b m o.sibling_plan next reads' in
@@ -109,8 +127,9 @@ module _ {V : Type 0} where
       (n.label, n.value, o.child, m.label, m.value, o'.child, o.is ∙ ap (Cell a n.label n.value o.child) (o'.is ∙ ap (Cell b m.label m.value o'.child) done))
 
   -- a third node is one too many
-  pub pair_not : {nodes : List (Node V)} {at : Option ℕ} {p : Plan V} {a b k : ℕ} {n m : Node V} → IsPlan nodes at p → at ≡ Some a → n ≡ get_or nodes a n
-      → n.sibling ≡ Some b → m ≡ get_or nodes b m → m.sibling ≡ Some k → width (row p) ≡ 2 → ⊥
+  pub pair_not : {nodes : List (Node V)} {at : Option ℕ} {p : Plan V} {a b k : ℕ} {n m : Node V}
+      → IsPlan nodes at p → at ≡ Some a → n ≡ get_or nodes a n → n.sibling ≡ Some b
+      → m ≡ get_or nodes b m → m.sibling ≡ Some k → width (row p) ≡ 2 → ⊥
   pair_not {nodes} {at} {p} {a} {b} {k} {n} {m} w is reads next reads' more two =
       let o = opened nodes at p a n w is reads in
       let o' = opened nodes n.sibling o.sibling b m o.sibling_plan next reads' in
@@ -119,7 +138,8 @@ module _ {V : Type 0} where
       let inner = ap (λ (x : Plan V). width (row x)) o'.is in
       absurd (omega (arith, some, outer, inner, two))
 
-module _ {item : List ℕ → Type 0} (kind : IsKeyKind item) {V : Type 0} {s : NodeArena V} {link_ref : LinkRef} {id : ℕ} {fs : List (Frame V)} {l : List ℕ}
+module _ {item : List ℕ → Type 0} (kind : IsKeyKind item) {V : Type 0} {s : NodeArena V}
+    {link_ref : LinkRef} {id : ℕ} {fs : List (Frame V)} {l : List ℕ}
     {v : Option V} {c d : Plan V} (at : StandsAt item s link_ref id fs l v c d) where
   -- no node is above
   pub alone_top : node_above link_ref ≡ None → Spares fs d
@@ -161,10 +181,13 @@ module _ {item : List ℕ → Type 0} (kind : IsKeyKind item) {V : Type 0} {s : 
       -- or it has not just two children
       pub alone_more : (width (row inside) ≡ 2 → ⊥) → Spares fs d
       alone_more not_two = up.spares d (λ none.
-          let two = width_of_earned item kind up.label (row inside) (row up.beside) (subst (λ (w : Option V). IsCanonical item (node up.label w (row inside) (row up.beside))) none upper_ok) in
+          let two = width_of_earned item kind up.label (row inside) (row up.beside)
+          (subst (λ (w : Option V). IsCanonical item
+          (node up.label w (row inside) (row up.beside))) none upper_ok) in
           more (width (row inside)) two not_two (up.wide (Cell id l v c d)))
         where
-          more : (k : ℕ) → 2 ≤ k → (k ≡ 2 → ⊥) → k ≡ length up.near + suc (width (row d)) → 2 ≤ length up.near + width (row d)
+          more : (k : ℕ) → 2 ≤ k → (k ≡ 2 → ⊥) → k ≡ length up.near + suc (width (row d))
+              → 2 ≤ length up.near + width (row d)
           more k two not_two e = elim (cases_lt 2 k) [ inl lt ↦ omega arith | inr le ↦ absurd (not_two (omega arith)) ]
 
       -- or it has
@@ -178,21 +201,52 @@ module _ {item : List ℕ → Type 0} (kind : IsKeyKind item) {V : Type 0} {s : 
         once : (i : ℕ) → count inside i ≤ 1
         once i = omega (arith, whole.1.once i, below_le (length s.nodes.items) i, count-fill up.outer (Cell u up.label up.value inside up.beside) i)
 
-        found : (near : List (Frame V)) → AllBeside near → fs ≡ near ++ InChild u up.label None up.beside ∷ up.outer
-            → ((i : ℕ) → count (fill near (Cell id l v c d)) i ≤ 1) → IsPair (fill near (Cell id l v c d)) a b
+        found : (near : List (Frame V)) → AllBeside near
+            → fs ≡ near ++ InChild u up.label None up.beside ∷ up.outer
+            → ((i : ℕ) → count (fill near (Cell id l v c d)) i ≤ 1)
+            → IsPair (fill near (Cell id l v c d)) a b
             → (a ≡ id → LeavesOther fs d u b) × ((a ≡ id → ⊥) → LeavesOther fs d u a)
         found [] sides is only (la, va, ca, lb, vb, cb, p) =
             let first : id ≡ a = ap (λ (x : Plan V). id_of id x) p in
-            let rest : d ≡ Cell b lb vb cb Nil = ap (λ (x : Plan V). next_of d x) p in
-            (λ e. record { outer = up.outer; label = up.label; beside = up.beside; inner = lb; own = vb; below = cb; stands = inl (is, rest) }, λ no. absurd (no (sym first)))
+            let rest : d ≡ Cell b lb vb cb Nil = ap (λ (x : Plan V). next_of d x) p in (
+              λ e. record {
+                outer = up.outer;
+                label = up.label;
+                beside = up.beside;
+                inner = lb;
+                own = vb;
+                below = cb;
+                stands = inl (is, rest);
+              },
+              λ no. absurd (no (sym first)),
+            )
         found (InChild k m w e ∷ near) sides is only exactly_two = absurd sides
         found (InSibling k m w e ∷ []) sides is only (la, va, ca, lb, vb, cb, p) =
             let first : k ≡ a = ap (λ (x : Plan V). id_of k x) p in
             let second : Cell id l v c d ≡ Cell b lb vb cb Nil = ap (λ (x : Plan V). next_of (Cell id l v c d) x) p in
-            let last : d ≡ Nil = ap (λ (x : Plan V). next_of d x) second in
-            (λ e. absurd (omega (arith, only id, one-same id, ap (λ j. one j id) (first ∙ e))), λ no. subst (λ j. LeavesOther fs d u j) first (record { outer = up.outer; label = up.label; beside = up.beside; inner = m; own = w; below = e; stands = inr (is, last) }))
+            let last : d ≡ Nil = ap (λ (x : Plan V). next_of d x) second in (
+              λ e. absurd (omega (arith, only id, one-same id, ap (λ j. one j id) (first ∙ e))),
+              λ no. subst (λ j. LeavesOther fs d u j) first
+                  (record {
+                    outer = up.outer;
+                    label = up.label;
+                    beside = up.beside;
+                    inner = m;
+                    own =
+                        w;
+                    below = e;
+                    stands = inr (is, last);
+                  }),
+            )
         found (InSibling k m w e ∷ InChild k' m' w' e' ∷ near) sides is only exactly_two = absurd sides
-        found (InSibling k m w e ∷ InSibling k' m' w' e' ∷ near) sides is only (la, va, ca, lb, vb, cb, p) = absurd (omega (arith, wide_beside near (Cell k' m' w' e' (Cell k m w e (Cell id l v c d))) sides, ap (λ (x : Plan V). width (row x)) p))
+        found (InSibling k m w e ∷ InSibling k' m' w' e' ∷ near) sides is only
+            (la, va, ca, lb, vb, cb, p) = absurd
+            (omega (
+              arith,
+              wide_beside near (Cell k' m' w' e' (Cell k m w e (Cell id l v c d)))
+                  sides,
+              ap (λ (x : Plan V). width (row x)) p,
+            ))
 
         -- the one at the place goes, and the other is left
         pub alone_first : a ≡ id → LeavesOther fs d u b

@@ -14,7 +14,8 @@ use Rattle.patricia_model.proofs.CountLemmas.{counted_past, counted_through}
 
 module _ {V : Type 0} where
   -- what is in the place of a plan that stands, stands
-  pub stands-within : (nodes : List (Node V)) (fs : List (Frame V)) (q : Plan V) → LaidOut nodes (fill fs q) → LaidOut nodes q
+  pub stands-within : (nodes : List (Node V)) (fs : List (Frame V)) (q : Plan V)
+      → LaidOut nodes (fill fs q) → LaidOut nodes q
   stands-within nodes [] q s = s
   stands-within nodes (InChild id l v d ∷ fs) q s = (stands-within nodes fs (Cell id l v q d) s).1
   stands-within nodes (InSibling id l v c ∷ fs) q s = (stands-within nodes fs (Cell id l v c q) s).2
@@ -26,13 +27,15 @@ module _ {V : Type 0} where
   size-fill (InSibling id l v c ∷ fs) q = omega (arith, size-fill fs (Cell id l v c q))
 
   -- a number stands in a filled place as often as in the frames and in the plan
-  pub count-fill : (fs : List (Frame V)) (q : Plan V) (at : ℕ) → count (fill fs q) at ≡ count_frames fs at + count q at
+  pub count-fill : (fs : List (Frame V)) (q : Plan V) (at : ℕ)
+      → count (fill fs q) at ≡ count_frames fs at + count q at
   count-fill [] q at = omega arith
   count-fill (InChild id l v d ∷ fs) q at = omega (arith, count-fill fs (Cell id l v q d) at)
   count-fill (InSibling id l v c ∷ fs) q at = omega (arith, count-fill fs (Cell id l v c q) at)
 
   -- what stands in a place is read from its link
-  pub plan_within : (nodes : List (Node V)) (root at : Option ℕ) (fs : List (Frame V)) (q : Plan V) → IsPlan nodes root (fill fs q) → at ≡ head q → IsPlan nodes at q
+  pub plan_within : (nodes : List (Node V)) (root at : Option ℕ) (fs : List (Frame V)) (q : Plan V)
+      → IsPlan nodes root (fill fs q) → at ≡ head q → IsPlan nodes at q
   plan_within nodes root at fs q w e = record { stands = stands-within nodes fs q w.stands; at_is = e; fits = omega (arith, w.fits, size-fill fs q) }
 
 -- more behind a label is more than nothing
@@ -41,14 +44,17 @@ passed_filled item k [] t p nonempty none = nonempty (p.splits ∙ none)
 passed_filled item k (b ∷ l) t p nonempty none = let e = p.splits in absurd (cc)
 
 module _ (item : List ℕ → Type 0) {V : Type 0} where
-  pub row-within : (fs : List (Frame V)) (q : Plan V) → IsCanonical item (row (fill fs q)) → IsCanonical item (row q)
+  pub row-within : (fs : List (Frame V)) (q : Plan V) → IsCanonical item (row (fill fs q))
+      → IsCanonical item (row q)
   row-within [] q ok = ok
   row-within (InChild id l v d ∷ fs) q ok = (row-within fs (Cell id l v q d) ok).child
   row-within (InSibling id l v c ∷ fs) q ok = (row-within fs (Cell id l v c q) ok).sibling
 
 module _ (item : List ℕ → Type 0) (kind : IsKeyKind item) {V : Type 0} where
   -- the place decides what is found
-  pub find-fill : (fs : List (Frame V)) (q : Plan V) → IsCanonical item (row (fill fs q)) → (key rest : List ℕ) → Leads item fs key rest → find key_cmp key (entries (row (fill fs q))) ≡ find key_cmp rest (entries (row q))
+  pub find-fill : (fs : List (Frame V)) (q : Plan V) → IsCanonical item (row (fill fs q))
+      → (key rest : List ℕ) → Leads item fs key rest
+      → find key_cmp key (entries (row (fill fs q))) ≡ find key_cmp rest (entries (row q))
   find-fill [] q ok key rest e = ap (λ k. find key_cmp k (entries (row q))) (sym e)
   find-fill (InChild id l v d ∷ fs) q ok key rest (before, passes, nonempty, leads) =
       find-fill fs (Cell id l v q d) ok key before leads
@@ -58,7 +64,9 @@ module _ (item : List ℕ → Type 0) (kind : IsKeyKind item) {V : Type 0} where
       ∙ find_past item kind l v (row c) (row q) (row-within item fs (Cell id l v c q) ok) rest before
 
   -- a write in the place is a write in the whole
-  pub put-fill : (x : V) (fs : List (Frame V)) (q p : Plan V) → IsCanonical item (row (fill fs q)) → (key rest : List ℕ) → Leads item fs key rest → IsCanonical item (row p) → entries (row p) ≡ put key_cmp rest x (entries (row q))
+  pub put-fill : (x : V) (fs : List (Frame V)) (q p : Plan V) → IsCanonical item (row (fill fs q))
+      → (key rest : List ℕ) → Leads item fs key rest → IsCanonical item (row p)
+      → entries (row p) ≡ put key_cmp rest x (entries (row q))
       → IsCanonical item (row (fill fs p)) × (entries (row (fill fs p)) ≡ put key_cmp key x (entries (row (fill fs q))))
   put-fill x [] q p ok key rest e okp w = (okp, w ∙ ap (λ k. put key_cmp k x (entries (row q))) e)
   put-fill x (InChild id l v d ∷ fs) q p ok key rest (before, passes, nonempty, leads) okp w =
@@ -73,7 +81,9 @@ module _ (item : List ℕ → Type 0) (kind : IsKeyKind item) {V : Type 0} where
       (put_past item kind x l v (row c) (row q) inner rest (row p) before w)
 
   -- each frame is a step
-  pub counted-fill : (fs : List (Frame V)) (q : Plan V) → IsCanonical item (row (fill fs q)) → (key rest : List ℕ) → Leads item fs key rest → rest ≢ [] → (n m : ℕ) → IsCounted item (row q) rest (n + length fs) m → IsCounted item (row (fill fs q)) key n m
+  pub counted-fill : (fs : List (Frame V)) (q : Plan V) → IsCanonical item (row (fill fs q))
+      → (key rest : List ℕ) → Leads item fs key rest → rest ≢ [] → (n m : ℕ)
+      → IsCounted item (row q) rest (n + length fs) m → IsCounted item (row (fill fs q)) key n m
   counted-fill [] q ok key rest e some n m counted = rw (← e) (subst (λ k. IsCounted item (row q) rest k m) (omega arith) counted)
   counted-fill (InChild id l v d ∷ fs) q ok key rest (before, passes, nonempty, leads) some n m counted =
       let inner = row-within item fs (Cell id l v q d) ok in

@@ -13,7 +13,8 @@ use Rattle.patricia_nodes.proofs.FillLemmas.{stands-within, count-fill}
 use Rattle.patricia_nodes.proofs.LinkRefLemmas.{has_spot_within}
 use Rattle.patricia_nodes.proofs.WriteLemmas.{get-set_same, get-set_other, stands-keep, chain-keep, stands-refill, head-refill, sound-swap}
 
-module _ {V : Type 0} (old freed : NodeArena V) (id : ℕ) (n : Node V) (f : Frees old freed id n) (spare : List ℕ) where
+module _ {V : Type 0} (old freed : NodeArena V) (id : ℕ) (n : Node V) (f : Frees old freed id n)
+    (spare : List ℕ) where
   abbrev hollow : Node V
   hollow = linked [] None None old.free
 
@@ -21,7 +22,8 @@ module _ {V : Type 0} (old freed : NodeArena V) (id : ℕ) (n : Node V) (f : Fre
   bare = set old.nodes.items id hollow
 
   -- the free list has one number more
-  freed_chain : (nodes : List (Node V)) → slice_get nodes id ≡ Some hollow → ((i : ℕ) → times spare i ≢ 0 → slice_get nodes i ≡ slice_get old.nodes.items i)
+  freed_chain : (nodes : List (Node V)) → slice_get nodes id ≡ Some hollow
+      → ((i : ℕ) → times spare i ≢ 0 → slice_get nodes i ≡ slice_get old.nodes.items i)
       → IsChain old.nodes.items spare → old.free ≡ first spare → IsChain nodes (id ∷ spare)
   freed_chain nodes here k chain free_is = ((hollow, here, free_is), chain-keep old.nodes.items nodes spare k chain)
 
@@ -33,15 +35,21 @@ module _ {V : Type 0} (old freed : NodeArena V) (id : ℕ) (n : Node V) (f : Fre
     abbrev leaf : Plan V
     leaf = Cell id l v Nil d
 
-    sound-unlink_root : IsSound old.nodes.items old.root old.free leaf spare → new.nodes.items ≡ freed.nodes.items → new.root ≡ head d → IsSound new.nodes.items new.root new.free d (id ∷ spare)
+    sound-unlink_root : IsSound old.nodes.items old.root old.free leaf spare
+        → new.nodes.items ≡ freed.nodes.items → new.root ≡ head d
+        → IsSound new.nodes.items new.root new.free d (id ∷ spare)
     sound-unlink_root sound nodes_is root_is =
         let at = sound.plan_ok.stands in
         let alone : count d id + times spare id ≡ 0 = omega (arith, sound.once id, below_le (length old.nodes.items) id, one-same id) in
         let others : (i : ℕ) → i ≢ id → slice_get bare i ≡ slice_get old.nodes.items i = λ i k. get-set_other old.nodes.items id i hollow k in
-        rw (nodes_is, f.nodes_is, root_is, free_is, f.free_is) (sound-swap old.nodes.items bare old.root (head d) old.free (Some id) [] leaf d spare (id ∷ spare) sound
+        rw (nodes_is, f.nodes_is, root_is, free_is, f.free_is)
+        (sound-swap old.nodes.items bare old.root (head d) old.free (Some id) [] leaf d spare
+        (id ∷ spare) sound
         (stands-keep old.nodes.items bare d (λ i k. others i (λ e. k (omega (arith, alone, ap (count d) e)))) at.2)
         refl
-        (freed_chain bare (bare_here (slice_get_within old.nodes.items id _ at.0)) (λ i k. others i (λ e. k (omega (arith, alone, ap (times spare) e)))) sound.chain sound.free_is)
+        (freed_chain bare (bare_here (slice_get_within old.nodes.items id _ at.0))
+        (λ i k. others i (λ e. k (omega (arith, alone, ap (times spare) e)))) sound.chain
+        sound.free_is)
         refl
         (λ i. rw length-set (omega arith))
         (rw length-set (omega arith)))
@@ -84,11 +92,14 @@ module _ {V : Type 0} (old freed : NodeArena V) (id : ℕ) (n : Node V) (f : Fre
       framed : (i : ℕ) → count_frames fs i ≢ 0 → slice_get final i ≡ slice_get old.nodes.items i
       framed i n = kept i (λ z. n (omega arith))
 
-      still_there : (m : Node V) → slice_get old.nodes.items k ≡ Some m → slice_get freed.nodes.items k ≡ Some m
+      still_there : (m : Node V) → slice_get old.nodes.items k ≡ Some m
+          → slice_get freed.nodes.items k ≡ Some m
       still_there m at = ap (λ xs. slice_get xs k) f.nodes_is ∙ get-set_other old.nodes.items id k hollow (λ e. apart (sym e)) ∙ at
 
     -- the nodes are sound without the leaf, once its sibling stands in its place
-    pub sound-unlink : (fs : List (Frame V)) → IsSound old.nodes.items old.root old.free (fill fs leaf) spare → Relinks freed new (link_ref_of fs) (head d)
+    pub sound-unlink : (fs : List (Frame V))
+        → IsSound old.nodes.items old.root old.free (fill fs leaf) spare
+        → Relinks freed new (link_ref_of fs) (head d)
         → IsSound new.nodes.items new.root new.free (fill fs d) (id ∷ spare)
     sound-unlink [] sound links = sound-unlink_root sound links.0 links.1
     sound-unlink (InChild k l' v' o ∷ fs) sound links =
@@ -100,9 +111,26 @@ module _ {V : Type 0} (old freed : NodeArena V) (id : ℕ) (n : Node V) (f : Fre
         let short = slice_get_within old.nodes.items id _ at.1.0 in
         let k_short = slice_get_within old.nodes.items k _ at.0 in
         let more = long (fill fs q') sound fs k o counts holder short k_short in
-        rw (links.0 _ (still_there (fill fs q') sound fs k o counts holder short k_short _ at.0), f.nodes_is, links.1, f.root_is, free_is, f.free_is) (sound-swap old.nodes.items (final (fill fs q') sound fs k o counts holder short k_short) old.root old.root old.free (Some id) fs q' p' spare (id ∷ spare) sound
-        (stands-refill old.nodes.items (final (fill fs q') sound fs k o counts holder short k_short) fs q' p' (framed (fill fs q') sound fs k o counts holder short k_short) refl sound.plan_ok.stands
-        (held (fill fs q') sound fs k o counts holder short k_short, rest_stands (fill fs q') sound fs k o counts holder short k_short at.1.2, other_stands (fill fs q') sound fs k o counts holder short k_short at.2))
+        rw (
+          links.0 _ (still_there (fill fs q') sound fs k o counts holder short k_short _ at.0),
+          f.nodes_is,
+          links.1,
+          f.root_is,
+          free_is,
+          f.free_is,
+        )
+        (sound-swap old.nodes.items
+        (final (fill fs q') sound fs k o counts holder short k_short) old.root old.root
+        old.free (Some id) fs q' p' spare (id ∷ spare) sound
+        (stands-refill old.nodes.items
+        (final (fill fs q') sound fs k o counts holder short k_short) fs q' p'
+        (framed (fill fs q') sound fs k o counts holder short k_short) refl sound.plan_ok.stands (
+          held (fill fs q') sound fs k o counts holder short k_short,
+          rest_stands (fill fs q') sound
+              fs k o counts holder short k_short at.1.2,
+          other_stands (fill fs q') sound fs k o
+              counts holder short k_short at.2,
+        ))
         (sound.plan_ok.at_is ∙ head-refill fs p' q' refl)
         (chained (fill fs q') sound fs k o counts holder short k_short)
         refl
@@ -117,9 +145,26 @@ module _ {V : Type 0} (old freed : NodeArena V) (id : ℕ) (n : Node V) (f : Fre
         let short = slice_get_within old.nodes.items id _ at.2.0 in
         let k_short = slice_get_within old.nodes.items k _ at.0 in
         let more = long (fill fs q') sound fs k o counts holder short k_short in
-        rw (links.0 _ (still_there (fill fs q') sound fs k o counts holder short k_short _ at.0), f.nodes_is, links.1, f.root_is, free_is, f.free_is) (sound-swap old.nodes.items (final (fill fs q') sound fs k o counts holder short k_short) old.root old.root old.free (Some id) fs q' p' spare (id ∷ spare) sound
-        (stands-refill old.nodes.items (final (fill fs q') sound fs k o counts holder short k_short) fs q' p' (framed (fill fs q') sound fs k o counts holder short k_short) refl sound.plan_ok.stands
-        (held (fill fs q') sound fs k o counts holder short k_short, other_stands (fill fs q') sound fs k o counts holder short k_short at.1, rest_stands (fill fs q') sound fs k o counts holder short k_short at.2.2))
+        rw (
+          links.0 _ (still_there (fill fs q') sound fs k o counts holder short k_short _ at.0),
+          f.nodes_is,
+          links.1,
+          f.root_is,
+          free_is,
+          f.free_is,
+        )
+        (sound-swap old.nodes.items
+        (final (fill fs q') sound fs k o counts holder short k_short) old.root old.root
+        old.free (Some id) fs q' p' spare (id ∷ spare) sound
+        (stands-refill old.nodes.items
+        (final (fill fs q') sound fs k o counts holder short k_short) fs q' p'
+        (framed (fill fs q') sound fs k o counts holder short k_short) refl sound.plan_ok.stands (
+          held (fill fs q') sound fs k o counts holder short k_short,
+          other_stands (fill fs q')
+              sound fs k o counts holder short k_short at.1,
+          rest_stands (fill fs q') sound fs k o
+              counts holder short k_short at.2.2,
+        ))
         (sound.plan_ok.at_is ∙ head-refill fs p' q' refl)
         (chained (fill fs q') sound fs k o counts holder short k_short)
         refl
@@ -128,15 +173,19 @@ module _ {V : Type 0} (old freed : NodeArena V) (id : ℕ) (n : Node V) (f : Fre
 
   -- the lower of two nodes, where the upper one takes its place
   module _ (u : ℕ) (l l' : List ℕ) (v : Option V) (m : List ℕ) (w : Option V) (e d : Plan V) where
-    pub sound-merge_only_child : (fs : List (Frame V)) → IsSound old.nodes.items old.root old.free (fill fs (Cell u l v (Cell id m w e Nil) d)) spare
-        → IsSound (set bare u (linked l' w (head e) (head d))) old.root (Some id) (fill fs (Cell u l' w e d)) (id ∷ spare)
+    pub sound-merge_only_child : (fs : List (Frame V))
+        → IsSound old.nodes.items old.root old.free (fill fs (Cell u l v (Cell id m w e Nil) d)) spare
+        → IsSound (set bare u (linked l' w (head e) (head d))) old.root (Some id)
+        (fill fs (Cell u l' w e d)) (id ∷ spare)
     sound-merge_only_child fs sound =
         let q = Cell u l v (Cell id m w e Nil) d in
         let p = Cell u l' w e d in
         let holder : Node V = linked l' w (head e) (head d) in
         let new = set bare u holder in
         let at = stands-within old.nodes.items fs q sound.plan_ok.stands in
-        let once : (i : ℕ) → count_frames fs i + (one u i + (one id i + (count e i + (count d i + times spare i)))) ≤ 1 = λ i. omega (arith, sound.once i, below_le (length old.nodes.items) i, count-fill fs q i) in
+        let once : (i : ℕ) → count_frames fs i +
+        (one u i + (one id i + (count e i + (count d i + times spare i)))) ≤ 1 = λ i. omega
+        (arith, sound.once i, below_le (length old.nodes.items) i, count-fill fs q i) in
         let apart : id ≢ u = λ same. omega (arith, once id, one-same id, ap (λ j. one j id) same) in
         let rest : ℕ → ℕ = λ i. count_frames fs i + (count e i + (count d i + times spare i)) in
         let mine : rest u ≡ 0 = omega (arith, once u, one-same u) in
@@ -151,53 +200,78 @@ module _ {V : Type 0} (old freed : NodeArena V) (id : ℕ) (n : Node V) (f : Fre
           stands-keep old.nodes.items new d (λ i k. kept i (λ z. k (omega arith))) at.2,
         ))
         (sound.plan_ok.at_is ∙ head-refill fs p q refl)
-        (freed_chain new (get-set_other bare u id holder apart ∙ bare_here (slice_get_within old.nodes.items id _ at.1.0)) (λ i k. kept i (λ z. k (omega arith))) sound.chain sound.free_is)
+        (freed_chain new
+        (get-set_other bare u id holder apart ∙ bare_here
+        (slice_get_within old.nodes.items id _ at.1.0)) (λ i k. kept i (λ z. k (omega arith)))
+        sound.chain sound.free_is)
         refl
         (λ i. omega (arith, ap (λ k. below k i) long))
         (omega (arith, long))
 
 module _ {V : Type 0} where
   -- a leaf is in the vector, and so is its spot
-  pub leaf_within : (s : NodeArena V) (link_ref : LinkRef) (id : ℕ) → HasLeafAt s link_ref id → id < length s.nodes.items
+  pub leaf_within : (s : NodeArena V) (link_ref : LinkRef) (id : ℕ) → HasLeafAt s link_ref id
+      → id < length s.nodes.items
   leaf_within s link_ref id h = slice_get_within s.nodes.items id _ (stands-within s.nodes.items h.0 (Cell id h.1 h.2 Nil h.3) h.5.1.plan_ok.stands).0
 
   -- the spot of the leaf stays in the vector when the leaf is freed
-  pub spot_of_leaf : (s freed : NodeArena V) (link_ref : LinkRef) (id : ℕ) (n : Node V) → Frees s freed id n → HasLeafAt s link_ref id → LinkRefWithin link_ref (length freed.nodes.items)
+  pub spot_of_leaf : (s freed : NodeArena V) (link_ref : LinkRef) (id : ℕ) (n : Node V)
+      → Frees s freed id n → HasLeafAt s link_ref id
+      → LinkRefWithin link_ref (length freed.nodes.items)
   spot_of_leaf s freed link_ref id n f h =
       let long : length freed.nodes.items ≡ length s.nodes.items = ap length f.nodes_is ∙ length-set s.nodes.items id (linked [] None None s.free) in
       subst (LinkRefWithin link_ref) (sym long) (has_spot_within s link_ref (h.0, Cell id h.1 h.2 Nil h.3, h.4, h.5))
 
   -- the node is as it was read
-  taken_is : (s freed : NodeArena V) (id : ℕ) (n : Node V) → Frees s freed id n → (fs : List (Frame V)) (l : List ℕ) (v : Option V) (c d : Plan V)
+  taken_is : (s freed : NodeArena V) (id : ℕ) (n : Node V) → Frees s freed id n
+      → (fs : List (Frame V)) (l : List ℕ) (v : Option V) (c d : Plan V)
       → LaidOut s.nodes.items (fill fs (Cell id l v c d)) → n ≡ linked l v (head c) (head d)
   taken_is s freed id n f fs l v c d stands =
       let there = (stands-within s.nodes.items fs (Cell id l v c d) stands).0 in
       let taken = f.taken in cc
 
   -- so unlinking a leaf does what its contract says
-  pub unlinks : (s freed new : NodeArena V) (link_ref : LinkRef) (id : ℕ) (n : Node V) → Frees s freed id n → new.free ≡ freed.free
-      → Relinks freed new link_ref n.sibling → Unlinks s new link_ref id n.value
+  pub unlinks : (s freed new : NodeArena V) (link_ref : LinkRef) (id : ℕ) (n : Node V)
+      → Frees s freed id n → new.free ≡ freed.free → Relinks freed new link_ref n.sibling
+      → Unlinks s new link_ref id n.value
   unlinks s freed new link_ref id n f free_is links fs l v d at h =
       let is = taken_is s freed id n f fs l v Nil d h.1.plan_ok.stands in
-      let links' : Relinks freed new (link_ref_of fs) (head d) = subst (λ (x : Node V). Relinks freed new (link_ref_of fs) x.sibling) is (subst (λ k. Relinks freed new k n.sibling) at links) in
+      let links' : Relinks freed new (link_ref_of fs) (head d) = subst
+      (λ (x : Node V). Relinks freed new (link_ref_of fs) x.sibling) is
+      (subst (λ k. Relinks freed new k n.sibling) at links) in
       ((id ∷ h.0, sound-unlink s freed id n f h.0 l v d new free_is fs h.1 links'), ap (λ (x : Node V). x.value) is)
 
   -- both nodes are in the vector
-  pub lone_within : (s : NodeArena V) (u k : ℕ) → HasLone s u k → (u < length s.nodes.items) × (k < length s.nodes.items)
+  pub lone_within : (s : NodeArena V) (u k : ℕ) → HasLone s u k
+      → (u < length s.nodes.items) × (k < length s.nodes.items)
   lone_within s u k h =
       let at = stands-within s.nodes.items h.0 (Cell u h.1 h.2 (Cell k h.3 h.4 h.5 Nil) h.6) h.7.1.plan_ok.stands in
       (slice_get_within s.nodes.items u _ at.0, slice_get_within s.nodes.items k _ at.1.0)
 
   -- and merging a node with its only child does
-  pub absorbs : (s freed : NodeArena V) (u k : ℕ) (n r : Node V) (joined : List ℕ) (taken : Option V) → Frees s freed k n → r ≡ get_or freed.nodes.items u r → taken ≡ r.value
-      → (fs : List (Frame V)) (l : List ℕ) (v : Option V) (m : List ℕ) (w : Option V) (e d : Plan V) → Holds s (fill fs (Cell u l v (Cell k m w e Nil) d))
-      → ((spare : List ℕ) × IsSound (set freed.nodes.items u (linked joined n.value n.child r.sibling)) freed.root freed.free (fill fs (Cell u joined w e d)) spare) × (taken ≡ v)
+  pub absorbs :
+      (s freed : NodeArena V) (u k : ℕ) (n r : Node V) (joined : List ℕ) (taken : Option V)
+      → Frees s freed k n → r ≡ get_or freed.nodes.items u r → taken ≡ r.value
+      → (fs : List (Frame V)) (l : List ℕ) (v : Option V) (m : List ℕ) (w : Option V) (e d : Plan V)
+      → Holds s (fill fs (Cell u l v (Cell k m w e Nil) d))
+      → ((spare : List ℕ) × IsSound
+      (set freed.nodes.items u (linked joined n.value n.child r.sibling)) freed.root freed.free
+      (fill fs (Cell u joined w e d)) spare) × (taken ≡ v)
   absorbs s freed u k n r joined taken f reads is fs l v m w e d h =
       let q = Cell u l v (Cell k m w e Nil) d in
       let at = stands-within s.nodes.items fs q h.1.plan_ok.stands in
       let lower : n ≡ linked m w (head e) None = let t = f.taken in let there = at.1.0 in cc in
       let apart : u ≢ k = λ same. omega (arith, h.1.once u, below_le (length s.nodes.items) u, count-fill fs q u, one-same u, ap (λ j. one j u) same) in
-      let there : slice_get freed.nodes.items u ≡ Some (linked l v (Some k) (head d)) = ap (λ xs. slice_get xs u) f.nodes_is ∙ get-set_other s.nodes.items k u (linked [] None None s.free) apart ∙ at.0 in
+      let there : slice_get freed.nodes.items u ≡ Some (linked l v (Some k) (head d)) = ap
+      (λ xs. slice_get xs u) f.nodes_is ∙ get-set_other s.nodes.items k u
+      (linked [] None None s.free) apart ∙ at.0 in
       let upper : r ≡ linked l v (Some k) (head d) = node_is freed.nodes.items u r _ there reads in
-      let node : linked joined n.value n.child r.sibling ≡ linked joined w (head e) (head d) = rw (lower, upper) refl in
-      ((k ∷ h.0, rw (f.nodes_is, node, f.root_is, f.free_is) (sound-merge_only_child s freed k n f h.0 u l joined v m w e d fs h.1)), is ∙ ap (λ (x : Node V). x.value) upper)
+      let node : linked joined n.value n.child r.sibling ≡ linked joined w (head e) (head d) = rw (lower, upper) refl in (
+        (
+          k ∷ h.0,
+          rw (f.nodes_is, node, f.root_is, f.free_is)
+              (sound-merge_only_child s freed k n f h.0 u l joined v m w e d fs h.1),
+        ),
+        is ∙ ap
+            (λ (x : Node V). x.value) upper,
+      )

@@ -16,7 +16,8 @@ module _ {V : Type 0} where
   takes_none s = record { others = λ i z. refl; long = refl; root_is = refl; freed = λ spare free once. (spare, free, λ i. omega arith, omega arith) }
 
   -- the same, counted otherwise
-  pub takes_same : (old new : NodeArena V) (f g : ℕ → ℕ) (n m : ℕ) → ((i : ℕ) → f i ≡ g i) → n ≡ m → TakesNodes old new f n → TakesNodes old new g m
+  pub takes_same : (old new : NodeArena V) (f g : ℕ → ℕ) (n m : ℕ) → ((i : ℕ) → f i ≡ g i) → n ≡ m
+      → TakesNodes old new f n → TakesNodes old new g m
   takes_same old new f g n m e k t = record {
     others = λ i z. t.others i (e i ∙ z);
     long = t.long;
@@ -27,7 +28,8 @@ module _ {V : Type 0} where
   }
 
   -- one after the other
-  pub takes_more : (a b c : NodeArena V) (f g : ℕ → ℕ) (n m : ℕ) → TakesNodes a b f n → TakesNodes b c g m → TakesNodes a c (λ i. f i + g i) (n + m)
+  pub takes_more : (a b c : NodeArena V) (f g : ℕ → ℕ) (n m : ℕ) → TakesNodes a b f n
+      → TakesNodes b c g m → TakesNodes a c (λ i. f i + g i) (n + m)
   takes_more a b c f g n m t u = record {
     others = λ i z. u.others i (omega arith) ∙ t.others i (omega arith);
     long = u.long ∙ t.long;
@@ -39,11 +41,14 @@ module _ {V : Type 0} where
   }
 
   -- one node is taken
-  pub takes_one : (old new : NodeArena V) (id : ℕ) (n : Node V) → Frees old new id n → TakesNodes old new (λ i. one id i) 1
+  pub takes_one : (old new : NodeArena V) (id : ℕ) (n : Node V) → Frees old new id n
+      → TakesNodes old new (λ i. one id i) 1
   takes_one old new id n f =
       let hollow = linked [] None None old.free in
       let short = slice_get_within old.nodes.items id n f.taken in
-      let others : (i : ℕ) → i ≢ id → slice_get new.nodes.items i ≡ slice_get old.nodes.items i = λ i k. ap (λ xs. slice_get xs i) f.nodes_is ∙ get-set_other old.nodes.items id i hollow k in
+      let others : (i : ℕ) → i ≢ id → slice_get new.nodes.items i ≡ slice_get old.nodes.items i =
+      λ i k. ap (λ xs. slice_get xs i) f.nodes_is ∙ get-set_other old.nodes.items id i
+      hollow k in
       record {
         others = λ i z. others i (λ e. absurd (omega (arith, z, one-same i, ap (λ k. one k i) e)));
         long = ap length f.nodes_is ∙ length-set old.nodes.items id hollow;
@@ -75,8 +80,19 @@ module _ {V : Type 0} where
     pub counted : length to + length (tops rest) ≡ length to0 + length (tops w)
 
   -- nothing is moved at first
-  pub moving_none : (from : NodeArena V) (to : List (Node V)) (at : Option ℕ) (w : Plan V) → IsTopRow from.nodes.items at w → Moving from to w from at to
-  moving_none from to at w row = record { rest = w; row = row; moved = refl; counts = λ i. 0; number = 0; takes = takes_none from; split = λ i. omega arith; sized = omega arith; counted = refl }
+  pub moving_none : (from : NodeArena V) (to : List (Node V)) (at : Option ℕ) (w : Plan V)
+      → IsTopRow from.nodes.items at w → Moving from to w from at to
+  moving_none from to at w row = record {
+    rest = w;
+    row = row;
+    moved = refl;
+    counts = λ i. 0;
+    number = 0;
+    takes = takes_none from;
+    split = λ i. omega arith;
+    sized = omega arith;
+    counted = refl;
+  }
 
   -- the node at the head of a row
   pub opens_top : (from : List (Node V)) (id : ℕ) (w : Plan V) → IsTopRow from (Some id) w
@@ -87,11 +103,15 @@ module _ {V : Type 0} where
       (l, v, c, d, rw same refl, rw same row.stands.0)
 
   -- the next node to move is in the vector
-  pub next_within : (from0 : NodeArena V) (to0 : List (Node V)) (w : Plan V) (from : NodeArena V) (to : List (Node V)) (id : ℕ) → Moving from0 to0 w from (Some id) to → id < length from.nodes.items
+  pub next_within : (from0 : NodeArena V) (to0 : List (Node V)) (w : Plan V) (from : NodeArena V)
+      (to : List (Node V)) (id : ℕ) → Moving from0 to0 w from (Some id) to
+      → id < length from.nodes.items
   next_within from0 to0 w from to id m = let o = opens_top from.nodes.items id m.rest m.row in slice_get_within from.nodes.items id _ o.5
 
   -- what stands at other numbers, stands still
-  rows-keep : (nodes new : List (Node V)) (q : Plan V) → ((i : ℕ) → times (tops q) i ≢ 0 → slice_get new i ≡ slice_get nodes i) → RowStands nodes q → RowStands new q
+  rows-keep : (nodes new : List (Node V)) (q : Plan V)
+      → ((i : ℕ) → times (tops q) i ≢ 0 → slice_get new i ≡ slice_get nodes i) → RowStands nodes q
+      → RowStands new q
   rows-keep nodes new Nil k s = tt
   rows-keep nodes new (Cell id l v c d) k s = (k id (λ e. omega (arith, one-same id)) ∙ s.0, rows-keep nodes new d (λ i n. k i (λ e. n (omega arith))) s.1)
 
@@ -106,8 +126,10 @@ module _ {V : Type 0} where
   number_some (Cell id l v c d) n k e = refl
 
   -- one node more lies behind, and the rest of its row comes after it
-  pub laid_next : (to to' : List (Node V)) (n : Node V) (number : Option ℕ) (i : ℕ) (l : List ℕ) (v : Option V) (c d : Plan V)
-      → n ≡ linked l v (head c) (head d) → number ≡ head (numbered_siblings (suc (length to)) d) → to' ≡ to ++ linked n.label n.value n.child number ∷ []
+  pub laid_next : (to to' : List (Node V)) (n : Node V) (number : Option ℕ) (i : ℕ) (l : List ℕ)
+      (v : Option V) (c d : Plan V) → n ≡ linked l v (head c) (head d)
+      → number ≡ head (numbered_siblings (suc (length to)) d)
+      → to' ≡ to ++ linked n.label n.value n.child number ∷ []
       → (length to' ≡ suc (length to)) × (to' ++ laid (length to') d ≡ to ++ laid (length to) (Cell i l v c d))
   laid_next to to' n number i l v c d is numbers pushed =
       let x = linked n.label n.value n.child number in
@@ -119,8 +141,12 @@ module _ {V : Type 0} where
             ∙ ap (λ y. to ++ y ∷ laid (suc (length to)) d) node,
       )
 
-  module _ (from0 : NodeArena V) (to0 : List (Node V)) (w : Plan V) (from later : NodeArena V) (id : ℕ) (to to' : List (Node V)) (m : Moving from0 to0 w from (Some id) to)
-      (n : Node V) (frees : Frees from later id n) (number : Option ℕ) (numbers : (d : Plan V) → n.sibling ≡ head d → number ≡ head (numbered_siblings (suc (length to)) d)) (pushed : to' ≡ to ++ linked n.label n.value n.child number ∷ []) where
+  module _ (from0 : NodeArena V) (to0 : List (Node V)) (w : Plan V) (from later : NodeArena V)
+      (id : ℕ) (to to' : List (Node V)) (m : Moving from0 to0 w from (Some id) to)
+      (n : Node V) (frees : Frees from later id n) (number : Option ℕ)
+      (numbers : (d : Plan V) → n.sibling ≡ head d → number ≡ head
+      (numbered_siblings (suc (length to)) d))
+      (pushed : to' ≡ to ++ linked n.label n.value n.child number ∷ []) where
     one_taken : TakesNodes from later (λ i. one id i) 1
     one_taken = takes_one from later id n frees
 
@@ -128,17 +154,26 @@ module _ {V : Type 0} where
     pub moving_next : Moving from0 to0 w later n.sibling to'
     moving_next = by m.rest m.row m.moved m.split m.sized m.counted
       where
-        by : (r : Plan V) → IsTopRow from.nodes.items (Some id) r → to ++ laid (length to) r ≡ to0 ++ laid (length to0) w → ((i : ℕ) → m.counts i + times (tops r) i ≡ times (tops w) i) → m.number + length (tops r) ≡ length (tops w) → length to + length (tops r) ≡ length to0 + length (tops w) → Moving from0 to0 w later n.sibling to'
+        by : (r : Plan V) → IsTopRow from.nodes.items (Some id) r
+            → to ++ laid (length to) r ≡ to0 ++ laid (length to0) w
+            → ((i : ℕ) → m.counts i + times (tops r) i ≡ times (tops w) i)
+            → m.number + length (tops r) ≡ length (tops w)
+            → length to + length (tops r) ≡ length to0 + length (tops w)
+            → Moving from0 to0 w later n.sibling to'
         by Nil row moved split sized counted = let e = row.at_is in absurd (cc)
         by (Cell i l v c d) row moved split sized counted =
             let same : id ≡ i = let e = row.at_is in cc in
-            let is : n ≡ linked l v (head c) (head d) = let there = row.stands.0 in let here' : slice_get from.nodes.items i ≡ Some n = rw (← same) frees.taken in cc in
+            let is : n ≡ linked l v (head c) (head d) = let there = row.stands.0 in
+            let here' : slice_get from.nodes.items i ≡ Some n = rw (← same) frees.taken in
+            cc in
             let sibling : n.sibling ≡ head d = ap (λ (x : Node V). x.sibling) is in
             let comes = laid_next to to' n number i l v c d is (numbers d sibling) pushed in
             record {
               rest = d;
               row = record {
-                stands = rows-keep from.nodes.items later.nodes.items d (λ k some. one_taken.others k (omega (arith, row.once k, ap (λ x. one x k) same))) row.stands.1;
+                stands = rows-keep from.nodes.items later.nodes.items d
+                    (λ k some. one_taken.others k
+                    (omega (arith, row.once k, ap (λ x. one x k) same))) row.stands.1;
                 at_is = sibling;
                 once = λ k. omega (arith, row.once k);
               };
@@ -152,9 +187,18 @@ module _ {V : Type 0} where
             }
 
   -- at the end all is moved
-  pub moving_done : (from0 : NodeArena V) (to0 : List (Node V)) (w : Plan V) (from : NodeArena V) (to : List (Node V)) → Moving from0 to0 w from None to → (to ≡ to0 ++ laid (length to0) w) × TakesRow from0 from w
+  pub moving_done : (from0 : NodeArena V) (to0 : List (Node V)) (w : Plan V) (from : NodeArena V)
+      (to : List (Node V)) → Moving from0 to0 w from None to
+      → (to ≡ to0 ++ laid (length to0) w) × TakesRow from0 from w
   moving_done from0 to0 w from to m = by m.rest m.row.at_is m.moved m.split m.sized
     where
-      by : (r : Plan V) → None ≡ head r → to ++ laid (length to) r ≡ to0 ++ laid (length to0) w → ((i : ℕ) → m.counts i + times (tops r) i ≡ times (tops w) i) → m.number + length (tops r) ≡ length (tops w) → (to ≡ to0 ++ laid (length to0) w) × TakesRow from0 from w
-      by Nil e moved split sized = (sym (append-nil to) ∙ moved, takes_same from0 from m.counts (λ i. times (tops w) i) m.number (length (tops w)) (λ i. omega (arith, split i)) (omega (arith, sized)) m.takes)
+      by : (r : Plan V) → None ≡ head r → to ++ laid (length to) r ≡ to0 ++ laid (length to0) w
+          → ((i : ℕ) → m.counts i + times (tops r) i ≡ times (tops w) i)
+          → m.number + length (tops r) ≡ length (tops w)
+          → (to ≡ to0 ++ laid (length to0) w) × TakesRow from0 from w
+      by Nil e moved split sized = (
+        sym (append-nil to) ∙ moved,
+        takes_same from0 from m.counts (λ i. times (tops w) i)
+            m.number (length (tops w)) (λ i. omega (arith, split i)) (omega (arith, sized)) m.takes,
+      )
       by (Cell i l v c d) e moved split sized = absurd (cc)

@@ -19,7 +19,8 @@ all_turns i n a b = omega arith
 
 module _ {V : Type 0} where
   -- the first of two lists
-  get_front : (xs ys : List (Node V)) (i : ℕ) → i < length xs → slice_get (xs ++ ys) i ≡ slice_get xs i
+  get_front : (xs ys : List (Node V)) (i : ℕ) → i < length xs
+      → slice_get (xs ++ ys) i ≡ slice_get xs i
   get_front [] ys i h = absurd (omega arith)
   get_front (x ∷ xs) ys zero h = refl
   get_front (x ∷ xs) ys (suc i) h = get_front xs ys i (omega arith)
@@ -41,11 +42,13 @@ module _ {V : Type 0} where
     pub within : i ≤ length to
 
   -- a number of a sound plan stands there once at most
-  pub counted_once : (nodes : List (Node V)) (root free : Option ℕ) (p : Plan V) (spare : List ℕ) → IsSound nodes root free p spare → (at : ℕ) → count p at ≤ 1
+  pub counted_once : (nodes : List (Node V)) (root free : Option ℕ) (p : Plan V) (spare : List ℕ)
+      → IsSound nodes root free p spare → (at : ℕ) → count p at ≤ 1
   counted_once nodes root free p spare sound at = omega (arith, sound.once at, below_le (length nodes) at)
 
   -- the top row is there
-  pub laying_start : (p : Plan V) (from to : List (Node V)) → IsLaid from to p → Laying p from 0 to (head (numbered_siblings 0 p))
+  pub laying_start : (p : Plan V) (from to : List (Node V)) → IsLaid from to p
+      → Laying p from 0 to (head (numbered_siblings 0 p))
   laying_start p from to l =
       let long : length to ≡ length (tops p) = ap length l.laid_is ∙ length-laid 0 p in
       record {
@@ -55,7 +58,10 @@ module _ {V : Type 0} where
         root_is = sym (first-opened 0 p);
         lies = lies-opened from [] to p l.below_stands (λ at h. ap (λ xs. slice_get xs at) l.laid_is);
         up_to = up_to-opened 0 0 p (omega arith);
-        news_once = λ at. let came = news-opened 0 p at in let none : below 0 at ≡ 0 = grind (arith, nat_tests) in let same : 0 + length (tops p) ≡ length (tops p) = omega arith in omega (arith, ap (λ k. below k at) long, ap (λ k. below k at) same);
+        news_once = λ at. let came = news-opened 0 p at in
+            let none : below 0 at ≡ 0 = grind (arith, nat_tests) in
+            let same : 0 + length (tops p) ≡ length (tops p) = omega arith in omega
+            (arith, ap (λ k. below k at) long, ap (λ k. below k at) same);
         olds_once = λ at. omega (arith, olds-below 0 p at, l.once at);
         sized = omega (arith, waits-opened 0 p, long);
         within = omega arith;
@@ -71,7 +77,8 @@ module _ {V : Type 0} where
     pub room : length to + length (tops row) ≤ size p
 
   -- the row below the next node is still to be laid
-  pub laying_row : (p : Plan V) (from : List (Node V)) (i : ℕ) (to : List (Node V)) (root : Option ℕ) (l : Laying p from i to root) → i < length to → NextRow p from i to l.mix
+  pub laying_row : (p : Plan V) (from : List (Node V)) (i : ℕ) (to : List (Node V))
+      (root : Option ℕ) (l : Laying p from i to root) → i < length to → NextRow p from i to l.mix
   laying_row p from i to root l short =
       let some = open_exists i l.mix l.up_to (omega (arith, l.news_once i, below_in (length to) i short)) in
       let w = some.0 in
@@ -87,11 +94,19 @@ module _ {V : Type 0} where
       }
 
   -- as the node is read
-  pub next_top : (p : Plan V) (from : List (Node V)) (i : ℕ) (to : List (Node V)) (mix : Mix V) (next : NextRow p from i to mix) (n : Node V) → n ≡ get_or to i n → IsTopRow from n.child next.row
+  pub next_top : (p : Plan V) (from : List (Node V)) (i : ℕ) (to : List (Node V)) (mix : Mix V)
+      (next : NextRow p from i to mix) (n : Node V) → n ≡ get_or to i n
+      → IsTopRow from n.child next.row
   next_top p from i to mix next n reads = rw (node_is to i n next.parent next.there reads) next.top
 
-  laying_on : (p : Plan V) (from later : List (Node V)) (i : ℕ) (to final : List (Node V)) (root : Option ℕ) (l : Laying p from i to root) → i < length to → (next : NextRow p from i to l.mix) → ((at : ℕ) → times (tops next.row) at ≡ 0 → slice_get later at ≡ slice_get from at)
-      → final ≡ set (to ++ laid (length to) next.row) i (linked next.parent.label next.parent.value (head (numbered_siblings (length to) next.row)) next.parent.sibling) → Laying p later (suc i) final root
+  laying_on : (p : Plan V) (from later : List (Node V)) (i : ℕ) (to final : List (Node V))
+      (root : Option ℕ) (l : Laying p from i to root) → i < length to
+      → (next : NextRow p from i to l.mix)
+      → ((at : ℕ) → times (tops next.row) at ≡ 0 → slice_get later at ≡ slice_get from at)
+      → final ≡ set (to ++ laid (length to) next.row) i
+      (linked next.parent.label next.parent.value
+      (head (numbered_siblings (length to) next.row)) next.parent.sibling)
+      → Laying p later (suc i) final root
   laying_on p from later i to final root l short next others is =
       let w = next.row in
       let n = length to in
@@ -107,7 +122,11 @@ module _ {V : Type 0} where
         root_is = l.root_is ∙ sym (first-step i n l.mix);
         lies = lies-step from later to final i w
             (λ at h k. ap (λ xs. slice_get xs at) is ∙ get-set_other whole i at new k ∙ get_front to (laid n w) at h)
-            (λ m at. ap (λ xs. slice_get xs i) is ∙ get-set_same whole i new (omega (arith, length-append to (laid n w))) ∙ ap (λ (x : Node V). Some (linked x.label x.value (head (numbered_siblings n w)) x.sibling)) (same_node (sym next.there ∙ at)))
+            (λ m at. ap (λ xs. slice_get xs i) is ∙ get-set_same whole i new
+            (omega (arith, length-append to (laid n w))) ∙ ap
+            (λ (x : Node V). Some
+            (linked x.label x.value (head (numbered_siblings n w)) x.sibling))
+            (same_node (sym next.there ∙ at)))
             (λ at h. ap (λ xs. slice_get xs at) is ∙ get-set_other whole i at new (λ e. omega arith))
             l.mix once next.due
             (λ at k. elim (cases_lt at n) [ inl h ↦ h | inr h ↦ absurd (k (l.news_once at ∙ below_out n at h)) ])
@@ -121,15 +140,29 @@ module _ {V : Type 0} where
       }
 
   -- as the nodes are read and written
-  pub laying_next : (p : Plan V) (from later : List (Node V)) (i : ℕ) (to final : List (Node V)) (root : Option ℕ) (l : Laying p from i to root) → i < length to → (next : NextRow p from i to l.mix) → ((at : ℕ) → times (tops next.row) at ≡ 0 → slice_get later at ≡ slice_get from at)
-      → (moved : List (Node V)) → moved ≡ to ++ laid (length to) next.row → (first : Option ℕ) → first ≡ head (numbered_siblings (length to) next.row) → (n : Node V) → n ≡ get_or moved i n → final ≡ set moved i (linked n.label n.value first n.sibling) → Laying p later (suc i) final root
+  pub laying_next : (p : Plan V) (from later : List (Node V)) (i : ℕ) (to final : List (Node V))
+      (root : Option ℕ) (l : Laying p from i to root) → i < length to
+      → (next : NextRow p from i to l.mix)
+      → ((at : ℕ) → times (tops next.row) at ≡ 0 → slice_get later at ≡ slice_get from at)
+      → (moved : List (Node V)) → moved ≡ to ++ laid (length to) next.row → (first : Option ℕ)
+      → first ≡ head (numbered_siblings (length to) next.row) → (n : Node V) → n ≡ get_or moved i n
+      → final ≡ set moved i (linked n.label n.value first n.sibling)
+      → Laying p later (suc i) final root
   laying_next p from later i to final root l short next others moved comes first first_is n reads written =
-      let parent : n ≡ next.parent = node_is moved i n next.parent (ap (λ xs. slice_get xs i) comes ∙ get_front to (laid (length to) next.row) i short ∙ next.there) reads in
-      let is : final ≡ set (to ++ laid (length to) next.row) i (linked next.parent.label next.parent.value (head (numbered_siblings (length to) next.row)) next.parent.sibling) = rw (← parent, ← first_is, ← comes) written in
+      let parent : n ≡ next.parent = node_is moved i n next.parent
+      (ap (λ xs. slice_get xs i) comes ∙ get_front to (laid (length to) next.row) i short ∙
+      next.there) reads in
+      let is : final ≡ set (to ++ laid (length to) next.row) i
+      (linked next.parent.label next.parent.value
+      (head (numbered_siblings (length to) next.row)) next.parent.sibling) =
+      rw (← parent, ← first_is, ← comes) written in
       laying_on p from later i to final root l short next others is
 
   -- at the end the nodes are sound, and the same row
-  pub laying_done : (p : Plan V) (from : List (Node V)) (i : ℕ) (to : List (Node V)) (root : Option ℕ) → Laying p from i to root → length to ≤ i → (q : Plan V) × IsSound to root None q [] × (row q ≡ row p) × (size q ≡ size p)
+  pub laying_done :
+      (p : Plan V) (from : List (Node V)) (i : ℕ) (to : List (Node V)) (root : Option ℕ)
+      → Laying p from i to root → length to ≤ i
+      → (q : Plan V) × IsSound to root None q [] × (row q ≡ row p) × (size q ≡ size p)
   laying_done p from i to root l all =
       let done = lies_done from to l.mix l.lies (subst (λ k. IsUpTo k l.mix) (all_turns i (length to) l.within all) l.up_to) in
       let q = flat l.mix in (
@@ -159,9 +192,18 @@ module _ {V : Type 0} where
     pub emptied : Emptied old w laying.mix now
 
   emptied_start : (s : NodeArena V) (w : Plan V) → Emptied s w (opened 0 w) s
-  emptied_start s w = record { counts = λ at. 0; number = 0; takes = takes_none s; split = λ at. omega (arith, olds-below 0 w at); sized = omega (arith, waits-below 0 w) }
+  emptied_start s w = record {
+    counts = λ at. 0;
+    number = 0;
+    takes = takes_none s;
+    split = λ at. omega (arith, olds-below 0 w at);
+    sized = omega (arith, waits-below 0 w);
+  }
 
-  emptied_next : (old : NodeArena V) (w : Plan V) (q : Mix V) (from later : NodeArena V) (i n : ℕ) (r : Plan V) → news q i ≤ 1 → OpenAt i q r → TakesRow from later r → Emptied old w q from → Emptied old w (step i n q) later
+  emptied_next :
+      (old : NodeArena V) (w : Plan V) (q : Mix V) (from later : NodeArena V) (i n : ℕ) (r : Plan V)
+      → news q i ≤ 1 → OpenAt i q r → TakesRow from later r → Emptied old w q from
+      → Emptied old w (step i n q) later
   emptied_next old w q from later i n r once due takes e =
       let moves = step-moves i n q r once due in
       record {
@@ -173,35 +215,49 @@ module _ {V : Type 0} where
       }
 
   -- at first nothing below the top row was moved
-  pub filling_start : (w : Plan V) (s : NodeArena V) (to : List (Node V)) → IsLaid s.nodes.items to w → Filling s w s 0 to
+  pub filling_start : (w : Plan V) (s : NodeArena V) (to : List (Node V))
+      → IsLaid s.nodes.items to w → Filling s w s 0 to
   unfolding laying_start
   filling_start w s to l = record { laying = laying_start w s.nodes.items to l; emptied = emptied_start s w }
 
   -- once they are moved and the node has their new number, it is the next one's turn
-  pub filling_next : (old : NodeArena V) (w : Plan V) (from later : NodeArena V) (i : ℕ) (to final : List (Node V)) (f : Filling old w from i to) → i < length to → (next : NextRow w from.nodes.items i to f.laying.mix) → TakesRow from later next.row
-      → (moved : List (Node V)) → moved ≡ to ++ laid (length to) next.row → (first : Option ℕ) → first ≡ head (numbered_siblings (length to) next.row) → (n : Node V) → n ≡ get_or moved i n → final ≡ set moved i (linked n.label n.value first n.sibling) → Filling old w later (i + 1) final
+  pub filling_next : (old : NodeArena V) (w : Plan V) (from later : NodeArena V) (i : ℕ)
+      (to final : List (Node V)) (f : Filling old w from i to) → i < length to
+      → (next : NextRow w from.nodes.items i to f.laying.mix) → TakesRow from later next.row
+      → (moved : List (Node V)) → moved ≡ to ++ laid (length to) next.row → (first : Option ℕ)
+      → first ≡ head (numbered_siblings (length to) next.row) → (n : Node V) → n ≡ get_or moved i n
+      → final ≡ set moved i (linked n.label n.value first n.sibling)
+      → Filling old w later (i + 1) final
   unfolding laying_on laying_next
   filling_next old w from later i to final f short next takes moved comes first first_is n reads written =
       let l = f.laying in
       let done : Filling old w later (suc i) final = record {
-        laying = laying_next w from.nodes.items later.nodes.items i to final (head (numbered_siblings 0 w)) l short next takes.others moved comes first first_is n reads written;
+        laying = laying_next w from.nodes.items later.nodes.items i to final
+            (head (numbered_siblings 0 w)) l short next takes.others moved comes first first_is n
+            reads written;
         emptied = emptied_next old w l.mix from later i (length to) next.row (omega (arith, l.news_once i, below_le (length to) i)) next.due takes f.emptied;
       } in
       subst (λ k. Filling old w later k final) (omega arith) done
 
   -- and at the end they are sound, and what is below the row was taken
-  pub filling_done : (old : NodeArena V) (w : Plan V) (now : NodeArena V) (i : ℕ) (to : List (Node V)) → Filling old w now i to → length to ≤ i
+  pub filling_done :
+      (old : NodeArena V) (w : Plan V) (now : NodeArena V) (i : ℕ) (to : List (Node V))
+      → Filling old w now i to → length to ≤ i
       → ((q : Plan V) × IsSound to (head (numbered_siblings 0 w)) None q [] × (row q ≡ row w) × (size q ≡ size w)) × TakesBelow old now w
   filling_done old w now i to f all =
       let l = f.laying in
       let e = f.emptied in
       let done = lies_done now.nodes.items to l.mix l.lies (subst (λ k. IsUpTo k l.mix) (all_turns i (length to) l.within all) l.up_to) in (
         laying_done w now.nodes.items i to (head (numbered_siblings 0 w)) l all,
-        takes_same old now e.counts (λ at. count_below w at) e.number (size_below w) (λ at. omega (arith, e.split at, done.3 at)) (omega (arith, e.sized, done.2)) e.takes,
+        takes_same old now e.counts (λ at. count_below w at) e.number (size_below w)
+            (λ at. omega (arith, e.split at, done.3 at)) (omega (arith, e.sized, done.2)) e.takes,
       )
 
   -- a plan whose top row came to the front of new nodes, and no other node was touched
-  pub laid_apart : (from later : List (Node V)) (p : Plan V) (to0 to : List (Node V)) → LaidOut from p → ((at : ℕ) → count p at ≤ 1) → ((at : ℕ) → times (tops p) at ≡ 0 → slice_get later at ≡ slice_get from at) → to0 ≡ [] → to ≡ to0 ++ laid (length to0) p → IsLaid later to p
+  pub laid_apart : (from later : List (Node V)) (p : Plan V) (to0 to : List (Node V))
+      → LaidOut from p → ((at : ℕ) → count p at ≤ 1)
+      → ((at : ℕ) → times (tops p) at ≡ 0 → slice_get later at ≡ slice_get from at) → to0 ≡ []
+      → to ≡ to0 ++ laid (length to0) p → IsLaid later to p
   laid_apart from later p to0 to stands once others none comes = record {
     laid_is = rw none at comes;
     below_stands = below-keep from later p (λ at n. others at (omega (arith, count-parts p at, once at))) stands;
@@ -209,7 +265,9 @@ module _ {V : Type 0} where
   }
 
   -- so where the row was moved
-  pub laid_row : (old now : NodeArena V) (p : Plan V) (to0 to : List (Node V)) → LaidOut old.nodes.items p → ((at : ℕ) → count p at ≤ 1) → TakesRow old now p → to0 ≡ [] → to ≡ to0 ++ laid (length to0) p → IsLaid now.nodes.items to p
+  pub laid_row : (old now : NodeArena V) (p : Plan V) (to0 to : List (Node V))
+      → LaidOut old.nodes.items p → ((at : ℕ) → count p at ≤ 1) → TakesRow old now p → to0 ≡ []
+      → to ≡ to0 ++ laid (length to0) p → IsLaid now.nodes.items to p
   laid_row old now p to0 to stands once takes none moved = laid_apart old.nodes.items now.nodes.items p to0 to stands once takes.others none moved
 
   -- the plan that is read, as a row to move
@@ -221,7 +279,8 @@ module _ {V : Type 0} where
     pub room : length (tops p) ≤ length nodes
 
   -- sound nodes can be read
-  pub readable : (nodes : List (Node V)) (root free : Option ℕ) (p : Plan V) (spare : List ℕ) → IsSound nodes root free p spare → Readable nodes root (plan_at nodes root)
+  pub readable : (nodes : List (Node V)) (root free : Option ℕ) (p : Plan V) (spare : List ℕ)
+      → IsSound nodes root free p spare → Readable nodes root (plan_at nodes root)
   readable nodes root free p spare sound =
       let once = counted_once nodes root free p spare sound in
       rw (plan_is nodes root p sound.plan_ok) (record {
@@ -233,5 +292,6 @@ module _ {V : Type 0} where
       })
 
   -- the row that is read is that of the sound plan
-  pub same_row : (to : List (Node V)) (root free : Option ℕ) (q p : Plan V) (spare : List ℕ) → IsSound to root free q spare → row q ≡ row p → row (plan_at to root) ≡ row p
+  pub same_row : (to : List (Node V)) (root free : Option ℕ) (q p : Plan V) (spare : List ℕ)
+      → IsSound to root free q spare → row q ≡ row p → row (plan_at to root) ≡ row p
   same_row to root free q p spare sound e = ap (λ (x : Plan V). row x) (plan_is to root q sound.plan_ok) ∙ e

@@ -29,10 +29,29 @@ some_of (Some x) e = (x, refl)
 same_vec : {X : Type 0} (v : Vec X) (xs : List X) → v.items ≡ xs → (ok : v.len ≡ length xs)
     → record { ptr = v.ptr; len = v.len; cap = v.cap; alloc = v.alloc; items = xs; ok = (ok, v.ok.1); small = v.small } ≡ v
 same_vec {X} v xs is =
-    subst (λ (ys : List X). (ok : v.len ≡ length ys) → record { ptr = v.ptr; len = v.len; cap = v.cap; alloc = v.alloc; items = ys; ok = (ok, v.ok.1); small = v.small } ≡ v) is
-    (λ ok. ap (λ o. record { ptr = v.ptr; len = v.len; cap = v.cap; alloc = v.alloc; items = v.items; ok = (o, v.ok.1); small = v.small }) (ℕ_set _ _ ok v.ok.0))
+    subst (λ (ys : List X). (ok : v.len ≡ length ys) →
+    record {
+      ptr = v.ptr;
+      len = v.len;
+      cap = v.cap;
+      alloc = v.alloc;
+      items = ys;
+      ok = (ok, v.ok.1);
+      small = v.small;
+    } ≡ v) is
+    (λ ok. ap
+    (λ o. record {
+      ptr = v.ptr;
+      len = v.len;
+      cap = v.cap;
+      alloc = v.alloc;
+      items = v.items;
+      ok = (o, v.ok.1);
+      small = v.small;
+    }) (ℕ_set _ _ ok v.ok.0))
 
-module _ {V : Type 0} (s : NodeArena V) (id at : ℕ) (same : at ≡ id) (within : id < vec_len s.nodes) (n : Node V) (reads : n ≡ get_or s.nodes.items at n) where
+module _ {V : Type 0} (s : NodeArena V) (id at : ℕ) (same : at ≡ id)
+    (within : id < vec_len s.nodes) (n : Node V) (reads : n ≡ get_or s.nodes.items at n) where
   there : slice_get s.nodes.items id ≡ Some n
   there = slice_get_read s.nodes.items (vec_len s.nodes) id n s.nodes.ok.0 within (rw same at reads)
 
@@ -41,14 +60,18 @@ module _ {V : Type 0} (s : NodeArena V) (id at : ℕ) (same : at ≡ id) (within
   lent_value = ap value_in (sym there)
 
   -- what is left behind the loan is the node's value
-  pub lent_write : (w : V) → record s { nodes = with_item s.nodes at (record n { value = Some w }) } ≡ with_value s id w
+  pub lent_write : (w : V)
+      → record s { nodes = with_item s.nodes at (record n { value = Some w }) } ≡ with_value s id w
   lent_write w = rw (there, same) refl
 
   -- where nothing is lent, the node stays
   pub lent_none : record s { nodes = with_item s.nodes at n } ≡ s
-  lent_none = ap (λ v. record s { nodes = v }) (same_vec s.nodes (set s.nodes.items at n) (sym (ap (set s.nodes.items at) reads ∙ set-get_or s.nodes.items at n)) _)
+  lent_none = ap (λ v. record s { nodes = v })
+      (same_vec s.nodes (set s.nodes.items at n)
+      (sym (ap (set s.nodes.items at) reads ∙ set-get_or s.nodes.items at n)) _)
 
-module _ {item : List ℕ → Type 0} {V : Type 0} {s : NodeArena V} {key : List ℕ} {link_ref : LinkRef} {at : Option ℕ} {rest : List ℕ} {matched : Match}
+module _ {item : List ℕ → Type 0} {V : Type 0} {s : NodeArena V} {key : List ℕ}
+    {link_ref : LinkRef} {at : Option ℕ} {rest : List ℕ} {matched : Match}
     (sought : Sought item s key link_ref at rest matched) (id : ℕ) (is : node_of matched ≡ Some id) (n : Node V) (reads : n ≡ get_or s.nodes.items id n) where
   open sought use {kind, whole, canonical as ok, place as p}
 
@@ -78,5 +101,6 @@ module _ {item : List ℕ → Type 0} {V : Type 0} {s : NodeArena V} {key : List
   has_none none = find_some sought id is n reads ∙ not_some n.value none
 
 -- the node has what a look-up finds
-pub node_found : (item : List ℕ → Type 0) {V : Type 0} (s : NodeArena V) (key : List ℕ) (id : ℕ) → HasValueNode item s key id → value_of s id ≡ find key_cmp key (entries_of s)
+pub node_found : (item : List ℕ → Type 0) {V : Type 0} (s : NodeArena V) (key : List ℕ) (id : ℕ)
+    → HasValueNode item s key id → value_of s id ≡ find key_cmp key (entries_of s)
 node_found item s key id h = h.is_value ∙ sym h.found

@@ -21,7 +21,8 @@ below_in n at h = grind (arith, nat_tests)
 
 module _ {V : Type 0} where
   -- nodes that stand for a plan are read as that plan
-  read-stands : (nodes : List (Node V)) (p : Plan V) (n : ℕ) → LaidOut nodes p → size p ≤ n → read n nodes (head p) ≡ p
+  read-stands : (nodes : List (Node V)) (p : Plan V) (n : ℕ) → LaidOut nodes p → size p ≤ n
+      → read n nodes (head p) ≡ p
   read-stands nodes Nil zero s h = refl
   read-stands nodes Nil (suc n) s h = refl
   read-stands nodes (Cell id l v c d) zero s h = absurd (omega arith)
@@ -31,11 +32,13 @@ module _ {V : Type 0} where
       rw (s.0, below, beside) refl
 
   -- the plan that is read is the only one
-  pub plan_is : (nodes : List (Node V)) (at : Option ℕ) (p : Plan V) → IsPlan nodes at p → plan_at nodes at ≡ p
+  pub plan_is : (nodes : List (Node V)) (at : Option ℕ) (p : Plan V) → IsPlan nodes at p
+      → plan_at nodes at ≡ p
   plan_is nodes at p w = rw w.at_is (read-stands nodes p (length nodes) w.stands w.fits)
 
   -- what is read is a plan, where there is one
-  pub plan_read : (nodes : List (Node V)) (root free : Option ℕ) (p : Plan V) (spare : List ℕ) → IsSound nodes root free p spare → IsPlan nodes root (plan_at nodes root)
+  pub plan_read : (nodes : List (Node V)) (root free : Option ℕ) (p : Plan V) (spare : List ℕ)
+      → IsSound nodes root free p spare → IsPlan nodes root (plan_at nodes root)
   plan_read nodes root free p spare sound = rw (plan_is nodes root p sound.plan_ok) sound.plan_ok
 
   -- no nodes
@@ -49,7 +52,8 @@ module _ {V : Type 0} where
   })
 
   -- a node of the plan, as it is read
-  pub node_is : (nodes : List (Node V)) (id : ℕ) (n m : Node V) → slice_get nodes id ≡ Some m → n ≡ get_or nodes id n → n ≡ m
+  pub node_is : (nodes : List (Node V)) (id : ℕ) (n m : Node V) → slice_get nodes id ≡ Some m
+      → n ≡ get_or nodes id n → n ≡ m
   node_is nodes id n m there reads = reads ∙ get_or_from_slice_get nodes id m n there
 
 -- a test that found nothing

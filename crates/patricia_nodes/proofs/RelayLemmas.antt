@@ -110,7 +110,8 @@ module _ {V : Type 0} where
   first-opened n (Cell id l v c d) = refl
 
   -- its top nodes wait no longer, and the others do
-  pub olds-opened : (n : ℕ) (w : Plan V) (at : ℕ) → olds (opened n w) at + times (tops w) at ≡ count w at
+  pub olds-opened : (n : ℕ) (w : Plan V) (at : ℕ)
+      → olds (opened n w) at + times (tops w) at ≡ count w at
   olds-opened n Nil at = refl
   olds-opened n (Cell id l v c d) at = omega (arith, olds-opened (suc n) d at)
 
@@ -130,7 +131,8 @@ module _ {V : Type 0} where
   waits-opened n (Cell id l v c d) = omega (arith, waits-opened (suc n) d)
 
   -- its top nodes have the new numbers from the first on
-  pub news-opened : (n : ℕ) (w : Plan V) (at : ℕ) → news (opened n w) at + below n at ≡ below (n + length (tops w)) at
+  pub news-opened : (n : ℕ) (w : Plan V) (at : ℕ)
+      → news (opened n w) at + below n at ≡ below (n + length (tops w)) at
   news-opened n Nil at = grind (arith, nat_tests)
   news-opened n (Cell id l v c d) at =
       let rest = news-opened (suc n) d at in
@@ -147,25 +149,34 @@ module _ {V : Type 0} where
   pub row-step : (i n : ℕ) (q : Mix V) → row (flat (step i n q)) ≡ row (flat q)
   row-step i n Empty = refl
   row-step i n (Done id l v c d) = rw (row-step i n c, row-step i n d) refl
-  row-step i n (Open id l v c d) = elim (nat_eq id i) as (λ b. row (flat (if b then Done id l v (opened n c) (step i n d) else Open id l v c (step i n d))) ≡ node l v (row c) (row (flat d))) [
-    | true ↦ rw (row-opened n c, row-step i n d) refl
-    | false ↦ rw (row-step i n d) refl
-  ]
+  row-step i n (Open id l v c d) = elim (nat_eq id i) as
+      (λ b. row
+      (flat (if b then Done id l v (opened n c) (step i n d) else Open id l v c (step i n d))) ≡
+      node l v (row c) (row (flat d))) [
+        | true ↦ rw (row-opened n c, row-step i n d) refl
+        | false ↦ rw (row-step i n d) refl
+      ]
 
   -- a step keeps the number of nodes
   pub size-step : (i n : ℕ) (q : Mix V) → size (flat (step i n q)) ≡ size (flat q)
   size-step i n Empty = refl
   size-step i n (Done id l v c d) = omega (arith, size-step i n c, size-step i n d)
-  size-step i n (Open id l v c d) = elim (nat_eq id i) as (λ b. size (flat (if b then Done id l v (opened n c) (step i n d) else Open id l v c (step i n d))) ≡ suc (size c + size (flat d))) [
-    | true ↦ omega (arith, size-opened n c, size-step i n d)
-    | false ↦ omega (arith, size-step i n d)
-  ]
+  size-step i n (Open id l v c d) = elim (nat_eq id i) as
+      (λ b. size
+      (flat (if b then Done id l v (opened n c) (step i n d) else Open id l v c (step i n d))) ≡
+      suc (size c + size (flat d))) [
+        | true ↦ omega (arith, size-opened n c, size-step i n d)
+        | false ↦ omega (arith, size-step i n d)
+      ]
 
   -- and the first of them
   pub first-step : (i n : ℕ) (q : Mix V) → first_of (step i n q) ≡ first_of q
   first-step i n Empty = refl
   first-step i n (Done id l v c d) = refl
-  first-step i n (Open id l v c d) = elim (nat_eq id i) as (λ b. first_of (if b then Done id l v (opened n c) (step i n d) else Open id l v c (step i n d)) ≡ Some id) [ true ↦ refl | false ↦ refl ]
+  first-step i n (Open id l v c d) = elim (nat_eq id i) as
+      (λ b. first_of
+      (if b then Done id l v (opened n c) (step i n d) else Open id l v c (step i n d)) ≡ Some id)
+      [ true ↦ refl | false ↦ refl ]
 
   -- where node i is not, a step does nothing
   step_none : (i n : ℕ) (q : Mix V) → news q i ≡ 0 → step i n q ≡ q
@@ -186,7 +197,8 @@ module _ {V : Type 0} where
   Moved i n q w = record {
     left : (at : ℕ) → olds (step i n q) at + times (tops w) at ≡ olds q at;
     waits : waits (step i n q) + length (tops w) ≡ waits q;
-    came : (at : ℕ) → news (step i n q) at + below n at ≡ news q at + below (n + length (tops w)) at;
+    came : (at : ℕ)
+        → news (step i n q) at + below n at ≡ news q at + below (n + length (tops w)) at;
   }
 
   -- a step moves the row below one node
@@ -202,7 +214,12 @@ module _ {V : Type 0} where
       rw none (record { left = λ at. omega (arith, inner.left at); waits = omega (arith, inner.waits); came = λ at. omega (arith, inner.came at) })
   step-moves i n (Open id l v c d) w once (inr due) =
       let inner = step-moves i n d w (omega arith) due in
-      rw (other_number id i (omega (arith, some_at i d w due))) (record { left = λ at. omega (arith, inner.left at); waits = omega (arith, inner.waits); came = λ at. omega (arith, inner.came at) })
+      rw (other_number id i (omega (arith, some_at i d w due)))
+      (record {
+        left = λ at. omega (arith, inner.left at);
+        waits = omega (arith, inner.waits);
+        came = λ at. omega (arith, inner.came at);
+      })
   step-moves i n (Open id l v c d) w once (inl here) =
       let none = step_none i n d (omega (arith, one-same i, ap (λ k. one k i) here.0)) in
       rw (here.0, same_number i, here.1, none) (record {
@@ -226,7 +243,8 @@ module _ {V : Type 0} where
   ]
 
   -- they stand there, and the node has the number of the first of them
-  pub opens_at : (from to : List (Node V)) (i : ℕ) (q : Mix V) (w : Plan V) → Lies from to q → OpenAt i q w
+  pub opens_at : (from to : List (Node V)) (i : ℕ) (q : Mix V) (w : Plan V) → Lies from to q
+      → OpenAt i q w
       → LaidOut from w × ((n : Node V) × (slice_get to i ≡ Some n) × (n.child ≡ head w))
   opens_at from to i Empty w lies due = absurd due
   opens_at from to i (Done id l v c d) w lies (inl due) = opens_at from to i c w lies.1 due
@@ -235,7 +253,8 @@ module _ {V : Type 0} where
   opens_at from to i (Open id l v c d) w lies (inr due) = opens_at from to i d w lies.2 due
 
   -- they are not more than what waits, and each number stands in them as often as there at most
-  pub open_within : (i : ℕ) (q : Mix V) (w : Plan V) → OpenAt i q w → (size w ≤ waits q) × ((at : ℕ) → count w at ≤ olds q at)
+  pub open_within : (i : ℕ) (q : Mix V) (w : Plan V) → OpenAt i q w
+      → (size w ≤ waits q) × ((at : ℕ) → count w at ≤ olds q at)
   open_within i Empty w due = absurd due
   open_within i (Done id l v c d) w (inl due) = let h = open_within i c w due in (omega (arith, h.0), λ at. omega (arith, h.1 at))
   open_within i (Done id l v c d) w (inr due) = let h = open_within i d w due in (omega (arith, h.0), λ at. omega (arith, h.1 at))
@@ -243,7 +262,8 @@ module _ {V : Type 0} where
   open_within i (Open id l v c d) w (inr due) = let h = open_within i d w due in (omega (arith, h.0), λ at. omega (arith, h.1 at))
 
   -- the top row is part of the plan
-  pub tops_within : (w : Plan V) → (length (tops w) ≤ size w) × ((at : ℕ) → times (tops w) at ≤ count w at)
+  pub tops_within : (w : Plan V)
+      → (length (tops w) ≤ size w) × ((at : ℕ) → times (tops w) at ≤ count w at)
   tops_within Nil = (omega arith, λ at. omega arith)
   tops_within (Cell id l v c d) = let h = tops_within d in (omega (arith, h.0), λ at. omega (arith, h.1 at))
 
@@ -256,7 +276,8 @@ module _ {V : Type 0} where
   rows_stand nodes (Cell id l v c d) s = (s.0, rows_stand nodes d s.2)
 
   -- what stands once is a row to move
-  pub top_row : (nodes : List (Node V)) (at : Option ℕ) (w : Plan V) → LaidOut nodes w → at ≡ head w → ((i : ℕ) → count w i ≤ 1) → IsTopRow nodes at w
+  pub top_row : (nodes : List (Node V)) (at : Option ℕ) (w : Plan V) → LaidOut nodes w → at ≡ head w
+      → ((i : ℕ) → count w i ≤ 1) → IsTopRow nodes at w
   top_row nodes at w s e once = record { stands = rows_stand nodes w s; at_is = e; once = λ i. omega (arith, once i, (tops_within w).1 i) }
 
   -- the nodes up to i + 1 have their children in the new vector then
@@ -265,12 +286,16 @@ module _ {V : Type 0} where
   up_to-step i n (Done id l v c d) up h = (let less = up.0 in omega arith, up_to-step i n c up.1 h, up_to-step i n d up.2 h)
   up_to-step i n (Open id l v c d) up h = by (nat_eq id i) refl (up_to-step i n d up.1 h)
     where
-      by : (b : Bool) → nat_eq id i ≡ b → IsUpTo (suc i) (step i n d) → IsUpTo (suc i) (if b then Done id l v (opened n c) (step i n d) else Open id l v c (step i n d))
+      by : (b : Bool) → nat_eq id i ≡ b → IsUpTo (suc i) (step i n d) → IsUpTo (suc i)
+          (if b then Done id l v (opened n c) (step i n d) else Open id l v c (step i n d))
       by true e rest = (grind (arith, nat_tests), up_to-opened (suc i) n c (omega arith), rest)
       by false e rest = (let le = up.0 in grind (arith, nat_tests), rest)
 
   -- what lies at other numbers, lies still
-  lies-keep : (from later to final : List (Node V)) (q : Mix V) → ((at : ℕ) → news q at ≢ 0 → slice_get final at ≡ slice_get to at) → ((at : ℕ) → olds q at ≢ 0 → slice_get later at ≡ slice_get from at) → Lies from to q → Lies later final q
+  lies-keep : (from later to final : List (Node V)) (q : Mix V)
+      → ((at : ℕ) → news q at ≢ 0 → slice_get final at ≡ slice_get to at)
+      → ((at : ℕ) → olds q at ≢ 0 → slice_get later at ≡ slice_get from at) → Lies from to q
+      → Lies later final q
   lies-keep from later to final Empty k o s = tt
   lies-keep from later to final (Done id l v c d) k o s = (
     k id (λ e. omega (arith, one-same id)) ∙ s.0,
@@ -293,7 +318,9 @@ module _ {V : Type 0} where
   get-behind (x ∷ xs) ys y = get-behind xs ys y
 
   -- what is below a row that stands, and is not touched
-  pub below-keep : (from later : List (Node V)) (w : Plan V) → ((at : ℕ) → count_below w at ≢ 0 → slice_get later at ≡ slice_get from at) → LaidOut from w → BelowStands later w
+  pub below-keep : (from later : List (Node V)) (w : Plan V)
+      → ((at : ℕ) → count_below w at ≢ 0 → slice_get later at ≡ slice_get from at) → LaidOut from w
+      → BelowStands later w
   below-keep from later Nil k s = tt
   below-keep from later (Cell id l v c d) k s = (
     stands-keep from later c (λ at n. k at (λ e. n (omega arith))) s.1,
@@ -302,15 +329,19 @@ module _ {V : Type 0} where
 
   -- a row that has just come lies behind the others
   pub lies-opened : (from to final : List (Node V)) (w : Plan V) → BelowStands from w
-      → ((at : ℕ) → length to ≤ at → slice_get final at ≡ slice_get (to ++ laid (length to) w) at) → Lies from final (opened (length to) w)
+      → ((at : ℕ) → length to ≤ at → slice_get final at ≡ slice_get (to ++ laid (length to) w) at)
+      → Lies from final (opened (length to) w)
   lies-opened from to final Nil s f = tt
   lies-opened from to final (Cell id l v c d) s f =
       let x = linked l v (head c) (head (numbered_siblings (suc (length to)) d)) in
       let more : length (to ++ x ∷ []) ≡ suc (length to) = omega (arith, length-append to (x ∷ [])) in
-      let same : (to ++ x ∷ []) ++ laid (length (to ++ x ∷ [])) d ≡ to ++ laid (length to) (Cell id l v c d) = append_assoc to (x ∷ []) (laid (length (to ++ x ∷ [])) d) ∙ ap (λ k. to ++ x ∷ laid k d) more in
+      let same : (to ++ x ∷ []) ++ laid (length (to ++ x ∷ [])) d ≡ to ++ laid (length to)
+      (Cell id l v c d) = append_assoc to (x ∷ []) (laid (length (to ++ x ∷ [])) d) ∙ ap
+      (λ k. to ++ x ∷ laid k d) more in
       let rest : Lies from final (opened (length (to ++ x ∷ [])) d) =
       lies-opened from (to ++ x ∷ []) final d s.1 (λ at h. f at (omega (arith, more)) ∙ ap (λ xs. slice_get xs at) (sym same)) in (
-        f (length to) (omega arith) ∙ get-behind to (laid (suc (length to)) d) x ∙ ap (λ k. Some (linked l v (head c) k)) (sym (first-opened (suc (length to)) d)),
+        f (length to) (omega arith) ∙ get-behind to (laid (suc (length to)) d) x ∙ ap
+            (λ k. Some (linked l v (head c) k)) (sym (first-opened (suc (length to)) d)),
         s.0,
         subst (λ k. Lies from final (opened k d)) more rest,
       )
@@ -323,16 +354,24 @@ module _ {V : Type 0} where
     abbrev stepped : Mix V → Mix V
     stepped q = step i (length to) q
 
-    still : (q : Mix V) → news q i ≡ 0 → ((at : ℕ) → news q at ≢ 0 → at < length to) → ((at : ℕ) → olds (stepped q) at ≢ 0 → slice_get later at ≡ slice_get from at) → Lies from to q → Lies later final (stepped q)
+    still : (q : Mix V) → news q i ≡ 0 → ((at : ℕ) → news q at ≢ 0 → at < length to)
+        → ((at : ℕ) → olds (stepped q) at ≢ 0 → slice_get later at ≡ slice_get from at)
+        → Lies from to q → Lies later final (stepped q)
     still q none short o lies =
         let same = step_none i (length to) q none in
-        rw same (lies-keep from later to final q (λ at n. others at (short at n) (λ e. n (ap (news q) e ∙ none))) (λ at n. o at (λ e. n (ap (λ r. olds r at) (sym same) ∙ e))) lies)
+        rw same (lies-keep from later to final q
+        (λ at n. others at (short at n) (λ e. n (ap (news q) e ∙ none)))
+        (λ at n. o at (λ e. n (ap (λ r. olds r at) (sym same) ∙ e))) lies)
 
-    own : (id : ℕ) (n m : Node V) → id < length to → one id i ≡ 0 → slice_get to id ≡ Some n → n ≡ m → slice_get final id ≡ Some m
+    own : (id : ℕ) (n m : Node V) → id < length to → one id i ≡ 0 → slice_get to id ≡ Some n → n ≡ m
+        → slice_get final id ≡ Some m
     own id n m short none at e = others id short (λ z. absurd (omega (arith, none, ap (λ k. one k i) z, one-same i))) ∙ at ∙ ap (λ x. Some x) e
 
     -- after a step the nodes lie where the plan says
-    pub lies-step : (q : Mix V) → news q i ≤ 1 → OpenAt i q w → ((at : ℕ) → news q at ≢ 0 → at < length to) → ((at : ℕ) → olds (stepped q) at ≢ 0 → slice_get later at ≡ slice_get from at) → Lies from to q → Lies later final (stepped q)
+    pub lies-step : (q : Mix V) → news q i ≤ 1 → OpenAt i q w
+        → ((at : ℕ) → news q at ≢ 0 → at < length to)
+        → ((at : ℕ) → olds (stepped q) at ≢ 0 → slice_get later at ≡ slice_get from at)
+        → Lies from to q → Lies later final (stepped q)
     lies-step Empty once due short o lies = absurd due
     lies-step (Done id l v c d) once (inl due) short o lies =
         let some = some_at i c w due in (
@@ -361,13 +400,21 @@ module _ {V : Type 0} where
         let kept : (at : ℕ) → olds (Done id l v (opened (length to) c) (stepped d)) at ≢ 0 → slice_get later at ≡ slice_get from at = rw same at o in
         let there : slice_get to i ≡ Some (linked l v (head c) (first_of d)) = ap (slice_get to) (sym at_i.0) ∙ lies.0 in
         rw same (
-          ap (slice_get final) at_i.0 ∙ here _ there ∙ ap (λ k. Some (linked l v k (first_of d))) (ap (λ x. head (numbered_siblings (length to) x)) (sym at_i.1) ∙ sym (first-opened (length to) c)) ∙ ap (λ k. Some (linked l v (first_of (opened (length to) c)) k)) (sym (first-step i (length to) d)),
-          lies-opened later to final c (below-keep from later c (λ at n. kept at (λ e. n (omega (arith, olds-below (length to) c at)))) lies.1) (λ at h. new at h ∙ ap (λ x. slice_get (to ++ laid (length to) x) at) (sym at_i.1)),
+          ap (slice_get final) at_i.0 ∙ here _ there ∙ ap (λ k. Some (linked l v k (first_of d)))
+              (ap (λ x. head (numbered_siblings (length to) x)) (sym at_i.1) ∙ sym
+              (first-opened (length to) c)) ∙ ap
+              (λ k. Some (linked l v (first_of (opened (length to) c)) k))
+              (sym (first-step i (length to) d)),
+          lies-opened later to final c
+              (below-keep from later c
+              (λ at n. kept at (λ e. n (omega (arith, olds-below (length to) c at)))) lies.1)
+              (λ at h. new at h ∙ ap (λ x. slice_get (to ++ laid (length to) x) at) (sym at_i.1)),
           still d none (λ at n. short at (λ e. n (omega arith))) (λ at n. kept at (λ e. n (omega arith))) lies.2,
         )
 
   -- once each number had its turn, nothing waits
-  pub lies_done : (from to : List (Node V)) (q : Mix V) → Lies from to q → IsUpTo (length to) q → LaidOut to (flat q) × ((at : ℕ) → count (flat q) at ≡ news q at) × (waits q ≡ 0) × ((at : ℕ) → olds q at ≡ 0)
+  pub lies_done : (from to : List (Node V)) (q : Mix V) → Lies from to q → IsUpTo (length to) q
+      → LaidOut to (flat q) × ((at : ℕ) → count (flat q) at ≡ news q at) × (waits q ≡ 0) × ((at : ℕ) → olds q at ≡ 0)
   lies_done from to Empty lies up = (tt, λ at. refl, refl, λ at. refl)
   lies_done from to (Open id l v c d) lies up = absurd (let short = slice_get_within to id _ lies.0 in let long = up.0 in omega arith)
   lies_done from to (Done id l v c d) lies up =

@@ -22,7 +22,8 @@ use Rattle.patricia_model.proofs.GetLemmas.{find_before, find_within, find_here}
 use Rattle.patricia_model.proofs.CountLemmas.{counted_end, counted_before, counted_within, counted_here}
 
 -- the walk has come so far, with a step for each frame
-pub record Walks (item : List ℕ → Type 0) {V : Type 0} (s : NodeArena V) (key : List ℕ) (link_ref : LinkRef) (at : Option ℕ) (rest : List ℕ) (start now : ℕ) : Type 0 where
+pub record Walks (item : List ℕ → Type 0) {V : Type 0} (s : NodeArena V) (key : List ℕ)
+    (link_ref : LinkRef) (at : Option ℕ) (rest : List ℕ) (start now : ℕ) : Type 0 where
   pub frames : List (Frame V)
   pub focus : Plan V
   pub fills : fill frames focus ≡ plan_at s.nodes.items s.root
@@ -33,7 +34,8 @@ pub record Walks (item : List ℕ → Type 0) {V : Type 0} (s : NodeArena V) (ke
   pub ticked : now ≡ start + length frames
 
 -- nodes of a key kind, and the place of a key among them
-pub record Sought (item : List ℕ → Type 0) {V : Type 0} (s : NodeArena V) (key : List ℕ) (link_ref : LinkRef) (at : Option ℕ) (rest : List ℕ) (matched : Match) : Type 0 where
+pub record Sought (item : List ℕ → Type 0) {V : Type 0} (s : NodeArena V) (key : List ℕ)
+    (link_ref : LinkRef) (at : Option ℕ) (rest : List ℕ) (matched : Match) : Type 0 where
   pub kind : IsKeyKind item
   pub whole : IsWellFormed s
   pub canonical : IsCanonical item (siblings_of s)
@@ -69,7 +71,8 @@ ticks (Cell id l v c d) = 1
 
 module _ {V : Type 0} where
   -- a number that a plan begins with is that of a node
-  pub head_within : (nodes : List (Node V)) (at : Option ℕ) (p : Plan V) (id : ℕ) → IsPlan nodes at p → at ≡ Some id → id < length nodes
+  pub head_within : (nodes : List (Node V)) (at : Option ℕ) (p : Plan V) (id : ℕ)
+      → IsPlan nodes at p → at ≡ Some id → id < length nodes
   head_within nodes at Nil id w e = let h = w.at_is in absurd (cc)
   head_within nodes at (Cell i l v c d) id w e =
       let h = w.at_is in
@@ -77,7 +80,8 @@ module _ {V : Type 0} where
       rw same (slice_get_within nodes i _ w.stands.0)
 
   -- the node that a plan begins with, as it is read
-  pub opened : (nodes : List (Node V)) (at : Option ℕ) (p : Plan V) (id : ℕ) (n : Node V) → IsPlan nodes at p → at ≡ Some id → n ≡ get_or nodes id n → Opened nodes p id n
+  pub opened : (nodes : List (Node V)) (at : Option ℕ) (p : Plan V) (id : ℕ) (n : Node V)
+      → IsPlan nodes at p → at ≡ Some id → n ≡ get_or nodes id n → Opened nodes p id n
   opened nodes at Nil id n w e r = let h = w.at_is in absurd (cc)
   opened nodes at (Cell i l v c d) id n w e r =
       let h = w.at_is in
@@ -92,18 +96,21 @@ module _ {V : Type 0} where
       })
 
   -- the plan of whole nodes is read from the root
-  pub whole_plan : (s : NodeArena V) → IsWellFormed s → IsPlan s.nodes.items s.root (plan_at s.nodes.items s.root)
+  pub whole_plan : (s : NodeArena V) → IsWellFormed s
+      → IsPlan s.nodes.items s.root (plan_at s.nodes.items s.root)
   whole_plan s w = plan_read s.nodes.items s.root s.free w.0 w.1.0 w.1.1
 
 -- the node above a spot is that above the place
-pub node_above-link_ref_of : {V : Type 0} (fs : List (Frame V)) → node_above (link_ref_of fs) ≡ above_of fs
+pub node_above-link_ref_of : {V : Type 0} (fs : List (Frame V))
+    → node_above (link_ref_of fs) ≡ above_of fs
 node_above-link_ref_of [] = refl
 node_above-link_ref_of (InChild id l v d ∷ fs) = refl
 node_above-link_ref_of (InSibling id l v c ∷ fs) = refl
 
 module _ (item : List ℕ → Type 0) (kind : IsKeyKind item) {V : Type 0} where
   -- how a look-up ends decides what is found
-  found_stop : (focus : Plan V) → IsCanonical item (row focus) → (rest : List ℕ) (matched : Match) → Matches item focus rest matched → node_of matched ≡ None
+  found_stop : (focus : Plan V) → IsCanonical item (row focus) → (rest : List ℕ) (matched : Match)
+      → Matches item focus rest matched → node_of matched ≡ None
       → find key_cmp rest (entries (row focus)) ≡ None
   found_stop Nil ok rest matched h none = refl
   found_stop (Cell id l v c d) ok rest Absent h none = find_before item kind l v (row c) (row d) ok rest h
@@ -111,17 +118,30 @@ module _ (item : List ℕ → Type 0) (kind : IsKeyKind item) {V : Type 0} where
   found_stop (Cell id l v c d) ok rest (Exact i) h none = absurd (cc)
 
   -- and what is counted
-  counted_stop : (focus : Plan V) → IsCanonical item (row focus) → (rest : List ℕ) → rest ≢ [] → (matched : Match) → Matches item focus rest matched → (n m : ℕ)
-      → m ≡ n + ticks focus → IsCounted item (row focus) rest n m
-  counted_stop Nil ok rest some matched h n m e = let same : n ≡ m = omega arith in subst (λ k. IsCounted {V = V} item end rest n k) same (counted_end item kind rest n some)
+  counted_stop : (focus : Plan V) → IsCanonical item (row focus) → (rest : List ℕ) → rest ≢ []
+      → (matched : Match) → Matches item focus rest matched → (n m : ℕ) → m ≡ n + ticks focus
+      → IsCounted item (row focus) rest n m
+  counted_stop Nil ok rest some matched h n m e =
+      let same : n ≡ m = omega arith in
+      subst (λ k. IsCounted {V = V} item end rest n k) same (counted_end item kind rest n some)
   counted_stop (Cell id l v c d) ok rest some Absent h n m e = counted_before item kind l v (row c) (row d) ok rest some n m e h
   counted_stop (Cell id l v c d) ok rest some (InsideLabel i k) h n m e = counted_within item kind l v (row c) (row d) ok rest some n m e k h.1
   counted_stop (Cell id l v c d) ok rest some (Exact i) h n m e = counted_here item kind l v (row c) (row d) ok rest some n m e [] h.1 refl
 
-module _ {item : List ℕ → Type 0} (kind : IsKeyKind item) {V : Type 0} {s : NodeArena V} {key : List ℕ} (whole : IsWellFormed s) (ok : IsCanonical item (siblings_of s)) where
+module _ {item : List ℕ → Type 0} (kind : IsKeyKind item) {V : Type 0} {s : NodeArena V}
+    {key : List ℕ} (whole : IsWellFormed s) (ok : IsCanonical item (siblings_of s)) where
   -- the walk begins at the top
   pub walks_root : (start : ℕ) → key ≢ [] → Walks item s key Root s.root key start start
-  walks_root start some = record { frames = []; focus = plan_at s.nodes.items s.root; fills = refl; link_ref_is = refl; at_is = (whole_plan s whole).at_is; leads = refl; rest_nonempty = some; ticked = omega arith }
+  walks_root start some = record {
+    frames = [];
+    focus = plan_at s.nodes.items s.root;
+    fills = refl;
+    link_ref_is = refl;
+    at_is = (whole_plan s whole).at_is;
+    leads = refl;
+    rest_nonempty = some;
+    ticked = omega arith;
+  }
 
   module _ {link_ref : LinkRef} {at : Option ℕ} {rest : List ℕ} {start now : ℕ} (w : Walks item s key link_ref at rest start now) where
     focus_plan : IsPlan s.nodes.items at w.focus
@@ -133,10 +153,21 @@ module _ {item : List ℕ → Type 0} (kind : IsKeyKind item) {V : Type 0} {s : 
     focus_row : IsCanonical item (row w.focus)
     focus_row = row-within item w.frames w.focus filled_row
 
-    placed : (matched : Match) → Matches item w.focus rest matched → Placed item s key link_ref at rest matched
-    placed matched h = record { frames = w.frames; focus = w.focus; fills = w.fills; link_ref_is = w.link_ref_is; at_is = w.at_is; leads = w.leads; rest_nonempty = w.rest_nonempty; is_match = h }
+    placed : (matched : Match) → Matches item w.focus rest matched
+        → Placed item s key link_ref at rest matched
+    placed matched h = record {
+      frames = w.frames;
+      focus = w.focus;
+      fills = w.fills;
+      link_ref_is = w.link_ref_is;
+      at_is = w.at_is;
+      leads = w.leads;
+      rest_nonempty = w.rest_nonempty;
+      is_match = h;
+    }
 
-    counted : (matched : Match) → Matches item w.focus rest matched → (m : ℕ) → m ≡ now + ticks w.focus → IsCounted item (siblings_of s) key start m
+    counted : (matched : Match) → Matches item w.focus rest matched → (m : ℕ)
+        → m ≡ now + ticks w.focus → IsCounted item (siblings_of s) key start m
     counted matched h m e =
         subst (λ (p : Plan V). IsCounted item (row p) key start m) w.fills
         (counted-fill item kind w.frames w.focus filled_row key rest w.leads w.rest_nonempty start m
@@ -163,19 +194,24 @@ module _ {item : List ℕ → Type 0} (kind : IsKeyKind item) {V : Type 0} {s : 
         opens = opened s.nodes.items at w.focus id n focus_plan is reads
 
         -- the node is that of a row
-        pub opens_row : IsCanonical item (node n.label n.value (row opens.child) (row opens.sibling))
+        pub opens_row :
+            IsCanonical item (node n.label n.value (row opens.child) (row opens.sibling))
         opens_row = subst (λ (p : Plan V). IsCanonical item (row p)) opens.is focus_row
 
         -- at the node
-        pub stops_placed : (matched : Match) → MatchesAt item id n.label rest matched → Placed item s key link_ref at rest matched
+        pub stops_placed : (matched : Match) → MatchesAt item id n.label rest matched
+            → Placed item s key link_ref at rest matched
         stops_placed matched h = placed matched (rw opens.is h)
 
         -- its steps are those that the row allows
-        pub stops_counted : (matched : Match) → MatchesAt item id n.label rest matched → (m : ℕ) → m ≡ now + 1 → IsCounted item (siblings_of s) key start m
+        pub stops_counted : (matched : Match) → MatchesAt item id n.label rest matched → (m : ℕ)
+            → m ≡ now + 1 → IsCounted item (siblings_of s) key start m
         stops_counted matched h m e = counted matched (rw opens.is h) m (rw opens.is e)
 
         -- on to the sibling
-        pub walks_next : (m : ℕ) → m ≡ now + 1 → (above : Option ℕ) → above ≡ node_above link_ref → IsBefore item n.label rest → Walks item s key (Sibling id above) n.sibling rest start m
+        pub walks_next : (m : ℕ) → m ≡ now + 1 → (above : Option ℕ) → above ≡ node_above link_ref
+            → IsBefore item n.label rest
+            → Walks item s key (Sibling id above) n.sibling rest start m
         walks_next m e above a h = record {
           frames = InSibling id n.label n.value opens.child ∷ w.frames;
           focus = opens.sibling;
@@ -188,7 +224,8 @@ module _ {item : List ℕ → Type 0} (kind : IsKeyKind item) {V : Type 0} {s : 
         }
 
         -- down to the children
-        pub walks_down : (m : ℕ) → m ≡ now + 1 → (left : List ℕ) → Passes item rest n.label left → left ≢ [] → Walks item s key (Child id) n.child left start m
+        pub walks_down : (m : ℕ) → m ≡ now + 1 → (left : List ℕ) → Passes item rest n.label left
+            → left ≢ [] → Walks item s key (Child id) n.child left start m
         walks_down m e left h some = record {
           frames = InChild id n.label n.value opens.sibling ∷ w.frames;
           focus = opens.child;
@@ -214,19 +251,22 @@ module _ {item : List ℕ → Type 0} (kind : IsKeyKind item) {V : Type 0} {s : 
 
 module _ (item : List ℕ → Type 0) (rest : List ℕ) where
   -- a node at which a look-up ends begins what is in the place
-  pub stop_at : {V : Type 0} (focus : Plan V) (id : ℕ) (matched : Match) → Matches item focus rest matched → node_of matched ≡ Some id → head focus ≡ Some id
+  pub stop_at : {V : Type 0} (focus : Plan V) (id : ℕ) (matched : Match)
+      → Matches item focus rest matched → node_of matched ≡ Some id → head focus ≡ Some id
   stop_at Nil id matched h e = absurd (let f = ap node_of h in cc)
   stop_at (Cell i l v c d) id Absent h e = absurd (cc)
   stop_at (Cell i l v c d) id (InsideLabel k n) h e = absurd (cc)
   stop_at (Cell i l v c d) id (Exact k) h e = let f = h.0 in cc
 
   -- the key ends with the label of that node
-  pub here_passes : (i : ℕ) (l : List ℕ) (id : ℕ) (matched : Match) → MatchesAt item i l rest matched → node_of matched ≡ Some id → Passes item rest l []
+  pub here_passes : (i : ℕ) (l : List ℕ) (id : ℕ) (matched : Match)
+      → MatchesAt item i l rest matched → node_of matched ≡ Some id → Passes item rest l []
   here_passes i l id Absent h e = absurd (cc)
   here_passes i l id (InsideLabel k n) h e = absurd (cc)
   here_passes i l id (Exact k) h e = h.1
 
-module _ {item : List ℕ → Type 0} {V : Type 0} {s : NodeArena V} {key : List ℕ} {link_ref : LinkRef} {at : Option ℕ} {rest : List ℕ} {matched : Match}
+module _ {item : List ℕ → Type 0} {V : Type 0} {s : NodeArena V} {key : List ℕ}
+    {link_ref : LinkRef} {at : Option ℕ} {rest : List ℕ} {matched : Match}
     (sought : Sought item s key link_ref at rest matched) where
   open sought use {kind, whole, canonical as ok, place as p}
 
@@ -250,7 +290,8 @@ module _ {item : List ℕ → Type 0} {V : Type 0} {s : NodeArena V} {key : List
   find_none none = found ∙ found_stop item kind p.focus (row-within item p.frames p.focus place_row) rest matched p.is_match none
 
   -- the value at the node is found
-  pub find_some : (id : ℕ) → node_of matched ≡ Some id → (n : Node V) → n ≡ get_or s.nodes.items id n → find key_cmp key (entries (siblings_of s)) ≡ n.value
+  pub find_some : (id : ℕ) → node_of matched ≡ Some id → (n : Node V)
+      → n ≡ get_or s.nodes.items id n → find key_cmp key (entries (siblings_of s)) ≡ n.value
   find_some id e n reads =
       let o = opened s.nodes.items at p.focus id n focus_plan_at (p.at_is ∙ stop_at item rest p.focus id matched p.is_match e) reads in
       let inner = subst (λ (q : Plan V). IsCanonical item (row q)) o.is (row-within item p.frames p.focus place_row) in

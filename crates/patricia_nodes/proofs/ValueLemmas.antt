@@ -16,7 +16,8 @@ use Rattle.patricia_nodes.proofs.SeekLemmas.{Sought, Opened, opened, place_row, 
 use Rattle.patricia_nodes.proofs.WriteLemmas.{holds_write}
 use Rattle.patricia_model.proofs.InsertLemmas.{put_own, put_through, row_valued}
 
-module _ {item : List ℕ → Type 0} {V : Type 0} {s : NodeArena V} {key : List ℕ} {link_ref : LinkRef} {at : Option ℕ} {rest : List ℕ} {matched : Match}
+module _ {item : List ℕ → Type 0} {V : Type 0} {s : NodeArena V} {key : List ℕ}
+    {link_ref : LinkRef} {at : Option ℕ} {rest : List ℕ} {matched : Match}
     (sought : Sought item s key link_ref at rest matched) where
   open sought use {kind, whole, canonical as ok, place as p}
 
@@ -31,7 +32,8 @@ module _ {item : List ℕ → Type 0} {V : Type 0} {s : NodeArena V} {key : List
   focus_ok = row-within item p.frames p.focus (place_row sought)
 
   -- a write in the place
-  pub puts : (new : NodeArena V) (x : V) (focus : Plan V) → Holds new (fill p.frames focus) → IsCanonical item (row focus)
+  pub puts : (new : NodeArena V) (x : V) (focus : Plan V) → Holds new (fill p.frames focus)
+      → IsCanonical item (row focus)
       → entries (row focus) ≡ put key_cmp rest x (entries (row p.focus)) → Puts item s new key x
   puts new x focus holds canonical put_is =
       let same : plan_at new.nodes.items new.root ≡ fill p.frames focus = plan_is new.nodes.items new.root (fill p.frames focus) holds.1.plan_ok in
@@ -48,15 +50,19 @@ module _ {item : List ℕ → Type 0} {V : Type 0} {s : NodeArena V} {key : List
     here = opened s.nodes.items at p.focus id r (focus_plan_at sought) (p.at_is ∙ stop_at item rest p.focus id matched p.is_match is) reads
 
     -- a value written there is inserted at the key
-    pub puts_here : (new : NodeArena V) (x : V) (v : Option V) → v ≡ Some x → new.nodes.items ≡ set s.nodes.items id (linked r.label v r.child r.sibling)
+    pub puts_here : (new : NodeArena V) (x : V) (v : Option V) → v ≡ Some x
+        → new.nodes.items ≡ set s.nodes.items id (linked r.label v r.child r.sibling)
         → new.root ≡ s.root → new.free ≡ s.free → Puts item s new key x
     puts_here new x v written nodes_is root_is free_is =
         let o = here in
         let inner = subst (λ (q : Plan V). IsCanonical item (row q)) o.is focus_ok in
         let is_match = subst (λ (q : Plan V). Matches item q rest matched) o.is p.is_match in
-        let holds = holds_write s id r reads p.frames r.label r.label r.value v o.child o.sibling (subst (λ (q : Plan V). Holds s (fill p.frames q)) o.is place_holds) in
+        let holds = holds_write s id r reads p.frames r.label r.label r.value v o.child o.sibling
+        (subst (λ (q : Plan V). Holds s (fill p.frames q)) o.is place_holds) in
         puts new x (Cell id r.label (Some x) o.child o.sibling)
         (rw (nodes_is, root_is, free_is, ← written) holds)
         (row_valued item kind x r.label r.value (row o.child) (row o.sibling) inner)
-        (put_through item kind x r.label r.value (row o.child) (row o.sibling) inner rest [] (Some x) (row o.child) (here_passes item rest id r.label id matched is_match is) (put_own item kind x r.value (row o.child) inner.child)
+        (put_through item kind x r.label r.value (row o.child) (row o.sibling) inner rest []
+        (Some x) (row o.child) (here_passes item rest id r.label id matched is_match is)
+        (put_own item kind x r.value (row o.child) inner.child)
         ∙ ap (λ (q : Plan V). put key_cmp rest x (entries (row q))) (sym o.is))

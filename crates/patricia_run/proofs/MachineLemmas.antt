@@ -5,7 +5,11 @@ use Rattle.patricia_run.specs.declared.command.Reply.{Reply}
 use Rattle.patricia_run.specs.Machine.{State, Step, Run}
 
 -- a run goes on by one step
-pub Run-more : {K V : Type 0} (item : List ℕ → Type 0) (key_of : K → List ℕ) (old : State V) (commands : List (Command (List ℕ) V)) (replies : List (Reply K V)) (mid : State V) (command : Command (List ℕ) V) (reply : Reply K V) (new : State V) → Run item key_of old commands replies mid → Step item key_of mid command reply new → Run item key_of old (commands ++ command ∷ []) (replies ++ reply ∷ []) new
+pub Run-more : {K V : Type 0} (item : List ℕ → Type 0) (key_of : K → List ℕ) (old : State V)
+    (commands : List (Command (List ℕ) V)) (replies : List (Reply K V)) (mid : State V)
+    (command : Command (List ℕ) V) (reply : Reply K V) (new : State V)
+    → Run item key_of old commands replies mid → Step item key_of mid command reply new
+    → Run item key_of old (commands ++ command ∷ []) (replies ++ reply ∷ []) new
 Run-more {K} {V} item key_of old [] [] mid command reply new run step = (new, subst (λ (m : State V). Step item key_of m command reply new) run step, refl)
 Run-more item key_of old (c ∷ cs) (r ∷ rs) mid command reply new run step = (run.0, run.1, Run-more item key_of run.0 cs rs mid command reply new run.2 step)
 Run-more item key_of old [] (r ∷ rs) mid command reply new run step = absurd run

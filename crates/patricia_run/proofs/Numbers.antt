@@ -13,11 +13,14 @@ digits_value_after-ge n [] = omega arith
 digits_value_after-ge n (b ∷ bs) = omega (arith, digits_value_after-ge (n * 10 + digit_value b) bs)
 
 -- one more digit
-pub after_drop : (bs : List ℕ) (i n : ℕ) → i < length bs → digits_value_after 10 n (drop i bs) ≡ digits_value_after 10 (n * 10 + digit_value (get_or bs i 0)) (drop (i + 1) bs)
+pub after_drop : (bs : List ℕ) (i n : ℕ) → i < length bs
+    → digits_value_after 10 n (drop i bs) ≡ digits_value_after 10 (n * 10 + digit_value (get_or bs i 0))
+    (drop (i + 1) bs)
 after_drop bs i n h = rw (drop-cons bs i 0, add-one) refl
 
 -- digits below the limit are their number
-pub number_some : (bs : List ℕ) (n : ℕ) → 0 < length bs → list_all is_ascii_digit bs ≡ true → digits_value 10 bs ≡ n → n < 2 ^ 64 → Some n ≡ number_of bs
+pub number_some : (bs : List ℕ) (n : ℕ) → 0 < length bs → list_all is_ascii_digit bs ≡ true
+    → digits_value 10 bs ≡ n → n < 2 ^ 64 → Some n ≡ number_of bs
 number_some [] n full digits value small = absurd (omega arith)
 number_some (b ∷ bs) n full digits value small = rw (digits, value, lt-ltb n (2 ^ 64) small) refl
 

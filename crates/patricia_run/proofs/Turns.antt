@@ -14,8 +14,12 @@ use Rattle.patricia_run.specs.Writing.{output_of, fault_line, reply_lines}
 use Rattle.patricia_run.specs.Answers.{Answers}
 use Rattle.patricia_run.specs.Internal.Turns.{AnswersFrom}
 
-module _ {K : Type 0} (item : List ℕ → Type 0) (s : KeyFormat) (key_of : K → List ℕ) (old mid new : State ℕ) (rest : List Parsed) (first later : List ℕ) where
-  fault_first : (fault : Fault) (replies : List (Reply K ℕ)) → Run item key_of old [] replies mid → first ≡ fault_line fault ++ output_of s key_of [] replies → AnswersFrom item s key_of mid rest later new → AnswersFrom item s key_of old (Err fault ∷ rest) (first ++ later) new
+module _ {K : Type 0} (item : List ℕ → Type 0) (s : KeyFormat) (key_of : K → List ℕ)
+    (old mid new : State ℕ) (rest : List Parsed) (first later : List ℕ) where
+  fault_first : (fault : Fault) (replies : List (Reply K ℕ)) → Run item key_of old [] replies mid
+      → first ≡ fault_line fault ++ output_of s key_of [] replies
+      → AnswersFrom item s key_of mid rest later new
+      → AnswersFrom item s key_of old (Err fault ∷ rest) (first ++ later) new
   fault_first fault [] same is more = (
     more.0,
     subst (λ (m : State ℕ). Run item key_of m (filter_map result_ok rest) more.0 new) same more.1,
@@ -23,7 +27,11 @@ module _ {K : Type 0} (item : List ℕ → Type 0) (s : KeyFormat) (key_of : K �
   )
   fault_first fault (r ∷ rs) run is more = absurd run
 
-  reply_first : (command : Command (List ℕ) ℕ) (replies : List (Reply K ℕ)) → Run item key_of old (command ∷ []) replies mid → first ≡ output_of s key_of (Ok command ∷ []) replies → AnswersFrom item s key_of mid rest later new → AnswersFrom item s key_of old (Ok command ∷ rest) (first ++ later) new
+  reply_first : (command : Command (List ℕ) ℕ) (replies : List (Reply K ℕ))
+      → Run item key_of old (command ∷ []) replies mid
+      → first ≡ output_of s key_of (Ok command ∷ []) replies
+      → AnswersFrom item s key_of mid rest later new
+      → AnswersFrom item s key_of old (Ok command ∷ rest) (first ++ later) new
   reply_first command [] run is more = absurd run
   reply_first command (r ∷ []) run is more = (
     r ∷ more.0,
@@ -33,18 +41,25 @@ module _ {K : Type 0} (item : List ℕ → Type 0) (s : KeyFormat) (key_of : K �
   reply_first command (r ∷ q ∷ rs) run is more = absurd run.2
 
   -- what is written for a line, and then for the lines after it
-  pub line_first : (said : Parsed) → AnswersFrom item s key_of old (said ∷ []) first mid → AnswersFrom item s key_of mid rest later new → AnswersFrom item s key_of old (said ∷ rest) (first ++ later) new
+  pub line_first : (said : Parsed) → AnswersFrom item s key_of old (said ∷ []) first mid
+      → AnswersFrom item s key_of mid rest later new
+      → AnswersFrom item s key_of old (said ∷ rest) (first ++ later) new
   line_first (Err fault) one more = fault_first fault one.0 one.1 one.2 more
   line_first (Ok command) one more = reply_first command one.0 one.1 one.2 more
 
 module _ {K : Type 0} (item : List ℕ → Type 0) (s : KeyFormat) (key_of : K → List ℕ) where
   -- what is written for the line of a command
-  pub reply_alone : (old new : State ℕ) (said : Parsed) (command : Command (List ℕ) ℕ) (reply : Reply K ℕ) → Ok command ≡ said → Step item key_of old command reply new → AnswersFrom item s key_of old (said ∷ []) (reply_lines s key_of reply) new
+  pub reply_alone :
+      (old new : State ℕ) (said : Parsed) (command : Command (List ℕ) ℕ) (reply : Reply K ℕ)
+      → Ok command ≡ said → Step item key_of old command reply new
+      → AnswersFrom item s key_of old (said ∷ []) (reply_lines s key_of reply) new
   reply_alone old new said command reply is step =
-      subst (λ (x : Parsed). AnswersFrom item s key_of old (x ∷ []) (reply_lines s key_of reply) new) is (reply ∷ [], (new, step, refl), sym (append-nil (reply_lines s key_of reply)))
+      subst (λ (x : Parsed). AnswersFrom item s key_of old (x ∷ []) (reply_lines s key_of reply)
+      new) is (reply ∷ [], (new, step, refl), sym (append-nil (reply_lines s key_of reply)))
 
   -- what is written for a faulty line
-  pub fault_alone : (old : State ℕ) (said : Parsed) (fault : Fault) → Err fault ≡ said → AnswersFrom item s key_of old (said ∷ []) (fault_line fault) old
+  pub fault_alone : (old : State ℕ) (said : Parsed) (fault : Fault) → Err fault ≡ said
+      → AnswersFrom item s key_of old (said ∷ []) (fault_line fault) old
   fault_alone old said fault is =
       subst (λ (x : Parsed). AnswersFrom item s key_of old (x ∷ []) (fault_line fault) old) is ([], refl, sym (append-nil (fault_line fault)))
 
@@ -55,23 +70,34 @@ module _ {K : Type 0} (item : List ℕ → Type 0) (s : KeyFormat) (key_of : K �
         (later : List ℕ) (new : State ℕ) → AnswersFrom item s key_of bench (map (parse_line s) lines) later new → Answers item s key_of input (out ++ later)
 
     -- at first all lines are left
-    pub completes_first : (bench : State ℕ) (lines : List (List ℕ)) (out : List ℕ) → bench ≡ empty_state → lines ≡ lines_of input → out ≡ [] → Completes bench lines out
+    pub completes_first : (bench : State ℕ) (lines : List (List ℕ)) (out : List ℕ)
+        → bench ≡ empty_state → lines ≡ lines_of input → out ≡ [] → Completes bench lines out
     completes_first bench lines out new_bench all nothing later new more = (
       more.0,
       new,
-      subst (λ (b : State ℕ). Run item key_of b (filter_map result_ok (parse_lines s input)) more.0 new) new_bench (subst (λ (ls : List (List ℕ)). Run item key_of bench (filter_map result_ok (map (parse_line s) ls)) more.0 new) all more.1),
+      subst (λ (b : State ℕ). Run item key_of b (filter_map result_ok (parse_lines s input)) more.0
+          new) new_bench
+          (subst (λ (ls : List (List ℕ)). Run item key_of bench
+          (filter_map result_ok (map (parse_line s) ls)) more.0 new) all more.1),
       ap (λ o. o ++ later) nothing ∙ more.2 ∙ ap (λ ls. output_of s key_of (map (parse_line s) ls) more.0) all,
     )
 
     -- a line is answered
-    pub completes_more : (old mid : State ℕ) (line : List ℕ) (lines rest : List (List ℕ)) (out first longer : List ℕ) → lines ≡ line ∷ rest → longer ≡ out ++ first → AnswersFrom item s key_of old (parse_line s line ∷ []) first mid → Completes old lines out → Completes mid rest longer
+    pub completes_more :
+        (old mid : State ℕ) (line : List ℕ) (lines rest : List (List ℕ)) (out first longer : List ℕ)
+        → lines ≡ line ∷ rest → longer ≡ out ++ first
+        → AnswersFrom item s key_of old (parse_line s line ∷ []) first mid → Completes old lines out
+        → Completes mid rest longer
     completes_more old mid line lines rest out first longer left written one whole later new more =
         let both = line_first item s key_of old mid new (map (parse_line s) rest) first later (parse_line s line) one more in
         let from = subst (λ (ls : List (List ℕ)). AnswersFrom item s key_of old (map (parse_line s) ls) (first ++ later) new) (sym left) both in
-        subst (λ (o : List ℕ). Answers item s key_of input o) (sym (ap (λ o. o ++ later) written ∙ append_assoc out first later)) (whole (first ++ later) new from)
+        subst (λ (o : List ℕ). Answers item s key_of input o)
+        (sym (ap (λ o. o ++ later) written ∙ append_assoc out first later))
+        (whole (first ++ later) new from)
 
     -- no line is left
-    pub completes_last : (bench : State ℕ) (lines : List (List ℕ)) (out : List ℕ) → lines ≡ [] → Completes bench lines out → Answers item s key_of input out
+    pub completes_last : (bench : State ℕ) (lines : List (List ℕ)) (out : List ℕ) → lines ≡ []
+        → Completes bench lines out → Answers item s key_of input out
     completes_last bench lines out none whole =
         let from = subst (λ (ls : List (List ℕ)). AnswersFrom item s key_of bench (map (parse_line s) ls) [] bench) (sym none) ([], refl, refl) in
         subst (λ (o : List ℕ). Answers item s key_of input o) (append-nil out) (whole [] bench from)

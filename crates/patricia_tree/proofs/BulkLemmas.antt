@@ -7,16 +7,27 @@ use Rattle.patricia_core.specs.Keys.{key_cmp}
 use Rattle.patricia_tree.specs.Bulk.{insert_all, by_bytes, IsStoppedAt}
 
 -- a pair that is inserted last
-insert_all_more : {Q V : Type 0} (bytes : Q → List ℕ) (m : map.FinMap key_cmp V) (pairs : List (Q × V)) (pair : Q × V) → insert_all m (by_bytes bytes (pairs ++ pair ∷ [])) ≡ map.insert (insert_all m (by_bytes bytes pairs)) (bytes pair.0) pair.1
+insert_all_more : {Q V : Type 0} (bytes : Q → List ℕ) (m : map.FinMap key_cmp V)
+    (pairs : List (Q × V)) (pair : Q × V)
+    → insert_all m (by_bytes bytes (pairs ++ pair ∷ [])) ≡ map.insert (insert_all m (by_bytes bytes pairs))
+    (bytes pair.0) pair.1
 insert_all_more bytes m [] pair = refl
 insert_all_more bytes m (first ∷ pairs) pair = insert_all_more bytes (map.insert m (bytes first.0) first.1) pairs pair
 
 -- one more turn, at which the pair is inserted
-pub puts_one_more : {Q V : Type 0} (bytes : Q → List ℕ) (old : map.FinMap key_cmp V) (given : List (Q × V)) {here new : map.FinMap key_cmp V} (pair : Q × V) → here ≡ insert_all old (by_bytes bytes given) → new ≡ map.insert here (bytes pair.0) pair.1 → new ≡ insert_all old (by_bytes bytes (given ++ pair ∷ []))
+pub puts_one_more : {Q V : Type 0} (bytes : Q → List ℕ) (old : map.FinMap key_cmp V)
+    (given : List (Q × V)) {here new : map.FinMap key_cmp V} (pair : Q × V)
+    → here ≡ insert_all old (by_bytes bytes given) → new ≡ map.insert here (bytes pair.0) pair.1
+    → new ≡ insert_all old (by_bytes bytes (given ++ pair ∷ []))
 puts_one_more bytes old given pair so_far put = put ∙ ap (λ m. map.insert m (bytes pair.0) pair.1) so_far ∙ sym (insert_all_more bytes old given pair)
 
 -- the last turn, at which the pair is refused
-pub stops_at : {I S Q V : Type 0} {becomes : I → S → Type 0} {steps : S → Option (Q × V) → S → Type 0} {bytes : Q → List ℕ} {pairs : I} {old here new : map.FinMap key_cmp V} (start at rest : S) (given : List (Q × V)) (pair : Q × V) → becomes pairs start → Yields steps start given at → steps at (Some pair) rest → here ≡ insert_all old (by_bytes bytes given) → new ≡ here → bytes pair.0 ≢ [] → map.get here (bytes pair.0) ≡ None → IsStoppedAt becomes steps bytes pairs old new
+pub stops_at : {I S Q V : Type 0} {becomes : I → S → Type 0}
+    {steps : S → Option (Q × V) → S → Type 0} {bytes : Q → List ℕ} {pairs : I}
+    {old here new : map.FinMap key_cmp V} (start at rest : S) (given : List (Q × V)) (pair : Q × V)
+    → becomes pairs start → Yields steps start given at → steps at (Some pair) rest
+    → here ≡ insert_all old (by_bytes bytes given) → new ≡ here → bytes pair.0 ≢ []
+    → map.get here (bytes pair.0) ≡ None → IsStoppedAt becomes steps bytes pairs old new
 stops_at {steps = steps} {bytes = bytes} start at rest given pair is_start gave next so_far same nonempty absent = record {
   start = start;
   given = given;
@@ -30,6 +41,7 @@ stops_at {steps = steps} {bytes = bytes} start at rest given pair is_start gave 
 }
 
 -- what holds of some value holds of one at an error
-pub of_some_at_error : {A B E : Type 0} (P : B → Type 0) (r : Result A E) (some : B) → P some → OnErr r ((b : B) × P b)
+pub of_some_at_error : {A B E : Type 0} (P : B → Type 0) (r : Result A E) (some : B) → P some
+    → OnErr r ((b : B) × P b)
 of_some_at_error P (Ok x) some p = tt
 of_some_at_error P (Err e) some p = (some, p)

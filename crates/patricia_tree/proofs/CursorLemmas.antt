@@ -18,12 +18,14 @@ module _ {V : Type 0} where
   has_first [] e is = absurd (cc)
   has_first (x ∷ rows) e is = inl (let same : x ≡ e = cc in same)
 
-  has_after : (o : Option (List ℕ)) (rows : List (List ℕ × V)) (e : List ℕ × V) → Has (after o rows) e → Has rows e
+  has_after : (o : Option (List ℕ)) (rows : List (List ℕ × V)) (e : List ℕ × V)
+      → Has (after o rows) e → Has rows e
   has_after None rows e h = h
   has_after (Some key) rows e h = has_filter (λ x. is_lt (key_cmp key x.0)) rows e h
 
   -- the value of the next entry is the one at its key
-  next_found : (s : CursorView V) (e : List ℕ × V) → next_row s ≡ Some e → map.get s.map e.0 ≡ Some e.1
+  next_found : (s : CursorView V) (e : List ℕ × V) → next_row s ≡ Some e
+      → map.get s.map e.0 ≡ Some e.1
   next_found s e is =
       let rows = map.entries s.map in
       let has = has_filter (λ x. begins s.prefix x.0) rows e (has_after s.last (under s.prefix rows) e (has_first (remaining_rows s) e is)) in
@@ -33,10 +35,13 @@ module _ {V : Type 0} where
   pub is_next : (s : CursorView V) (key : List ℕ) → next_key s ≡ Some key → IsNext s key
   is_next s key is = by (next_row s) refl is
     where
-      by : (o : Option (List ℕ × V)) → next_row s ≡ o → option_map (λ e. e.0) o ≡ Some key → IsNext s key
+      by : (o : Option (List ℕ × V)) → next_row s ≡ o → option_map (λ e. e.0) o ≡ Some key
+          → IsNext s key
       by None row is = absurd (cc)
       by (Some (k, x)) row is =
-          let there : last_value (stepped s) ≡ Some x = subst (λ o. last_value (lent_at s (option_map (λ e. e.0) o)) ≡ Some x) (sym row) (next_found s (k, x) row) in
+          let there : last_value (stepped s) ≡ Some x = subst
+          (λ o. last_value (lent_at s (option_map (λ e. e.0) o)) ≡ Some x) (sym row)
+          (next_found s (k, x) row) in
           let name : k ≡ key = cc in
           record {
             there = subst IsSome (sym there) refl;
@@ -50,25 +55,30 @@ module _ {V : Type 0} where
       by : (o : Option (List ℕ × V)) → next_row s ≡ o → o ≢ None → IsNextValue s
       by None row some = absurd (some refl)
       by (Some (k, x)) row some =
-          let there : last_value (stepped s) ≡ Some x = subst (λ o. last_value (lent_at s (option_map (λ e. e.0) o)) ≡ Some x) (sym row) (next_found s (k, x) row) in
+          let there : last_value (stepped s) ≡ Some x = subst
+          (λ o. last_value (lent_at s (option_map (λ e. e.0) o)) ≡ Some x) (sym row)
+          (next_found s (k, x) row) in
           record {
             there = subst IsSome (sym there) refl;
             is_next = λ v guard. ap (option_map (λ e. e.1)) row ∙ (let both = sym there ∙ guard in cc);
           }
 
   -- what is written a step on is inserted at its key
-  pub written_next : (s : CursorView V) (key : List ℕ) (v w : V) → next_row s ≡ Some (key, v) → (written (stepped s) w).map ≡ map.insert s.map key w
+  pub written_next : (s : CursorView V) (key : List ℕ) (v w : V) → next_row s ≡ Some (key, v)
+      → (written (stepped s) w).map ≡ map.insert s.map key w
   written_next s key v w is = subst (λ o. (written (lent_at s (option_map (λ e. e.0) o)) w).map ≡ map.insert s.map key w) (sym is) refl
 
   -- and where there is no key there is no entry
   pub is_last : (s : CursorView V) → next_key s ≡ None → next_row s ≡ None
   is_last s is = by (next_row s) refl is
     where
-      by : (o : Option (List ℕ × V)) → next_row s ≡ o → option_map (λ e. e.0) o ≡ None → next_row s ≡ None
+      by : (o : Option (List ℕ × V)) → next_row s ≡ o → option_map (λ e. e.0) o ≡ None
+          → next_row s ≡ None
       by None row is = row
       by (Some e) row is = absurd (cc)
 
 -- what holds of an option holds of what is in it
-pub match_some : {A : Type 0} (X : Type 0) (P : A → Type 0) (o : Option A) (a : A) → MatchOption o X P → o ≡ Some a → P a
+pub match_some : {A : Type 0} (X : Type 0) (P : A → Type 0) (o : Option A) (a : A)
+    → MatchOption o X P → o ≡ Some a → P a
 match_some X P None a holds is = absurd (cc)
 match_some X P (Some b) a holds is = let same : b ≡ a = cc in subst P same holds

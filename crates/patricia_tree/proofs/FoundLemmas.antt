@@ -30,19 +30,22 @@ module _ {A : Type 0} where
   has_filter f [] x h = absurd h
   has_filter f (y ∷ xs) x h = by (f y) (has_filter f xs x) h
     where
-      by : (b : Bool) → (Has (filter f xs) x → Has xs x) → Has (cond b (y ∷ filter f xs) (filter f xs)) x → Has (y ∷ xs) x
+      by : (b : Bool) → (Has (filter f xs) x → Has xs x)
+          → Has (cond b (y ∷ filter f xs) (filter f xs)) x → Has (y ∷ xs) x
       by true rest (inl same) = inl same
       by true rest (inr later) = inr (rest later)
       by false rest h = inr (rest h)
 
 module _ {V : Type 0} where
-  below_is : (q : List ℕ) (es : List (List ℕ × V)) (e : List ℕ × V) → T (below_all key_cmp q es) → Has es e → key_cmp q e.0 ≡ Less
+  below_is : (q : List ℕ) (es : List (List ℕ × V)) (e : List ℕ × V) → T (below_all key_cmp q es)
+      → Has es e → key_cmp q e.0 ≡ Less
   below_is q [] e below h = absurd h
   below_is q (x ∷ es) e below (inl same) = subst (λ y. key_cmp q y.0 ≡ Less) same (lt_is _ (first_of _ _ below))
   below_is q (x ∷ es) e below (inr h) = below_is q es e (second_of _ _ below) h
 
   -- the value of an entry is found at its key
-  pub find_has : (es : List (List ℕ × V)) → T (is_sorted key_cmp es) → (e : List ℕ × V) → Has es e → find key_cmp e.0 es ≡ Some e.1
+  pub find_has : (es : List (List ℕ × V)) → T (is_sorted key_cmp es) → (e : List ℕ × V) → Has es e
+      → find key_cmp e.0 es ≡ Some e.1
   find_has [] sorted e h = absurd h
   find_has (x ∷ es) sorted e (inl same) =
       subst (λ y. find key_cmp y.0 (x ∷ es) ≡ Some y.1) same

@@ -35,7 +35,8 @@ module _ {V : Type 0} where
   past p k es = after (Some k) (under p es)
 
   -- a row that does not come after the key is not one of them
-  not_past : (p k : List ℕ) (e : List ℕ × V) (es : List (List ℕ × V)) → is_lt (key_cmp k e.0) ≡ false → past p k (e ∷ es) ≡ past p k es
+  not_past : (p k : List ℕ) (e : List ℕ × V) (es : List (List ℕ × V))
+      → is_lt (key_cmp k e.0) ≡ false → past p k (e ∷ es) ≡ past p k es
   not_past p k e es later = by (begins p e.0)
     where
       by : (b : Bool) → after (Some k) (cond b (e ∷ under p es) (under p es)) ≡ past p k es
@@ -43,29 +44,36 @@ module _ {V : Type 0} where
       by false = refl
 
   -- rows that agree past a key do so behind a row
-  past_behind : (p k : List ℕ) (e : List ℕ × V) (xs ys : List (List ℕ × V)) → past p k xs ≡ past p k ys → past p k (e ∷ xs) ≡ past p k (e ∷ ys)
+  past_behind : (p k : List ℕ) (e : List ℕ × V) (xs ys : List (List ℕ × V))
+      → past p k xs ≡ past p k ys → past p k (e ∷ xs) ≡ past p k (e ∷ ys)
   past_behind p k e xs ys same = by (begins p e.0) (is_lt (key_cmp k e.0)) refl
     where
-      by : (b c : Bool) → is_lt (key_cmp k e.0) ≡ c → after (Some k) (cond b (e ∷ under p xs) (under p xs)) ≡ after (Some k) (cond b (e ∷ under p ys) (under p ys))
+      by : (b c : Bool) → is_lt (key_cmp k e.0) ≡ c → after (Some k)
+          (cond b (e ∷ under p xs) (under p xs)) ≡ after (Some k)
+          (cond b (e ∷ under p ys) (under p ys))
       by true true is = rw is (ap (λ r. e ∷ r) same)
       by true false is = rw is same
       by false c is = same
 
   -- what is inserted at a key changes no row after it
-  past_put : (p k : List ℕ) (v : V) (es : List (List ℕ × V)) → past p k (put key_cmp k v es) ≡ past p k es
+  past_put : (p k : List ℕ) (v : V) (es : List (List ℕ × V))
+      → past p k (put key_cmp k v es) ≡ past p k es
   past_put p k v [] = not_past p k (k, v) [] (not_less k)
   past_put p k v (e ∷ es) = by (key_cmp k e.0) refl (past_put p k v es)
     where
-      by : (o : Ordering) → key_cmp k e.0 ≡ o → past p k (put key_cmp k v es) ≡ past p k es → past p k (put key_cmp k v (e ∷ es)) ≡ past p k (e ∷ es)
+      by : (o : Ordering) → key_cmp k e.0 ≡ o → past p k (put key_cmp k v es) ≡ past p k es
+          → past p k (put key_cmp k v (e ∷ es)) ≡ past p k (e ∷ es)
       by Less is rest = rw is (not_past p k (k, v) (e ∷ es) (not_less k))
       by Equal is rest = rw is (not_past p k (e.0, v) es (ap is_lt is) ∙ sym (not_past p k e es (ap is_lt is)))
       by Greater is rest = rw is (past_behind p k e (put key_cmp k v es) es rest)
 
   -- the rows to lend are the next one, and those to lend a step on
-  rows_stepped : (s : CursorView V) (e : List ℕ × V) → next_row s ≡ Some e → remaining_rows s ≡ e ∷ remaining_rows (stepped s)
+  rows_stepped : (s : CursorView V) (e : List ℕ × V) → next_row s ≡ Some e
+      → remaining_rows s ≡ e ∷ remaining_rows (stepped s)
   rows_stepped s e next = by (remaining_rows s) refl next
     where
-      by : (rows : List (List ℕ × V)) → remaining_rows s ≡ rows → slice_get rows 0 ≡ Some e → remaining_rows s ≡ e ∷ remaining_rows (stepped s)
+      by : (rows : List (List ℕ × V)) → remaining_rows s ≡ rows → slice_get rows 0 ≡ Some e
+          → remaining_rows s ≡ e ∷ remaining_rows (stepped s)
       by [] rows is = absurd (cc)
       by (x ∷ rest) rows is =
           let same : x ≡ e = cc in
@@ -88,7 +96,8 @@ module _ {V : Type 0} where
   unfolding left
   one_less s some = by (next_row s) refl
     where
-      by : (o : Option (List ℕ × V)) → next_row s ≡ o → length (remaining_rows s) ≡ length (remaining_rows (stepped s)) + 1
+      by : (o : Option (List ℕ × V)) → next_row s ≡ o
+          → length (remaining_rows s) ≡ length (remaining_rows (stepped s)) + 1
       by None row = absurd (some row)
       by (Some e) row = ap length (rows_stepped s e row) ∙ (let n = length (remaining_rows (stepped s)) in omega arith)
 
@@ -97,7 +106,8 @@ module _ {V : Type 0} where
   unfolding left
   written_left s v = by s.last refl
     where
-      by : (o : Option (List ℕ)) → s.last ≡ o → length (remaining_rows (written_at s s.last v)) ≡ length (remaining_rows s)
+      by : (o : Option (List ℕ)) → s.last ≡ o
+          → length (remaining_rows (written_at s s.last v)) ≡ length (remaining_rows s)
       by None is = subst (λ o. length (remaining_rows (written_at s o v)) ≡ length (remaining_rows s)) (sym is) refl
       by (Some k) is =
           subst (λ o. length (remaining_rows (written_at s o v)) ≡ length (remaining_rows s)) (sym is)
@@ -105,14 +115,16 @@ module _ {V : Type 0} where
           (ap length (ap (past s.prefix k) (entries-insert nat_list_cmp_total s.map k v) ∙ past_put s.prefix k v (map.entries s.map))))
 
   -- so a value that was lent and written is a row less
-  pub lent_row : (s t : CursorView V) (e : List ℕ × V) (w : V) → next_row s ≡ Some e → t ≡ stepped s → left s ≡ left (written t w) + 1
+  pub lent_row : (s t : CursorView V) (e : List ℕ × V) (w : V) → next_row s ≡ Some e → t ≡ stepped s
+      → left s ≡ left (written t w) + 1
   lent_row s t e w row step = one_less s some ∙ ap (λ n. n + 1) (ap left (sym step) ∙ sym (written_left t w))
     where
       some : next_row s ≢ None
       some none = let no = sym none ∙ row in cc
 
   -- what is written through a loan leaves the number of rows that are left
-  pub lent_value : (s t : CursorView V) (v w : V) → next_value s ≡ Some v → t ≡ stepped s → left s ≡ left (written t w) + 1
+  pub lent_value : (s t : CursorView V) (v w : V) → next_value s ≡ Some v → t ≡ stepped s
+      → left s ≡ left (written t w) + 1
   lent_value s t v w value step = one_less s some ∙ ap (λ n. n + 1) (ap left (sym step) ∙ sym (written_left t w))
     where
       some : next_row s ≢ None
@@ -145,7 +157,8 @@ module _ {V : Type 0} where
 
   -- where no row came, none is left
   pub no_row_came : {E : Type 0} (s : CursorView V) (r : Result Bool E)
-      → IfOk r (λ found. IsTrue found ↔ (next_key s ≢ None)) → IfOk r (λ found. found ≡ false → left s ≡ 0)
+      → IfOk r (λ found. IsTrue found ↔ (next_key s ≢ None))
+      → IfOk r (λ found. found ≡ false → left s ≡ 0)
   no_row_came s (Ok true) is = λ no. absurd (cc)
   no_row_came s (Ok false) is = λ no. by (next_key s) refl
     where

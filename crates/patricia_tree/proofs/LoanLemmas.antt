@@ -21,14 +21,16 @@ module _ {A : Type 0} where
 
 module _ {V : Type 0} where
   -- so is that of the longest entry along a key
-  longest_found : (m : map.FinMap key_cmp V) (key : List ℕ) (e : List ℕ × V) → longest key (map.entries m) ≡ Some e → map.get m e.0 ≡ Some e.1
+  longest_found : (m : map.FinMap key_cmp V) (key : List ℕ) (e : List ℕ × V)
+      → longest key (map.entries m) ≡ Some e → map.get m e.0 ≡ Some e.1
   longest_found m key e is = elim (has_last None (along key (map.entries m)) e is) [
     | inl h ↦ get-entries m e.0 ∙ find_has (map.entries m) (entries_sorted m) e (has_filter _ (map.entries m) e h)
     | inr none ↦ absurd (cc)
   ]
 
   -- the longest entry, by its key
-  pub is_longest : (m : map.FinMap key_cmp V) (key : List ℕ) (e : List ℕ × V) → Begins e.0 key → longest key (map.entries m) ≡ Some e → IsLongest m key e.0
+  pub is_longest : (m : map.FinMap key_cmp V) (key : List ℕ) (e : List ℕ × V) → Begins e.0 key
+      → longest key (map.entries m) ≡ Some e → IsLongest m key e.0
   is_longest m key e begins is =
       let found = longest_found m key e is in record {
         begins = begins;

@@ -14,33 +14,45 @@ at_error P (Ok x) holds = tt
 at_error P (Err e) holds = holds
 
 -- a clone of nothing is nothing
-pub units_are_kept : (is_clone : Unit {0} → Unit {0} → Type 0) (values : List (Unit {0})) → ClonesAreSame is_clone values
+pub units_are_kept : (is_clone : Unit {0} → Unit {0} → Type 0) (values : List (Unit {0}))
+    → ClonesAreSame is_clone values
 units_are_kept is_clone values k d below w _ = refl
 
 -- each key with `()` as its value
 abbrev pub in_pairs : {Q : Type 0} → List Q → List (Q × Unit {0})
 in_pairs given = map (λ key. (key, tt)) given
 
-in_pairs_more : {Q : Type 0} (given : List Q) (key : Q) → in_pairs (given ++ key ∷ []) ≡ in_pairs given ++ (key, tt) ∷ []
+in_pairs_more : {Q : Type 0} (given : List Q) (key : Q)
+    → in_pairs (given ++ key ∷ []) ≡ in_pairs given ++ (key, tt) ∷ []
 in_pairs_more [] key = refl
 in_pairs_more (first ∷ given) key = ap (λ pairs. (first, tt) ∷ pairs) (in_pairs_more given key)
 
 -- one more turn, at which the key is inserted
-pub puts_one_more_key : {Q : Type 0} (bytes : Q → List ℕ) (old : KeySet) (given : List Q) {here new : KeySet} (key : Q) → here ≡ insert_all old (by_bytes bytes (in_pairs given)) → new ≡ finmap.insert here (bytes key) tt → new ≡ insert_all old (by_bytes bytes (in_pairs (given ++ key ∷ [])))
-puts_one_more_key bytes old given key so_far put = puts_one_more bytes old (in_pairs given) (key, tt) so_far put ∙ ap (λ pairs. insert_all old (by_bytes bytes pairs)) (sym (in_pairs_more given key))
+pub puts_one_more_key :
+    {Q : Type 0} (bytes : Q → List ℕ) (old : KeySet) (given : List Q) {here new : KeySet} (key : Q)
+    → here ≡ insert_all old (by_bytes bytes (in_pairs given))
+    → new ≡ finmap.insert here (bytes key) tt
+    → new ≡ insert_all old (by_bytes bytes (in_pairs (given ++ key ∷ [])))
+puts_one_more_key bytes old given key so_far put = puts_one_more bytes old (in_pairs given)
+    (key, tt) so_far put ∙ ap (λ pairs. insert_all old (by_bytes bytes pairs))
+    (sym (in_pairs_more given key))
 
 -- what is not contained has no value
 no_value : (o : Option (Unit {0})) → is_some o ≡ false → o ≡ None
 no_value None absent = refl
 no_value (Some u) absent = absurd (cc)
 
-module _ {I S Q : Type 0} (becomes : I → S → Type 0) (steps : S → Option Q → S → Type 0) (bytes : Q → List ℕ) where
+module _ {I S Q : Type 0} (becomes : I → S → Type 0) (steps : S → Option Q → S → Type 0)
+    (bytes : Q → List ℕ) where
   -- the keys that were given, as pairs
-  gave_pairs : (start : S) (given : List Q) (at : S) → Yields steps start given at → Yields (steps_in_pairs becomes steps bytes) start (in_pairs given) at
+  gave_pairs : (start : S) (given : List Q) (at : S) → Yields steps start given at
+      → Yields (steps_in_pairs becomes steps bytes) start (in_pairs given) at
   gave_pairs start [] at gave = gave
   gave_pairs start (key ∷ given) at gave = (gave.0, gave.1, gave_pairs gave.0 given at gave.2)
 
-  module _ (keys : I) {old here : KeySet} (start at rest : S) (given : List Q) (is_start : becomes keys start) (gave : Yields steps start given at) (so_far : here ≡ insert_all old (by_bytes bytes (in_pairs given))) where
+  module _ (keys : I) {old here : KeySet} (start at rest : S) (given : List Q)
+      (is_start : becomes keys start) (gave : Yields steps start given at)
+      (so_far : here ≡ insert_all old (by_bytes bytes (in_pairs given))) where
     -- the last turn, at which no key is left
     pub ends_at : steps at None rest → Extends becomes steps bytes keys old here
     ends_at none = record {
@@ -52,5 +64,8 @@ module _ {I S Q : Type 0} (becomes : I → S → Type 0) (steps : S → Option Q
     }
 
     -- the last turn, at which the key is refused
-    pub refuses_at : {new : KeySet} (key : Q) → steps at (Some key) rest → new ≡ here → bytes key ≢ [] → finmap.contains_key here (bytes key) ≡ false → IsStoppedAt becomes steps bytes keys old new
-    refuses_at key next same nonempty absent = stops_at start at rest (in_pairs given) (key, tt) is_start (gave_pairs start given at gave) next so_far same nonempty (no_value _ absent)
+    pub refuses_at : {new : KeySet} (key : Q) → steps at (Some key) rest → new ≡ here
+        → bytes key ≢ [] → finmap.contains_key here (bytes key) ≡ false
+        → IsStoppedAt becomes steps bytes keys old new
+    refuses_at key next same nonempty absent = stops_at start at rest (in_pairs given) (key, tt)
+        is_start (gave_pairs start given at gave) next so_far same nonempty (no_value _ absent)

@@ -53,7 +53,10 @@ some_step (node l v c s) = omega arith
 plan_none : {V : Type 0} (nodes : List (Node V)) → IsPlan nodes None (plan_at nodes None)
 plan_none nodes = let plan : IsPlan nodes None Nil = record { stands = tt; at_is = refl; fits = omega arith } in rw (plan_is nodes None Nil plan) plan
 
-module _ (item : List ℕ → Type 0) (kind : IsKeyKind item) {V : Type 0} (k : List ℕ) (d e : Descent V) (id : ℕ) (n : Node V) (w : IsDescent item k d) (taken : d.pending ≡ None) (next : d.next ≡ Some id) (reads : n ≡ get_or d.arena.now.nodes.items id n) (arena : e.arena ≡ d.arena) where
+module _ (item : List ℕ → Type 0) (kind : IsKeyKind item) {V : Type 0} (k : List ℕ)
+    (d e : Descent V) (id : ℕ) (n : Node V) (w : IsDescent item k d) (taken : d.pending ≡ None)
+    (next : d.next ≡ Some id) (reads : n ≡ get_or d.arena.now.nodes.items id n)
+    (arena : e.arena ≡ d.arena) where
   -- the row that is next
   abbrev child_row : Siblings V
   child_row = row_at d.arena.now.nodes.items n.child
@@ -64,7 +67,8 @@ module _ (item : List ℕ → Type 0) (kind : IsKeyKind item) {V : Type 0} (k : 
   record Opens : Type 0 where
     is : siblings_left d ≡ node n.label n.value child_row sibling_row
     child_plan : IsPlan d.arena.now.nodes.items n.child (plan_at d.arena.now.nodes.items n.child)
-    sibling_plan : IsPlan d.arena.now.nodes.items n.sibling (plan_at d.arena.now.nodes.items n.sibling)
+    sibling_plan :
+        IsPlan d.arena.now.nodes.items n.sibling (plan_at d.arena.now.nodes.items n.sibling)
 
   opens : Opens
   opens =
@@ -77,11 +81,13 @@ module _ (item : List ℕ → Type 0) (kind : IsKeyKind item) {V : Type 0} (k : 
   node_row : IsCanonical item (node n.label n.value child_row sibling_row)
   node_row = subst (IsCanonical item) opens.is w.canonical
 
-  before : left k d ≡ prefixed (take d.len k) (along (drop d.len k) (entries (node n.label n.value child_row sibling_row)))
+  before : left k d ≡ prefixed (take d.len k)
+      (along (drop d.len k) (entries (node n.label n.value child_row sibling_row)))
   before = ap (λ v. left_from k d.len (option_copied v) (siblings_left d)) taken ∙ ap (λ r. prefixed (take d.len k) (along (drop d.len k) (entries r))) opens.is
 
   -- down to the children
-  pub moves_down : begins n.label (drop d.len k) ≡ true → e.len ≡ d.len + length n.label → option_copied e.pending ≡ n.value → e.next ≡ n.child → Moves item k d e
+  pub moves_down : begins n.label (drop d.len k) ≡ true → e.len ≡ d.len + length n.label
+      → option_copied e.pending ≡ n.value → e.next ≡ n.child → Moves item k d e
   moves_down begun_is len pending child =
       let begun = begins_is n.label (drop d.len k) begun_is in
       let front = front_then k n.label begun.0 d.len w.within begun.1 in
@@ -97,31 +103,46 @@ module _ (item : List ℕ → Type 0) (kind : IsKeyKind item) {V : Type 0} (k : 
         };
         same =
             rw (len, pending, row_is, front, rest) (sym (prefixed-prefixed (take d.len k) n.label (own n.value ++ along begun.0 (entries child_row))))
-            ∙ ap (prefixed (take d.len k)) (sym (along_down item kind n.label n.value child_row sibling_row node_row begun.0) ∙ ap (λ r. along r (entries (node n.label n.value child_row sibling_row))) begun.1)
+            ∙ ap (prefixed (take d.len k))
+            (sym (along_down item kind n.label n.value child_row sibling_row node_row begun.0)
+            ∙ ap (λ r. along r (entries (node n.label n.value child_row sibling_row))) begun.1)
             ∙ sym before;
         less = rw (row_is, opens.is) (omega arith);
       }
 
   -- to the sibling
-  pub moves_past : begins n.label (drop d.len k) ≡ false → e.len ≡ d.len → e.pending ≡ d.pending → e.next ≡ n.sibling → Moves item k d e
+  pub moves_past : begins n.label (drop d.len k) ≡ false → e.len ≡ d.len → e.pending ≡ d.pending
+      → e.next ≡ n.sibling → Moves item k d e
   moves_past other len pending sibling =
       let row_is : siblings_left e ≡ sibling_row = rw (arena, sibling) refl in
       record {
-        descent = record { within = rw len w.within; valid = rw len w.valid; plan = rw (arena, sibling) opens.sibling_plan; canonical = rw row_is node_row.sibling };
+        descent = record {
+          within = rw len w.within;
+          valid = rw len w.valid;
+          plan = rw (arena, sibling) opens.sibling_plan;
+          canonical = rw row_is node_row.sibling;
+        };
         same =
-            rw (len, pending, taken, row_is) (ap (prefixed (take d.len k)) (sym (along_past item kind n.label n.value child_row sibling_row node_row (drop d.len k) (begins_other n.label (drop d.len k) other))))
+            rw (len, pending, taken, row_is)
+            (ap (prefixed (take d.len k))
+            (sym (along_past item kind n.label n.value child_row sibling_row node_row
+            (drop d.len k) (begins_other n.label (drop d.len k) other))))
             ∙ sym before;
         less = rw (row_is, opens.is) (omega arith);
       }
 
   -- to the end
-  pub moves_off : begins n.label (drop d.len k) ≡ false → key_cmp (drop d.len k) n.label ≡ Less → e.len ≡ d.len → e.pending ≡ d.pending → e.next ≡ None → Moves item k d e
+  pub moves_off : begins n.label (drop d.len k) ≡ false → key_cmp (drop d.len k) n.label ≡ Less
+      → e.len ≡ d.len → e.pending ≡ d.pending → e.next ≡ None → Moves item k d e
   moves_off other less len pending none =
       let row_is : siblings_left e ≡ end = rw (arena, none) (row_none d.arena.now.nodes.items) in
       record {
         descent = record { within = rw len w.within; valid = rw len w.valid; plan = rw none (plan_none e.arena.now.nodes.items); canonical = rw row_is tt };
         same =
-            rw (len, pending, taken, row_is) (ap (prefixed (take d.len k)) (sym (along_stop item kind n.label n.value child_row sibling_row node_row (drop d.len k) (begins_other n.label (drop d.len k) other) less)))
+            rw (len, pending, taken, row_is)
+            (ap (prefixed (take d.len k))
+            (sym (along_stop item kind n.label n.value child_row sibling_row node_row
+            (drop d.len k) (begins_other n.label (drop d.len k) other) less)))
             ∙ sym before;
         less = rw (row_is, opens.is) (omega (arith, some_step child_row, some_step sibling_row));
       }
@@ -138,11 +159,18 @@ less_is Greater e = absurd (cc)
 
 module _ (item : List ℕ → Type 0) {V : Type 0} (k : List ℕ) where
   -- at its start a walk stands at the first row
-  pub descent_start : (d : Descent V) (s : NodeArena V) → d.arena.now ≡ s → d.len ≡ 0 → d.next ≡ s.root → IsWellFormed s → IsCanonical item (slots_row s) → IsDescent item k d
-  descent_start d s arena len next whole ok = record { within = rw len (omega arith); valid = rw len (IsValid-nil item); plan = rw (arena, next) (whole_plan s whole); canonical = rw (arena, next) ok }
+  pub descent_start : (d : Descent V) (s : NodeArena V) → d.arena.now ≡ s → d.len ≡ 0
+      → d.next ≡ s.root → IsWellFormed s → IsCanonical item (slots_row s) → IsDescent item k d
+  descent_start d s arena len next whole ok = record {
+    within = rw len (omega arith);
+    valid = rw len (IsValid-nil item);
+    plan = rw (arena, next) (whole_plan s whole);
+    canonical = rw (arena, next) ok;
+  }
 
 -- at first all entries along the key are left
-pub left_start : {V : Type 0} (k : List ℕ) (pending : Option V) (r : Siblings V) → left_from k 0 pending r ≡ along k (own pending ++ entries r)
+pub left_start : {V : Type 0} (k : List ℕ) (pending : Option V) (r : Siblings V)
+    → left_from k 0 pending r ≡ along k (own pending ++ entries r)
 left_start k pending r =
     prefixed-nil (own pending ++ along k (entries r))
     ∙ sym (along-append k (own pending) (entries r) ∙ ap (λ es. es ++ along k (entries r)) (along_own k pending))

@@ -26,7 +26,8 @@ module _ {V : Type 0} where
   mark_frames (InSibling id label value child ∷ fs) = InSibling id label (mark id value) (marks child) ∷ mark_frames fs
 
   -- they stand around the plan with who holds each value, at the same place
-  fill-marks : (fs : List (Frame V)) (p : Plan V) → fill (mark_frames fs) (marks p) ≡ marks (fill fs p)
+  fill-marks : (fs : List (Frame V)) (p : Plan V)
+      → fill (mark_frames fs) (marks p) ≡ marks (fill fs p)
   fill-marks [] p = refl
   fill-marks (InChild id l v d ∷ fs) p = fill-marks fs (Cell id l v p d)
   fill-marks (InSibling id l v c ∷ fs) p = fill-marks fs (Cell id l v c p)
@@ -41,12 +42,14 @@ module _ {V : Type 0} where
   link_ref-marks (InChild id l v d ∷ fs) = refl
   link_ref-marks (InSibling id l v c ∷ fs) = rw (above-marks fs) refl
 
-  leads-marks : (item : List ℕ → Type 0) (fs : List (Frame V)) (key rest : List ℕ) → Leads item fs key rest → Leads item (mark_frames fs) key rest
+  leads-marks : (item : List ℕ → Type 0) (fs : List (Frame V)) (key rest : List ℕ)
+      → Leads item fs key rest → Leads item (mark_frames fs) key rest
   leads-marks item [] key rest h = h
   leads-marks item (InChild id l v d ∷ fs) key rest h = (h.0, h.1, h.2, leads-marks item fs key h.0 h.3)
   leads-marks item (InSibling id l v c ∷ fs) key rest h = (h.0, leads-marks item fs key rest h.1)
 
-  is_match-marks : (item : List ℕ → Type 0) (p : Plan V) (rest : List ℕ) (matched : Match) → Matches item p rest matched → Matches item (marks p) rest matched
+  is_match-marks : (item : List ℕ → Type 0) (p : Plan V) (rest : List ℕ) (matched : Match)
+      → Matches item p rest matched → Matches item (marks p) rest matched
   is_match-marks item Nil rest matched h = h
   is_match-marks item (Cell id l v c d) rest matched h = h
 
@@ -63,26 +66,38 @@ module _ {V : Type 0} (s : NodeArena V) (whole : IsWellFormed s) where
       let items = numbered_slots 0 s.nodes.items in
       let v = s.nodes in
       let m : NodeArena ValueSlot = record {
-        nodes = record { ptr = v.ptr; len = v.len; cap = v.cap; alloc = v.alloc; items = items; ok = (v.ok.0 ∙ sym (numbered_slots-length 0 v.items), v.ok.1); small = v.small };
+        nodes = record {
+          ptr = v.ptr;
+          len = v.len;
+          cap = v.cap;
+          alloc = v.alloc;
+          items = items;
+          ok = (v.ok.0 ∙ sym (numbered_slots-length 0 v.items), v.ok.1);
+          small = v.small;
+        };
         root = s.root;
         free = s.free;
       } in
       (m, record { nodes = refl; root = refl; whole = (marks whole.0, (whole.1.0, sound-marks v.items s.root s.free whole.0 whole.1.0 whole.1.1)) })
 
   -- the plan of the numbered nodes
-  pub plan_marked : plan_at (numbered_slots 0 s.nodes.items) s.root ≡ marks (plan_at s.nodes.items s.root)
+  pub plan_marked :
+      plan_at (numbered_slots 0 s.nodes.items) s.root ≡ marks (plan_at s.nodes.items s.root)
   plan_marked = plan_at-marks s.nodes.items s.root (whole_plan s whole)
 
   -- their row keeps the invariant where the row does
-  pub row_marked : (item : List ℕ → Type 0) → IsCanonical item (siblings_of s) ↔ IsCanonical item (row_at (numbered_slots 0 s.nodes.items) s.root)
+  pub row_marked : (item : List ℕ → Type 0)
+      → IsCanonical item (siblings_of s) ↔ IsCanonical item (row_at (numbered_slots 0 s.nodes.items) s.root)
   row_marked item = rw plan_marked (canonical-marks item (plan_at s.nodes.items s.root))
 
   -- and there are as many
-  pub length_marked : length (entries (row_at (numbered_slots 0 s.nodes.items) s.root)) ≡ length (entries_of s)
+  pub length_marked :
+      length (entries (row_at (numbered_slots 0 s.nodes.items) s.root)) ≡ length (entries_of s)
   length_marked = rw plan_marked (length-marks (plan_at s.nodes.items s.root))
 
   -- the place of a key is that among the numbered nodes
-  pub place_marked : (item : List ℕ → Type 0) (m : NodeArena ValueSlot) → Marked s m → (key : List ℕ) (link_ref : LinkRef) (at : Option ℕ) (rest : List ℕ) (matched : Match)
+  pub place_marked : (item : List ℕ → Type 0) (m : NodeArena ValueSlot) → Marked s m
+      → (key : List ℕ) (link_ref : LinkRef) (at : Option ℕ) (rest : List ℕ) (matched : Match)
       → Placed item s key link_ref at rest matched → Placed item m key link_ref at rest matched
   place_marked item m w key link_ref at rest matched p = record {
     frames = mark_frames p.frames;
@@ -96,10 +111,13 @@ module _ {V : Type 0} (s : NodeArena V) (whole : IsWellFormed s) where
   }
 
   -- each holder holds the value of its key
-  pub holders_read : (v : Option V) → Reads (held v s.nodes.items) (holders v s) (own v ++ entries_of s)
+  pub holders_read : (v : Option V)
+      → Reads (held v s.nodes.items) (holders v s) (own v ++ entries_of s)
   holders_read v =
       let h = held v s.nodes.items in
-      rw plan_marked (reads-append h _ _ _ _ (reads-own h OfEmptyKey v refl) (reads-marks v s.nodes.items (plan_at s.nodes.items s.root) (whole_plan s whole).stands))
+      rw plan_marked
+      (reads-append h _ _ _ _ (reads-own h OfEmptyKey v refl)
+      (reads-marks v s.nodes.items (plan_at s.nodes.items s.root) (whole_plan s whole).stands))
 
   -- and stands once
   pub holders_once : (v : Option V) (h : ValueSlot) → uses (holders v s) h ≤ 1
@@ -107,8 +125,19 @@ module _ {V : Type 0} (s : NodeArena V) (whole : IsWellFormed s) where
   holders_once v (OfNode at) =
       let once = whole.1.1.once at in
       let is = ap (λ (p : Plan V). count p at) (plan_is s.nodes.items s.root whole.0 whole.1.1.plan_ok) in
-      rw (plan_marked, uses-append) (omega (arith, own-uses OfEmptyKey (OfNode at) v, uses-marks (plan_at s.nodes.items s.root) at, once, is, below_le (length s.nodes.items) at))
+      rw (plan_marked, uses-append)
+      (omega (
+        arith,
+        own-uses OfEmptyKey (OfNode at) v,
+        uses-marks
+            (plan_at s.nodes.items s.root) at,
+        once,
+        is,
+        below_le (length s.nodes.items) at,
+      ))
 
   -- the holders' keys are in order
-  pub holders_sorted : (item : List ℕ → Type 0) → IsKeyKind item → (v : Option V) → IsCanonical item (siblings_of s) → T (is_sorted key_cmp (holders v s))
-  holders_sorted item kind v ok = tree_sorted item kind (option_map (λ _. OfEmptyKey) v) (row_at (numbered_slots 0 s.nodes.items) s.root) ((row_marked item).0 ok)
+  pub holders_sorted : (item : List ℕ → Type 0) → IsKeyKind item → (v : Option V)
+      → IsCanonical item (siblings_of s) → T (is_sorted key_cmp (holders v s))
+  holders_sorted item kind v ok = tree_sorted item kind (option_map (λ _. OfEmptyKey) v)
+      (row_at (numbered_slots 0 s.nodes.items) s.root) ((row_marked item).0 ok)

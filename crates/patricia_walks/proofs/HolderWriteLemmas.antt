@@ -34,14 +34,18 @@ module _ {V : Type 0} (nodes : List (Node V)) where
   count-valued (Cell id l v c d) at = omega (arith, count-valued c at, count-valued d at)
 
   -- a node is the one that its mark was made of
-  node-valued : (id : ℕ) (m : Node ValueSlot) (o : Option (Node V)) → Some m ≡ option_map (marked_node id) o → o ≡ Some (linked m.label (value_in o) m.child m.sibling)
+  node-valued : (id : ℕ) (m : Node ValueSlot) (o : Option (Node V))
+      → Some m ≡ option_map (marked_node id) o
+      → o ≡ Some (linked m.label (value_in o) m.child m.sibling)
   node-valued id m None e = absurd (cc)
   node-valued id m (Some n) e = let is : m ≡ marked_node id n = cc in rw is refl
 
-  get-valued : (id : ℕ) (m : Node ValueSlot) → slice_get (numbered_slots 0 nodes) id ≡ Some m → slice_get nodes id ≡ Some (linked m.label (value_in (slice_get nodes id)) m.child m.sibling)
+  get-valued : (id : ℕ) (m : Node ValueSlot) → slice_get (numbered_slots 0 nodes) id ≡ Some m
+      → slice_get nodes id ≡ Some (linked m.label (value_in (slice_get nodes id)) m.child m.sibling)
   get-valued id m there = node-valued id m (slice_get nodes id) (sym there ∙ numbered_slots-get nodes id)
 
-  stands-valued : (p : Plan ValueSlot) → LaidOut (numbered_slots 0 nodes) p → LaidOut nodes (valued p)
+  stands-valued : (p : Plan ValueSlot) → LaidOut (numbered_slots 0 nodes) p
+      → LaidOut nodes (valued p)
   stands-valued Nil s = tt
   stands-valued (Cell id l v c d) s = (rw (head-valued c, head-valued d) (get-valued id _ s.0), stands-valued c s.1, stands-valued d s.2)
 
@@ -50,7 +54,9 @@ module _ {V : Type 0} (nodes : List (Node V)) where
   chain-valued (id ∷ ids) c = ((_, get-valued id c.0.0 c.0.1, c.0.2), chain-valued ids c.1)
 
   -- nodes are sound where the numbered nodes are
-  sound-valued : (root free : Option ℕ) (p : Plan ValueSlot) (spare : List ℕ) → IsSound (numbered_slots 0 nodes) root free p spare → IsSound nodes root free (valued p) spare
+  sound-valued : (root free : Option ℕ) (p : Plan ValueSlot) (spare : List ℕ)
+      → IsSound (numbered_slots 0 nodes) root free p spare
+      → IsSound nodes root free (valued p) spare
   sound-valued root free p spare s = record {
     plan_ok = record {
       stands = stands-valued p s.plan_ok.stands;
@@ -65,7 +71,8 @@ module _ {V : Type 0} (nodes : List (Node V)) where
 
 module _ {V : Type 0} where
   -- another value where there is one leaves the numbered nodes
-  numbered_slots-set_from : (i : ℕ) (nodes : List (Node V)) (id : ℕ) (n : Node V) (w : V) → slice_get nodes id ≡ Some n → n.value ≢ None
+  numbered_slots-set_from : (i : ℕ) (nodes : List (Node V)) (id : ℕ) (n : Node V) (w : V)
+      → slice_get nodes id ≡ Some n → n.value ≢ None
       → numbered_slots i (set nodes id (record n { value = Some w })) ≡ numbered_slots i nodes
   numbered_slots-set_from i [] id n w there some = absurd (cc)
   numbered_slots-set_from i (m ∷ ns) zero n w there some =
@@ -78,7 +85,9 @@ module _ {V : Type 0} where
       mark-some id (Some x) w some = refl
   numbered_slots-set_from i (m ∷ ns) (suc id) n w there some = ap (λ r. marked_node i m ∷ r) (numbered_slots-set_from (suc i) ns id n w there some)
 
-module _ {V : Type 0} (s u : NodeArena V) (same : numbered_slots 0 u.nodes.items ≡ numbered_slots 0 s.nodes.items) (root : u.root ≡ s.root) (free : u.free ≡ s.free) where
+module _ {V : Type 0} (s u : NodeArena V)
+    (same : numbered_slots 0 u.nodes.items ≡ numbered_slots 0 s.nodes.items)
+    (root : u.root ≡ s.root) (free : u.free ≡ s.free) where
   -- with the same holders there are the same rows of holders
   pub same_holders : (v : Option V) → holders v u ≡ holders v s
   same_holders v = rw (same, root) refl
@@ -90,14 +99,16 @@ module _ {V : Type 0} (s u : NodeArena V) (same : numbered_slots 0 u.nodes.items
       (valued u.nodes.items (marks w.0), (w.1.0, sound-valued u.nodes.items u.root u.free (marks w.0) w.1.0 (rw (same, root, free) sound)))
 
   -- and a tree of as many entries
-  pub same_tree : (item : List ℕ → Type 0) (n : ℕ) → IsWellFormed s → IsTree item (siblings_of s) n → IsTree item (siblings_of u) n
+  pub same_tree : (item : List ℕ → Type 0) (n : ℕ) → IsWellFormed s → IsTree item (siblings_of s) n
+      → IsTree item (siblings_of u) n
   same_tree item n w t = record {
     canonical = (row_marked u (same_whole w) item).1 (rw (same, root) ((row_marked s w item).0 t.canonical));
     counted = t.counted ∙ sym (length_marked s w) ∙ rw (← same, ← root) (length_marked u (same_whole w));
     fits = t.fits;
   }
 
-module _ {V : Type 0} (s u : NodeArena V) (id : ℕ) (n : Node V) (w : V) (there : slice_get s.nodes.items id ≡ Some n) (some : n.value ≢ None)
+module _ {V : Type 0} (s u : NodeArena V) (id : ℕ) (n : Node V) (w : V)
+    (there : slice_get s.nodes.items id ≡ Some n) (some : n.value ≢ None)
     (items : u.nodes.items ≡ set s.nodes.items id (record n { value = Some w })) (root : u.root ≡ s.root) (free : u.free ≡ s.free) where
   -- a write to a value leaves who holds each value
   pub write_numbered : numbered_slots 0 u.nodes.items ≡ numbered_slots 0 s.nodes.items
@@ -112,7 +123,8 @@ module _ {V : Type 0} (s u : NodeArena V) (id : ℕ) (n : Node V) (w : V) (there
   write_whole whole = same_whole s u write_numbered root free whole
 
   -- and the tree keeps its invariant and its count
-  pub write_tree : (item : List ℕ → Type 0) (count : ℕ) → IsWellFormed s → IsTree item (siblings_of s) count → IsTree item (siblings_of u) count
+  pub write_tree : (item : List ℕ → Type 0) (count : ℕ) → IsWellFormed s
+      → IsTree item (siblings_of s) count → IsTree item (siblings_of u) count
   write_tree item count whole t = same_tree s u write_numbered root free item count whole t
 
   -- the value is the new one there
@@ -120,7 +132,8 @@ module _ {V : Type 0} (s u : NodeArena V) (id : ℕ) (n : Node V) (w : V) (there
   write_held v = rw (items, get-set_same s.nodes.items id (record n { value = Some w }) (slice_get_within s.nodes.items id n there)) refl
 
   -- and the old one at each other holder
-  pub write_kept : (v : Option V) (h : ValueSlot) → is_same h (OfNode id) ≡ false → held v u.nodes.items h ≡ held v s.nodes.items h
+  pub write_kept : (v : Option V) (h : ValueSlot) → is_same h (OfNode id) ≡ false
+      → held v u.nodes.items h ≡ held v s.nodes.items h
   write_kept v OfEmptyKey other = refl
   write_kept v (OfNode j) other =
       let apart : j ≢ id = λ e. grind (arith, nat_tests) in

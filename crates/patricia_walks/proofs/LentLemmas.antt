@@ -25,16 +25,20 @@ use Rattle.patricia_walks.proofs.HolderWriteLemmas.{write_numbered, write_holder
 use Rattle.patricia_walks.proofs.ReadLemmas.{find_read, key_value, put_read}
 
 -- a node that has a value is there
-node_in : {V : Type 0} (o : Option (Node V)) (v : V) → value_in o ≡ Some v → (n : Node V) × (o ≡ Some n) × (n.value ≡ Some v)
+node_in : {V : Type 0} (o : Option (Node V)) (v : V) → value_in o ≡ Some v
+    → (n : Node V) × (o ≡ Some n) × (n.value ≡ Some v)
 node_in None v e = absurd (cc)
 node_in (Some n) v e = (n, refl, e)
 
 module _ (item : List ℕ → Type 0) {V : Type 0} (t : CursorState V) (w : IsHeld item t) where
-  holds : (h : ValueSlot) → t.last ≡ Some h → (v : V) × (held t.value t.arena.nodes.items h ≡ Some v)
-  holds h is = key_value (held t.value t.arena.nodes.items) h (holders t.value t.arena) (own t.value ++ entries_of t.arena) (holders_read t.arena w.whole t.value) (w.known h is)
+  holds : (h : ValueSlot) → t.last ≡ Some h
+      → (v : V) × (held t.value t.arena.nodes.items h ≡ Some v)
+  holds h is = key_value (held t.value t.arena.nodes.items) h (holders t.value t.arena)
+      (own t.value ++ entries_of t.arena) (holders_read t.arena w.whole t.value) (w.known h is)
 
   -- the node of the value that was lent last
-  pub last_node : (id : ℕ) → t.last ≡ Some (OfNode id) → (n : Node V) × (slice_get t.arena.nodes.items id ≡ Some n) × (n.value ≢ None)
+  pub last_node : (id : ℕ) → t.last ≡ Some (OfNode id)
+      → (n : Node V) × (slice_get t.arena.nodes.items id ≡ Some n) × (n.value ≢ None)
   last_node id is =
       let v = holds (OfNode id) is in
       let n = node_in (slice_get t.arena.nodes.items id) v.0 v.1 in
@@ -49,16 +53,25 @@ pub record Wrote (item : List ℕ → Type 0) {V : Type 0} (t u : CursorState V)
   pub state : IsTrail item u prefix
   pub stands : standing u prefix ≡ written (standing t prefix) x
 
-module _ (item : List ℕ → Type 0) (kind : IsKeyKind item) {V : Type 0} (t u : CursorState V) (prefix : List ℕ) (w : IsTrail item t prefix) (h : ValueSlot) (lent : t.last ≡ Some h) (last : u.last ≡ t.last) (x : V)
-    (same : holders u.value u.arena ≡ holders t.value t.arena) (place : seen u ≡ seen t) (whole : IsWellFormed u.arena) (tree : IsTree item (siblings_of u.arena) u.count)
-    (here : held u.value u.arena.nodes.items h ≡ Some x) (others : (g : ValueSlot) → is_same g h ≡ false → held u.value u.arena.nodes.items g ≡ held t.value t.arena.nodes.items g) where
-  key_is : (k : Option (List ℕ)) → key_at (holders t.value t.arena) h ≡ k → standing u prefix ≡ written_at (standing t prefix) k x
+module _ (item : List ℕ → Type 0) (kind : IsKeyKind item) {V : Type 0} (t u : CursorState V)
+    (prefix : List ℕ) (w : IsTrail item t prefix) (h : ValueSlot) (lent : t.last ≡ Some h)
+    (last : u.last ≡ t.last) (x : V)
+    (same : holders u.value u.arena ≡ holders t.value t.arena) (place : seen u ≡ seen t)
+    (whole : IsWellFormed u.arena) (tree : IsTree item (siblings_of u.arena) u.count)
+    (here : held u.value u.arena.nodes.items h ≡ Some x)
+    (others : (g : ValueSlot) → is_same g h ≡ false → held u.value u.arena.nodes.items g ≡ held
+    t.value t.arena.nodes.items g) where
+  key_is : (k : Option (List ℕ)) → key_at (holders t.value t.arena) h ≡ k
+      → standing u prefix ≡ written_at (standing t prefix) k x
   key_is None e = absurd (w.held.known h lent e)
   key_is (Some k) e =
       let rows = own t.value ++ entries_of t.arena in
       let sorted = tree_sorted item kind t.value (siblings_of t.arena) w.held.tree.canonical in
       let reads = subst (λ es. Reads (held u.value u.arena.nodes.items) es (own u.value ++ entries_of u.arena)) same (holders_read u.arena whole u.value) in
-      let put_in = put_read (held t.value t.arena.nodes.items) (held u.value u.arena.nodes.items) h x here others k (holders t.value t.arena) rows _ (holders_read t.arena w.held.whole t.value) reads (holders_once t.arena w.held.whole t.value h) sorted e in
+      let put_in = put_read (held t.value t.arena.nodes.items) (held u.value u.arena.nodes.items) h
+      x here others k (holders t.value t.arena) rows _
+      (holders_read t.arena w.held.whole t.value) reads
+      (holders_once t.arena w.held.whole t.value h) sorted e in
       let keys : last_key u ≡ last_key t = rw (same, last) refl in
       ap (λ m. record { map = m; prefix = prefix; last = last_key u }) (ap from_sorted put_in ∙ sym (from_sorted-put rows k x sorted))
       ∙ ap (λ l. record { map = map.insert (map_of t.value (siblings_of t.arena)) k x; prefix = prefix; last = l }) keys
@@ -71,57 +84,91 @@ module _ (item : List ℕ → Type 0) (kind : IsKeyKind item) {V : Type 0} (t u 
       position = subst (IsPosition item) (sym place) w.position;
       left_is = ap (λ p. left (state_of p)) place ∙ w.left_is ∙ rw (same, last) refl;
     };
-    stands = subst (λ o. standing u prefix ≡ written_at (standing t prefix) (key_of (holders t.value t.arena) o) x) (sym lent) (key_is (key_at (holders t.value t.arena) h) refl);
+    stands = subst
+        (λ o. standing u prefix ≡ written_at (standing t prefix)
+        (key_of (holders t.value t.arena) o) x) (sym lent)
+        (key_is (key_at (holders t.value t.arena) h) refl);
   }
 
-module _ (item : List ℕ → Type 0) (kind : IsKeyKind item) {V : Type 0} (t : CursorState V) (prefix : List ℕ) (w : IsTrail item t prefix) (x : V) where
+module _ (item : List ℕ → Type 0) (kind : IsKeyKind item) {V : Type 0} (t : CursorState V)
+    (prefix : List ℕ) (w : IsTrail item t prefix) (x : V) where
   -- whatever was lent last, a write to it keeps the trail, and puts the value in at its key
   pub wrote_last : Wrote item t (with_held t t.last x) prefix x
   wrote_last = by t.last refl
     where
       by : (o : Option ValueSlot) → t.last ≡ o → Wrote item t (with_held t o x) prefix x
-      by None is = record { state = w; stands = subst (λ o. standing t prefix ≡ written_at (standing t prefix) (key_of (holders t.value t.arena) o) x) (sym is) refl }
+      by None is = record {
+        state = w;
+        stands = subst
+            (λ o. standing t prefix ≡ written_at (standing t prefix)
+            (key_of (holders t.value t.arena) o) x) (sym is) refl;
+      }
       by (Some OfEmptyKey) is =
           let v = holds item t w.held OfEmptyKey is in
-          wrote item kind t (record t { value = Some x }) prefix w OfEmptyKey is refl x (rw v.1 refl) refl w.held.whole w.held.tree refl (λ g other. by_top g other)
+          wrote item kind t (record t { value = Some x }) prefix w OfEmptyKey is refl x
+          (rw v.1 refl) refl w.held.whole w.held.tree refl (λ g other. by_top g other)
         where
-          by_top : (g : ValueSlot) → is_same g OfEmptyKey ≡ false → held (Some x) t.arena.nodes.items g ≡ held t.value t.arena.nodes.items g
+          by_top : (g : ValueSlot) → is_same g OfEmptyKey ≡ false
+              → held (Some x) t.arena.nodes.items g ≡ held t.value t.arena.nodes.items g
           by_top OfEmptyKey other = absurd (cc)
           by_top (OfNode i) other = refl
       by (Some (OfNode id)) is =
           let n = last_node item t w.held id is in
-          let items : (with_value t.arena id x).nodes.items ≡ set t.arena.nodes.items id (record n.0 { value = Some x }) = ap (λ o. (with_valued t.arena.nodes id x o).items) n.1 in
+          let items : (with_value t.arena id x).nodes.items ≡ set t.arena.nodes.items id
+          (record n.0 { value = Some x }) = ap
+          (λ o. (with_valued t.arena.nodes id x o).items) n.1 in
           let u = with_value t.arena id x in
           wrote item kind t (record t { arena = u }) prefix w (OfNode id) is refl x
           (write_holders t.arena u id n.0 x n.1 n.2 items refl refl t.value)
-          (ap (λ ns. record { nodes = ns; path = t.path.items; pending = t.pending; next = t.next; stack = t.stack.items }) (write_numbered t.arena u id n.0 x n.1 n.2 items refl refl))
+          (ap (λ ns.
+          record {
+            nodes = ns;
+            path = t.path.items;
+            pending = t.pending;
+            next = t.next;
+            stack = t.stack.items;
+          }) (write_numbered t.arena u id n.0 x n.1 n.2 items refl refl))
           (write_whole t.arena u id n.0 x n.1 n.2 items refl refl w.held.whole)
           (write_tree t.arena u id n.0 x n.1 n.2 items refl refl item t.count w.held.whole w.held.tree)
           (write_held t.arena u id n.0 x n.1 n.2 items refl refl t.value)
           (write_kept t.arena u id n.0 x n.1 n.2 items refl refl t.value)
 
-module _ (item : List ℕ → Type 0) (kind : IsKeyKind item) {V : Type 0} (t : CursorState V) (prefix : List ℕ) (w : IsHeld item t) where
+module _ (item : List ℕ → Type 0) (kind : IsKeyKind item) {V : Type 0} (t : CursorState V)
+    (prefix : List ℕ) (w : IsHeld item t) where
   -- what is read is the value at the key that was lent last
   pub read_last : held_last t t.last ≡ last_value (standing t prefix)
   read_last = by t.last refl
     where
-      by : (o : Option ValueSlot) → t.last ≡ o → held_last t o ≡ value_at (standing t prefix) (key_of (holders t.value t.arena) o)
+      by : (o : Option ValueSlot) → t.last ≡ o
+          → held_last t o ≡ value_at (standing t prefix) (key_of (holders t.value t.arena) o)
       by None is = refl
       by (Some h) is = at (key_at (holders t.value t.arena) h) refl
         where
-          at : (k : Option (List ℕ)) → key_at (holders t.value t.arena) h ≡ k → held t.value t.arena.nodes.items h ≡ value_at (standing t prefix) k
+          at : (k : Option (List ℕ)) → key_at (holders t.value t.arena) h ≡ k
+              → held t.value t.arena.nodes.items h ≡ value_at (standing t prefix) k
           at None e = absurd (w.known h is e)
           at (Some k) e =
               let rows = own t.value ++ entries_of t.arena in
               let sorted = tree_sorted item kind t.value (siblings_of t.arena) w.tree.canonical in
-              sym (get-from_sorted key_cmp rows k sorted ∙ find_read (held t.value t.arena.nodes.items) h k (holders t.value t.arena) rows (holders_read t.arena w.whole t.value) sorted e)
+              sym (get-from_sorted key_cmp rows k sorted ∙ find_read
+              (held t.value t.arena.nodes.items) h k (holders t.value t.arena) rows
+              (holders_read t.arena w.whole t.value) sorted e)
 
 -- the same before the walk under a prefix has begun, when nothing is lent
 pub record WroteUnder (item : List ℕ → Type 0) {V : Type 0} (t u : CursorState V) (prefix : List ℕ) (o : Option Start) (x : V) : Type 0 where
   pub state : IsPrefixCursor item u prefix o
   pub stands : standing u prefix ≡ written (standing t prefix) x
 
-module _ (item : List ℕ → Type 0) (kind : IsKeyKind item) {V : Type 0} (t : CursorState V) (prefix : List ℕ) (x : V) where
-  pub wrote_under : (o : Option Start) → IsPrefixCursor item t prefix o → WroteUnder item t (with_held t t.last x) prefix o x
+module _ (item : List ℕ → Type 0) (kind : IsKeyKind item) {V : Type 0} (t : CursorState V)
+    (prefix : List ℕ) (x : V) where
+  pub wrote_under : (o : Option Start) → IsPrefixCursor item t prefix o
+      → WroteUnder item t (with_held t t.last x) prefix o x
   wrote_under None w = let wrote = wrote_last item kind t prefix w x in record { state = wrote.state; stands = wrote.stands }
-  wrote_under (Some s) w = subst (λ o. WroteUnder item t (with_held t o x) prefix (Some s) x) (sym w.none) (record { state = w; stands = subst (λ o. standing t prefix ≡ written_at (standing t prefix) (key_of (holders t.value t.arena) o) x) (sym w.none) refl })
+  wrote_under (Some s) w = subst (λ o. WroteUnder item t (with_held t o x) prefix (Some s) x)
+      (sym w.none)
+      (record {
+        state = w;
+        stands = subst
+            (λ o. standing t prefix ≡ written_at (standing t prefix) (key_of (holders t.value t.arena) o)
+            x) (sym w.none) refl;
+      })

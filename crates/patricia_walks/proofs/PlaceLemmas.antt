@@ -32,8 +32,14 @@ module _ (item : List ℕ → Type 0) (kind : IsKeyKind item) {V : Type 0} where
     pub under_is : under key (entries whole) ≡ prefixed path (under rest (entries focus))
 
   -- what the frames of a place pass
-  pub passed-fill : (fs : List (Frame V)) (q : Plan V) → IsCanonical item (row (fill fs q)) → (key rest : List ℕ) → Leads item fs key rest → Passed (row (fill fs q)) (row q) key rest
-  passed-fill [] q ok key rest e = record { path = []; splits = e; valid = IsValid-nil item; under_is = ap (λ k. under k (entries (row q))) (sym e) ∙ sym (prefixed-nil _) }
+  pub passed-fill : (fs : List (Frame V)) (q : Plan V) → IsCanonical item (row (fill fs q))
+      → (key rest : List ℕ) → Leads item fs key rest → Passed (row (fill fs q)) (row q) key rest
+  passed-fill [] q ok key rest e = record {
+    path = [];
+    splits = e;
+    valid = IsValid-nil item;
+    under_is = ap (λ k. under k (entries (row q))) (sym e) ∙ sym (prefixed-nil _);
+  }
   passed-fill (InChild id l v d ∷ fs) q ok key rest (before, passes, nonempty, leads) =
       let o = passed-fill fs (Cell id l v q d) ok key before leads in
       let inner = row-within item fs (Cell id l v q d) ok in
@@ -41,16 +47,27 @@ module _ (item : List ℕ → Type 0) (kind : IsKeyKind item) {V : Type 0} where
         path = o.path ++ l;
         splits = append_assoc o.path l rest ∙ ap (λ r. o.path ++ r) passes.splits ∙ o.splits;
         valid = IsValid-append item o.path l o.valid inner.valid;
-        under_is = o.under_is ∙ ap (prefixed o.path) (under_deeper item kind l v (row q) (row d) inner before rest passes nonempty) ∙ prefixed-prefixed o.path l _;
+        under_is = o.under_is ∙ ap (prefixed o.path)
+            (under_deeper item kind l v (row q) (row d) inner before rest passes nonempty) ∙
+            prefixed-prefixed o.path l _;
       }
   passed-fill (InSibling id l v c ∷ fs) q ok key rest (before, leads) =
       let o = passed-fill fs (Cell id l v c q) ok key rest leads in
       let inner = row-within item fs (Cell id l v c q) ok in
-      record { path = o.path; splits = o.splits; valid = o.valid; under_is = o.under_is ∙ ap (prefixed o.path) (under_past item kind l v (row c) (row q) inner rest before) }
+      record {
+        path = o.path;
+        splits = o.splits;
+        valid = o.valid;
+        under_is = o.under_is ∙ ap (prefixed o.path)
+            (under_past item kind l v (row c) (row q) inner rest before);
+      }
 
   -- and how far the keys go with it
-  reaches-fill : (fs : List (Frame V)) (q : Plan V) → IsCanonical item (row (fill fs q)) → (key rest : List ℕ) → Leads item fs key rest
-      → (m : ℕ) × (m + length rest ≡ length key) × ((n : ℕ) → Reaches item (keys_of (entries (row q))) rest n → Reaches item (keys_of (entries (row (fill fs q)))) key (m + n))
+  reaches-fill : (fs : List (Frame V)) (q : Plan V) → IsCanonical item (row (fill fs q))
+      → (key rest : List ℕ) → Leads item fs key rest
+      → (m : ℕ) × (m + length rest ≡ length key) ×
+      ((n : ℕ) → Reaches item (keys_of (entries (row q))) rest n → Reaches item
+      (keys_of (entries (row (fill fs q)))) key (m + n))
   reaches-fill [] q ok key rest e = (0, omega (arith, ap length e), λ n r. rw (← e) (subst (Reaches item (keys_of (entries (row q))) rest) (omega arith) r))
   reaches-fill (InChild id l v d ∷ fs) q ok key rest (before, passes, nonempty, leads) =
       let o = reaches-fill fs (Cell id l v q d) ok key before leads in
@@ -58,26 +75,38 @@ module _ (item : List ℕ → Type 0) (kind : IsKeyKind item) {V : Type 0} where
       let long = ap length (sym passes.splits) ∙ length-append l rest in (
         o.0 + length l,
         omega (arith, o.1, long),
-        λ n r. subst (Reaches item (keys_of (entries (row (fill fs (Cell id l v q d))))) key) (omega arith) (o.2 (length l + n) (reaches_through item kind l v (row q) (row d) inner before rest passes n (reaches_own item rest v (entries (row q)) n r))),
+        λ n r. subst (Reaches item (keys_of (entries (row (fill fs (Cell id l v q d))))) key)
+            (omega arith)
+            (o.2 (length l + n)
+            (reaches_through item kind l v (row q) (row d) inner before rest passes n
+            (reaches_own item rest v (entries (row q)) n r))),
       )
   reaches-fill (InSibling id l v c ∷ fs) q ok key rest (before, leads) =
       let o = reaches-fill fs (Cell id l v c q) ok key rest leads in
       let inner = row-within item fs (Cell id l v c q) ok in
       (o.0, o.1, λ n r. o.2 n (reaches_past item kind l v (row c) (row q) inner rest before n r))
 
-  reaches_stop : (focus : Plan V) → IsCanonical item (row focus) → (rest : List ℕ) (matched : Match) → Matches item focus rest matched → Reaches item (keys_of (entries (row focus))) rest (common_at rest matched)
+  reaches_stop : (focus : Plan V) → IsCanonical item (row focus) → (rest : List ℕ) (matched : Match)
+      → Matches item focus rest matched
+      → Reaches item (keys_of (entries (row focus))) rest (common_at rest matched)
   reaches_stop Nil ok rest matched h = rw h (reaches_end item rest)
   reaches_stop (Cell id l v c d) ok rest Absent h = reaches_before item kind l v (row c) (row d) ok rest h
   reaches_stop (Cell id l v c d) ok rest (InsideLabel i n) h = reaches_within item kind l v (row c) (row d) ok rest n h.1
   reaches_stop (Cell id l v c d) ok rest (Exact i) h =
       let long = ap length (sym h.1.splits) ∙ length-append l [] in
-      subst (Reaches item (keys_of (entries (row (Cell id l v c d)))) rest) (omega (arith, long)) (reaches_through item kind l v (row c) (row d) ok rest [] h.1 0 (reaches_nothing item _))
+      subst (Reaches item (keys_of (entries (row (Cell id l v c d)))) rest) (omega (arith, long))
+      (reaches_through item kind l v (row c) (row d) ok rest [] h.1 0 (reaches_nothing item _))
 
-module _ (item : List ℕ → Type 0) (kind : IsKeyKind item) {V : Type 0} (s : NodeArena V) (ok : IsCanonical item (siblings_of s)) (key : List ℕ) (link_ref : LinkRef) (at : Option ℕ) (rest : List ℕ) (matched : Match) (p : Placed item s key link_ref at rest matched) where
+module _ (item : List ℕ → Type 0) (kind : IsKeyKind item) {V : Type 0} (s : NodeArena V)
+    (ok : IsCanonical item (siblings_of s)) (key : List ℕ) (link_ref : LinkRef) (at : Option ℕ)
+    (rest : List ℕ) (matched : Match) (p : Placed item s key link_ref at rest matched) where
   place_row : IsCanonical item (row (fill p.frames p.focus))
   place_row = rw p.fills ok
 
-  parts : (m : ℕ) × (m + length rest ≡ length key) × ((n : ℕ) → Reaches item (keys_of (entries (row p.focus))) rest n → Reaches item (keys_of (entries (row (fill p.frames p.focus)))) key (m + n))
+  parts :
+      (m : ℕ) × (m + length rest ≡ length key) ×
+      ((n : ℕ) → Reaches item (keys_of (entries (row p.focus))) rest n → Reaches item
+      (keys_of (entries (row (fill p.frames p.focus)))) key (m + n))
   parts = reaches-fill item kind p.frames p.focus place_row key rest p.leads
 
   -- what is left of a key is no more than the key
@@ -85,12 +114,16 @@ module _ (item : List ℕ → Type 0) (kind : IsKeyKind item) {V : Type 0} (s : 
   rest_within = omega (arith, parts.1)
 
   -- how far all keys go with it
-  pub place_reaches : Reaches item (keys_of (entries_of s)) key (length key - length rest + common_at rest matched)
+  pub place_reaches :
+      Reaches item (keys_of (entries_of s)) key (length key - length rest + common_at rest matched)
   place_reaches =
       let here = reaches_stop item kind p.focus (row-within item p.frames p.focus place_row) rest matched p.is_match in
       let m : parts.0 ≡ length key - length rest = omega (arith, parts.1) in
-      rw (← m) (subst (λ (q : Plan V). Reaches item (keys_of (entries (row q))) key (parts.0 + common_at rest matched)) p.fills (parts.2 (common_at rest matched) here))
+      rw (← m)
+      (subst (λ (q : Plan V). Reaches item (keys_of (entries (row q))) key
+      (parts.0 + common_at rest matched)) p.fills (parts.2 (common_at rest matched) here))
 
   -- the longest common prefix ends at the place of the key
-  pub place_reach : (n : ℕ) → n ≡ length key - length rest + common_at rest matched → (v : Option V) → IsReach item (keys_of (own v ++ entries_of s)) key n
+  pub place_reach : (n : ℕ) → n ≡ length key - length rest + common_at rest matched → (v : Option V)
+      → IsReach item (keys_of (own v ++ entries_of s)) key n
   place_reach n is v = rw is (reach_is item _ key _ (reaches_own item key v (entries_of s) _ place_reaches))

@@ -15,15 +15,18 @@ use Rattle.patricia_nodes.proofs.WriteLemmas.{stands-keep}
 
 module _ {V : Type 0} (nodes : List (Node V)) where
   -- one more row that waits
-  all_plans-snoc : (fs : List (ℕ × Option ℕ)) (n : ℕ) (at : Option ℕ) → AllPlans nodes fs → IsPlan nodes at (plan_at nodes at) → AllPlans nodes (fs ++ (n, at) ∷ [])
+  all_plans-snoc : (fs : List (ℕ × Option ℕ)) (n : ℕ) (at : Option ℕ) → AllPlans nodes fs
+      → IsPlan nodes at (plan_at nodes at) → AllPlans nodes (fs ++ (n, at) ∷ [])
   all_plans-snoc [] n at ps p = (p, tt)
   all_plans-snoc (f ∷ fs) n at ps p = (ps.0, all_plans-snoc fs n at ps.1 p)
 
-  all_plans-last : (fs : List (ℕ × Option ℕ)) (n : ℕ) (at : Option ℕ) → AllPlans nodes (fs ++ (n, at) ∷ []) → IsPlan nodes at (plan_at nodes at) × AllPlans nodes fs
+  all_plans-last : (fs : List (ℕ × Option ℕ)) (n : ℕ) (at : Option ℕ)
+      → AllPlans nodes (fs ++ (n, at) ∷ []) → IsPlan nodes at (plan_at nodes at) × AllPlans nodes fs
   all_plans-last [] n at ps = (ps.0, tt)
   all_plans-last (f ∷ fs) n at ps = let later = all_plans-last fs n at ps.1 in (later.0, (ps.0, later.1))
 
-  count_all-snoc : (fs : List (ℕ × Option ℕ)) (n : ℕ) (at : Option ℕ) (i : ℕ) → count_all nodes (fs ++ (n, at) ∷ []) i ≡ count (plan_at nodes at) i + count_all nodes fs i
+  count_all-snoc : (fs : List (ℕ × Option ℕ)) (n : ℕ) (at : Option ℕ) (i : ℕ)
+      → count_all nodes (fs ++ (n, at) ∷ []) i ≡ count (plan_at nodes at) i + count_all nodes fs i
   count_all-snoc [] n at i = omega arith
   count_all-snoc (f ∷ fs) n at i = omega (arith, count_all-snoc fs n at i)
 
@@ -32,10 +35,17 @@ module _ {V : Type 0} (nodes : List (Node V)) where
   row_none = ap row (plan_is nodes None Nil (record { stands = tt; at_is = refl; fits = omega arith }))
 
 -- after a write to a node
-module _ {V : Type 0} (nodes later : List (Node V)) (id : ℕ) (long : length later ≡ length nodes) (others : (i : ℕ) → i ≢ id → slice_get later i ≡ slice_get nodes i) where
+module _ {V : Type 0} (nodes later : List (Node V)) (id : ℕ) (long : length later ≡ length nodes)
+    (others : (i : ℕ) → i ≢ id → slice_get later i ≡ slice_get nodes i) where
   -- a plan without the node is as it was
   plan-keep : (at : Option ℕ) (p : Plan V) → IsPlan nodes at p → count p id ≡ 0 → IsPlan later at p
-  plan-keep at p w none = record { stands = stands-keep nodes later p (λ i some. others i (λ e. some (ap (count p) e ∙ none))) w.stands; at_is = w.at_is; fits = rw long w.fits }
+  plan-keep at p w none =
+      record {
+        stands = stands-keep nodes later p
+            (λ i some. others i (λ e. some (ap (count p) e ∙ none))) w.stands;
+        at_is = w.at_is;
+        fits = rw long w.fits;
+      }
 
   -- and so are those of the rows that wait
   record Keeps (fs : List (ℕ × Option ℕ)) : Type 0 where
@@ -55,11 +65,17 @@ module _ {V : Type 0} (nodes later : List (Node V)) (id : ℕ) (long : length la
         counts = λ i. omega (arith, rest.counts i, ap (λ p. count p i) same);
       }
 
-module _ {V : Type 0} (p q : Position V) (id : ℕ) (n : Node V) (stands : Stand p) (next : p.next ≡ Some id) (reads : n ≡ get_or p.nodes id n) (long : length q.nodes ≡ length p.nodes) (others : (i : ℕ) → i ≢ id → slice_get q.nodes i ≡ slice_get p.nodes i) (front : ℕ) (child : q.next ≡ n.child) (stack : q.stack ≡ p.stack ++ (front, n.sibling) ∷ []) where
+module _ {V : Type 0} (p q : Position V) (id : ℕ) (n : Node V) (stands : Stand p)
+    (next : p.next ≡ Some id) (reads : n ≡ get_or p.nodes id n)
+    (long : length q.nodes ≡ length p.nodes)
+    (others : (i : ℕ) → i ≢ id → slice_get q.nodes i ≡ slice_get p.nodes i) (front : ℕ)
+    (child : q.next ≡ n.child) (stack : q.stack ≡ p.stack ++ (front, n.sibling) ∷ []) where
   -- the rows after the step to the children
   record Down : Type 0 where
-    row_is : row_at p.nodes p.next ≡ node n.label n.value (row_at q.nodes q.next) (row_at q.nodes n.sibling)
-    stack_is : rows_at q.nodes q.stack ≡ rows_at p.nodes p.stack ++ (front, row_at q.nodes n.sibling) ∷ []
+    row_is : row_at p.nodes p.next ≡ node n.label n.value (row_at q.nodes q.next)
+        (row_at q.nodes n.sibling)
+    stack_is :
+        rows_at q.nodes q.stack ≡ rows_at p.nodes p.stack ++ (front, row_at q.nodes n.sibling) ∷ []
     stand : Stand q
 
   down : Down
@@ -78,25 +94,39 @@ module _ {V : Type 0} (p q : Position V) (id : ℕ) (n : Node V) (stands : Stand
         stand = record {
           next_plan = rw (child, c_is) c;
           plans = rw stack (all_plans-snoc q.nodes p.stack front n.sibling kept.plans (rw s_is s));
-          once = λ i. rw (child, c_is, stack) (omega (arith, stands.once i, counts i, kept.counts i, count_all-snoc q.nodes p.stack front n.sibling i, ap (λ r. count r i) s_is));
+          once = λ i. rw (child, c_is, stack)
+              (omega (
+                arith,
+                stands.once i,
+                counts i,
+                kept.counts i,
+                count_all-snoc q.nodes p.stack
+                    front n.sibling i,
+                ap (λ r. count r i) s_is,
+              ));
         };
       }
 
 module _ (item : List ℕ → Type 0) {V : Type 0} where
   -- the step to a node's value and its children, where only that node is written to
-  pub goes_down : (p q : Position V) (id : ℕ) (n : Node V) (l : List ℕ) (front : ℕ) → IsPosition item p → p.pending ≡ None → p.next ≡ Some id → n ≡ get_or p.nodes id n
-      → length q.nodes ≡ length p.nodes → ((i : ℕ) → i ≢ id → slice_get q.nodes i ≡ slice_get p.nodes i)
-      → l ≡ n.label → front ≡ length p.path
-      → q.path ≡ p.path ++ l → q.pending ≡ n.value → q.next ≡ n.child → q.stack ≡ p.stack ++ (front, n.sibling) ∷ []
-      → AdvancesTo item p q
+  pub goes_down : (p q : Position V) (id : ℕ) (n : Node V) (l : List ℕ) (front : ℕ)
+      → IsPosition item p → p.pending ≡ None → p.next ≡ Some id → n ≡ get_or p.nodes id n
+      → length q.nodes ≡ length p.nodes
+      → ((i : ℕ) → i ≢ id → slice_get q.nodes i ≡ slice_get p.nodes i) → l ≡ n.label
+      → front ≡ length p.path → q.path ≡ p.path ++ l → q.pending ≡ n.value → q.next ≡ n.child
+      → q.stack ≡ p.stack ++ (front, n.sibling) ∷ [] → AdvancesTo item p q
   goes_down p q id n l front w pending next reads long others label_is front_is path pending' child stack =
       let d = down p q id n w.stand next reads long others (length p.path) child (rw (sym front_is) stack) in
-      record { stand = d.stand; step = step_down item (state_of p) (state_of q) n.label n.value _ _ w.state pending d.row_is (rw (sym label_is) path) pending' refl d.stack_is }
+      record {
+        stand = d.stand;
+        step = step_down item (state_of p) (state_of q) n.label n.value _ _ w.state pending
+            d.row_is (rw (sym label_is) path) pending' refl d.stack_is;
+      }
 
   -- the step back to the row that waits last
-  pub goes_back : (p q : Position V) (n : ℕ) (at : Option ℕ) → IsPosition item p → p.pending ≡ None → p.next ≡ None → p.stack ≡ q.stack ++ (n, at) ∷ []
-      → q.nodes ≡ p.nodes → q.path ≡ take n p.path → q.pending ≡ p.pending → q.next ≡ at
-      → AdvancesTo item p q
+  pub goes_back : (p q : Position V) (n : ℕ) (at : Option ℕ) → IsPosition item p → p.pending ≡ None
+      → p.next ≡ None → p.stack ≡ q.stack ++ (n, at) ∷ [] → q.nodes ≡ p.nodes
+      → q.path ≡ take n p.path → q.pending ≡ p.pending → q.next ≡ at → AdvancesTo item p q
   goes_back p q n at w pending next stack nodes path pending' at_is =
       let last = all_plans-last p.nodes q.stack n at (rw stack at w.stand.plans) in
       record {
@@ -110,7 +140,8 @@ module _ (item : List ℕ → Type 0) {V : Type 0} where
       }
 
   -- where a node is next, an entry is left
-  pub position_filled : (p : Position V) (id : ℕ) → IsPosition item p → p.next ≡ Some id → left (state_of p) ≢ []
+  pub position_filled : (p : Position V) (id : ℕ) → IsPosition item p → p.next ≡ Some id
+      → left (state_of p) ≢ []
   position_filled p id w next = by (plan_at p.nodes p.next) refl w.stand.next_plan.at_is
     where
       by : (r : Plan V) → plan_at p.nodes p.next ≡ r → p.next ≡ head r → left (state_of p) ≢ []
@@ -118,11 +149,14 @@ module _ (item : List ℕ → Type 0) {V : Type 0} where
       by (Cell i l v c d) is at = left_filled item (state_of p) l v (row c) (row d) w.state (ap row is)
 
   -- a number that is next is that of a node
-  pub position_within : (p : Position V) (id : ℕ) → IsPosition item p → p.next ≡ Some id → id < length p.nodes
+  pub position_within : (p : Position V) (id : ℕ) → IsPosition item p → p.next ≡ Some id
+      → id < length p.nodes
   position_within p id w next = head_within p.nodes p.next (plan_at p.nodes p.next) id w.stand.next_plan next
 
   -- at its start a walk stands at the first row
-  pub position_start : (s : NodeArena V) (p : Position V) → IsWellFormed s → IsCanonical item (siblings_of s) → p.nodes ≡ s.nodes.items → p.path ≡ [] → p.next ≡ s.root → p.stack ≡ [] → IsPosition item p
+  pub position_start : (s : NodeArena V) (p : Position V) → IsWellFormed s
+      → IsCanonical item (siblings_of s) → p.nodes ≡ s.nodes.items → p.path ≡ [] → p.next ≡ s.root
+      → p.stack ≡ [] → IsPosition item p
   position_start s p whole ok nodes path next stack =
       let plan = whole_plan s whole in
       let once = whole.1.1.once in
@@ -137,7 +171,8 @@ module _ (item : List ℕ → Type 0) {V : Type 0} where
       }
 
   -- with no row left a walk stands at its end
-  pub position_end : (p : Position V) → p.path ≡ [] → p.next ≡ None → p.stack ≡ [] → IsPosition item p
+  pub position_end : (p : Position V) → p.path ≡ [] → p.next ≡ None → p.stack ≡ []
+      → IsPosition item p
   position_end p path next stack =
       let plan : IsPlan p.nodes None Nil = record { stands = tt; at_is = refl; fits = omega arith } in
       let is = plan_is p.nodes None Nil plan in
@@ -146,15 +181,20 @@ module _ (item : List ℕ → Type 0) {V : Type 0} where
         state = record { valid = rw path (IsValid-nil item); canonical = rw (next, is) tt; waits = rw stack tt };
       }
 
-module _ (item : List ℕ → Type 0) {V : Type 0} (arena : NodeArena V) (front : List ℕ) (top : ℕ) (n : Node V) (w : IsTop item arena front top) (reads : n ≡ get_or arena.nodes.items top n) where
+module _ (item : List ℕ → Type 0) {V : Type 0} (arena : NodeArena V) (front : List ℕ) (top : ℕ)
+    (n : Node V) (w : IsTop item arena front top) (reads : n ≡ get_or arena.nodes.items top n) where
   top_opened : Opened arena.nodes.items (plan_at arena.nodes.items (Some top)) top n
   top_opened = opened arena.nodes.items (Some top) (plan_at arena.nodes.items (Some top)) top n w.plan refl reads
 
-  top_row : row_at arena.nodes.items (Some top) ≡ node n.label n.value (row_at arena.nodes.items n.child) (row top_opened.sibling)
-  top_row = ap row top_opened.is ∙ ap (λ c. node n.label n.value (row c) (row top_opened.sibling)) (sym (plan_is arena.nodes.items n.child top_opened.child top_opened.child_plan))
+  top_row :
+      row_at arena.nodes.items (Some top) ≡ node n.label n.value (row_at arena.nodes.items n.child)
+      (row top_opened.sibling)
+  top_row = ap row top_opened.is ∙ ap (λ c. node n.label n.value (row c) (row top_opened.sibling))
+      (sym (plan_is arena.nodes.items n.child top_opened.child top_opened.child_plan))
 
   -- a walk below a node stands at its value and its children
-  pub position_top : (p : Position V) → p.nodes ≡ arena.nodes.items → p.path ≡ front ++ n.label → p.next ≡ n.child → p.stack ≡ [] → IsPosition item p
+  pub position_top : (p : Position V) → p.nodes ≡ arena.nodes.items → p.path ≡ front ++ n.label
+      → p.next ≡ n.child → p.stack ≡ [] → IsPosition item p
   position_top p nodes path next stack =
       let is = plan_is arena.nodes.items n.child top_opened.child top_opened.child_plan in
       let ok = subst (IsCanonical item) top_row w.canonical in
@@ -168,5 +208,7 @@ module _ (item : List ℕ → Type 0) {V : Type 0} (arena : NodeArena V) (front 
       }
 
   -- all rows below the node are left then
-  pub left_top : (p : Position V) → p.nodes ≡ arena.nodes.items → p.path ≡ front ++ n.label → p.pending ≡ n.value → p.next ≡ n.child → p.stack ≡ [] → left (state_of p) ≡ rows_below front (row_at arena.nodes.items (Some top))
+  pub left_top : (p : Position V) → p.nodes ≡ arena.nodes.items → p.path ≡ front ++ n.label
+      → p.pending ≡ n.value → p.next ≡ n.child → p.stack ≡ []
+      → left (state_of p) ≡ rows_below front (row_at arena.nodes.items (Some top))
   left_top p nodes path pending next stack = rw (nodes, path, pending, next, stack, top_row) (append-nil _)

@@ -45,11 +45,13 @@ module _ (h : ValueSlot) where
       ]
 
   -- the key of a holder that stands once
-  pub key_of_once : (es : List (List ℕ × ValueSlot)) → uses es h ≤ 1 → (k : List ℕ) → Has es (k, h) → key_at es h ≡ Some k
+  pub key_of_once : (es : List (List ℕ × ValueSlot)) → uses es h ≤ 1 → (k : List ℕ) → Has es (k, h)
+      → key_at es h ≡ Some k
   key_of_once [] once k has = absurd has
   key_of_once (e ∷ es) once k has = by (is_same e.1 h) refl (λ n. key_of_once es n k)
     where
-      by : (b : Bool) → is_same e.1 h ≡ b → (uses es h ≤ 1 → Has es (k, h) → key_at es h ≡ Some k) → cond b (Some e.0) (key_at es h) ≡ Some k
+      by : (b : Bool) → is_same e.1 h ≡ b → (uses es h ≤ 1 → Has es (k, h) → key_at es h ≡ Some k)
+          → cond b (Some e.0) (key_at es h) ≡ Some k
       by true f rest = elim has [
         | inl same ↦ ap (λ x. Some x.0) same
         | inr later ↦ absurd (unused_key es (let all : uses (e ∷ es) h ≡ 1 + uses es h = rw f refl in omega (arith, once, all)) k later)
@@ -61,18 +63,26 @@ module _ (h : ValueSlot) where
 
 module _ {V : Type 0} (held : ValueSlot → Option V) where
   -- the rows that pass a test of their keys
-  reads_filter : (f : List ℕ → Bool) (es : List (List ℕ × ValueSlot)) (rs : List (List ℕ × V)) → Reads held es rs → Reads held (filter (λ e. f e.0) es) (filter (λ e. f e.0) rs)
+  reads_filter : (f : List ℕ → Bool) (es : List (List ℕ × ValueSlot)) (rs : List (List ℕ × V))
+      → Reads held es rs → Reads held (filter (λ e. f e.0) es) (filter (λ e. f e.0) rs)
   reads_filter f [] [] r = tt
   reads_filter f [] (x ∷ rs) r = absurd r
   reads_filter f (e ∷ es) [] r = absurd r
-  reads_filter f (e ∷ es) (x ∷ rs) r = subst (λ k. Reads held (filter (λ e. f e.0) (e ∷ es)) (cond (f k) (x ∷ filter (λ e. f e.0) rs) (filter (λ e. f e.0) rs))) r.0 (by (f e.0) (reads_filter f es rs r.2))
+  reads_filter f (e ∷ es) (x ∷ rs) r = subst
+      (λ k. Reads held (filter (λ e. f e.0) (e ∷ es))
+      (cond (f k) (x ∷ filter (λ e. f e.0) rs) (filter (λ e. f e.0) rs))) r.0
+      (by (f e.0) (reads_filter f es rs r.2))
     where
-      by : (b : Bool) → Reads held (filter (λ e. f e.0) es) (filter (λ e. f e.0) rs) → Reads held (cond b (e ∷ filter (λ e. f e.0) es) (filter (λ e. f e.0) es)) (cond b (x ∷ filter (λ e. f e.0) rs) (filter (λ e. f e.0) rs))
+      by : (b : Bool) → Reads held (filter (λ e. f e.0) es) (filter (λ e. f e.0) rs)
+          → Reads held (cond b (e ∷ filter (λ e. f e.0) es) (filter (λ e. f e.0) es))
+          (cond b (x ∷ filter (λ e. f e.0) rs) (filter (λ e. f e.0) rs))
       by true rest = (r.0, r.1, rest)
       by false rest = rest
 
   -- so do those behind a key
-  pub reads_after : (o : Option (List ℕ)) (p : List ℕ) (es : List (List ℕ × ValueSlot)) (rs : List (List ℕ × V)) → Reads held es rs → Reads held (after o (under p es)) (after o (under p rs))
+  pub reads_after :
+      (o : Option (List ℕ)) (p : List ℕ) (es : List (List ℕ × ValueSlot)) (rs : List (List ℕ × V))
+      → Reads held es rs → Reads held (after o (under p es)) (after o (under p rs))
   reads_after None p es rs r = reads_filter (λ k. begins p k) es rs r
   reads_after (Some q) p es rs r = reads_filter (λ k. is_lt (key_cmp q k)) _ _ (reads_filter (λ k. begins p k) es rs r)
 
@@ -82,37 +92,48 @@ module _ {V : Type 0} (held : ValueSlot → Option V) where
   reads_none (x ∷ rs) r = absurd r
 
   -- the first of them reads the first entry
-  pub reads_first : (e : List ℕ × ValueSlot) (es : List (List ℕ × ValueSlot)) (rs : List (List ℕ × V)) → Reads held (e ∷ es) rs → (v : V) × (slice_get rs 0 ≡ Some (e.0, v)) × (held e.1 ≡ Some v)
+  pub reads_first :
+      (e : List ℕ × ValueSlot) (es : List (List ℕ × ValueSlot)) (rs : List (List ℕ × V))
+      → Reads held (e ∷ es) rs → (v : V) × (slice_get rs 0 ≡ Some (e.0, v)) × (held e.1 ≡ Some v)
   reads_first e es [] r = absurd r
   reads_first e es (x ∷ rs) r = (x.1, ap (λ k. Some (k, x.1)) (sym r.0), r.1)
 
   -- a key that is below all rows is below that of a holder
-  key_below : (q : List ℕ) (h : ValueSlot) (k : List ℕ) (es : List (List ℕ × ValueSlot)) (rs : List (List ℕ × V)) → Reads held es rs → T (below_all key_cmp q rs) → key_at es h ≡ Some k → key_cmp q k ≡ Less
+  key_below : (q : List ℕ) (h : ValueSlot) (k : List ℕ) (es : List (List ℕ × ValueSlot))
+      (rs : List (List ℕ × V)) → Reads held es rs → T (below_all key_cmp q rs)
+      → key_at es h ≡ Some k → key_cmp q k ≡ Less
   key_below q h k [] rs r below at = absurd (cc)
   key_below q h k (e ∷ es) [] r below at = absurd r
   key_below q h k (e ∷ es) (x ∷ rs) r below at = by (is_same e.1 h) at (key_below q h k es rs r.2 (second_part _ _ below))
     where
-      by : (b : Bool) → cond b (Some e.0) (key_at es h) ≡ Some k → (key_at es h ≡ Some k → key_cmp q k ≡ Less) → key_cmp q k ≡ Less
+      by : (b : Bool) → cond b (Some e.0) (key_at es h) ≡ Some k
+          → (key_at es h ≡ Some k → key_cmp q k ≡ Less) → key_cmp q k ≡ Less
       by true at rest = let same : e.0 ≡ k = cc in rw (← same, r.0) (less_so (key_cmp q x.0) (first_part _ _ below))
       by false at rest = rest at
 
   -- a holder that stands in the rows holds a value
-  pub key_value : (h : ValueSlot) (es : List (List ℕ × ValueSlot)) (rs : List (List ℕ × V)) → Reads held es rs → key_at es h ≢ None → (v : V) × (held h ≡ Some v)
+  pub key_value : (h : ValueSlot) (es : List (List ℕ × ValueSlot)) (rs : List (List ℕ × V))
+      → Reads held es rs → key_at es h ≢ None → (v : V) × (held h ≡ Some v)
   key_value h [] rs r some = absurd (some refl)
   key_value h (e ∷ es) [] r some = absurd r
   key_value h (e ∷ es) (x ∷ rs) r some = by (is_same e.1 h) refl some (key_value h es rs r.2)
     where
-      by : (b : Bool) → is_same e.1 h ≡ b → cond b (Some e.0) (key_at es h) ≢ None → (key_at es h ≢ None → (v : V) × (held h ≡ Some v)) → (v : V) × (held h ≡ Some v)
+      by : (b : Bool) → is_same e.1 h ≡ b → cond b (Some e.0) (key_at es h) ≢ None
+          → (key_at es h ≢ None → (v : V) × (held h ≡ Some v)) → (v : V) × (held h ≡ Some v)
       by true f some rest = (x.1, ap held (sym (same_is e.1 h f)) ∙ r.1)
       by false f some rest = rest some
 
   -- the value at the key of a holder is the one that it holds
-  pub find_read : (h : ValueSlot) (k : List ℕ) (es : List (List ℕ × ValueSlot)) (rs : List (List ℕ × V)) → Reads held es rs → T (is_sorted key_cmp rs) → key_at es h ≡ Some k → find key_cmp k rs ≡ held h
+  pub find_read :
+      (h : ValueSlot) (k : List ℕ) (es : List (List ℕ × ValueSlot)) (rs : List (List ℕ × V))
+      → Reads held es rs → T (is_sorted key_cmp rs) → key_at es h ≡ Some k
+      → find key_cmp k rs ≡ held h
   find_read h k [] rs r sorted at = absurd (cc)
   find_read h k (e ∷ es) [] r sorted at = absurd r
   find_read h k (e ∷ es) (x ∷ rs) r sorted at = by (is_same e.1 h) refl at (find_read h k es rs r.2 (second_part _ _ sorted))
     where
-      by : (b : Bool) → is_same e.1 h ≡ b → cond b (Some e.0) (key_at es h) ≡ Some k → (key_at es h ≡ Some k → find key_cmp k rs ≡ held h) → find key_cmp k (x ∷ rs) ≡ held h
+      by : (b : Bool) → is_same e.1 h ≡ b → cond b (Some e.0) (key_at es h) ≡ Some k
+          → (key_at es h ≡ Some k → find key_cmp k rs ≡ held h) → find key_cmp k (x ∷ rs) ≡ held h
       by true f at rest =
           let key : x.0 ≡ k = (let first : e.0 ≡ k = cc in sym r.0 ∙ first) in
           let tie : key_cmp k x.0 ≡ Equal = rw key (key_cmp-same k) in
@@ -122,9 +143,11 @@ module _ {V : Type 0} (held : ValueSlot → Option V) where
           let more : key_cmp k x.0 ≡ Greater = key_cmp-turned x.0 k less in
           rw more (rest at)
 
-module _ {V : Type 0} (old new : ValueSlot → Option V) (h : ValueSlot) (w : V) (here : new h ≡ Some w) (others : (x : ValueSlot) → is_same x h ≡ false → new x ≡ old x) where
+module _ {V : Type 0} (old new : ValueSlot → Option V) (h : ValueSlot) (w : V)
+    (here : new h ≡ Some w) (others : (x : ValueSlot) → is_same x h ≡ false → new x ≡ old x) where
   -- where the holder does not stand, no row changes
-  put_unused : (es : List (List ℕ × ValueSlot)) (rs ts : List (List ℕ × V)) → Reads old es rs → Reads new es ts → uses es h ≡ 0 → ts ≡ rs
+  put_unused : (es : List (List ℕ × ValueSlot)) (rs ts : List (List ℕ × V)) → Reads old es rs
+      → Reads new es ts → uses es h ≡ 0 → ts ≡ rs
   put_unused [] rs ts r t none = reads_none new ts t ∙ sym (reads_none old rs r)
   put_unused (e ∷ es) [] ts r t none = absurd r
   put_unused (e ∷ es) (x ∷ rs) [] r t none = absurd t
@@ -139,13 +162,17 @@ module _ {V : Type 0} (old new : ValueSlot → Option V) (h : ValueSlot) (w : V)
           cc
 
   -- a write to what a holder holds puts the value in at its key
-  pub put_read : (k : List ℕ) (es : List (List ℕ × ValueSlot)) (rs ts : List (List ℕ × V)) → Reads old es rs → Reads new es ts → uses es h ≤ 1 → T (is_sorted key_cmp rs) → key_at es h ≡ Some k → ts ≡ put key_cmp k w rs
+  pub put_read : (k : List ℕ) (es : List (List ℕ × ValueSlot)) (rs ts : List (List ℕ × V))
+      → Reads old es rs → Reads new es ts → uses es h ≤ 1 → T (is_sorted key_cmp rs)
+      → key_at es h ≡ Some k → ts ≡ put key_cmp k w rs
   put_read k [] rs ts r t once sorted at = absurd (cc)
   put_read k (e ∷ es) [] ts r t once sorted at = absurd r
   put_read k (e ∷ es) (x ∷ rs) [] r t once sorted at = absurd t
   put_read k (e ∷ es) (x ∷ rs) (y ∷ ts) r t once sorted at = by (is_same e.1 h) refl at (λ n. put_read k es rs ts r.2 t.2 n (second_part _ _ sorted))
     where
-      by : (b : Bool) → is_same e.1 h ≡ b → cond b (Some e.0) (key_at es h) ≡ Some k → (uses es h ≤ 1 → key_at es h ≡ Some k → ts ≡ put key_cmp k w rs) → y ∷ ts ≡ put key_cmp k w (x ∷ rs)
+      by : (b : Bool) → is_same e.1 h ≡ b → cond b (Some e.0) (key_at es h) ≡ Some k
+          → (uses es h ≤ 1 → key_at es h ≡ Some k → ts ≡ put key_cmp k w rs)
+          → y ∷ ts ≡ put key_cmp k w (x ∷ rs)
       by true f at rest =
           let later = put_unused es rs ts r.2 t.2 (let all : uses (e ∷ es) h ≡ 1 + uses es h = rw f refl in omega (arith, once, all)) in
           let key : x.0 ≡ k = (let first : e.0 ≡ k = cc in sym r.0 ∙ first) in

@@ -24,13 +24,20 @@ use Rattle.patricia_walks.proofs.HolderLemmas.{Marked, marked, place_marked, row
 use Rattle.patricia_walks.proofs.NumberLemmas.{marked_node, numbered_slots-length, numbered_slots-read}
 
 -- a walk that can begin in slots can begin in nodes that are the same
-starts_at : (item : List ℕ → Type 0) (m : NodeArena ValueSlot) (nodes : List (Node ValueSlot)) → m.nodes.items ≡ nodes → (front : List ℕ) (top : ℕ) → IsTop item m front top → IsAtStart item nodes front top
+starts_at : (item : List ℕ → Type 0) (m : NodeArena ValueSlot) (nodes : List (Node ValueSlot))
+    → m.nodes.items ≡ nodes → (front : List ℕ) (top : ℕ) → IsTop item m front top
+    → IsAtStart item nodes front top
 starts_at item m nodes same front top w = record { valid = w.valid; plan = rw (← same) w.plan; once = rw (← same) w.once; canonical = rw (← same) w.canonical }
 
-top_at : (item : List ℕ → Type 0) (m : NodeArena ValueSlot) (nodes : List (Node ValueSlot)) → m.nodes.items ≡ nodes → (front : List ℕ) (top : ℕ) → IsAtStart item nodes front top → IsTop item m front top
+top_at : (item : List ℕ → Type 0) (m : NodeArena ValueSlot) (nodes : List (Node ValueSlot))
+    → m.nodes.items ≡ nodes → (front : List ℕ) (top : ℕ) → IsAtStart item nodes front top
+    → IsTop item m front top
 top_at item m nodes same front top w = record { valid = w.valid; plan = rw same w.plan; once = rw same w.once; canonical = rw same w.canonical }
 
-module _ (item : List ℕ → Type 0) (kind : IsKeyKind item) {V : Type 0} (s : NodeArena V) (m : NodeArena ValueSlot) (is : Marked s m) (whole : IsWellFormed s) (ok : IsCanonical item (siblings_of s)) (key : List ℕ) (link_ref : LinkRef) (at : Option ℕ) (rest : List ℕ) (matched : Match) (p : Placed item s key link_ref at rest matched) where
+module _ (item : List ℕ → Type 0) (kind : IsKeyKind item) {V : Type 0} (s : NodeArena V)
+    (m : NodeArena ValueSlot) (is : Marked s m) (whole : IsWellFormed s)
+    (ok : IsCanonical item (siblings_of s)) (key : List ℕ) (link_ref : LinkRef) (at : Option ℕ)
+    (rest : List ℕ) (matched : Match) (p : Placed item s key link_ref at rest matched) where
   m_row : IsCanonical item (siblings_of m)
   m_row = rw (is.nodes, is.root) ((row_marked s whole item).0 ok)
 
@@ -38,7 +45,9 @@ module _ (item : List ℕ → Type 0) (kind : IsKeyKind item) {V : Type 0} (s : 
   m_place = place_marked s whole item m is key link_ref at rest matched p
 
   -- where a node's keys all begin with the key, a walk can begin there
-  pub starts_under : (front : ℕ) → front ≡ length key - length rest → (top : ℕ) → node_under rest matched ≡ Some top → StartsUnder item s key (record { front = front; top = top })
+  pub starts_under : (front : ℕ) → front ≡ length key - length rest → (top : ℕ)
+      → node_under rest matched ≡ Some top
+      → StartsUnder item s key (record { front = front; top = top })
   starts_under front front_is top e = record {
     within = omega (arith, front_is);
     start = starts_at item m _ is.nodes (take front key) top (place_top item kind m is.whole m_row key link_ref at rest matched m_place front front_is top e);
@@ -46,15 +55,27 @@ module _ (item : List ℕ → Type 0) (kind : IsKeyKind item) {V : Type 0} (s : 
   }
 
   -- and where there is none, no row is under the key
-  pub starts_nowhere : IsValid item rest → node_under rest matched ≡ None → under key (holders None s) ≡ []
+  pub starts_nowhere : IsValid item rest → node_under rest matched ≡ None
+      → under key (holders None s) ≡ []
   starts_nowhere valid none = rw (← is.nodes, ← is.root) (place_nothing item kind m is.whole m_row key link_ref at rest matched m_place valid none)
 
 -- the node is there
-pub start_within : (item : List ℕ → Type 0) {V : Type 0} (nodes : List (Node V)) (front : List ℕ) (top : ℕ) → IsAtStart item (numbered_slots 0 nodes) front top → top < length nodes
-start_within item nodes front top w = omega (arith, head_within (numbered_slots 0 nodes) (Some top) (plan_at (numbered_slots 0 nodes) (Some top)) top w.plan refl, numbered_slots-length 0 nodes)
+pub start_within :
+    (item : List ℕ → Type 0) {V : Type 0} (nodes : List (Node V)) (front : List ℕ) (top : ℕ)
+    → IsAtStart item (numbered_slots 0 nodes) front top → top < length nodes
+start_within item nodes front top w = omega (
+  arith,
+  head_within (numbered_slots 0 nodes) (Some top)
+      (plan_at (numbered_slots 0 nodes) (Some top)) top w.plan refl,
+  numbered_slots-length 0 nodes,
+)
 
-module _ (item : List ℕ → Type 0) {V : Type 0} (s : NodeArena V) (m : NodeArena ValueSlot) (is : Marked s m) (front : List ℕ) (top : ℕ) (n : Node V) (w : IsAtStart item (numbered_slots 0 s.nodes.items) front top) (reads : n ≡ get_or s.nodes.items top n)
-    (p : Position ValueSlot) (nodes : p.nodes ≡ numbered_slots 0 s.nodes.items) (path : p.path ≡ front ++ n.label) (next : p.next ≡ n.child) (stack : p.stack ≡ []) where
+module _ (item : List ℕ → Type 0) {V : Type 0} (s : NodeArena V) (m : NodeArena ValueSlot)
+    (is : Marked s m) (front : List ℕ) (top : ℕ) (n : Node V)
+    (w : IsAtStart item (numbered_slots 0 s.nodes.items) front top)
+    (reads : n ≡ get_or s.nodes.items top n)
+    (p : Position ValueSlot) (nodes : p.nodes ≡ numbered_slots 0 s.nodes.items)
+    (path : p.path ≡ front ++ n.label) (next : p.next ≡ n.child) (stack : p.stack ≡ []) where
   m_top : IsTop item m front top
   m_top = top_at item m (numbered_slots 0 s.nodes.items) is.nodes front top w
 
@@ -66,13 +87,18 @@ module _ (item : List ℕ → Type 0) {V : Type 0} (s : NodeArena V) (m : NodeAr
   start_position = position_top item m front top (marked_node top n) m_top m_reads p (nodes ∙ sym is.nodes) path next stack
 
   -- all rows below the topmost node are left
-  pub start_left : p.pending ≡ option_map (λ _. OfNode top) n.value → left (state_of p) ≡ rows_below front (row_at (numbered_slots 0 s.nodes.items) (Some top))
+  pub start_left : p.pending ≡ option_map (λ _. OfNode top) n.value
+      → left (state_of p) ≡ rows_below front (row_at (numbered_slots 0 s.nodes.items) (Some top))
   start_left pending = rw (← is.nodes) (left_top item m front top (marked_node top n) m_top m_reads p (nodes ∙ sym is.nodes) path pending next stack)
 
 -- where a walk can begin, a row is left
-pub start_filled : (item : List ℕ → Type 0) (kind : IsKeyKind item) {V : Type 0} (s : NodeArena V) (m : NodeArena ValueSlot) → Marked s m → (front : List ℕ) (top : ℕ) → IsAtStart item (numbered_slots 0 s.nodes.items) front top
+pub start_filled : (item : List ℕ → Type 0) (kind : IsKeyKind item) {V : Type 0} (s : NodeArena V)
+    (m : NodeArena ValueSlot) → Marked s m → (front : List ℕ) (top : ℕ)
+    → IsAtStart item (numbered_slots 0 s.nodes.items) front top
     → rows_below front (row_at (numbered_slots 0 s.nodes.items) (Some top)) ≢ []
-start_filled item kind s m is front top w = rw (← is.nodes) (top_filled item kind m front top (top_at item m (numbered_slots 0 s.nodes.items) is.nodes front top w))
+start_filled item kind s m is front top w = rw (← is.nodes)
+    (top_filled item kind m front top
+    (top_at item m (numbered_slots 0 s.nodes.items) is.nodes front top w))
 
 module _ {V : Type 0} (nodes : List (Node V)) (next : Option ℕ) where
   -- the place of a walk that has not begun
@@ -80,20 +106,26 @@ module _ {V : Type 0} (nodes : List (Node V)) (next : Option ℕ) where
   fresh pending = record { nodes = numbered_slots 0 nodes; path = []; pending = pending; next = next; stack = [] }
 
   -- with no row left it is over
-  pub ended_position : (item : List ℕ → Type 0) (p : Position ValueSlot) → next ≡ None → p ≡ fresh None → IsPosition item p
+  pub ended_position : (item : List ℕ → Type 0) (p : Position ValueSlot) → next ≡ None
+      → p ≡ fresh None → IsPosition item p
   ended_position item p none is = rw is (position_end item (fresh None) refl none refl)
 
   -- at the end nothing is left
   pub ended_left : (p : Position ValueSlot) → next ≡ None → p ≡ fresh None → left (state_of p) ≡ []
   ended_left p none is = rw (is, none, row_none (numbered_slots 0 nodes)) refl
 
-module _ (item : List ℕ → Type 0) {V : Type 0} (s : NodeArena V) (whole : IsWellFormed s) (p : Position ValueSlot) (pending : Option ValueSlot) (is : p ≡ fresh s.nodes.items s.root pending) where
+module _ (item : List ℕ → Type 0) {V : Type 0} (s : NodeArena V) (whole : IsWellFormed s)
+    (p : Position ValueSlot) (pending : Option ValueSlot)
+    (is : p ≡ fresh s.nodes.items s.root pending) where
   -- at the first row nothing is passed
   pub first_position : IsCanonical item (siblings_of s) → IsPosition item p
   first_position ok =
       let m = marked s whole in
-      rw is (position_start item m.0 (fresh s.nodes.items s.root pending) m.1.whole (rw (m.1.nodes, m.1.root) ((row_marked s whole item).0 ok)) (sym m.1.nodes) refl (sym m.1.root) refl)
+      rw is (position_start item m.0 (fresh s.nodes.items s.root pending) m.1.whole
+      (rw (m.1.nodes, m.1.root) ((row_marked s whole item).0 ok)) (sym m.1.nodes) refl
+      (sym m.1.root) refl)
 
   -- at first all holders are left
-  pub first_left : (value : Option V) → pending ≡ option_map (λ _. OfEmptyKey) value → left (state_of p) ≡ holders value s
+  pub first_left : (value : Option V) → pending ≡ option_map (λ _. OfEmptyKey) value
+      → left (state_of p) ≡ holders value s
   first_left value due_is = rw (is, due_is) (left_start (state_of (fresh s.nodes.items s.root (option_map (λ _. OfEmptyKey) value))) refl refl)

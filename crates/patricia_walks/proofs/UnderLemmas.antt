@@ -25,7 +25,8 @@ use Rattle.patricia_walks.specs.Internal.Starts.{IsStartUnder, IsUnderWalk, rows
 use Rattle.patricia_walks.proofs.PlaceLemmas.{Passed, passed-fill}
 
 -- the node under a key that ends within a label is that of the label, and the whole rest of the key is common
-pub within_node : (i id n : ℕ) (rest : List ℕ) → node_under rest (InsideLabel i n) ≡ Some id → (i ≡ id) × (n ≡ length rest)
+pub within_node : (i id n : ℕ) (rest : List ℕ) → node_under rest (InsideLabel i n) ≡ Some id
+    → (i ≡ id) × (n ≡ length rest)
 within_node i id n rest e = by (nat_eq n (length rest)) refl
   where
     by : (b : Bool) → nat_eq n (length rest) ≡ b → (i ≡ id) × (n ≡ length rest)
@@ -42,7 +43,9 @@ module _ (item : List ℕ → Type 0) (kind : IsKeyKind item) {V : Type 0} where
   behind path (node l v c s) = prefixed-prefixed path l (own v ++ entries c)
 
   -- the rows under the key are those of the topmost node
-  pub stop_some : (focus : Plan V) → IsCanonical item (row focus) → (rest : List ℕ) (matched : Match) → Matches item focus rest matched → (id : ℕ) → node_under rest matched ≡ Some id
+  pub stop_some : (focus : Plan V) → IsCanonical item (row focus)
+      → (rest : List ℕ) (matched : Match) → Matches item focus rest matched → (id : ℕ)
+      → node_under rest matched ≡ Some id
       → (head focus ≡ Some id) × (under rest (entries (row focus)) ≡ rows_below [] (row focus))
   stop_some Nil ok rest matched h id e = absurd (let f = rw h at e in cc)
   stop_some (Cell i l v c d) ok rest Absent h id e = absurd (cc)
@@ -53,7 +56,9 @@ module _ (item : List ℕ → Type 0) (kind : IsKeyKind item) {V : Type 0} where
   stop_some (Cell i l v c d) ok rest (Exact k) h id e = (let f = h.0 in cc, under_here item kind l v (row c) (row d) ok rest h.1)
 
   -- without such a node no row is under the key
-  pub stop_none : (focus : Plan V) → IsCanonical item (row focus) → (rest : List ℕ) → IsValid item rest → (matched : Match) → Matches item focus rest matched → node_under rest matched ≡ None → under rest (entries (row focus)) ≡ []
+  pub stop_none : (focus : Plan V) → IsCanonical item (row focus) → (rest : List ℕ)
+      → IsValid item rest → (matched : Match) → Matches item focus rest matched
+      → node_under rest matched ≡ None → under rest (entries (row focus)) ≡ []
   stop_none Nil ok rest valid matched h e = refl
   stop_none (Cell i l v c d) ok rest valid Absent h e = under_before item kind l v (row c) (row d) ok rest h
   stop_none (Cell i l v c d) ok rest valid (InsideLabel k n) h e =
@@ -66,7 +71,10 @@ module _ (item : List ℕ → Type 0) (kind : IsKeyKind item) {V : Type 0} where
       (λ b. let long = common_whole item rest l n ok.valid h.1.common b in absurd (omega arith))
   stop_none (Cell i l v c d) ok rest valid (Exact k) h e = absurd (cc)
 
-module _ (item : List ℕ → Type 0) (kind : IsKeyKind item) {V : Type 0} (s : NodeArena V) (whole : IsWellFormed s) (ok : IsCanonical item (siblings_of s)) (key : List ℕ) (link_ref : LinkRef) (at : Option ℕ) (rest : List ℕ) (matched : Match) (p : Placed item s key link_ref at rest matched) where
+module _ (item : List ℕ → Type 0) (kind : IsKeyKind item) {V : Type 0} (s : NodeArena V)
+    (whole : IsWellFormed s) (ok : IsCanonical item (siblings_of s)) (key : List ℕ)
+    (link_ref : LinkRef) (at : Option ℕ) (rest : List ℕ) (matched : Match)
+    (p : Placed item s key link_ref at rest matched) where
   place_row : IsCanonical item (row (fill p.frames p.focus))
   place_row = rw p.fills ok
 
@@ -87,7 +95,8 @@ module _ (item : List ℕ → Type 0) (kind : IsKeyKind item) {V : Type 0} (s : 
     path_is = ap (take front) (sym passed.splits) ∙ take_at passed.path rest front (omega (arith, front_is, long))
 
     module _ (id : ℕ) (e : node_under rest matched ≡ Some id) where
-      here : (head p.focus ≡ Some id) × (under rest (entries (row p.focus)) ≡ rows_below [] (row p.focus))
+      here :
+          (head p.focus ≡ Some id) × (under rest (entries (row p.focus)) ≡ rows_below [] (row p.focus))
       here = stop_some item kind p.focus focus_row rest matched p.is_match id e
 
       plan : IsPlan s.nodes.items (Some id) p.focus
@@ -103,16 +112,29 @@ module _ (item : List ℕ → Type 0) (kind : IsKeyKind item) {V : Type 0} (s : 
         plan = rw focus_is plan;
         once = λ i. rw focus_is (
             let all = plan_is s.nodes.items s.root whole.0 whole.1.1.plan_ok in
-            omega (arith, whole.1.1.once i, below_le (length s.nodes.items) i, ap (λ q. count q i) all, ap (λ q. count q i) p.fills, count-fill p.frames p.focus i));
+            omega (
+              arith,
+              whole.1.1.once i,
+              below_le (length s.nodes.items) i,
+              ap (λ q. count q i)
+                  all,
+              ap (λ q. count q i) p.fills,
+              count-fill p.frames p.focus i,
+            ));
         canonical = rw focus_is focus_row;
       }
 
       -- and its rows are those under the key
-      pub place_rows : rows_below (take front key) (row_at s.nodes.items (Some id)) ≡ under key (entries_of s)
-      place_rows = sym (under_is ∙ ap (prefixed passed.path) here.1 ∙ behind item kind passed.path (row p.focus) ∙ ap (λ k. rows_below k (row p.focus)) (sym path_is) ∙ ap (λ q. rows_below (take front key) (row q)) (sym focus_is))
+      pub place_rows :
+          rows_below (take front key) (row_at s.nodes.items (Some id)) ≡ under key (entries_of s)
+      place_rows = sym
+          (under_is ∙ ap (prefixed passed.path) here.1 ∙ behind item kind passed.path (row p.focus)
+          ∙ ap (λ k. rows_below k (row p.focus)) (sym path_is) ∙ ap
+          (λ q. rows_below (take front key) (row q)) (sym focus_is))
 
   -- where there is none, no row is under the key
-  pub place_nothing : IsValid item rest → node_under rest matched ≡ None → under key (entries_of s) ≡ []
+  pub place_nothing : IsValid item rest → node_under rest matched ≡ None
+      → under key (entries_of s) ≡ []
   place_nothing valid e = under_is ∙ ap (prefixed passed.path) (stop_none item kind p.focus focus_row rest valid matched p.is_match e)
 
 -- what holds in any case holds where there is none
@@ -120,12 +142,14 @@ pub if_none : {A X : Type 0} (r : Option A) → X → IfNone r X
 if_none None x = x
 if_none (Some a) x = tt
 
-module _ (item : List ℕ → Type 0) (kind : IsKeyKind item) {V : Type 0} (s : NodeArena V) (front : List ℕ) (id : ℕ) (top : IsTop item s front id) where
+module _ (item : List ℕ → Type 0) (kind : IsKeyKind item) {V : Type 0} (s : NodeArena V)
+    (front : List ℕ) (id : ℕ) (top : IsTop item s front id) where
   -- where a walk can begin, a row is left
   pub top_filled : rows_below front (row_at s.nodes.items (Some id)) ≢ []
   top_filled = by (plan_at s.nodes.items (Some id)) top.plan.at_is top.canonical
     where
-      by : (q : Plan V) → Some id ≡ head q → IsCanonical item (row q) → rows_below front (row q) ≢ []
+      by : (q : Plan V) → Some id ≡ head q → IsCanonical item (row q)
+          → rows_below front (row q) ≢ []
       by Nil e ok none = absurd (cc)
       by (Cell i l v c d) e ok none =
           let some = has_entry item kind None l v (row c) (row d) ok in
@@ -134,20 +158,27 @@ module _ (item : List ℕ → Type 0) (kind : IsKeyKind item) {V : Type 0} (s : 
 
 module _ (item : List ℕ → Type 0) (kind : IsKeyKind item) {Q V : Type 0} (key_of : Q → List ℕ) where
   -- the rows of a walk that begins at the node, or is over where there is none
-  pub left_at : (start : Option (Start Q V)) (walk rows : List (List ℕ × V)) → IfSome start (λ s. IsStartUnder item key_of s × (rows_from key_of s ≡ rows)) → IfNone start (rows ≡ []) → walk ≡ [] → rows_left key_of start walk ≡ rows
+  pub left_at : (start : Option (Start Q V)) (walk rows : List (List ℕ × V))
+      → IfSome start (λ s. IsStartUnder item key_of s × (rows_from key_of s ≡ rows))
+      → IfNone start (rows ≡ []) → walk ≡ [] → rows_left key_of start walk ≡ rows
   left_at None walk rows some none over = over ∙ sym none
   left_at (Some s) walk rows some none over = some.1
 
   -- a walk that has yielded nothing is one under the key
-  pub under_at : (start : Option (Start Q V)) (walk rows : List (List ℕ × V)) → IfSome start (λ s. IsStartUnder item key_of s × (rows_from key_of s ≡ rows)) → walk ≡ [] → IsUnderWalk item key_of start walk
+  pub under_at : (start : Option (Start Q V)) (walk rows : List (List ℕ × V))
+      → IfSome start (λ s. IsStartUnder item key_of s × (rows_from key_of s ≡ rows)) → walk ≡ []
+      → IsUnderWalk item key_of start walk
   under_at None walk rows some over = tt
   under_at (Some s) walk rows some over = (some.0, over)
 
   -- before a walk has begun, rows are left, and once it is refused, none
-  pub not_begun : (start : Option (Start Q V)) (walk : List (List ℕ × V)) (s : Start Q V) → start ≡ Some s → IsUnderWalk item key_of start walk → (rows_left key_of start walk ≢ []) × (walk ≡ [])
+  pub not_begun : (start : Option (Start Q V)) (walk : List (List ℕ × V)) (s : Start Q V)
+      → start ≡ Some s → IsUnderWalk item key_of start walk
+      → (rows_left key_of start walk ≢ []) × (walk ≡ [])
   not_begun None walk s e h = absurd (cc)
   not_begun (Some t) walk s e h = (top_filled item kind t.arena.now (take t.front (key_of t.prefix)) t.top h.0.top, h.1)
 
 -- under a prefix that is not empty, the empty key is not
-pub under_filled : {V : Type 0} (p : List ℕ) → p ≢ [] → (v : Option V) (es : List (List ℕ × V)) → under p (own v ++ es) ≡ under p es
+pub under_filled : {V : Type 0} (p : List ℕ) → p ≢ [] → (v : Option V) (es : List (List ℕ × V))
+    → under p (own v ++ es) ≡ under p es
 under_filled p some v es = under-append p (own v) es ∙ ap (λ r. r ++ under p es) (under_own p some v)

@@ -15,7 +15,8 @@ use Rattle.patricia_wire.proofs.FrontLemmas.{labels_are_fronts}
 use Rattle.patricia_wire.proofs.CountLemmas.{records_are_points, records_are_few}
 
 module _ (item : List ℕ → Type 0) (kind : IsKeyKind item) where
-  pub tree_bytes : {V : Type 0} (w : ℕ) (b : List ℕ) (rows : List (List ℕ × V)) → Canon item w b (keys_of rows) → AreTreeBytes item w b rows
+  pub tree_bytes : {V : Type 0} (w : ℕ) (b : List ℕ) (rows : List (List ℕ × V))
+      → Canon item w b (keys_of rows) → AreTreeBytes item w b rows
   tree_bytes w b rows x =
       let S = keys_of rows in
       let one : (R : List Record) → EncodeAll w R b → x.records ≡ R = λ R spelled. one_list w x.records R b (meaning.writing_spells item w b S x) spelled in
@@ -29,7 +30,8 @@ module _ (item : List ℕ → Type 0) (kind : IsKeyKind item) where
         few = λ R spelled. subst (λ X. AreFew X S) (one R spelled) (records_are_few item kind x.records S x.root x.tight);
       }
 
-  canon : {V : Type 0} (w : ℕ) (b : List ℕ) (rows : List (List ℕ × V)) → AreTreeBytes item w b rows → Canon item w b (keys_of rows)
+  canon : {V : Type 0} (w : ℕ) (b : List ℕ) (rows : List (List ℕ × V)) → AreTreeBytes item w b rows
+      → Canon item w b (keys_of rows)
   canon w b rows x = (let one = x.one_key_set (keys_of rows) in one.1 refl)
 
   -- tree bytes are equal exactly where the key sets are

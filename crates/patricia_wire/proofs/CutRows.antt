@@ -35,8 +35,18 @@ module _ (item : List ℕ → Type 0) (kind : IsKeyKind item) where
   no_item (x ∷ i) p a = absurd (let h = a.1 in cc)
 
   -- items are taken while they have room
-  take_items : (l : List ℕ) (is : List (List ℕ)) → IsValid item l → l ≢ [] → length l ≤ 255 → AllByRecursion item is → Piece (l ++ concat is)
-  take_items l [] valid nonempty fits ok = record { piece = l; rest = []; joined = refl; valid = valid; nonempty = nonempty; fits = fits; rest_valid = ([], tt, refl); full = λ i p a room. no_item i p a }
+  take_items : (l : List ℕ) (is : List (List ℕ)) → IsValid item l → l ≢ [] → length l ≤ 255
+      → AllByRecursion item is → Piece (l ++ concat is)
+  take_items l [] valid nonempty fits ok = record {
+    piece = l;
+    rest = [];
+    joined = refl;
+    valid = valid;
+    nonempty = nonempty;
+    fits = fits;
+    rest_valid = ([], tt, refl);
+    full = λ i p a room. no_item i p a;
+  }
   take_items l (i ∷ is) valid nonempty fits ok = elim (cases_lt 255 (length (l ++ i))) [
     | inl over ↦ record {
       piece = l;
@@ -46,28 +56,45 @@ module _ (item : List ℕ → Type 0) (kind : IsKeyKind item) where
       nonempty = nonempty;
       fits = fits;
       rest_valid = (i ∷ is, ok, refl);
-      full = λ j p a room. (let same = begins_same item kind j i (concat (i ∷ is)) p ok.0 a (concat is, refl) in let len = ap (λ x. length (l ++ x)) same in omega arith);
+      full = λ j p a room.
+          (let same = begins_same item kind j i (concat (i ∷ is)) p ok.0 a (concat is, refl) in
+          let len = ap (λ x. length (l ++ x)) same in omega arith);
     }
-    | inr room ↦ subst Piece (append_assoc l i (concat is)) (take_items (l ++ i) is (IsValid-append item l i valid (IsValid-item item i ok.0)) (filled_on l i nonempty) room ok.1)
+    | inr room ↦ subst Piece (append_assoc l i (concat is))
+        (take_items (l ++ i) is (IsValid-append item l i valid (IsValid-item item i ok.0))
+        (filled_on l i nonempty) room ok.1)
   ]
 
   -- the longest run of whole items of at most 255 bytes at the front of a label
   pub cut : (k : List ℕ) → IsValid item k → k ≢ [] → Piece k
   cut k ([], ok, e) nonempty = absurd (nonempty (sym e))
-  cut k (i ∷ is, ok, e) nonempty = subst Piece e (take_items i is (IsValid-item item i ok.0) (item-nonempty item kind i ok.0) (let s = kind.sized i ok.0 in s.1) ok.1)
+  cut k (i ∷ is, ok, e) nonempty = subst Piece e
+      (take_items i is (IsValid-item item i ok.0) (item-nonempty item kind i ok.0)
+      (let s = kind.sized i ok.0 in s.1) ok.1)
 
   -- what comes before a label comes before what begins with its first item, and the other way round
-  before_left : (k l m : List ℕ) → IsValid item l → l ≢ [] → Begins l k → IsBefore item k m → IsBefore item l m
+  before_left : (k l m : List ℕ) → IsValid item l → l ≢ [] → Begins l k → IsBefore item k m
+      → IsBefore item l m
   before_left k l m valid nonempty (t, e) b = IsBefore-shorter_left item kind l m t valid nonempty (subst (λ x. IsBefore item x m) (sym e) b)
 
-  before_right : (k m l : List ℕ) → IsValid item l → l ≢ [] → Begins l m → IsBefore item k m → IsBefore item k l
+  before_right : (k m l : List ℕ) → IsValid item l → l ≢ [] → Begins l m → IsBefore item k m
+      → IsBefore item k l
   before_right k m l valid nonempty begun b =
       let f = first_of item l valid nonempty in
       let same = begins_same item kind f.0 b.second m f.1 b.second_item (Begins-trans f.0 l m f.2 begun) b.second_begins in
-      record { first = b.first; second = b.second; first_item = b.first_item; second_item = b.second_item; first_begins = b.first_begins; second_begins = rw (← same) f.2; less = b.less }
+      record {
+        first = b.first;
+        second = b.second;
+        first_item = b.first_item;
+        second_item = b.second_item;
+        first_begins = b.first_begins;
+        second_begins = rw (← same) f.2;
+        less = b.less;
+      }
 
   module _ {V : Type 0} where
-    pub before_row_left : (k l : List ℕ) (s : Siblings V) → IsValid item l → l ≢ [] → Begins l k → IsBeforeSiblings item k s → IsBeforeSiblings item l s
+    pub before_row_left : (k l : List ℕ) (s : Siblings V) → IsValid item l → l ≢ [] → Begins l k
+        → IsBeforeSiblings item k s → IsBeforeSiblings item l s
     before_row_left k l end valid nonempty begun b = tt
     before_row_left k l (node m v c s) valid nonempty begun b = before_left k l m valid nonempty begun b
 
@@ -81,7 +108,10 @@ module _ (item : List ℕ → Type 0) (kind : IsKeyKind item) where
       pub same : entries (node label value child s) ≡ prefixed k (own v ++ entries c) ++ entries s
 
     -- a long label as a chain of pieces
-    pub chain : (n : ℕ) (k : List ℕ) (v : Option V) (c s : Siblings V) → length k ≤ n → IsValid item k → k ≢ [] → ((l : List ℕ) → EarnsWithin item (Some 255) l v c) → IsCanonicalWithin item (Some 255) c → IsCanonicalWithin item (Some 255) s → IsBeforeSiblings item k s → Chain k v c s
+    pub chain : (n : ℕ) (k : List ℕ) (v : Option V) (c s : Siblings V) → length k ≤ n
+        → IsValid item k → k ≢ [] → ((l : List ℕ) → EarnsWithin item (Some 255) l v c)
+        → IsCanonicalWithin item (Some 255) c → IsCanonicalWithin item (Some 255) s
+        → IsBeforeSiblings item k s → Chain k v c s
     chain zero [] v c s h valid nonempty earns okc oks before = absurd (nonempty refl)
     chain zero (x ∷ k) v c s h valid nonempty earns okc oks before = absurd (omega arith)
     chain (suc n) k v c s h valid nonempty earns okc oks before =
@@ -96,7 +126,15 @@ module _ (item : List ℕ → Type 0) (kind : IsKeyKind item) where
               value = v;
               child = c;
               begins = (p.rest, p.joined);
-              ok = record { valid = p.valid; nonempty = p.nonempty; fits = p.fits; earns = earns p.piece; rises = before_row_left k p.piece s p.valid p.nonempty (p.rest, p.joined) before; child = okc; sibling = oks };
+              ok = record {
+                valid = p.valid;
+                nonempty = p.nonempty;
+                fits = p.fits;
+                earns = earns p.piece;
+                rises = before_row_left k p.piece s p.valid p.nonempty (p.rest, p.joined) before;
+                child = okc;
+                sibling = oks;
+              };
               same = ap (λ l. prefixed l (own v ++ entries c) ++ entries s) whole;
             }
 
@@ -115,15 +153,21 @@ module _ (item : List ℕ → Type 0) (kind : IsKeyKind item) where
             child = below.ok;
             sibling = oks;
           };
-          same = ap (λ es. es ++ entries s) (ap (prefixed p.piece) (below.same ∙ append-nil (prefixed p.rest (own v ++ entries c))) ∙ prefixed-prefixed p.piece p.rest (own v ++ entries c) ∙ ap (λ l. prefixed l (own v ++ entries c)) p.joined);
+          same = ap (λ es. es ++ entries s)
+              (ap (prefixed p.piece)
+              (below.same ∙ append-nil (prefixed p.rest (own v ++ entries c))) ∙ prefixed-prefixed
+              p.piece p.rest (own v ++ entries c) ∙ ap (λ l. prefixed l (own v ++ entries c))
+              p.joined);
         }
 
-        go : (p : Piece k) (r : List ℕ) → p.rest ≡ r → (p.rest ≢ [] → Chain p.rest v c end) → Chain k v c s
+        go : (p : Piece k) (r : List ℕ) → p.rest ≡ r → (p.rest ≢ [] → Chain p.rest v c end)
+            → Chain k v c s
         go p [] e below = last p e
         go p (x ∷ r) e below = more p (below (λ none. cc))
 
     -- a piece of a label earns its place as the whole label does
-    pub earns_on : (l m : List ℕ) (v : Option V) (c c' : Siblings V) → IsCanonical item c → EarnsWithin item None l v c → width c' ≡ width c → EarnsWithin item (Some 255) m v c'
+    pub earns_on : (l m : List ℕ) (v : Option V) (c c' : Siblings V) → IsCanonical item c
+        → EarnsWithin item None l v c → width c' ≡ width c → EarnsWithin item (Some 255) m v c'
     earns_on l m (Some v) c c' ok earns e = tt
     earns_on l m None end c' ok earns e = absurd earns
     earns_on l m None (node l1 v1 c1 end) c' ok earns e = let f = first_of item l1 ok.valid ok.nonempty in absurd (earns f.0 f.1 f.2 tt)
@@ -145,7 +189,9 @@ module _ (item : List ℕ → Type 0) (kind : IsKeyKind item) where
     cut_row (node l v c s) ok =
         let child = cut_row c ok.child in
         let sibling = cut_row s ok.sibling in
-        let made = chain (length l) l v child.row sibling.row (omega arith) ok.valid ok.nonempty (λ m. earns_on l m v c child.row ok.child ok.earns child.wide) child.ok sibling.ok (sibling.before l ok.rises) in
+        let made = chain (length l) l v child.row sibling.row (omega arith) ok.valid ok.nonempty
+        (λ m. earns_on l m v c child.row ok.child ok.earns child.wide) child.ok sibling.ok
+        (sibling.before l ok.rises) in
         record {
           row = node made.label made.value made.child sibling.row;
           ok = made.ok;

@@ -44,18 +44,27 @@ begin-firsts (b ∷ l) (x ∷ []) nonempty (rest, e) = inl (let same : x ≡ b =
 begin-firsts (b ∷ l) (x ∷ y ∷ p) nonempty (rest, e) =
     let same : x ≡ b = cc in
     let tails : (y ∷ p) ++ rest ≡ l = cc in
-    inr (subst (λ z. Has (map (λ q. (b ∷ []) ++ q) (firsts l)) (z ∷ y ∷ p)) (sym same) (Has-behind (b ∷ []) (firsts l) (y ∷ p) (begin-firsts l (y ∷ p) (λ none. cc) (rest, tails))))
+    inr (subst (λ z. Has (map (λ q. (b ∷ []) ++ q) (firsts l)) (z ∷ y ∷ p)) (sym same)
+    (Has-behind (b ∷ []) (firsts l) (y ∷ p)
+    (begin-firsts l (y ∷ p) (λ none. cc) (rest, tails))))
 
 firsts-apart : (l : List ℕ) → AreApart (firsts l)
 firsts-apart [] = tt
 firsts-apart (b ∷ l) = (
-  λ h. (let behind = Has-behind_of (b ∷ []) (firsts l) (b ∷ []) h in let e = behind.1 in let none : behind.0 ≡ [] = cc in let nonempty = firsts-begin l behind.0 behind.2 in nonempty.0 none),
+  λ h. (let behind = Has-behind_of (b ∷ []) (firsts l) (b ∷ []) h in let e = behind.1 in
+      let none : behind.0 ≡ [] = cc in let nonempty = firsts-begin l behind.0 behind.2 in
+      nonempty.0 none),
   AreApart-behind (b ∷ []) (firsts l) (firsts-apart l),
 )
 
 -- the empty key has no front
 front_within : (S T : List (List ℕ)) → Within S T → (p : List ℕ) → IsFront S p → IsFront T p
-front_within S T w p f = record { nonempty = f.nonempty; key = f.key; has = w f.key (λ none. f.nonempty (nil_first p f.begins.0 (f.begins.1 ∙ none))) f.has; begins = f.begins }
+front_within S T w p f = record {
+  nonempty = f.nonempty;
+  key = f.key;
+  has = w f.key (λ none. f.nonempty (nil_first p f.begins.0 (f.begins.1 ∙ none))) f.has;
+  begins = f.begins;
+}
 
 module _ {V : Type 0} where
   -- the fronts of a row's keys, label by label
@@ -64,25 +73,48 @@ module _ {V : Type 0} where
   fronts (node l v c s) = firsts l ++ (map (λ p. l ++ p) (fronts c) ++ fronts s)
 
   -- the labels have a byte for each front
-  pub length-fronts : (d : ℕ) (r : Siblings V) → sum_by (λ (x : Record). length x.label) (records_of d r) ≡ length (fronts r)
+  pub length-fronts : (d : ℕ) (r : Siblings V)
+      → sum_by (λ (x : Record). length x.label) (records_of d r) ≡ length (fronts r)
   length-fronts d end = refl
   length-fronts d (node l v c s) =
-      omega (arith, length-fronts (d + 1) c, length-fronts d s, length-firsts l, sum_by-cons (λ (x : Record). length x.label) (record_of d l v c s) (records_of (d + 1) c ++ records_of d s), sum_by-append (λ (x : Record). length x.label) (records_of (d + 1) c) (records_of d s), length-append (firsts l) (map (λ p. l ++ p) (fronts c) ++ fronts s), length-append (map (λ p. l ++ p) (fronts c)) (fronts s), length-map (fronts c) (λ p. l ++ p))
+      omega (
+        arith,
+        length-fronts (d + 1) c,
+        length-fronts d s,
+        length-firsts l,
+        sum_by-cons
+            (λ (x : Record). length x.label) (record_of d l v c s)
+            (records_of (d + 1) c ++ records_of d s),
+        sum_by-append (λ (x : Record). length x.label)
+            (records_of (d + 1) c) (records_of d s),
+        length-append (firsts l)
+            (map (λ p. l ++ p) (fronts c) ++ fronts s),
+        length-append (map (λ p. l ++ p) (fronts c))
+            (fronts s),
+        length-map (fronts c) (λ p. l ++ p),
+      )
 
-  has_key : (P : List ℕ → Type 0) (es : List (List ℕ × V)) (k : List ℕ) → AllKeys P es → Has (keys_of es) k → P k
+  has_key : (P : List ℕ → Type 0) (es : List (List ℕ × V)) (k : List ℕ) → AllKeys P es
+      → Has (keys_of es) k → P k
   has_key P [] k all h = absurd h
   has_key P (e ∷ es) k all (inl same) = subst P same all.0
   has_key P (e ∷ es) k all (inr h) = has_key P es k all.1 h
 
 module _ (item : List ℕ → Type 0) (kind : IsKeyKind item) {V : Type 0} where
-  fronts-of : (r : Siblings V) → IsCanonicalWithin item (Some 255) r → (p : List ℕ) → Has (fronts r) p → IsFront (keys_of (entries r)) p
+  fronts-of : (r : Siblings V) → IsCanonicalWithin item (Some 255) r → (p : List ℕ)
+      → Has (fronts r) p → IsFront (keys_of (entries r)) p
   fronts-of end ok p h = absurd h
   fronts-of (node l v c s) ok p h = elim (Has-either (firsts l) (map (λ q. l ++ q) (fronts c) ++ fronts s) p h) [
     | inl here ↦
         let some = has_entry item kind (Some 255) l v c s ok in
         let begun = firsts-begin l p here in
         let inner : Has (keys_of (own v ++ entries c)) some.0.0 = subst (λ es. Has (keys_of es) some.0.0) (sym some.2) (inl refl) in
-        record { nonempty = begun.0; key = l ++ some.0.0; has = has_prefixed l (own v ++ entries c) (entries s) some.0.0 inner; begins = Begins-trans p l (l ++ some.0.0) begun.1 (some.0.0, refl) }
+        record {
+          nonempty = begun.0;
+          key = l ++ some.0.0;
+          has = has_prefixed l (own v ++ entries c) (entries s) some.0.0 inner;
+          begins = Begins-trans p l (l ++ some.0.0) begun.1 (some.0.0, refl);
+        }
     | inr later ↦ elim (Has-either (map (λ q. l ++ q) (fronts c)) (fronts s) p later) [
       | inl below ↦
           let behind = Has-behind_of l (fronts c) p below in
@@ -109,23 +141,36 @@ module _ (item : List ℕ → Type 0) (kind : IsKeyKind item) {V : Type 0} where
           | inl begun ↦ Has-left (firsts l) _ p (begin-firsts l p f.nonempty begun)
           | inr begun ↦ past begun.0 begun.1 t inside.2 whole (of-fronts c)
         ]
-    | inr beside ↦ Has-right (firsts l) _ p (Has-right (map (λ q. l ++ q) (fronts c)) (fronts s) p (of-fronts s p (record { nonempty = f.nonempty; key = f.key; has = beside; begins = f.begins })))
+    | inr beside ↦ Has-right (firsts l) _ p
+        (Has-right (map (λ q. l ++ q) (fronts c)) (fronts s) p
+        (of-fronts s p
+        (record { nonempty = f.nonempty; key = f.key; has = beside; begins = f.begins })))
   ]
     where
-      past : (q : List ℕ) → l ++ q ≡ p → (t : List ℕ) → Has (keys_of (own v ++ entries c)) t → p ++ f.begins.0 ≡ l ++ t → ((x : List ℕ) → IsFront (keys_of (entries c)) x → Has (fronts c) x) → Has (fronts (node l v c s)) p
+      past : (q : List ℕ) → l ++ q ≡ p → (t : List ℕ) → Has (keys_of (own v ++ entries c)) t
+          → p ++ f.begins.0 ≡ l ++ t
+          → ((x : List ℕ) → IsFront (keys_of (entries c)) x → Has (fronts c) x)
+          → Has (fronts (node l v c s)) p
       past [] e t has whole deeper = Has-left (firsts l) _ p (begin-firsts l p f.nonempty ([], append-nil p ∙ sym e ∙ append-nil l))
       past (y ∷ q) e t has whole deeper =
           let begun : Begins (y ∷ q) t = Begins-behind_of l (y ∷ q) t (f.begins.0, ap (λ x. x ++ f.begins.0) e ∙ whole) in
           let front : IsFront (keys_of (own v ++ entries c)) (y ∷ q) = record { nonempty = λ none. cc; key = t; has = has; begins = begun } in
           let found = deeper (y ∷ q) (front_within (keys_of (own v ++ entries c)) (keys_of (entries c)) (within_own v (entries c)) (y ∷ q) front) in
-          Has-right (firsts l) _ p (Has-left (map (λ x. l ++ x) (fronts c)) (fronts s) p (subst (Has (map (λ x. l ++ x) (fronts c))) e (Has-behind l (fronts c) (y ∷ q) found)))
+          Has-right (firsts l) _ p
+          (Has-left (map (λ x. l ++ x) (fronts c)) (fronts s) p
+          (subst (Has (map (λ x. l ++ x) (fronts c))) e
+          (Has-behind l (fronts c) (y ∷ q) found)))
 
   -- where items are bytes, what begins a label, or what the label begins, is no front of the rest of its row
-  apart_beside : AreSingle item → (l : List ℕ) (v : Option V) (c s : Siblings V) → IsCanonicalWithin item (Some 255) (node l v c s) → (p : List ℕ) → p ≢ [] → (Begins p l ⊎ Begins l p) → Has (fronts s) p → ⊥
+  apart_beside : AreSingle item → (l : List ℕ) (v : Option V) (c s : Siblings V)
+      → IsCanonicalWithin item (Some 255) (node l v c s) → (p : List ℕ) → p ≢ []
+      → (Begins p l ⊎ Begins l p) → Has (fronts s) p → ⊥
   apart_beside single l v c s ok p nonempty near h =
       let first = first_of item l ok.valid ok.nonempty in
       let front = fronts-of s ok.sibling p h in
-      let none = has_key (λ k. Begins first.0 k → ⊥) (entries s) front.key (lacks_item item kind (Some 255) first.0 l first.1 first.2 s ok.sibling ok.rises) front.has in
+      let none = has_key (λ k. Begins first.0 k → ⊥) (entries s) front.key
+      (lacks_item item kind (Some 255) first.0 l first.1 first.2 s ok.sibling ok.rises)
+      front.has in
       none (Begins-trans first.0 p front.key (begins first.0 first.1 first.2) front.begins)
     where
       only : (i rest : List ℕ) → length i ≡ 1 → p ++ rest ≡ i → Begins i p
@@ -145,12 +190,17 @@ module _ (item : List ℕ → Type 0) (kind : IsKeyKind item) {V : Type 0} where
         ]
       ]
 
-  fronts-apart : AreSingle item → (r : Siblings V) → IsCanonicalWithin item (Some 255) r → AreApart (fronts r)
+  fronts-apart : AreSingle item → (r : Siblings V) → IsCanonicalWithin item (Some 255) r
+      → AreApart (fronts r)
   fronts-apart single end ok = tt
   fronts-apart single (node l v c s) ok =
       AreApart-append (firsts l) (map (λ p. l ++ p) (fronts c) ++ fronts s) (firsts-apart l)
-      (AreApart-append (map (λ p. l ++ p) (fronts c)) (fronts s) (AreApart-behind l (fronts c) (fronts-apart single c ok.child)) (fronts-apart single s ok.sibling)
-      (λ x below beside. let behind = Has-behind_of l (fronts c) x below in apart_beside single l v c s ok x (λ none. ok.nonempty (nil_first l behind.0 (behind.1 ∙ none))) (inr (behind.0, behind.1)) beside))
+      (AreApart-append (map (λ p. l ++ p) (fronts c)) (fronts s)
+      (AreApart-behind l (fronts c) (fronts-apart single c ok.child))
+      (fronts-apart single s ok.sibling)
+      (λ x below beside. let behind = Has-behind_of l (fronts c) x below in apart_beside single l v
+      c s ok x (λ none. ok.nonempty (nil_first l behind.0 (behind.1 ∙ none)))
+      (inr (behind.0, behind.1)) beside))
       (λ x here later. let begun = firsts-begin l x here in elim (Has-either (map (λ p. l ++ p) (fronts c)) (fronts s) x later) [
         | inl below ↦
             let behind = Has-behind_of l (fronts c) x below in
@@ -164,7 +214,8 @@ module _ (item : List ℕ → Type 0) (kind : IsKeyKind item) {V : Type 0} where
       too_long x (y ∷ q) nonempty begun e = omega (arith, ap length e, ap length begun.1, length-append l (y ∷ q), length-append x begun.0)
 
 module _ (item : List ℕ → Type 0) (kind : IsKeyKind item) where
-  pub labels_are_fronts : (R : List Record) (E : List (List ℕ)) → Root item R E → IsTight item R → LabelsAreFronts item R E
+  pub labels_are_fronts : (R : List Record) (E : List (List ℕ)) → Root item R E → IsTight item R
+      → LabelsAreFronts item R E
   labels_are_fronts R E root tight single =
       let stood = stands_tree item R E root in
       let row = stood.row in
@@ -179,5 +230,6 @@ module _ (item : List ℕ → Type 0) (kind : IsKeyKind item) where
         );
         is = refl;
       } in
-      let sums : sum_by (λ (x : Record). length x.label) R ≡ length (fronts row) = ap (sum_by (λ (x : Record). length x.label)) (sym stood.records) ∙ length-fronts 1 row in
+      let sums : sum_by (λ (x : Record). length x.label) R ≡ length (fronts row) = ap
+      (sum_by (λ (x : Record). length x.label)) (sym stood.records) ∙ length-fronts 1 row in
       subst (IsCount (IsFront E)) (sym sums) (subst (λ T. IsCount (IsFront T) (length (fronts row))) stood.keys count)

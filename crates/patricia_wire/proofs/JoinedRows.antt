@@ -9,7 +9,15 @@ use Rattle.patricia_wire.specs.Internal.WrittenRows.{has_node, over, joined, IsW
 
 module _ (item : List ℕ → Type 0) where
   before_longer : (k l m : List ℕ) → IsBefore item k l → IsBefore item k (l ++ m)
-  before_longer k l m b = record { first = b.first; second = b.second; first_item = b.first_item; second_item = b.second_item; first_begins = b.first_begins; second_begins = Begins-trans b.second l (l ++ m) b.second_begins (m, refl); less = b.less }
+  before_longer k l m b = record {
+    first = b.first;
+    second = b.second;
+    first_item = b.first_item;
+    second_item = b.second_item;
+    first_begins = b.first_begins;
+    second_begins = Begins-trans b.second l (l ++ m) b.second_begins (m, refl);
+    less = b.less;
+  }
 
 module _ (item : List ℕ → Type 0) (kind : IsKeyKind item) {V : Type 0} where
   -- a row that stands for another: what comes before the one comes before the other
@@ -19,18 +27,30 @@ module _ (item : List ℕ → Type 0) (kind : IsKeyKind item) {V : Type 0} where
     pub there : has_node row ≡ has_node r
     pub before : (k : List ℕ) → IsBeforeSiblings item k r → IsBeforeSiblings item k row
 
-  joined_node : (l : List ℕ) (v : Option V) (c s d t : Siblings V) → IsWritable item (node l v c s) → IsJoined c d → IsJoined s t → IsJoined (node l v c s) (over l v d t)
+  joined_node : (l : List ℕ) (v : Option V) (c s d t : Siblings V) → IsWritable item (node l v c s)
+      → IsJoined c d → IsJoined s t → IsJoined (node l v c s) (over l v d t)
   joined_node l v c s d t ok child sibling = go v d ok.marked child.ok child.there child.same
     where
-      kept : (w : Option V) (d : Siblings V) → EarnsWithin item None l w d → IsCanonical item d → entries d ≡ entries c → IsJoined (node l w c s) (node l w d t)
+      kept : (w : Option V) (d : Siblings V) → EarnsWithin item None l w d → IsCanonical item d
+          → entries d ≡ entries c → IsJoined (node l w c s) (node l w d t)
       kept w d earns okd same = record {
-        ok = record { valid = ok.valid; nonempty = ok.nonempty; fits = tt; earns = earns; rises = sibling.before l ok.rises; child = okd; sibling = sibling.ok };
+        ok = record {
+          valid = ok.valid;
+          nonempty = ok.nonempty;
+          fits = tt;
+          earns = earns;
+          rises = sibling.before l ok.rises;
+          child = okd;
+          sibling = sibling.ok;
+        };
         same = λ i. prefixed l (own w ++ same i) ++ sibling.same i;
         there = refl;
         before = λ k b. b;
       }
 
-      go : (w : Option V) (d : Siblings V) → (is_some w ≡ true) ⊎ (has_node c ≡ true) → IsCanonical item d → has_node d ≡ has_node c → entries d ≡ entries c → IsJoined (node l w c s) (over l w d t)
+      go : (w : Option V) (d : Siblings V) → (is_some w ≡ true) ⊎ (has_node c ≡ true)
+          → IsCanonical item d → has_node d ≡ has_node c → entries d ≡ entries c
+          → IsJoined (node l w c s) (over l w d t)
       go (Some x) d marked okd there same = kept (Some x) d tt okd same
       go None end marked okd there same = elim marked [
         | inl e ↦ absurd (cc)

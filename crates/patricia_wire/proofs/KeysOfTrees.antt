@@ -18,7 +18,8 @@ use Rattle.patricia_wire.proofs.JoinedRows.{joined_is}
 use Rattle.patricia_wire.proofs.RowTrees.{Nothing, stands_tree}
 
 module _ (item : List ℕ → Type 0) (kind : IsKeyKind item) where
-  pub keys_of_tree : (R : List Record) (S : List (List ℕ)) → Root item R S → (m : map.FinMap key_cmp Nothing) × (map.keys m ≡ S) × All (IsValid item) S
+  pub keys_of_tree : (R : List Record) (S : List (List ℕ)) → Root item R S
+      → (m : map.FinMap key_cmp Nothing) × (map.keys m ≡ S) × All (IsValid item) S
   keys_of_tree R S root =
       let tree = stands_tree item R S root in
       let row = joined_is item kind tree.row tree.ok in
@@ -27,7 +28,8 @@ module _ (item : List ℕ → Type 0) (kind : IsKeyKind item) where
       (map_of tree.value (joined tree.row), same, subst (All (IsValid item)) same (keys_valid item kind tree.value (joined tree.row) row.ok))
 
 -- the order of entries is that of their keys
-below-keys : {V W : Type 0} (k : List ℕ) (xs : List (List ℕ × V)) (ys : List (List ℕ × W)) → keys_of xs ≡ keys_of ys → below_all key_cmp k xs ≡ below_all key_cmp k ys
+below-keys : {V W : Type 0} (k : List ℕ) (xs : List (List ℕ × V)) (ys : List (List ℕ × W))
+    → keys_of xs ≡ keys_of ys → below_all key_cmp k xs ≡ below_all key_cmp k ys
 below-keys k [] [] e = λ _. below_all {X = Nothing} key_cmp k []
 below-keys k [] (y ∷ ys) e = absurd (cc)
 below-keys k (x ∷ xs) [] e = absurd (cc)
@@ -37,7 +39,8 @@ below-keys k (x ∷ xs) (y ∷ ys) e =
     let rest = below-keys k xs ys tail in
     λ i. is_lt (key_cmp k (head i)) && rest i
 
-sorted-keys : {V W : Type 0} (xs : List (List ℕ × V)) (ys : List (List ℕ × W)) → keys_of xs ≡ keys_of ys → is_sorted key_cmp xs ≡ is_sorted key_cmp ys
+sorted-keys : {V W : Type 0} (xs : List (List ℕ × V)) (ys : List (List ℕ × W))
+    → keys_of xs ≡ keys_of ys → is_sorted key_cmp xs ≡ is_sorted key_cmp ys
 sorted-keys [] [] e = λ _. is_sorted {X = Nothing} key_cmp []
 sorted-keys [] (y ∷ ys) e = absurd (cc)
 sorted-keys (x ∷ xs) [] e = absurd (cc)
@@ -49,7 +52,9 @@ sorted-keys (x ∷ xs) (y ∷ ys) e =
     λ i. below i && rest i
 
 module _ (item : List ℕ → Type 0) (kind : IsKeyKind item) {V : Type 0} where
-  pub meant_map : (w : ℕ) (b : List ℕ) (values : List V) (M : List (List ℕ × V)) → Means item w b values M → (m : map.FinMap key_cmp V) × (map.entries m ≡ M) × All (IsValid item) (map.keys m)
+  pub meant_map : (w : ℕ) (b : List ℕ) (values : List V) (M : List (List ℕ × V))
+      → Means item w b values M
+      → (m : map.FinMap key_cmp V) × (map.entries m ≡ M) × All (IsValid item) (map.keys m)
   meant_map w b values M means =
       let (m, same, valid) = keys_of_tree item kind means.records (keys_of M) means.root in
       let sorted = subst T (sorted-keys (map.entries m) M same) (entries_sorted m) in

@@ -46,7 +46,8 @@ set_or_clear false = inr refl
 
 module _ {V : Type 0} where
   -- rows with these keys and these values, of which there are as many
-  rows_with : (E : List (List ℕ)) (values : List V) → length E ≡ length values → (M : List (List ℕ × V)) × (keys_of M ≡ E) × (values ≡ values_of M)
+  rows_with : (E : List (List ℕ)) (values : List V) → length E ≡ length values
+      → (M : List (List ℕ × V)) × (keys_of M ≡ E) × (values ≡ values_of M)
   rows_with [] [] same = ([], refl, refl)
   rows_with [] (v ∷ values) same = absurd (cc)
   rows_with (k ∷ E) [] same = absurd (cc)
@@ -63,7 +64,9 @@ Tells item G = (l : List ℕ) → (IsValid item l → G) → ((IsValid item l �
 -- a record keeps all rules, or breaks one before all others
 module _ (item : List ℕ → Type 0) (kind : IsKeyKind item) (due : Due) (left : ℕ) (r : Record) where
   -- each rule is broken or kept, where the label is valid or is not
-  pub rules : (G : Type 0) → Tells item G → IsAfter item due → length r.label ≤ 255 → ((rule : Rule) → BreaksFirst item due left r rule → G) → (BreaksNone item due left r → KeepsRules item due r → G) → G
+  pub rules : (G : Type 0) → Tells item G → IsAfter item due → length r.label ≤ 255
+      → ((rule : Rule) → BreaksFirst item due left r rule → G)
+      → (BreaksNone item due left r → KeepsRules item due r → G) → G
   rules G tells after fits broken kept = elim (same_or_not r.level due.level) [
     | inl same ↦ elim (same_or_not due.level 0) [
       | inl top ↦ as_root same top
@@ -73,35 +76,68 @@ module _ (item : List ℕ → Type 0) (kind : IsKeyKind item) (due : Due) (left 
   ]
     where
       -- the marks, where the label keeps its rules
-      marked : BreaksNoneBelow item due left r 9 → ((due.level ≢ 0 → (r.value ≡ true) ⊎ (r.child ≡ true)) → KeepsRules item due r) → (due.level ≡ 0) ⊎ (due.level ≢ 0) → G
+      marked : BreaksNoneBelow item due left r 9
+          → ((due.level ≢ 0 → (r.value ≡ true) ⊎ (r.child ≡ true)) → KeepsRules item due r)
+          → (due.level ≡ 0) ⊎ (due.level ≢ 0) → G
       marked below makes root = go root (set_or_clear r.value) (set_or_clear r.child) (same_or_not left 0)
         where
-          last : BreaksNoneBelow item due left r 10 → (Breaks item due left r too_few_values → ⊥) → (due.level ≢ 0 → (r.value ≡ true) ⊎ (r.child ≡ true)) → G
+          last : BreaksNoneBelow item due left r 10 → (Breaks item due left r too_few_values → ⊥)
+              → (due.level ≢ 0 → (r.value ≡ true) ⊎ (r.child ≡ true)) → G
           last under enough marks = kept (kept_all item due left r (kept_next item due left r too_few_values under enough)) (makes marks)
 
-          few : BreaksNoneBelow item due left r 10 → (due.level ≢ 0 → (r.value ≡ true) ⊎ (r.child ≡ true)) → (r.value ≡ true) ⊎ (r.value ≡ false) → (left ≡ 0) ⊎ (left ≢ 0) → G
+          few : BreaksNoneBelow item due left r 10
+              → (due.level ≢ 0 → (r.value ≡ true) ⊎ (r.child ≡ true))
+              → (r.value ≡ true) ⊎ (r.value ≡ false) → (left ≡ 0) ⊎ (left ≢ 0) → G
           few under marks (inl set) (inl none) = broken too_few_values ((set, none), under)
           few under marks (inl set) (inr some) = last under (λ b. some b.1) marks
           few under marks (inr clear) zero_or = last under (λ b. (let no : true ≡ false = sym b.0 ∙ clear in cc)) marks
 
-          go : (due.level ≡ 0) ⊎ (due.level ≢ 0) → (r.value ≡ true) ⊎ (r.value ≡ false) → (r.child ≡ true) ⊎ (r.child ≡ false) → (left ≡ 0) ⊎ (left ≢ 0) → G
+          go : (due.level ≡ 0) ⊎ (due.level ≢ 0) → (r.value ≡ true) ⊎ (r.value ≡ false)
+              → (r.child ≡ true) ⊎ (r.child ≡ false) → (left ≡ 0) ⊎ (left ≢ 0) → G
           go (inl top) value child zero_or = few (kept_next item due left r no_value_no_child below (λ b. b.0 top)) (λ some. absurd (some top)) value zero_or
-          go (inr some) (inl set) child zero_or = few (kept_next item due left r no_value_no_child below (λ b. (let no : true ≡ false = sym set ∙ b.1 in cc))) (λ x. inl set) (inl set) zero_or
-          go (inr some) (inr clear) (inl set) zero_or = few (kept_next item due left r no_value_no_child below (λ b. (let no : true ≡ false = sym set ∙ b.2 in cc))) (λ x. inr set) (inr clear) zero_or
+          go (inr some) (inl set) child zero_or = few
+              (kept_next item due left r no_value_no_child below
+              (λ b. (let no : true ≡ false = sym set ∙ b.1 in cc))) (λ x. inl set) (inl set) zero_or
+          go (inr some) (inr clear) (inl set) zero_or = few
+              (kept_next item due left r no_value_no_child below
+              (λ b. (let no : true ≡ false = sym set ∙ b.2 in cc))) (λ x. inr set) (inr clear)
+              zero_or
           go (inr some) (inr clear) (inr leaf) zero_or = broken no_value_no_child ((some, clear, leaf), below)
 
       -- the order of siblings, where the label is valid and not empty
-      ordered : BreaksNoneBelow item due left r 8 → r.level ≡ due.level → due.level ≢ 0 → r.label ≢ [] → IsValid item r.label → (o : Option (List ℕ)) → due.after ≡ o → G
+      ordered : BreaksNoneBelow item due left r 8 → r.level ≡ due.level → due.level ≢ 0
+          → r.label ≢ [] → IsValid item r.label → (o : Option (List ℕ)) → due.after ≡ o → G
       ordered below same some nonempty valid None is =
           marked (kept_next item due left r sibling_order below (λ b. (let no : Some b.0 ≡ None = sym b.1 ∙ is in cc)))
-          (λ marks. record { level = same; fits = fits; valid = valid; root = λ top. absurd (some top); nonempty = λ x. nonempty; marked = marks; ordered = λ l given. absurd (let no : Some l ≡ None = sym given ∙ is in cc) })
+          (λ marks.
+          record {
+            level = same;
+            fits = fits;
+            valid = valid;
+            root = λ top. absurd (some top);
+            nonempty = λ x. nonempty;
+            marked = marks;
+            ordered = λ l given. absurd (let no : Some l ≡ None = sym given ∙ is in cc);
+          })
           (inr some)
       ordered below same some nonempty valid (Some l) is =
           let before = after l is in
           elim (before_or_not item kind l r.label before.0 valid before.1 nonempty) [
             | inl less ↦
-                marked (kept_next item due left r sibling_order below (λ b. (let one : b.0 ≡ l = (let both : Some b.0 ≡ Some l = sym b.1 ∙ is in cc) in b.2 (subst (λ k. ComparesFirst item k r.label Less) (sym one) (before_compares item l r.label less)))))
-                (λ marks. record { level = same; fits = fits; valid = valid; root = λ top. absurd (some top); nonempty = λ x. nonempty; marked = marks; ordered = λ k given. (let one : l ≡ k = (let both : Some l ≡ Some k = sym is ∙ given in cc) in subst (λ k. IsBefore item k r.label) one less) })
+                marked (kept_next item due left r sibling_order below
+                (λ b. (let one : b.0 ≡ l = (let both : Some b.0 ≡ Some l = sym b.1 ∙ is in cc) in b.2 (subst (λ k. ComparesFirst item k r.label Less) (sym one) (before_compares item l r.label less)))))
+                (λ marks.
+                record {
+                  level = same;
+                  fits = fits;
+                  valid = valid;
+                  root = λ top. absurd (some top);
+                  nonempty = λ x. nonempty;
+                  marked = marks;
+                  ordered = λ k given.
+                      (let one : l ≡ k = (let both : Some l ≡ Some k = sym is ∙ given in cc) in subst
+                      (λ k. IsBefore item k r.label) one less);
+                })
                 (inr some)
             | inr later ↦ broken sibling_order ((l, is, λ compared. later (compared_less item l r.label before.1 nonempty compared)), below)
           ]
@@ -111,7 +147,10 @@ module _ (item : List ℕ → Type 0) (kind : IsKeyKind item) (due : Due) (left 
       inner same some = go (nil_or_not r.label)
         where
           under : BreaksNoneBelow item due left r 6
-          under = kept_next item due left r root_sibling (kept_next item due left r root_label (kept_next item due left r level (below_level item due left r) (λ b. b same)) (λ b. some b.0)) (λ b. some b.0)
+          under = kept_next item due left r root_sibling
+              (kept_next item due left r root_label
+              (kept_next item due left r level (below_level item due left r) (λ b. b same))
+              (λ b. some b.0)) (λ b. some b.0)
 
           go : (r.label ≡ []) ⊎ (r.label ≢ []) → G
           go (inl none) = broken empty_label ((some, none), under)
@@ -135,23 +174,46 @@ module _ (item : List ℕ → Type 0) (kind : IsKeyKind item) (due : Due) (left 
           go (inr nonempty) sibling = broken root_label ((top, nonempty), under)
           go (inl none) (inl set) = broken root_sibling ((top, set), kept_next item due left r root_label under (λ b. b.1 none))
           go (inl none) (inr alone) =
-              let bare_under = kept_next item due left r empty_label (kept_next item due left r root_sibling (kept_next item due left r root_label under (λ b. b.1 none)) (λ b. (let no : true ≡ false = sym b.1 ∙ alone in cc))) (λ b. b.0 top) in
+              let bare_under = kept_next item due left r empty_label
+              (kept_next item due left r root_sibling
+              (kept_next item due left r root_label under (λ b. b.1 none))
+              (λ b. (let no : true ≡ false = sym b.1 ∙ alone in cc))) (λ b. b.0 top) in
               tells r.label
-              (λ valid. marked (kept_next item due left r sibling_order (kept_next item due left r invalid_label bare_under (λ b. b valid)) (λ b. no_after b.0 b.1))
-              (λ marks. record { level = same; fits = fits; valid = valid; root = λ x. (none, alone); nonempty = λ some. absurd (some top); marked = marks; ordered = λ l given. absurd (no_after l given) })
+              (λ valid. marked
+              (kept_next item due left r sibling_order
+              (kept_next item due left r invalid_label bare_under (λ b. b valid))
+              (λ b. no_after b.0 b.1))
+              (λ marks.
+              record {
+                level = same;
+                fits = fits;
+                valid = valid;
+                root = λ x. (none, alone);
+                nonempty = λ some. absurd (some top);
+                marked = marks;
+                ordered = λ l given. absurd (no_after l given);
+              })
               (inl top))
               (λ not_valid. broken invalid_label (not_valid, bare_under))
 
 -- a value that a mark takes
-take_value : (value : Bool) (left : ℕ) → ((value ≡ true) × (left ≡ 0) → ⊥) → (more : ℕ) × (more + bit_if value 1 ≡ left)
+take_value : (value : Bool) (left : ℕ) → ((value ≡ true) × (left ≡ 0) → ⊥)
+    → (more : ℕ) × (more + bit_if value 1 ≡ left)
 take_value false left enough = (left, omega arith)
 take_value true zero enough = absurd (enough (refl, refl))
 take_value true (suc more) enough = (more, omega arith)
 
 -- a record more is spelled behind the others
-spell_more : (w : ℕ) (R : List Record) (r : Record) (b c : List ℕ) → EncodeAll w R b → Encodes w r c → EncodeAll w (R ++ (r ∷ [])) (b ++ c)
+spell_more : (w : ℕ) (R : List Record) (r : Record) (b c : List ℕ) → EncodeAll w R b → Encodes w r c
+    → EncodeAll w (R ++ (r ∷ [])) (b ++ c)
 spell_more w [] r b c s p = record { first = c; rest = []; spelled = p; others = refl; joined = ap (λ l. l ++ c) s ∙ sym (append-nil c) }
-spell_more w (x ∷ R) r b c s p = record { first = s.first; rest = s.rest ++ c; spelled = s.spelled; others = spell_more w R r s.rest c s.others p; joined = ap (λ l. l ++ c) s.joined ∙ append_assoc s.first s.rest c }
+spell_more w (x ∷ R) r b c s p = record {
+  first = s.first;
+  rest = s.rest ++ c;
+  spelled = s.spelled;
+  others = spell_more w R r s.rest c s.others p;
+  joined = ap (λ l. l ++ c) s.joined ∙ append_assoc s.first s.rest c;
+}
 
 module _ (item : List ℕ → Type 0) (kind : IsKeyKind item) where
   -- so is each label that is waited behind
@@ -159,12 +221,14 @@ module _ (item : List ℕ → Type 0) (kind : IsKeyKind item) where
   AllAfter [] = Unit {0}
   AllAfter (due ∷ D) = IsAfter item due × AllAfter D
 
-  after_where : (mark : Bool) (due : Due) (D : List Due) → (mark ≡ true → IsAfter item due) → AllAfter D → AllAfter (due_where mark due ++ D)
+  after_where : (mark : Bool) (due : Due) (D : List Due) → (mark ≡ true → IsAfter item due)
+      → AllAfter D → AllAfter (due_where mark due ++ D)
   after_where false due D is all = all
   after_where true due D is all = (is refl, all)
 
   -- what is due behind a record that keeps the rules
-  after_more : (due : Due) (r : Record) (W : List Due) → KeepsRules item due r → AllAfter W → AllAfter (due_behind r ++ W)
+  after_more : (due : Due) (r : Record) (W : List Due) → KeepsRules item due r → AllAfter W
+      → AllAfter (due_behind r ++ W)
   after_more due r W kept all =
       subst AllAfter (sym (append_assoc (child_due r) (sibling_due r) W))
       (after_where r.child _ (sibling_due r ++ W) (λ set l given. absurd (cc))
@@ -176,7 +240,9 @@ module _ (item : List ℕ → Type 0) (kind : IsKeyKind item) where
       inner : r.sibling ≡ true → due.level ≢ 0
       inner set top = (let bare = kept.root top in let no : true ≡ false = sym set ∙ bare.1 in cc)
 
-  module _ {V : Type 0} (w : ℕ) (b : List ℕ) (values : List V) (G : Type 0) (tells : Tells item G) (meant : (M : List (List ℕ × V)) → Means item w b values M → G) (refused : (e : DecodeError) → IsFirst item w b (length values) e → G) where
+  module _ {V : Type 0} (w : ℕ) (b : List ℕ) (values : List V) (G : Type 0) (tells : Tells item G)
+      (meant : (M : List (List ℕ × V)) → Means item w b values M → G)
+      (refused : (e : DecodeError) → IsFirst item w b (length values) e → G) where
     -- so much is read, without a fault, and so many values are left
     record IsSoFar (left : ℕ) (before : List Record) (D : List Due) (offset : ℕ) (rest : List ℕ) : Type 0 where
       read : IsRead item (length values) before D
@@ -187,7 +253,8 @@ module _ (item : List ℕ → Type 0) (kind : IsKeyKind item) where
       bytes : All (λ x. x < 256) rest
 
     -- nothing is due
-    ends : (left : ℕ) (before : List Record) (offset : ℕ) (rest : List ℕ) → IsSoFar left before [] offset rest → G
+    ends : (left : ℕ) (before : List Record) (offset : ℕ) (rest : List ℕ)
+        → IsSoFar left before [] offset rest → G
     ends left before offset (x ∷ rest) s =
         let tree = closed item before s.closes in
         refused (TrailingBytes offset) (first_trailing item (length values) w b before offset (x ∷ rest) tree.0 s.read s.reads tree.1 (λ none. cc))
@@ -203,7 +270,12 @@ module _ (item : List ℕ → Type 0) (kind : IsKeyKind item) where
         go (E, tree) (inr some) = refused TooManyValues (first_too_many item (length values) w b before E s.read spelled tree (omega (arith, s.counted, some)))
 
     -- a record that keeps all rules is read
-    further : (left : ℕ) (before : List Record) (due : Due) (W : List Due) (offset : ℕ) (rest : List ℕ) → (s : IsSoFar left before (due ∷ W) offset rest) (r : Record) (front : Fronts w r rest) → BreaksNone item due left r → KeepsRules item due r → (more : ℕ) × IsSoFar more (before ++ (r ∷ [])) (due_behind r ++ W) (length (s.reads.read ++ front.first)) front.rest
+    further :
+        (left : ℕ) (before : List Record) (due : Due) (W : List Due) (offset : ℕ) (rest : List ℕ)
+        → (s : IsSoFar left before (due ∷ W) offset rest) (r : Record) (front : Fronts w r rest)
+        → BreaksNone item due left r → KeepsRules item due r
+        → (more : ℕ) × IsSoFar more (before ++ (r ∷ [])) (due_behind r ++ W)
+        (length (s.reads.read ++ front.first)) front.rest
     further left before due W offset rest s r front fine kept =
         let value = take_value r.value left (fine too_few_values) in (
           value.0,
@@ -226,7 +298,8 @@ module _ (item : List ℕ → Type 0) (kind : IsKeyKind item) where
         rest_bytes [] y a = a
         rest_bytes (z ∷ x) y a = rest_bytes x y (All-tail (λ z. z < 256) z (x ++ y) a)
 
-    run : (fuel left : ℕ) (before : List Record) (D : List Due) (offset : ℕ) (rest : List ℕ) → length rest < fuel → IsSoFar left before D offset rest → G
+    run : (fuel left : ℕ) (before : List Record) (D : List Due) (offset : ℕ) (rest : List ℕ)
+        → length rest < fuel → IsSoFar left before D offset rest → G
     run zero left before D offset rest less s = absurd (omega (arith, less))
     run (suc fuel) left before [] offset rest less s = ends left before offset rest s
     run (suc fuel) left before (due ∷ W) offset rest less s = elim (cut_or_fronts w rest s.bytes) [
@@ -237,11 +310,15 @@ module _ (item : List ℕ → Type 0) (kind : IsKeyKind item) where
           rules item kind due left found.0 G tells s.after.0 front.spelled.room.label
           (λ rule broken. (
           let first = faulty item (length values) left before due W found.0 s.read s.counted rule broken in
-          refused (error_at offset rule) (first_in_record item (length values) w b before due W offset found.0 front.first front.rest rule s.read reads front.spelled first)
+          refused (error_at offset rule)
+          (first_in_record item (length values) w b before due W offset found.0 front.first
+          front.rest rule s.read reads front.spelled first)
           ))
           (λ fine kept. (
           let more = further left before due W offset rest s found.0 front fine kept in
-          run fuel more.0 (before ++ (found.0 ∷ [])) (due_behind found.0 ++ W) (length (s.reads.read ++ front.first)) front.rest (omega (arith, less, front.fewer)) more.1
+          run fuel more.0 (before ++ (found.0 ∷ [])) (due_behind found.0 ++ W)
+          (length (s.reads.read ++ front.first)) front.rest (omega (arith, less, front.fewer))
+          more.1
           ))
     ]
 
@@ -258,7 +335,8 @@ module _ (item : List ℕ → Type 0) (kind : IsKeyKind item) where
         })
 
 -- each is one of the two, where it can be told whether a label is valid
-pub meant_or_first : (item : List ℕ → Type 0) → IsKeyKind item → (V : Type 0) → TellsValid item → MeansOrHasFirstFault item V
+pub meant_or_first : (item : List ℕ → Type 0) → IsKeyKind item → (V : Type 0) → TellsValid item
+    → MeansOrHasFirstFault item V
 meant_or_first item kind V told w b values bytes =
     meant_or_refused item kind w b values _ (λ l yes not_so. elim (told l) [
       | inl valid ↦ yes valid

@@ -25,11 +25,16 @@ pub not_empty : (w : ℕ) (r : Record) (b c : List ℕ) → Encodes w r b → []
 not_empty w r b c p e = let h : [] ≡ (p.flags ∷ after_flags w r) ++ c = e ∙ ap (λ l. l ++ c) p.is in cc
 
 -- records that are read from the front of a spelling are the first of its records
-prefix : (w : ℕ) (P R : List Record) (b read rest : List ℕ) → EncodeAll w P read → read ++ rest ≡ b → EncodeAll w R b → (Y : List Record) × (R ≡ P ++ Y) × EncodeAll w Y rest
+prefix : (w : ℕ) (P R : List Record) (b read rest : List ℕ) → EncodeAll w P read → read ++ rest ≡ b
+    → EncodeAll w R b → (Y : List Record) × (R ≡ P ++ Y) × EncodeAll w Y rest
 prefix w [] R b read rest p e q = (R, refl, subst (EncodeAll w R) (sym e ∙ ap (λ l. l ++ rest) p) q)
-prefix w (x ∷ P) [] b read rest p e q = absurd (not_empty w x p.first (p.rest ++ rest) p.spelled (sym q ∙ sym e ∙ ap (λ l. l ++ rest) p.joined ∙ append_assoc p.first p.rest rest))
+prefix w (x ∷ P) [] b read rest p e q = absurd
+    (not_empty w x p.first (p.rest ++ rest) p.spelled
+    (sym q ∙ sym e ∙ ap (λ l. l ++ rest) p.joined ∙ append_assoc p.first p.rest rest))
 prefix w (x ∷ P) (r ∷ R) b read rest p e q =
-    let both = record_same w x r p.first q.first (p.rest ++ rest) q.rest p.spelled q.spelled (sym (append_assoc p.first p.rest rest) ∙ ap (λ l. l ++ rest) (sym p.joined) ∙ e ∙ q.joined) in
+    let both = record_same w x r p.first q.first (p.rest ++ rest) q.rest p.spelled q.spelled
+    (sym (append_assoc p.first p.rest rest) ∙ ap (λ l. l ++ rest) (sym p.joined) ∙ e ∙
+    q.joined) in
     let more = prefix w P R q.rest p.rest rest p.others both.1 q.others in
     let head = both.0 in
     let tail = more.1 in
@@ -58,10 +63,31 @@ marks_own (Some x) = refl
 
 marks_row : (d : ℕ) (row : Siblings Nothing) → value_marks (records_of d row) ≡ length (entries row)
 marks_row d end = refl
-marks_row d (node l v c s) = omega (arith, marks_row (d + 1) c, marks_row d s, marks_own v, sum_by-cons one_if (record_of d l v c s) (records_of (d + 1) c ++ records_of d s), sum_by-append one_if (records_of (d + 1) c) (records_of d s), length-append (prefixed l (own v ++ entries c)) (entries s), length-prefixed l (own v ++ entries c), length-append (own v) (entries c))
+marks_row d (node l v c s) = omega (
+  arith,
+  marks_row (d + 1) c,
+  marks_row d s,
+  marks_own v,
+  sum_by-cons one_if
+      (record_of d l v c s) (records_of (d + 1) c ++ records_of d s),
+  sum_by-append one_if
+      (records_of (d + 1) c) (records_of d s),
+  length-append (prefixed l (own v ++ entries c))
+      (entries s),
+  length-prefixed l (own v ++ entries c),
+  length-append (own v) (entries c),
+)
 
-marks_tree : (v : Option Nothing) (row : Siblings Nothing) → value_marks (tree_records v row) ≡ length (own v ++ entries row)
-marks_tree v row = omega (arith, marks_row 1 row, marks_own v, sum_by-cons one_if (record_of 0 [] v row end) (records_of 1 row), length-append (own v) (entries row))
+marks_tree : (v : Option Nothing) (row : Siblings Nothing)
+    → value_marks (tree_records v row) ≡ length (own v ++ entries row)
+marks_tree v row = omega (
+  arith,
+  marks_row 1 row,
+  marks_own v,
+  sum_by-cons one_if (record_of 0 [] v row end)
+      (records_of 1 row),
+  length-append (own v) (entries row),
+)
 
 module _ (item : List ℕ → Type 0) where
   pub marks : (R : List Record) (E : List (List ℕ)) → Root item R E → value_marks R ≡ length E
@@ -70,7 +96,8 @@ module _ (item : List ℕ → Type 0) where
       ap value_marks (sym t.records) ∙ marks_tree t.value t.row ∙ sym (length-map (own t.value ++ entries t.row) (λ e. e.0)) ∙ ap length t.keys
 
   -- no tree is a proper prefix of another
-  whole : (R P Y : List Record) (E F : List (List ℕ)) → Root item R E → Root item P F → R ≡ P ++ Y → Y ≡ []
+  whole : (R P Y : List Record) (E F : List (List ℕ)) → Root item R E → Root item P F → R ≡ P ++ Y
+      → Y ≡ []
   whole R P Y E F x y e =
       let a = stands_tree item R E x in
       let b = stands_tree item P F y in
@@ -81,7 +108,9 @@ module _ (item : List ℕ → Type 0) where
       sym rest.1
 
   -- a record of a tree keeps what is asked of it
-  root_or : (v : Option Nothing) (row : Siblings Nothing) (before : List Record) (r : Record) (Y : List Record) → IsWritable item row → tree_records v row ≡ before ++ (r ∷ Y) → ((before ≡ []) × (r.label ≡ []) × (r.sibling ≡ false)) ⊎ ((before ≢ []) × IsGood item r)
+  root_or : (v : Option Nothing) (row : Siblings Nothing) (before : List Record) (r : Record)
+      (Y : List Record) → IsWritable item row → tree_records v row ≡ before ++ (r ∷ Y)
+      → ((before ≡ []) × (r.label ≡ []) × (r.sibling ≡ false)) ⊎ ((before ≢ []) × IsGood item r)
   root_or v row [] r Y ok e =
       let head : record_of 0 [] v row end ≡ r = cc in
       inl (refl, ap (λ (h : Record). h.label) (sym head), ap (λ (h : Record). h.sibling) (sym head))
@@ -89,7 +118,10 @@ module _ (item : List ℕ → Type 0) where
       let tails : records_of 1 row ≡ before ++ (r ∷ Y) = cc in
       inr ((λ none. cc), good item 1 row ok before r Y tails)
 
-  tree_rising : (v : Option Nothing) (row : Siblings Nothing) (before : List Record) (r : Record) (Y : List Record) → IsWritable item row → tree_records v row ≡ before ++ (r ∷ Y) → (x : Record) → IsLastUpTo before r.level x → x.level ≡ r.level → IsBefore item x.label r.label
+  tree_rising : (v : Option Nothing) (row : Siblings Nothing) (before : List Record) (r : Record)
+      (Y : List Record) → IsWritable item row → tree_records v row ≡ before ++ (r ∷ Y)
+      → (x : Record) → IsLastUpTo before r.level x → x.level ≡ r.level
+      → IsBefore item x.label r.label
   tree_rising v row [] r Y ok e x up same = absurd (nil_split up.ahead x up.after up.is)
   tree_rising v row (h ∷ before) r Y ok e x up same =
       let head : record_of 0 [] v row end ≡ h = cc in
@@ -99,7 +131,9 @@ module _ (item : List ℕ → Type 0) where
         | inr later ↦ rising item 1 row ok before r Y tails x later same
       ]
 
-  not_faulty : (R before : List Record) (r : Record) (Y : List Record) (E : List (List ℕ)) (n : ℕ) → n ≡ length E → Root item R E → R ≡ before ++ (r ∷ Y) → (at k : ℕ) (f : DecodeError) → Breaks item before r n at k f → ⊥
+  not_faulty : (R before : List Record) (r : Record) (Y : List Record) (E : List (List ℕ)) (n : ℕ)
+      → n ≡ length E → Root item R E → R ≡ before ++ (r ∷ Y) → (at k : ℕ) (f : DecodeError)
+      → Breaks item before r n at k f → ⊥
   not_faulty R before r Y E n count root e at k f broken = go k f broken
     where
       t : StandsTree item R E
@@ -108,7 +142,8 @@ module _ (item : List ℕ → Type 0) where
       place : tree_records t.value t.row ≡ before ++ (r ∷ Y)
       place = t.records ∙ e
 
-      kind : ((before ≡ []) × (r.label ≡ []) × (r.sibling ≡ false)) ⊎ ((before ≢ []) × IsGood item r)
+      kind :
+          ((before ≡ []) × (r.label ≡ []) × (r.sibling ≡ false)) ⊎ ((before ≢ []) × IsGood item r)
       kind = root_or t.value t.row before r Y t.ok place
 
       go : (k : ℕ) (f : DecodeError) → Breaks item before r n at k f → ⊥
@@ -139,10 +174,14 @@ module _ (item : List ℕ → Type 0) where
       ]
       go k f (no_value less) =
           let all = marks R E root in
-          let parts : value_marks R ≡ value_marks (before ++ (r ∷ [])) + value_marks Y = ap value_marks (e ∙ sym (append_assoc before (r ∷ []) Y)) ∙ sum_by-append one_if (before ++ (r ∷ [])) Y in
+          let parts : value_marks R ≡ value_marks (before ++ (r ∷ [])) + value_marks Y = ap
+          value_marks (e ∙ sym (append_assoc before (r ∷ []) Y)) ∙ sum_by-append one_if
+          (before ++ (r ∷ [])) Y in
           omega (arith, all, parts, count, less)
 
-  no_fault : (w : ℕ) (b : List ℕ) (R : List Record) (E : List (List ℕ)) (n : ℕ) → n ≡ length E → EncodeAll w R b → Root item R E → (k at : ℕ) (f : DecodeError) → Stands item w b n k at f → ⊥
+  no_fault : (w : ℕ) (b : List ℕ) (R : List Record) (E : List (List ℕ)) (n : ℕ) → n ≡ length E
+      → EncodeAll w R b → Root item R E → (k at : ℕ) (f : DecodeError) → Stands item w b n k at f
+      → ⊥
   no_fault w b R E n count spelled root k at f (cut_short before rest reads unfinished short) =
       let more = prefix w before R b reads.read rest reads.spelled reads.joined spelled in
       go more.0 more.1 more.2
@@ -168,6 +207,10 @@ module _ (item : List ℕ → Type 0) where
       omega (arith, marks R E root, ap value_marks same, count)
 
   -- no fault stands in what means rows
-  pub no_fault_meant : {V : Type 0} (w : ℕ) (b : List ℕ) (values : List V) (M : List (List ℕ × V)) (k at : ℕ) (e : DecodeError) → Means item w b values M → Stands item w b (length values) k at e → ⊥
+  pub no_fault_meant : {V : Type 0} (w : ℕ) (b : List ℕ) (values : List V) (M : List (List ℕ × V))
+      (k at : ℕ) (e : DecodeError) → Means item w b values M
+      → Stands item w b (length values) k at e → ⊥
   no_fault_meant w b values M k at e m stands =
-      no_fault w b m.records (keys_of M) (length values) (ap length m.in_place ∙ length-map M (λ e. e.1) ∙ sym (length-map M (λ e. e.0))) m.spelled m.root k at e stands
+      no_fault w b m.records (keys_of M) (length values)
+      (ap length m.in_place ∙ length-map M (λ e. e.1) ∙ sym (length-map M (λ e. e.0)))
+      m.spelled m.root k at e stands

@@ -18,14 +18,18 @@ is_some-same (Some x) None e = absurd (cc)
 is_some-same (Some x) (Some y) e = refl
 
 -- records that begin with those of a row tell the row, and what follows it
-pub row_of : (d : ℕ) (r s : Siblings Nothing) (X Y : List Record) → has_node r ≡ has_node s → records_of d r ++ X ≡ records_of d s ++ Y → (r ≡ s) × (X ≡ Y)
+pub row_of : (d : ℕ) (r s : Siblings Nothing) (X Y : List Record) → has_node r ≡ has_node s
+    → records_of d r ++ X ≡ records_of d s ++ Y → (r ≡ s) × (X ≡ Y)
 row_of d end end X Y there e = (refl, e)
 row_of d end (node m w b t) X Y there e = absurd (cc)
 row_of d (node l v c s) end X Y there e = absurd (cc)
 row_of d (node l v c s) (node m w b t) X Y there e =
     let heads : record_of d l v c s ≡ record_of d m w b t = cc in
     let tails : (records_of (d + 1) c ++ records_of d s) ++ X ≡ (records_of (d + 1) b ++ records_of d t) ++ Y = cc in
-    let child = row_of (d + 1) c b (records_of d s ++ X) (records_of d t ++ Y) (ap (λ (h : Record). h.child) heads) (sym (append_assoc (records_of (d + 1) c) (records_of d s) X) ∙ tails ∙ append_assoc (records_of (d + 1) b) (records_of d t) Y) in
+    let child = row_of (d + 1) c b (records_of d s ++ X) (records_of d t ++ Y)
+    (ap (λ (h : Record). h.child) heads)
+    (sym (append_assoc (records_of (d + 1) c) (records_of d s) X) ∙ tails ∙ append_assoc
+    (records_of (d + 1) b) (records_of d t) Y) in
     let sibling = row_of d s t X Y (ap (λ (h : Record). h.sibling) heads) child.1 in
     let label : l ≡ m = ap (λ (h : Record). h.label) heads in
     let value = is_some-same v w (ap (λ (h : Record). h.value) heads) in
@@ -34,7 +38,8 @@ row_of d (node l v c s) (node m w b t) X Y there e =
     ((λ i. node (label i) (value i) (below i) (beside i)), sibling.1)
 
 -- keys and values in turn tell the rows
-rows_same : {V : Type 0} (xs ys : List (List ℕ × V)) → keys_of xs ≡ keys_of ys → values_of xs ≡ values_of ys → xs ≡ ys
+rows_same : {V : Type 0} (xs ys : List (List ℕ × V)) → keys_of xs ≡ keys_of ys
+    → values_of xs ≡ values_of ys → xs ≡ ys
 rows_same [] [] k v = refl
 rows_same [] (y ∷ ys) k v = absurd (cc)
 rows_same (x ∷ xs) [] k v = absurd (cc)
@@ -56,26 +61,31 @@ module _ (item : List ℕ → Type 0) where
       let heads : record_of 0 [] a.value a.row end ≡ record_of 0 [] b.value b.row end = cc in
       let tails : records_of 1 a.row ≡ records_of 1 b.row = cc in
       let value = is_some-same a.value b.value (ap (λ (h : Record). h.value) heads) in
-      let row = row_of 1 a.row b.row [] [] (ap (λ (h : Record). h.child) heads) (append-nil (records_of 1 a.row) ∙ tails ∙ sym (append-nil (records_of 1 b.row))) in
+      let row = row_of 1 a.row b.row [] [] (ap (λ (h : Record). h.child) heads)
+      (append-nil (records_of 1 a.row) ∙ tails ∙ sym (append-nil (records_of 1 b.row))) in
       let below = row.0 in
       sym a.keys ∙ (λ i. keys_of (own (value i) ++ entries (below i))) ∙ b.keys
 
   -- bytes and values mean one list of rows
-  pub one_meaning : {V : Type 0} (w : ℕ) (b : List ℕ) (values : List V) (M N : List (List ℕ × V)) → Means item w b values M → Means item w b values N → M ≡ N
+  pub one_meaning : {V : Type 0} (w : ℕ) (b : List ℕ) (values : List V) (M N : List (List ℕ × V))
+      → Means item w b values M → Means item w b values N → M ≡ N
   one_meaning w b values M N x y =
       let same = one_list w x.records y.records b x.spelled y.spelled in
       rows_same M N (one_key_list y.records _ _ (subst (λ R. Root item R (keys_of M)) same x.root) y.root) (sym x.in_place ∙ y.in_place)
 
   -- an encoding spells its records
-  pub writing_spells : (w : ℕ) (b : List ℕ) (E : List (List ℕ)) (x : Canon item w b E) → EncodeAll w x.records b
+  pub writing_spells : (w : ℕ) (b : List ℕ) (E : List (List ℕ)) (x : Canon item w b E)
+      → EncodeAll w x.records b
   writing_spells w b E x = subst (EncodeAll w x.records) (sym x.is) (clean_spell_all w x.records x.room)
 
   -- bytes are the canonical encoding of one key set
-  pub one_key_set : (w : ℕ) (b : List ℕ) (E F : List (List ℕ)) → Canon item w b E → Canon item w b F → E ≡ F
+  pub one_key_set : (w : ℕ) (b : List ℕ) (E F : List (List ℕ)) → Canon item w b E → Canon item w b F
+      → E ≡ F
   one_key_set w b E F x y =
       let same = one_list w x.records y.records b (writing_spells w b E x) (writing_spells w b F y) in
       one_key_list y.records E F (subst (λ R. Root item R E) same x.root) y.root
 
   -- the encoding of the keys of rows, with their values, means these rows
-  pub writing_means : {V : Type 0} (w : ℕ) (b : List ℕ) (rows : List (List ℕ × V)) → Canon item w b (keys_of rows) → Means item w b (values_of rows) rows
+  pub writing_means : {V : Type 0} (w : ℕ) (b : List ℕ) (rows : List (List ℕ × V))
+      → Canon item w b (keys_of rows) → Means item w b (values_of rows) rows
   writing_means w b rows x = record { records = x.records; spelled = writing_spells w b (keys_of rows) x; root = x.root; in_place = refl }

@@ -23,11 +23,13 @@ keys_of-same (x ∷ xs) (y ∷ ys) e =
 
 module _ (item : List ℕ → Type 0) where
   -- the row of a tight tree keeps the invariant
-  pub tight_within : (R : List Record) (E : List (List ℕ)) (t : StandsTree item R E) → IsTight item R → IsCanonicalWithin item (Some 255) t.row
+  pub tight_within : (R : List Record) (E : List (List ℕ)) (t : StandsTree item R E)
+      → IsTight item R → IsCanonicalWithin item (Some 255) t.row
   tight_within R E t tight = apart_within item 1 t.row t.ok (subst (IsTight item) (sym t.records) tight)
 
 module _ (item : List ℕ → Type 0) (kind : IsKeyKind item) where
-  pub one_tree : (R X : List Record) (E : List (List ℕ)) → Root item R E → Root item X E → IsTight item R → IsTight item X → R ≡ X
+  pub one_tree : (R X : List Record) (E : List (List ℕ)) → Root item R E → Root item X E
+      → IsTight item R → IsTight item X → R ≡ X
   one_tree R X E x y t u =
       let a = stands_tree item R E x in
       let b = stands_tree item X E y in
@@ -39,5 +41,6 @@ module _ (item : List ℕ → Type 0) (kind : IsKeyKind item) where
       sym a.records ∙ (λ i. tree_records (value i) (row i)) ∙ b.records
 
   -- a key set has one canonical encoding
-  pub one_writing : (w : ℕ) (b c : List ℕ) (E : List (List ℕ)) → Canon item w b E → Canon item w c E → b ≡ c
+  pub one_writing : (w : ℕ) (b c : List ℕ) (E : List (List ℕ)) → Canon item w b E → Canon item w c E
+      → b ≡ c
   one_writing w b c E x y = x.is ∙ ap (canonical_bytes_of w) (one_tree x.records y.records E x.root y.root x.tight y.tight) ∙ sym y.is

@@ -25,10 +25,12 @@ module _ (item : List ℕ → Type 0) where
 
   module _ (kind : IsKeyKind item) where
     -- of two labels that are not empty, the first comes before the other or does not
-    pub before_or_not : (a b : List ℕ) → IsValid item a → IsValid item b → a ≢ [] → b ≢ [] → IsBefore item a b ⊎ (IsBefore item a b → ⊥)
+    pub before_or_not : (a b : List ℕ) → IsValid item a → IsValid item b → a ≢ [] → b ≢ []
+        → IsBefore item a b ⊎ (IsBefore item a b → ⊥)
     before_or_not a b v u some other = go (first_of item a v some) (first_of item b u other)
       where
-        go : (i : List ℕ) × (item i) × Begins i a → (j : List ℕ) × (item j) × Begins j b → IsBefore item a b ⊎ (IsBefore item a b → ⊥)
+        go : (i : List ℕ) × (item i) × Begins i a → (j : List ℕ) × (item j) × Begins j b
+            → IsBefore item a b ⊎ (IsBefore item a b → ⊥)
         go (i, p, x) (j, q, y) = elim (less_or_not (key_cmp i j)) [
           | inl less ↦ inl (record { first = i; second = j; first_item = p; second_item = q; first_begins = x; second_begins = y; less = less })
           | inr other_order ↦ inr (λ h. other_order (

@@ -11,14 +11,19 @@ use Rattle.patricia_wire.proofs.OneMeaning.{one_meaning}
 
 module _ (item : List ℕ → Type 0) {V : Type 0} where
   -- tree bytes mean their rows, and there is one meaning
-  pub reads_back : (w : ℕ) (b : List ℕ) (rows M : List (List ℕ × V)) → AreTreeBytes item w b rows → Means item w b (values_of rows) M → M ≡ rows
+  pub reads_back : (w : ℕ) (b : List ℕ) (rows M : List (List ℕ × V)) → AreTreeBytes item w b rows
+      → Means item w b (values_of rows) M → M ≡ rows
   reads_back w b rows M x means = one_meaning item w b (values_of rows) M rows means x.means
 
   -- a first fault stands
-  pub no_first_fault : (w : ℕ) (b : List ℕ) (values : List V) (M : List (List ℕ × V)) (e : DecodeError) → Means item w b values M → IsFirst item w b (length values) e → ⊥
+  pub no_first_fault :
+      (w : ℕ) (b : List ℕ) (values : List V) (M : List (List ℕ × V)) (e : DecodeError)
+      → Means item w b values M → IsFirst item w b (length values) e → ⊥
   no_first_fault w b values M e means first = no_fault_meant item w b values M first.number first.at e means first.stands
 
   -- so nothing but out of memory refuses it
-  pub memory_alone : (w : ℕ) (b : List ℕ) (values : List V) (M : List (List ℕ × V)) (e : DecodeError) → Means item w b values M → IsRefusal item w b (length values) e → e ≡ Memory
+  pub memory_alone :
+      (w : ℕ) (b : List ℕ) (values : List V) (M : List (List ℕ × V)) (e : DecodeError)
+      → Means item w b values M → IsRefusal item w b (length values) e → e ≡ Memory
   memory_alone w b values M e means (inl memory) = memory
   memory_alone w b values M e means (inr first) = absurd (no_first_fault w b values M e means first)

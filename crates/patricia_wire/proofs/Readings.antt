@@ -24,7 +24,8 @@ same_number m n both = elim (cases_lt m n) [
 ]
 
 -- one record more at the end is the last of what is behind, or nothing is behind
-pub back_split : (A : List Record) (r : Record) (P X : List Record) → A ++ (r ∷ []) ≡ P ++ X → ((X ≡ []) × (P ≡ A ++ (r ∷ []))) ⊎ ((Y : List Record) × (X ≡ Y ++ (r ∷ [])) × (A ≡ P ++ Y))
+pub back_split : (A : List Record) (r : Record) (P X : List Record) → A ++ (r ∷ []) ≡ P ++ X
+    → ((X ≡ []) × (P ≡ A ++ (r ∷ []))) ⊎ ((Y : List Record) × (X ≡ Y ++ (r ∷ [])) × (A ≡ P ++ Y))
 back_split A r [] X e = inr (A, sym e, refl)
 back_split [] r (p ∷ []) [] e = inl (refl, sym e)
 back_split [] r (p ∷ []) (x ∷ X) e = absurd (cc)
@@ -51,24 +52,29 @@ no_last : (A : List Record) (r : Record) → [] ≡ A ++ (r ∷ []) → ⊥
 no_last A r e = nil_split A r [] e
 
 -- of two records of a list one is the other, or lies behind it
-two_places : (A B : List Record) (x y : Record) (Z W : List Record) → A ++ (x ∷ Z) ≡ B ++ (y ∷ W) → (x ≡ y) ⊎ (((M : List Record) × (Z ≡ M ++ (y ∷ W))) ⊎ ((M : List Record) × (W ≡ M ++ (x ∷ Z))))
+two_places : (A B : List Record) (x y : Record) (Z W : List Record) → A ++ (x ∷ Z) ≡ B ++ (y ∷ W)
+    → (x ≡ y) ⊎ (((M : List Record) × (Z ≡ M ++ (y ∷ W))) ⊎ ((M : List Record) × (W ≡ M ++ (x ∷ Z))))
 two_places [] [] x y Z W e = inl (cc)
 two_places [] (b ∷ B) x y Z W e = (let tails : Z ≡ B ++ (y ∷ W) = cc in inr (inl (B, tails)))
 two_places (a ∷ A) [] x y Z W e = (let tails : A ++ (x ∷ Z) ≡ W = cc in inr (inr (A, sym tails)))
 two_places (a ∷ A) (b ∷ B) x y Z W e = (let tails : A ++ (x ∷ Z) ≡ B ++ (y ∷ W) = cc in two_places A B x y Z W tails)
 
 -- the last record up to a level is one
-pub one_up_to : (before : List Record) (d : ℕ) (x y : Record) → IsLastUpTo before d x → IsLastUpTo before d y → x ≡ y
+pub one_up_to : (before : List Record) (d : ℕ) (x y : Record) → IsLastUpTo before d x
+    → IsLastUpTo before d y → x ≡ y
 one_up_to before d x y a b = elim (two_places a.ahead b.ahead x y a.after b.after (sym a.is ∙ b.is)) [
   | inl same ↦ same
   | inr apart ↦ elim apart [
-    | inl late ↦ absurd (let deep = All-middle (λ z. d < z.level) late.0 y b.after (subst (All (λ z. d < z.level)) late.1 a.deeper) in omega (arith, deep, b.level))
-    | inr late ↦ absurd (let deep = All-middle (λ z. d < z.level) late.0 x a.after (subst (All (λ z. d < z.level)) late.1 b.deeper) in omega (arith, deep, a.level))
+    | inl late ↦ absurd
+        (let deep = All-middle (λ z. d < z.level) late.0 y b.after (subst (All (λ z. d < z.level)) late.1 a.deeper) in omega (arith, deep, b.level))
+    | inr late ↦ absurd
+        (let deep = All-middle (λ z. d < z.level) late.0 x a.after (subst (All (λ z. d < z.level)) late.1 b.deeper) in omega (arith, deep, a.level))
   ]
 ]
 
 -- and so is the last one that waits
-one_waiting : (before : List Record) (x y : Record) → IsLastWaiting before x → IsLastWaiting before y → x ≡ y
+one_waiting : (before : List Record) (x y : Record) → IsLastWaiting before x
+    → IsLastWaiting before y → x ≡ y
 one_waiting before x y a b = elim (two_places a.ahead b.ahead x y a.after b.after (sym a.is ∙ b.is)) [
   | inl same ↦ same
   | inr apart ↦ elim apart [
@@ -88,9 +94,14 @@ one_due before m n x y = go before before m n x y refl
     go A B m n (below ahead r c) at_first e = absurd (no_last ahead r (sym e))
     go A B m n (beside ahead r x c last) at_first e = absurd (no_last ahead r (sym e))
     go A B m n (below ahead r c) (below other s d) e = ap (λ (h : Record). h.level + 1) (one_last ahead other r s e)
-    go A B m n (below ahead r c) (beside other s y d last) e = absurd (let same = one_last ahead other r s e in let no : true ≡ false = sym c ∙ ap (λ (h : Record). h.child) same ∙ d in cc)
-    go A B m n (beside ahead r x c last) (below other s d) e = absurd (let same = one_last ahead other r s e in let no : true ≡ false = sym d ∙ ap (λ (h : Record). h.child) (sym same) ∙ c in cc)
-    go A B m n (beside ahead r x c last) (beside other s y d late) e = ap (λ (h : Record). h.level) (one_waiting B x y (subst (λ L. IsLastWaiting L x) e last) late)
+    go A B m n (below ahead r c) (beside other s y d last) e = absurd
+        (let same = one_last ahead other r s e in
+        let no : true ≡ false = sym c ∙ ap (λ (h : Record). h.child) same ∙ d in cc)
+    go A B m n (beside ahead r x c last) (below other s d) e = absurd
+        (let same = one_last ahead other r s e in
+        let no : true ≡ false = sym d ∙ ap (λ (h : Record). h.child) (sym same) ∙ c in cc)
+    go A B m n (beside ahead r x c last) (beside other s y d late) e = ap (λ (h : Record). h.level)
+        (one_waiting B x y (subst (λ L. IsLastWaiting L x) e last) late)
 
 -- x is one of the records, and waits behind the rest
 record IsWaiting (before : List Record) (x : Record) : Type 0 where
@@ -110,12 +121,15 @@ record IsBehind (before : List Record) (e : Due) : Type 0 where
 -- the root is due, or the child of the last record
 data IsFresh (before : List Record) (e : Due) : Type 0 where
   root : before ≡ [] → e.level ≡ 0 → e.after ≡ None → IsFresh before e
-  child : (ahead : List Record) (r : Record) → before ≡ ahead ++ (r ∷ []) → r.child ≡ true → e.level ≡ r.level + 1 → e.after ≡ None → IsFresh before e
+  child : (ahead : List Record) (r : Record) → before ≡ ahead ++ (r ∷ []) → r.child ≡ true
+      → e.level ≡ r.level + 1 → e.after ≡ None → IsFresh before e
 
 -- what is due is the root or a child, and then siblings, or siblings alone behind a leaf
 data IsState (before : List Record) (D : List Due) : Type 0 where
-  down : (e : Due) (W : List Due) → D ≡ e ∷ W → IsFresh before e → All (IsBehind before) W → IsState before D
-  back : (ahead : List Record) (r : Record) → before ≡ ahead ++ (r ∷ []) → r.child ≡ false → All (IsBehind before) D → IsState before D
+  down : (e : Due) (W : List Due) → D ≡ e ∷ W → IsFresh before e → All (IsBehind before) W
+      → IsState before D
+  back : (ahead : List Record) (r : Record) → before ≡ ahead ++ (r ∷ []) → r.child ≡ false
+      → All (IsBehind before) D → IsState before D
 
 -- the levels that are due fall
 abbrev Fall : List Due → Type 0
@@ -147,22 +161,34 @@ has_later d [] D has = has
 has_later d (e ∷ X) D has = inr (has_later d X D has)
 
 -- what waits is the last of its level
-up_to : (before : List Record) (x : Record) → IsWaiting before x → (d : ℕ) → x.level ≡ d → IsLastUpTo before d x
-up_to before x w d e = record { ahead = w.ahead; after = w.after; is = w.is; level = omega (arith, e); deeper = subst (λ k. All (λ y. k < y.level) w.after) e w.waits.1 }
+up_to : (before : List Record) (x : Record) → IsWaiting before x → (d : ℕ) → x.level ≡ d
+    → IsLastUpTo before d x
+up_to before x w d e = record {
+  ahead = w.ahead;
+  after = w.after;
+  is = w.is;
+  level = omega (arith, e);
+  deeper = subst (λ k. All (λ y. k < y.level) w.after) e w.waits.1;
+}
 
 -- the level that is due next is the one that is due
-held_due : (before : List Record) (e : Due) (W : List Due) → IsHeld before (e ∷ W) → IsDue before e.level
+held_due : (before : List Record) (e : Due) (W : List Due) → IsHeld before (e ∷ W)
+    → IsDue before e.level
 held_due before e W h = go h.state
   where
     fresh : (f : Due) → IsFresh before f → IsDue before f.level
     fresh f (root b l n) = subst (λ B. IsDue B f.level) (sym b) (subst (IsDue []) (sym l) at_first)
     fresh f (child ahead r b c l n) = subst (λ B. IsDue B f.level) (sym b) (subst (IsDue (ahead ++ (r ∷ []))) (sym l) (below ahead r c))
 
-    last : (x : Record) (w : IsWaiting before x) → x.level ≡ e.level → (between : List Record) (y : Record) (rest : List Record) → w.after ≡ between ++ (y ∷ rest) → Waits y rest → ⊥
+    last : (x : Record) (w : IsWaiting before x) → x.level ≡ e.level
+        → (between : List Record) (y : Record) (rest : List Record)
+        → w.after ≡ between ++ (y ∷ rest) → Waits y rest → ⊥
     last x w same between y rest split waits =
         let deep = All-middle (λ z. x.level < z.level) between y rest (subst (All (λ z. x.level < z.level)) split w.waits.1) in
         let all = h.waits in
-        let place : before ≡ (w.ahead ++ (x ∷ between)) ++ (y ∷ rest) = w.is ∙ ap (λ Z. w.ahead ++ (x ∷ Z)) split ∙ sym (append_assoc w.ahead (x ∷ between) (y ∷ rest)) in
+        let place : before ≡ (w.ahead ++ (x ∷ between)) ++ (y ∷ rest) = w.is ∙ ap
+        (λ Z. w.ahead ++ (x ∷ Z)) split ∙ sym
+        (append_assoc w.ahead (x ∷ between) (y ∷ rest)) in
         elim (all y (record { ahead = w.ahead ++ (x ∷ between); after = rest; is = place; waits = waits })) [
           | inl level ↦ omega (arith, level, deep, same)
           | inr later ↦ (let low = has_under y.level e.level W h.falls.0 later in omega (arith, low, deep, same))
@@ -179,18 +205,21 @@ held_due before e W h = go h.state
         subst (λ B. IsDue B e.level) (sym b) (subst (IsDue (ahead ++ (r ∷ []))) first.level due)
 
 -- behind the next, siblings alone are due
-rest_behind : (before : List Record) (e : Due) (W : List Due) → IsState before (e ∷ W) → All (IsBehind before) W
+rest_behind : (before : List Record) (e : Due) (W : List Due) → IsState before (e ∷ W)
+    → All (IsBehind before) W
 rest_behind before e W (down f V same new all) = subst (All (IsBehind before)) (let tails : V ≡ W = cc in tails) all
 rest_behind before e W (back ahead r b leaf all) = All-tail (IsBehind before) e W all
 
 -- below the root the level is not 0
-inner_due : (before : List Record) (e : Due) (W : List Due) → IsState before (e ∷ W) → (before ≡ []) ⊎ (0 < e.level)
+inner_due : (before : List Record) (e : Due) (W : List Due) → IsState before (e ∷ W)
+    → (before ≡ []) ⊎ (0 < e.level)
 inner_due before e W (down f V same (root b l n) all) = inl b
 inner_due before e W (down f V same (child ahead r b c l n) all) = inr (let head : e ≡ f = cc in omega (arith, ap (λ (g : Due). g.level) head, l))
 inner_due before e W (back ahead r b leaf all) = inr (let first = All-head (IsBehind before) e W all in first.inner)
 
 -- what waits still waits behind a deeper record
-still_waits : (before : List Record) (r x : Record) → IsWaiting before x → x.level < r.level → IsWaiting (before ++ (r ∷ [])) x
+still_waits : (before : List Record) (r x : Record) → IsWaiting before x → x.level < r.level
+    → IsWaiting (before ++ (r ∷ [])) x
 still_waits before r x w deep = record {
   ahead = w.ahead;
   after = w.after ++ (r ∷ []);
@@ -198,21 +227,33 @@ still_waits before r x w deep = record {
   waits = (w.waits.0, all w.after w.waits.1);
 }
   where
-    all : (Z : List Record) → All (λ y. x.level < y.level) Z → All (λ y. x.level < y.level) (Z ++ (r ∷ []))
+    all : (Z : List Record) → All (λ y. x.level < y.level) Z
+        → All (λ y. x.level < y.level) (Z ++ (r ∷ []))
     all [] a = All-cons (λ y. x.level < y.level) r [] deep a
-    all (z ∷ Z) a = All-cons (λ y. x.level < y.level) z (Z ++ (r ∷ [])) (All-head (λ y. x.level < y.level) z Z a) (all Z (All-tail (λ y. x.level < y.level) z Z a))
+    all (z ∷ Z) a = All-cons (λ y. x.level < y.level) z (Z ++ (r ∷ []))
+        (All-head (λ y. x.level < y.level) z Z a) (all Z (All-tail (λ y. x.level < y.level) z Z a))
 
 -- what was due behind a deeper record still is
-still_behind : (before : List Record) (r : Record) (D : List Due) → All (λ (x : Due). x.level < r.level) D → All (IsBehind before) D → All (IsBehind (before ++ (r ∷ []))) D
+still_behind : (before : List Record) (r : Record) (D : List Due)
+    → All (λ (x : Due). x.level < r.level) D → All (IsBehind before) D
+    → All (IsBehind (before ++ (r ∷ []))) D
 still_behind before r [] low all = All-nil (IsBehind (before ++ (r ∷ [])))
 still_behind before r (e ∷ D) low all =
     let first = All-head (IsBehind before) e D all in
     let under = All-head (λ (x : Due). x.level < r.level) e D low in
     All-cons (IsBehind (before ++ (r ∷ []))) e D
-    (record { sibling = first.sibling; waiting = still_waits before r first.sibling first.waiting (omega (arith, first.level, under)); inner = first.inner; level = first.level; label = first.label })
+    (record {
+      sibling = first.sibling;
+      waiting = still_waits before r first.sibling first.waiting
+          (omega (arith, first.level, under));
+      inner = first.inner;
+      level = first.level;
+      label = first.label;
+    })
     (still_behind before r D (All-tail (λ (x : Due). x.level < r.level) e D low) (All-tail (IsBehind before) e D all))
 
-module _ (before : List Record) (r : Record) (e : Due) (W : List Due) (h : IsHeld before (e ∷ W)) (same : r.level ≡ e.level) (alone : before ≡ [] → r.sibling ≡ true → ⊥) where
+module _ (before : List Record) (r : Record) (e : Due) (W : List Due) (h : IsHeld before (e ∷ W))
+    (same : r.level ≡ e.level) (alone : before ≡ [] → r.sibling ≡ true → ⊥) where
   abbrev after : List Record
   after = before ++ (r ∷ [])
 
@@ -227,9 +268,12 @@ module _ (before : List Record) (r : Record) (e : Due) (W : List Due) (h : IsHel
   low = subst (λ k. All (λ (x : Due). x.level < k) W) (sym same) h.falls.0
 
   -- and above its child
-  lower : (D : List Due) → All (λ (x : Due). x.level < r.level) D → All (λ (x : Due). x.level < r.level + 1) D
+  lower : (D : List Due) → All (λ (x : Due). x.level < r.level) D
+      → All (λ (x : Due). x.level < r.level + 1) D
   lower [] all = All-nil (λ (x : Due). x.level < r.level + 1)
-  lower (d ∷ D) all = All-cons (λ (x : Due). x.level < r.level + 1) d D (omega (arith, All-head (λ (x : Due). x.level < r.level) d D all)) (lower D (All-tail (λ (x : Due). x.level < r.level) d D all))
+  lower (d ∷ D) all = All-cons (λ (x : Due). x.level < r.level + 1) d D
+      (omega (arith, All-head (λ (x : Due). x.level < r.level) d D all))
+      (lower D (All-tail (λ (x : Due). x.level < r.level) d D all))
 
   -- a record with a sibling is not the root
   inner : r.sibling ≡ true → 0 < r.level
@@ -246,11 +290,24 @@ module _ (before : List Record) (r : Record) (e : Due) (W : List Due) (h : IsHel
   siblings false clear = rest
   siblings true set =
       All-cons (IsBehind after) second W
-      (record { sibling = r; waiting = record { ahead = before; after = []; is = refl; waits = (set, All-nil (λ y. r.level < y.level)) }; inner = inner set; level = refl; label = refl })
+      (record {
+        sibling = r;
+        waiting =
+            record {
+              ahead = before;
+              after = [];
+              is = refl;
+              waits = (set, All-nil (λ y. r.level < y.level));
+            };
+        inner = inner set;
+        level = refl;
+        label = refl;
+      })
       rest
 
   -- its child is due first, if it has one
-  more_state : (c s : Bool) → r.child ≡ c → r.sibling ≡ s → IsState after ((due_where c first ++ due_where s second) ++ W)
+  more_state : (c s : Bool) → r.child ≡ c → r.sibling ≡ s
+      → IsState after ((due_where c first ++ due_where s second) ++ W)
   more_state false s leaf mark = back before r refl leaf (siblings s mark)
   more_state true s parent mark = down first (due_where s second ++ W) refl (child before r refl parent refl refl) (siblings s mark)
 
@@ -268,7 +325,8 @@ module _ (before : List Record) (r : Record) (e : Due) (W : List Due) (h : IsHel
   own true true set = inr (inl refl)
 
   -- what waits behind it is it, or waited before
-  more_place : (x : Record) (A Z Y : List Record) → Waits x Z → x ∷ Z ≡ Y ++ (r ∷ []) → before ≡ A ++ Y → HasLevel x.level (due_behind r ++ W)
+  more_place : (x : Record) (A Z Y : List Record) → Waits x Z → x ∷ Z ≡ Y ++ (r ∷ [])
+      → before ≡ A ++ Y → HasLevel x.level (due_behind r ++ W)
   more_place x A Z [] w split is =
       let head : r ≡ x = cc in
       subst (λ (z : Record). HasLevel z.level (due_behind r ++ W)) head (own r.child r.sibling (ap (λ (z : Record). z.sibling) head ∙ w.0))
@@ -278,7 +336,14 @@ module _ (before : List Record) (r : Record) (e : Due) (W : List Due) (h : IsHel
       let all = subst (All (λ z. x.level < z.level)) tails w.1 in
       let deep = All-middle (λ z. x.level < z.level) Y r [] all in
       let kept = h.waits in
-      elim (kept x (record { ahead = A; after = Y; is = is ∙ ap (λ z. A ++ (z ∷ Y)) (sym head); waits = (w.0, All-left (λ z. x.level < z.level) Y (r ∷ []) all) })) [
+      elim (kept x
+      (record {
+        ahead = A;
+        after = Y;
+        is = is ∙ ap (λ z. A ++ (z ∷ Y)) (sym head);
+        waits =
+            (w.0, All-left (λ z. x.level < z.level) Y (r ∷ []) all);
+      })) [
         | inl level ↦ absurd (omega (arith, level, deep, same))
         | inr later ↦ has_later x.level (due_behind r) W later
       ]
@@ -301,7 +366,8 @@ ends_at (a ∷ b ∷ A) r low = ends_at (b ∷ A) r low
 
 module _ (item : List ℕ → Type 0) where
   -- a tree has nothing due
-  no_tree : (before : List Record) (e : Due) (W : List Due) (E : List (List ℕ)) → IsState before (e ∷ W) → Root item before E → ⊥
+  no_tree : (before : List Record) (e : Due) (W : List Due) (E : List (List ℕ))
+      → IsState before (e ∷ W) → Root item before E → ⊥
   no_tree before e W E state tree = go state
     where
       v : Option Nothing
@@ -313,7 +379,8 @@ module _ (item : List ℕ → Type 0) where
       records : tree_records v row ≡ before
       records = (let t = stands_tree item before E tree in t.records)
 
-      waiting : (A : List Record) (x : Record) (Z : List Record) → tree_records v row ≡ A ++ (x ∷ Z) → Waits x Z → ⊥
+      waiting : (A : List Record) (x : Record) (Z : List Record) → tree_records v row ≡ A ++ (x ∷ Z)
+          → Waits x Z → ⊥
       waiting [] x Z e w =
           let head : record_of 0 [] v row end ≡ x = cc in
           let no : false ≡ true = ap (λ (h : Record). h.sibling) head ∙ w.0 in
@@ -336,7 +403,12 @@ module _ (item : List ℕ → Type 0) where
 
   -- what is due is held while records are read
   held : (n : ℕ) (before : List Record) (D : List Due) → IsRead item n before D → IsHeld before D
-  held n before D nothing = record { state = down _ [] refl (root refl refl refl) (All-nil (IsBehind [])); falls = (All-nil _, tt); waits = λ x w. absurd (nil_split w.ahead x w.after w.is) }
+  held n before D nothing =
+      record {
+        state = down _ [] refl (root refl refl refl) (All-nil (IsBehind []));
+        falls = (All-nil _, tt);
+        waits = λ x w. absurd (nil_split w.ahead x w.after w.is);
+      }
   held n before D (one_more ahead r due waiting read fine) =
       let h = held n ahead (due ∷ waiting) read in
       let right : IsDue ahead due.level = held_due ahead due waiting h in
@@ -344,28 +416,36 @@ module _ (item : List ℕ → Type 0) where
       held_more ahead r due waiting h level (λ none sibling. fine 0 5 _ (root_of_siblings none sibling))
 
   -- the level of the record that is due is the level that is due
-  pub is_due : (n : ℕ) (before : List Record) (due : Due) (waiting : List Due) → IsRead item n before (due ∷ waiting) → IsDue before due.level
+  pub is_due : (n : ℕ) (before : List Record) (due : Due) (waiting : List Due)
+      → IsRead item n before (due ∷ waiting) → IsDue before due.level
   is_due n before due waiting read = held_due before due waiting (held n before (due ∷ waiting) read)
 
   -- only the root is due at level 0
-  pub root_due : (n : ℕ) (before : List Record) (due : Due) (waiting : List Due) → IsRead item n before (due ∷ waiting) → due.level ≡ 0 → before ≡ []
+  pub root_due : (n : ℕ) (before : List Record) (due : Due) (waiting : List Due)
+      → IsRead item n before (due ∷ waiting) → due.level ≡ 0 → before ≡ []
   root_due n before due waiting read zero = elim (inner_due before due waiting (let h = held n before (due ∷ waiting) read in h.state)) [
     | inl none ↦ none
     | inr inner ↦ absurd (omega (arith, inner, zero))
   ]
 
   -- where nothing is read the root is due, and nothing waits
-  pub first_due : (n : ℕ) (before : List Record) (due : Due) (waiting : List Due) → IsRead item n before (due ∷ waiting) → before ≡ [] → (due.level ≡ 0) × (due.after ≡ None) × (waiting ≡ [])
+  pub first_due : (n : ℕ) (before : List Record) (due : Due) (waiting : List Due)
+      → IsRead item n before (due ∷ waiting) → before ≡ []
+      → (due.level ≡ 0) × (due.after ≡ None) × (waiting ≡ [])
   first_due n before due waiting read none = go waiting (let h = held n before (due ∷ waiting) read in h.state)
     where
-      go : (W : List Due) → IsState before (due ∷ W) → (due.level ≡ 0) × (due.after ≡ None) × (W ≡ [])
-      go (x ∷ W) state = absurd (let first = All-head (IsBehind before) x W (rest_behind before due (x ∷ W) state) in let w = first.waiting in nil_split w.ahead first.sibling w.after (sym none ∙ w.is))
+      go : (W : List Due) → IsState before (due ∷ W)
+          → (due.level ≡ 0) × (due.after ≡ None) × (W ≡ [])
+      go (x ∷ W) state = absurd
+          (let first = All-head (IsBehind before) x W (rest_behind before due (x ∷ W) state) in
+          let w = first.waiting in nil_split w.ahead first.sibling w.after (sym none ∙ w.is))
       go [] (down f V same (root b l m) all) = (let head : due ≡ f = cc in (ap (λ (g : Due). g.level) head ∙ l, ap (λ (g : Due). g.after) head ∙ m, refl))
       go [] (down f V same (child ahead r b c l m) all) = absurd (no_last ahead r (sym none ∙ b))
       go [] (back ahead r b leaf all) = absurd (no_last ahead r (sym none ∙ b))
 
   -- no prefix of what is read is a tree, where more is due
-  unfinished_with : (n : ℕ) (before : List Record) (D : List Due) → IsRead item n before D → (due : Due) (waiting : List Due) → D ≡ due ∷ waiting → IsUnfinished item before
+  unfinished_with : (n : ℕ) (before : List Record) (D : List Due) → IsRead item n before D
+      → (due : Due) (waiting : List Due) → D ≡ due ∷ waiting → IsUnfinished item before
   unfinished_with n before D nothing due waiting e [] X E f tree = (let none = tree.records in cc)
   unfinished_with n before D nothing due waiting e (p ∷ P) X E f tree = absurd (cc)
   unfinished_with n before D (one_more ahead r given rest read fine) due waiting e P X E f tree = elim (back_split ahead r P X f) [
@@ -376,18 +456,22 @@ module _ (item : List ℕ → Type 0) where
   ]
 
   -- while a record is due, nothing read so far is a whole tree
-  pub unfinished : (n : ℕ) (before : List Record) (due : Due) (waiting : List Due) → IsRead item n before (due ∷ waiting) → IsUnfinished item before
+  pub unfinished : (n : ℕ) (before : List Record) (due : Due) (waiting : List Due)
+      → IsRead item n before (due ∷ waiting) → IsUnfinished item before
   unfinished n before due waiting read = unfinished_with n before (due ∷ waiting) read due waiting refl
 
   -- the label that is given is that of the sibling before
-  pub after_given : (n : ℕ) (before : List Record) (due : Due) (waiting : List Due) → IsRead item n before (due ∷ waiting) → (l : List ℕ) → due.after ≡ Some l → (x : Record) × IsLastUpTo before due.level x × (x.level ≡ due.level) × (x.label ≡ l)
+  pub after_given : (n : ℕ) (before : List Record) (due : Due) (waiting : List Due)
+      → IsRead item n before (due ∷ waiting) → (l : List ℕ) → due.after ≡ Some l
+      → (x : Record) × IsLastUpTo before due.level x × (x.level ≡ due.level) × (x.label ≡ l)
   after_given n before due waiting read l given = go (let h = held n before (due ∷ waiting) read in h.state)
     where
       fresh : (f : Due) → due ≡ f → IsFresh before f → ⊥
       fresh f same (root b d none) = (let no : Some l ≡ None = sym given ∙ ap (λ (g : Due). g.after) same ∙ none in cc)
       fresh f same (child ahead r b c d none) = (let no : Some l ≡ None = sym given ∙ ap (λ (g : Due). g.after) same ∙ none in cc)
 
-      go : IsState before (due ∷ waiting) → (x : Record) × IsLastUpTo before due.level x × (x.level ≡ due.level) × (x.label ≡ l)
+      go : IsState before (due ∷ waiting)
+          → (x : Record) × IsLastUpTo before due.level x × (x.level ≡ due.level) × (x.label ≡ l)
       go (down f V same new all) = absurd (fresh f (cc) new)
       go (back ahead r b leaf all) =
           let first = All-head (IsBehind before) due waiting all in
@@ -395,14 +479,22 @@ module _ (item : List ℕ → Type 0) where
           (first.sibling, up_to before first.sibling first.waiting due.level first.level, first.level, cc)
 
   -- and the label of the sibling before is given
-  pub after_is : (n : ℕ) (before : List Record) (due : Due) (waiting : List Due) → IsRead item n before (due ∷ waiting) → (x : Record) → IsLastUpTo before due.level x → x.level ≡ due.level → due.after ≡ Some x.label
+  pub after_is : (n : ℕ) (before : List Record) (due : Due) (waiting : List Due)
+      → IsRead item n before (due ∷ waiting) → (x : Record) → IsLastUpTo before due.level x
+      → x.level ≡ due.level → due.after ≡ Some x.label
   after_is n before due waiting read x up level = go (let h = held n before (due ∷ waiting) read in h.state)
     where
       fresh : (f : Due) → due ≡ f → IsFresh before f → ⊥
       fresh f same (root b d none) = nil_split up.ahead x up.after (sym b ∙ up.is)
       fresh f same (child ahead r b c d none) =
           let depth : due.level ≡ r.level + 1 = ap (λ (g : Due). g.level) same ∙ d in
-          let last : IsLastUpTo before due.level r = record { ahead = ahead; after = []; is = b; level = omega (arith, depth); deeper = All-nil (λ y. due.level < y.level) } in
+          let last : IsLastUpTo before due.level r = record {
+            ahead = ahead;
+            after = [];
+            is = b;
+            level = omega (arith, depth);
+            deeper = All-nil (λ y. due.level < y.level);
+          } in
           let one = one_up_to before due.level x r up last in
           omega (arith, depth, level, ap (λ (h : Record). h.level) one)
 

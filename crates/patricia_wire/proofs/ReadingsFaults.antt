@@ -12,7 +12,8 @@ use Rattle.patricia_wire.specs.declared.error.DecodeError.{DecodeError}
 use Rattle.patricia_wire.proofs.Readings.{same_number, one_due, is_due, root_due, first_due, after_given, after_is}
 
 -- one value more, where the mark is set
-pub marks_more : (before : List Record) (r : Record) → value_marks (before ++ (r ∷ [])) ≡ value_marks before + bit_if r.value 1
+pub marks_more : (before : List Record) (r : Record)
+    → value_marks (before ++ (r ∷ [])) ≡ value_marks before + bit_if r.value 1
 marks_more before r = omega (arith, sum_by-append (λ (x : Record). bit_if x.value 1) before (r ∷ []))
 
 -- a value mark that is one too many comes where no value is left
@@ -26,7 +27,9 @@ mark_counts true e = refl
 mark_counts false e = absurd (cc)
 
 -- no rule has a lower number than that of the level
-pub least_broken : (item : List ℕ → Type 0) (before : List Record) (r : Record) (n at k : ℕ) (e : DecodeError) → faults.Breaks item before r n at k e → 3 ≤ k
+pub least_broken :
+    (item : List ℕ → Type 0) (before : List Record) (r : Record) (n at k : ℕ) (e : DecodeError)
+    → faults.Breaks item before r n at k e → 3 ≤ k
 least_broken item before r n at k e (other_level h) = omega arith
 least_broken item before r n at k e (labelled_root first some) = omega arith
 least_broken item before r n at k e (root_of_siblings first set) = omega arith
@@ -41,12 +44,16 @@ module _ (item : List ℕ → Type 0) (n : ℕ) (before : List Record) (r : Reco
   abbrev pub IsFirstBroken : Rule → Type 0
   IsFirstBroken rule = record {
     broken : (at : ℕ) → faults.Breaks item before r n at (number rule) (error_at at rule);
-    first : (at k : ℕ) (e : DecodeError) → k < number rule → faults.Breaks item before r n at k e → ⊥;
+    first : (at k : ℕ) (e : DecodeError) → k < number rule → faults.Breaks item before r n at k e
+        → ⊥;
   }
 
-module _ (item : List ℕ → Type 0) (n left : ℕ) (before : List Record) (due : Due) (waiting : List Due) (r : Record) where
+module _ (item : List ℕ → Type 0) (n left : ℕ) (before : List Record) (due : Due)
+    (waiting : List Due) (r : Record) where
   -- at the level that is due the rules are those of the records before
-  breaks_behind : IsRead item n before (due ∷ waiting) → left + value_marks before ≡ n → r.level ≡ due.level → (at : ℕ) (rule : Rule) → Breaks item due left r rule → faults.Breaks item before r n at (number rule) (error_at at rule)
+  breaks_behind : IsRead item n before (due ∷ waiting) → left + value_marks before ≡ n
+      → r.level ≡ due.level → (at : ℕ) (rule : Rule) → Breaks item due left r rule
+      → faults.Breaks item before r n at (number rule) (error_at at rule)
   breaks_behind read count same at level b = absurd (b same)
   breaks_behind read count same at root_label b = labelled_root (root_due item n before due waiting read b.0) b.1
   breaks_behind read count same at root_sibling b = root_of_siblings (root_due item n before due waiting read b.0) b.1
@@ -54,25 +61,42 @@ module _ (item : List ℕ → Type 0) (n left : ℕ) (before : List Record) (due
   breaks_behind read count same at invalid_label b = not_valid b
   breaks_behind read count same at sibling_order b =
       let sibling = after_given item n before due waiting read b.0 b.1 in
-      falling sibling.0 (subst (λ d. IsLastUpTo before d sibling.0) (sym same) sibling.1) (sibling.2 ∙ sym same) (λ ordered. b.2 (subst (λ l. ComparesFirst item l r.label Less) sibling.3 ordered))
+      falling sibling.0 (subst (λ d. IsLastUpTo before d sibling.0) (sym same) sibling.1)
+      (sibling.2 ∙ sym same)
+      (λ ordered. b.2 (subst (λ l. ComparesFirst item l r.label Less) sibling.3 ordered))
   breaks_behind read count same at no_value_no_child b = bare (λ none. b.0 (let first = first_due item n before due waiting read none in first.0)) b.1 b.2
   breaks_behind read count same at too_few_values b = no_value (omega (arith, count, marks_more before r, mark_counts r.value b.0, b.1))
 
   -- and the other way round
-  breaks_due : IsRead item n before (due ∷ waiting) → left + value_marks before ≡ n → r.level ≡ due.level → (at k : ℕ) (e : DecodeError) → faults.Breaks item before r n at k e → (rule : Rule) × (k ≡ number rule) × Breaks item due left r rule
+  breaks_due : IsRead item n before (due ∷ waiting) → left + value_marks before ≡ n
+      → r.level ≡ due.level → (at k : ℕ) (e : DecodeError) → faults.Breaks item before r n at k e
+      → (rule : Rule) × (k ≡ number rule) × Breaks item due left r rule
   breaks_due read count same at k e (other_level h) = absurd (h (subst (IsDue before) (sym same) (is_due item n before due waiting read)))
-  breaks_due read count same at k e (labelled_root none some) = (root_label, refl, ((let first = first_due item n before due waiting read none in first.0), some))
-  breaks_due read count same at k e (root_of_siblings none set) = (root_sibling, refl, ((let first = first_due item n before due waiting read none in first.0), set))
+  breaks_due read count same at k e (labelled_root none some) = (
+    root_label,
+    refl,
+    ((let first = first_due item n before due waiting read none in first.0), some),
+  )
+  breaks_due read count same at k e (root_of_siblings none set) = (
+    root_sibling,
+    refl,
+    ((let first = first_due item n before due waiting read none in first.0), set),
+  )
   breaks_due read count same at k e (no_label later none) = (empty_label, refl, ((λ zero. later (root_due item n before due waiting read zero)), none))
   breaks_due read count same at k e (not_valid h) = (invalid_label, refl, h)
   breaks_due read count same at k e (falling x last sibling h) =
       let label = after_is item n before due waiting read x (subst (λ d. IsLastUpTo before d x) same last) (sibling ∙ same) in
       (sibling_order, refl, (x.label, label, h))
-  breaks_due read count same at k e (bare later value child) = (no_value_no_child, refl, ((λ zero. later (root_due item n before due waiting read zero)), value, child))
+  breaks_due read count same at k e (bare later value child) = (
+    no_value_no_child,
+    refl,
+    ((λ zero. later (root_due item n before due waiting read zero)), value, child),
+  )
   breaks_due read count same at k e (no_value less) = (too_few_values, refl, none_left r.value left (omega (arith, count, marks_more before r, less)))
 
   -- where the level is not the one that is due, its rule is the first that is broken
-  at_other_level : IsRead item n before (due ∷ waiting) → r.level ≢ due.level → (rule : Rule) → BreaksNoneBelow item due left r (number rule) → IsFirstBroken item n before r rule
+  at_other_level : IsRead item n before (due ∷ waiting) → r.level ≢ due.level → (rule : Rule)
+      → BreaksNoneBelow item due left r (number rule) → IsFirstBroken item n before r rule
   at_other_level read other level lower = record {
     broken = λ at. other_level (λ given. other (one_due before r.level due.level given (is_due item n before due waiting read)));
     first = λ at k e less h. omega (arith, less, least_broken item before r n at k e h);
@@ -86,7 +110,8 @@ module _ (item : List ℕ → Type 0) (n left : ℕ) (before : List Record) (due
   at_other_level read other too_few_values lower = absurd (lower level (omega arith) other)
 
   -- the first rule that is broken by what is due is the first that is broken behind the records
-  pub faulty : IsRead item n before (due ∷ waiting) → left + value_marks before ≡ n → (rule : Rule) → BreaksFirst item due left r rule → IsFirstBroken item n before r rule
+  pub faulty : IsRead item n before (due ∷ waiting) → left + value_marks before ≡ n → (rule : Rule)
+      → BreaksFirst item due left r rule → IsFirstBroken item n before r rule
   faulty read count rule b = elim (cases_lt r.level due.level) [
     | inl less ↦ at_other_level read (λ e. omega (arith, less, e)) rule b.1
     | inr least ↦ elim (cases_lt due.level r.level) [
@@ -101,7 +126,8 @@ module _ (item : List ℕ → Type 0) (n left : ℕ) (before : List Record) (due
   ]
 
   -- where no rule is broken the record has no fault
-  pub faultless : IsRead item n before (due ∷ waiting) → left + value_marks before ≡ n → BreaksNone item due left r → IsFaultless item before r n
+  pub faultless : IsRead item n before (due ∷ waiting) → left + value_marks before ≡ n
+      → BreaksNone item due left r → IsFaultless item before r n
   faultless read count fine at k e h =
       let same = same_number r.level due.level (fine level) in
       let found = breaks_due read count same at k e h in

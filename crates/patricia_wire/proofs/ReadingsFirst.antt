@@ -15,15 +15,21 @@ use Rattle.patricia_wire.proofs.Spellings.{record_same}
 
 -- of two lists of records that are read from one input, one begins the other
 data IsAligned (w : ℕ) (P Q : List Record) (x y : List ℕ) : Type 0 where
-  further : (Y : List Record) (z : List ℕ) → Q ≡ P ++ Y → EncodeAll w Y z → x ≡ z ++ y → IsAligned w P Q x y
-  nearer : (s : Record) (S : List Record) (one others : List ℕ) → P ≡ Q ++ (s ∷ S) → Encodes w s one → y ≡ one ++ others → IsAligned w P Q x y
+  further : (Y : List Record) (z : List ℕ) → Q ≡ P ++ Y → EncodeAll w Y z → x ≡ z ++ y
+      → IsAligned w P Q x y
+  nearer : (s : Record) (S : List Record) (one others : List ℕ) → P ≡ Q ++ (s ∷ S) → Encodes w s one
+      → y ≡ one ++ others → IsAligned w P Q x y
 
 -- so they are
-align : (w : ℕ) (P Q : List Record) (p q x y : List ℕ) → EncodeAll w P p → EncodeAll w Q q → p ++ x ≡ q ++ y → IsAligned w P Q x y
+align : (w : ℕ) (P Q : List Record) (p q x y : List ℕ) → EncodeAll w P p → EncodeAll w Q q
+    → p ++ x ≡ q ++ y → IsAligned w P Q x y
 align w [] Q p q x y a b e = further Q q refl b (ap (λ l. l ++ x) (sym a) ∙ e)
-align w (s ∷ P) [] p q x y a b e = nearer s P a.first (a.rest ++ x) refl a.spelled (ap (λ l. l ++ y) (sym b) ∙ sym e ∙ ap (λ l. l ++ x) a.joined ∙ append_assoc a.first a.rest x)
+align w (s ∷ P) [] p q x y a b e = nearer s P a.first (a.rest ++ x) refl a.spelled
+    (ap (λ l. l ++ y) (sym b) ∙ sym e ∙ ap (λ l. l ++ x) a.joined ∙ append_assoc a.first a.rest x)
 align w (r ∷ P) (s ∷ Q) p q x y a b e =
-    let both = record_same w r s a.first b.first (a.rest ++ x) (b.rest ++ y) a.spelled b.spelled (sym (append_assoc a.first a.rest x) ∙ ap (λ l. l ++ x) (sym a.joined) ∙ e ∙ ap (λ l. l ++ y) b.joined ∙ append_assoc b.first b.rest y) in
+    let both = record_same w r s a.first b.first (a.rest ++ x) (b.rest ++ y) a.spelled b.spelled
+    (sym (append_assoc a.first a.rest x) ∙ ap (λ l. l ++ x) (sym a.joined) ∙ e ∙ ap
+    (λ l. l ++ y) b.joined ∙ append_assoc b.first b.rest y) in
     let head = both.0 in
     go head (align w P Q a.rest b.rest x y a.others b.others both.1)
   where
@@ -32,18 +38,23 @@ align w (r ∷ P) (s ∷ Q) p q x y a b e =
     go head (nearer t S one others f spelled g) = nearer t S one others (λ i. head i ∷ f i) spelled g
 
 -- records have bytes
-some_bytes : (w : ℕ) (y : Record) (Y : List Record) (z : List ℕ) → EncodeAll w (y ∷ Y) z → 0 < length z
+some_bytes : (w : ℕ) (y : Record) (Y : List Record) (z : List ℕ) → EncodeAll w (y ∷ Y) z
+    → 0 < length z
 some_bytes w y Y [] s = absurd (not_empty w y s.first s.rest s.spelled s.joined)
 some_bytes w y Y (c ∷ z) s = omega arith
 
 -- what is read further ends later
-compare : (w : ℕ) (b : List ℕ) (P Q : List Record) (o u : ℕ) (x y : List ℕ) (X : Type 0) → Reads w b P o x → Reads w b Q u y → ((s : Record) (S : List Record) (one others : List ℕ) → P ≡ Q ++ (s ∷ S) → Encodes w s one → y ≡ one ++ others → ⊥) → (Q ≡ P → y ≡ x → X) → (o < u) ⊎ ((o ≡ u) × X)
+compare : (w : ℕ) (b : List ℕ) (P Q : List Record) (o u : ℕ) (x y : List ℕ) (X : Type 0)
+    → Reads w b P o x → Reads w b Q u y
+    → ((s : Record) (S : List Record) (one others : List ℕ) → P ≡ Q ++ (s ∷ S) → Encodes w s one → y ≡ one ++ others → ⊥)
+    → (Q ≡ P → y ≡ x → X) → (o < u) ⊎ ((o ≡ u) × X)
 compare w b P Q o u x y X p q none same = go (align w P Q p.read q.read x y p.spelled q.spelled (p.joined ∙ sym q.joined))
   where
     lengths : length p.read + length x ≡ length q.read + length y
     lengths = sym (length-append p.read x) ∙ ap length (p.joined ∙ sym q.joined) ∙ length-append q.read y
 
-    far : (Y : List Record) (z : List ℕ) → Q ≡ P ++ Y → EncodeAll w Y z → x ≡ z ++ y → (o < u) ⊎ ((o ≡ u) × X)
+    far : (Y : List Record) (z : List ℕ) → Q ≡ P ++ Y → EncodeAll w Y z → x ≡ z ++ y
+        → (o < u) ⊎ ((o ≡ u) × X)
     far [] z e spelled f =
         let bytes : x ≡ y = f ∙ ap (λ l. l ++ y) spelled in
         inr (omega (arith, lengths, ap length bytes, p.ends, q.ends), same (e ∙ append-nil P) (sym bytes))
@@ -55,14 +66,17 @@ compare w b P Q o u x y X p q none same = go (align w P Q p.read q.read x y p.sp
 
 module _ (item : List ℕ → Type 0) (n : ℕ) where
   -- no record that was read had a fault
-  none_faulty : (before : List Record) (D : List Due) → IsRead item n before D → (A : List Record) (s : Record) (Z : List Record) → before ≡ A ++ (s ∷ Z) → (at k : ℕ) (f : DecodeError) → Breaks item A s n at k f → ⊥
+  none_faulty : (before : List Record) (D : List Due) → IsRead item n before D
+      → (A : List Record) (s : Record) (Z : List Record) → before ≡ A ++ (s ∷ Z)
+      → (at k : ℕ) (f : DecodeError) → Breaks item A s n at k f → ⊥
   none_faulty before D nothing A s Z e at k f h = nil_split A s Z e
   none_faulty before D (one_more ahead r due waiting read fine) A s Z e at k f h = elim (back_split ahead r A (s ∷ Z) e) [
     | inl none ↦ (let no = none.0 in cc)
     | inr split ↦ go (λ Y same. none_faulty ahead (due ∷ waiting) read A s Y same at k f h) split.0 split.1 split.2
   ]
     where
-      go : ((Y : List Record) → ahead ≡ A ++ (s ∷ Y) → ⊥) → (Y : List Record) → s ∷ Z ≡ Y ++ (r ∷ []) → ahead ≡ A ++ Y → ⊥
+      go : ((Y : List Record) → ahead ≡ A ++ (s ∷ Y) → ⊥) → (Y : List Record)
+          → s ∷ Z ≡ Y ++ (r ∷ []) → ahead ≡ A ++ Y → ⊥
       go earlier [] e split =
           let head : s ≡ r = cc in
           fine at k f (subst (λ B. Breaks item B r n at k f) (sym (split ∙ append-nil A)) (subst (λ (z : Record). Breaks item A z n at k f) head h))
@@ -71,7 +85,9 @@ module _ (item : List ℕ → Type 0) (n : ℕ) where
           earlier Y (split ∙ ap (λ z. A ++ (z ∷ Y)) head)
 
   -- no proper prefix of what was read is a tree
-  none_whole : (before : List Record) (D : List Due) → IsRead item n before D → (P : List Record) (s : Record) (S : List Record) (E : List (List ℕ)) → before ≡ P ++ (s ∷ S) → Root item P E → ⊥
+  none_whole : (before : List Record) (D : List Due) → IsRead item n before D
+      → (P : List Record) (s : Record) (S : List Record) (E : List (List ℕ)) → before ≡ P ++ (s ∷ S)
+      → Root item P E → ⊥
   none_whole before D nothing P s S E e tree = nil_split P s S e
   none_whole before D (one_more ahead r due waiting read fine) P s S E e tree = elim (back_split ahead r P (s ∷ S) e) [
     | inl none ↦ (let no = none.0 in cc)
@@ -82,31 +98,42 @@ module _ (item : List ℕ → Type 0) (n : ℕ) where
     -- a fault of this number stands right behind what was read
     data IsNext (before : List Record) (rest : List ℕ) (k : ℕ) : Type 0 where
       short : k ≡ 2 → IsUnfinished item before → IsCutShort w rest → IsNext before rest k
-      bad : (r : Record) (first more : List ℕ) (at : ℕ) (e : DecodeError) → IsUnfinished item before → rest ≡ first ++ more → Encodes w r first → Breaks item before r n at k e → IsNext before rest k
+      bad : (r : Record) (first more : List ℕ) (at : ℕ) (e : DecodeError) → IsUnfinished item before
+          → rest ≡ first ++ more → Encodes w r first → Breaks item before r n at k e
+          → IsNext before rest k
       over : (E : List (List ℕ)) → k ≡ 11 → Root item before E → rest ≢ [] → IsNext before rest k
       many : (E : List (List ℕ)) → k ≡ 12 → Root item before E → rest ≡ [] → IsNext before rest k
 
     -- a fault stands past what was read or right behind it
-    place : (before : List Record) (D : List Due) (offset : ℕ) (rest : List ℕ) → IsRead item n before D → Reads w b before offset rest → (k other : ℕ) (f : DecodeError) → Stands item w b n k other f → (offset < other) ⊎ ((offset ≡ other) × IsNext before rest k)
+    place : (before : List Record) (D : List Due) (offset : ℕ) (rest : List ℕ)
+        → IsRead item n before D → Reads w b before offset rest → (k other : ℕ) (f : DecodeError)
+        → Stands item w b n k other f → (offset < other) ⊎ ((offset ≡ other) × IsNext before rest k)
     place before D offset rest read reads k other f (cut_short ahead more found unfinished cut) =
         compare w b before ahead offset other rest more (IsNext before rest k) reads found
         (λ s S one others e spelled g. enough w s one others spelled (subst (IsCutShort w) g cut))
         (λ same bytes. short refl (subst (IsUnfinished item) same unfinished) (subst (IsCutShort w) bytes cut))
     place before D offset rest read reads k other f (in_record ahead r first more found unfinished spells broken) =
         compare w b before ahead offset other rest (first ++ more) (IsNext before rest k) reads found
-        (λ s S one others e spelled g. (let both = record_same w r s first one more others spells spelled g in none_faulty before D read ahead r S (e ∙ ap (λ z. ahead ++ (z ∷ S)) (sym both.0)) other k f broken))
-        (λ same bytes. bad r first more other f (subst (IsUnfinished item) same unfinished) (sym bytes) spells (subst (λ B. Breaks item B r n other k f) same broken))
+        (λ s S one others e spelled g.
+        (let both = record_same w r s first one more others spells spelled g in none_faulty
+        before D read ahead r S (e ∙ ap (λ z. ahead ++ (z ∷ S)) (sym both.0)) other k f broken))
+        (λ same bytes. bad r first more other f (subst (IsUnfinished item) same unfinished)
+        (sym bytes) spells (subst (λ B. Breaks item B r n other k f) same broken))
     place before D offset rest read reads k other f (trailing R E more found tree some) =
         compare w b before R offset other rest more (IsNext before rest k) reads found
         (λ s S one others e spelled g. none_whole before D read R s S E e tree)
         (λ same bytes. over E refl (subst (λ B. Root item B E) same tree) (subst (λ l. l ≢ []) bytes some))
     place before D offset rest read reads k other f (too_many R E spelled tree less) =
-        compare w b before R offset (length b) rest [] (IsNext before rest 12) reads (record { read = b; spelled = spelled; joined = append-nil b; ends = refl })
+        compare w b before R offset (length b) rest [] (IsNext before rest 12) reads
+        (record { read = b; spelled = spelled; joined = append-nil b; ends = refl })
         (λ s S one others e spelled g. none_whole before D read R s S E e tree)
         (λ same bytes. many E refl (subst (λ B. Root item B E) same tree) (sym bytes))
 
     -- a fault that stands is the first, where those right behind what was read have no lower number
-    first_of : (before : List Record) (D : List Due) (offset : ℕ) (rest : List ℕ) → IsRead item n before D → Reads w b before offset rest → (k : ℕ) (e : DecodeError) → Stands item w b n k offset e → ((j : ℕ) → IsNext before rest j → k ≤ j) → IsFirst item w b n e
+    first_of : (before : List Record) (D : List Due) (offset : ℕ) (rest : List ℕ)
+        → IsRead item n before D → Reads w b before offset rest → (k : ℕ) (e : DecodeError)
+        → Stands item w b n k offset e → ((j : ℕ) → IsNext before rest j → k ≤ j)
+        → IsFirst item w b n e
     first_of before D offset rest read reads k e stands least = record {
       number = k;
       at = offset;
@@ -118,9 +145,14 @@ module _ (item : List ℕ → Type 0) (n : ℕ) where
     }
 
     -- the first fault of the record that is read next
-    pub first_in_record : (before : List Record) (due : Due) (waiting : List Due) (offset : ℕ) (r : Record) (bytes rest : List ℕ) (rule : Rule) → IsRead item n before (due ∷ waiting) → Reads w b before offset (bytes ++ rest) → Encodes w r bytes → IsFirstBroken item n before r rule → IsFirst item w b n (error_at offset rule)
+    pub first_in_record : (before : List Record) (due : Due) (waiting : List Due) (offset : ℕ)
+        (r : Record) (bytes rest : List ℕ) (rule : Rule) → IsRead item n before (due ∷ waiting)
+        → Reads w b before offset (bytes ++ rest) → Encodes w r bytes
+        → IsFirstBroken item n before r rule → IsFirst item w b n (error_at offset rule)
     first_in_record before due waiting offset r bytes rest rule read reads spells broken =
-        first_of before (due ∷ waiting) offset (bytes ++ rest) read reads (number rule) (error_at offset rule) (in_record before r bytes rest reads begun spells (broken.broken offset)) least
+        first_of before (due ∷ waiting) offset (bytes ++ rest) read reads (number rule)
+        (error_at offset rule)
+        (in_record before r bytes rest reads begun spells (broken.broken offset)) least
       where
         begun : IsUnfinished item before
         begun = unfinished item n before due waiting read
@@ -137,9 +169,13 @@ module _ (item : List ℕ → Type 0) (n : ℕ) where
         least j (many E e tree none) = absurd (begun before [] E (sym (append-nil before)) tree)
 
     -- bytes that end within a record
-    pub first_cut_short : (before : List Record) (due : Due) (waiting : List Due) (offset : ℕ) (rest : List ℕ) → IsRead item n before (due ∷ waiting) → Reads w b before offset rest → IsCutShort w rest → IsFirst item w b n (Truncated offset)
+    pub first_cut_short :
+        (before : List Record) (due : Due) (waiting : List Due) (offset : ℕ) (rest : List ℕ)
+        → IsRead item n before (due ∷ waiting) → Reads w b before offset rest → IsCutShort w rest
+        → IsFirst item w b n (Truncated offset)
     first_cut_short before due waiting offset rest read reads cut =
-        first_of before (due ∷ waiting) offset rest read reads 2 (Truncated offset) (cut_short before rest reads (unfinished item n before due waiting read) cut) least
+        first_of before (due ∷ waiting) offset rest read reads 2 (Truncated offset)
+        (cut_short before rest reads (unfinished item n before due waiting read) cut) least
       where
         least : (j : ℕ) → IsNext before rest j → 2 ≤ j
         least j (short e begun cut) = omega (arith, e)
@@ -148,7 +184,9 @@ module _ (item : List ℕ → Type 0) (n : ℕ) where
         least j (many E e tree none) = omega (arith, e)
 
     -- bytes behind a tree
-    pub first_trailing : (R : List Record) (offset : ℕ) (rest : List ℕ) (E : List (List ℕ)) → IsRead item n R [] → Reads w b R offset rest → Root item R E → rest ≢ [] → IsFirst item w b n (TrailingBytes offset)
+    pub first_trailing : (R : List Record) (offset : ℕ) (rest : List ℕ) (E : List (List ℕ))
+        → IsRead item n R [] → Reads w b R offset rest → Root item R E → rest ≢ []
+        → IsFirst item w b n (TrailingBytes offset)
     first_trailing R offset rest E read reads tree some =
         first_of R [] offset rest read reads 11 (TrailingBytes offset) (trailing R E rest reads tree some) least
       where
@@ -159,9 +197,12 @@ module _ (item : List ℕ → Type 0) (n : ℕ) where
         least j (many F e other none) = absurd (some none)
 
     -- values that no record takes
-    pub first_too_many : (R : List Record) (E : List (List ℕ)) → IsRead item n R [] → EncodeAll w R b → Root item R E → value_marks R < n → IsFirst item w b n TooManyValues
+    pub first_too_many : (R : List Record) (E : List (List ℕ)) → IsRead item n R []
+        → EncodeAll w R b → Root item R E → value_marks R < n → IsFirst item w b n TooManyValues
     first_too_many R E read spelled tree less =
-        first_of R [] (length b) [] read (record { read = b; spelled = spelled; joined = append-nil b; ends = refl }) 12 TooManyValues (too_many R E spelled tree less) least
+        first_of R [] (length b) [] read
+        (record { read = b; spelled = spelled; joined = append-nil b; ends = refl }) 12
+        TooManyValues (too_many R E spelled tree less) least
       where
         least : (j : ℕ) → IsNext R [] j → 12 ≤ j
         least j (short e begun cut) = absurd (begun R [] E (sym (append-nil R)) tree)

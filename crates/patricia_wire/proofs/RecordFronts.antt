@@ -26,18 +26,22 @@ number_below (x ∷ l) all =
     subst (λ p. x * 256 ^ length l + number_of l < p) (sym (pow-suc 256 (length l))) less
 
 -- the byte that stands before so many others
-byte_before : (k x high low n : ℕ) → x < 256 → low < 256 ^ k → n ≡ (high * 256 + x) * 256 ^ k + low → byte_at k n ≡ x
+byte_before : (k x high low n : ℕ) → x < 256 → low < 256 ^ k → n ≡ (high * 256 + x) * 256 ^ k + low
+    → byte_at k n ≡ x
 byte_before zero x high low n small below is = omega (arith, small, below, is)
 byte_before (suc k) x high low n small below is =
     ap (λ m. m / 256 ^ suc k % 256) is ∙ ap (λ m. m % 256) (div-mul-add (high * 256 + x) (256 ^ suc k) low below) ∙ mod-mul-add high 256 x small
 
-high_first : (l : List ℕ) → AreBytes l → (high n : ℕ) → n ≡ high * 256 ^ length l + number_of l → bytes_high_first (length l) n ≡ l
+high_first : (l : List ℕ) → AreBytes l → (high n : ℕ) → n ≡ high * 256 ^ length l + number_of l
+    → bytes_high_first (length l) n ≡ l
 unfolding number_of
 high_first [] all high n is = refl
 high_first (x ∷ l) all high n is =
     let rest = All-tail (λ b. b < 256) x l all in
     let power = pow-suc 256 (length l) in
-    let parts : n ≡ (high * 256 + x) * 256 ^ length l + number_of l = is ∙ ap (λ p. high * p + (x * 256 ^ length l + number_of l)) power ∙ regroup high (256 ^ length l) x (number_of l) in
+    let parts : n ≡ (high * 256 + x) * 256 ^ length l + number_of l = is ∙ ap
+    (λ p. high * p + (x * 256 ^ length l + number_of l)) power ∙ regroup high
+    (256 ^ length l) x (number_of l) in
     let head = byte_before (length l) x high (number_of l) n (All-head (λ b. b < 256) x l all) (number_below l rest) parts in
     let tails = high_first l rest (high * 256 + x) n parts in
     λ i. head i ∷ tails i
@@ -58,7 +62,8 @@ pub record Fronts (w : ℕ) (r : Record) (bytes : List ℕ) : Type 0 where
   pub fewer : length rest < length bytes
 
 -- the record whose head is these bytes and whose label is the next ones
-fronts : (w f n : ℕ) (l : List ℕ) → AreBytes (f ∷ n ∷ l) → w + n ≤ length l → (r : Record) × Fronts w r (f ∷ n ∷ l)
+fronts : (w f n : ℕ) (l : List ℕ) → AreBytes (f ∷ n ∷ l) → w + n ≤ length l
+    → (r : Record) × Fronts w r (f ∷ n ∷ l)
 fronts w f n l all enough = (
   r,
   record {
@@ -66,7 +71,12 @@ fronts w f n l all enough = (
     rest = more;
     spelled = record {
       flags = f;
-      marks = record { in_a_byte = All-head (λ b. b < 256) f (n ∷ l) all; value = tested_bit (bit_and f 2); child = tested_bit (bit_and f 8); sibling = tested_bit (bit_and f 32) };
+      marks = record {
+        in_a_byte = All-head (λ b. b < 256) f (n ∷ l) all;
+        value = tested_bit (bit_and f 2);
+        child = tested_bit (bit_and f 8);
+        sibling = tested_bit (bit_and f 32);
+      };
       room = record {
         level = subst (λ k. number_of levels < 256 ^ k) wide (number_below levels (All-take (λ b. b < 256) w l bytes));
         label = omega (arith, long, All-head (λ b. b < 256) n l (All-tail (λ b. b < 256) f (n ∷ l) all));
@@ -98,16 +108,24 @@ fronts w f n l all enough = (
     long = omega (arith, length-take n (drop w l), length-drop w l, enough)
 
     r : Record
-    r = record { level = number_of levels; label = label; value = not (nat_eq (bit_and f 2) 0); child = not (nat_eq (bit_and f 8) 0); sibling = not (nat_eq (bit_and f 32) 0) }
+    r = record {
+      level = number_of levels;
+      label = label;
+      value = not (nat_eq (bit_and f 2) 0);
+      child = not (nat_eq (bit_and f 8) 0);
+      sibling = not (nat_eq (bit_and f 32) 0);
+    }
 
     level : bytes_high_first w (number_of levels) ≡ levels
-    level = ap (λ k. bytes_high_first k (number_of levels)) (sym wide) ∙ high_first levels (All-take (λ b. b < 256) w l bytes) 0 (number_of levels) (omega arith)
+    level = ap (λ k. bytes_high_first k (number_of levels)) (sym wide) ∙ high_first levels
+        (All-take (λ b. b < 256) w l bytes) 0 (number_of levels) (omega arith)
 
     whole : (levels ++ label) ++ more ≡ l
     whole = append_assoc levels label more ∙ ap (λ x. levels ++ x) (take-append-drop n (drop w l)) ∙ take-append-drop w l
 
 -- too few bytes are left for a record, or they begin with one
-pub cut_or_fronts : (w : ℕ) (b : List ℕ) → All (λ x. x < 256) b → IsCutShort w b ⊎ ((r : Record) × Fronts w r b)
+pub cut_or_fronts : (w : ℕ) (b : List ℕ) → All (λ x. x < 256) b
+    → IsCutShort w b ⊎ ((r : Record) × Fronts w r b)
 cut_or_fronts w [] all = inl (inl (omega arith))
 cut_or_fronts w (f ∷ []) all = inl (inl (omega arith))
 cut_or_fronts w (f ∷ n ∷ l) all = elim (cases_lt (length l) (w + n)) [

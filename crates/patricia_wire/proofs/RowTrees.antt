@@ -23,7 +23,8 @@ module _ {V : Type 0} where
   keys_of-append [] ys = refl
   keys_of-append (x ∷ xs) ys = ap (λ r. x.0 ∷ r) (keys_of-append xs ys)
 
-  keys_of-prefixed : (p : List ℕ) (xs : List (List ℕ × V)) → keys_of (prefixed p xs) ≡ behind p (keys_of xs)
+  keys_of-prefixed : (p : List ℕ) (xs : List (List ℕ × V))
+      → keys_of (prefixed p xs) ≡ behind p (keys_of xs)
   keys_of-prefixed p [] = refl
   keys_of-prefixed p (x ∷ xs) = ap (λ r. (p ++ x.0) ∷ r) (keys_of-prefixed p xs)
 
@@ -32,22 +33,26 @@ module _ {V : Type 0} where
   keys_of-own (Some x) = refl
 
   -- the keys of a value and of what lies below it
-  keys_inside : (v : Option V) (c : Siblings V) → keys_of (own v ++ entries c) ≡ own_key (is_some v) ++ keys_of (entries c)
+  keys_inside : (v : Option V) (c : Siblings V)
+      → keys_of (own v ++ entries c) ≡ own_key (is_some v) ++ keys_of (entries c)
   keys_inside v c = keys_of-append (own v) (entries c) ∙ ap (λ k. k ++ keys_of (entries c)) (keys_of-own v)
 
   -- the keys of a node and of what lies beside it
-  keys_of-node : (l : List ℕ) (v : Option V) (c s : Siblings V) → keys_of (entries (node l v c s)) ≡ behind l (own_key (is_some v) ++ keys_of (entries c)) ++ keys_of (entries s)
+  keys_of-node : (l : List ℕ) (v : Option V) (c s : Siblings V)
+      → keys_of (entries (node l v c s)) ≡ behind l (own_key (is_some v) ++ keys_of (entries c)) ++ keys_of (entries s)
   keys_of-node l v c s =
       keys_of-append (prefixed l (own v ++ entries c)) (entries s)
       ∙ ap (λ k. k ++ keys_of (entries s)) (keys_of-prefixed l (own v ++ entries c) ∙ ap (behind l) (keys_inside v c))
 
 module _ (item : List ℕ → Type 0) {V : Type 0} where
-  before_first : (d : ℕ) (l : List ℕ) (s : Siblings V) → IsBeforeSiblings item l s → IsBeforeFirst item l (records_of d s)
+  before_first : (d : ℕ) (l : List ℕ) (s : Siblings V) → IsBeforeSiblings item l s
+      → IsBeforeFirst item l (records_of d s)
   before_first d l end before = tt
   before_first d l (node m v c s) before = before
 
   -- the records of a writable row are a forest, or none
-  forest_of : (d : ℕ) (r : Siblings V) → IsWritable item r → ForestIf item (has_node r) d (records_of d r) (keys_of (entries r))
+  forest_of : (d : ℕ) (r : Siblings V) → IsWritable item r
+      → ForestIf item (has_node r) d (records_of d r) (keys_of (entries r))
   forest_of d end ok = absent refl refl refl
   forest_of d (node l v c s) ok =
       present refl (forest (record_of d l v c s) (records_of (d + 1) c) (records_of d s) (keys_of (entries c)) (keys_of (entries s))
@@ -55,7 +60,8 @@ module _ (item : List ℕ → Type 0) {V : Type 0} where
       (forest_of (d + 1) c ok.child) (forest_of d s ok.sibling) (before_first d l s ok.rises) refl (keys_of-node l v c s))
 
   -- the records of writable siblings are a tree
-  pub tree_of : (v : Option V) (r : Siblings V) → IsWritable item r → Root item (tree_records v r) (keys_of (own v ++ entries r))
+  pub tree_of : (v : Option V) (r : Siblings V) → IsWritable item r
+      → Root item (tree_records v r) (keys_of (own v ++ entries r))
   tree_of v r ok = record {
     root = record_of 0 [] v r end;
     children = records_of 1 r;
@@ -77,16 +83,29 @@ module _ (item : List ℕ → Type 0) where
     keys : keys_of (entries row) ≡ E
     ok : IsWritable item row
 
-  rises_of : (d : ℕ) (l : List ℕ) (s : Siblings Nothing) → IsBeforeFirst item l (records_of d s) → IsBeforeSiblings item l s
+  rises_of : (d : ℕ) (l : List ℕ) (s : Siblings Nothing) → IsBeforeFirst item l (records_of d s)
+      → IsBeforeSiblings item l s
   rises_of d l end before = tt
   rises_of d l (node m v c s) before = before
 
-  stands_node : (d : ℕ) (R : List Record) (E : List (List ℕ)) (r : Record) (C X : List Record) (Ec Ex : List (List ℕ)) → IsInner item d r → Stands r.child (d + 1) C Ec → Stands r.sibling d X Ex → IsBeforeFirst item r.label X → R ≡ r ∷ (C ++ X) → E ≡ behind r.label (own_key r.value ++ Ec) ++ Ex → Stands true d R E
+  stands_node : (d : ℕ) (R : List Record) (E : List (List ℕ)) (r : Record) (C X : List Record)
+      (Ec Ex : List (List ℕ)) → IsInner item d r → Stands r.child (d + 1) C Ec
+      → Stands r.sibling d X Ex → IsBeforeFirst item r.label X → R ≡ r ∷ (C ++ X)
+      → E ≡ behind r.label (own_key r.value ++ Ec) ++ Ex → Stands true d R E
   stands_node d R E r C X Ec Ex inner child sibling before eR eE = record {
     row = node r.label (mark_value r.value) child.row sibling.row;
     there = refl;
-    records = (λ i. record { level = sym inner.level i; label = r.label; value = is_some-mark r.value i; child = child.there i; sibling = sibling.there i } ∷ (child.records i ++ sibling.records i)) ∙ sym eR;
-    keys = keys_of-node r.label (mark_value r.value) child.row sibling.row ∙ (λ i. behind r.label (own_key (is_some-mark r.value i) ++ child.keys i) ++ sibling.keys i) ∙ sym eE;
+    records =
+        (λ i. record {
+          level = sym inner.level i;
+          label = r.label;
+          value = is_some-mark r.value i;
+          child = child.there i;
+          sibling = sibling.there i;
+        } ∷ (child.records i ++ sibling.records i)) ∙ sym eR;
+    keys = keys_of-node r.label (mark_value r.value) child.row sibling.row ∙
+        (λ i. behind r.label (own_key (is_some-mark r.value i) ++ child.keys i) ++ sibling.keys i)
+        ∙ sym eE;
     ok = record {
       valid = inner.valid;
       nonempty = inner.nonempty;
@@ -106,7 +125,8 @@ module _ (item : List ℕ → Type 0) where
     stands d R E (forest r C X Ec Ex inner child sibling before eR eE) =
         stands_node d R E r C X Ec Ex inner (stands_if r.child (d + 1) C Ec child) (stands_if r.sibling d X Ex sibling) before eR eE
 
-    stands_if : (mark : Bool) (d : ℕ) (R : List Record) (E : List (List ℕ)) → ForestIf item mark d R E → Stands mark d R E
+    stands_if : (mark : Bool) (d : ℕ) (R : List Record) (E : List (List ℕ))
+        → ForestIf item mark d R E → Stands mark d R E
     stands_if mark d R E (absent unset eR eE) = record { row = end; there = sym unset; records = sym eR; keys = sym eE; ok = tt }
     stands_if mark d R E (present is_set f) = subst (λ m. Stands m d R E) (sym is_set) (stands d R E f)
 
@@ -131,5 +151,14 @@ module _ (item : List ℕ → Type 0) where
         keys = keys_inside (mark_value v) below.row ∙ (let keys = below.keys in λ i. own_key (is_some-mark v i) ++ keys i) ∙ sym tree.all_keys;
       }
     where
-      same : (row : Siblings Nothing) → has_node row ≡ tree.root.child → records_of 1 row ≡ tree.children → tree_records (mark_value tree.root.value) row ≡ R
-      same row there records = (λ i. record { level = sym tree.level i; label = sym tree.label i; value = is_some-mark tree.root.value i; child = there i; sibling = sym tree.sibling i } ∷ records i) ∙ sym tree.records
+      same : (row : Siblings Nothing) → has_node row ≡ tree.root.child
+          → records_of 1 row ≡ tree.children → tree_records (mark_value tree.root.value) row ≡ R
+      same row there records =
+          (λ i. record {
+            level = sym tree.level i;
+            label = sym tree.label i;
+            value = is_some-mark
+                tree.root.value i;
+            child = there i;
+            sibling = sym tree.sibling i;
+          } ∷ records i) ∙ sym tree.records

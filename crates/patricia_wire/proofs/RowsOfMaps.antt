@@ -45,9 +45,30 @@ module _ (item : List ℕ → Type 0) (kind : IsKeyKind item) where
   no_item [] k none is begun = item-nonempty item kind [] is refl
   no_item (x ∷ i) k none is begun = absurd (let h : (x ∷ i) ++ begun.0 ≡ [] = begun.1 ∙ none in cc)
 
-  parted : (is js : List (List ℕ)) → AllByRecursion item is → AllByRecursion item js → Parts (concat is) (concat js)
-  parted [] js p q = record { front = []; key_rest = []; label_rest = concat js; key = refl; label = refl; front_valid = IsValid-nil item; key_valid = IsValid-nil item; label_valid = (js, q, refl); apart = λ share. no_item share.shared [] refl share.is_item share.begins_first }
-  parted (i ∷ is) [] p q = record { front = []; key_rest = concat (i ∷ is); label_rest = []; key = refl; label = refl; front_valid = IsValid-nil item; key_valid = (i ∷ is, p, refl); label_valid = IsValid-nil item; apart = λ share. no_item share.shared [] refl share.is_item share.begins_second }
+  parted : (is js : List (List ℕ)) → AllByRecursion item is → AllByRecursion item js
+      → Parts (concat is) (concat js)
+  parted [] js p q = record {
+    front = [];
+    key_rest = [];
+    label_rest = concat js;
+    key = refl;
+    label = refl;
+    front_valid = IsValid-nil item;
+    key_valid = IsValid-nil item;
+    label_valid = (js, q, refl);
+    apart = λ share. no_item share.shared [] refl share.is_item share.begins_first;
+  }
+  parted (i ∷ is) [] p q = record {
+    front = [];
+    key_rest = concat (i ∷ is);
+    label_rest = [];
+    key = refl;
+    label = refl;
+    front_valid = IsValid-nil item;
+    key_valid = (i ∷ is, p, refl);
+    label_valid = IsValid-nil item;
+    apart = λ share. no_item share.shared [] refl share.is_item share.begins_second;
+  }
   parted (i ∷ is) (j ∷ js) p q = by (key_cmp i j) refl (parted is js p.1 q.1)
     where
       different : (key_cmp i j ≡ Equal → ⊥) → Parts (concat (i ∷ is)) (concat (j ∷ js))
@@ -66,7 +87,8 @@ module _ (item : List ℕ → Type 0) (kind : IsKeyKind item) where
             other (ap (key_cmp i) (sym second ∙ first) ∙ key_cmp-same i);
       }
 
-      by : (r : Ordering) → key_cmp i j ≡ r → Parts (concat is) (concat js) → Parts (concat (i ∷ is)) (concat (j ∷ js))
+      by : (r : Ordering) → key_cmp i j ≡ r → Parts (concat is) (concat js)
+          → Parts (concat (i ∷ is)) (concat (j ∷ js))
       by Less e rest = different (λ f. cc)
       by Greater e rest = different (λ f. cc)
       by Equal e rest = record {
@@ -85,7 +107,8 @@ module _ (item : List ℕ → Type 0) (kind : IsKeyKind item) where
   parts q l v w = subst (λ k. Parts k l) v.2 (subst (Parts (concat v.0)) w.2 (parted v.0 w.0 v.1 w.1))
 
   -- of two keys that share no first item one comes first
-  either_before : (a b : List ℕ) → IsValid item a → IsValid item b → a ≢ [] → b ≢ [] → (SharesItem item a b → ⊥) → IsBefore item a b ⊎ IsBefore item b a
+  either_before : (a b : List ℕ) → IsValid item a → IsValid item b → a ≢ [] → b ≢ []
+      → (SharesItem item a b → ⊥) → IsBefore item a b ⊎ IsBefore item b a
   either_before a b v w some other apart = by (key_cmp first.0 second.0) refl
     where
       first : (i : List ℕ) × (item i) × Begins i a
@@ -95,9 +118,35 @@ module _ (item : List ℕ → Type 0) (kind : IsKeyKind item) where
       second = first_of item b w other
 
       by : (r : Ordering) → key_cmp first.0 second.0 ≡ r → IsBefore item a b ⊎ IsBefore item b a
-      by Less e = inl (record { first = first.0; second = second.0; first_item = first.1; second_item = second.1; first_begins = first.2; second_begins = second.2; less = e })
-      by Equal e = absurd (apart (record { shared = first.0; is_item = first.1; begins_first = first.2; begins_second = subst (λ i. Begins i b) (sym (key_cmp-equal first.0 second.0 e)) second.2 }))
-      by Greater e = inr (record { first = second.0; second = first.0; first_item = second.1; second_item = first.1; first_begins = second.2; second_begins = first.2; less = nat_list_cmp_total.antisymm second.0 first.0 ∙ ap ordering_reverse e })
+      by Less e = inl
+          (record {
+            first = first.0;
+            second = second.0;
+            first_item = first.1;
+            second_item =
+                second.1;
+            first_begins = first.2;
+            second_begins = second.2;
+            less = e;
+          })
+      by Equal e = absurd
+          (apart (record {
+            shared = first.0;
+            is_item = first.1;
+            begins_first = first.2;
+            begins_second = subst (λ i. Begins i b) (sym (key_cmp-equal first.0 second.0 e)) second.2;
+          }))
+      by Greater e = inr
+          (record {
+            first = second.0;
+            second = first.0;
+            first_item = second.1;
+            second_item =
+                first.1;
+            first_begins = second.2;
+            second_begins = first.2;
+            less = nat_list_cmp_total.antisymm second.0 first.0 ∙ ap ordering_reverse e;
+          })
 
   empty_or_not : (k : List ℕ) → (k ≡ []) ⊎ (k ≢ [])
   empty_or_not [] = inl refl
@@ -110,44 +159,114 @@ module _ (item : List ℕ → Type 0) (kind : IsKeyKind item) where
       ok : IsCanonical item row
       put : entries row ≡ put key_cmp q x (entries r)
 
-    grown : (q : List ℕ) (x : V) (r : Siblings V) → IsValid item q → q ≢ [] → IsCanonical item r → Grown q x r
-    grown q x end valid nonempty ok = record { row = node q (Some x) end end; ok = record { valid = valid; nonempty = nonempty; fits = tt; earns = tt; rises = tt; child = tt; sibling = tt }; put = single item kind x q }
+    grown : (q : List ℕ) (x : V) (r : Siblings V) → IsValid item q → q ≢ [] → IsCanonical item r
+        → Grown q x r
+    grown q x end valid nonempty ok = record {
+      row = node q (Some x) end end;
+      ok = record {
+        valid = valid;
+        nonempty = nonempty;
+        fits = tt;
+        earns = tt;
+        rises = tt;
+        child = tt;
+        sibling = tt;
+      };
+      put = single item kind x q;
+    }
     grown q x (node l v c s) valid nonempty ok = go (parts q l valid ok.valid) (λ t v some. grown t x c v some ok.child) (grown q x s valid nonempty ok.sibling)
       where
         before : IsBefore item q l → Grown q x (node l v c s)
-        before b = record { row = node q (Some x) end (node l v c s); ok = record { valid = valid; nonempty = nonempty; fits = tt; earns = tt; rises = b; child = tt; sibling = ok }; put = put_before item kind x l v c s ok q b }
+        before b = record {
+          row = node q (Some x) end (node l v c s);
+          ok = record {
+            valid = valid;
+            nonempty = nonempty;
+            fits = tt;
+            earns = tt;
+            rises = b;
+            child = tt;
+            sibling = ok;
+          };
+          put = put_before item kind x l v c s ok q b;
+        }
 
         past : IsBefore item l q → Grown q x s → Grown q x (node l v c s)
-        past b rest = record { row = node l v c rest.row; ok = row_past item kind x l v c s ok q rest.row b rest.ok rest.put; put = put_past item kind x l v c s ok q rest.row b rest.put }
+        past b rest = record {
+          row = node l v c rest.row;
+          ok = row_past item kind x l v c s ok q rest.row b rest.ok rest.put;
+          put = put_past item kind x l v c s ok q rest.row b rest.put;
+        }
 
         -- the label begins the key
-        through : (t : List ℕ) → l ++ t ≡ q → IsValid item t → (t ≢ [] → Grown t x c) → Grown q x (node l v c s)
+        through : (t : List ℕ) → l ++ t ≡ q → IsValid item t → (t ≢ [] → Grown t x c)
+            → Grown q x (node l v c s)
         through t e t_valid deeper = elim (empty_or_not t) [
-          | inl none ↦ record { row = node l (Some x) c s; ok = row_valued item kind x l v c s ok; put = put_front item kind x l v c s ok.sibling ok.rises q t (Some x) c e (put_own item kind x v c ok.child ∙ ap (λ k. put key_cmp k x (own v ++ entries c)) (sym none)) }
-          | inr some ↦ (let below = deeper some in record { row = node l v below.row s; ok = row_child item kind x l v c s ok t below.row below.ok below.put; put = put_front item kind x l v c s ok.sibling ok.rises q t v below.row e (put_child item kind x t v c below.row some below.put) })
+          | inl none ↦ record {
+            row = node l (Some x) c s;
+            ok = row_valued item kind x l v c s ok;
+            put = put_front item kind x l v c s ok.sibling ok.rises q t (Some x) c e
+                (put_own item kind x v c ok.child ∙ ap (λ k. put key_cmp k x (own v ++ entries c))
+                (sym none));
+          }
+          | inr some ↦
+              (let below = deeper some in
+              record {
+                row = node l v below.row s;
+                ok = row_child item kind x l v c s ok t below.row below.ok below.put;
+                put = put_front item kind x l v c s ok.sibling ok.rises q t v below.row e
+                    (put_child item kind x t v c below.row some below.put);
+              })
         ]
 
         -- the key leaves the label, or ends within it
         into : (p t d : List ℕ) → Divides item q l p t d → Grown q x (node l v c s)
         into p t d div = elim (empty_or_not t) [
-          | inl none ↦ record { row = node p (Some x) (node d v c end) s; ok = ends_at_cut item kind x l v c s ok q p t d div none; put = put_at_cut item kind x l v c s ok q p t d div none }
+          | inl none ↦ record {
+            row = node p (Some x) (node d v c end) s;
+            ok = ends_at_cut item kind x l v c s ok q p t d div none;
+            put = put_at_cut item kind x l v c s ok q p t d div none;
+          }
           | inr some ↦ elim (either_before t d div.key_valid div.label_valid some div.label_nonempty div.apart) [
-            | inl b ↦ record { row = node p None (node t (Some x) end (node d v c end)) s; ok = row_before_cut item kind x l v c s ok q p t d div some b; put = put_before_cut item kind x l v c s ok q p t d div b }
-            | inr b ↦ record { row = node p None (node d v c (node t (Some x) end end)) s; ok = row_after_cut item kind x l v c s ok q p t d div some b; put = put_after_cut item kind x l v c s ok q p t d div b }
+            | inl b ↦ record {
+              row = node p None (node t (Some x) end (node d v c end)) s;
+              ok = row_before_cut item kind x l v c s ok q p t d div some b;
+              put = put_before_cut item kind x l v c s ok q p t d div b;
+            }
+            | inr b ↦ record {
+              row = node p None (node d v c (node t (Some x) end end)) s;
+              ok = row_after_cut item kind x l v c s ok q p t d div some b;
+              put = put_after_cut item kind x l v c s ok q p t d div b;
+            }
           ]
         ]
 
-        go : Parts q l → ((t : List ℕ) → IsValid item t → t ≢ [] → Grown t x c) → Grown q x s → Grown q x (node l v c s)
+        go : Parts q l → ((t : List ℕ) → IsValid item t → t ≢ [] → Grown t x c) → Grown q x s
+            → Grown q x (node l v c s)
         go m below beside = elim (empty_or_not m.label_rest) [
           | inl none ↦
               let whole : l ≡ m.front = sym m.label ∙ ap (λ d. m.front ++ d) none ∙ append-nil m.front in
               through m.key_rest (ap (λ k. k ++ m.key_rest) whole ∙ m.key) m.key_valid (below m.key_rest m.key_valid)
           | inr some ↦ elim (empty_or_not m.front) [
-            | inr front ↦ into m.front m.key_rest m.label_rest (record { key = m.key; label = m.label; front_valid = m.front_valid; front_filled = front; key_valid = m.key_valid; label_valid = m.label_valid; label_nonempty = some; apart = m.apart })
+            | inr front ↦ into m.front m.key_rest m.label_rest
+                (record {
+                  key = m.key;
+                  label = m.label;
+                  front_valid = m.front_valid;
+                  front_filled =
+                      front;
+                  key_valid = m.key_valid;
+                  label_valid = m.label_valid;
+                  label_nonempty = some;
+                  apart = m.apart;
+                })
             | inl none ↦
                 let key : m.key_rest ≡ q = ap (λ p. p ++ m.key_rest) (sym none) ∙ m.key in
                 let label : m.label_rest ≡ l = ap (λ p. p ++ m.label_rest) (sym none) ∙ m.label in
-                elim (either_before q l valid ok.valid nonempty ok.nonempty (λ share. m.apart (subst (λ k. SharesItem item k m.label_rest) (sym key) (subst (SharesItem item q) (sym label) share)))) [
+                elim (either_before q l valid ok.valid nonempty ok.nonempty
+                (λ share. m.apart
+                (subst (λ k. SharesItem item k m.label_rest) (sym key)
+                (subst (SharesItem item q) (sym label) share)))) [
                   | inl b ↦ before b
                   | inr b ↦ past b beside
                 ]
@@ -170,21 +289,39 @@ module _ (item : List ℕ → Type 0) (kind : IsKeyKind item) where
       pub ok : IsCanonical item row
       pub same : own value ++ entries row ≡ es
 
-    one_more : (k : List ℕ) (x : V) (es : List (List ℕ × V)) → IsValid item k → IsBelow k es → Holds es → Holds ((k, x) ∷ es)
+    one_more : (k : List ℕ) (x : V) (es : List (List ℕ × V)) → IsValid item k → IsBelow k es
+        → Holds es → Holds ((k, x) ∷ es)
     one_more k x es valid below held = elim (empty_or_not k) [
-      | inl none ↦ record { value = Some x; row = held.row; ok = held.ok; same = put_own item kind x held.value held.row held.ok ∙ ap (λ q. put key_cmp q x (own held.value ++ entries held.row)) (sym none) ∙ whole }
-      | inr some ↦ (let more = grown k x held.row valid some held.ok in record { value = held.value; row = more.row; ok = more.ok; same = put_child item kind x k held.value held.row more.row some more.put ∙ whole })
+      | inl none ↦ record {
+        value = Some x;
+        row = held.row;
+        ok = held.ok;
+        same = put_own item kind x held.value held.row held.ok ∙ ap
+            (λ q. put key_cmp q x (own held.value ++ entries held.row)) (sym none) ∙ whole;
+      }
+      | inr some ↦
+          (let more = grown k x held.row valid some held.ok in
+          record {
+            value = held.value;
+            row = more.row;
+            ok = more.ok;
+            same = put_child item kind x k held.value held.row more.row some more.put ∙ whole;
+          })
     ]
       where
         whole : put key_cmp k x (own held.value ++ entries held.row) ≡ (k, x) ∷ es
         whole = ap (put key_cmp k x) held.same ∙ put_below k x es below
 
-    holds : (es : List (List ℕ × V)) → All (IsValid item) (keys_of es) → T (is_sorted key_cmp es) → Holds es
+    holds : (es : List (List ℕ × V)) → All (IsValid item) (keys_of es) → T (is_sorted key_cmp es)
+        → Holds es
     holds [] valid sorted = record { value = None; row = end; ok = tt; same = refl }
-    holds (e ∷ es) valid sorted = one_more e.0 e.1 es (All-head (IsValid item) e.0 (keys_of es) valid) (below_from e.0 es (first _ _ sorted)) (holds es (All-tail (IsValid item) e.0 (keys_of es) valid) (second _ _ sorted))
+    holds (e ∷ es) valid sorted = one_more e.0 e.1 es
+        (All-head (IsValid item) e.0 (keys_of es) valid) (below_from e.0 es (first _ _ sorted))
+        (holds es (All-tail (IsValid item) e.0 (keys_of es) valid) (second _ _ sorted))
 
     -- each finite map with valid keys is that of some canonical siblings
-    pub held : (m : map.FinMap key_cmp V) → All (IsValid item) (map.keys m) → (v : Option V) × (r : Siblings V) × IsCanonical item r × (map_of v r ≡ m)
+    pub held : (m : map.FinMap key_cmp V) → All (IsValid item) (map.keys m)
+        → (v : Option V) × (r : Siblings V) × IsCanonical item r × (map_of v r ≡ m)
     held m valid =
         let h = holds (map.entries m) valid (map.entries_sorted m) in
         (h.value, h.row, h.ok, same_entries_map _ _ (entries_map item kind h.value h.row h.ok ∙ h.same))

@@ -27,7 +27,9 @@ last_rule too_few_values = omega arith
 
 -- the rule of a number
 abbrev numbered : ℕ → Rule
-numbered k = get_or (level ∷ level ∷ level ∷ level ∷ root_label ∷ root_sibling ∷ empty_label ∷ invalid_label ∷ sibling_order ∷ no_value_no_child ∷ too_few_values ∷ []) k level
+numbered k = get_or
+    (level ∷ level ∷ level ∷ level ∷ root_label ∷ root_sibling ∷ empty_label ∷ invalid_label ∷
+    sibling_order ∷ no_value_no_child ∷ too_few_values ∷ []) k level
 
 numbered-number : (rule : Rule) → numbered (number rule) ≡ rule
 numbered-number level = refl
@@ -49,7 +51,8 @@ module _ (item : List ℕ → Type 0) (due : Due) (left : ℕ) (r : Record) wher
   below_level rule less b = omega (arith, less, least_rule rule)
 
   -- one rule more that is kept
-  pub kept_next : (rule : Rule) → BreaksNoneBelow item due left r (number rule) → (Breaks item due left r rule → ⊥) → BreaksNoneBelow item due left r (number rule + 1)
+  pub kept_next : (rule : Rule) → BreaksNoneBelow item due left r (number rule)
+      → (Breaks item due left r rule → ⊥) → BreaksNoneBelow item due left r (number rule + 1)
   kept_next rule below kept g less b = elim (cases_lt (number g) (number rule)) [
     | inl fewer ↦ below g fewer b
     | inr least ↦ kept (subst (Breaks item due left r) (number_same g rule (omega (arith, less, least))) b)

@@ -49,17 +49,24 @@ low_same (suc (suc k)) n m e =
     let whole = pow-succ' 256 (suc k) in
     ap (λ p. n % p) whole ∙ x ∙ (λ i. top i * 256 ^ suc k + low i) ∙ sym y ∙ sym (ap (λ p. m % p) whole)
 
-level_same : (w n m : ℕ) → n < 256 ^ w → m < 256 ^ w → bytes_high_first w n ≡ bytes_high_first w m → n ≡ m
+level_same : (w n m : ℕ) → n < 256 ^ w → m < 256 ^ w → bytes_high_first w n ≡ bytes_high_first w m
+    → n ≡ m
 level_same w n m h h' e = sym (mod-eq_of_lt h) ∙ low_same w n m e ∙ mod-eq_of_lt h'
 
 -- one record, and where it ends
-pub record_same : (w : ℕ) (r s : Record) (b c x y : List ℕ) → Encodes w r b → Encodes w s c → b ++ x ≡ c ++ y → (r ≡ s) × (x ≡ y)
+pub record_same : (w : ℕ) (r s : Record) (b c x y : List ℕ) → Encodes w r b → Encodes w s c
+    → b ++ x ≡ c ++ y → (r ≡ s) × (x ≡ y)
 record_same w r s b c x y p q e =
-    let whole : p.flags ∷ (length r.label ∷ ((bytes_high_first w r.level ++ r.label) ++ x)) ≡ q.flags ∷ (length s.label ∷ ((bytes_high_first w s.level ++ s.label) ++ y)) = ap (λ l. l ++ x) (sym p.is) ∙ e ∙ ap (λ l. l ++ y) q.is in
+    let whole : p.flags ∷ (length r.label ∷ ((bytes_high_first w r.level ++ r.label) ++ x)) ≡
+    q.flags ∷ (length s.label ∷ ((bytes_high_first w s.level ++ s.label) ++ y)) = ap
+    (λ l. l ++ x) (sym p.is) ∙ e ∙ ap (λ l. l ++ y) q.is in
     let flags : p.flags ≡ q.flags = cc in
     let lens : length r.label ≡ length s.label = cc in
     let tails : (bytes_high_first w r.level ++ r.label) ++ x ≡ (bytes_high_first w s.level ++ s.label) ++ y = cc in
-    let levels = split_at (bytes_high_first w r.level) (bytes_high_first w s.level) (r.label ++ x) (s.label ++ y) (length-high_first w r.level ∙ sym (length-high_first w s.level)) (sym (append_assoc (bytes_high_first w r.level) r.label x) ∙ tails ∙ append_assoc (bytes_high_first w s.level) s.label y) in
+    let levels = split_at (bytes_high_first w r.level) (bytes_high_first w s.level) (r.label ++ x)
+    (s.label ++ y) (length-high_first w r.level ∙ sym (length-high_first w s.level))
+    (sym (append_assoc (bytes_high_first w r.level) r.label x) ∙ tails ∙ append_assoc
+    (bytes_high_first w s.level) s.label y) in
     let level = level_same w r.level s.level p.room.level q.room.level levels.0 in
     let labels = split_at r.label s.label x y lens levels.1 in
     let label = labels.0 in
@@ -72,8 +79,14 @@ record_same w r s b c x y p q e =
 -- bytes encode one list of records
 pub one_list : (w : ℕ) (R X : List Record) (b : List ℕ) → EncodeAll w R b → EncodeAll w X b → R ≡ X
 one_list w [] [] b p q = refl
-one_list w [] (x ∷ X) b p q = absurd (let e : x ≡ x = refl in let h : [] ≡ q.first ++ q.rest = sym p ∙ q.joined in let k : [] ≡ (q.spelled.flags ∷ after_flags w x) ++ q.rest = h ∙ ap (λ l. l ++ q.rest) q.spelled.is in cc)
-one_list w (r ∷ R) [] b p q = absurd (let h : [] ≡ p.first ++ p.rest = sym q ∙ p.joined in let k : [] ≡ (p.spelled.flags ∷ after_flags w r) ++ p.rest = h ∙ ap (λ l. l ++ p.rest) p.spelled.is in cc)
+one_list w [] (x ∷ X) b p q = absurd
+    (let e : x ≡ x = refl in let h : [] ≡ q.first ++ q.rest = sym p ∙ q.joined in
+    let k : [] ≡ (q.spelled.flags ∷ after_flags w x) ++ q.rest = h ∙ ap (λ l. l ++ q.rest)
+    q.spelled.is in cc)
+one_list w (r ∷ R) [] b p q = absurd
+    (let h : [] ≡ p.first ++ p.rest = sym q ∙ p.joined in
+    let k : [] ≡ (p.spelled.flags ∷ after_flags w r) ++ p.rest = h ∙ ap (λ l. l ++ p.rest)
+    p.spelled.is in cc)
 one_list w (r ∷ R) (x ∷ X) b p q =
     let both = record_same w r x p.first q.first p.rest q.rest p.spelled q.spelled (sym p.joined ∙ q.joined) in
     let head = both.0 in
@@ -89,7 +102,9 @@ pub clear : (bit : ℕ) → bit ≡ 0 → IsTrue false ↔ (bit ≢ 0)
 clear bit none = (λ e. absurd (cc), λ h. absurd (h none))
 
 -- clean flags have the three marks
-clean_marks : (n : ℕ) (v c s : Bool) (label : List ℕ) → AreFlags (record { level = n; label = label; value = v; child = c; sibling = s }) (canonical_flags (record { level = n; label = label; value = v; child = c; sibling = s }))
+clean_marks : (n : ℕ) (v c s : Bool) (label : List ℕ)
+    → AreFlags (record { level = n; label = label; value = v; child = c; sibling = s })
+    (canonical_flags (record { level = n; label = label; value = v; child = c; sibling = s }))
 clean_marks n true true true label = record { in_a_byte = omega arith; value = set 2 (λ h. cc); child = set 8 (λ h. cc); sibling = set 32 (λ h. cc) }
 clean_marks n true true false label = record { in_a_byte = omega arith; value = set 2 (λ h. cc); child = set 8 (λ h. cc); sibling = clear 0 refl }
 clean_marks n true false true label = record { in_a_byte = omega arith; value = set 2 (λ h. cc); child = clear 0 refl; sibling = set 32 (λ h. cc) }
@@ -104,7 +119,8 @@ pub clean_spells : (w : ℕ) (r : Record) → HasRoom w r → Encodes w r (canon
 clean_spells w r room = record { flags = canonical_flags r; marks = clean_marks r.level r.value r.child r.sibling r.label; room = room; is = refl }
 
 -- and so do those of a list
-pub clean_spell_all : (w : ℕ) (R : List Record) → All (HasRoom w) R → EncodeAll w R (canonical_bytes_of w R)
+pub clean_spell_all : (w : ℕ) (R : List Record) → All (HasRoom w) R
+    → EncodeAll w R (canonical_bytes_of w R)
 clean_spell_all w [] room = refl
 clean_spell_all w (r ∷ R) room = record {
   first = canonical_bytes w r;

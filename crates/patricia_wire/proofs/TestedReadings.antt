@@ -21,16 +21,22 @@ use Rattle.patricia_wire.proofs.Spellings.{clean_spells, clean_spell_all}
 
 -- each rule passes the test
 abbrev pub each_passes : (Rule → Bool) → Bool
-each_passes t = t level && (t root_label && (t root_sibling && (t empty_label && (t invalid_label && (t sibling_order && (t no_value_no_child && t too_few_values))))))
+each_passes t = t level &&
+    (t root_label &&
+    (t root_sibling &&
+    (t empty_label &&
+    (t invalid_label && (t sibling_order && (t no_value_no_child && t too_few_values))))))
 
 -- where each passes, one does
 passes : (t : Rule → Bool) → each_passes t ≡ true → (rule : Rule) → t rule ≡ true
 passes t all rule = go rule
   where
-    from_sibling : (t root_sibling && (t empty_label && (t invalid_label && (t sibling_order && (t no_value_no_child && t too_few_values))))) ≡ true
+    from_sibling :
+        (t root_sibling && (t empty_label && (t invalid_label && (t sibling_order && (t no_value_no_child && t too_few_values))))) ≡ true
     from_sibling = second_so (t root_label) _ (second_so (t level) _ all)
 
-    from_label : (t invalid_label && (t sibling_order && (t no_value_no_child && t too_few_values))) ≡ true
+    from_label :
+        (t invalid_label && (t sibling_order && (t no_value_no_child && t too_few_values))) ≡ true
     from_label = second_so (t empty_label) _ (second_so (t root_sibling) _ from_sibling)
 
     from_marks : (t no_value_no_child && t too_few_values) ≡ true
@@ -89,7 +95,8 @@ module _ (item : List ℕ → Type 0) (tests : LabelTests item) where
   keeps due left r too_few_values = not r.value || nat_lt 0 left
 
   -- a rule that is kept is not broken
-  kept : (due : Due) (left : ℕ) (r : Record) (rule : Rule) → keeps due left r rule ≡ true → Breaks item due left r rule → ⊥
+  kept : (due : Due) (left : ℕ) (r : Record) (rule : Rule) → keeps due left r rule ≡ true
+      → Breaks item due left r rule → ⊥
   kept due left r level test b = b (eqb-true r.level due.level test)
   kept due left r root_label test b = elim (either (nat_lt 0 due.level) (is_nil r.label) test) [
     | inl inner ↦ (let more = ltb-true 0 due.level inner in omega (arith, more, b.0))
@@ -104,7 +111,10 @@ module _ (item : List ℕ → Type 0) (tests : LabelTests item) where
     | inr some ↦ some_is r.label some b.1
   ]
   kept due left r invalid_label test b = (let right = tests.is_valid in b (right r.label test))
-  kept due left r sibling_order test b = (let right = tests.is_ordered in b.2 (before_compares item b.0 r.label (right b.0 r.label (subst (λ o. follows tests.ordered o r.label ≡ true) b.1 test))))
+  kept due left r sibling_order test b =
+      (let right = tests.is_ordered in b.2
+      (before_compares item b.0 r.label
+      (right b.0 r.label (subst (λ o. follows tests.ordered o r.label ≡ true) b.1 test))))
   kept due left r no_value_no_child test b = elim (either (nat_eq due.level 0) (r.value || r.child) test) [
     | inl root ↦ b.0 (eqb-true due.level 0 root)
     | inr marked ↦ elim (either r.value r.child marked) [
@@ -118,24 +128,36 @@ module _ (item : List ℕ → Type 0) (tests : LabelTests item) where
   ]
 
   -- a record that keeps each rule is read
-  pub read_one : (n left : ℕ) (before : List Record) (due : Due) (waiting : List Due) (r : Record) → IsRead item n before (due ∷ waiting) → left + value_marks before ≡ n → each_passes (keeps due left r) ≡ true → IsRead item n (before ++ (r ∷ [])) (due_behind r ++ waiting)
+  pub read_one : (n left : ℕ) (before : List Record) (due : Due) (waiting : List Due) (r : Record)
+      → IsRead item n before (due ∷ waiting) → left + value_marks before ≡ n
+      → each_passes (keeps due left r) ≡ true
+      → IsRead item n (before ++ (r ∷ [])) (due_behind r ++ waiting)
   read_one n left before due waiting r read count test =
-      one_more before r due waiting read (faultless item n left before due waiting r read count (λ rule. kept due left r rule (passes (keeps due left r) test rule)))
+      one_more before r due waiting read
+      (faultless item n left before due waiting r read count
+      (λ rule. kept due left r rule (passes (keeps due left r) test rule)))
 
   -- the rules before it are kept
   abbrev pub keeps_before : Due → ℕ → Record → Rule → Bool
   keeps_before due left r rule = each_passes (λ g. not (nat_lt (number g) (number rule)) || keeps due left r g)
 
   -- the first rule that a record breaks is the first fault
-  pub first_broken : (w : ℕ) (b : List ℕ) (n left : ℕ) (before : List Record) (due : Due) (waiting : List Due) (offset : ℕ) (r : Record) (bytes rest : List ℕ) (rule : Rule) → IsRead item n before (due ∷ waiting) → left + value_marks before ≡ n → Reads w b before offset (bytes ++ rest) → Encodes w r bytes → Breaks item due left r rule → keeps_before due left r rule ≡ true → IsFirst item w b n (error_at offset rule)
+  pub first_broken : (w : ℕ) (b : List ℕ) (n left : ℕ) (before : List Record) (due : Due)
+      (waiting : List Due) (offset : ℕ) (r : Record) (bytes rest : List ℕ) (rule : Rule)
+      → IsRead item n before (due ∷ waiting) → left + value_marks before ≡ n
+      → Reads w b before offset (bytes ++ rest) → Encodes w r bytes → Breaks item due left r rule
+      → keeps_before due left r rule ≡ true → IsFirst item w b n (error_at offset rule)
   first_broken w b n left before due waiting offset r bytes rest rule read count reads spells broken test =
-      first_in_record item n w b before due waiting offset r bytes rest rule read reads spells (faulty item n left before due waiting r read count rule (broken, lower))
+      first_in_record item n w b before due waiting offset r bytes rest rule read reads spells
+      (faulty item n left before due waiting r read count rule (broken, lower))
     where
       lower : (g : Rule) → number g < number rule → Breaks item due left r g → ⊥
-      lower g less h = elim (either (not (nat_lt (number g) (number rule))) (keeps due left r g) (passes (λ g. not (nat_lt (number g) (number rule)) || keeps due left r g) test g)) [
-        | inl past ↦ clear_is (nat_lt (number g) (number rule)) past (lt-ltb (number g) (number rule) less)
-        | inr held ↦ kept due left r g held h
-      ]
+      lower g less h = elim
+          (either (not (nat_lt (number g) (number rule))) (keeps due left r g)
+          (passes (λ g. not (nat_lt (number g) (number rule)) || keeps due left r g) test g)) [
+            | inl past ↦ clear_is (nat_lt (number g) (number rule)) past (lt-ltb (number g) (number rule) less)
+            | inr held ↦ kept due left r g held h
+          ]
 
 -- no two labels pass a test that all fail
 pub none_ordered : (item : List ℕ → Type 0) (l m : List ℕ) → false ≡ true → IsBefore item l m
@@ -175,13 +197,20 @@ abbrev pub byte_tests : LabelTests IsByteItem
 byte_tests = record { valid = are_bytes; ordered = are_ordered; is_valid = byte_valid; is_ordered = bytes_ordered }
 
 -- records are read where their clean spellings begin the input
-pub reads_clean : (w : ℕ) (R : List Record) (rest : List ℕ) → list_all (has_room w) R ≡ true → Reads w (canonical_bytes_of w R ++ rest) R (length (canonical_bytes_of w R)) rest
+pub reads_clean : (w : ℕ) (R : List Record) (rest : List ℕ) → list_all (has_room w) R ≡ true
+    → Reads w (canonical_bytes_of w R ++ rest) R (length (canonical_bytes_of w R)) rest
 reads_clean w R rest test = record { read = canonical_bytes_of w R; spelled = clean_spell_all w R (byte_rooms w R test); joined = refl; ends = refl }
 
 -- the first fault of a record of byte keys, which is spelled clean behind others
-pub first_of_bytes : (w n left : ℕ) (before : List Record) (due : Due) (waiting : List Due) (r : Record) (rest : List ℕ) (rule : Rule) → IsRead IsByteItem n before (due ∷ waiting) → left + value_marks before ≡ n → list_all (has_room w) before ≡ true → has_room w r ≡ true → Breaks IsByteItem due left r rule → keeps_before IsByteItem byte_tests due left r rule ≡ true → IsFirst IsByteItem w (canonical_bytes_of w before ++ (canonical_bytes w r ++ rest)) n (error_at (length (canonical_bytes_of w before)) rule)
+pub first_of_bytes : (w n left : ℕ) (before : List Record) (due : Due) (waiting : List Due)
+    (r : Record) (rest : List ℕ) (rule : Rule) → IsRead IsByteItem n before (due ∷ waiting)
+    → left + value_marks before ≡ n → list_all (has_room w) before ≡ true → has_room w r ≡ true
+    → Breaks IsByteItem due left r rule → keeps_before IsByteItem byte_tests due left r rule ≡ true
+    → IsFirst IsByteItem w (canonical_bytes_of w before ++ (canonical_bytes w r ++ rest)) n (error_at (length (canonical_bytes_of w before)) rule)
 first_of_bytes w n left before due waiting r rest rule read count rooms room broken test =
-    first_broken IsByteItem byte_tests w (canonical_bytes_of w before ++ (canonical_bytes w r ++ rest)) n left before due waiting (length (canonical_bytes_of w before)) r (canonical_bytes w r) rest rule read count
+    first_broken IsByteItem byte_tests w
+    (canonical_bytes_of w before ++ (canonical_bytes w r ++ rest)) n left before due waiting
+    (length (canonical_bytes_of w before)) r (canonical_bytes w r) rest rule read count
     (reads_clean w before (canonical_bytes w r ++ rest) rooms) (clean_spells w r (byte_room w r room)) broken test
 
 -- the root is due
@@ -201,5 +230,9 @@ pub opened_read : (item : List ℕ → Type 0) (n : ℕ) → IsRead item n (open
 opened_read item n = read_one item (no_tests item) n n [] the_root [] opened nothing (omega arith) refl
 
 -- the first fault of a record of byte keys behind such a root
-pub first_below : (n : ℕ) (r : Record) (rest : List ℕ) (rule : Rule) → has_room 2 r ≡ true → Breaks IsByteItem first_child n r rule → keeps_before IsByteItem byte_tests first_child n r rule ≡ true → IsFirst IsByteItem 2 (canonical_bytes_of 2 (opened ∷ []) ++ (canonical_bytes 2 r ++ rest)) n (error_at 4 rule)
-first_below n r rest rule room broken test = first_of_bytes 2 n n (opened ∷ []) first_child [] r rest rule (opened_read IsByteItem n) (omega arith) refl room broken test
+pub first_below : (n : ℕ) (r : Record) (rest : List ℕ) (rule : Rule) → has_room 2 r ≡ true
+    → Breaks IsByteItem first_child n r rule
+    → keeps_before IsByteItem byte_tests first_child n r rule ≡ true
+    → IsFirst IsByteItem 2 (canonical_bytes_of 2 (opened ∷ []) ++ (canonical_bytes 2 r ++ rest)) n (error_at 4 rule)
+first_below n r rest rule room broken test = first_of_bytes 2 n n (opened ∷ []) first_child [] r
+    rest rule (opened_read IsByteItem n) (omega arith) refl room broken test

@@ -45,7 +45,8 @@ module _ (item : List ℕ → Type 0) (kind : IsKeyKind item) where
       let some = kind.sized i is in
       omega (arith, length-append r.label i)
     where
-      by : (v k s : Bool) (n : ℕ) → (v || (not k || (s || nat_lt 254 n))) ≡ true → v ≡ false → k ≡ true → s ≡ false → 254 < n
+      by : (v k s : Bool) (n : ℕ) → (v || (not k || (s || nat_lt 254 n))) ≡ true → v ≡ false
+          → k ≡ true → s ≡ false → 254 < n
       by true k s n test none child lone = absurd (cc)
       by false false s n test none child lone = absurd (cc)
       by false true true n test none child lone = absurd (cc)
@@ -58,14 +59,17 @@ module _ (item : List ℕ → Type 0) (kind : IsKeyKind item) where
   stay_apart (r ∷ c ∷ R) test = (stays_apart r c (first_so _ _ test), stay_apart (c ∷ R) (second_so _ _ test))
 
   -- where the test of levels passes, each record has room
-  pub tested_room : (w : ℕ) (v : Option Nothing) (r : Siblings Nothing) → IsWritable item r → are_shallow w (tree_records v r) ≡ true → All (HasRoom w) (tree_records v r)
+  pub tested_room : (w : ℕ) (v : Option Nothing) (r : Siblings Nothing) → IsWritable item r
+      → are_shallow w (tree_records v r) ≡ true → All (HasRoom w) (tree_records v r)
   tested_room w v r ok shallow = elim (tree_room_or_deep item kind w v r ok) [
     | inl room ↦ room
     | inr deep ↦ absurd (not_deep w (tree_records v r) shallow deep)
   ]
 
   -- the encoding of the keys of a row
-  pub written : (w : ℕ) (v : Option Nothing) (r : Siblings Nothing) → IsWritable item r → are_shallow w (tree_records v r) ≡ true → are_apart (records_of 1 r) ≡ true → Canon item w (canonical_bytes_of w (tree_records v r)) (keys_of (own v ++ entries r))
+  pub written : (w : ℕ) (v : Option Nothing) (r : Siblings Nothing) → IsWritable item r
+      → are_shallow w (tree_records v r) ≡ true → are_apart (records_of 1 r) ≡ true
+      → Canon item w (canonical_bytes_of w (tree_records v r)) (keys_of (own v ++ entries r))
   written w v r ok shallow apart = record {
     records = tree_records v r;
     root = tree_of item v r ok;
@@ -107,7 +111,8 @@ either false b e = inr e
 pub filled_of : (l : List ℕ) → nat_lt 0 (length l) ≡ true → l ≢ []
 filled_of l test none = let some = ltb-true 0 (length l) test in omega (arith, ap length none)
 
-rises : (l : List ℕ) (s : Siblings Nothing) → IsValid IsByteItem l → l ≢ [] → is_before l s ≡ true → IsWritable IsByteItem s → IsBeforeSiblings IsByteItem l s
+rises : (l : List ℕ) (s : Siblings Nothing) → IsValid IsByteItem l → l ≢ [] → is_before l s ≡ true
+    → IsWritable IsByteItem s → IsBeforeSiblings IsByteItem l s
 rises l end valid nonempty test ok = tt
 rises l (node m v c s) valid nonempty test ok = before_by_first_byte IsByteItem byte_lawful l m valid ok.valid nonempty ok.nonempty (ltb-true _ _ test)
 
@@ -159,5 +164,7 @@ byte_rooms w [] test = All-nil (HasRoom w)
 byte_rooms w (r ∷ R) test = All-cons (HasRoom w) r R (byte_room w r (first_so _ _ test)) (byte_rooms w R (second_so _ _ test))
 
 -- the encoding of the keys of a row of byte keys
-pub byte_written : (w : ℕ) (v : Option Nothing) (r : Siblings Nothing) → is_writable r ≡ true → are_shallow w (tree_records v r) ≡ true → are_apart (records_of 1 r) ≡ true → Canon IsByteItem w (canonical_bytes_of w (tree_records v r)) (keys_of (own v ++ entries r))
+pub byte_written : (w : ℕ) (v : Option Nothing) (r : Siblings Nothing) → is_writable r ≡ true
+    → are_shallow w (tree_records v r) ≡ true → are_apart (records_of 1 r) ≡ true
+    → Canon IsByteItem w (canonical_bytes_of w (tree_records v r)) (keys_of (own v ++ entries r))
 byte_written w v r test = written IsByteItem byte_lawful w v r (byte_writable r test)

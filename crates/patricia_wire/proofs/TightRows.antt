@@ -24,10 +24,13 @@ module _ {V : Type 0} where
   ends_low d end = tt
   ends_low d (node l v end end) = refl
   ends_low d (node l v end (node l' v' c' s')) = ends_low d (node l' v' c' s')
-  ends_low d (node l v (node l' v' c' s') s) = EndsLow-append (records_of (d + 1) (node l' v' c' s')) (records_of d s) (ends_low (d + 1) (node l' v' c' s')) (ends_low d s)
+  ends_low d (node l v (node l' v' c' s') s) = EndsLow-append
+      (records_of (d + 1) (node l' v' c' s')) (records_of d s)
+      (ends_low (d + 1) (node l' v' c' s')) (ends_low d s)
 
 module _ (item : List ℕ → Type 0) where
-  apart_append : (R X : List Record) → EndsLow R → StayApart item R → StayApart item X → StayApart item (R ++ X)
+  apart_append : (R X : List Record) → EndsLow R → StayApart item R → StayApart item X
+      → StayApart item (R ++ X)
   apart_append [] X low a b = b
   apart_append (r ∷ []) [] low a b = tt
   apart_append (r ∷ []) (x ∷ X) low a b = (λ none child. (let h : true ≡ false = sym child ∙ low in absurd (cc)), b)
@@ -47,7 +50,8 @@ module _ (item : List ℕ → Type 0) where
   apart_right (r ∷ R) X a = apart_right R X (apart_rest r (R ++ X) a)
 
 module _ (item : List ℕ → Type 0) {V : Type 0} where
-  marked : (l : List ℕ) (v : Option V) (c : Siblings V) → EarnsWithin item (Some 255) l v c → (is_some v ≡ true) ⊎ (has_node c ≡ true)
+  marked : (l : List ℕ) (v : Option V) (c : Siblings V) → EarnsWithin item (Some 255) l v c
+      → (is_some v ≡ true) ⊎ (has_node c ≡ true)
   marked l (Some v) c earns = inl refl
   marked l None end earns = absurd earns
   marked l None (node l' v' c' s') earns = inr refl
@@ -55,22 +59,41 @@ module _ (item : List ℕ → Type 0) {V : Type 0} where
   -- siblings that are canonical within 255 bytes can be encoded
   pub within_writable : (r : Siblings V) → IsCanonicalWithin item (Some 255) r → IsWritable item r
   within_writable end ok = tt
-  within_writable (node l v c s) ok = record { valid = ok.valid; nonempty = ok.nonempty; fits = ok.fits; marked = marked l v c ok.earns; rises = ok.rises; child = within_writable c ok.child; sibling = within_writable s ok.sibling }
+  within_writable (node l v c s) ok = record {
+    valid = ok.valid;
+    nonempty = ok.nonempty;
+    fits = ok.fits;
+    marked = marked l v c ok.earns;
+    rises = ok.rises;
+    child = within_writable c ok.child;
+    sibling = within_writable s ok.sibling;
+  }
 
   -- a node joins none of its children
-  apart_node : (d : ℕ) (l : List ℕ) (v : Option V) (c s : Siblings V) → EarnsWithin item (Some 255) l v c → StayApart item (records_of (d + 1) c ++ records_of d s) → StayApart item (records_of d (node l v c s))
+  apart_node : (d : ℕ) (l : List ℕ) (v : Option V) (c s : Siblings V)
+      → EarnsWithin item (Some 255) l v c → StayApart item (records_of (d + 1) c ++ records_of d s)
+      → StayApart item (records_of d (node l v c s))
   apart_node d l v end end earns apart = tt
   apart_node d l v end (node l1 v1 c1 s1) earns apart = (λ none child. absurd (cc), apart)
   apart_node d l (Some v) (node l1 v1 c1 s1) s earns apart = (λ none. absurd (cc), apart)
-  apart_node d l None (node l1 v1 c1 end) s earns apart = (λ none child lone i is begun. elim (cases_lt 255 (length (l ++ i))) [ inl over ↦ over | inr room ↦ absurd (earns i is begun room) ], apart)
+  apart_node d l None (node l1 v1 c1 end) s earns apart = (
+    λ none child lone i is begun. elim (cases_lt 255 (length (l ++ i)))
+        [ inl over ↦ over | inr room ↦ absurd (earns i is begun room) ],
+    apart,
+  )
   apart_node d l None (node l1 v1 c1 (node l2 v2 c2 s2)) s earns apart = (λ none child lone. absurd (cc), apart)
 
   -- and no neighbours of their records could be one
-  pub within_apart : (d : ℕ) (r : Siblings V) → IsCanonicalWithin item (Some 255) r → StayApart item (records_of d r)
+  pub within_apart : (d : ℕ) (r : Siblings V) → IsCanonicalWithin item (Some 255) r
+      → StayApart item (records_of d r)
   within_apart d end ok = tt
-  within_apart d (node l v c s) ok = apart_node d l v c s ok.earns (apart_append item (records_of (d + 1) c) (records_of d s) (ends_low (d + 1) c) (within_apart (d + 1) c ok.child) (within_apart d s ok.sibling))
+  within_apart d (node l v c s) ok = apart_node d l v c s ok.earns
+      (apart_append item (records_of (d + 1) c) (records_of d s) (ends_low (d + 1) c)
+      (within_apart (d + 1) c ok.child) (within_apart d s ok.sibling))
 
-  earns_of : (d : ℕ) (l : List ℕ) (v : Option V) (c s : Siblings V) → (is_some v ≡ true) ⊎ (has_node c ≡ true) → StayApart item (records_of d (node l v c s)) → EarnsWithin item (Some 255) l v c
+  earns_of : (d : ℕ) (l : List ℕ) (v : Option V) (c s : Siblings V)
+      → (is_some v ≡ true) ⊎ (has_node c ≡ true) → StayApart item (records_of d (node l v c s))
+      → EarnsWithin item (Some 255) l v c
   earns_of d l (Some x) c s mark apart = tt
   earns_of d l None end s mark apart = elim mark [
     | inl e ↦ absurd (cc)
@@ -80,7 +103,8 @@ module _ (item : List ℕ → Type 0) {V : Type 0} where
   earns_of d l None (node l1 v1 c1 (node l2 v2 c2 s2)) s mark apart = tt
 
   -- and the other way round
-  pub apart_within : (d : ℕ) (r : Siblings V) → IsWritable item r → StayApart item (records_of d r) → IsCanonicalWithin item (Some 255) r
+  pub apart_within : (d : ℕ) (r : Siblings V) → IsWritable item r → StayApart item (records_of d r)
+      → IsCanonicalWithin item (Some 255) r
   apart_within d end ok apart = tt
   apart_within d (node l v c s) ok apart =
       let rest = apart_rest item (record_of d l v c s) (records_of (d + 1) c ++ records_of d s) apart in

@@ -11,7 +11,8 @@ module _ (item : List ℕ → Type 0) where
   -- sibling before
   pub data Fills (due : Due) (R : List Record) (E : List (List ℕ)) : Type 0 where
     whole : due.level ≡ 0 → Root item R E → Fills due R E
-    below : due.level ≢ 0 → Forest item due.level R E → ((l : List ℕ) → due.after ≡ Some l → IsBeforeFirst item l R) → Fills due R E
+    below : due.level ≢ 0 → Forest item due.level R E
+        → ((l : List ℕ) → due.after ≡ Some l → IsBeforeFirst item l R) → Fills due R E
 
   -- these records are all that is due, one after the other
   abbrev pub FillAll : List Due → List Record → Type 0
@@ -42,24 +43,31 @@ module _ (item : List ℕ → Type 0) where
     clear : mark ≡ false → A ≡ [] → E ≡ [] → FillsIf mark due A E
     set : mark ≡ true → Fills due A E → FillsIf mark due A E
 
-  first_if : (mark : Bool) (due : Due) (D : List Due) (R : List Record) → FillAll (due_where mark due ++ D) R → (A B : List Record) × (E : List (List ℕ)) × (R ≡ A ++ B) × FillsIf mark due A E × FillAll D B
+  first_if : (mark : Bool) (due : Due) (D : List Due) (R : List Record)
+      → FillAll (due_where mark due ++ D) R
+      → (A B : List Record) × (E : List (List ℕ)) × (R ≡ A ++ B) × FillsIf mark due A E × FillAll D B
   first_if false due D R all = ([], R, [], refl, clear refl refl refl, all)
   first_if true due D R (A, B, E, joined, fills, rest) = (A, B, E, joined, set refl fills, rest)
 
   module _ (r : Record) where
     -- what fills the place of a child
-    child_forest : (C : List Record) (E : List (List ℕ)) → FillsIf r.child (record { level = r.level + 1; after = None }) C E → ForestIf item r.child (r.level + 1) C E
+    child_forest : (C : List Record) (E : List (List ℕ))
+        → FillsIf r.child (record { level = r.level + 1; after = None }) C E
+        → ForestIf item r.child (r.level + 1) C E
     child_forest C E (clear mark none no_keys) = absent mark none no_keys
     child_forest C E (set mark (whole zero tree)) = absurd (omega (arith, zero))
     child_forest C E (set mark (below some f after)) = present mark f
 
     -- what fills the place of a sibling
-    sibling_forest : r.level ≢ 0 → (X : List Record) (E : List (List ℕ)) → FillsIf r.sibling (record { level = r.level; after = Some r.label }) X E → ForestIf item r.sibling r.level X E × IsBeforeFirst item r.label X
+    sibling_forest : r.level ≢ 0 → (X : List Record) (E : List (List ℕ))
+        → FillsIf r.sibling (record { level = r.level; after = Some r.label }) X E
+        → ForestIf item r.sibling r.level X E × IsBeforeFirst item r.label X
     sibling_forest some X E (clear mark none no_keys) = (absent mark none no_keys, subst (IsBeforeFirst item r.label) (sym none) tt)
     sibling_forest some X E (set mark (whole zero tree)) = absurd (some zero)
     sibling_forest some X E (set mark (below inner f after)) = (present mark f, after r.label refl)
 
-    no_sibling : r.sibling ≡ false → (X : List Record) (E : List (List ℕ)) → FillsIf r.sibling (record { level = r.level; after = Some r.label }) X E → X ≡ []
+    no_sibling : r.sibling ≡ false → (X : List Record) (E : List (List ℕ))
+        → FillsIf r.sibling (record { level = r.level; after = Some r.label }) X E → X ≡ []
     no_sibling alone X E (clear mark none no_keys) = none
     no_sibling alone X E (set mark fills) = absurd (let no : true ≡ false = sym mark ∙ alone in cc)
 
@@ -74,7 +82,11 @@ module _ (item : List ℕ → Type 0) where
     pub ordered : (l : List ℕ) → due.after ≡ Some l → IsBefore item l r.label
 
   -- the record, its child's forest and its sibling's are what was due
-  filled_by : (due : Due) (r : Record) → KeepsRules due r → (C X : List Record) (Ec Ex : List (List ℕ)) → FillsIf r.child (record { level = r.level + 1; after = None }) C Ec → FillsIf r.sibling (record { level = r.level; after = Some r.label }) X Ex → (due.level ≡ 0) ⊎ (due.level ≢ 0) → (E : List (List ℕ)) × Fills due (r ∷ (C ++ X)) E
+  filled_by : (due : Due) (r : Record) → KeepsRules due r
+      → (C X : List Record) (Ec Ex : List (List ℕ))
+      → FillsIf r.child (record { level = r.level + 1; after = None }) C Ec
+      → FillsIf r.sibling (record { level = r.level; after = Some r.label }) X Ex
+      → (due.level ≡ 0) ⊎ (due.level ≢ 0) → (E : List (List ℕ)) × Fills due (r ∷ (C ++ X)) E
   filled_by due r kept C X Ec Ex child sibling (inl zero) =
       let bare = kept.root zero in
       let alone = no_sibling r bare.1 X Ex sibling in
@@ -106,10 +118,17 @@ module _ (item : List ℕ → Type 0) where
       )
 
   -- one record more
-  pub closes_more : (before : List Record) (due : Due) (W : List Due) (r : Record) → Closes before (due ∷ W) → KeepsRules due r → (due.level ≡ 0) ⊎ (due.level ≢ 0) → Closes (before ++ (r ∷ [])) (due_behind r ++ W)
-  closes_more before due W r closes kept zero_or R all = by_child (first_if r.child _ (sibling_due r ++ W) R (subst (λ D. FillAll D R) (append_assoc (child_due r) (sibling_due r) W) all))
+  pub closes_more : (before : List Record) (due : Due) (W : List Due) (r : Record)
+      → Closes before (due ∷ W) → KeepsRules due r → (due.level ≡ 0) ⊎ (due.level ≢ 0)
+      → Closes (before ++ (r ∷ [])) (due_behind r ++ W)
+  closes_more before due W r closes kept zero_or R all = by_child
+      (first_if r.child _ (sibling_due r ++ W) R
+      (subst (λ D. FillAll D R) (append_assoc (child_due r) (sibling_due r) W) all))
     where
-      by_sibling : (C B : List Record) (Ec : List (List ℕ)) → R ≡ C ++ B → FillsIf r.child (record { level = r.level + 1; after = None }) C Ec → (X Z : List Record) × (Ex : List (List ℕ)) × (B ≡ X ++ Z) × FillsIf r.sibling (record { level = r.level; after = Some r.label }) X Ex × FillAll W Z → (E : List (List ℕ)) × Root item ((before ++ (r ∷ [])) ++ R) E
+      by_sibling : (C B : List Record) (Ec : List (List ℕ)) → R ≡ C ++ B
+          → FillsIf r.child (record { level = r.level + 1; after = None }) C Ec
+          → (X Z : List Record) × (Ex : List (List ℕ)) × (B ≡ X ++ Z) × FillsIf r.sibling (record { level = r.level; after = Some r.label }) X Ex × FillAll W Z
+          → (E : List (List ℕ)) × Root item ((before ++ (r ∷ [])) ++ R) E
       by_sibling C B Ec split child (X, Z, Ex, parts, sibling, rest) =
           let fills = filled_by due r kept C X Ec Ex child sibling zero_or in
           let tree = closes ((r ∷ (C ++ X)) ++ Z) (r ∷ (C ++ X), Z, fills.0, refl, fills.1, rest) in
@@ -117,5 +136,8 @@ module _ (item : List ℕ → Type 0) where
           let all_records = (λ i. before ++ (r ∷ tails i)) ∙ sym (append_assoc before (r ∷ []) R) in
           (tree.0, subst (λ b. Root item b tree.0) all_records tree.1)
 
-      by_child : (C B : List Record) × (Ec : List (List ℕ)) × (R ≡ C ++ B) × FillsIf r.child (record { level = r.level + 1; after = None }) C Ec × FillAll (sibling_due r ++ W) B → (E : List (List ℕ)) × Root item ((before ++ (r ∷ [])) ++ R) E
+      by_child :
+          (C B : List Record) × (Ec : List (List ℕ)) × (R ≡ C ++ B) × FillsIf r.child
+          (record { level = r.level + 1; after = None }) C Ec × FillAll (sibling_due r ++ W) B
+          → (E : List (List ℕ)) × Root item ((before ++ (r ∷ [])) ++ R) E
       by_child (C, B, Ec, split, child, rest) = by_sibling C B Ec split child (first_if r.sibling _ W B rest)

@@ -46,7 +46,8 @@ not_deep w R room (k, y, h, e, deep) = let fits = subst (HasRoom w) e (room k y 
 
 module _ (item : List ℕ → Type 0) (kind : IsKeyKind item) where
   module _ {V : Type 0} where
-    room_or_deep : (w d : ℕ) (r : Siblings V) → IsWritable item r → All (HasRoom w) (records_of d r) ⊎ Any (IsDeep w) (records_of d r)
+    room_or_deep : (w d : ℕ) (r : Siblings V) → IsWritable item r
+        → All (HasRoom w) (records_of d r) ⊎ Any (IsDeep w) (records_of d r)
     room_or_deep w d end ok = inl (All-nil (HasRoom w))
     room_or_deep w d (node l v c s) ok =
         let here = record_of d l v c s in
@@ -58,41 +59,65 @@ module _ (item : List ℕ → Type 0) (kind : IsKeyKind item) where
             | inr deep ↦ inr (any_there (IsDeep w) here (below ++ beside) (any_left (IsDeep w) below beside deep))
             | inl room ↦ elim (room_or_deep w d s ok.sibling) [
               | inr deep ↦ inr (any_there (IsDeep w) here (below ++ beside) (any_right (IsDeep w) below beside deep))
-              | inl more ↦ inl (All-cons (HasRoom w) here (below ++ beside) (record { level = fits; label = ok.fits; bytes = valid_bytes item kind l ok.valid }) (All-append (HasRoom w) below beside room more))
+              | inl more ↦ inl
+                  (All-cons (HasRoom w) here (below ++ beside)
+                  (record {
+                    level = fits;
+                    label = ok.fits;
+                    bytes = valid_bytes item kind l ok.valid;
+                  }) (All-append (HasRoom w) below beside room more))
             ]
           ]
         ]
 
     -- the records of a tree all have room, or one lies too deep
-    pub tree_room_or_deep : (w : ℕ) (v : Option V) (r : Siblings V) → IsWritable item r → All (HasRoom w) (tree_records v r) ⊎ Any (IsDeep w) (tree_records v r)
+    pub tree_room_or_deep : (w : ℕ) (v : Option V) (r : Siblings V) → IsWritable item r
+        → All (HasRoom w) (tree_records v r) ⊎ Any (IsDeep w) (tree_records v r)
     tree_room_or_deep w v r ok =
         let root = record_of 0 [] v r end in
         elim (room_or_deep w 1 r ok) [
           | inr deep ↦ inr (any_there (IsDeep w) root (records_of 1 r) deep)
-          | inl room ↦ inl (All-cons (HasRoom w) root (records_of 1 r) (record { level = positive w; label = omega arith; bytes = All-nil (λ b. b < 256) }) room)
+          | inl room ↦ inl
+              (All-cons (HasRoom w) root (records_of 1 r)
+              (record { level = positive w; label = omega arith; bytes = All-nil (λ b. b < 256) })
+              room)
         ]
 
     -- a row within the limit of labels is written, or lies too deep
-    within_written : (w : ℕ) (v : Option V) (r : Siblings V) → IsCanonicalWithin item (Some 255) r → ((b : List ℕ) × Canon item w b (keys_of (own v ++ entries r))) ⊎ TooDeep item w (keys_of (own v ++ entries r))
+    within_written : (w : ℕ) (v : Option V) (r : Siblings V) → IsCanonicalWithin item (Some 255) r
+        → ((b : List ℕ) × Canon item w b (keys_of (own v ++ entries r))) ⊎ TooDeep item w (keys_of (own v ++ entries r))
     within_written w v r within =
         let ok = within_writable item r within in
         let tight = within_apart item 1 r within in
         elim (tree_room_or_deep w v r ok) [
-          | inl room ↦ inl (canonical_bytes_of w (tree_records v r), record { records = tree_records v r; root = tree_of item v r ok; tight = tight; room = room; is = refl })
+          | inl room ↦ inl (
+            canonical_bytes_of w (tree_records v r),
+            record {
+              records = tree_records v r;
+              root = tree_of item v r ok;
+              tight = tight;
+              room = room;
+              is = refl;
+            },
+          )
           | inr deep ↦ inr (record { records = tree_records v r; root = tree_of item v r ok; tight = tight; deep = deep })
         ]
 
-    row_written : (w : ℕ) (v : Option V) (r : Siblings V) → IsCanonical item r → ((b : List ℕ) × Canon item w b (keys_of (own v ++ entries r))) ⊎ TooDeep item w (keys_of (own v ++ entries r))
+    row_written : (w : ℕ) (v : Option V) (r : Siblings V) → IsCanonical item r
+        → ((b : List ℕ) × Canon item w b (keys_of (own v ++ entries r))) ⊎ TooDeep item w (keys_of (own v ++ entries r))
     row_written w v r ok =
         let cut = cut_row item kind r ok in
-        subst (λ es. ((b : List ℕ) × Canon item w b (keys_of (own v ++ es))) ⊎ TooDeep item w (keys_of (own v ++ es))) cut.same (within_written w v cut.row cut.ok)
+        subst (λ es. ((b : List ℕ) × Canon item w b (keys_of (own v ++ es))) ⊎ TooDeep item w
+        (keys_of (own v ++ es))) cut.same (within_written w v cut.row cut.ok)
 
     -- the keys of a map have an encoding, or lie too deep
-    pub written_or_deep : (w : ℕ) (m : map.FinMap key_cmp V) → All (IsValid item) (map.keys m) → ((b : List ℕ) × Canon item w b (map.keys m)) ⊎ TooDeep item w (map.keys m)
+    pub written_or_deep : (w : ℕ) (m : map.FinMap key_cmp V) → All (IsValid item) (map.keys m)
+        → ((b : List ℕ) × Canon item w b (map.keys m)) ⊎ TooDeep item w (map.keys m)
     written_or_deep w m valid =
         let (v, r, ok, same) = held item kind m valid in
         subst (λ S. ((b : List ℕ) × Canon item w b S) ⊎ TooDeep item w S) (sym (keys_map item kind v r ok) ∙ ap map.keys same) (row_written w v r ok)
 
   -- and never both
-  pub never_both : (w : ℕ) (b : List ℕ) (E : List (List ℕ)) → Canon item w b E → TooDeep item w E → ⊥
+  pub never_both : (w : ℕ) (b : List ℕ) (E : List (List ℕ)) → Canon item w b E → TooDeep item w E
+      → ⊥
   never_both w b E x y = not_deep w y.records (subst (All (HasRoom w)) (one_tree item kind x.records y.records E x.root y.root x.tight y.tight) x.room) y.deep

@@ -27,7 +27,14 @@ loop-builder-init g c = record {
 pub next-requires : goal.next-requires
 next-requires g c =
     let inv = c.loop-builder.invariant in
-    record { n = _; before = inv.before; due = inv.due; reading = inv.reading; counted = counted _ inv.taken _ inv.before c.len.result inv.split inv.marks (c.len.ensures ∙ inv.left) }
+    record {
+      n = _;
+      before = inv.before;
+      due = inv.due;
+      reading = inv.reading;
+      counted = counted _ inv.taken _ inv.before c.len.result inv.split inv.marks
+          (c.len.ensures ∙ inv.left);
+    }
 
 pub returns-in_err-record-clause-first_fault : goal.returns-in_err-record-clause-first_fault
 returns-in_err-record-clause-first_fault g c =
@@ -35,7 +42,9 @@ returns-in_err-record-clause-first_fault g c =
     let bytes = ap (λ b. b.now) inv.bytes ∙ c.in_ok-reader.ensures.bytes in
     let count = counted _ inv.taken _ inv.before c.len.result inv.split inv.marks (c.len.ensures ∙ inv.left) in
     let refused = c.in_err-record.ensures.refused _ inv.before inv.due inv.reading count in
-    handed_on (λ e. IsRefusal g.K.Bytes.item 2 c.args.bytes.now (length c.args.values.items) e) c.from_residual-in_err-record.result c.in_err-record.field-0.0 c.from_residual-in_err-record.ensures.1
+    handed_on (λ e. IsRefusal g.K.Bytes.item 2 c.args.bytes.now (length c.args.values.items) e)
+    c.from_residual-in_err-record.result c.in_err-record.field-0.0
+    c.from_residual-in_err-record.ensures.1
     (subst (λ b. IsRefusal g.K.Bytes.item 2 b (length c.args.values.items) c.in_err-record.field-0.0) bytes
     (subst (λ l. IsRefusal g.K.Bytes.item 2 c.loop-builder.reader.bytes.now (length l) c.in_err-record.field-0.0) c.into_iter-values.ensures.rest refused))
 
@@ -45,7 +54,9 @@ add-requires g c =
     let count = counted _ inv.taken _ inv.before c.len.result inv.split inv.marks (c.len.ensures ∙ inv.left) in
     let goes = rw c.in-Some.is at c.in_ok-record.ensures.ok in
     let on = goes.reading _ inv.before inv.due inv.reading count in
-    can_add g.K.Bytes.item c.loop-builder.builder inv.before on.0 on.1 inv.taken (subst (λ l. IsBuilt g.K.Bytes.item c.loop-builder.builder inv.before l inv.taken) on.2 inv.built)
+    can_add g.K.Bytes.item c.loop-builder.builder inv.before on.0 on.1 inv.taken
+    (subst (λ l. IsBuilt g.K.Bytes.item c.loop-builder.builder inv.before l inv.taken) on.2
+    inv.built)
 
 pub loop-builder-preserved : goal.loop-builder-preserved
 loop-builder-preserved g c =
@@ -55,10 +66,17 @@ loop-builder-preserved g c =
     let on = goes.reading _ inv.before inv.due inv.reading count in
     let r : Record = c.in-Some.record in
     let mark = ap (λ (k : Record). k.value) c.record.view_is in
-    let takes : Takes r.value c.if-record.value (into_iter_items c.loop-builder.values) (into_iter_items c.if-record.values) (into_iter_len c.loop-builder.values) (into_iter_len c.if-record.values) = elim c.if-record.branch [
+    let takes : Takes r.value c.if-record.value (into_iter_items c.loop-builder.values)
+    (into_iter_items c.if-record.values) (into_iter_len c.loop-builder.values)
+    (into_iter_len c.if-record.values) = elim c.if-record.branch [
       | then-record w ↦ (
           let set = sym mark ∙ w.if-record.true in
-          rw (w.value-is, w.values-is) (takes_some r.value set w.next-value.result _ _ _ _ (w.next-value.ensures.variant.1 (some_left c.len.result (into_iter_len c.loop-builder.values) c.len.ensures (λ none. on.3.rules too_few_values (set, none)))) w.next-value.ensures.items w.next-value.ensures.len)
+          rw (w.value-is, w.values-is)
+          (takes_some r.value set w.next-value.result _ _ _ _
+          (w.next-value.ensures.variant.1
+          (some_left c.len.result (into_iter_len c.loop-builder.values) c.len.ensures
+          (λ none. on.3.rules too_few_values (set, none)))) w.next-value.ensures.items
+          w.next-value.ensures.len)
           )
       | else-record w ↦ rw (w.value-is, w.values-is) (takes_none r.value (sym mark ∙ w.if-record.false) _ _)
     ] in
@@ -67,8 +85,12 @@ loop-builder-preserved g c =
       due = due_behind r ++ on.1;
       taken = inv.taken ++ option_to_list c.if-record.value;
       reading = on.4;
-      built = c.in_ok-add.ensures inv.before on.0 on.1 inv.taken (subst (λ l. IsBuilt g.K.Bytes.item c.loop-builder.builder inv.before l inv.taken) on.2 inv.built)
-          (suited g.K.Bytes.item _ c.len.result inv.before on.0 on.1 r (subst (IsRead g.K.Bytes.item _ inv.before) on.2 inv.reading.read) on.3 goes.fits) takes.is;
+      built = c.in_ok-add.ensures inv.before on.0 on.1 inv.taken
+          (subst (λ l. IsBuilt g.K.Bytes.item c.loop-builder.builder inv.before l inv.taken) on.2
+          inv.built)
+          (suited g.K.Bytes.item _ c.len.result inv.before on.0 on.1 r
+          (subst (IsRead g.K.Bytes.item _ inv.before) on.2 inv.reading.read) on.3 goes.fits)
+          takes.is;
       split = split_on _ inv.taken _ _ c.if-record.value inv.split takes.items;
       left = left_on _ _ c.if-record.value _ _ takes.items takes.len inv.left;
       marks = marks_on inv.taken c.if-record.value inv.before r inv.marks takes.is;
@@ -80,7 +102,14 @@ finish-requires g c =
     let inv = c.loop-builder.invariant in
     let ends = rw c.in_default.is at c.in_ok-record.ensures.ok in
     let reading = read_all g.K.Bytes.item c.loop-builder.builder _ _ _ inv.before inv.due inv.taken inv.reading inv.built ends in
-    record { n = _; before = inv.before; due = []; reading = reading; counted = counted _ inv.taken _ inv.before c.len-2.result inv.split inv.marks (c.len-2.ensures ∙ inv.left) }
+    record {
+      n = _;
+      before = inv.before;
+      due = [];
+      reading = reading;
+      counted = counted _ inv.taken _ inv.before c.len-2.result inv.split inv.marks
+          (c.len-2.ensures ∙ inv.left);
+    }
 
 pub returns-in_err-finish-clause-first_fault : goal.returns-in_err-finish-clause-first_fault
 returns-in_err-finish-clause-first_fault g c =
@@ -91,7 +120,9 @@ returns-in_err-finish-clause-first_fault g c =
     let reading = read_all g.K.Bytes.item c.loop-builder.builder _ _ _ inv.before inv.due inv.taken inv.reading inv.built ends in
     let tree = tree_of_all g.K.Bytes.item c.loop-builder.builder _ _ _ inv.before inv.due inv.taken inv.reading inv.built ends in
     let refused = c.in_err-finish.ensures.refused _ inv.before tree.0 reading count tree.1 in
-    handed_on (λ e. IsRefusal g.K.Bytes.item 2 c.args.bytes.now (length c.args.values.items) e) c.from_residual-in_err-finish.result c.in_err-finish.field-0.0 c.from_residual-in_err-finish.ensures.1
+    handed_on (λ e. IsRefusal g.K.Bytes.item 2 c.args.bytes.now (length c.args.values.items) e)
+    c.from_residual-in_err-finish.result c.in_err-finish.field-0.0
+    c.from_residual-in_err-finish.ensures.1
     (subst (λ b. IsRefusal g.K.Bytes.item 2 b (length c.args.values.items) c.in_err-finish.field-0.0) bytes
     (subst (λ l. IsRefusal g.K.Bytes.item 2 c.next.new.self.bytes.now (length l) c.in_err-finish.field-0.0) c.into_iter-values.ensures.rest refused))
 
@@ -102,7 +133,7 @@ returns-clause-whole g c =
     let bytes = ap (λ b. b.now) (c.in_ok-record.ensures.bytes ∙ inv.bytes) ∙ c.in_ok-reader.ensures.bytes in
     let split = sym c.into_iter-values.ensures.rest ∙ inv.split in
     let done = decoded g.K.Bytes.item c.loop-builder.builder _ _ _ inv.before inv.due inv.taken inv.reading inv.built ends
-        g.met.K.Bytes.lawful _ bytes _ _ c.len-2.result split (c.len-2.ensures ∙ inv.left) c.in_ok-finish.ensures.whole c.none.result c.none.ensures in
+    g.met.K.Bytes.lawful _ bytes _ _ c.len-2.result split (c.len-2.ensures ∙ inv.left) c.in_ok-finish.ensures.whole c.none.result c.none.ensures in
     done.whole
 
 pub returns-clause-row : goal.returns-clause-row
@@ -112,7 +143,7 @@ returns-clause-row g c =
     let bytes = ap (λ b. b.now) (c.in_ok-record.ensures.bytes ∙ inv.bytes) ∙ c.in_ok-reader.ensures.bytes in
     let split = sym c.into_iter-values.ensures.rest ∙ inv.split in
     let done = decoded g.K.Bytes.item c.loop-builder.builder _ _ _ inv.before inv.due inv.taken inv.reading inv.built ends
-        g.met.K.Bytes.lawful _ bytes _ _ c.len-2.result split (c.len-2.ensures ∙ inv.left) c.in_ok-finish.ensures.whole c.none.result c.none.ensures in
+    g.met.K.Bytes.lawful _ bytes _ _ c.len-2.result split (c.len-2.ensures ∙ inv.left) c.in_ok-finish.ensures.whole c.none.result c.none.ensures in
     done.canonical
 
 pub returns-clause-means : goal.returns-clause-means
@@ -122,7 +153,7 @@ returns-clause-means g c =
     let bytes = ap (λ b. b.now) (c.in_ok-record.ensures.bytes ∙ inv.bytes) ∙ c.in_ok-reader.ensures.bytes in
     let split = sym c.into_iter-values.ensures.rest ∙ inv.split in
     let done = decoded g.K.Bytes.item c.loop-builder.builder _ _ _ inv.before inv.due inv.taken inv.reading inv.built ends
-        g.met.K.Bytes.lawful _ bytes _ _ c.len-2.result split (c.len-2.ensures ∙ inv.left) c.in_ok-finish.ensures.whole c.none.result c.none.ensures in
+    g.met.K.Bytes.lawful _ bytes _ _ c.len-2.result split (c.len-2.ensures ∙ inv.left) c.in_ok-finish.ensures.whole c.none.result c.none.ensures in
     done.means
 
 pub loop-builder-smaller : goal.loop-builder-smaller

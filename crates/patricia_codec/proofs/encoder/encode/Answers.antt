@@ -13,7 +13,8 @@ returns-in_err-size-clause-too_deep g c deep =
 
 pub loop-records-init : goal.loop-records-init
 loop-records-init g c =
-    let at = at_start g.K.Bytes.item g.met.K.Bytes.lawful c.args.arena.now c.new-records.result c.requires.whole c.new-records.ensures.start c.new-records.ensures.nodes in
+    let at = at_start g.K.Bytes.item g.met.K.Bytes.lawful c.args.arena.now c.new-records.result
+    c.requires.whole c.new-records.ensures.start c.new-records.ensures.nodes in
     record {
       some = some_left g.K.Bytes.item g.met.K.Bytes.lawful c.args.arena.now c.new-records.result [] c.requires.row at;
       taken = [];
@@ -26,12 +27,20 @@ pub returns-in_err-record-clause-too_deep : goal.returns-in_err-record-clause-to
 returns-in_err-record-clause-too_deep g c deep =
     let inv = c.loop-records.invariant in
     let is = err_from c.next.result c.from_residual-in_err-record.result _ _ c.in_err-record.was c.from_residual-in_err-record.ensures.1 deep in
-    too_deep g.K.Bytes.item g.met.K.Bytes.lawful c.args.arena.now c.args.value.now c.requires.row (deep_left g.K.Bytes.item g.met.K.Bytes.lawful c.args.arena.now c.loop-records.records inv.taken inv.at (c.next.ensures.too_deep is))
+    too_deep g.K.Bytes.item g.met.K.Bytes.lawful c.args.arena.now c.args.value.now c.requires.row
+    (deep_left g.K.Bytes.item g.met.K.Bytes.lawful c.args.arena.now c.loop-records.records
+    inv.taken inv.at (c.next.ensures.too_deep is))
 
 pub loop-records-preserved : goal.loop-records-preserved
 loop-records-preserved g c =
     let inv = c.loop-records.invariant in
-    let r : Record = record { level = c.in-Some.record.level; label = c.in-Some.record.label; value = c.in-Some.record.value; child = c.in-Some.record.child; sibling = c.in-Some.record.sibling } in
+    let r : Record = record {
+      level = c.in-Some.record.level;
+      label = c.in-Some.record.label;
+      value = c.in-Some.record.value;
+      child = c.in-Some.record.child;
+      sibling = c.in-Some.record.sibling;
+    } in
     let taken = rw c.in-Some.is at c.in_ok-record.ensures.ok in
     let at = at_next g.K.Bytes.item g.met.K.Bytes.lawful c.args.arena.now c.loop-records.records c.next.new.self inv.taken r inv.at taken in
     let wrote = c.in_ok-write-2.ensures in
@@ -40,7 +49,9 @@ loop-records-preserved g c =
       taken = _;
       at = at;
       shallow = shallow-snoc inv.taken _ inv.shallow taken.shallow;
-      written = wrote ∙ ap (λ b. b ++ canonical_bytes 2 r) inv.written ∙ append_assoc _ (canonical_bytes_of 2 inv.taken) (canonical_bytes 2 r) ∙ ap (λ b. c.write.new.out.items ++ b) (sym (spellings-snoc 2 inv.taken r));
+      written = wrote ∙ ap (λ b. b ++ canonical_bytes 2 r) inv.written ∙ append_assoc _
+          (canonical_bytes_of 2 inv.taken) (canonical_bytes 2 r) ∙ ap
+          (λ b. c.write.new.out.items ++ b) (sym (spellings-snoc 2 inv.taken r));
     }
 
 pub returns-clause-ok : goal.returns-clause-ok
@@ -52,5 +63,7 @@ returns-clause-ok g c =
     let over = rw c.in_default.is at c.in_ok-record.ensures.ok in
     let wrote = c.in_ok-write.ensures in
     let out = wrote ∙ ap (λ b. b ++ canonical_bytes 2 root) c.in_ok-out.ensures.items in
-    all_written g.K.Bytes.item g.met.K.Bytes.lawful c.args.arena.now c.args.value.now c.requires.row c.loop-records.records inv.taken c.loop-records.out.items root c.requires.whole inv.at over inv.shallow root_is
+    all_written g.K.Bytes.item g.met.K.Bytes.lawful c.args.arena.now c.args.value.now
+    c.requires.row c.loop-records.records inv.taken c.loop-records.out.items root
+    c.requires.whole inv.at over inv.shallow root_is
     (inv.written ∙ ap (λ b. b ++ canonical_bytes_of 2 inv.taken) out)

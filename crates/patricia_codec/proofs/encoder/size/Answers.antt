@@ -5,7 +5,8 @@ use Rattle.patricia_codec.proofs.encoder.size.Goals as goal
 
 pub loop-records-init : goal.loop-records-init
 loop-records-init g c =
-    let at = at_start g.K.Bytes.item g.met.K.Bytes.lawful c.args.arena.now c.new-records.result c.requires.whole c.new-records.ensures.start c.new-records.ensures.nodes in
+    let at = at_start g.K.Bytes.item g.met.K.Bytes.lawful c.args.arena.now c.new-records.result
+    c.requires.whole c.new-records.ensures.start c.new-records.ensures.nodes in
     record { some = some_left g.K.Bytes.item g.met.K.Bytes.lawful c.args.arena.now c.new-records.result [] c.requires.row at; at = ([], at) }
 
 pub returns-in_err-record : goal.returns-in_err-record

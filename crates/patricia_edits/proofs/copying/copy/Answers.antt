@@ -10,7 +10,9 @@ use Rattle.patricia_edits.proofs.WholeLemmas.{none_used, none_first, none_laid, 
 use Rattle.patricia_edits.proofs.copying.copy.Goals as goal
 
 pub returns-in_err-nodes-clause-nonempty : goal.returns-in_err-nodes-clause-nonempty
-returns-in_err-nodes-clause-nonempty g c = on_err c.from_residual.result (λ e. false≢true (c.in_err-nodes.ensures.succeeds (none_used c.args.arena.now _ c.used.ensures e)))
+returns-in_err-nodes-clause-nonempty g c = on_err c.from_residual.result
+    (λ e. false≢true
+    (c.in_err-nodes.ensures.succeeds (none_used c.args.arena.now _ c.used.ensures e)))
 
 pub copy_row-requires : goal.copy_row-requires
 copy_row-requires g c =
@@ -25,7 +27,8 @@ copy_row-requires g c =
     }
 
 pub returns-in_err-root-clause-nonempty : goal.returns-in_err-root-clause-nonempty
-returns-in_err-root-clause-nonempty g c = on_err c.from_residual-in_err-root.result (λ e. c.in_err-root.ensures.nonempty (none_first c.args.arena.now c.requires.whole e))
+returns-in_err-root-clause-nonempty g c = on_err c.from_residual-in_err-root.result
+    (λ e. c.in_err-root.ensures.nonempty (none_first c.args.arena.now c.requires.whole e))
 
 pub copy_below-requires : goal.copy_below-requires
 copy_below-requires g c =

@@ -39,10 +39,16 @@ loop-i-preserved g c = record {
       let next = laying_row w _ c.loop-i.i _ _ l short in
       let top = next_top w _ c.loop-i.i _ _ next c.index.result.now c.index.ensures in
       let copied = c.in_ok-first.ensures in
-      rw (add-one c.loop-i.i) (laying_next w c.args.from.now c.args.from.now c.loop-i.i c.loop-i.to.items _ _ l short next (λ at k. refl) c.copy_row.new.to.items (copied.laid next.row top) c.in_ok-first.first (copied.first next.row top) c.index_mut.result.now c.index_mut.ensures.value refl);
+      rw (add-one c.loop-i.i)
+      (laying_next w c.args.from.now c.args.from.now c.loop-i.i c.loop-i.to.items _ _ l short
+      next (λ at k. refl) c.copy_row.new.to.items (copied.laid next.row top)
+      c.in_ok-first.first (copied.first next.row top) c.index_mut.result.now
+      c.index_mut.ensures.value refl);
 }
 
 pub returns-clause-laid : goal.returns-clause-laid
 returns-clause-laid g c w start =
-    let d = laying_done w c.args.from.now c.loop-i.i c.loop-i.to.items _ (c.loop-i.invariant.laying w start) (omega (arith, c.loop-i-test.false, c.len.ensures)) in
+    let d = laying_done w c.args.from.now c.loop-i.i c.loop-i.to.items _
+    (c.loop-i.invariant.laying w start) (omega (arith, c.loop-i-test.false, c.len.ensures))
+    in
     (d.0, d.1, d.2)

@@ -10,7 +10,8 @@ abbrev pub invariant-loop-i : goal.invariant-loop-i
 invariant-loop-i g l = record {
   capacity : vec_capacity l.to ≡ vec_capacity l.fn.to;
   nonempty : l.fn.to.items ≡ [] → l.to.items ≡ [];
-  laying : (w : Plan g.row.V.Denot) → IsLaid l.from l.fn.to.items w → Laying w l.from l.i l.to.items (head (numbered_siblings 0 w));
+  laying : (w : Plan g.row.V.Denot) → IsLaid l.from l.fn.to.items w
+      → Laying w l.from l.i l.to.items (head (numbered_siblings 0 w));
 }
 
 abbrev pub decreases-loop-i : goal.decreases-loop-i

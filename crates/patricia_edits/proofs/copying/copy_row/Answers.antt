@@ -14,11 +14,19 @@ bounds-from-index g c =
 
 pub copy_node-requires : goal.copy_node-requires
 copy_node-requires g c =
-    copying_kept g.V.Clone.is_clone (c.loop-id.invariant.copying c.requires.row.0 c.requires.row.1) (sym c.get.ensures ∙ c.in-Some.is) c.requires.row.2 _ (rw c.index.ensures at c.index-from-index.is)
+    copying_kept g.V.Clone.is_clone (c.loop-id.invariant.copying c.requires.row.0 c.requires.row.1)
+    (sym c.get.ensures ∙ c.in-Some.is) c.requires.row.2 _
+    (rw c.index.ensures at c.index-from-index.is)
 
 pub push_reserved-requires : goal.push_reserved-requires
 push_reserved-requires g c =
-    omega (arith, c.requires.row.3, copying_room g.V.Clone.is_clone (c.loop-id.invariant.copying c.requires.row.0 c.requires.row.1) (sym c.get.ensures ∙ c.in-Some.is))
+    omega (
+      arith,
+      c.requires.row.3,
+      copying_room g.V.Clone.is_clone
+          (c.loop-id.invariant.copying c.requires.row.0 c.requires.row.1)
+          (sym c.get.ensures ∙ c.in-Some.is),
+    )
 
 pub loop-id-preserved : goal.loop-id-preserved
 loop-id-preserved g c = record {
@@ -31,7 +39,10 @@ loop-id-preserved g c = record {
       c.match-get-2.sibling
       (λ d e. elim c.match-get-2.branch [
         | in-None b ↦ b.sibling-is ∙ b.none-sibling.ensures ∙ number_none d (suc (length c.loop-id.to.items)) (sym e ∙ sym c.get-in-Some.ensures ∙ b.in-None.is)
-        | in-Some-get b ↦ b.sibling-is ∙ b.some-sibling.ensures ∙ ap (λ k. Some k) (omega (arith, b.new.ensures, b.len.ensures)) ∙ number_some d (suc (length c.loop-id.to.items)) _ (sym e ∙ sym c.get-in-Some.ensures ∙ b.in-Some-get.is)
+        | in-Some-get b ↦ b.sibling-is ∙ b.some-sibling.ensures ∙ ap (λ k. Some k)
+            (omega (arith, b.new.ensures, b.len.ensures)) ∙ number_some d
+            (suc (length c.loop-id.to.items)) _
+            (sym e ∙ sym c.get-in-Some.ensures ∙ b.in-Some-get.is)
       ])
       c.push_reserved.new.self.items
       (rw (← c.in_ok-copy_node.ensures) c.push_reserved.ensures.items);
@@ -39,4 +50,5 @@ loop-id-preserved g c = record {
 
 pub returns-clause-laid : goal.returns-clause-laid
 returns-clause-laid g c w row =
-    copying_done g.V.Clone.is_clone c.args.from.now c.args.to.now.items w c.loop-id.to.items (rw (sym c.get.ensures ∙ c.in_default.is) at c.loop-id.invariant.copying w row)
+    copying_done g.V.Clone.is_clone c.args.from.now c.args.to.now.items w c.loop-id.to.items
+    (rw (sym c.get.ensures ∙ c.in_default.is) at c.loop-id.invariant.copying w row)

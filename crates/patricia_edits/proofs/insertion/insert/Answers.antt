@@ -11,22 +11,31 @@ use Rattle.patricia_edits.proofs.insertion.insert.Goals as goal
 pub returns-then-is_some-clause-whole : goal.returns-then-is_some-clause-whole
 returns-then-is_some-clause-whole g c =
     (put_or_same g.Q.Owned.Bytes.item c.insert_at.result c.args.arena.now c.insert_at.new.arena (g.Q.BorrowedBytes.key c.args.key) c.args.value
-    (on_ok_weaker c.insert_at.result (λ puts. puts (g.Q.BorrowedBytes.key c.args.key) c.seek-place.ensures) c.insert_at.ensures.ok) c.insert_at.ensures.unchanged
+    (on_ok_weaker c.insert_at.result
+    (λ puts. puts (g.Q.BorrowedBytes.key c.args.key) c.seek-place.ensures)
+    c.insert_at.ensures.ok) c.insert_at.ensures.unchanged
     c.requires.whole c.requires.row).0
 
 pub returns-then-is_some-clause-row : goal.returns-then-is_some-clause-row
 returns-then-is_some-clause-row g c =
     (put_or_same g.Q.Owned.Bytes.item c.insert_at.result c.args.arena.now c.insert_at.new.arena (g.Q.BorrowedBytes.key c.args.key) c.args.value
-    (on_ok_weaker c.insert_at.result (λ puts. puts (g.Q.BorrowedBytes.key c.args.key) c.seek-place.ensures) c.insert_at.ensures.ok) c.insert_at.ensures.unchanged
+    (on_ok_weaker c.insert_at.result
+    (λ puts. puts (g.Q.BorrowedBytes.key c.args.key) c.seek-place.ensures)
+    c.insert_at.ensures.ok) c.insert_at.ensures.unchanged
     c.requires.whole c.requires.row).1
 
 pub returns-then-is_some-clause-only_new : goal.returns-then-is_some-clause-only_new
 returns-then-is_some-clause-only_new g c =
-    on_err_weaker c.insert_at.result (λ none. find_none (sought_at g.met.Q.Owned.Bytes.lawful c.requires.whole c.requires.row c.seek-place.ensures) none) c.insert_at.ensures.only_new
+    on_err_weaker c.insert_at.result
+    (λ none. find_none
+    (sought_at g.met.Q.Owned.Bytes.lawful c.requires.whole c.requires.row c.seek-place.ensures)
+    none) c.insert_at.ensures.only_new
 
 pub returns-then-is_err-clause-only_new : goal.returns-then-is_err-clause-only_new
 returns-then-is_err-clause-only_new g c =
-    find_none (sought_at g.met.Q.Owned.Bytes.lawful c.requires.whole c.requires.row c.seek-place.ensures) (sym c.here.ensures ∙ not_some c.here.result c.if-is_some.ensures)
+    find_none
+    (sought_at g.met.Q.Owned.Bytes.lawful c.requires.whole c.requires.row c.seek-place.ensures)
+    (sym c.here.ensures ∙ not_some c.here.result c.if-is_some.ensures)
 
 pub returns-clause-whole : goal.returns-clause-whole
 returns-clause-whole g c =

@@ -14,13 +14,16 @@ pub returns-in-Exact-clause-old : goal.returns-in-Exact-clause-old
 returns-in-Exact-clause-old g c =
     λ key p.
     let reads = rw c.index.ensures at c.index_mut-node.ensures.value in
-    c.replace.ensures.value ∙ sym (find_some (ready_at g.met.Q.Owned.Bytes.lawful c.requires.ready key p) c.in-Exact.id (ap node_of c.in-Exact.is) c.index_mut-node.result.now reads)
+    c.replace.ensures.value ∙ sym
+    (find_some (ready_at g.met.Q.Owned.Bytes.lawful c.requires.ready key p) c.in-Exact.id
+    (ap node_of c.in-Exact.is) c.index_mut-node.result.now reads)
 
 pub returns-in-Exact-clause-ok : goal.returns-in-Exact-clause-ok
 returns-in-Exact-clause-ok g c =
     λ key p.
     let reads = rw c.index.ensures at c.index_mut-node.ensures.value in
-    puts_here (ready_at g.met.Q.Owned.Bytes.lawful c.requires.ready key p) c.in-Exact.id (ap node_of c.in-Exact.is) c.index_mut-node.result.now reads _ c.args.value
+    puts_here (ready_at g.met.Q.Owned.Bytes.lawful c.requires.ready key p) c.in-Exact.id
+    (ap node_of c.in-Exact.is) c.index_mut-node.result.now reads _ c.args.value
     c.replace.new.self c.replace.ensures.after (rw c.index.ensures refl) refl refl
 
 pub returns-in-Ok-clause-old : goal.returns-in-Ok-clause-old

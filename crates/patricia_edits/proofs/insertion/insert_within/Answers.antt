@@ -5,7 +5,8 @@ use Rattle.patricia_edits.proofs.PutLemmas.{within_nodes, there_cell, ends_short
 use Rattle.patricia_edits.proofs.insertion.insert_within.Goals as goal
 
 -- the bytes of a node's label behind so many, as they are read
-module _ {label bytes cut : List ℕ} (n : ℕ) (cut_of : cut ≡ drop n bytes) (bytes_of : bytes ≡ label) where
+module _ {label bytes cut : List ℕ} (n : ℕ) (cut_of : cut ≡ drop n bytes)
+    (bytes_of : bytes ≡ label) where
   cut_is : cut ≡ drop n label
   cut_is = cut_of ∙ ap (drop n) bytes_of
 

@@ -8,13 +8,15 @@ pub returns-in-Some-clause-whole : goal.returns-in-Some-clause-whole
 returns-in-Some-clause-whole g c =
     let key = g.Q.BorrowedBytes.key c.args.key in
     (removed_or_same g.Q.Owned.Bytes.item c.remove_at.result c.args.arena.now c.remove_at.new.arena key
-    (on_ok_weaker c.remove_at.result (λ removes. removes key c.seek-place.ensures) c.remove_at.ensures.ok) c.remove_at.ensures.unchanged c.requires.whole c.requires.row).0
+    (on_ok_weaker c.remove_at.result (λ removes. removes key c.seek-place.ensures)
+    c.remove_at.ensures.ok) c.remove_at.ensures.unchanged c.requires.whole c.requires.row).0
 
 pub returns-in-Some-clause-row : goal.returns-in-Some-clause-row
 returns-in-Some-clause-row g c =
     let key = g.Q.BorrowedBytes.key c.args.key in
     (removed_or_same g.Q.Owned.Bytes.item c.remove_at.result c.args.arena.now c.remove_at.new.arena key
-    (on_ok_weaker c.remove_at.result (λ removes. removes key c.seek-place.ensures) c.remove_at.ensures.ok) c.remove_at.ensures.unchanged c.requires.whole c.requires.row).1
+    (on_ok_weaker c.remove_at.result (λ removes. removes key c.seek-place.ensures)
+    c.remove_at.ensures.ok) c.remove_at.ensures.unchanged c.requires.whole c.requires.row).1
 
 pub returns-in-Some-clause-old : goal.returns-in-Some-clause-old
 returns-in-Some-clause-old g c =

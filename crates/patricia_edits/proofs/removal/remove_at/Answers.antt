@@ -9,7 +9,8 @@ use Rattle.patricia_edits.proofs.RemoveLemmas.{some_number, here_is, child_there
 use Rattle.patricia_edits.proofs.removal.remove_at.Goals as goal
 
 -- a link, as it is read and tested
-module _ {A : Type 0} {link read : Option A} {test : Bool} (read_of : read ≡ link) (test_of : test ≡ is_some read) where
+module _ {A : Type 0} {link read : Option A} {test : Bool} (read_of : read ≡ link)
+    (test_of : test ≡ is_some read) where
   last : test ≡ false → link ≡ None
   last fails = sym read_of ∙ not_some read (sym fails ∙ test_of)
 

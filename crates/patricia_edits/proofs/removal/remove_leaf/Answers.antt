@@ -12,7 +12,8 @@ unlink-requires g c = leaf_at (ready_here g.met.Q.Owned.Bytes.lawful c.requires.
 pub returns-in_default-clause-ok : goal.returns-in_default-clause-ok
 returns-in_default-clause-ok g c key p =
     let here = ready_at g.met.Q.Owned.Bytes.lawful c.requires.ready key p in
-    leaf_spared here c.requires.here c.requires.leaf c.requires.valued c.unlink.new.self c.unlink.result (rw c.in_default.is at c.would_merge.ensures) c.unlink.ensures
+    leaf_spared here c.requires.here c.requires.leaf c.requires.valued c.unlink.new.self
+    c.unlink.result (rw c.in_default.is at c.would_merge.ensures) c.unlink.ensures
 
 pub returns-in_default-clause-value : goal.returns-in_default-clause-value
 returns-in_default-clause-value g c =
@@ -22,13 +23,15 @@ returns-in_default-clause-value g c =
 pub concat_labels-requires-clause-upper : goal.concat_labels-requires-clause-upper
 concat_labels-requires-clause-upper g c =
     let here = ready_here g.met.Q.Owned.Bytes.lawful c.requires.ready in
-    let both = both_within here c.requires.here c.requires.leaf c.requires.valued c.in-Some.alone.0 c.in-Some.alone.1 (rw c.in-Some.is at c.would_merge.ensures) in
+    let both = both_within here c.requires.here c.requires.leaf c.requires.valued c.in-Some.alone.0
+    c.in-Some.alone.1 (rw c.in-Some.is at c.would_merge.ensures) in
     omega (arith, both.0)
 
 pub concat_labels-requires-clause-lower : goal.concat_labels-requires-clause-lower
 concat_labels-requires-clause-lower g c =
     let here = ready_here g.met.Q.Owned.Bytes.lawful c.requires.ready in
-    let both = both_within here c.requires.here c.requires.leaf c.requires.valued c.in-Some.alone.0 c.in-Some.alone.1 (rw c.in-Some.is at c.would_merge.ensures) in
+    let both = both_within here c.requires.here c.requires.leaf c.requires.valued c.in-Some.alone.0
+    c.in-Some.alone.1 (rw c.in-Some.is at c.would_merge.ensures) in
     omega (arith, both.1)
 
 pub returns-in_err-label-clause-joins : goal.returns-in_err-label-clause-joins

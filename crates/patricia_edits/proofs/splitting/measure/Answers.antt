@@ -12,21 +12,30 @@ index-node-requires g c =
 
 pub overflow_add-size : goal.overflow_add-size
 overflow_add-size g c =
-    let fits = not_all _ _ _ _ _ _ c.loop-id.invariant c.in-Some.id (sym c.get.ensures ∙ c.in-Some.is) c.index-node.result.now (rw c.index.ensures at c.index-node.ensures) in
+    let fits = not_all _ _ _ _ _ _ c.loop-id.invariant c.in-Some.id
+    (sym c.get.ensures ∙ c.in-Some.is) c.index-node.result.now
+    (rw c.index.ensures at c.index-node.ensures) in
     omega (arith, fits)
 
 pub overflow_add-size-in-Some : goal.overflow_add-size-in-Some
 overflow_add-size-in-Some g c =
-    let fits = not_full _ _ _ _ _ _ c.loop-id.invariant c.in-Some.id (sym c.get.ensures ∙ c.in-Some.is) c.index-node.result.now (rw c.index.ensures at c.index-node.ensures) in
+    let fits = not_full _ _ _ _ _ _ c.loop-id.invariant c.in-Some.id
+    (sym c.get.ensures ∙ c.in-Some.is) c.index-node.result.now
+    (rw c.index.ensures at c.index-node.ensures) in
     omega (arith, fits, c.how_many.ensures)
 
 pub loop-id-smaller-in-Some : goal.loop-id-smaller-in-Some
 loop-id-smaller-in-Some g c =
-    less_down _ _ _ _ _ _ c.loop-id.invariant c.in-Some.id (sym c.get.ensures ∙ c.in-Some.is) c.index-node.result.now (rw c.index.ensures at c.index-node.ensures) _ c.in_ok-push-in-Some.ensures.items
+    less_down _ _ _ _ _ _ c.loop-id.invariant c.in-Some.id (sym c.get.ensures ∙ c.in-Some.is)
+    c.index-node.result.now (rw c.index.ensures at c.index-node.ensures) _
+    c.in_ok-push-in-Some.ensures.items
 
 pub loop-id-preserved-in-Some : goal.loop-id-preserved-in-Some
 loop-id-preserved-in-Some g c =
-    measuring_down _ _ _ _ _ _ c.loop-id.invariant c.in-Some.id (sym c.get.ensures ∙ c.in-Some.is) c.index-node.result.now (rw c.index.ensures at c.index-node.ensures) _ _ refl (ap (λ n. c.loop-id.size.values + n) c.how_many.ensures) _ c.in_ok-push-in-Some.ensures.items
+    measuring_down _ _ _ _ _ _ c.loop-id.invariant c.in-Some.id (sym c.get.ensures ∙ c.in-Some.is)
+    c.index-node.result.now (rw c.index.ensures at c.index-node.ensures) _ _ refl
+    (ap (λ n. c.loop-id.size.values + n) c.how_many.ensures) _
+    c.in_ok-push-in-Some.ensures.items
 
 pub loop-id-smaller : goal.loop-id-smaller
 loop-id-smaller g c = less_back _ _ _ _ _ _ c.loop-id.invariant (sym c.get.ensures ∙ c.in-None.is) _ _ c.in-Some-pop.ensures.items
@@ -35,4 +44,6 @@ pub loop-id-preserved : goal.loop-id-preserved
 loop-id-preserved g c = measuring_back _ _ _ _ _ _ c.loop-id.invariant (sym c.get.ensures ∙ c.in-None.is) _ _ c.in-Some-pop.ensures.items
 
 pub returns-in-None-pop : goal.returns-in-None-pop
-returns-in-None-pop g c p plan = measuring_done _ _ _ _ _ _ c.loop-id.invariant (sym c.get.ensures ∙ c.in-None.is) (let e = c.in-None-pop.ensures.cases in omega (arith, e.0)) p plan
+returns-in-None-pop g c p plan = measuring_done _ _ _ _ _ _ c.loop-id.invariant
+    (sym c.get.ensures ∙ c.in-None.is) (let e = c.in-None-pop.ensures.cases in omega (arith, e.0))
+    p plan

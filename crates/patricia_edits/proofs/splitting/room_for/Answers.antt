@@ -34,4 +34,6 @@ pub returns-clause-counted : goal.returns-clause-counted
 returns-clause-counted g c fs l v child d holds =
     let reads = rw c.index.ensures at c.index-node.ensures in
     let plan = child_plan c.args.arena.now c.args.id fs l v child d holds c.index-node.result.now reads in
-    tree_counted c.args.arena.now c.args.id fs l v child d holds c.index-node.result.now reads _ _ _ _ (c.in_ok-below.ensures child plan) c.in_ok-room.ensures.capacity (ap (λ n. c.in_ok-below.below.values + n) c.how_many.ensures)
+    tree_counted c.args.arena.now c.args.id fs l v child d holds c.index-node.result.now reads _ _
+    _ _ (c.in_ok-below.ensures child plan) c.in_ok-room.ensures.capacity
+    (ap (λ n. c.in_ok-below.below.values + n) c.how_many.ensures)

@@ -9,7 +9,11 @@ use Rattle.patricia_json.proofs.json.pair_from_json.Goals as goal
 pub returns-clause-read : goal.returns-clause-read
 returns-clause-read c =
     c.in_ok-parts.ensures.ok
-    ∙ ap Some (ap view c.in-Array.is ∙ view-Array c.in-Array.parts ∙ ap array (c.in_ok-numbers.ensures.ok ∙ ap (λ ns. two_arrays ns (items_view c.in_ok-numbers.values.items)) (ap items_view (sym c.deref-2.ensures.value) ∙ c.in_ok-bytes.ensures.ok)))
+    ∙ ap Some
+    (ap view c.in-Array.is ∙ view-Array c.in-Array.parts ∙ ap array
+    (c.in_ok-numbers.ensures.ok ∙ ap
+    (λ ns. two_arrays ns (items_view c.in_ok-numbers.values.items))
+    (ap items_view (sym c.deref-2.ensures.value) ∙ c.in_ok-bytes.ensures.ok)))
 
 pub returns-clause-no_float : goal.returns-clause-no_float
 returns-clause-no_float c =

@@ -7,11 +7,15 @@ use Rattle.patricia_model.proofs.label_cmp.compare_label.Goals as goal
 
 pub returns-then-first-label : goal.returns-then-first-label
 returns-then-first-label g c =
-    before_by_first_byte _ g.met.Q.Owned.Bytes.lawful _ _ c.as_bytes.ensures.valid c.requires.valid c.requires.key_filled c.requires.nonempty (rw c.as_bytes.ensures.value at c.if-first-label.true)
+    before_by_first_byte _ g.met.Q.Owned.Bytes.lawful _ _ c.as_bytes.ensures.valid c.requires.valid
+    c.requires.key_filled c.requires.nonempty
+    (rw c.as_bytes.ensures.value at c.if-first-label.true)
 
 pub returns-then-label-first : goal.returns-then-label-first
 returns-then-label-first g c =
-    before_by_first_byte _ g.met.Q.Owned.Bytes.lawful _ _ c.requires.valid c.as_bytes.ensures.valid c.requires.nonempty c.requires.key_filled (rw c.as_bytes.ensures.value at c.if-label-first.true)
+    before_by_first_byte _ g.met.Q.Owned.Bytes.lawful _ _ c.requires.valid c.as_bytes.ensures.valid
+    c.requires.nonempty c.requires.key_filled
+    (rw c.as_bytes.ensures.value at c.if-label-first.true)
 
 pub returns-then-n-label : goal.returns-then-n-label
 returns-then-n-label g c =

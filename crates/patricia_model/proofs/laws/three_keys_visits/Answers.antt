@@ -13,10 +13,28 @@ use Rattle.patricia_model.proofs.laws.three_keys_visits.Goals as goal
 
 -- keys by their first bytes
 before : (b c : ℕ) (k m : List ℕ) → b < c → c < 256 → IsBefore IsByteItem (b ∷ k) (c ∷ m)
-before b c k m less small = record { first = b ∷ []; second = c ∷ []; first_item = one_byte (omega arith); second_item = one_byte small; first_begins = (k, refl); second_begins = (m, refl); less = grind (arith, nat_tests) }
+before b c k m less small = record {
+  first = b ∷ [];
+  second = c ∷ [];
+  first_item = one_byte (omega arith);
+  second_item = one_byte small;
+  first_begins = (k, refl);
+  second_begins = (m, refl);
+  less = grind (arith, nat_tests);
+}
 
 passes : (b : ℕ) (l rest : List ℕ) → b < 256 → Passes IsByteItem (b ∷ (l ++ rest)) (b ∷ l) rest
-passes b l rest small = record { shares = record { shared = b ∷ []; is_item = one_byte small; begins_first = (l ++ rest, refl); begins_second = (l, refl) }; splits = refl }
+passes b l rest small =
+    record {
+      shares =
+          record {
+            shared = b ∷ [];
+            is_item = one_byte small;
+            begins_first = (l ++ rest, refl);
+            begins_second = (l, refl);
+          };
+      splits = refl;
+    }
 
 -- the nodes of the three keys
 abbrev last : Siblings ℕ
@@ -32,24 +50,66 @@ abbrev row : Siblings ℕ
 row = node (98 ∷ 97 ∷ []) None below last
 
 last_row : IsCanonical IsByteItem last
-last_row = record { valid = ((102 ∷ []) ∷ (111 ∷ []) ∷ (111 ∷ []) ∷ [], (one_byte (omega arith), (one_byte (omega arith), (one_byte (omega arith), tt))), refl); nonempty = λ none. cc; fits = tt; earns = tt; rises = tt; child = tt; sibling = tt }
+last_row =
+    record {
+      valid = (
+        (102 ∷ []) ∷ (111 ∷ []) ∷ (111 ∷ []) ∷ [],
+        (one_byte (omega arith), (one_byte (omega arith), (one_byte (omega arith), tt))),
+        refl,
+      );
+      nonempty = λ none. cc;
+      fits = tt;
+      earns = tt;
+      rises = tt;
+      child = tt;
+      sibling = tt;
+    }
 
 later_row : IsCanonical IsByteItem later
-later_row = record { valid = ((122 ∷ []) ∷ [], (one_byte (omega arith), tt), refl); nonempty = λ none. cc; fits = tt; earns = tt; rises = tt; child = tt; sibling = tt }
+later_row = record {
+  valid = ((122 ∷ []) ∷ [], (one_byte (omega arith), tt), refl);
+  nonempty = λ none. cc;
+  fits = tt;
+  earns = tt;
+  rises = tt;
+  child = tt;
+  sibling = tt;
+}
 
 below_row : IsCanonical IsByteItem below
-below_row = record { valid = ((114 ∷ []) ∷ [], (one_byte (omega arith), tt), refl); nonempty = λ none. cc; fits = tt; earns = tt; rises = before 114 122 [] [] (omega arith) (omega arith); child = tt; sibling = later_row }
+below_row = record {
+  valid = ((114 ∷ []) ∷ [], (one_byte (omega arith), tt), refl);
+  nonempty = λ none. cc;
+  fits = tt;
+  earns = tt;
+  rises = before 114 122 [] [] (omega arith) (omega arith);
+  child = tt;
+  sibling = later_row;
+}
 
 whole_row : IsCanonical IsByteItem row
-whole_row = record { valid = ((98 ∷ []) ∷ (97 ∷ []) ∷ [], (one_byte (omega arith), (one_byte (omega arith), tt)), refl); nonempty = λ none. cc; fits = tt; earns = tt; rises = before 98 102 _ _ (omega arith) (omega arith); child = below_row; sibling = last_row }
+whole_row =
+    record {
+      valid =
+          ((98 ∷ []) ∷ (97 ∷ []) ∷ [], (one_byte (omega arith), (one_byte (omega arith), tt)), refl);
+      nonempty = λ none. cc;
+      fits = tt;
+      earns = tt;
+      rises = before 98 102 _ _ (omega arith) (omega arith);
+      child = below_row;
+      sibling = last_row;
+    }
 
 -- the root's visit and those of the row
-count : (k : List ℕ) (m : ℕ) → IsCounted IsByteItem row k 0 m → IsVisitCount IsByteItem three_keys k (1 + m)
+count : (k : List ℕ) (m : ℕ) → IsCounted IsByteItem row k 0 m
+    → IsVisitCount IsByteItem three_keys k (1 + m)
 count k m counted = record { visited = counted.visited; once = counted.visits.once; exactly = counted.visits.exactly; is = omega (arith, counted.is) }
 
 pub returns : goal.returns
 returns c = record {
-  through = count baz 3 (counted_through IsByteItem byte_lawful _ _ _ _ whole_row baz (λ none. cc) 0 1 refl 3 (122 ∷ []) (passes 98 (97 ∷ []) (122 ∷ []) (omega arith)) (λ none. cc)
+  through = count baz 3
+      (counted_through IsByteItem byte_lawful _ _ _ _ whole_row baz (λ none. cc) 0 1 refl 3
+      (122 ∷ []) (passes 98 (97 ∷ []) (122 ∷ []) (omega arith)) (λ none. cc)
       (counted_past IsByteItem byte_lawful _ _ _ _ below_row (122 ∷ []) (λ none. cc) 1 2 refl 3 (before 114 122 [] [] (omega arith) (omega arith))
       (counted_here IsByteItem byte_lawful _ _ _ _ later_row (122 ∷ []) (λ none. cc) 2 3 refl [] (passes 122 [] [] (omega arith)) refl)));
   beside = count foo 2 (counted_past IsByteItem byte_lawful _ _ _ _ whole_row foo (λ none. cc) 0 1 refl 2 (before 98 102 _ _ (omega arith) (omega arith))

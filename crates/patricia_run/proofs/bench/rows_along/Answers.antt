@@ -4,13 +4,21 @@ use Rattle.patricia_run.proofs.bench.rows_along.Goals as goal
 
 pub returns-in_err-from_bytes-clause-err : goal.returns-in_err-from_bytes-clause-err
 returns-in_err-from_bytes-clause-err g c =
-    OnErr-from c.from_residual.result (some_row g.Q.Owned.Bytes.key c.loop-prefix.rows.items c.loop-prefix.prefix-iterator _ (λ none. let both = sym c.in-Some.ensures.steps ∙ none in absurd (cc)) c.loop-prefix.invariant)
+    OnErr-from c.from_residual.result
+    (some_row g.Q.Owned.Bytes.key c.loop-prefix.rows.items c.loop-prefix.prefix-iterator _
+    (λ none. let both = sym c.in-Some.ensures.steps ∙ none in absurd (cc))
+    c.loop-prefix.invariant)
 
 pub loop-prefix-preserved : goal.loop-prefix-preserved
 loop-prefix-preserved g c =
     let gave = c.in-Some.ensures.steps ∙ ap (λ k. (k, c.in-Some.value.now) ∷ c.next.new.self) (sym (c.in_ok-from_bytes.ensures ∙ c.as_bytes.ensures.value)) in
-    rw c.in_ok-push.ensures.items (one_more_row g.Q.Owned.Bytes.key c.loop-prefix.rows.items _ c.loop-prefix.prefix-iterator c.next.new.self _ gave c.loop-prefix.invariant)
+    rw c.in_ok-push.ensures.items
+    (one_more_row g.Q.Owned.Bytes.key c.loop-prefix.rows.items _ c.loop-prefix.prefix-iterator
+    c.next.new.self _ gave c.loop-prefix.invariant)
 
 pub returns-in_err-push-clause-err : goal.returns-in_err-push-clause-err
 returns-in_err-push-clause-err g c =
-    OnErr-from c.from_residual-in_err-push.result (some_row g.Q.Owned.Bytes.key c.loop-prefix.rows.items c.loop-prefix.prefix-iterator _ (λ none. let both = sym c.in-Some.ensures.steps ∙ none in absurd (cc)) c.loop-prefix.invariant)
+    OnErr-from c.from_residual-in_err-push.result
+    (some_row g.Q.Owned.Bytes.key c.loop-prefix.rows.items c.loop-prefix.prefix-iterator _
+    (λ none. let both = sym c.in-Some.ensures.steps ∙ none in absurd (cc))
+    c.loop-prefix.invariant)

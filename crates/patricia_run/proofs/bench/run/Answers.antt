@@ -16,7 +16,11 @@ loop-command-preserved g c =
 
 pub returns-clause-ok : goal.returns-clause-ok
 returns-clause-ok g c =
-    subst (λ commands. Run g.K.Bytes.item g.K.Bytes.key c.args.bench.now (map (with_key g.Q.BorrowedBytes.key) commands) c.loop-command.replies.items c.loop-command.bench) (take_all c.loop-command.command-index c.args.commands.now c.loop-command-test.false) c.loop-command.invariant.run
+    subst (λ commands. Run g.K.Bytes.item g.K.Bytes.key c.args.bench.now
+    (map (with_key g.Q.BorrowedBytes.key) commands) c.loop-command.replies.items
+    c.loop-command.bench)
+    (take_all c.loop-command.command-index c.args.commands.now c.loop-command-test.false)
+    c.loop-command.invariant.run
 
 pub returns-in_err-replies-clause-unchanged : goal.returns-in_err-replies-clause-unchanged
 returns-in_err-replies-clause-unchanged g c = search rules

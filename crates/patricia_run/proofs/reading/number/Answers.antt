@@ -23,7 +23,16 @@ returns-in_err-value c =
     let step = after_drop xs i c.loop-b.value c.loop-b-test.true in
     let more = digits_value_after-ge (c.loop-b.value * 10 + digit_value (get_or xs i 0)) (drop (i + 1) xs) in
     let is = digit_is (get_or xs i 0) (sym c.is_ascii_digit.ensures.value ∙ c.if-not-is_ascii_digit.false) in
-    let big : 2 ^ 64 ≤ digits_value 10 xs = omega (arith, c.loop-b.invariant.value, step, more, is, c.from.ensures, c.in_ok-checked_mul.ensures, c.in_err-value.ensures) in
+    let big : 2 ^ 64 ≤ digits_value 10 xs = omega (
+      arith,
+      c.loop-b.invariant.value,
+      step,
+      more,
+      is,
+      c.from.ensures,
+      c.in_ok-checked_mul.ensures,
+      c.in_err-value.ensures,
+    ) in
     rw c.from_residual-in_err-value.ensures (number_big c.args.field.now big)
 
 pub returns : goal.returns
@@ -31,4 +40,8 @@ returns c =
     let xs = c.args.field.now in
     let i = c.loop-b.b-index in
     let full : 0 < length xs = omega (arith, eqb-false (length xs) 0 (sym c.is_empty.ensures ∙ c.if-is_empty.false)) in
-    number_some xs c.loop-b.value full (c.loop-b.invariant.digits ∙ at_drop_all (list_all is_ascii_digit) xs i c.loop-b-test.false) (c.loop-b.invariant.value ∙ at_drop_all (digits_value_after 10 c.loop-b.value) xs i c.loop-b-test.false) c.loop-b.invariant.small
+    number_some xs c.loop-b.value full
+    (c.loop-b.invariant.digits ∙ at_drop_all (list_all is_ascii_digit) xs i
+    c.loop-b-test.false)
+    (c.loop-b.invariant.value ∙ at_drop_all (digits_value_after 10 c.loop-b.value) xs i
+    c.loop-b-test.false) c.loop-b.invariant.small

@@ -12,9 +12,16 @@ overflow_sub-front g c =
 
 pub returns-in_err-top-clause-none : goal.returns-in_err-top-clause-none
 returns-in_err-top-clause-none g c =
-    if_none _ (starts_nowhere _ g.met.Q.Owned.Bytes.lawful _ _ (marked _ c.requires.whole).1 c.requires.whole c.requires.row _ _ _ _ _ c.seek-place.ensures c.as_bytes-2.ensures.valid (sym c.under.ensures ∙ c.in_err-top.was))
+    if_none _
+    (starts_nowhere _ g.met.Q.Owned.Bytes.lawful _ _ (marked _ c.requires.whole).1
+    c.requires.whole c.requires.row _ _ _ _ _ c.seek-place.ensures c.as_bytes-2.ensures.valid
+    (sym c.under.ensures ∙ c.in_err-top.was))
 
 pub returns-clause-some : goal.returns-clause-some
 returns-clause-some g c =
-    let front = ap (λ n. n - length c.as_bytes-2.result.now) (ap length c.as_bytes.ensures.value) ∙ ap (λ n. length (g.Q.BorrowedBytes.key c.args.prefix) - n) (ap length c.as_bytes-2.ensures.value) in
-    starts_under _ g.met.Q.Owned.Bytes.lawful _ _ (marked _ c.requires.whole).1 c.requires.whole c.requires.row _ _ _ _ _ c.seek-place.ensures _ front _ (sym c.under.ensures ∙ c.in_ok-top.was)
+    let front = ap (λ n. n - length c.as_bytes-2.result.now) (ap length c.as_bytes.ensures.value) ∙
+    ap (λ n. length (g.Q.BorrowedBytes.key c.args.prefix) - n)
+    (ap length c.as_bytes-2.ensures.value) in
+    starts_under _ g.met.Q.Owned.Bytes.lawful _ _ (marked _ c.requires.whole).1 c.requires.whole
+    c.requires.row _ _ _ _ _ c.seek-place.ensures _ front _
+    (sym c.under.ensures ∙ c.in_ok-top.was)

@@ -14,12 +14,34 @@ overflow_sub-passed g c =
 
 pub returns-in-Absent : goal.returns-in-Absent
 returns-in-Absent g c v =
-    place_reach _ g.met.Q.Owned.Bytes.lawful _ c.requires.row _ _ _ _ Absent (rw c.in-Absent.is at c.seek-place.ensures) _ (omega (arith, ap length c.as_bytes-left.ensures.value, ap length c.as_bytes.ensures.value)) v
+    place_reach _ g.met.Q.Owned.Bytes.lawful _ c.requires.row _ _ _ _ Absent
+    (rw c.in-Absent.is at c.seek-place.ensures) _
+    (omega (
+      arith,
+      ap length c.as_bytes-left.ensures.value,
+      ap length
+          c.as_bytes.ensures.value,
+    )) v
 
 pub returns-in-InsideLabel : goal.returns-in-InsideLabel
 returns-in-InsideLabel g c v =
-    place_reach _ g.met.Q.Owned.Bytes.lawful _ c.requires.row _ _ _ _ (InsideLabel c.in-InsideLabel.field-0 c.in-InsideLabel.n) (rw c.in-InsideLabel.is at c.seek-place.ensures) _ (omega (arith, ap length c.as_bytes-left.ensures.value, ap length c.as_bytes.ensures.value)) v
+    place_reach _ g.met.Q.Owned.Bytes.lawful _ c.requires.row _ _ _ _
+    (InsideLabel c.in-InsideLabel.field-0 c.in-InsideLabel.n)
+    (rw c.in-InsideLabel.is at c.seek-place.ensures) _
+    (omega (
+      arith,
+      ap length c.as_bytes-left.ensures.value,
+      ap length
+          c.as_bytes.ensures.value,
+    )) v
 
 pub returns-in-Exact : goal.returns-in-Exact
 returns-in-Exact g c v =
-    place_reach _ g.met.Q.Owned.Bytes.lawful _ c.requires.row _ _ _ _ (Exact c.in-Exact.field-0) (rw c.in-Exact.is at c.seek-place.ensures) _ (omega (arith, ap length c.as_bytes-left.ensures.value, ap length c.as_bytes.ensures.value)) v
+    place_reach _ g.met.Q.Owned.Bytes.lawful _ c.requires.row _ _ _ _ (Exact c.in-Exact.field-0)
+    (rw c.in-Exact.is at c.seek-place.ensures) _
+    (omega (
+      arith,
+      ap length c.as_bytes-left.ensures.value,
+      ap length
+          c.as_bytes.ensures.value,
+    )) v

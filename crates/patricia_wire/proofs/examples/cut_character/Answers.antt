@@ -16,12 +16,15 @@ half = record { level = 1; label = 240 ∷ 159 ∷ []; value = true; child = fal
 -- a character that begins with the byte 240 has four bytes
 not_text : IsValid IsTextItem (240 ∷ 159 ∷ []) → ⊥
 not_text valid =
-    let four = text_first (240 ∷ 159 ∷ []) 4 valid (omega arith) (λ c scalar same. (let tells = first_tells c scalar in sym (tells.four (omega (arith, same))))) in
+    let four = text_first (240 ∷ 159 ∷ []) 4 valid (omega arith)
+    (λ c scalar same.
+    (let tells = first_tells c scalar in sym (tells.four (omega (arith, same))))) in
     omega (arith, four.0)
 
 pub returns-clause-texts : goal.returns-clause-texts
 returns-clause-texts c =
-    first_broken IsTextItem (no_tests IsTextItem) 2 _ 1 1 (opened ∷ []) first_child [] 4 half (3 ∷ 2 ∷ 0 ∷ 1 ∷ 240 ∷ 159 ∷ []) [] invalid_label (opened_read IsTextItem 1) refl
+    first_broken IsTextItem (no_tests IsTextItem) 2 _ 1 1 (opened ∷ []) first_child [] 4 half
+    (3 ∷ 2 ∷ 0 ∷ 1 ∷ 240 ∷ 159 ∷ []) [] invalid_label (opened_read IsTextItem 1) refl
     (reads_clean 2 (opened ∷ []) (3 ∷ 2 ∷ 0 ∷ 1 ∷ 240 ∷ 159 ∷ []) refl) (clean_spells 2 half (byte_room 2 half refl)) not_text refl
 
 pub returns-clause-bytes : goal.returns-clause-bytes

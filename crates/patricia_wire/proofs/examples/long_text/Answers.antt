@@ -65,8 +65,11 @@ ok = record {
 }
 
 -- the first kana has no room behind the letters
-full : (i : List ℕ) → IsTextItem i → Begins i (first_kana ++ second_kana) → 255 < length (replicate 254 97 ++ i)
-full i is begun = let three = ap length (begins_same IsTextItem text_lawful i first_kana (first_kana ++ second_kana) is first_item begun (second_kana, refl)) in omega arith
+full : (i : List ℕ) → IsTextItem i → Begins i (first_kana ++ second_kana)
+    → 255 < length (replicate 254 97 ++ i)
+full i is begun =
+    let three = ap length (begins_same IsTextItem text_lawful i first_kana (first_kana ++ second_kana) is first_item begun (second_kana, refl)) in
+    omega arith
 
 pub returns-clause-texts : goal.returns-clause-texts
 returns-clause-texts c = record {
@@ -79,4 +82,7 @@ returns-clause-texts c = record {
 
 pub returns-clause-bytes : goal.returns-clause-bytes
 returns-clause-bytes c =
-    byte_written 2 None (node (replicate 254 97 ++ 227 ∷ []) None (node (129 ∷ 130 ∷ 227 ∷ 129 ∷ 174 ∷ []) (Some tt) end end) (node (98 ∷ []) (Some tt) end end)) refl refl refl
+    byte_written 2 None
+    (node (replicate 254 97 ++ 227 ∷ []) None
+    (node (129 ∷ 130 ∷ 227 ∷ 129 ∷ 174 ∷ []) (Some tt) end end)
+    (node (98 ∷ []) (Some tt) end end)) refl refl refl

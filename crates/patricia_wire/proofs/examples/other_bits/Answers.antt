@@ -26,11 +26,31 @@ spelled : EncodeAll 2 records a_in_other_bits
 spelled = record {
   first = 200 ∷ 0 ∷ 0 ∷ 0 ∷ [];
   rest = 194 ∷ 1 ∷ 0 ∷ 1 ∷ 97 ∷ [];
-  spelled = record { flags = 200; marks = record { in_a_byte = omega arith; value = clear 0 refl; child = set 8 (λ h. cc); sibling = clear 0 refl }; room = byte_room 2 root refl; is = refl };
+  spelled = record {
+    flags = 200;
+    marks = record {
+      in_a_byte = omega arith;
+      value = clear 0 refl;
+      child = set 8 (λ h. cc);
+      sibling = clear 0 refl;
+    };
+    room = byte_room 2 root refl;
+    is = refl;
+  };
   others = record {
     first = 194 ∷ 1 ∷ 0 ∷ 1 ∷ 97 ∷ [];
     rest = [];
-    spelled = record { flags = 194; marks = record { in_a_byte = omega arith; value = set 2 (λ h. cc); child = clear 0 refl; sibling = clear 0 refl }; room = byte_room 2 a refl; is = refl };
+    spelled = record {
+      flags = 194;
+      marks = record {
+        in_a_byte = omega arith;
+        value = set 2 (λ h. cc);
+        child = clear 0 refl;
+        sibling = clear 0 refl;
+      };
+      room = byte_room 2 a refl;
+      is = refl;
+    };
     others = refl;
     joined = refl;
   };

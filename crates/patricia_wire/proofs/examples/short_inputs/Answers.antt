@@ -50,16 +50,23 @@ pub returns-clause-level : goal.returns-clause-level
 returns-clause-level c = first_of_bytes 2 0 0 [] the_root [] (bare 1 false) [] level nothing refl refl refl (λ same. cc) refl
 
 pub returns-clause-label : goal.returns-clause-label
-returns-clause-label c = first_broken IsByteItem byte_tests 2 _ 1 1 [] the_root [] 0 labelled (2 ∷ 1 ∷ 0 ∷ 0 ∷ 97 ∷ []) [] root_label nothing refl (reads_clean 2 [] _ refl) labelled_spelled (refl, λ none. cc) refl
+returns-clause-label c = first_broken IsByteItem byte_tests 2 _ 1 1 [] the_root [] 0 labelled
+    (2 ∷ 1 ∷ 0 ∷ 0 ∷ 97 ∷ []) [] root_label nothing refl (reads_clean 2 [] _ refl) labelled_spelled
+    (refl, λ none. cc) refl
 
 pub returns-clause-sibling : goal.returns-clause-sibling
-returns-clause-sibling c = first_broken IsByteItem byte_tests 2 _ 0 0 [] the_root [] 0 followed (32 ∷ 0 ∷ 0 ∷ 0 ∷ []) [] root_sibling nothing refl (reads_clean 2 [] _ refl) followed_spelled (refl, refl) refl
+returns-clause-sibling c = first_broken IsByteItem byte_tests 2 _ 0 0 [] the_root [] 0 followed
+    (32 ∷ 0 ∷ 0 ∷ 0 ∷ []) [] root_sibling nothing refl (reads_clean 2 [] _ refl) followed_spelled
+    (refl, refl) refl
 
 pub returns-clause-few : goal.returns-clause-few
 returns-clause-few c = first_of_bytes 2 0 0 [] the_root [] (bare 0 true) [] too_few_values nothing refl refl refl (refl, refl) refl
 
 pub returns-clause-trailing : goal.returns-clause-trailing
-returns-clause-trailing c = first_trailing IsByteItem 0 2 _ (bare 0 false ∷ []) 4 (0 ∷ []) [] (empty_read 0) (reads_clean 2 (bare 0 false ∷ []) (0 ∷ []) refl) empty_tree (λ none. cc)
+returns-clause-trailing c = first_trailing IsByteItem 0 2 _ (bare 0 false ∷ []) 4 (0 ∷ []) []
+    (empty_read 0) (reads_clean 2 (bare 0 false ∷ []) (0 ∷ []) refl) empty_tree (λ none. cc)
 
 pub returns-clause-many : goal.returns-clause-many
-returns-clause-many c = first_too_many IsByteItem 1 2 _ (bare 0 false ∷ []) [] (empty_read 1) (clean_spell_all 2 (bare 0 false ∷ []) (byte_rooms 2 (bare 0 false ∷ []) refl)) empty_tree (omega arith)
+returns-clause-many c = first_too_many IsByteItem 1 2 _ (bare 0 false ∷ []) [] (empty_read 1)
+    (clean_spell_all 2 (bare 0 false ∷ []) (byte_rooms 2 (bare 0 false ∷ []) refl)) empty_tree
+    (omega arith)

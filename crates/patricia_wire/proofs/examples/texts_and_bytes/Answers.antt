@@ -46,9 +46,25 @@ ok = record {
     nonempty = λ e. cc;
     fits = omega arith;
     marked = inl refl;
-    rises = record { first = hamburger; second = mountain; first_item = hamburger_item; second_item = mountain_item; first_begins = ([], refl); second_begins = ([], refl); less = refl };
+    rises = record {
+      first = hamburger;
+      second = mountain;
+      first_item = hamburger_item;
+      second_item = mountain_item;
+      first_begins = ([], refl);
+      second_begins = ([], refl);
+      less = refl;
+    };
     child = tt;
-    sibling = record { valid = IsValid-item IsTextItem mountain mountain_item; nonempty = λ e. cc; fits = omega arith; marked = inl refl; rises = tt; child = tt; sibling = tt };
+    sibling = record {
+      valid = IsValid-item IsTextItem mountain mountain_item;
+      nonempty = λ e. cc;
+      fits = omega arith;
+      marked = inl refl;
+      rises = tt;
+      child = tt;
+      sibling = tt;
+    };
   };
   sibling = tt;
 }
@@ -57,4 +73,7 @@ pub returns-clause-texts : goal.returns-clause-texts
 returns-clause-texts c = written IsTextItem text_lawful 2 None row ok refl refl
 
 pub returns-clause-bytes : goal.returns-clause-bytes
-returns-clause-bytes c = byte_written 2 None (node (240 ∷ 159 ∷ 140 ∷ 143 ∷ 240 ∷ 159 ∷ []) None (node (141 ∷ 148 ∷ []) (Some tt) end (node (151 ∷ 187 ∷ []) (Some tt) end end)) end) refl refl refl
+returns-clause-bytes c = byte_written 2 None
+    (node (240 ∷ 159 ∷ 140 ∷ 143 ∷ 240 ∷ 159 ∷ []) None
+    (node (141 ∷ 148 ∷ []) (Some tt) end (node (151 ∷ 187 ∷ []) (Some tt) end end)) end) refl refl
+    refl

@@ -31,7 +31,9 @@ pub returns-clause-level : goal.returns-clause-level
 returns-clause-level c = first_below 0 deep [] level refl (λ same. cc) refl
 
 pub returns-clause-label : goal.returns-clause-label
-returns-clause-label c = first_broken IsByteItem byte_tests 2 _ 0 0 [] the_root [] 0 named (32 ∷ 1 ∷ 0 ∷ 0 ∷ 97 ∷ []) [] root_label nothing refl (reads_clean 2 [] _ refl) named_spelled (refl, λ none. cc) refl
+returns-clause-label c = first_broken IsByteItem byte_tests 2 _ 0 0 [] the_root [] 0 named
+    (32 ∷ 1 ∷ 0 ∷ 0 ∷ 97 ∷ []) [] root_label nothing refl (reads_clean 2 [] _ refl) named_spelled
+    (refl, λ none. cc) refl
 
 pub returns-clause-trailing : goal.returns-clause-trailing
 returns-clause-trailing c =

@@ -15,4 +15,8 @@ returns g c =
     let r = c.args.record.now in
     let view = c.record.view_is in
     let prepared = subst (λ (r : Record). Prepares c.args.self.now.next c.args.self.now r.sibling c.prepare.new.self) view c.in_ok-prepare.ensures in
-    on_ok c.close.result (λ closes. added g.K.Bytes.item c.args.self.now c.prepare.new.self c.open.new.self c.close.new.self r c.args.value c.in_default.not-Root prepared c.in_ok-open.ensures (subst (λ (r : Record). ClosesAs c.open.new.self c.args.value r.child c.close.new.self) view closes)) c.close.ensures
+    on_ok c.close.result
+    (λ closes. added g.K.Bytes.item c.args.self.now c.prepare.new.self c.open.new.self
+    c.close.new.self r c.args.value c.in_default.not-Root prepared c.in_ok-open.ensures
+    (subst (λ (r : Record). ClosesAs c.open.new.self c.args.value r.child c.close.new.self)
+    view closes)) c.close.ensures

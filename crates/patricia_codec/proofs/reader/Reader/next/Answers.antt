@@ -14,17 +14,22 @@ returns-in_default-clause-ok g c =
 
 pub returns-in_default-read-clause-refused : goal.returns-in_default-read-clause-refused
 returns-in_default-read-clause-refused g c n before due reading count =
-    refused_cut g.K.Bytes.item c.args.self.now c.in-Some.due c.pop.new.self.items c.in-Some.ensures.items n before due reading (c.read.ensures.none c.in_default-read.is)
+    refused_cut g.K.Bytes.item c.args.self.now c.in-Some.due c.pop.new.self.items
+    c.in-Some.ensures.items n before due reading (c.read.ensures.none c.in_default-read.is)
 
 pub check-requires : goal.check-requires
 check-requires g c = record {
-  after = after_next g.K.Bytes.item c.args.self.now c.in-Some.due c.pop.new.self.items c.in-Some.ensures.items c.requires.n c.requires.before c.requires.due c.requires.reading;
+  after = after_next g.K.Bytes.item c.args.self.now c.in-Some.due c.pop.new.self.items
+      c.in-Some.ensures.items c.requires.n c.requires.before c.requires.due c.requires.reading;
 }
 
 pub returns-in_err-check-clause-refused : goal.returns-in_err-check-clause-refused
 returns-in_err-check-clause-refused g c =
     handed_on (λ e. ReadIsRefused g.K.Bytes.item c.args.left c.args.self.now e) c.from_residual.result c.in_err-check.field-0.0 c.from_residual.ensures.1
-    (λ n before due reading count. refused_record g.K.Bytes.item c.args.self.now c.in-Some.due c.pop.new.self.items c.in-Some.ensures.items n before due reading c.args.left count c.in-Some-read.record c.in-Some-read.ensures.some c.in_err-check.field-0.0 c.in_err-check.ensures.broken)
+    (λ n before due reading count. refused_record g.K.Bytes.item c.args.self.now c.in-Some.due
+    c.pop.new.self.items c.in-Some.ensures.items n before due reading c.args.left count
+    c.in-Some-read.record c.in-Some-read.ensures.some c.in_err-check.field-0.0
+    c.in_err-check.ensures.broken)
 
 pub returns-clause-ok : goal.returns-clause-ok
 returns-clause-ok g c =
@@ -35,5 +40,8 @@ returns-clause-ok g c =
     record {
       further = omega (arith, f.offset);
       fits = front.spelled.room.label;
-      reading = λ n before due reading count. went_on g.K.Bytes.item c.args.self.now c.in-Some.due c.pop.new.self.items c.in-Some.ensures.items n before due reading c.expect.new.self c.args.left r front count c.in_ok-check.ensures.kept (ap (λ b. b.now) f.bytes) (omega (arith, f.offset, ap (λ (r : Record). length r.label) c.record.view_is)) o.due;
+      reading = λ n before due reading count. went_on g.K.Bytes.item c.args.self.now c.in-Some.due
+          c.pop.new.self.items c.in-Some.ensures.items n before due reading c.expect.new.self
+          c.args.left r front count c.in_ok-check.ensures.kept (ap (λ b. b.now) f.bytes)
+          (omega (arith, f.offset, ap (λ (r : Record). length r.label) c.record.view_is)) o.due;
     }

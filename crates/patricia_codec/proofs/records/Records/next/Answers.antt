@@ -4,7 +4,9 @@ use Rattle.patricia_codec.proofs.records.Records.next.Goals as goal
 
 pub returns-in_err-take-clause-too_deep : goal.returns-in_err-take-clause-too_deep
 returns-in_err-take-clause-too_deep g c deep R a =
-    c.take.ensures.too_deep (err_from c.take.result c.from_residual.result _ _ c.in_err-take.was c.from_residual.ensures.1 deep) R (c.loop-id.invariant.same R a)
+    c.take.ensures.too_deep
+    (err_from c.take.result c.from_residual.result _ _ c.in_err-take.was
+    c.from_residual.ensures.1 deep) R (c.loop-id.invariant.same R a)
 
 pub returns-in-Some-clause-ok : goal.returns-in-Some-clause-ok
 returns-in-Some-clause-ok g c =

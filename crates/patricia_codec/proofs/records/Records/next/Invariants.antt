@@ -8,7 +8,8 @@ use Rattle.patricia_codec.proofs.records.Records.next.Given as goal
 abbrev pub invariant-loop-id : goal.invariant-loop-id
 invariant-loop-id g l = record {
   some : SomeLeft g.K.Bytes.item l.self;
-  same : (R : List Record) → AreRecordsLeft g.K.Bytes.item l.initial.self R → AreRecordsLeft g.K.Bytes.item l.self R;
+  same : (R : List Record) → AreRecordsLeft g.K.Bytes.item l.initial.self R
+      → AreRecordsLeft g.K.Bytes.item l.self R;
   lighter : weight_left l.self ≤ weight_left l.initial.self;
 }
 

@@ -21,35 +21,50 @@ pub returns-in_default-clause-too_deep : goal.returns-in_default-clause-too_deep
 returns-in_default-clause-too_deep g c _ =
     let left = c.requires.left.1 in
     let reads = rw c.index.ensures at c.index-node.ensures in
-    first_deep g.K.Bytes.item g.met.K.Bytes.lawful c.args.self.now c.args.id c.index-node.result.now left.plan c.requires.next reads (grind (arith, c.in_default.ensures))
+    first_deep g.K.Bytes.item g.met.K.Bytes.lawful c.args.self.now c.args.id
+    c.index-node.result.now left.plan c.requires.next reads
+    (grind (arith, c.in_default.ensures))
 
 pub label_behind-left-requires : goal.label_behind-left-requires
 label_behind-left-requires g c =
     let left = c.requires.left.1 in
     let reads = rw c.index.ensures at c.index-node.ensures in
-    let label = label_left g.K.Bytes.item g.met.K.Bytes.lawful c.args.self.now c.args.id c.index-node.result.now left.plan c.requires.next reads c.requires.left in
+    let label = label_left g.K.Bytes.item g.met.K.Bytes.lawful c.args.self.now c.args.id
+    c.index-node.result.now left.plan c.requires.next reads c.requires.left in
     label.within
 
 pub room-n-requires-clause-valid : goal.room-n-requires-clause-valid
 room-n-requires-clause-valid g c =
     let left = c.requires.left.1 in
     let reads = rw c.index.ensures at c.index-node.ensures in
-    let label = label_left g.K.Bytes.item g.met.K.Bytes.lawful c.args.self.now c.args.id c.index-node.result.now left.plan c.requires.next reads c.requires.left in
+    let label = label_left g.K.Bytes.item g.met.K.Bytes.lawful c.args.self.now c.args.id
+    c.index-node.result.now left.plan c.requires.next reads c.requires.left in
     subst (IsValid g.K.Bytes.item) (sym c.label_behind-left.ensures.rest) label.valid
 
 pub room-n-requires-clause-nonempty : goal.room-n-requires-clause-nonempty
 room-n-requires-clause-nonempty g c none =
     let left = c.requires.left.1 in
     let reads = rw c.index.ensures at c.index-node.ensures in
-    let label = label_left g.K.Bytes.item g.met.K.Bytes.lawful c.args.self.now c.args.id c.index-node.result.now left.plan c.requires.next reads c.requires.left in
+    let label = label_left g.K.Bytes.item g.met.K.Bytes.lawful c.args.self.now c.args.id
+    c.index-node.result.now left.plan c.requires.next reads c.requires.left in
     label.nonempty (sym c.label_behind-left.ensures.rest ∙ none)
 
 pub overflow_add-self-else-n-left : goal.overflow_add-self-else-n-left
 overflow_add-self-else-n-left g c =
     let left = c.requires.left.1 in
     let reads = rw c.index.ensures at c.index-node.ensures in
-    let label = label_left g.K.Bytes.item g.met.K.Bytes.lawful c.args.self.now c.args.id c.index-node.result.now left.plan c.requires.next reads c.requires.left in
-    omega (arith, label.within, c.room-n.ensures.within, ap length c.label_behind-left.ensures.rest, length-drop c.args.self.now.skipped c.index-node.result.now.label, c.label_behind-left.ensures.counted)
+    let label = label_left g.K.Bytes.item g.met.K.Bytes.lawful c.args.self.now c.args.id
+    c.index-node.result.now left.plan c.requires.next reads c.requires.left in
+    omega (
+      arith,
+      label.within,
+      c.room-n.ensures.within,
+      ap length
+          c.label_behind-left.ensures.rest,
+      length-drop c.args.self.now.skipped
+          c.index-node.result.now.label,
+      c.label_behind-left.ensures.counted,
+    )
 
 pub returns-clause-ok : goal.returns-clause-ok
 returns-clause-ok g c =
@@ -68,7 +83,13 @@ returns-clause-ok g c =
       | then-self-eq0 w ↦ beside_first item kind p c.args.id n left.plan c.requires.next reads at w.if-self-eq0.true w.beside-is
       | else-self-eq0 w ↦ beside_later item kind p c.args.id n left.plan c.requires.next reads at w.if-self-eq0.false (w.beside-is ∙ w.none-beside.ensures)
     ] in
-    let r : Record = record { level = c.in-Ok.level; label = take k c.label_behind-left.result.now; value = c.if-n-left.value.0; child = c.if-n-left.value.1; sibling = c.is_some-2.result } in
+    let r : Record = record {
+      level = c.in-Ok.level;
+      label = take k c.label_behind-left.result.now;
+      value = c.if-n-left.value.0;
+      child = c.if-n-left.value.1;
+      sibling = c.is_some-2.result;
+    } in
     let pushed : is_ok c.push.result ≡ true = sym c.map_err.ensures.variant ∙ ap is_ok c.in_ok-map_err.was in
     let stack : c.push.new.self.items ≡ p.stack.items ++ (p.level, at) ∷ [] = rw pushed at c.push.ensures.items in
     let shallow = (let e = c.in-Ok.ensures in e.0) in
@@ -82,8 +103,12 @@ returns-clause-ok g c =
           let value = ap (λ v. v.0) w.value-is ∙ w.is_some.ensures in
           let child = ap (λ v. v.1) w.value-is ∙ w.is_some-then-n-left.ensures ∙ ap is_some w.get.ensures in
           let under = row_at (nodes_of p) n.child in
-          let below = below_whole item kind p c.args.id n left.plan c.requires.next reads q k piece kept level (w.if-n-left.true ∙ ap length label) (ap (λ s. s.next) w.self-is) (ap (λ s. s.skipped) w.self-is) in
-          taken item kind p c.args.id n left.plan c.requires.next reads q k piece kept level r at under beside (ap (λ s. s.stack.items) w.self-is ∙ stack) (rw (value, child) below) level_is label_is sibling_is shallow
+          let below = below_whole item kind p c.args.id n left.plan c.requires.next reads q k piece
+          kept level (w.if-n-left.true ∙ ap length label) (ap (λ s. s.next) w.self-is)
+          (ap (λ s. s.skipped) w.self-is) in
+          taken item kind p c.args.id n left.plan c.requires.next reads q k piece kept level r at
+          under beside (ap (λ s. s.stack.items) w.self-is ∙ stack) (rw (value, child) below)
+          level_is label_is sibling_is shallow
       | else-n-left w ↦
           let kept = ap nodes_of w.self-is in
           let level = ap (λ s. s.level) w.self-is in
@@ -91,8 +116,11 @@ returns-clause-ok g c =
           let child = ap (λ v. v.1) w.value-is in
           let under = node (drop k (drop p.skipped n.label)) n.value (row_at (nodes_of p) n.child) end in
           let short : k < length (drop p.skipped n.label) = omega (arith, piece.within, ap length label, w.if-n-left.false) in
-          let below = below_part item kind p c.args.id n left.plan c.requires.next reads q k piece kept level short (ap (λ s. s.next) w.self-is) (ap (λ s. s.skipped) w.self-is) in
-          taken item kind p c.args.id n left.plan c.requires.next reads q k piece kept level r at under beside (ap (λ s. s.stack.items) w.self-is ∙ stack) (rw (value, child) below) level_is label_is sibling_is shallow
+          let below = below_part item kind p c.args.id n left.plan c.requires.next reads q k piece
+          kept level short (ap (λ s. s.next) w.self-is) (ap (λ s. s.skipped) w.self-is) in
+          taken item kind p c.args.id n left.plan c.requires.next reads q k piece kept level r at
+          under beside (ap (λ s. s.stack.items) w.self-is ∙ stack) (rw (value, child) below)
+          level_is label_is sibling_is shallow
     ]
 
 pub returns-in_err-map_err-clause-too_deep : goal.returns-in_err-map_err-clause-too_deep

@@ -17,8 +17,20 @@ invariant_of-result g c =
       tree = record {
         canonical = c.in_ok-value.ensures.row;
         counted = elim c.if-is_some.branch [
-          | then-is_some w ↦ omega (arith, count ∙ ap (λ some. length (entries_of d.arena) + cond some 1 0) (sym w.if-is_some.ensures), c.len-given.ensures, w.count-is)
-          | else-is_some w ↦ omega (arith, count ∙ ap (λ some. length (entries_of d.arena) + cond some 1 0) (sym w.if-is_some.ensures), c.len-given.ensures, w.count-is)
+          | then-is_some w ↦ omega (
+            arith,
+            count ∙ ap (λ some. length (entries_of d.arena) + cond some 1 0)
+                (sym w.if-is_some.ensures),
+            c.len-given.ensures,
+            w.count-is,
+          )
+          | else-is_some w ↦ omega (
+            arith,
+            count ∙ ap (λ some. length (entries_of d.arena) + cond some 1 0)
+                (sym w.if-is_some.ensures),
+            c.len-given.ensures,
+            w.count-is,
+          )
         ];
         fits = omega (arith, count, few, c.len-given.ensures);
       };
@@ -27,4 +39,6 @@ invariant_of-result g c =
 pub returns-clause-ok : goal.returns-clause-ok
 returns-clause-ok g c =
     let d = c.in_ok-value.field-0 in
-    subst (Means g.K.Bytes.item 2 c.args.bytes.now c.args.values.items) (sym (entries_map g.K.Bytes.item g.met.K.Bytes.lawful d.value (siblings_of d.arena) c.in_ok-value.ensures.row)) c.in_ok-value.ensures.means
+    subst (Means g.K.Bytes.item 2 c.args.bytes.now c.args.values.items)
+    (sym (entries_map g.K.Bytes.item g.met.K.Bytes.lawful d.value (siblings_of d.arena)
+    c.in_ok-value.ensures.row)) c.in_ok-value.ensures.means

@@ -29,7 +29,10 @@ invariant_of-self-lent-in-Some g c =
         whole = (found.writes w).whole;
         tree = record {
           canonical = (found.writes w).canonical;
-          counted = c.self.invariant.tree.counted ∙ sym (length_old g.K.Bytes.item g.met.K.Bytes.lawful (siblings_of c.self.inside.arena) (siblings_of (with_value c.self.inside.arena c.in-Some.id w)) _ w found.value c.self.invariant.tree.canonical (found.writes w).put_is found.found);
+          counted = c.self.invariant.tree.counted ∙ sym
+              (length_old g.K.Bytes.item g.met.K.Bytes.lawful (siblings_of c.self.inside.arena)
+              (siblings_of (with_value c.self.inside.arena c.in-Some.id w)) _ w found.value
+              c.self.invariant.tree.canonical (found.writes w).put_is found.found);
           fits = c.self.invariant.tree.fits;
         };
       }),
@@ -43,15 +46,30 @@ returns-in-Some g c =
     let nonempty : key ≢ [] = λ none. absurd (false≢true (c.if-is_empty.ensures.1 none)) in
     let lent : option_copied_mut c.value_mut.result ≡ value_of c.self.inside.arena c.in-Some.id = c.value_mut.ensures.value in
     let ok = c.self.invariant.tree.canonical in
-    let wrote : (w : g.row.V.Denot) → map_of c.self.inside.value (siblings_of (with_value c.self.inside.arena c.in-Some.id w)) ≡ map.insert c.args.self.now key w =
-    λ w. rw (← c.self.view_is) (insert_filled g.K.Bytes.item g.met.K.Bytes.lawful _ _ (siblings_of (with_value c.self.inside.arena c.in-Some.id w)) key w ok nonempty (found.writes w).put_is) in (
+    let wrote : (w : g.row.V.Denot) → map_of c.self.inside.value
+    (siblings_of (with_value c.self.inside.arena c.in-Some.id w)) ≡ map.insert
+    c.args.self.now key w =
+    λ w. rw (← c.self.view_is)
+    (insert_filled g.K.Bytes.item g.met.K.Bytes.lawful _ _
+    (siblings_of (with_value c.self.inside.arena c.in-Some.id w)) key w ok nonempty
+    (found.writes w).put_is) in (
       (λ i. read_of (ghost_name_of c.value_mut.result) (λ w. wrote w i) (c.self.view_is i)),
-      record { writes = tt; value = rw (← c.self.view_is) (lent ∙ node_found g.K.Bytes.item c.self.inside.arena key c.in-Some.id found ∙ sym (get_filled g.K.Bytes.item g.met.K.Bytes.lawful c.self.inside.value _ key ok nonempty)) },
+      record {
+        writes = tt;
+        value = rw (← c.self.view_is)
+            (lent ∙ node_found g.K.Bytes.item c.self.inside.arena key c.in-Some.id found ∙ sym
+            (get_filled g.K.Bytes.item g.met.K.Bytes.lawful c.self.inside.value _ key ok nonempty));
+      },
     )
 
 pub returns-in-None : goal.returns-in-None
 returns-in-None g c =
     let nonempty : g.Q.BorrowedBytes.key c.args.key ≢ [] = λ none. absurd (false≢true (c.if-is_empty.ensures.1 none)) in (
       ap inr c.self.view_is,
-      record { writes = tt; value = rw (← c.self.view_is) (sym (get_filled g.K.Bytes.item g.met.K.Bytes.lawful _ _ _ c.self.invariant.tree.canonical nonempty ∙ c.in-None.ensures)) },
+      record {
+        writes = tt;
+        value = rw (← c.self.view_is)
+            (sym (get_filled g.K.Bytes.item g.met.K.Bytes.lawful _ _ _
+            c.self.invariant.tree.canonical nonempty ∙ c.in-None.ensures));
+      },
     )

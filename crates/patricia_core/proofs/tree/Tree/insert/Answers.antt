@@ -6,10 +6,15 @@ use Rattle.patricia_core.proofs.tree.Tree.insert.Goals as goal
 use Rattle.patricia_core.proofs.tree.Tree.insert.Goals.{else-self-via-then-self+else-is_none, else-self-via-else-self}
 
 pub returns-then-is_empty-clause-old : goal.returns-then-is_empty-clause-old
-returns-then-is_empty-clause-old g c = rw (← c.self.view_is, c.if-is_empty.ensures.0 refl) (c.replace.ensures.value ∙ sym (get_empty g.K.Bytes.item g.met.K.Bytes.lawful _ _ c.self.invariant.tree.canonical))
+returns-then-is_empty-clause-old g c = rw (← c.self.view_is, c.if-is_empty.ensures.0 refl)
+    (c.replace.ensures.value ∙ sym
+    (get_empty g.K.Bytes.item g.met.K.Bytes.lawful _ _ c.self.invariant.tree.canonical))
 
 pub returns-then-is_empty-clause-ok : goal.returns-then-is_empty-clause-ok
-returns-then-is_empty-clause-ok g c = rw (← c.self.view_is, c.if-is_empty.ensures.0 refl, c.replace.ensures.after) (insert_empty g.K.Bytes.item g.met.K.Bytes.lawful _ _ c.args.value c.self.invariant.tree.canonical)
+returns-then-is_empty-clause-ok g c =
+    rw (← c.self.view_is, c.if-is_empty.ensures.0 refl, c.replace.ensures.after)
+    (insert_empty g.K.Bytes.item g.met.K.Bytes.lawful _ _ c.args.value
+    c.self.invariant.tree.canonical)
 
 pub returns-then-is_none-clause-only_new : goal.returns-then-is_none-clause-only_new
 returns-then-is_none-clause-only_new g c =
@@ -18,13 +23,22 @@ returns-then-is_none-clause-only_new g c =
 pub invariant_of-self-in-Ok-None : goal.invariant_of-self-in-Ok-None
 invariant_of-self-in-Ok-None g c =
     let new = sym c.in-Ok-None.ensures.old ∙ c.in-Ok-None.field-0-is in
-    let none = get_filled g.K.Bytes.item g.met.K.Bytes.lawful _ _ _ c.self.invariant.tree.canonical (λ none. absurd (false≢true (c.if-is_empty.ensures.1 none))) ∙ new in
+    let none = get_filled g.K.Bytes.item g.met.K.Bytes.lawful _ _ _ c.self.invariant.tree.canonical
+    (λ none. absurd (false≢true (c.if-is_empty.ensures.1 none))) ∙ new in
     record {
       whole = c.in-Ok-None.ensures.whole;
       tree = record {
         canonical = c.in-Ok-None.ensures.row;
-        counted = rw c.self.invariant.tree.counted (sym (length_new g.K.Bytes.item g.met.K.Bytes.lawful (siblings_of c.self.inside.arena) (siblings_of c.insert.new.arena) _ c.args.value c.self.invariant.tree.canonical c.in-Ok-None.ensures.ok new));
-        fits = elim c.else-self.branch [ else-self-via-then-self+else-is_none w ↦ absurd (option_map_not_none (λ x. x.now) w.get.result (rw (← c.self.view_is) at w.get.ensures ∙ none) w.if-is_none.ensures) | else-self-via-else-self w ↦ omega (arith, c.self.invariant.tree.fits) ];
+        counted = rw c.self.invariant.tree.counted
+            (sym (length_new g.K.Bytes.item g.met.K.Bytes.lawful (siblings_of c.self.inside.arena)
+            (siblings_of c.insert.new.arena) _ c.args.value c.self.invariant.tree.canonical
+            c.in-Ok-None.ensures.ok new));
+        fits = elim c.else-self.branch [
+          | else-self-via-then-self+else-is_none w ↦ absurd
+              (option_map_not_none (λ x. x.now) w.get.result
+              (rw (← c.self.view_is) at w.get.ensures ∙ none) w.if-is_none.ensures)
+          | else-self-via-else-self w ↦ omega (arith, c.self.invariant.tree.fits)
+        ];
       };
     }
 
@@ -35,30 +49,47 @@ invariant_of-self-in-Ok-Some g c =
       whole = c.in-Ok-Some.ensures.whole;
       tree = record {
         canonical = c.in-Ok-Some.ensures.row;
-        counted = c.self.invariant.tree.counted ∙ sym (length_old g.K.Bytes.item g.met.K.Bytes.lawful (siblings_of c.self.inside.arena) (siblings_of c.insert.new.arena) _ c.args.value c.in-Ok-Some.old c.self.invariant.tree.canonical c.in-Ok-Some.ensures.ok found);
+        counted = c.self.invariant.tree.counted ∙ sym
+            (length_old g.K.Bytes.item g.met.K.Bytes.lawful (siblings_of c.self.inside.arena)
+            (siblings_of c.insert.new.arena) _ c.args.value c.in-Ok-Some.old
+            c.self.invariant.tree.canonical c.in-Ok-Some.ensures.ok found);
         fits = c.self.invariant.tree.fits;
       };
     }
 
 pub returns-in-Ok-None-clause-old : goal.returns-in-Ok-None-clause-old
 returns-in-Ok-None-clause-old g c =
-    rw (← c.self.view_is) (sym c.in-Ok-None.field-0-is ∙ c.in-Ok-None.ensures.old ∙ sym (get_filled g.K.Bytes.item g.met.K.Bytes.lawful _ _ _ c.self.invariant.tree.canonical (λ none. absurd (false≢true (c.if-is_empty.ensures.1 none)))))
+    rw (← c.self.view_is)
+    (sym c.in-Ok-None.field-0-is ∙ c.in-Ok-None.ensures.old ∙ sym
+    (get_filled g.K.Bytes.item g.met.K.Bytes.lawful _ _ _ c.self.invariant.tree.canonical
+    (λ none. absurd (false≢true (c.if-is_empty.ensures.1 none)))))
 
 pub returns-in-Ok-None-clause-ok : goal.returns-in-Ok-None-clause-ok
 returns-in-Ok-None-clause-ok g c =
-    rw (← c.self.view_is) (insert_filled g.K.Bytes.item g.met.K.Bytes.lawful _ (siblings_of c.self.inside.arena) (siblings_of c.insert.new.arena) _ c.args.value c.self.invariant.tree.canonical (λ none. absurd (false≢true (c.if-is_empty.ensures.1 none))) c.in-Ok-None.ensures.ok)
+    rw (← c.self.view_is)
+    (insert_filled g.K.Bytes.item g.met.K.Bytes.lawful _ (siblings_of c.self.inside.arena)
+    (siblings_of c.insert.new.arena) _ c.args.value c.self.invariant.tree.canonical
+    (λ none. absurd (false≢true (c.if-is_empty.ensures.1 none))) c.in-Ok-None.ensures.ok)
 
 pub returns-in-Ok-Some-clause-old : goal.returns-in-Ok-Some-clause-old
 returns-in-Ok-Some-clause-old g c =
-    rw (← c.self.view_is) (sym c.in-Ok-Some.field-0-is ∙ c.in-Ok-Some.ensures.old ∙ sym (get_filled g.K.Bytes.item g.met.K.Bytes.lawful _ _ _ c.self.invariant.tree.canonical (λ none. absurd (false≢true (c.if-is_empty.ensures.1 none)))))
+    rw (← c.self.view_is)
+    (sym c.in-Ok-Some.field-0-is ∙ c.in-Ok-Some.ensures.old ∙ sym
+    (get_filled g.K.Bytes.item g.met.K.Bytes.lawful _ _ _ c.self.invariant.tree.canonical
+    (λ none. absurd (false≢true (c.if-is_empty.ensures.1 none)))))
 
 pub returns-in-Ok-Some-clause-ok : goal.returns-in-Ok-Some-clause-ok
 returns-in-Ok-Some-clause-ok g c =
-    rw (← c.self.view_is) (insert_filled g.K.Bytes.item g.met.K.Bytes.lawful _ (siblings_of c.self.inside.arena) (siblings_of c.insert.new.arena) _ c.args.value c.self.invariant.tree.canonical (λ none. absurd (false≢true (c.if-is_empty.ensures.1 none))) c.in-Ok-Some.ensures.ok)
+    rw (← c.self.view_is)
+    (insert_filled g.K.Bytes.item g.met.K.Bytes.lawful _ (siblings_of c.self.inside.arena)
+    (siblings_of c.insert.new.arena) _ c.args.value c.self.invariant.tree.canonical
+    (λ none. absurd (false≢true (c.if-is_empty.ensures.1 none))) c.in-Ok-Some.ensures.ok)
 
 pub returns-in-Err-clause-only_new : goal.returns-in-Err-clause-only_new
 returns-in-Err-clause-only_new g c =
-    rw (← c.self.view_is) (get_filled g.K.Bytes.item g.met.K.Bytes.lawful _ _ _ c.self.invariant.tree.canonical (λ none. absurd (false≢true (c.if-is_empty.ensures.1 none))) ∙ c.in-Err.ensures.only_new)
+    rw (← c.self.view_is)
+    (get_filled g.K.Bytes.item g.met.K.Bytes.lawful _ _ _ c.self.invariant.tree.canonical
+    (λ none. absurd (false≢true (c.if-is_empty.ensures.1 none))) ∙ c.in-Err.ensures.only_new)
 
 pub overflow_add-self : goal.overflow_add-self
 overflow_add-self g c = omega (arith, c.self.invariant.tree.fits)

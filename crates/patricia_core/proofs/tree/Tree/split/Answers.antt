@@ -11,15 +11,24 @@ use Rattle.patricia_walks.proofs.UnderLemmas.{under_filled}
 use Rattle.patricia_core.proofs.tree.Tree.split.Goals as goal
 
 pub returns-then-is_empty-clause-taken : goal.returns-then-is_empty-clause-taken
-returns-then-is_empty-clause-taken g c = ap map.entries c.replace.ensures.value ∙ rw (c.if-is_empty.ensures.0 refl) (sym (under_empty (map.entries c.args.self.now)))
+returns-then-is_empty-clause-taken g c = ap map.entries c.replace.ensures.value ∙
+    rw (c.if-is_empty.ensures.0 refl) (sym (under_empty (map.entries c.args.self.now)))
 
 pub returns-then-is_empty-clause-left : goal.returns-then-is_empty-clause-left
-returns-then-is_empty-clause-left g c = ap map.entries (c.replace.ensures.after ∙ c.new-empty.ensures) ∙ entries_empty _ ∙ rw (c.if-is_empty.ensures.0 refl) (sym (outside_empty (map.entries c.args.self.now)))
+returns-then-is_empty-clause-left g c = ap map.entries
+    (c.replace.ensures.after ∙ c.new-empty.ensures) ∙ entries_empty _ ∙
+    rw (c.if-is_empty.ensures.0 refl) (sym (outside_empty (map.entries c.args.self.now)))
 
 pub overflow_sub-self : goal.overflow_sub-self
 overflow_sub-self g c =
     let rows = entries (siblings_of c.self-2.inside.arena) in
-    omega (arith, c.in-Ok.ensures.ok.counted, ap length c.in-Ok.ensures.ok.taken_is, outside_counted (g.Q.BorrowedBytes.key c.args.prefix) rows, c.self-2.invariant.tree.counted)
+    omega (
+      arith,
+      c.in-Ok.ensures.ok.counted,
+      ap length c.in-Ok.ensures.ok.taken_is,
+      outside_counted (g.Q.BorrowedBytes.key c.args.prefix) rows,
+      c.self-2.invariant.tree.counted,
+    )
 
 pub invariant_of-result : goal.invariant_of-result
 invariant_of-result g c =
@@ -29,7 +38,14 @@ invariant_of-result g c =
       tree = record {
         canonical = c.in-Ok.ensures.ok.taken_ok;
         counted = c.in-Ok.ensures.ok.counted;
-        fits = omega (arith, c.in-Ok.ensures.ok.counted, ap length c.in-Ok.ensures.ok.taken_is, outside_counted (g.Q.BorrowedBytes.key c.args.prefix) rows, c.self-2.invariant.tree.counted, c.self-2.invariant.tree.fits);
+        fits = omega (
+          arith,
+          c.in-Ok.ensures.ok.counted,
+          ap length c.in-Ok.ensures.ok.taken_is,
+          outside_counted (g.Q.BorrowedBytes.key c.args.prefix) rows,
+          c.self-2.invariant.tree.counted,
+          c.self-2.invariant.tree.fits,
+        );
       };
     }
 
@@ -40,7 +56,15 @@ invariant_of-self g c =
       whole = c.in-Ok.ensures.ok.whole;
       tree = record {
         canonical = c.in-Ok.ensures.ok.canonical;
-        counted = omega (arith, c.in-Ok.ensures.ok.counted, ap length c.in-Ok.ensures.ok.taken_is, ap length c.in-Ok.ensures.ok.left_is, outside_counted (g.Q.BorrowedBytes.key c.args.prefix) rows, c.self-2.invariant.tree.counted);
+        counted = omega (
+          arith,
+          c.in-Ok.ensures.ok.counted,
+          ap length c.in-Ok.ensures.ok.taken_is,
+          ap length
+              c.in-Ok.ensures.ok.left_is,
+          outside_counted (g.Q.BorrowedBytes.key c.args.prefix) rows,
+          c.self-2.invariant.tree.counted,
+        );
         fits = omega (arith, c.self-2.invariant.tree.fits);
       };
     }
@@ -57,7 +81,9 @@ pub returns-in-Ok-clause-left : goal.returns-in-Ok-clause-left
 returns-in-Ok-clause-left g c =
     let p = g.Q.BorrowedBytes.key c.args.prefix in
     let some : p ≢ [] = λ none. absurd (false≢true (c.if-is_empty.ensures.1 none)) in
-    entries_map g.K.Bytes.item g.met.K.Bytes.lawful c.self-2.inside.value _ c.in-Ok.ensures.ok.canonical ∙ ap (λ es. own c.self-2.inside.value ++ es) c.in-Ok.ensures.ok.left_is
+    entries_map g.K.Bytes.item g.met.K.Bytes.lawful c.self-2.inside.value _
+    c.in-Ok.ensures.ok.canonical ∙ ap (λ es. own c.self-2.inside.value ++ es)
+    c.in-Ok.ensures.ok.left_is
     ∙ sym (outside_filled p some c.self-2.inside.value (entries (siblings_of c.self-2.inside.arena)))
     ∙ ap (outside p) (sym (entries_map g.K.Bytes.item g.met.K.Bytes.lawful _ _ c.self-2.invariant.tree.canonical) ∙ ap map.entries c.self-2.view_is)
 
@@ -71,11 +97,13 @@ returns-in-Err-clause-err_only_if_matched g c none =
     ∙ none
     )
 
-pub returns-then-is_empty-clause-err_only_nonempty : goal.returns-then-is_empty-clause-err_only_nonempty
+pub returns-then-is_empty-clause-err_only_nonempty :
+    goal.returns-then-is_empty-clause-err_only_nonempty
 returns-then-is_empty-clause-err_only_nonempty g c = tt
 
 pub returns-then-is_empty-clause-unchanged : goal.returns-then-is_empty-clause-unchanged
 returns-then-is_empty-clause-unchanged g c = tt
 
-pub returns-then-is_empty-clause-err_only_if_matched : goal.returns-then-is_empty-clause-err_only_if_matched
+pub returns-then-is_empty-clause-err_only_if_matched :
+    goal.returns-then-is_empty-clause-err_only_if_matched
 returns-then-is_empty-clause-err_only_if_matched g c = tt

@@ -11,7 +11,14 @@ relocate_siblings-first-requires g c =
     let w = c.requires.0 in
     let f = c.loop-i.invariant.filling w c.requires.1 in
     let next = laying_row w _ c.loop-i.i _ _ f.laying (omega (arith, c.loop-i-test.true, c.len.ensures)) in
-    record { row = (next.row, next_top w _ c.loop-i.i _ _ next c.index.result.now c.index.ensures, omega (arith, next.room, c.requires.2, c.loop-i.invariant.capacity)) }
+    record {
+      row = (
+        next.row,
+        next_top w _ c.loop-i.i _ _ next c.index.result.now c.index.ensures,
+        omega
+            (arith, next.room, c.requires.2, c.loop-i.invariant.capacity),
+      );
+    }
 
 pub index_mut-requires : goal.index_mut-requires
 index_mut-requires g c =
@@ -31,7 +38,10 @@ loop-i-preserved g c = record {
       let next = laying_row w _ c.loop-i.i _ _ f.laying short in
       let top = next_top w _ c.loop-i.i _ _ next c.index.result.now c.index.ensures in
       let moved = c.relocate_siblings-first in
-      filling_next c.args.self.now w c.loop-i.self moved.new.self c.loop-i.i c.loop-i.to.items _ f short next (moved.ensures.taken next.row top) moved.new.to.items (moved.ensures.laid next.row top) moved.result (moved.ensures.first next.row top) c.index_mut.result.now c.index_mut.ensures.value refl;
+      filling_next c.args.self.now w c.loop-i.self moved.new.self c.loop-i.i c.loop-i.to.items _ f
+      short next (moved.ensures.taken next.row top) moved.new.to.items
+      (moved.ensures.laid next.row top) moved.result (moved.ensures.first next.row top)
+      c.index_mut.result.now c.index_mut.ensures.value refl;
 }
 
 pub loop-i-smaller : goal.loop-i-smaller
@@ -41,7 +51,11 @@ loop-i-smaller g c =
     omega (arith, sized, c.requires.2, c.loop-i.invariant.capacity, c.loop-i-test.true, c.len.ensures, c.relocate_siblings-first.ensures.capacity)
 
 pub returns-clause-taken : goal.returns-clause-taken
-returns-clause-taken g c w l = (filling_done c.args.self.now w c.loop-i.self c.loop-i.i c.loop-i.to.items (c.loop-i.invariant.filling w l) (omega (arith, c.loop-i-test.false, c.len.ensures))).1
+returns-clause-taken g c w l =
+    (filling_done c.args.self.now w c.loop-i.self c.loop-i.i c.loop-i.to.items
+    (c.loop-i.invariant.filling w l) (omega (arith, c.loop-i-test.false, c.len.ensures))).1
 
 pub returns-clause-laid : goal.returns-clause-laid
-returns-clause-laid g c w l = (filling_done c.args.self.now w c.loop-i.self c.loop-i.i c.loop-i.to.items (c.loop-i.invariant.filling w l) (omega (arith, c.loop-i-test.false, c.len.ensures))).0
+returns-clause-laid g c w l =
+    (filling_done c.args.self.now w c.loop-i.self c.loop-i.i c.loop-i.to.items
+    (c.loop-i.invariant.filling w l) (omega (arith, c.loop-i-test.false, c.len.ensures))).0

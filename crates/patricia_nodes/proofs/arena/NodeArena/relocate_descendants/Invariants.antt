@@ -9,7 +9,8 @@ use Rattle.patricia_nodes.proofs.arena.NodeArena.relocate_descendants.Given as g
 abbrev pub invariant-loop-i : goal.invariant-loop-i
 invariant-loop-i g l = record {
   capacity : vec_capacity l.to ≡ vec_capacity l.fn.to;
-  filling : (w : Plan g.row.V.Denot) → IsLaid l.fn.self.nodes.items l.fn.to.items w → Filling l.fn.self w l.self l.i l.to.items;
+  filling : (w : Plan g.row.V.Denot) → IsLaid l.fn.self.nodes.items l.fn.to.items w
+      → Filling l.fn.self w l.self l.i l.to.items;
 }
 
 abbrev pub decreases-loop-i : goal.decreases-loop-i

@@ -24,18 +24,23 @@ loop-id-preserved g c = record {
       c.match-get-2.sibling
       (λ d e. elim c.match-get-2.branch [
         | in-None b ↦ b.sibling-is ∙ b.none-sibling.ensures ∙ number_none d (suc (length c.loop-id.to.items)) (sym e ∙ sym c.get-in-Some.ensures ∙ b.in-None.is)
-        | in-Some-get b ↦ b.sibling-is ∙ b.some-sibling.ensures ∙ ap (λ k. Some k) (omega (arith, b.new.ensures, b.len.ensures)) ∙ number_some d (suc (length c.loop-id.to.items)) _ (sym e ∙ sym c.get-in-Some.ensures ∙ b.in-Some-get.is)
+        | in-Some-get b ↦ b.sibling-is ∙ b.some-sibling.ensures ∙ ap (λ k. Some k)
+            (omega (arith, b.new.ensures, b.len.ensures)) ∙ number_some d
+            (suc (length c.loop-id.to.items)) _
+            (sym e ∙ sym c.get-in-Some.ensures ∙ b.in-Some-get.is)
       ])
       c.push_reserved.ensures.items;
 }
 
 pub returns-in-None-get-clause-taken : goal.returns-in-None-get-clause-taken
 returns-in-None-get-clause-taken g c w row =
-    (moving_done c.args.self.now c.args.to.now.items w c.loop-id.self c.loop-id.to.items (rw (sym c.get.ensures ∙ c.in_default.is) at c.loop-id.invariant.moving w row)).1
+    (moving_done c.args.self.now c.args.to.now.items w c.loop-id.self c.loop-id.to.items
+    (rw (sym c.get.ensures ∙ c.in_default.is) at c.loop-id.invariant.moving w row)).1
 
 pub returns-in-Some-get-2-clause-taken : goal.returns-in-Some-get-2-clause-taken
 returns-in-Some-get-2-clause-taken g c w row =
-    (moving_done c.args.self.now c.args.to.now.items w c.loop-id.self c.loop-id.to.items (rw (sym c.get.ensures ∙ c.in_default.is) at c.loop-id.invariant.moving w row)).1
+    (moving_done c.args.self.now c.args.to.now.items w c.loop-id.self c.loop-id.to.items
+    (rw (sym c.get.ensures ∙ c.in_default.is) at c.loop-id.invariant.moving w row)).1
 
 pub returns-in-Some-get-2-clause-laid : goal.returns-in-Some-get-2-clause-laid
 returns-in-Some-get-2-clause-laid g c = search rules

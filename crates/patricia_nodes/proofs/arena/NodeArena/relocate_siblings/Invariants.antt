@@ -9,7 +9,8 @@ use Rattle.patricia_nodes.proofs.arena.NodeArena.relocate_siblings.Given as goal
 abbrev pub invariant-loop-id : goal.invariant-loop-id
 invariant-loop-id g l = record {
   capacity : vec_capacity l.to ≡ vec_capacity l.fn.to;
-  moving : (w : Plan g.row.V.Denot) → IsTopRow l.fn.self.nodes.items l.fn.first w → Moving l.fn.self l.fn.to.items w l.self l.at l.to.items;
+  moving : (w : Plan g.row.V.Denot) → IsTopRow l.fn.self.nodes.items l.fn.first w
+      → Moving l.fn.self l.fn.to.items w l.self l.at l.to.items;
 }
 
 abbrev pub decreases-loop-id : goal.decreases-loop-id

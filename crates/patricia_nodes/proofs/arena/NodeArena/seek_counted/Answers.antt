@@ -16,12 +16,16 @@ index-node-requires g c =
 pub compare_label-requires-clause-valid : goal.compare_label-requires-clause-valid
 compare_label-requires-clause-valid g c =
     let reads = rw c.index.ensures at c.index-node.ensures in
-    rw c.as_slice.ensures (opens_row g.met.Q.Owned.Bytes.lawful c.requires.whole c.requires.row c.loop-id.invariant (sym c.get.ensures ∙ c.in-Some.is) reads).valid
+    rw c.as_slice.ensures
+    (opens_row g.met.Q.Owned.Bytes.lawful c.requires.whole c.requires.row c.loop-id.invariant
+    (sym c.get.ensures ∙ c.in-Some.is) reads).valid
 
 pub compare_label-requires-clause-nonempty : goal.compare_label-requires-clause-nonempty
 compare_label-requires-clause-nonempty g c =
     let reads = rw c.index.ensures at c.index-node.ensures in
-    rw c.as_slice.ensures (opens_row g.met.Q.Owned.Bytes.lawful c.requires.whole c.requires.row c.loop-id.invariant (sym c.get.ensures ∙ c.in-Some.is) reads).nonempty
+    rw c.as_slice.ensures
+    (opens_row g.met.Q.Owned.Bytes.lawful c.requires.whole c.requires.row c.loop-id.invariant
+    (sym c.get.ensures ∙ c.in-Some.is) reads).nonempty
 
 pub loop-id-smaller-in-After : goal.loop-id-smaller-in-After
 loop-id-smaller-in-After g c =
@@ -32,7 +36,8 @@ pub loop-id-preserved-in-After : goal.loop-id-preserved-in-After
 loop-id-preserved-in-After g c =
     let reads = rw c.index.ensures at c.index-node.ensures in
     let met = rw c.as_slice.ensures at c.in-After.ensures in
-    walks_next g.met.Q.Owned.Bytes.lawful c.requires.whole c.requires.row c.loop-id.invariant (sym c.get.ensures ∙ c.in-Some.is) reads _ c.tick.ensures _ c.above.ensures met
+    walks_next g.met.Q.Owned.Bytes.lawful c.requires.whole c.requires.row c.loop-id.invariant
+    (sym c.get.ensures ∙ c.in-Some.is) reads _ c.tick.ensures _ c.above.ensures met
 
 pub loop-id-smaller : goal.loop-id-smaller
 loop-id-smaller g c =
@@ -49,11 +54,15 @@ loop-id-preserved g c =
 pub returns-clause-place : goal.returns-clause-place
 returns-clause-place g c =
     rw (c.new.ensures.link_ref, c.new.ensures.at, c.new.ensures.rest, c.new.ensures.matched) (elim c.match-get.branch [
-      | in_default w ↦ rw w.matched-is (ends_placed g.met.Q.Owned.Bytes.lawful c.requires.whole c.requires.row c.loop-id.invariant (sym c.get.ensures ∙ w.in_default.is))
+      | in_default w ↦ rw w.matched-is
+          (ends_placed g.met.Q.Owned.Bytes.lawful c.requires.whole c.requires.row
+          c.loop-id.invariant (sym c.get.ensures ∙ w.in_default.is))
       | in-Some+in-Before w ↦
           let reads = rw w.index.ensures at w.index-node.ensures in
           let met = rw w.as_slice.ensures at w.in-Before.ensures in
-          rw w.matched-is (stops_placed g.met.Q.Owned.Bytes.lawful c.requires.whole c.requires.row c.loop-id.invariant (sym c.get.ensures ∙ w.in-Some.is) reads Absent met)
+          rw w.matched-is
+          (stops_placed g.met.Q.Owned.Bytes.lawful c.requires.whole c.requires.row
+          c.loop-id.invariant (sym c.get.ensures ∙ w.in-Some.is) reads Absent met)
       | in-Some+in-Partial w ↦
           let reads = rw w.index.ensures at w.index-node.ensures in
           let met = rw w.as_slice.ensures at w.in-Partial.ensures in
@@ -69,11 +78,16 @@ returns-clause-place g c =
 pub returns-clause-counted : goal.returns-clause-counted
 returns-clause-counted g c =
     elim c.match-get.branch [
-      | in_default w ↦ rw w.steps-is (ends_counted g.met.Q.Owned.Bytes.lawful c.requires.whole c.requires.row c.loop-id.invariant (sym c.get.ensures ∙ w.in_default.is))
+      | in_default w ↦ rw w.steps-is
+          (ends_counted g.met.Q.Owned.Bytes.lawful c.requires.whole c.requires.row
+          c.loop-id.invariant (sym c.get.ensures ∙ w.in_default.is))
       | in-Some+in-Before w ↦
           let reads = rw w.index.ensures at w.index-node.ensures in
           let met = rw w.as_slice.ensures at w.in-Before.ensures in
-          rw w.steps-is (stops_counted g.met.Q.Owned.Bytes.lawful c.requires.whole c.requires.row c.loop-id.invariant (sym c.get.ensures ∙ w.in-Some.is) reads Absent met _ w.tick.ensures)
+          rw w.steps-is
+          (stops_counted g.met.Q.Owned.Bytes.lawful c.requires.whole c.requires.row
+          c.loop-id.invariant (sym c.get.ensures ∙ w.in-Some.is) reads Absent met _
+          w.tick.ensures)
       | in-Some+in-Partial w ↦
           let reads = rw w.index.ensures at w.index-node.ensures in
           let met = rw w.as_slice.ensures at w.in-Partial.ensures in

@@ -5,7 +5,9 @@ use Rattle.patricia_tree.proofs.set.GenericPatriciaSet.from_iter.Goals as goal
 
 pub returns-in_err-extend-clause-err : goal.returns-in_err-extend-clause-err
 returns-in_err-extend-clause-err g c =
-    at_error ((left : KeySet) × IsStoppedAt g.I.IntoIterator.into_iter_gives g.I.IntoIter.Iterator.next_gives g.Q.BorrowedBytes.key c.args.elements map.empty left) _
+    at_error
+    ((left : KeySet) × IsStoppedAt g.I.IntoIterator.into_iter_gives
+    g.I.IntoIter.Iterator.next_gives g.Q.BorrowedBytes.key c.args.elements map.empty left) _
     (c.extend.new.self, rw (← c.new-set.ensures) c.in_err-extend.ensures.err)
 
 pub returns-clause-ok : goal.returns-clause-ok

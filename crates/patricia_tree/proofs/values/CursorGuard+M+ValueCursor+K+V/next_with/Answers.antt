@@ -20,7 +20,8 @@ pub returns-clause-left : goal.returns-clause-left
 returns-clause-left g c =
     let next : IsNextValue c.args.self.now.at = c.in_ok-go_on.ensures.some c.if-not-branch.false in
     let step : c.go_on.new.self.at ≡ stepped c.args.self.now.at = c.in_ok-go_on.ensures.stepped in
-    lent_value c.args.self.now.at c.go_on.new.self.at c.there-value.result.now c.f.new.arg2 (next.is_next _ (sym (ap last_value step) ∙ c.there-value.ensures.value)) step
+    lent_value c.args.self.now.at c.go_on.new.self.at c.there-value.result.now c.f.new.arg2
+    (next.is_next _ (sym (ap last_value step) ∙ c.there-value.ensures.value)) step
 
 pub returns-then-not-branch-clause-left : goal.returns-then-not-branch-clause-left
 returns-then-not-branch-clause-left g c = none_left c.args.self.now.at (search rules)

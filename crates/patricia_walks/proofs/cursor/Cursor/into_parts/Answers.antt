@@ -6,7 +6,8 @@ pub returns-clause-whole : goal.returns-clause-whole
 returns-clause-whole g c = rw c.into_parts.ensures.arena (under_held g.K.Bytes.item c.self.inside.state [] None c.self.invariant).whole
 
 pub returns-clause-tree : goal.returns-clause-tree
-returns-clause-tree g c = rw (c.into_parts.ensures.arena, c.into_parts.ensures.count) (under_held g.K.Bytes.item c.self.inside.state [] None c.self.invariant).tree
+returns-clause-tree g c = rw (c.into_parts.ensures.arena, c.into_parts.ensures.count)
+    (under_held g.K.Bytes.item c.self.inside.state [] None c.self.invariant).tree
 
 pub returns-clause-map : goal.returns-clause-map
 returns-clause-map g c = rw (c.into_parts.ensures.value, c.into_parts.ensures.arena) (ap (λ s. s.map) c.self.view_is)

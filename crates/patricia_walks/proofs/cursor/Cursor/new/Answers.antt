@@ -5,7 +5,9 @@ use Rattle.patricia_walks.proofs.cursor.Cursor.new.Goals as goal
 
 pub invariant_of-result : goal.invariant_of-result
 invariant_of-result g c =
-    made_trail g.K.Bytes.item c.args.parts c.new.result [] c.requires.whole c.requires.tree c.new.ensures.tree c.new.ensures.last c.new.ensures.position (c.new.ensures.left ∙ sym (under_empty _))
+    made_trail g.K.Bytes.item c.args.parts c.new.result [] c.requires.whole c.requires.tree
+    c.new.ensures.tree c.new.ensures.last c.new.ensures.position
+    (c.new.ensures.left ∙ sym (under_empty _))
 
 pub returns : goal.returns
 returns g c = made_stands g.K.Bytes.item c.args.parts c.new.result [] c.requires.whole c.requires.tree c.new.ensures.tree c.new.ensures.last

@@ -7,21 +7,33 @@ use Rattle.patricia_walks.proofs.cursor.PrefixCursor.advance.Goals as goal
 pub invariant_of-self-2 : goal.invariant_of-self-2
 invariant_of-self-2 g c =
     let goes = goes_so (λ key. Advances c.start_at.new.state (option_map g.Q.Owned.Bytes.key key) c.advance.new.self) c.advance.result c.advance.ensures.goes in
-    rw c.in_ok-start_at.ensures.begun (step_trail _ g.met.Q.Owned.Bytes.lawful _ _ _ c.in_ok-start_at.ensures.state c.advance.ensures.tree c.advance.ensures.position c.advance.result (λ a is. (_, goes a is)) c.advance.ensures.refused)
+    rw c.in_ok-start_at.ensures.begun
+    (step_trail _ g.met.Q.Owned.Bytes.lawful _ _ _ c.in_ok-start_at.ensures.state
+    c.advance.ensures.tree c.advance.ensures.position c.advance.result (λ a is. (_, goes a is))
+    c.advance.ensures.refused)
 
 pub returns-clause-key : goal.returns-clause-key
 returns-clause-key g c =
-    step_key _ g.met.Q.Owned.Bytes.lawful _ _ _ c.in_ok-start_at.ensures.state c.advance.ensures.tree c.advance.ensures.position _ (c.start_at.ensures.stands ∙ c.self.view_is) (option_map g.Q.Owned.Bytes.key) c.advance.result c.advance.ensures.goes
+    step_key _ g.met.Q.Owned.Bytes.lawful _ _ _ c.in_ok-start_at.ensures.state
+    c.advance.ensures.tree c.advance.ensures.position _
+    (c.start_at.ensures.stands ∙ c.self.view_is) (option_map g.Q.Owned.Bytes.key)
+    c.advance.result c.advance.ensures.goes
 
 pub returns-clause-stepped : goal.returns-clause-stepped
 returns-clause-stepped g c =
     let goes = goes_so (λ key. Advances c.start_at.new.state (option_map g.Q.Owned.Bytes.key key) c.advance.new.self) c.advance.result c.advance.ensures.goes in
-    step_stands _ g.met.Q.Owned.Bytes.lawful _ _ _ c.in_ok-start_at.ensures.state c.advance.ensures.tree c.advance.ensures.position _ (c.start_at.ensures.stands ∙ c.self.view_is) c.advance.result (λ a is. (_, goes a is))
+    step_stands _ g.met.Q.Owned.Bytes.lawful _ _ _ c.in_ok-start_at.ensures.state
+    c.advance.ensures.tree c.advance.ensures.position _
+    (c.start_at.ensures.stands ∙ c.self.view_is) c.advance.result (λ a is. (_, goes a is))
 
 pub returns-clause-unchanged : goal.returns-clause-unchanged
 returns-clause-unchanged g c =
-    step_kept _ g.met.Q.Owned.Bytes.lawful _ _ _ c.in_ok-start_at.ensures.state c.advance.ensures.tree c.advance.ensures.position _ (c.start_at.ensures.stands ∙ c.self.view_is) c.advance.result c.advance.ensures.refused
+    step_kept _ g.met.Q.Owned.Bytes.lawful _ _ _ c.in_ok-start_at.ensures.state
+    c.advance.ensures.tree c.advance.ensures.position _
+    (c.start_at.ensures.stands ∙ c.self.view_is) c.advance.result c.advance.ensures.refused
 
 pub returns-clause-err_only_if_left : goal.returns-clause-err_only_if_left
 returns-clause-err_only_if_left g c =
-    step_left _ g.met.Q.Owned.Bytes.lawful _ _ _ c.in_ok-start_at.ensures.state c.advance.ensures.tree c.advance.ensures.position _ (c.start_at.ensures.stands ∙ c.self.view_is) c.advance.result c.advance.ensures.refused
+    step_left _ g.met.Q.Owned.Bytes.lawful _ _ _ c.in_ok-start_at.ensures.state
+    c.advance.ensures.tree c.advance.ensures.position _
+    (c.start_at.ensures.stands ∙ c.self.view_is) c.advance.result c.advance.ensures.refused

@@ -17,5 +17,9 @@ returns g c =
     let wrote : (w : g.row.V.Denot) → standing (with_held t t.last w) key ≡ written c.args.self.now w =
     λ w. (wrote_under _ g.met.Q.Owned.Bytes.lawful t key w c.self.inside.start c.self.invariant).stands ∙ ap (λ s. written s w) c.self.view_is in (
       (λ i. read_of (ghost_name_of c.value.result) (λ w. wrote w i) (c.self.view_is i)),
-      record { writes = tt; value = c.value.ensures.value ∙ read_last _ g.met.Q.Owned.Bytes.lawful t key (under_held _ _ _ _ c.self.invariant) ∙ ap last_value c.self.view_is },
+      record {
+        writes = tt;
+        value = c.value.ensures.value ∙ read_last _ g.met.Q.Owned.Bytes.lawful t key
+            (under_held _ _ _ _ c.self.invariant) ∙ ap last_value c.self.view_is;
+      },
     )

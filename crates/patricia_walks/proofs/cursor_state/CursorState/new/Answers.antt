@@ -5,4 +5,5 @@ pub returns-clause-position : goal.returns-clause-position
 returns-clause-position g c = first_position g.K.Bytes.item c.args.parts.arena c.requires.whole _ _ c.from.ensures.seen c.requires.row
 
 pub returns-clause-left : goal.returns-clause-left
-returns-clause-left g c = first_left g.K.Bytes.item c.args.parts.arena c.requires.whole _ _ c.from.ensures.seen c.args.parts.value c.root_value_slot-pending.ensures
+returns-clause-left g c = first_left g.K.Bytes.item c.args.parts.arena c.requires.whole _ _
+    c.from.ensures.seen c.args.parts.value c.root_value_slot-pending.ensures

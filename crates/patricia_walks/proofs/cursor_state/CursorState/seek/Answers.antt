@@ -3,6 +3,10 @@ use Rattle.patricia_model.proofs.WalkLemmas.{on_err}
 use Rattle.patricia_walks.proofs.PositionLemmas.{position_filled}
 use Rattle.patricia_walks.proofs.cursor_state.CursorState.seek.Goals as goal
 
-pub returns-in_err-descend-in-Some-clause-refused : goal.returns-in_err-descend-in-Some-clause-refused
+pub returns-in_err-descend-in-Some-clause-refused :
+    goal.returns-in_err-descend-in-Some-clause-refused
 returns-in_err-descend-in-Some-clause-refused g c =
-    on_err _ (subst (λ l. l ≢ []) c.loop-id.invariant.left (position_filled g.K.Bytes.item _ c.in-Some.id c.loop-id.invariant.position (sym c.get.ensures ∙ c.in-Some.is)))
+    on_err _
+    (subst (λ l. l ≢ []) c.loop-id.invariant.left
+    (position_filled g.K.Bytes.item _ c.in-Some.id c.loop-id.invariant.position
+    (sym c.get.ensures ∙ c.in-Some.is)))

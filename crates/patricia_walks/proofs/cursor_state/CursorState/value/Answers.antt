@@ -4,7 +4,9 @@ use Rattle.patricia_walks.proofs.cursor_state.CursorState.value.Goals as goal
 
 pub value_mut-requires : goal.value_mut-requires
 value_mut-requires g c =
-    let within = last_within g.K.Bytes.item c.args.self.now (record { whole = c.requires.whole; tree = c.requires.tree; known = c.requires.known }) c.in-Some.id c.in-Some.ensures in
+    let within = last_within g.K.Bytes.item c.args.self.now
+    (record { whole = c.requires.whole; tree = c.requires.tree; known = c.requires.known })
+    c.in-Some.id c.in-Some.ensures in
     omega (arith, within, c.args.self.now.arena.nodes.ok.0)
 
 pub returns-then-is_on_top : goal.returns-then-is_on_top

@@ -11,4 +11,12 @@ invariant_of-result g c =
 
 pub returns : goal.returns
 returns g c =
-    left_start (record { path = c.new.result.items; pending = c.args.pending; row = siblings_of c.args.arena; stack = rows_at c.args.arena.nodes.items c.new-2.result.items }) c.new.ensures.items (ap (rows_at c.args.arena.nodes.items) c.new-2.ensures.items)
+    left_start
+    (record {
+      path = c.new.result.items;
+      pending = c.args.pending;
+      row = siblings_of
+          c.args.arena;
+      stack = rows_at c.args.arena.nodes.items c.new-2.result.items;
+    }) c.new.ensures.items
+    (ap (rows_at c.args.arena.nodes.items) c.new-2.ensures.items)

@@ -11,4 +11,8 @@ index_mut-node-requires g c =
 pub returns : goal.returns
 returns g c =
     let id_is = c.index.ensures in
-    goes_down g.K.Bytes.item _ _ c.index.result c.index_mut-node.result.now _ _ c.requires.position c.requires.taken (rw id_is c.requires.next) c.index_mut-node.ensures.value (length-set _ _ _) (λ i k. get-set_other _ c.index.result i _ k) c.as_slice.ensures (c.len-front.ensures ∙ c.args.self.now.path.ok.0) c.in_ok-extend_from_slice.ensures.items c.take.ensures.value refl c.in_ok-push.ensures.items
+    goes_down g.K.Bytes.item _ _ c.index.result c.index_mut-node.result.now _ _ c.requires.position
+    c.requires.taken (rw id_is c.requires.next) c.index_mut-node.ensures.value
+    (length-set _ _ _) (λ i k. get-set_other _ c.index.result i _ k) c.as_slice.ensures
+    (c.len-front.ensures ∙ c.args.self.now.path.ok.0) c.in_ok-extend_from_slice.ensures.items
+    c.take.ensures.value refl c.in_ok-push.ensures.items

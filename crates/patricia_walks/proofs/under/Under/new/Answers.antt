@@ -9,5 +9,6 @@ returns-then-is_empty g c = rw (c.if-is_empty.ensures.0 refl) (c.new.ensures ∙
 
 pub returns : goal.returns
 returns g c =
-    left_at g.Q.Owned.Bytes.item g.met.Q.Owned.Bytes.lawful g.Q.BorrowedBytes.key c.find_start.result _ _ c.find_start.ensures.some c.find_start.ensures.none c.ended.ensures
+    left_at g.Q.Owned.Bytes.item g.met.Q.Owned.Bytes.lawful g.Q.BorrowedBytes.key
+    c.find_start.result _ _ c.find_start.ensures.some c.find_start.ensures.none c.ended.ensures
     ∙ sym (under_filled _ (λ none. absurd (false≢true (c.if-is_empty.ensures.1 none))) _ _)

@@ -11,4 +11,8 @@ index-node-requires g c =
 pub returns : goal.returns
 returns g c =
     let reads = rw c.index.ensures at c.index-node.ensures in
-    goes_down g.K.Bytes.item _ _ c.args.id c.index-node.result.now _ _ c.requires.position (ap option_copied c.requires.taken) c.requires.next reads refl (λ i n. refl) c.as_slice.ensures (c.len-front.ensures ∙ c.args.self.now.path.ok.0) c.in_ok-extend_from_slice.ensures.items c.as_ref-self.ensures.value refl c.in_ok-push.ensures.items
+    goes_down g.K.Bytes.item _ _ c.args.id c.index-node.result.now _ _ c.requires.position
+    (ap option_copied c.requires.taken) c.requires.next reads refl (λ i n. refl)
+    c.as_slice.ensures (c.len-front.ensures ∙ c.args.self.now.path.ok.0)
+    c.in_ok-extend_from_slice.ensures.items c.as_ref-self.ensures.value refl
+    c.in_ok-push.ensures.items

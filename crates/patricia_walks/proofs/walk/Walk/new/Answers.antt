@@ -12,4 +12,12 @@ invariant_of-result g c =
 
 pub returns : goal.returns
 returns g c =
-    left_start (record { path = c.new.result.items; pending = option_copied c.args.pending; row = siblings_of c.args.arena.now; stack = rows_at c.args.arena.now.nodes.items c.new-2.result.items }) c.new.ensures.items (ap (rows_at c.args.arena.now.nodes.items) c.new-2.ensures.items)
+    left_start
+    (record {
+      path = c.new.result.items;
+      pending = option_copied c.args.pending;
+      row =
+          siblings_of c.args.arena.now;
+      stack = rows_at c.args.arena.now.nodes.items c.new-2.result.items;
+    }) c.new.ensures.items
+    (ap (rows_at c.args.arena.now.nodes.items) c.new-2.ensures.items)

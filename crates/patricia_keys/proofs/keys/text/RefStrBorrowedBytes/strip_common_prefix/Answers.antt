@@ -9,6 +9,9 @@ returns c =
     let floor = c.floor_char_boundary-n.ensures in
     record {
       count = c.floor_char_boundary-n.result;
-      common = common_by_floor IsTextItem c.args.self.now c.args.bytes.now c.shared_len.result c.floor_char_boundary-n.result same (text_floor_boundary _ _ _ c.utf8.self same.within_first floor.bound floor.boundary floor.nearest);
+      common = common_by_floor IsTextItem c.args.self.now c.args.bytes.now c.shared_len.result
+          c.floor_char_boundary-n.result same
+          (text_floor_boundary _ _ _ c.utf8.self same.within_first floor.bound floor.boundary
+          floor.nearest);
       is = c.range_from.ensures.value;
     }
