@@ -68,15 +68,6 @@ module _ {V : Type 0} where
       → (written (stepped s) w).map ≡ map.insert s.map key w
   written_next s key v w is = subst (λ o. (written (lent_at s (option_map (λ e. e.0) o)) w).map ≡ map.insert s.map key w) (sym is) refl
 
-  -- and where there is no key there is no entry
-  pub is_last : (s : CursorView V) → next_key s ≡ None → next_row s ≡ None
-  is_last s is = by (next_row s) refl is
-    where
-      by : (o : Option (List ℕ × V)) → next_row s ≡ o → option_map (λ e. e.0) o ≡ None
-          → next_row s ≡ None
-      by None row is = row
-      by (Some e) row is = absurd (cc)
-
 -- what holds of an option holds of what is in it
 pub match_some : {A : Type 0} (X : Type 0) (P : A → Type 0) (o : Option A) (a : A)
     → MatchOption o X P → o ≡ Some a → P a

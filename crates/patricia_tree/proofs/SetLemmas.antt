@@ -13,11 +13,6 @@ pub at_error : {A E : Type 0} (P : Type 0) (r : Result A E) → P → OnErr r P
 at_error P (Ok x) holds = tt
 at_error P (Err e) holds = holds
 
--- a clone of nothing is nothing
-pub units_are_kept : (is_clone : Unit {0} → Unit {0} → Type 0) (values : List (Unit {0}))
-    → ClonesAreSame is_clone values
-units_are_kept is_clone values k d below w _ = refl
-
 -- each key with `()` as its value
 abbrev pub in_pairs : {Q : Type 0} → List Q → List (Q × Unit {0})
 in_pairs given = map (λ key. (key, tt)) given

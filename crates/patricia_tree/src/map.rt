@@ -1,14 +1,13 @@
 //! A map whose keys, byte strings or texts, share their common prefixes.
-ghost use Rattle.std.specs.Prelude.{◌≡◌, ◌≢◌, ◌↔◌, ◌+◌, ◌*◌, ◌<◌, ◌≤◌, ℕ, List, [], length, None, IsTrue, IfSome, IfOk, OnOk, IfErr, OnErr};
+ghost use Rattle.std.specs.Prelude.{◌≡◌, ◌≢◌, ◌↔◌, ◌+◌, ◌*◌, ◌<◌, ◌≤◌, ℕ, List, [], length, None, IsTrue, IfOk, OnOk, IfErr, OnErr};
 ghost use Rattle.std.specs.Borrow.{sem};
-ghost use Rattle.std.specs.Option.{option_copied, option_copied_mut, option_map};
+ghost use Rattle.std.specs.Option.{option_copied, option_copied_mut};
 ghost use Rattle.std.specs.FinMap as map;
 ghost use Rattle.std.specs.List.{All};
 ghost use Rattle.patricia_core.specs.Clones.{ClonesAreSame};
 ghost use Rattle.patricia_core.specs.Keys.{AreSingle, Begins, IsValid};
 ghost use Rattle.patricia_core.specs.Points.{CountsVisits, Joins};
-ghost use Rattle.patricia_core.specs.Prefixes.{along, longest, outside, under, IsReach};
-ghost use Rattle.patricia_core.specs.Walks.{values_of};
+ghost use Rattle.patricia_core.specs.Prefixes.{outside, under};
 ghost use Rattle.patricia_core.specs.TreeBytes.{AreTreeBytes};
 ghost use Rattle.patricia_core.specs.Faults.{IsRefusal};
 ghost use Rattle.patricia_core.specs.Writings.{Means, TooDeep};
@@ -16,7 +15,9 @@ ghost use Rattle.patricia_core.specs.Writings.{Means, TooDeep};
 mod bulk;
 mod cursors;
 mod debug;
+mod iterators;
 mod loans;
+mod prefixes;
 
 pub use crate::guard::{CursorGuard, IntoMap};
 pub use crate::values::ValueCursor;
@@ -30,7 +31,6 @@ pub use patricia_core::prefixes::{
 pub use patricia_core::tree::Refused;
 use patricia_core::tree::{DecodeError, Tree, WireError};
 use std::alloc::{AllocError, Global};
-use std::iter::IntoIterator;
 use std::marker::Model;
 use std::sync::ledger::Ledger;
 
@@ -212,117 +212,6 @@ impl<K: Bytes, V: Drop> GenericPatriciaMap<K, V> {
         ensures bounded { AreSingle K.item → steps.new ≤ steps.old + 1 + 256 * length (Q.key key) }
     {
         self.tree.get_counted(key, steps)
-    }
-
-    /// Returns the entry with the longest key that is a prefix of the key, or `None` where there is
-    /// none. Does not allocate, and takes the time of `get`.
-    ///
-    /// The key that is returned is a part of the key that is passed, and does not borrow the map.
-    ///
-    /// # Examples
-    ///
-    /// ```
-    /// let mut map = StringPatriciaMap::new(rt.alloc());
-    /// map.insert("foo", 1)?;
-    /// map.insert("foobar", 2)?;
-    /// assert_eq!(rt; map.get_longest_common_prefix("foobaz"), Some(("foo", &1)));
-    /// assert_eq!(rt;
-    ///     map.get_longest_common_prefix("foobarbaz"),
-    ///     Some(("foobar", &2))
-    /// );
-    /// assert_eq!(rt; map.get_longest_common_prefix("fo"), None);
-    /// ```
-    pub fn get_longest_common_prefix<Q: BorrowedBytes<Owned = K>>(&self, key: Q) -> Option<(Q, &V)>
-        ensures row { option_map (λ e. (Q.key e.0, e.1.now)) result
-            ≡ longest (Q.key key) (map.entries self.now) }
-        ensures part { IfSome result (λ e. Begins (Q.key e.0) (Q.key key)) }
-    {
-        self.tree.longest(key)
-    }
-
-    /// Returns how many bytes of the key, in whole items, some key of the map begins with, whatever
-    /// follows them there; 0 for an empty map. Does not allocate.
-    ///
-    /// For texts it never ends inside a character.
-    ///
-    /// # Examples
-    ///
-    /// ```
-    /// let mut map = StringPatriciaMap::new(rt.alloc());
-    /// map.insert("foobar", 1)?;
-    /// assert_eq!(rt; map.longest_common_prefix_len("foobaz"), 5);
-    /// assert_eq!(rt; map.longest_common_prefix_len("bar"), 0);
-    /// ```
-    pub fn longest_common_prefix_len<Q: BorrowedBytes<Owned = K>>(&self, key: Q) -> usize
-        ensures { IsReach K.item (map.keys self.now) (Q.key key) result }
-    {
-        self.tree.reach(key)
-    }
-
-    /// Returns the entries whose key is a prefix of the key, the shortest first, those of the empty
-    /// key and of the key itself included. Neither this nor the iterator allocates.
-    ///
-    /// The keys that are returned are parts of the key that is passed.
-    ///
-    /// # Examples
-    ///
-    /// ```
-    /// let mut map = StringPatriciaMap::new(rt.alloc());
-    /// map.insert("foo", 1)?;
-    /// map.insert("foobar", 2)?;
-    /// let mut entries = map.common_prefixes("foobarbaz");
-    /// assert_eq!(rt; entries.next(), Some(("foo", &1)));
-    /// assert_eq!(rt; entries.next(), Some(("foobar", &2)));
-    /// assert_eq!(rt; entries.next(), None);
-    /// ```
-    pub fn common_prefixes<Q: BorrowedBytes<Owned = K>>(
-        &self,
-        key: Q,
-    ) -> CommonPrefixesIter<'_, Q, V>
-        ensures { result ≡ along (Q.key key) (map.entries self.now) }
-    {
-        CommonPrefixesIter::new(self.tree.along(key))
-    }
-
-    /// Returns the values of the entries whose key is a prefix of the key, the shortest key first.
-    /// Neither this nor the iterator allocates.
-    ///
-    /// # Examples
-    ///
-    /// ```
-    /// let mut map = StringPatriciaMap::new(rt.alloc());
-    /// map.insert("foo", 1)?;
-    /// map.insert("foobar", 2)?;
-    /// let mut values = map.common_prefix_values("foobarbaz");
-    /// assert_eq!(rt; values.next(), Some(&1));
-    /// assert_eq!(rt; values.next(), Some(&2));
-    /// assert_eq!(rt; values.next(), None);
-    /// ```
-    pub fn common_prefix_values<Q: BorrowedBytes<Owned = K>>(
-        &self,
-        key: Q,
-    ) -> CommonPrefixValues<'_, Q, V>
-        ensures { result ≡ values_of (along (Q.key key) (map.entries self.now)) }
-    {
-        CommonPrefixValues::new(self.tree.along(key))
-    }
-
-    /// Returns the values of the entries whose key is a prefix of the key, which the iterator owns.
-    /// Neither this nor the iterator allocates.
-    ///
-    /// # Examples
-    ///
-    /// ```
-    /// let mut map = PatriciaMap::new(rt.alloc());
-    /// map.insert(b"foo".as_slice(), 1)?;
-    /// let mut values = map.common_prefix_values_owned(Vec::from_slice(rt.alloc(), b"foobar")?);
-    /// assert_eq!(rt; values.next(), Some(&1));
-    /// assert_eq!(rt; values.next(), None);
-    /// ```
-    pub fn common_prefix_values_owned(&self, key: K) -> CommonPrefixValuesOwned<'_, K, V>
-        ensures { result ≡ values_of (along (K.key key) (map.entries self.now)) }
-    {
-        CommonPrefixValuesOwned::new(self.tree.along_owned(key))
     }
 
     /// Inserts a value at a key, and returns the value that was there, or `None` for a new key.
@@ -521,103 +410,5 @@ impl<K: Bytes, V: Drop> GenericPatriciaMap<K, V> {
         ensures bytes { All (All (λ b. b < 256)) (map.keys self.now) }
     {
         self.tree.keys_are_valid();
-    }
-
-    /// Returns the entries in key order, each with an owned key. Making the iterator does not
-    /// allocate; an item that is an error is out of memory, and ends it.
-    ///
-    /// # Examples
-    ///
-    /// ```
-    /// let map = StringPatriciaMap::from_iter(rt.alloc(), [("foo", 1), ("bar", 2)])?;
-    /// let mut entries = map.iter();
-    /// if let Some(first) = entries.next() {
-    ///     let (key, value) = first?;
-    ///     assert_eq!(rt; (key.as_str(), value), ("bar", &2));
-    /// }
-    /// ```
-    pub fn iter(&self) -> Iter<'_, K, V>
-        ensures { result ≡ map.entries self.now }
-    {
-        Iter::new(self.tree.walk())
-    }
-
-    /// Returns the entries whose key begins with the prefix, in key order, each with an owned key.
-    /// Making the iterator does not allocate; an item that is an error is out of memory, and ends
-    /// it.
-    ///
-    /// # Examples
-    ///
-    /// ```
-    /// let map = StringPatriciaMap::from_iter(rt.alloc(), [("foo", 1), ("bar", 2), ("baz", 3)])?;
-    /// for entry in map.iter_prefix("ba") {
-    ///     let (key, _) = entry?;
-    ///     assert!(rt; key.starts_with("ba"));
-    /// }
-    /// ```
-    pub fn iter_prefix<Q: BorrowedBytes<Owned = K>>(&self, prefix: Q) -> IterPrefix<'_, Q, V>
-        ensures { result ≡ under (Q.key prefix) (map.entries self.now) }
-    {
-        IterPrefix::new(self.tree.under(prefix))
-    }
-
-    /// Returns the keys in order, each an owned key. Making the iterator does not allocate; an item
-    /// that is an error is out of memory, and ends it.
-    ///
-    /// # Examples
-    ///
-    /// ```
-    /// let map = StringPatriciaMap::from_iter(rt.alloc(), [("foo", 1), ("bar", 2)])?;
-    /// let mut keys = map.keys();
-    /// assert_eq!(rt; keys.next().transpose()?.as_deref(), Some("bar"));
-    /// assert_eq!(rt; keys.next().transpose()?.as_deref(), Some("foo"));
-    /// assert!(rt; keys.next().is_none());
-    /// ```
-    pub fn keys(&self) -> Keys<'_, K, V>
-        ensures { result ≡ map.keys self.now }
-    {
-        Keys::new(self.tree.walk())
-    }
-
-    /// Returns the values in the order of their keys. Making the iterator does not allocate; an
-    /// item that is an error is out of memory, and ends it.
-    ///
-    /// # Examples
-    ///
-    /// ```
-    /// let map = StringPatriciaMap::from_iter(rt.alloc(), [("foo", 1), ("bar", 2)])?;
-    /// let mut values = map.values();
-    /// assert_eq!(rt; values.next().transpose()?, Some(&2));
-    /// assert_eq!(rt; values.next().transpose()?, Some(&1));
-    /// assert!(rt; values.next().is_none());
-    /// ```
-    pub fn values(&self) -> Values<'_, K, V>
-        ensures { result ≡ map.values self.now }
-    {
-        Values::new(self.tree.walk())
-    }
-}
-
-impl<K: Bytes, V: Drop> IntoIterator for GenericPatriciaMap<K, V> {
-    type Item = Result<(K, V), AllocError>;
-
-    type IntoIter = IntoIter<K, V>;
-
-    ghost into_iter_gives = { λ m rows. rows ≡ map.entries m };
-
-    fn into_iter(self) -> IntoIter<K, V> {
-        IntoIter::new(self.tree.into_walk())
-    }
-}
-
-impl<'a, K: Bytes, V: Drop> IntoIterator for &'a GenericPatriciaMap<K, V> {
-    type Item = Result<(K, &'a V), AllocError>;
-
-    type IntoIter = Iter<'a, K, V>;
-
-    ghost into_iter_gives = { λ m rows. rows ≡ map.entries m.now };
-
-    fn into_iter(self) -> Iter<'a, K, V> {
-        self.iter()
     }
 }

@@ -1,0 +1,111 @@
+//! Iterators over a map, in key order.
+ghost use Rattle.std.specs.Prelude.{◌≡◌};
+ghost use Rattle.std.specs.FinMap as map;
+ghost use Rattle.patricia_core.specs.Prefixes.{under};
+
+use super::GenericPatriciaMap;
+use patricia_core::entries::{IntoIter, Iter, Keys, Values};
+use patricia_core::keys::{BorrowedBytes, Bytes};
+use patricia_core::prefixes::IterPrefix;
+use std::alloc::AllocError;
+use std::iter::IntoIterator;
+
+impl<K: Bytes, V: Drop> GenericPatriciaMap<K, V> {
+    /// Returns the entries in key order, each with an owned key. Making the iterator does not
+    /// allocate; an item that is an error is out of memory, and ends it.
+    ///
+    /// # Examples
+    ///
+    /// ```
+    /// let map = StringPatriciaMap::from_iter(rt.alloc(), [("foo", 1), ("bar", 2)])?;
+    /// let mut entries = map.iter();
+    /// if let Some(first) = entries.next() {
+    ///     let (key, value) = first?;
+    ///     assert_eq!(rt; (key.as_str(), value), ("bar", &2));
+    /// }
+    /// ```
+    pub fn iter(&self) -> Iter<'_, K, V>
+        ensures { result ≡ map.entries self.now }
+    {
+        Iter::new(self.tree.walk())
+    }
+
+    /// Returns the entries whose key begins with the prefix, in key order, each with an owned key.
+    /// Making the iterator does not allocate; an item that is an error is out of memory, and ends
+    /// it.
+    ///
+    /// # Examples
+    ///
+    /// ```
+    /// let map = StringPatriciaMap::from_iter(rt.alloc(), [("foo", 1), ("bar", 2), ("baz", 3)])?;
+    /// for entry in map.iter_prefix("ba") {
+    ///     let (key, _) = entry?;
+    ///     assert!(rt; key.starts_with("ba"));
+    /// }
+    /// ```
+    pub fn iter_prefix<Q: BorrowedBytes<Owned = K>>(&self, prefix: Q) -> IterPrefix<'_, Q, V>
+        ensures { result ≡ under (Q.key prefix) (map.entries self.now) }
+    {
+        IterPrefix::new(self.tree.under(prefix))
+    }
+
+    /// Returns the keys in order, each an owned key. Making the iterator does not allocate; an item
+    /// that is an error is out of memory, and ends it.
+    ///
+    /// # Examples
+    ///
+    /// ```
+    /// let map = StringPatriciaMap::from_iter(rt.alloc(), [("foo", 1), ("bar", 2)])?;
+    /// let mut keys = map.keys();
+    /// assert_eq!(rt; keys.next().transpose()?.as_deref(), Some("bar"));
+    /// assert_eq!(rt; keys.next().transpose()?.as_deref(), Some("foo"));
+    /// assert!(rt; keys.next().is_none());
+    /// ```
+    pub fn keys(&self) -> Keys<'_, K, V>
+        ensures { result ≡ map.keys self.now }
+    {
+        Keys::new(self.tree.walk())
+    }
+
+    /// Returns the values in the order of their keys. Making the iterator does not allocate; an
+    /// item that is an error is out of memory, and ends it.
+    ///
+    /// # Examples
+    ///
+    /// ```
+    /// let map = StringPatriciaMap::from_iter(rt.alloc(), [("foo", 1), ("bar", 2)])?;
+    /// let mut values = map.values();
+    /// assert_eq!(rt; values.next().transpose()?, Some(&2));
+    /// assert_eq!(rt; values.next().transpose()?, Some(&1));
+    /// assert!(rt; values.next().is_none());
+    /// ```
+    pub fn values(&self) -> Values<'_, K, V>
+        ensures { result ≡ map.values self.now }
+    {
+        Values::new(self.tree.walk())
+    }
+}
+
+impl<K: Bytes, V: Drop> IntoIterator for GenericPatriciaMap<K, V> {
+    type Item = Result<(K, V), AllocError>;
+
+    type IntoIter = IntoIter<K, V>;
+
+    ghost into_iter_gives = { λ m rows. rows ≡ map.entries m };
+
+    fn into_iter(self) -> IntoIter<K, V> {
+        IntoIter::new(self.tree.into_walk())
+    }
+}
+
+impl<'a, K: Bytes, V: Drop> IntoIterator for &'a GenericPatriciaMap<K, V> {
+    type Item = Result<(K, &'a V), AllocError>;
+
+    type IntoIter = Iter<'a, K, V>;
+
+    ghost into_iter_gives = { λ m rows. rows ≡ map.entries m.now };
+
+    fn into_iter(self) -> Iter<'a, K, V> {
+        self.iter()
+    }
+}
