@@ -5,7 +5,8 @@
     tests/examples.py --write    writes the examples into the comments
 
 An example is code between two comments, '// example: MODULE NAME' and '// end'. It stands in the doc comment of the
-function of this name, in a file of CALLS, as the last section. Each public function of these files has one, but for HAS_NONE.
+function of this name, in a file of CALLS or of a folder of CALLS, as the last section. Each public function of these
+files has one, but for HAS_NONE.
 """
 import os
 import re
@@ -14,11 +15,7 @@ import textwrap
 
 CRATES = os.path.join(os.path.dirname(os.path.dirname(os.path.abspath(__file__))), 'crates')
 EXAMPLES = ['test_map/src/tests/%s_examples.rt' % x for x in ('map', 'set', 'cursor')] + ['example_map/src/main.rt']
-CALLS = {
-    'map': ['map.rt', 'map/bulk.rt', 'map/cursors.rt', 'map/loans.rt'],
-    'set': ['set.rt', 'set/bulk.rt'],
-    'cursor': ['entries.rt'],
-}
+CALLS = {'map': ['map.rt', 'map'], 'set': ['set.rt', 'set'], 'cursor': ['entries.rt']}
 # what does nothing at run time
 HAS_NONE = 'keys_are_valid'
 REGION = re.compile(r'^ *// example: (\w+ \w+)\n(.*?)^ *// end$', re.M | re.S)
@@ -31,6 +28,14 @@ def read(path):
         return file.read()
 
 
+def files(path):
+    """A file of patricia_tree, or those of a folder."""
+    path = 'patricia_tree/src/' + path
+    if path.endswith('.rt'):
+        return [path]
+    return ['%s/%s' % (path, x) for x in sorted(os.listdir(os.path.join(CRATES, path)))]
+
+
 def comment(code):
     """The section of a doc comment that has this code."""
     lines = textwrap.dedent(code).rstrip().split('\n')
@@ -41,8 +46,8 @@ def main():
     writes = sys.argv[1:] == ['--write']
     sections = {name: comment(code) for path in EXAMPLES for name, code in REGION.findall(read(path))}
     calls, wrong = 0, []
-    for module, files in CALLS.items():
-        for path in ('patricia_tree/src/' + x for x in files):
+    for module, paths in CALLS.items():
+        for path in (file for x in paths for file in files(x)):
             text = ''
             for part in re.split(r'(?=^    pub fn )', read(path), flags=re.M):
                 # what stands before a call ends with its comment
