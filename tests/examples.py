@@ -14,7 +14,12 @@ import sys
 import textwrap
 
 CRATES = os.path.join(os.path.dirname(os.path.dirname(os.path.abspath(__file__))), 'crates')
-EXAMPLES = ['test_map/src/tests/%s_examples.rt' % x for x in ('map', 'set', 'cursor')] + ['example_map/src/main.rt']
+EXAMPLES = [
+    'test_map/src/tests/map_examples.rt',
+    'test_map/src/tests/cursor_examples.rt',
+    'test_walks/src/tests/set_examples.rt',
+    'example_map/src/main.rt',
+]
 CALLS = {'map': ['map.rt', 'map'], 'set': ['set.rt', 'set'], 'cursor': ['entries.rt']}
 # what does nothing at run time
 HAS_NONE = 'keys_are_valid'

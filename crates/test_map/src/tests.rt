@@ -6,4 +6,3 @@ mod long_keys;
 mod longest_loans;
 mod map_examples;
 mod refused_text;
-mod set_examples;

@@ -2,4 +2,5 @@ mod counts;
 mod cursors;
 mod ends;
 mod helpers;
+mod set_examples;
 mod slots;

@@ -1,9 +1,10 @@
 //! The examples of the calls of sets, as the documentation has them.
-use patricia_tree::{PatriciaSet, StringPatriciaSet};
+use patricia_tree::{DecodeError, PatriciaSet, StringPatriciaSet, WireError};
+use std::alloc::AllocError;
 use std::vec::Vec;
 
 #[test]
-fn new(rt: HostRuntime) -> anyhow::Result<()> {
+fn new(rt: HostRuntime) -> Result<(), AllocError> {
     // example: set new
     let set = PatriciaSet::new(rt.alloc());
     assert!(rt; set.is_empty());
@@ -12,7 +13,7 @@ fn new(rt: HostRuntime) -> anyhow::Result<()> {
 }
 
 #[test]
-fn len(rt: HostRuntime) -> anyhow::Result<()> {
+fn len(rt: HostRuntime) -> Result<(), AllocError> {
     // example: set len
     let mut set = StringPatriciaSet::new(rt.alloc());
     set.insert("foo")?;
@@ -23,7 +24,7 @@ fn len(rt: HostRuntime) -> anyhow::Result<()> {
 }
 
 #[test]
-fn is_empty(rt: HostRuntime) -> anyhow::Result<()> {
+fn is_empty(rt: HostRuntime) -> Result<(), AllocError> {
     // example: set is_empty
     let mut set = StringPatriciaSet::new(rt.alloc());
     assert!(rt; set.is_empty());
@@ -34,7 +35,7 @@ fn is_empty(rt: HostRuntime) -> anyhow::Result<()> {
 }
 
 #[test]
-fn clear(rt: HostRuntime) -> anyhow::Result<()> {
+fn clear(rt: HostRuntime) -> Result<(), AllocError> {
     // example: set clear
     let mut set = StringPatriciaSet::new(rt.alloc());
     set.insert("foo")?;
@@ -45,7 +46,7 @@ fn clear(rt: HostRuntime) -> anyhow::Result<()> {
 }
 
 #[test]
-fn contains(rt: HostRuntime) -> anyhow::Result<()> {
+fn contains(rt: HostRuntime) -> Result<(), AllocError> {
     // example: set contains
     let mut set = StringPatriciaSet::new(rt.alloc());
     set.insert("foo")?;
@@ -56,7 +57,7 @@ fn contains(rt: HostRuntime) -> anyhow::Result<()> {
 }
 
 #[test]
-fn get_longest_common_prefix(rt: HostRuntime) -> anyhow::Result<()> {
+fn get_longest_common_prefix(rt: HostRuntime) -> Result<(), AllocError> {
     // example: set get_longest_common_prefix
     let mut set = StringPatriciaSet::new(rt.alloc());
     set.insert("foo")?;
@@ -68,7 +69,7 @@ fn get_longest_common_prefix(rt: HostRuntime) -> anyhow::Result<()> {
 }
 
 #[test]
-fn longest_common_prefix_len(rt: HostRuntime) -> anyhow::Result<()> {
+fn longest_common_prefix_len(rt: HostRuntime) -> Result<(), AllocError> {
     // example: set longest_common_prefix_len
     let mut set = StringPatriciaSet::new(rt.alloc());
     set.insert("foobar")?;
@@ -78,7 +79,7 @@ fn longest_common_prefix_len(rt: HostRuntime) -> anyhow::Result<()> {
 }
 
 #[test]
-fn insert(rt: HostRuntime) -> anyhow::Result<()> {
+fn insert(rt: HostRuntime) -> Result<(), AllocError> {
     // example: set insert
     let mut set = StringPatriciaSet::new(rt.alloc());
     assert!(rt; set.insert("foo")?);
@@ -88,7 +89,7 @@ fn insert(rt: HostRuntime) -> anyhow::Result<()> {
 }
 
 #[test]
-fn remove(rt: HostRuntime) -> anyhow::Result<()> {
+fn remove(rt: HostRuntime) -> Result<(), AllocError> {
     // example: set remove
     let mut set = StringPatriciaSet::new(rt.alloc());
     set.insert("foo")?;
@@ -99,7 +100,7 @@ fn remove(rt: HostRuntime) -> anyhow::Result<()> {
 }
 
 #[test]
-fn clone(rt: HostRuntime) -> anyhow::Result<()> {
+fn clone(rt: HostRuntime) -> Result<(), AllocError> {
     // example: set clone
     let mut set = StringPatriciaSet::new(rt.alloc());
     set.insert("foo")?;
@@ -111,7 +112,7 @@ fn clone(rt: HostRuntime) -> anyhow::Result<()> {
 }
 
 #[test]
-fn split_by_prefix(rt: HostRuntime) -> anyhow::Result<()> {
+fn split_by_prefix(rt: HostRuntime) -> Result<(), AllocError> {
     // example: set split_by_prefix
     let mut set = StringPatriciaSet::from_iter(rt.alloc(), ["rust", "ruby", "python"])?;
     let split = set.split_by_prefix("ru")?;
@@ -123,7 +124,7 @@ fn split_by_prefix(rt: HostRuntime) -> anyhow::Result<()> {
 }
 
 #[test]
-fn tree_bytes(rt: HostRuntime) -> anyhow::Result<()> {
+fn tree_bytes(rt: HostRuntime) -> Result<(), WireError> {
     // example: set tree_bytes
     let set = StringPatriciaSet::from_iter(rt.alloc(), ["a"])?;
     assert_eq!(rt;
@@ -135,7 +136,7 @@ fn tree_bytes(rt: HostRuntime) -> anyhow::Result<()> {
 }
 
 #[test]
-fn from_wire(rt: HostRuntime) -> anyhow::Result<()> {
+fn from_wire(rt: HostRuntime) -> Result<(), DecodeError> {
     // example: set from_wire
     let bytes = [12, 0, 0, 0, 3, 1, 0, 1, 97];
     let values = Vec::from_slice(rt.alloc(), &[()])?;
@@ -146,7 +147,7 @@ fn from_wire(rt: HostRuntime) -> anyhow::Result<()> {
 }
 
 #[test]
-fn extend(rt: HostRuntime) -> anyhow::Result<()> {
+fn extend(rt: HostRuntime) -> Result<(), AllocError> {
     // example: set extend
     let mut set = StringPatriciaSet::new(rt.alloc());
     set.extend(["foo", "bar", "foo"])?;
@@ -156,7 +157,7 @@ fn extend(rt: HostRuntime) -> anyhow::Result<()> {
 }
 
 #[test]
-fn from_iter(rt: HostRuntime) -> anyhow::Result<()> {
+fn from_iter(rt: HostRuntime) -> Result<(), AllocError> {
     // example: set from_iter
     let set = StringPatriciaSet::from_iter(rt.alloc(), ["foo", "bar"])?;
     assert!(rt; set.contains("bar"));
@@ -165,7 +166,7 @@ fn from_iter(rt: HostRuntime) -> anyhow::Result<()> {
 }
 
 #[test]
-fn iter(rt: HostRuntime) -> anyhow::Result<()> {
+fn iter(rt: HostRuntime) -> Result<(), AllocError> {
     // example: set iter
     let set = StringPatriciaSet::from_iter(rt.alloc(), ["foo", "bar"])?;
     let mut elements = set.iter();
@@ -177,7 +178,7 @@ fn iter(rt: HostRuntime) -> anyhow::Result<()> {
 }
 
 #[test]
-fn iter_prefix(rt: HostRuntime) -> anyhow::Result<()> {
+fn iter_prefix(rt: HostRuntime) -> Result<(), AllocError> {
     // example: set iter_prefix
     let set = StringPatriciaSet::from_iter(rt.alloc(), ["foo", "bar", "baz"])?;
     let mut elements = set.iter_prefix("ba");
