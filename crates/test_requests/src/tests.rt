@@ -5,6 +5,7 @@ mod keys;
 mod loans;
 mod maps;
 mod prefixes;
+mod refusals;
 mod removals;
 mod sets;
 mod walks;

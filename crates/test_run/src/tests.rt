@@ -1,5 +1,6 @@
 //! Tests of what no contract says: values from outside, statuses, failing streams and refused memory.
 
+mod answers;
 mod bench;
 mod helpers;
 mod reload;

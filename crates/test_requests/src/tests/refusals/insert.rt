@@ -1,0 +1,65 @@
+//! An insert that is refused, and one of a key that is there, which does not allocate. `.ci/run`
+//! counts the memory requests of `made`, and refuses the next one of `called`, which says so.
+use patricia_tree::{BorrowedBytes, GenericPatriciaMap};
+use std::alloc::{AllocError, Global};
+use std::process::Abort;
+use std::test::Fail;
+
+// A map of one key.
+fn map_of_one<Q: BorrowedBytes>(
+    alloc: Global,
+    key: Q,
+) -> Result<GenericPatriciaMap<Q::Owned, u64>, AllocError> {
+    let mut map = GenericPatriciaMap::new(alloc);
+    match map.insert(key, 1) {
+        Ok(_) => Ok(map),
+        Err(_) => Err(AllocError),
+    }
+}
+
+// Inserts another key, and then the key that is there. Returns whether the first was refused.
+fn is_refused<Q: BorrowedBytes>(
+    rt: &impl Abort,
+    map: &mut GenericPatriciaMap<Q::Owned, u64>,
+    key: Q,
+    other: Q,
+) -> bool {
+    let Err(refused) = map.insert(other, 2) else {
+        assert!(rt; map.len() == 2 && map.get(other).copied() == Some(2));
+        return false;
+    };
+    assert!(rt; refused.value == 2);
+    assert!(rt; map.len() == 1 && map.get(other).is_none());
+    assert!(rt; map.insert(key, 5).ok() == Some(Some(1)));
+    true
+}
+
+// The same over a new map.
+fn is_refused_anew<Q: BorrowedBytes>(
+    rt: &impl Abort,
+    alloc: Global,
+    key: Q,
+    other: Q,
+) -> Result<bool, AllocError> {
+    let mut map = map_of_one(alloc, key)?;
+    Ok(is_refused(rt, &mut map, key, other))
+}
+
+// How many entries a new map of one key has.
+fn len_of_one<Q: BorrowedBytes>(alloc: Global, key: Q) -> Result<usize, AllocError> {
+    Ok(map_of_one(alloc, key)?.len())
+}
+
+#[test]
+fn made(rt: HostRuntime) -> Result<(), AllocError> {
+    assert!(rt; len_of_one(rt.alloc(), b"foo".as_slice())? == 1);
+    Ok(())
+}
+
+#[test]
+fn called(rt: HostRuntime) -> Result<(), Fail> {
+    if is_refused_anew(&rt, rt.alloc(), b"foo".as_slice(), b"bar".as_slice())? {
+        println!(rt; "the insert was refused")?;
+    }
+    Ok(())
+}

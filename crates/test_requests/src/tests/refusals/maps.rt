@@ -1,0 +1,394 @@
+//! The script of a map.
+use super::tally::{Tally, has, has_among};
+use super::walks::{add_ten, read_each};
+use patricia_tree::{BorrowedBytes, Bytes, DecodeError, GenericPatriciaMap, WireError};
+use std::alloc::{AllocError, Global};
+use std::process::Abort;
+
+type Map<K> = GenericPatriciaMap<K, u64>;
+
+/// The keys of the script, and the entries before and after its calls. The names are those of the
+/// keys that its short form has: `rust`, `ruby`, `bash`, `erlang`, `elixir`, and `x`, `y`, `z`.
+struct Script<'a, Q> {
+    empty: Q,
+    rust: Q,
+    ruby: Q,
+    e: Q,
+    ru: Q,
+    // what the map is made of, and then in key order with the empty key and another value for rust
+    first: &'a [(Q, u64)],
+    whole: &'a [(Q, u64)],
+    without_ruby: &'a [(Q, u64)],
+    // the entries under e, and the others, as they are and with ten more
+    split: &'a [(Q, u64)],
+    kept: &'a [(Q, u64)],
+    more: &'a [(Q, u64)],
+    // what the copy is extended by
+    added: &'a [(Q, u64)],
+    tree: &'a [u8],
+}
+
+// Makes the map.
+fn make<Q: BorrowedBytes>(
+    alloc: Global,
+    rows: &[(Q, u64)],
+    tally: &mut Tally,
+) -> Result<Map<Q::Owned>, AllocError> {
+    if let Ok(map) = GenericPatriciaMap::from_iter(alloc, rows.iter().copied()) {
+        return Ok(map);
+    }
+    tally.add();
+    GenericPatriciaMap::from_iter(alloc, rows.iter().copied())
+}
+
+// Whether an insert is done, and found this value.
+fn found<Q: BorrowedBytes>(map: &mut Map<Q::Owned>, key: Q, value: u64) -> Option<Option<u64>> {
+    map.insert(key, value).ok()
+}
+
+// Inserts of the empty key and of a key that is there. They do not allocate.
+fn replace<Q: BorrowedBytes>(rt: &impl Abort, map: &mut Map<Q::Owned>, script: &Script<'_, Q>) {
+    assert!(rt; found(map, script.empty, 6) == Some(None));
+    assert!(rt; found(map, script.rust, 7) == Some(Some(1)));
+    assert!(rt; has(map, script.whole));
+}
+
+fn remove<Q: BorrowedBytes>(
+    rt: &impl Abort,
+    map: &mut Map<Q::Owned>,
+    key: Q,
+    before: &[(Q, u64)],
+    tally: &mut Tally,
+) -> Result<Option<u64>, AllocError> {
+    if let Ok(old) = map.remove(key) {
+        return Ok(old);
+    }
+    tally.add();
+    assert!(rt; has(map, before));
+    map.remove(key)
+}
+
+// Inserts a key, the second time with the value that was handed back.
+fn insert<Q: BorrowedBytes>(
+    rt: &impl Abort,
+    map: &mut Map<Q::Owned>,
+    key: Q,
+    value: u64,
+    before: &[(Q, u64)],
+    tally: &mut Tally,
+) -> Option<Option<u64>> {
+    match map.insert(key, value) {
+        Ok(old) => Some(old),
+        Err(refused) => {
+            tally.add();
+            assert!(rt; refused.value == value && has(map, before));
+            found(map, key, refused.value)
+        }
+    }
+}
+
+// Removes a key, which joins labels, and inserts it again.
+fn out_and_in<Q: BorrowedBytes>(
+    rt: &impl Abort,
+    map: &mut Map<Q::Owned>,
+    script: &Script<'_, Q>,
+    tally: &mut Tally,
+) -> Result<(), AllocError> {
+    assert!(rt; remove(rt, map, script.ruby, script.whole, tally)? == Some(2));
+    assert!(rt; has(map, script.without_ruby));
+    assert!(rt; insert(rt, map, script.ruby, 2, script.without_ruby, tally) == Some(None));
+    assert!(rt; has(map, script.whole));
+    Ok(())
+}
+
+fn split<Q: BorrowedBytes>(
+    rt: &impl Abort,
+    map: &mut Map<Q::Owned>,
+    script: &Script<'_, Q>,
+    tally: &mut Tally,
+) -> Result<Map<Q::Owned>, AllocError> {
+    if let Ok(part) = map.split_by_prefix(script.e) {
+        return Ok(part);
+    }
+    tally.add();
+    assert!(rt; has(map, script.whole));
+    map.split_by_prefix(script.e)
+}
+
+fn copy<Q: BorrowedBytes>(
+    rt: &impl Abort,
+    map: &Map<Q::Owned>,
+    script: &Script<'_, Q>,
+    tally: &mut Tally,
+) -> Result<Map<Q::Owned>, AllocError> {
+    if let Ok(copy) = map.clone() {
+        return Ok(copy);
+    }
+    tally.add();
+    assert!(rt; has(map, script.kept));
+    map.clone()
+}
+
+// Whether a map has some entries and the first of others, and no more. The others that are left are
+// put in.
+fn is_extended<Q: BorrowedBytes>(
+    map: &mut Map<Q::Owned>,
+    rows: &[(Q, u64)],
+    added: &[(Q, u64)],
+) -> bool {
+    let n = map.len().saturating_sub(rows.len());
+    let Some((put, left)) = added.split_at_checked(n) else {
+        return false;
+    };
+    has_among(map, rows) && has_among(map, put) && map.extend(left.iter().copied()).is_ok()
+}
+
+// Whether a map has what was kept and what was added, and no more.
+fn is_whole_copy<Q: BorrowedBytes>(map: &Map<Q::Owned>, script: &Script<'_, Q>) -> bool {
+    let len = script.kept.len().saturating_add(script.added.len());
+    has_among(map, script.kept) && has_among(map, script.added) && map.len() == len
+}
+
+fn extend<Q: BorrowedBytes>(
+    rt: &impl Abort,
+    map: &mut Map<Q::Owned>,
+    script: &Script<'_, Q>,
+    tally: &mut Tally,
+) {
+    if map.extend(script.added.iter().copied()).is_err() {
+        tally.add();
+        assert!(rt; is_extended(map, script.kept, script.added));
+    }
+}
+
+fn encode<K: Bytes>(map: &Map<K>, tally: &mut Tally) -> Result<Vec<u8>, WireError> {
+    match map.tree_bytes() {
+        Err(WireError::Memory) => {
+            tally.add();
+            map.tree_bytes()
+        }
+        given => given,
+    }
+}
+
+// A map of tree bytes and of the values of rows.
+fn decode_once<Q: BorrowedBytes>(
+    alloc: Global,
+    tree: &[u8],
+    rows: &[(Q, u64)],
+) -> Result<Map<Q::Owned>, DecodeError> {
+    let mut values = Vec::new(alloc);
+    for (_, value) in rows {
+        if values.push(*value).is_err() {
+            return Err(DecodeError::Memory);
+        }
+    }
+    GenericPatriciaMap::from_wire(alloc, tree, values)
+}
+
+fn decode<Q: BorrowedBytes>(
+    alloc: Global,
+    tree: &[u8],
+    rows: &[(Q, u64)],
+    tally: &mut Tally,
+) -> Result<Map<Q::Owned>, DecodeError> {
+    match decode_once(alloc, tree, rows) {
+        Err(DecodeError::Memory) => {
+            tally.add();
+            decode_once(alloc, tree, rows)
+        }
+        given => given,
+    }
+}
+
+// Whether the map is encoded as it should be, and its encoding is read as the same entries.
+fn is_encoded<Q: BorrowedBytes>(
+    alloc: Global,
+    map: &Map<Q::Owned>,
+    script: &Script<'_, Q>,
+    tally: &mut Tally,
+) -> Result<bool, AllocError> {
+    let Ok(tree) = encode(map, tally) else {
+        return Ok(false);
+    };
+    let Ok(read) = decode(alloc, &tree, script.more, tally) else {
+        return Ok(false);
+    };
+    Ok(tree.as_slice() == script.tree && has(&read, script.more) && has(map, script.more))
+}
+
+// The calls from the split on. What was split off is kept to the end.
+fn run_rest<Q: BorrowedBytes>(
+    rt: &impl Abort,
+    alloc: Global,
+    map: &mut Map<Q::Owned>,
+    script: &Script<'_, Q>,
+    tally: &mut Tally,
+) -> Result<(), AllocError> {
+    let part = split(rt, map, script, tally)?;
+    assert!(rt; has(map, script.kept));
+    let mut copied = copy(rt, map, script, tally)?;
+    extend(rt, &mut copied, script, tally);
+    add_ten(rt, map, script.kept, tally);
+    read_each(rt, map, script.ru, script.more, tally);
+    assert!(rt; is_encoded(alloc, map, script, tally)?);
+    assert!(rt; has(&part, script.split) && is_whole_copy(&copied, script));
+    Ok(())
+}
+
+// Runs the script, of which so many calls may be refused.
+fn run<Q: BorrowedBytes>(
+    rt: &impl Abort,
+    alloc: Global,
+    script: &Script<'_, Q>,
+    most: usize,
+) -> Result<(), AllocError> {
+    let mut tally = Tally::new();
+    let mut map = make(alloc, script.first, &mut tally)?;
+    assert!(rt; has(&map, script.first));
+    replace(rt, &mut map, script);
+    out_and_in(rt, &mut map, script, &mut tally)?;
+    run_rest(rt, alloc, &mut map, script, &mut tally)?;
+    tally.check(rt, most);
+    Ok(())
+}
+
+// Labels of at most 30 bytes, which stand in the nodes.
+const SHORT: Script<'static, &'static [u8]> = Script {
+    empty: b"",
+    rust: b"rust",
+    ruby: b"ruby",
+    e: b"e",
+    ru: b"ru",
+    first: &[
+        (b"rust", 1),
+        (b"ruby", 2),
+        (b"bash", 3),
+        (b"erlang", 4),
+        (b"elixir", 5),
+    ],
+    whole: &[
+        (b"", 6),
+        (b"bash", 3),
+        (b"elixir", 5),
+        (b"erlang", 4),
+        (b"ruby", 2),
+        (b"rust", 7),
+    ],
+    without_ruby: &[
+        (b"", 6),
+        (b"bash", 3),
+        (b"elixir", 5),
+        (b"erlang", 4),
+        (b"rust", 7),
+    ],
+    split: &[(b"elixir", 5), (b"erlang", 4)],
+    kept: &[(b"", 6), (b"bash", 3), (b"ruby", 2), (b"rust", 7)],
+    more: &[(b"", 16), (b"bash", 13), (b"ruby", 12), (b"rust", 17)],
+    added: &[(b"x", 7), (b"y", 8), (b"z", 9)],
+    tree: &[
+        15, 0, 0, 0, 51, 4, 0, 1, 98, 97, 115, 104, 12, 2, 0, 1, 114, 117, 51, 2, 0, 2, 98, 121, 3,
+        2, 0, 2, 115, 116,
+    ],
+};
+
+// Labels of at most 30 bytes and of more, which are lists of their own. The removal makes one of
+// 40 bytes.
+const LONG: Script<'static, &'static [u8]> = Script {
+    empty: b"",
+    rust: b"ru------------------st..................",
+    ruby: b"ru------------------by..................",
+    e: b"e---------",
+    ru: b"ru---",
+    first: &[
+        (b"ru------------------st..................", 1),
+        (b"ru------------------by..................", 2),
+        (b"bash------------------------------------", 3),
+        (
+            b"e-------------------rlang..............................",
+            4,
+        ),
+        (
+            b"e-------------------lixir..............................",
+            5,
+        ),
+    ],
+    whole: &[
+        (b"", 6),
+        (b"bash------------------------------------", 3),
+        (
+            b"e-------------------lixir..............................",
+            5,
+        ),
+        (
+            b"e-------------------rlang..............................",
+            4,
+        ),
+        (b"ru------------------by..................", 2),
+        (b"ru------------------st..................", 7),
+    ],
+    without_ruby: &[
+        (b"", 6),
+        (b"bash------------------------------------", 3),
+        (
+            b"e-------------------lixir..............................",
+            5,
+        ),
+        (
+            b"e-------------------rlang..............................",
+            4,
+        ),
+        (b"ru------------------st..................", 7),
+    ],
+    split: &[
+        (
+            b"e-------------------lixir..............................",
+            5,
+        ),
+        (
+            b"e-------------------rlang..............................",
+            4,
+        ),
+    ],
+    kept: &[
+        (b"", 6),
+        (b"bash------------------------------------", 3),
+        (b"ru------------------by..................", 2),
+        (b"ru------------------st..................", 7),
+    ],
+    more: &[
+        (b"", 16),
+        (b"bash------------------------------------", 13),
+        (b"ru------------------by..................", 12),
+        (b"ru------------------st..................", 17),
+    ],
+    added: &[
+        (b"xxxxxxxxxxxxxxxxxxxxxxxxxxxxxxxxxxxxxxxx", 7),
+        (b"yyyyyyyyyyyyyyyyyyyyyyyyyyyyyyyyyyyyyyyy", 8),
+        (b"zzzzzzzzzzzzzzzzzzzzzzzzzzzzzzzzzzzzzzzz", 9),
+    ],
+    tree: &[
+        15, 0, 0, 0, 51, 40, 0, 1, 98, 97, 115, 104, 45, 45, 45, 45, 45, 45, 45, 45, 45, 45, 45,
+        45, 45, 45, 45, 45, 45, 45, 45, 45, 45, 45, 45, 45, 45, 45, 45, 45, 45, 45, 45, 45, 45, 45,
+        45, 45, 12, 20, 0, 1, 114, 117, 45, 45, 45, 45, 45, 45, 45, 45, 45, 45, 45, 45, 45, 45, 45,
+        45, 45, 45, 51, 20, 0, 2, 98, 121, 46, 46, 46, 46, 46, 46, 46, 46, 46, 46, 46, 46, 46, 46,
+        46, 46, 46, 46, 3, 20, 0, 2, 115, 116, 46, 46, 46, 46, 46, 46, 46, 46, 46, 46, 46, 46, 46,
+        46, 46, 46, 46, 46,
+    ],
+};
+
+#[test]
+fn none_is_refused(rt: HostRuntime) -> Result<(), AllocError> {
+    run(&rt, rt.alloc(), &SHORT, 0)?;
+    run(&rt, rt.alloc(), &LONG, 0)
+}
+
+#[test]
+fn short_labels_refused_in_turn(rt: HostRuntime) -> Result<(), AllocError> {
+    run(&rt, rt.alloc(), &SHORT, 1)
+}
+
+#[test]
+fn long_labels_refused_in_turn(rt: HostRuntime) -> Result<(), AllocError> {
+    run(&rt, rt.alloc(), &LONG, 1)
+}

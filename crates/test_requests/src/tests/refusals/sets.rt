@@ -1,0 +1,384 @@
+//! The script of a set.
+use super::tally::Tally;
+use patricia_tree::{BorrowedBytes, Bytes, DecodeError, GenericPatriciaSet, WireError};
+use std::alloc::{AllocError, Global};
+use std::process::Abort;
+
+type Set<K> = GenericPatriciaSet<K>;
+
+/// The elements of the script, and the sets before and after its calls, in order where nothing else
+/// is said.
+struct Script<'a, Q> {
+    empty: Q,
+    rust: Q,
+    ruby: Q,
+    e: Q,
+    ru: Q,
+    // what the set is made of, in another order
+    first: &'a [Q],
+    whole: &'a [Q],
+    without_ruby: &'a [Q],
+    // the elements under e, and the others
+    split: &'a [Q],
+    kept: &'a [Q],
+    // what the copy is extended by
+    added: &'a [Q],
+    tree: &'a [u8],
+}
+
+// Whether a set has these elements, which differ, and no other. It does not allocate.
+fn has<Q: BorrowedBytes>(set: &Set<Q::Owned>, elements: &[Q]) -> bool {
+    has_among(set, elements) && set.len() == elements.len()
+}
+
+fn has_among<Q: BorrowedBytes>(set: &Set<Q::Owned>, elements: &[Q]) -> bool {
+    for element in elements {
+        if !set.contains(*element) {
+            return false;
+        }
+    }
+    true
+}
+
+fn make<Q: BorrowedBytes>(
+    alloc: Global,
+    elements: &[Q],
+    tally: &mut Tally,
+) -> Result<Set<Q::Owned>, AllocError> {
+    if let Ok(set) = GenericPatriciaSet::from_iter(alloc, elements.iter().copied()) {
+        return Ok(set);
+    }
+    tally.add();
+    GenericPatriciaSet::from_iter(alloc, elements.iter().copied())
+}
+
+// Inserts of the empty element and of one that is there. They do not allocate.
+fn replace<Q: BorrowedBytes>(rt: &impl Abort, set: &mut Set<Q::Owned>, script: &Script<'_, Q>) {
+    assert!(rt; set.insert(script.empty).ok() == Some(true));
+    assert!(rt; set.insert(script.rust).ok() == Some(false));
+    assert!(rt; has(set, script.whole));
+}
+
+// Removes an element, which joins labels, and inserts it again.
+fn out_and_in<Q: BorrowedBytes>(
+    rt: &impl Abort,
+    set: &mut Set<Q::Owned>,
+    script: &Script<'_, Q>,
+    tally: &mut Tally,
+) -> Result<(), AllocError> {
+    if set.remove(script.ruby).ok() != Some(true) {
+        tally.add();
+        assert!(rt; has(set, script.whole));
+        assert!(rt; set.remove(script.ruby)?);
+    }
+    assert!(rt; has(set, script.without_ruby));
+    if set.insert(script.ruby).ok() != Some(true) {
+        tally.add();
+        assert!(rt; has(set, script.without_ruby));
+        assert!(rt; set.insert(script.ruby)?);
+    }
+    assert!(rt; has(set, script.whole));
+    Ok(())
+}
+
+fn split<Q: BorrowedBytes>(
+    rt: &impl Abort,
+    set: &mut Set<Q::Owned>,
+    script: &Script<'_, Q>,
+    tally: &mut Tally,
+) -> Result<Set<Q::Owned>, AllocError> {
+    if let Ok(part) = set.split_by_prefix(script.e) {
+        return Ok(part);
+    }
+    tally.add();
+    assert!(rt; has(set, script.whole));
+    set.split_by_prefix(script.e)
+}
+
+fn copy<Q: BorrowedBytes>(
+    rt: &impl Abort,
+    set: &Set<Q::Owned>,
+    script: &Script<'_, Q>,
+    tally: &mut Tally,
+) -> Result<Set<Q::Owned>, AllocError> {
+    if let Ok(copy) = set.clone() {
+        return Ok(copy);
+    }
+    tally.add();
+    assert!(rt; has(set, script.kept));
+    set.clone()
+}
+
+// Whether a set has some elements and the first of others, and no more. The others that are left
+// are inserted.
+fn is_extended<Q: BorrowedBytes>(set: &mut Set<Q::Owned>, before: &[Q], added: &[Q]) -> bool {
+    let n = set.len().saturating_sub(before.len());
+    let Some((put, left)) = added.split_at_checked(n) else {
+        return false;
+    };
+    has_among(set, before) && has_among(set, put) && set.extend(left.iter().copied()).is_ok()
+}
+
+// Whether a set has what was kept and what was added, and no more.
+fn is_whole_copy<Q: BorrowedBytes>(set: &Set<Q::Owned>, script: &Script<'_, Q>) -> bool {
+    let len = script.kept.len().saturating_add(script.added.len());
+    has_among(set, script.kept) && has_among(set, script.added) && set.len() == len
+}
+
+fn extend<Q: BorrowedBytes>(
+    rt: &impl Abort,
+    set: &mut Set<Q::Owned>,
+    script: &Script<'_, Q>,
+    tally: &mut Tally,
+) {
+    if set.extend(script.added.iter().copied()).is_err() {
+        tally.add();
+        assert!(rt; is_extended(set, script.kept, script.added));
+    }
+}
+
+// Whether a step of a walk gave this element, or `None` where memory ran out.
+fn is_due<K: Bytes>(came: Option<Result<K, AllocError>>, element: &[u8]) -> Option<bool> {
+    match came {
+        Some(Ok(found)) => Some(found.as_bytes() == element),
+        Some(Err(_)) => None,
+        None => Some(false),
+    }
+}
+
+// Whether a walk gives these elements, or `None` where memory ran out and the walk was over.
+fn walk<Q: BorrowedBytes>(set: &Set<Q::Owned>, elements: &[Q]) -> Option<bool> {
+    let mut walk = set.iter();
+    for element in elements {
+        match is_due(walk.next(), element.as_bytes()) {
+            Some(true) => {}
+            None if walk.next().is_none() => return None,
+            _ => return Some(false),
+        }
+    }
+    Some(walk.next().is_none() && walk.next().is_none())
+}
+
+// The same of those under a prefix.
+fn walk_under<Q: BorrowedBytes>(set: &Set<Q::Owned>, prefix: Q, elements: &[Q]) -> Option<bool> {
+    let mut walk = set.iter_prefix(prefix);
+    for element in elements {
+        if !element.as_bytes().starts_with(prefix.as_bytes()) {
+            continue;
+        }
+        match is_due(walk.next(), element.as_bytes()) {
+            Some(true) => {}
+            None if walk.next().is_none() => return None,
+            _ => return Some(false),
+        }
+    }
+    Some(walk.next().is_none() && walk.next().is_none())
+}
+
+// The same where the set is taken. It gives the elements, or the first of them and then an error.
+fn is_taken<Q: BorrowedBytes>(set: Set<Q::Owned>, elements: &[Q], tally: &mut Tally) -> bool {
+    let mut walk = set.into_iter();
+    for element in elements {
+        match is_due(walk.next(), element.as_bytes()) {
+            Some(true) => {}
+            Some(false) => return false,
+            None => {
+                tally.add();
+                break;
+            }
+        }
+    }
+    walk.next().is_none() && walk.next().is_none()
+}
+
+// Reads each walk to its end.
+fn read_each<Q: BorrowedBytes>(
+    rt: &impl Abort,
+    set: &Set<Q::Owned>,
+    script: &Script<'_, Q>,
+    tally: &mut Tally,
+) {
+    let mut came = walk(set, script.kept);
+    if came.is_none() {
+        tally.add();
+        came = walk(set, script.kept);
+    }
+    assert!(rt; came == Some(true));
+    came = walk_under(set, script.ru, script.kept);
+    if came.is_none() {
+        tally.add();
+        came = walk_under(set, script.ru, script.kept);
+    }
+    assert!(rt; came == Some(true));
+}
+
+fn encode<K: Bytes>(set: &Set<K>, tally: &mut Tally) -> Result<Vec<u8>, WireError> {
+    match set.tree_bytes() {
+        Err(WireError::Memory) => {
+            tally.add();
+            set.tree_bytes()
+        }
+        given => given,
+    }
+}
+
+// A set of tree bytes, with `()` for each element. A list of `()` does not allocate.
+fn decode_once<K: Bytes>(alloc: Global, tree: &[u8], len: usize) -> Result<Set<K>, DecodeError> {
+    let mut values = Vec::new(alloc);
+    for _ in 0..len {
+        if values.push(()).is_err() {
+            return Err(DecodeError::Memory);
+        }
+    }
+    GenericPatriciaSet::from_wire(alloc, tree, values)
+}
+
+fn decode<K: Bytes>(
+    alloc: Global,
+    tree: &[u8],
+    len: usize,
+    tally: &mut Tally,
+) -> Result<Set<K>, DecodeError> {
+    match decode_once(alloc, tree, len) {
+        Err(DecodeError::Memory) => {
+            tally.add();
+            decode_once(alloc, tree, len)
+        }
+        given => given,
+    }
+}
+
+// Whether the set is encoded as it should be, and its encoding is read as the same elements.
+fn is_encoded<Q: BorrowedBytes>(
+    alloc: Global,
+    set: &Set<Q::Owned>,
+    script: &Script<'_, Q>,
+    tally: &mut Tally,
+) -> bool {
+    let Ok(tree) = encode(set, tally) else {
+        return false;
+    };
+    let Ok(read) = decode(alloc, &tree, script.kept.len(), tally) else {
+        return false;
+    };
+    tree.as_slice() == script.tree && has(&read, script.kept) && has(set, script.kept)
+}
+
+// The calls from the split on. What was split off is kept to the end.
+fn run_rest<Q: BorrowedBytes>(
+    rt: &impl Abort,
+    alloc: Global,
+    set: &mut Set<Q::Owned>,
+    script: &Script<'_, Q>,
+    tally: &mut Tally,
+) -> Result<(), AllocError> {
+    let part = split(rt, set, script, tally)?;
+    assert!(rt; has(set, script.kept));
+    let mut copied = copy(rt, set, script, tally)?;
+    extend(rt, &mut copied, script, tally);
+    read_each(rt, set, script, tally);
+    assert!(rt; is_encoded(alloc, set, script, tally));
+    assert!(rt; has(&part, script.split) && is_whole_copy(&copied, script));
+    assert!(rt; is_taken(part, script.split, tally));
+    Ok(())
+}
+
+// Runs the script, of which so many calls may be refused.
+fn run<Q: BorrowedBytes>(
+    rt: &impl Abort,
+    alloc: Global,
+    script: &Script<'_, Q>,
+    most: usize,
+) -> Result<(), AllocError> {
+    let mut tally = Tally::new();
+    let mut set = make(alloc, script.first, &mut tally)?;
+    assert!(rt; has(&set, script.first));
+    replace(rt, &mut set, script);
+    out_and_in(rt, &mut set, script, &mut tally)?;
+    run_rest(rt, alloc, &mut set, script, &mut tally)?;
+    tally.check(rt, most);
+    Ok(())
+}
+
+// Labels of at most 30 bytes, which stand in the nodes.
+const SHORT: Script<'static, &'static [u8]> = Script {
+    empty: b"",
+    rust: b"rust",
+    ruby: b"ruby",
+    e: b"e",
+    ru: b"ru",
+    first: &[b"rust", b"ruby", b"bash", b"erlang", b"elixir"],
+    whole: &[b"", b"bash", b"elixir", b"erlang", b"ruby", b"rust"],
+    without_ruby: &[b"", b"bash", b"elixir", b"erlang", b"rust"],
+    split: &[b"elixir", b"erlang"],
+    kept: &[b"", b"bash", b"ruby", b"rust"],
+    added: &[b"x", b"y", b"z"],
+    tree: &[
+        15, 0, 0, 0, 51, 4, 0, 1, 98, 97, 115, 104, 12, 2, 0, 1, 114, 117, 51, 2, 0, 2, 98, 121, 3,
+        2, 0, 2, 115, 116,
+    ],
+};
+
+// Texts. The removal joins labels to one of 45 bytes, and other labels have more than 30.
+const LONG: Script<'static, &'static str> = Script {
+    empty: "",
+    rust: "るるるるるるるすとすとすとすと",
+    ruby: "るるるるるるるびいびいびいびい",
+    e: "え",
+    ru: "るる",
+    first: &[
+        "るるるるるるるすとすとすとすと",
+        "るるるるるるるびいびいびいびい",
+        "ばっしゅばっしゅばっしゅばっしゅ",
+        "えええああああああああああああ",
+        "えええりりりりりりりりりりりり",
+    ],
+    whole: &[
+        "",
+        "えええああああああああああああ",
+        "えええりりりりりりりりりりりり",
+        "ばっしゅばっしゅばっしゅばっしゅ",
+        "るるるるるるるすとすとすとすと",
+        "るるるるるるるびいびいびいびい",
+    ],
+    without_ruby: &[
+        "",
+        "えええああああああああああああ",
+        "えええりりりりりりりりりりりり",
+        "ばっしゅばっしゅばっしゅばっしゅ",
+        "るるるるるるるすとすとすとすと",
+    ],
+    split: &["えええああああああああああああ", "えええりりりりりりりりりりりり"],
+    kept: &["", "ばっしゅばっしゅばっしゅばっしゅ", "るるるるるるるすとすとすとすと", "るるるるるるるびいびいびいびい"],
+    added: &[
+        "xxxxxxxxxxxxxxxxxxxxxxxxxxxxxxxxxxxxxxxx",
+        "yyyyyyyyyyyyyyyyyyyyyyyyyyyyyyyyyyyyyyyy",
+        "zzzzzzzzzzzzzzzzzzzzzzzzzzzzzzzzzzzzzzzz",
+    ],
+    tree: &[
+        15, 0, 0, 0, 51, 48, 0, 1, 227, 129, 176, 227, 129, 163, 227, 129, 151, 227, 130, 133, 227,
+        129, 176, 227, 129, 163, 227, 129, 151, 227, 130, 133, 227, 129, 176, 227, 129, 163, 227,
+        129, 151, 227, 130, 133, 227, 129, 176, 227, 129, 163, 227, 129, 151, 227, 130, 133, 12,
+        21, 0, 1, 227, 130, 139, 227, 130, 139, 227, 130, 139, 227, 130, 139, 227, 130, 139, 227,
+        130, 139, 227, 130, 139, 51, 24, 0, 2, 227, 129, 153, 227, 129, 168, 227, 129, 153, 227,
+        129, 168, 227, 129, 153, 227, 129, 168, 227, 129, 153, 227, 129, 168, 3, 24, 0, 2, 227,
+        129, 179, 227, 129, 132, 227, 129, 179, 227, 129, 132, 227, 129, 179, 227, 129, 132, 227,
+        129, 179, 227, 129, 132,
+    ],
+};
+
+#[test]
+fn none_is_refused(rt: HostRuntime) -> Result<(), AllocError> {
+    run(&rt, rt.alloc(), &SHORT, 0)?;
+    run(&rt, rt.alloc(), &LONG, 0)
+}
+
+#[test]
+fn bytes_refused_in_turn(rt: HostRuntime) -> Result<(), AllocError> {
+    run(&rt, rt.alloc(), &SHORT, 1)
+}
+
+#[test]
+fn texts_refused_in_turn(rt: HostRuntime) -> Result<(), AllocError> {
+    run(&rt, rt.alloc(), &LONG, 1)
+}
