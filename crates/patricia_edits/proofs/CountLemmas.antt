@@ -36,6 +36,7 @@ module _ {V : Type 0} where
     next : n.sibling ≡ first ids
     chain : IsChain nodes ids
 
+  -- where the first free number is known, its node is there and leads to the other free numbers
   opens : (nodes : List (Node V)) (id : ℕ) (rest : List ℕ) → IsChain nodes rest
       → Some id ≡ first rest → Opens nodes id rest
   opens nodes id [] c e = absurd (cc)

@@ -16,18 +16,22 @@ module _ {V : Type 0} (is_clone : V → V → Type 0) where
   abbrev Kept : List (List ℕ × V) → Type 0
   Kept es = AllByRecursion (λ e. CloneIsSame is_clone e.1) es
 
+  -- where each clone in two lists is the same value, so it is in each of them
   kept_both : (xs ys : List (List ℕ × V)) → Kept (xs ++ ys) → Kept xs × Kept ys
   kept_both [] ys k = (tt, k)
   kept_both (x ∷ xs) ys k = let rest = kept_both xs ys k.1 in ((k.0, rest.0), rest.1)
 
+  -- a prefix before the keys makes no difference to whether clones are the same
   kept-prefixed : (p : List ℕ) (es : List (List ℕ × V)) → Kept (prefixed p es) → Kept es
   kept-prefixed p [] k = tt
   kept-prefixed p (e ∷ es) k = (k.0, kept-prefixed p es k.1)
 
+  -- a clone of the empty key's value, where there is one, is the same value
   kept-own : (v : Option V) → Kept (own v) → IfSome v (CloneIsSame is_clone)
   kept-own None k = tt
   kept-own (Some v) k = k.0
 
+  -- where the clones of a row's entries are the same, so are those of its nodes' values
   kept-entries : (r : Siblings V) → Kept (entries r) → RowKept is_clone r
   kept-entries end k = tt
   kept-entries (node l v c s) k =
@@ -35,6 +39,7 @@ module _ {V : Type 0} (is_clone : V → V → Type 0) where
       let inner = kept_both (own v) (entries c) (kept-prefixed l (own v ++ entries c) both.0) in
       (kept-own v inner.0, kept-entries c inner.1, kept-entries s both.1)
 
+  -- what is said of the clones of a list of values is said of the entries that have them
   kept_values : (es : List (List ℕ × V)) → AllByRecursion (CloneIsSame is_clone) (map (λ e. e.1) es)
       → Kept es
   kept_values [] k = tt

@@ -20,10 +20,12 @@ module _ {V : Type 0} (s : NodeArena V) (id : ℕ) (fs : List (Frame V)) (l : Li
   abbrev pub bare : Plan V
   bare = Cell id l None Nil d
 
+  -- each number below the length is in a frame, the node, its children, its siblings or a free one
   all : (i : ℕ)
       → (count_frames fs i + (one id i + (count c i + count d i))) + times h.0 i ≡ below (length s.nodes.items) i
   all i = omega (arith, h.1.once i, count-fill fs old i)
 
+  -- the node's number is that of no frame, no child, no sibling and no free node
   apart : (count_frames fs id + (count c id + count d id)) + times h.0 id ≡ 0
   apart = omega (arith, all id, below_le (length s.nodes.items) id, one-same id)
 
@@ -39,9 +41,11 @@ module _ {V : Type 0} (s : NodeArena V) (id : ℕ) (fs : List (Frame V)) (l : Li
     bare_is n is i at child none value gone = rw (is, at, none, gone) refl
 
     module _ (nodes : List (Node V)) (nodes_is : nodes ≡ set s.nodes.items id (linked l None None (head d))) where
+      -- each other node is as before
       kept : (i : ℕ) → i ≢ id → slice_get nodes i ≡ slice_get s.nodes.items i
       kept i k = ap (λ xs. slice_get xs i) nodes_is ∙ get-set_other s.nodes.items id i (linked l None None (head d)) k
 
+      -- the vector is as long as before
       long : length nodes ≡ length s.nodes.items
       long = ap length nodes_is ∙ length-set s.nodes.items id (linked l None None (head d))
 
@@ -59,6 +63,7 @@ module _ {V : Type 0} (s : NodeArena V) (id : ℕ) (fs : List (Frame V)) (l : Li
         once = λ i. omega (arith, all i, below_le (length s.nodes.items) i);
       }
 
+      -- the same nodes are free as before
       free_kept : (free : Option ℕ) → free ≡ s.free → IsFree nodes free h.0
       free_kept free is = (chain-keep s.nodes.items nodes h.0 (λ i k. kept i (λ e. k (omega (arith, apart, ap (times h.0) e)))) h.1.chain, is ∙ h.1.free_is)
 

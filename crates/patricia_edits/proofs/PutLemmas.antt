@@ -40,6 +40,7 @@ module _ (item : List ℕ → Type 0) (kind : IsKeyKind item) {V : Type 0} (x : 
     sibling = ok;
   }
 
+  -- its entries are those of the plan with the value at the new node's key
   put_first : (k : ℕ) (focus : Plan V) → IsCanonical item (row focus) → (rest : List ℕ)
       → Matches item focus rest Absent
       → entries (row (Cell k rest (Some x) Nil focus)) ≡ put key_cmp rest x (entries (row focus))
@@ -85,6 +86,7 @@ module _ {item : List ℕ → Type 0} {V : Type 0} {s : NodeArena V} {key : List
       pub there : Opened s.nodes.items p.focus id r
       there = opened s.nodes.items at p.focus id r (focus_plan_at sought) at_id reads
 
+      -- what is left of the key and the label have n bytes in common, and the label has more
       ends : EndsWithin item rest r.label n
       ends =
           let is_match = subst (λ (q : Plan V). Matches item q rest matched) there.is p.is_match in
@@ -94,9 +96,11 @@ module _ {item : List ℕ → Type 0} {V : Type 0} {s : NodeArena V} {key : List
       pub ends_short : n < length r.label
       ends_short = ends.short
 
+      -- the nodes stand for the plan with this node in the place
       there_holds : Holds s (fill p.frames (Cell id r.label r.value there.child there.sibling))
       there_holds = subst (λ (q : Plan V). Holds s (fill p.frames q)) there.is (place_holds sought)
 
+      -- the row from this node on keeps the invariant
       there_ok : IsCanonical item (node r.label r.value (row there.child) (row there.sibling))
       there_ok = subst (λ (q : Plan V). IsCanonical item (row q)) there.is (focus_ok sought)
 
@@ -139,6 +143,7 @@ module _ {item : List ℕ → Type 0} {V : Type 0} {s : NodeArena V} {key : List
           abbrev beside : List (Frame V)
           beside = InSibling k (drop n r.label) r.value there.child ∷ above
 
+          -- once it is split, the upper node has the first bytes and the lower one all the rest
           cut_holds : Holds mid (fill above low)
           cut_holds = rw (← label) (splits p.frames r.label r.value there.child there.sibling there_holds).0
 
