@@ -44,6 +44,7 @@ passed_filled item k [] t p nonempty none = nonempty (p.splits ∙ none)
 passed_filled item k (b ∷ l) t p nonempty none = let e = p.splits in absurd (cc)
 
 module _ (item : List ℕ → Type 0) {V : Type 0} where
+  -- where a whole row keeps the invariant, the row in the place does too
   pub row-within : (fs : List (Frame V)) (q : Plan V) → IsCanonical item (row (fill fs q))
       → IsCanonical item (row q)
   row-within [] q ok = ok

@@ -147,6 +147,7 @@ module _ {V : Type 0} where
       (numbers : (d : Plan V) → n.sibling ≡ head d → number ≡ head
       (numbered_siblings (suc (length to)) d))
       (pushed : to' ≡ to ++ linked n.label n.value n.child number ∷ []) where
+    -- the node that moves is the one that is freed, and all others are as before
     one_taken : TakesNodes from later (λ i. one id i) 1
     one_taken = takes_one from later id n frees
 

@@ -52,6 +52,7 @@ same_vec {X} v xs is =
 
 module _ {V : Type 0} (s : NodeArena V) (id at : ℕ) (same : at ≡ id)
     (within : id < vec_len s.nodes) (n : Node V) (reads : n ≡ get_or s.nodes.items at n) where
+  -- at the number is the node that is read
   there : slice_get s.nodes.items id ≡ Some n
   there = slice_get_read s.nodes.items (vec_len s.nodes) id n s.nodes.ok.0 within (rw same at reads)
 

@@ -144,15 +144,19 @@ module _ {item : List ℕ → Type 0} (kind : IsKeyKind item) {V : Type 0} {s : 
   }
 
   module _ {link_ref : LinkRef} {at : Option ℕ} {rest : List ℕ} {start now : ℕ} (w : Walks item s key link_ref at rest start now) where
+    -- what is read from the link that is reached is the plan in the place
     focus_plan : IsPlan s.nodes.items at w.focus
     focus_plan = plan_within s.nodes.items s.root at w.frames w.focus (rw w.fills (whole_plan s whole)) w.at_is
 
+    -- the whole row, with the place filled, keeps the invariant
     filled_row : IsCanonical item (row (fill w.frames w.focus))
     filled_row = rw w.fills ok
 
+    -- the row in the place keeps the invariant
     focus_row : IsCanonical item (row w.focus)
     focus_row = row-within item w.frames w.focus filled_row
 
+    -- where the look-up ends so, the walk has reached the place of the key
     placed : (matched : Match) → Matches item w.focus rest matched
         → Placed item s key link_ref at rest matched
     placed matched h = record {
@@ -166,6 +170,7 @@ module _ {item : List ℕ → Type 0} (kind : IsKeyKind item) {V : Type 0} {s : 
       is_match = h;
     }
 
+    -- the steps are as many as the nodes that a look-up of the key meets
     counted : (matched : Match) → Matches item w.focus rest matched → (m : ℕ)
         → m ≡ now + ticks w.focus → IsCounted item (siblings_of s) key start m
     counted matched h m e =
@@ -173,6 +178,7 @@ module _ {item : List ℕ → Type 0} (kind : IsKeyKind item) {V : Type 0} {s : 
         (counted-fill item kind w.frames w.focus filled_row key rest w.leads w.rest_nonempty start m
         (counted_stop item kind w.focus focus_row rest w.rest_nonempty matched h (start + length w.frames) m (e ∙ ap (λ k. k + ticks w.focus) w.ticked)))
 
+    -- where there is no number, no node is left in the row
     nothing : (p : Plan V) → IsPlan s.nodes.items at p → at ≡ None → p ≡ Nil
     nothing Nil q e = refl
     nothing (Cell id l v c d) q e = let h = q.at_is in absurd (cc)
@@ -186,10 +192,12 @@ module _ {item : List ℕ → Type 0} (kind : IsKeyKind item) {V : Type 0} {s : 
     ends_counted e = let nil = nothing w.focus focus_plan e in counted Absent (rw nil refl) now (rw nil (omega arith))
 
     module _ {id : ℕ} (is : at ≡ Some id) where
+      -- the node that is next is in the vector
       pub in_nodes : id < length s.nodes.items
       in_nodes = head_within s.nodes.items at w.focus id focus_plan is
 
       module _ {n : Node V} (reads : n ≡ get_or s.nodes.items id n) where
+        -- the node as it is read, with the plans of its children and of its siblings
         pub opens : Opened s.nodes.items w.focus id n
         opens = opened s.nodes.items at w.focus id n focus_plan is reads
 
@@ -282,6 +290,7 @@ module _ {item : List ℕ → Type 0} {V : Type 0} {s : NodeArena V} {key : List
   pub focus_plan_at : IsPlan s.nodes.items at p.focus
   focus_plan_at = plan_within s.nodes.items s.root at p.frames p.focus place_plan p.at_is
 
+  -- what the entries of the whole row have at the key, those in the place have at the rest of it
   found : find key_cmp key (entries (siblings_of s)) ≡ find key_cmp rest (entries (row p.focus))
   found = ap (λ (q : Plan V). find key_cmp key (entries (row q))) (sym p.fills) ∙ find-fill item kind p.frames p.focus place_row key rest p.leads
 
