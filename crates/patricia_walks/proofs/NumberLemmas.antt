@@ -13,6 +13,7 @@ use Rattle.patricia_nodes.specs.Internal.Loans.{value_in}
 use Rattle.patricia_walks.specs.Internal.Holders.{numbered_slots, held, uses, Reads}
 
 module _ {W : Type 0} where
+  -- entries behind a label have the label before each of their keys
   keys-prefixed : (l : List ℕ) (es : List (List ℕ × W))
       → keys_of (prefixed l es) ≡ map (λ k. l ++ k) (keys_of es)
   keys-prefixed l [] = refl
@@ -24,6 +25,7 @@ pub uses-append : (es fs : List (List ℕ × ValueSlot)) (h : ValueSlot)
 uses-append [] fs h = omega arith
 uses-append (e ∷ es) fs h = omega (arith, uses-append es fs h)
 
+-- a label before the keys changes nothing about who stands in a list
 uses-prefixed : (l : List ℕ) (es : List (List ℕ × ValueSlot)) (h : ValueSlot)
     → uses (prefixed l es) h ≡ uses es h
 uses-prefixed l [] h = refl
@@ -144,6 +146,7 @@ module _ {V : Type 0} where
   earns-marks id l None (Cell i m w d Nil) item = refl
   earns-marks id l None (Cell i m w d (Cell j k u e f)) item = refl
 
+  -- a label comes before a row with marks where it comes before the row
   rises-marks : (l : List ℕ) (d : Plan V) (item : List ℕ → Type 0)
       → IsBeforeSiblings item l (row (marks d)) ≡ IsBeforeSiblings item l (row d)
   rises-marks l Nil item = refl
@@ -184,6 +187,7 @@ module _ {V : Type 0} where
   reads-append h (e ∷ es) fs [] ss a b = absurd a
   reads-append h (e ∷ es) fs (r ∷ rs) ss a b = (a.0, a.1, reads-append h es fs rs ss a.2 b)
 
+  -- a label before the keys of both lists leaves them the same rows
   reads-prefixed : (h : ValueSlot → Option V) (l : List ℕ) (es : List (List ℕ × ValueSlot))
       (rs : List (List ℕ × V)) → Reads h es rs → Reads h (prefixed l es) (prefixed l rs)
   reads-prefixed h l [] [] a = tt

@@ -86,6 +86,7 @@ module _ (item : List ℕ → Type 0) (kind : IsKeyKind item) {V : Type 0} where
       let inner = row-within item fs (Cell id l v c q) ok in
       (o.0, o.1, λ n r. o.2 n (reaches_past item kind l v (row c) (row q) inner rest before n r))
 
+  -- in the place, how far the keys go with the rest of the key is what the look-up has found
   reaches_stop : (focus : Plan V) → IsCanonical item (row focus) → (rest : List ℕ) (matched : Match)
       → Matches item focus rest matched
       → Reaches item (keys_of (entries (row focus))) rest (common_at rest matched)
@@ -100,9 +101,11 @@ module _ (item : List ℕ → Type 0) (kind : IsKeyKind item) {V : Type 0} where
 module _ (item : List ℕ → Type 0) (kind : IsKeyKind item) {V : Type 0} (s : NodeArena V)
     (ok : IsCanonical item (siblings_of s)) (key : List ℕ) (link_ref : LinkRef) (at : Option ℕ)
     (rest : List ℕ) (matched : Match) (p : Placed item s key link_ref at rest matched) where
+  -- the whole row, with the place filled, keeps the invariant
   place_row : IsCanonical item (row (fill p.frames p.focus))
   place_row = rw p.fills ok
 
+  -- how far keys go with the key is the bytes passed, and how far those in the place go
   parts :
       (m : ℕ) × (m + length rest ≡ length key) ×
       ((n : ℕ) → Reaches item (keys_of (entries (row p.focus))) rest n → Reaches item

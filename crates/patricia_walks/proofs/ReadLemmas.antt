@@ -17,6 +17,7 @@ use Rattle.patricia_walks.specs.declared.cursor_state.ValueSlot.{ValueSlot}
 use Rattle.patricia_walks.specs.declared.cursor_state.ValueSlot.TheVariants.{OfEmptyKey, OfNode}
 use Rattle.patricia_walks.specs.Internal.Holders.{is_same, key_at, uses, Reads}
 
+-- two entries with the same key and the same value are one
 same_row : {V : Type 0} (x y : List ℕ × V) → x.0 ≡ y.0 → x.1 ≡ y.1 → x ≡ y
 same_row (k, v) (q, w) a b = cc
 
@@ -27,12 +28,14 @@ same_is OfEmptyKey (OfNode j) e = absurd (cc)
 same_is (OfNode i) OfEmptyKey e = absurd (cc)
 same_is (OfNode i) (OfNode j) e = ap OfNode (eqb-true i j e)
 
+-- a holder is found the same as itself
 same_self : (h : ValueSlot) → is_same h h ≡ true
 same_self OfEmptyKey = refl
 same_self (OfNode i) = eq-eqb i i refl
 
 -- a holder that stands in no row has no key, and one that stands once has one
 module _ (h : ValueSlot) where
+  -- a holder that is used nowhere in a list stands at no key of it
   unused_key : (es : List (List ℕ × ValueSlot)) → uses es h ≡ 0 → (k : List ℕ) → Has es (k, h) → ⊥
   unused_key [] none k has = has
   unused_key (e ∷ es) none k has = by (is_same e.1 h) refl (λ n. unused_key es n k)
