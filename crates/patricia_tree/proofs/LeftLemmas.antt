@@ -26,6 +26,7 @@ not_less k = by (key_cmp k k) refl
     by Equal same = refl
     by Greater same = refl
 
+-- a test that fails does not hold
 never : IsTrue false → ⊥
 never h = cc
 
@@ -130,6 +131,7 @@ module _ {V : Type 0} where
       some : next_row s ≢ None
       some none = let no = sym (ap (option_map (λ r. r.1)) none) ∙ value in cc
 
+  -- where no key is next, no row is
   no_row : (s : CursorView V) → next_key s ≡ None → next_row s ≡ None
   no_row s none = by (next_row s) refl
     where
