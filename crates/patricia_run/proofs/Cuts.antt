@@ -7,11 +7,13 @@ use Rattle.std.proofs.lemmas.List.{take_all, length-drop}
 use Rattle.std.proofs.lemmas.Bool.{cond-true, cond-false, cases_Bool, ne_eqb}
 use Rattle.patricia_run.specs.Text.{without_last_empty, lines_of}
 
+-- a test that never holds is false
 false_unless : (b : Bool) → ¬ (b ≡ true) → b ≡ false
 false_unless true never = absurd (never refl)
 false_unless false never = refl
 
 module _ (p : ℕ → Bool) where
+  -- a byte at which a text is not cut begins its first part
   split-no : (x : ℕ) (xs : List ℕ) → ¬ (p x ≡ true)
       → slice_split p (x ∷ xs) ≡ onto_first x (slice_split p xs)
   split-no x xs never = cond-false (p x) _ _ (false_unless (p x) never)

@@ -16,6 +16,7 @@ use Rattle.patricia_run.specs.Internal.Turns.{AnswersFrom}
 
 module _ {K : Type 0} (item : List ℕ → Type 0) (s : KeyFormat) (key_of : K → List ℕ)
     (old mid new : State ℕ) (rest : List Parsed) (first later : List ℕ) where
+  -- a line with a fault writes its text first, then what the other lines write
   fault_first : (fault : Fault) (replies : List (Reply K ℕ)) → Run item key_of old [] replies mid
       → first ≡ fault_line fault ++ output_of s key_of [] replies
       → AnswersFrom item s key_of mid rest later new
@@ -27,6 +28,7 @@ module _ {K : Type 0} (item : List ℕ → Type 0) (s : KeyFormat) (key_of : K �
   )
   fault_first fault (r ∷ rs) run is more = absurd run
 
+  -- a line with a command writes its reply first, then what the other lines write
   reply_first : (command : Command (List ℕ) ℕ) (replies : List (Reply K ℕ))
       → Run item key_of old (command ∷ []) replies mid
       → first ≡ output_of s key_of (Ok command ∷ []) replies
