@@ -40,6 +40,7 @@ module _ (item : List ℕ → Type 0) (p : Reader) (n : ℕ) where
   refused_values R E reading tree over less =
       inr (first_too_many item n 2 p.bytes.now R E reading.read (spelled_all R [] reading over) tree less)
 
+-- the spelling of one more record follows those of the others
 spell_all-snoc : (w : ℕ) (R : List Record) (b : List ℕ) (r : Record) (c : List ℕ) → EncodeAll w R b
     → Encodes w r c → EncodeAll w (R ++ (r ∷ [])) (b ++ c)
 spell_all-snoc w [] b r c none one = record { first = c; rest = []; spelled = one; others = refl; joined = ap (λ l. l ++ c) none ∙ sym (append-nil c) }
@@ -51,6 +52,7 @@ spell_all-snoc w (x ∷ R) b r c all one = record {
   joined = ap (λ l. l ++ c) all.joined ∙ append_assoc all.first all.rest c;
 }
 
+-- two lists without as many bytes as the first has are the second
 drop_front : (a b : List ℕ) (n : ℕ) → n ≡ length a → drop n (a ++ b) ≡ b
 drop_front a b n e = ap (λ k. drop k (a ++ b)) e ∙ go a
   where
@@ -58,6 +60,7 @@ drop_front a b n e = ap (λ k. drop k (a ++ b)) e ∙ go a
     go [] = refl
     go (x ∷ a) = go a
 
+-- what is due behind a record, from the top of the stack on, is its child and then its sibling
 flipped : (s c : Bool) (x y : Due)
     → reverse (due_where s x ++ due_where c y) ≡ due_where c y ++ due_where s x
 flipped true true x y = refl
@@ -65,6 +68,7 @@ flipped true false x y = refl
 flipped false true x y = refl
 flipped false false x y = refl
 
+-- a record takes four bytes, and those of its label
 spelled_length : (r : Record) (b : List ℕ) → Encodes 2 r b → length b ≡ 4 + length r.label
 spelled_length r b s = omega (arith, ap length s.is)
 
@@ -99,6 +103,7 @@ module _ (item : List ℕ → Type 0) where
     pub after_next : IsAfter item d
     after_next = All-head (IsAfter item) d (reverse others) (subst (All (IsAfter item)) next_due reading.after)
 
+    -- the bytes that are left are all those from the offset on
     left_is :
         take (length p.bytes.now - p.offset) (drop p.offset p.bytes.now) ≡ drop p.offset p.bytes.now
     left_is = take_all (length p.bytes.now - p.offset) (drop p.offset p.bytes.now) (omega (arith, length-drop p.offset p.bytes.now))
@@ -113,6 +118,7 @@ module _ (item : List ℕ → Type 0) where
 
     module _ (left : ℕ) (count : left + value_marks before ≡ n) (r : Record)
         (front : Fronts r (take (length p.bytes.now - p.offset) (drop p.offset p.bytes.now))) where
+      -- they are the record's spelling and what follows it
       is_front : drop p.offset p.bytes.now ≡ front.first ++ front.rest
       is_front = sym left_is ∙ front.joined
 
