@@ -24,6 +24,7 @@ pub record Divides (item : List ℕ → Type 0) (q l p t d : List ℕ) : Type 0 
   pub apart : SharesItem item t d → ⊥
 
 module _ (item : List ℕ → Type 0) (kind : IsKeyKind item) where
+  -- an empty list has no bytes
   nil_length : (a : List ℕ) → a ≡ [] → length a ≡ 0
   nil_length a e = ap length e
 
@@ -31,6 +32,7 @@ module _ (item : List ℕ → Type 0) (kind : IsKeyKind item) where
   front_of : (q l : List ℕ) (n : ℕ) → IsCommon item q l n → take n q ≡ take n l
   front_of q l n c = let short = length-take-le n q c.within in sym (take_at (take n q) c.begins.0 n short) ∙ ap (take n) c.begins.1
 
+  -- bytes before both an item and what begins with it leave it a prefix
   longer : (a i : List ℕ) (q : List ℕ) → Begins i q → Begins (a ++ i) (a ++ q)
   longer a i q b = (b.0, append_assoc a i b.0 ∙ ap (λ r. a ++ r) b.1)
 
@@ -97,6 +99,7 @@ module _ (item : List ℕ → Type 0) (kind : IsKeyKind item) {V : Type 0} (x : 
   abbrev lower : Siblings V
   lower = node d v c end
 
+  -- the lower node alone is a row that keeps the invariant
   lower_row : IsCanonical item lower
   lower_row = record {
     valid = div.label_valid;
@@ -108,6 +111,7 @@ module _ (item : List ℕ → Type 0) (kind : IsKeyKind item) {V : Type 0} (x : 
     sibling = tt;
   }
 
+  -- the label above the cut comes before the siblings, as the whole label does
   front_rises : IsBeforeSiblings item p s
   front_rises = by s ok.rises
     where
@@ -122,6 +126,7 @@ module _ (item : List ℕ → Type 0) (kind : IsKeyKind item) {V : Type 0} (x : 
       ∙ ap (λ es. es ++ entries s) (prefixed-prefixed p d (own v ++ entries c))
       ∙ ap (λ k. prefixed k (own v ++ entries c) ++ entries s) div.label
 
+  -- a write below the cut at the rest of the key is one to the row at the key
   written : (v' : Option V) (c' : Siblings V)
       → own v' ++ entries c' ≡ put key_cmp t x (entries lower)
       → entries (node p v' c' s) ≡ put key_cmp q x (entries (node l v c s))

@@ -12,11 +12,13 @@ use Rattle.patricia_model.proofs.ListLemmas.{IsBelow, IsAbove, put_below, put-ap
 use Rattle.patricia_model.proofs.OrderLemmas.{IsBefore-less, below_row, below_own}
 use Rattle.patricia_model.proofs.UniqueLemmas.{branches, has_entry}
 
+-- what begins some bytes begins them with more behind
 begins_longer : (i m t : List ℕ) → Begins i m → Begins i (m ++ t)
 begins_longer i m t b = Begins-trans i m (m ++ t) b (t, refl)
 
 -- the order of first items looks at no more than the first items
 module _ (item : List ℕ → Type 0) (kind : IsKeyKind item) where
+  -- a label that comes before a key comes before it with more behind
   IsBefore-longer : (l m t : List ℕ) → IsBefore item l m → IsBefore item l (m ++ t)
   IsBefore-longer l m t b = record {
     first = b.first;
@@ -40,6 +42,7 @@ module _ (item : List ℕ → Type 0) (kind : IsKeyKind item) where
     less = b.less;
   }
 
+  -- a label that comes before a key with more behind comes before a nonempty front of it
   IsBefore-shorter : (l m t : List ℕ) → IsValid item m → m ≢ [] → IsBefore item l (m ++ t)
       → IsBefore item l m
   IsBefore-shorter l m t valid nonempty b =
@@ -73,6 +76,7 @@ module _ (item : List ℕ → Type 0) (kind : IsKeyKind item) where
 
 -- what is said of a row by its entries alone
 module _ (item : List ℕ → Type 0) (kind : IsKeyKind item) {V : Type 0} where
+  -- a label that comes before a row's first one comes before each of its keys
   pub keys_rise : (l : List ℕ) (s : Siblings V) → IsCanonical item s → IsBeforeSiblings item l s
       → AllKeys (λ k. IsBefore item l k) (entries s)
   keys_rise l end ok before = tt
@@ -119,6 +123,7 @@ module _ (item : List ℕ → Type 0) (kind : IsKeyKind item) {V : Type 0} (x : 
   put_own None c ok = sym (put_below [] x (entries c) (below_own item kind (Some x) c ok).0)
   put_own (Some y) c ok = refl
 
+  -- the empty key comes before each other key
   empty_below : (t : List ℕ) → t ≢ [] → key_cmp [] t ≡ Less
   empty_below [] nonempty = absurd (nonempty refl)
   empty_below (b ∷ t) nonempty = refl

@@ -22,6 +22,7 @@ pub record Leaves (item : List ℕ → Type 0) {V : Type 0} (left : List ℕ →
       → AllKeys (λ k. IsBefore item l k) (left q es)
 
 module _ (item : List ℕ → Type 0) (kind : IsKeyKind item) {V : Type 0} where
+  -- the rows of the keys other than one are rows that stay
   pub others_leave : Leaves item {V = V} others
   others_leave = record {
     past = λ l v c s ok q before. others_past item kind l v c s ok q before;

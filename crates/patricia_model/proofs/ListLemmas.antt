@@ -45,9 +45,11 @@ key_cmp-extends (c ∷ a) (d ∷ b) x y e =
         ]
     by Greater f g = let no = rw f at e in absurd (cc)
 
+-- an order that is less is tested to be less
 less_is : (r : Ordering) → r ≡ Less → T (is_lt r)
 less_is r e = subst (λ o. T (is_lt o)) (sym e) tt
 
+-- two tests that hold, hold together
 both : (a b : Bool) → T a → T b → T (a && b)
 both true b x y = y
 both false b x y = x

@@ -13,10 +13,12 @@ use Rattle.patricia_model.proofs.PrefixLemmas.{begins-front, begins_from, filter
 use Rattle.patricia_model.proofs.FilterLemmas.{has_filter, filter_has}
 
 module _ {V : Type 0} where
+  -- the rows of two lists outside a prefix are those of the first, then those of the second
   outside-append : (p : List ℕ) (xs ys : List (List ℕ × V))
       → outside p (xs ++ ys) ≡ outside p xs ++ outside p ys
   outside-append p xs ys = filter-append _ xs ys
 
+  -- the same bytes before the prefix and before all keys leave the same rows outside
   outside-prefixed : (l p : List ℕ) (es : List (List ℕ × V))
       → outside (l ++ p) (prefixed l es) ≡ prefixed l (outside p es)
   outside-prefixed l p es = filter-prefixed (λ k. not (begins (l ++ p) k)) (λ k. not (begins p k)) l (λ k. ap not (begins-front l p k)) es
@@ -31,6 +33,7 @@ module _ {V : Type 0} where
       by true f rest = absurd (let no = rw f at none in cc)
       by false f rest = let left = rw f at none in rw f (ap (λ r. e ∷ r) (rest left))
 
+  -- where each key has the prefix, no row is outside
   outside_none : (p : List ℕ) (es : List (List ℕ × V)) → AllKeys (Begins p) es → outside p es ≡ []
   outside_none p [] all = refl
   outside_none p (e ∷ es) all = rw (begins_from p e.0 all.0) (outside_none p es all.1)

@@ -30,6 +30,7 @@ begins_from p k b = subst (λ q. begins p q ≡ true) b.1 (front p b.0)
     front [] rest = refl
     front (c ∷ p) rest = and_from _ _ (eq-eqb c c refl) (front p rest)
 
+-- where two tests hold together, each holds
 both : (a b : Bool) → (a && b) ≡ true → (a ≡ true) × (b ≡ true)
 both true b h = (refl, h)
 both false b h = absurd (cc)
@@ -67,6 +68,7 @@ pub begins_other : (p k : List ℕ) → begins p k ≡ false → Begins p k → 
 begins_other p k none b = let some = begins_from p k b in absurd (cc)
 
 module _ {V : Type 0} where
+  -- the rows of two lists under a prefix are those of the first, then those of the second
   pub under-append : (p : List ℕ) (xs ys : List (List ℕ × V))
       → under p (xs ++ ys) ≡ under p xs ++ under p ys
   under-append p xs ys = filter-append _ xs ys
@@ -119,6 +121,7 @@ module _ {V : Type 0} where
   along_none k [] all = refl
   along_none k (e ∷ es) all = rw (begins_not e.0 k all.0) (along_none k es all.1)
 
+  -- what follows from a fact of a key holds of all keys where the fact does
   AllKeys-follows : (P Q : List ℕ → Type 0) → ((k : List ℕ) → P k → Q k) → (es : List (List ℕ × V))
       → AllKeys P es → AllKeys Q es
   AllKeys-follows P Q follows [] all = tt
@@ -143,6 +146,7 @@ module _ {V : Type 0} where
       AllKeys-any [] = tt
       AllKeys-any (e ∷ es) = ((e.0, refl), AllKeys-any es)
 
+  -- no row is along a key that comes before each of them
   along_above : (q : List ℕ) (es : List (List ℕ × V)) → IsBelow q es → along q es ≡ []
   along_above q es above = along_none q es (AllKeys-follows (λ k. key_cmp q k ≡ Less) (λ k. Begins k q → ⊥) (λ k less b. not_above q k b less) es above)
 
@@ -203,6 +207,7 @@ module _ (item : List ℕ → Type 0) (kind : IsKeyKind item) {V : Type 0} (l : 
       → under p (entries (node l v c s)) ≡ under p (entries s)
   under_past p before = under-append p (prefixed l (own v ++ entries c)) (entries s) ∙ ap (λ r. r ++ under p (entries s)) (first_none p before)
 
+  -- siblings that come after the first item of a prefix have no row under it
   lacks : (p i k : List ℕ) → item i → Begins i k → Begins i p → (r : Siblings V)
       → IsCanonical item r → IsBeforeSiblings item k r → under p (entries r) ≡ []
   lacks p i k is b d r canonical before = under_none p _

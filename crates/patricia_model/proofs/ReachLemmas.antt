@@ -29,6 +29,7 @@ module _ (item : List ℕ → Type 0) where
   none_or_item q m within ([], ok, e) = inl (let none = ap length e in let long = length-take-le m q within in omega arith)
   none_or_item q m within (i ∷ is, ok, e) = inr (i, ok.0, (_, e))
 
+  -- the first bytes of a key begin it
   front_begins : (q : List ℕ) (m : ℕ) → Begins (take m q) q
   front_begins q m = (drop m q, take-append-drop m q)
 

@@ -119,6 +119,7 @@ module _ (item : List ℕ → Type 0) (kind : IsKeyKind item) {V : Type 0} where
 
 module _ (item : List ℕ → Type 0) (kind : IsKeyKind item) {V : Type 0} (l : List ℕ) (v : Option V)
     (c s : Siblings V) (ok : IsCanonical item (node l v c s)) where
+  -- removing a key that comes after the label removes it from the siblings alone
   pub others_past : (q : List ℕ) → IsBefore item l q
       → others q (entries (node l v c s)) ≡ prefixed l (own v ++ entries c) ++ others q (entries s)
   others_past q before = filter-append _ (prefixed l (own v ++ entries c)) (entries s) ∙ ap
@@ -135,6 +136,7 @@ module _ (item : List ℕ → Type 0) (kind : IsKeyKind item) {V : Type 0} (l : 
       → others q (entries (node l v c s)) ≡ entries (node l v c s)
   others_within q n ends = others_absent q _ (lacks_within item kind l v c s ok q n ends)
 
+  -- removing a key that begins with the label removes its rest from the node's own and children
   others_through : (q t : List ℕ) → Passes item q l t
       → others q (entries (node l v c s)) ≡ prefixed l (others t (own v ++ entries c)) ++ entries s
   others_through q t passes =
@@ -172,6 +174,7 @@ module _ (item : List ℕ → Type 0) (kind : IsKeyKind item) where
 
 -- the key was that of the first node
 module _ (item : List ℕ → Type 0) (kind : IsKeyKind item) {V : Type 0} where
+  -- without the value of its first node a row keeps the invariant
   pub row_first_removed : (r : Siblings V) → IsCanonical item r → IsCanonical item (without_first r)
   row_first_removed end ok = ok
   row_first_removed (node l None c s) ok = ok
@@ -188,6 +191,7 @@ module _ (item : List ℕ → Type 0) (kind : IsKeyKind item) {V : Type 0} where
         sibling = ok.sibling;
       }
 
+  -- and its entries are those of the node's children, and of the siblings
   left_first : (l : List ℕ) (v : Option V) (c s : Siblings V) → IsCanonical item (node l v c s)
       → entries (without_first (node l v c s)) ≡ prefixed l (entries c) ++ entries s
   left_first l None c s ok = refl

@@ -49,6 +49,7 @@ module _ {V : Type 0} where
   prefixed-append p (x ∷ xs) ys = ap (λ r. (p ++ x.0, x.1) ∷ r) (prefixed-append p xs ys)
 
 module _ (item : List ℕ → Type 0) (kind : IsKeyKind item) where
+  -- what comes before a key comes before all that the key comes before
   pub IsBefore-trans : (a b c : List ℕ) → IsBefore item a b → IsBefore item b c → IsBefore item a c
   IsBefore-trans a b c x y =
       let same = begins_same item kind x.second y.first b x.second_item y.first_item x.second_begins y.first_begins in

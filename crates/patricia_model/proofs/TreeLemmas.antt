@@ -22,6 +22,7 @@ use Rattle.patricia_model.proofs.GetLemmas.{find_own, find_child}
 use Rattle.patricia_model.proofs.InsertLemmas.{put_own, put_child}
 
 module _ {V : Type 0} where
+  -- a write to a map made of sorted rows is one to the rows
   pub from_sorted-put : (es : List (List ℕ × V)) (k : List ℕ) (v : V) → T (is_sorted key_cmp es)
       → insert (from_sorted {R = key_cmp} es) k v ≡ from_sorted (put key_cmp k v es)
   from_sorted-put es k v sorted =
@@ -36,6 +37,7 @@ module _ {V : Type 0} where
   len-from_sorted es sorted = len-entries (from_sorted es) ∙ ap length (entries-from_sorted key_cmp es sorted)
 
 module _ (item : List ℕ → Type 0) (kind : IsKeyKind item) {V : Type 0} where
+  -- the entries of a tree are in order, that of the empty key first
   pub tree_sorted : (v : Option V) (r : Siblings V) → IsCanonical item r
       → T (is_sorted key_cmp (own v ++ entries r))
   tree_sorted v r ok = sorted-append (own v) (entries r) (sorted_own item kind v) (entries_sorted item kind r ok) (below_own item kind v r ok)
@@ -140,6 +142,7 @@ option_map_not_none f (Some x) e g = absurd (cc)
 
 -- a removal from a finite map that is made of sorted entries
 module _ {V : Type 0} where
+  -- the map of the rows of other keys is the map with the key removed
   from_sorted-others : (es : List (List ℕ × V)) (q : List ℕ) → T (is_sorted key_cmp es)
       → from_sorted {R = key_cmp} (others q es) ≡ remove (from_sorted es) q
   from_sorted-others es q sorted =
@@ -157,6 +160,7 @@ module _ {V : Type 0} where
           ∙ ap (λ r. cond (is_eq r) None o) (sym (nat_list_cmp_total.antisymm x q))
 
 module _ (item : List ℕ → Type 0) (kind : IsKeyKind item) {V : Type 0} where
+  -- without the empty key's value, a tree stands for the map with the empty key removed
   pub remove_empty : (v : Option V) (r : Siblings V) → IsCanonical item r
       → map_of None r ≡ remove (map_of v r) []
   remove_empty v r ok = ap from_sorted (sym (others_own item kind v r ok)) ∙ from_sorted-others (own v ++ entries r) [] (tree_sorted item kind v r ok)
