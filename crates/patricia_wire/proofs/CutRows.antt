@@ -10,6 +10,7 @@ use Rattle.patricia_keys.proofs.KeyLemmas.{Begins-trans, begins_same, first_of, 
 use Rattle.patricia_model.proofs.InsertLemmas.{IsBefore-shorter_left}
 use Rattle.patricia_model.proofs.RowLemmas.{prefixed-prefixed}
 
+-- without a label that has bytes, a key of at most n + 1 bytes has at most n
 rest_shorter : (l r k : List ℕ) (n : ℕ) → l ++ r ≡ k → l ≢ [] → length k ≤ suc n → length r ≤ n
 rest_shorter [] r k n e f h = absurd (f refl)
 rest_shorter (x ∷ l) r k n e f h = omega (arith, ap length e, length-append l r)
@@ -26,10 +27,12 @@ module _ (item : List ℕ → Type 0) (kind : IsKeyKind item) where
     pub rest_valid : IsValid item rest
     pub full : (i : List ℕ) → item i → Begins i rest → length (piece ++ i) ≤ 255 → ⊥
 
+  -- a label that has bytes has bytes with more behind
   filled_on : (l i : List ℕ) → l ≢ [] → l ++ i ≢ []
   filled_on [] i f e = f refl
   filled_on (x ∷ l) i f e = cc
 
+  -- no item is a prefix of nothing
   no_item : (i : List ℕ) → item i → Begins i [] → ⊥
   no_item [] p a = item-nonempty item kind [] p refl
   no_item (x ∷ i) p a = absurd (let h = a.1 in cc)
@@ -77,6 +80,7 @@ module _ (item : List ℕ → Type 0) (kind : IsKeyKind item) where
       → IsBefore item l m
   before_left k l m valid nonempty (t, e) b = IsBefore-shorter_left item kind l m t valid nonempty (subst (λ x. IsBefore item x m) (sym e) b)
 
+  -- and what comes before such a key comes before the label
   before_right : (k m l : List ℕ) → IsValid item l → l ≢ [] → Begins l m → IsBefore item k m
       → IsBefore item k l
   before_right k m l valid nonempty begun b =
@@ -93,6 +97,7 @@ module _ (item : List ℕ → Type 0) (kind : IsKeyKind item) where
       }
 
   module _ {V : Type 0} where
+    -- where the longer key comes before all siblings, the label does too
     pub before_row_left : (k l : List ℕ) (s : Siblings V) → IsValid item l → l ≢ [] → Begins l k
         → IsBeforeSiblings item k s → IsBeforeSiblings item l s
     before_row_left k l end valid nonempty begun b = tt

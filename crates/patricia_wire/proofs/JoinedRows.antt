@@ -8,6 +8,7 @@ use Rattle.patricia_model.proofs.RemovalLemmas.{taken_in_row, taken_in_entries}
 use Rattle.patricia_wire.specs.Internal.WrittenRows.{has_node, over, joined, IsWritable}
 
 module _ (item : List ℕ → Type 0) where
+  -- what comes before a label comes before it with more behind
   before_longer : (k l m : List ℕ) → IsBefore item k l → IsBefore item k (l ++ m)
   before_longer k l m b = record {
     first = b.first;
@@ -27,6 +28,7 @@ module _ (item : List ℕ → Type 0) (kind : IsKeyKind item) {V : Type 0} where
     pub there : has_node row ≡ has_node r
     pub before : (k : List ℕ) → IsBeforeSiblings item k r → IsBeforeSiblings item k row
 
+  -- where children and siblings are joined, a node is, once it takes in a lone child
   joined_node : (l : List ℕ) (v : Option V) (c s d t : Siblings V) → IsWritable item (node l v c s)
       → IsJoined c d → IsJoined s t → IsJoined (node l v c s) (over l v d t)
   joined_node l v c s d t ok child sibling = go v d ok.marked child.ok child.there child.same

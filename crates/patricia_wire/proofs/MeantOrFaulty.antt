@@ -221,6 +221,7 @@ module _ (item : List ℕ → Type 0) (kind : IsKeyKind item) where
   AllAfter [] = Unit {0}
   AllAfter (due ∷ D) = IsAfter item due × AllAfter D
 
+  -- where a mark adds what is due, each label that is waited behind is valid still
   after_where : (mark : Bool) (due : Due) (D : List Due) → (mark ≡ true → IsAfter item due)
       → AllAfter D → AllAfter (due_where mark due ++ D)
   after_where false due D is all = all
@@ -298,6 +299,7 @@ module _ (item : List ℕ → Type 0) (kind : IsKeyKind item) where
         rest_bytes [] y a = a
         rest_bytes (z ∷ x) y a = rest_bytes x y (All-tail (λ z. z < 256) z (x ++ y) a)
 
+    -- whatever of the bytes is left to be read, the input means rows or has a first fault
     run : (fuel left : ℕ) (before : List Record) (D : List Due) (offset : ℕ) (rest : List ℕ)
         → length rest < fuel → IsSoFar left before D offset rest → G
     run zero left before D offset rest less s = absurd (omega (arith, less))

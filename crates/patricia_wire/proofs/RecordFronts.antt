@@ -18,6 +18,7 @@ number_of : List ℕ → ℕ
 number_of [] = 0
 number_of (x ∷ l) = x * 256 ^ length l + number_of l
 
+-- it is less than 256 to the power of how many bytes there are
 number_below : (l : List ℕ) → AreBytes l → number_of l < 256 ^ length l
 unfolding number_of
 number_below [] all = omega arith
@@ -32,6 +33,7 @@ byte_before zero x high low n small below is = omega (arith, small, below, is)
 byte_before (suc k) x high low n small below is =
     ap (λ m. m / 256 ^ suc k % 256) is ∙ ap (λ m. m % 256) (div-mul-add (high * 256 + x) (256 ^ suc k) low below) ∙ mod-mul-add high 256 x small
 
+-- bytes spell their number, the high byte first, whatever stands above it
 high_first : (l : List ℕ) → AreBytes l → (high n : ℕ) → n ≡ high * 256 ^ length l + number_of l
     → bytes_high_first (length l) n ≡ l
 unfolding number_of

@@ -15,6 +15,7 @@ least_rule sibling_order = omega arith
 least_rule no_value_no_child = omega arith
 least_rule too_few_values = omega arith
 
+-- the last rule has number 10
 pub last_rule : (rule : Rule) → number rule < 11
 last_rule level = omega arith
 last_rule root_label = omega arith
@@ -31,6 +32,7 @@ numbered k = get_or
     (level ∷ level ∷ level ∷ level ∷ root_label ∷ root_sibling ∷ empty_label ∷ invalid_label ∷
     sibling_order ∷ no_value_no_child ∷ too_few_values ∷ []) k level
 
+-- each rule is the one of its number
 numbered-number : (rule : Rule) → numbered (number rule) ≡ rule
 numbered-number level = refl
 numbered-number root_label = refl

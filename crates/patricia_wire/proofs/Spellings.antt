@@ -8,6 +8,7 @@ use Rattle.std.proofs.lemmas.List.{append_assoc}
 use Rattle.std.proofs.lemmas.List.Elements.{All-head, All-tail}
 use Rattle.patricia_wire.specs.Records.{Record, AreFlags, HasRoom, Encodes, EncodeAll, canonical_flags, canonical_bytes, canonical_bytes_of, after_flags}
 
+-- two marks that are set where the same fact holds are the same
 same_mark : (a b : Bool) (P : Type 0) → IsTrue a ↔ P → IsTrue b ↔ P → a ≡ b
 same_mark true true P x y = refl
 same_mark true false P x y = sym (y.1 (x.0 refl))
@@ -37,6 +38,7 @@ pub positive : (k : ℕ) → 0 < 256 ^ k
 positive zero = omega arith
 positive (suc k) = let less = positive k in let e = pow-succ' 256 k in omega arith
 
+-- numbers with the same k bytes are the same but for what is above those bytes
 low_same : (k n m : ℕ) → bytes_high_first k n ≡ bytes_high_first k m → n % 256 ^ k ≡ m % 256 ^ k
 low_same zero n m e = omega arith
 low_same (suc zero) n m e = cc
@@ -49,6 +51,7 @@ low_same (suc (suc k)) n m e =
     let whole = pow-succ' 256 (suc k) in
     ap (λ p. n % p) whole ∙ x ∙ (λ i. top i * 256 ^ suc k + low i) ∙ sym y ∙ sym (ap (λ p. m % p) whole)
 
+-- levels that have room in w bytes and the same bytes are the same
 level_same : (w n m : ℕ) → n < 256 ^ w → m < 256 ^ w → bytes_high_first w n ≡ bytes_high_first w m
     → n ≡ m
 level_same w n m h h' e = sym (mod-eq_of_lt h) ∙ low_same w n m e ∙ mod-eq_of_lt h'

@@ -57,10 +57,12 @@ abbrev pub is_nil : List ℕ → Bool
 is_nil [] = true
 is_nil (x ∷ l) = false
 
+-- a list that is tested to be empty is
 nil_is : (l : List ℕ) → is_nil l ≡ true → l ≡ []
 nil_is [] test = refl
 nil_is (x ∷ l) test = absurd (cc)
 
+-- and one that is tested to have something has
 some_is : (l : List ℕ) → not (is_nil l) ≡ true → l ≢ []
 some_is [] test = absurd (cc)
 some_is (x ∷ l) test = λ none. cc

@@ -20,6 +20,7 @@ use Rattle.patricia_wire.proofs.RowTrees.{Nothing, tree_of}
 abbrev pub are_shallow : ℕ → List Record → Bool
 are_shallow w R = list_all (λ r. nat_lt r.level (256 ^ w)) R
 
+-- where the test of levels passes, no record lies too deep
 not_deep : (w : ℕ) (R : List Record) → are_shallow w R ≡ true → Any (λ r. 256 ^ w ≤ r.level) R → ⊥
 not_deep w [] test (k, y, h, e, deep) = omega arith
 not_deep w (r ∷ R) test (zero, y, h, e, deep) =
@@ -39,6 +40,7 @@ are_apart (r ∷ []) = true
 are_apart (r ∷ c ∷ R) = is_apart r c && are_apart (c ∷ R)
 
 module _ (item : List ℕ → Type 0) (kind : IsKeyKind item) where
+  -- where the test of a record and its child passes, they could not be one
   stays_apart : (r c : Record) → is_apart r c ≡ true → StaysApart item r c
   stays_apart r c test none child lone i is begun =
       let full = by r.value r.child c.sibling (length r.label) test none child lone in
@@ -111,6 +113,7 @@ either false b e = inr e
 pub filled_of : (l : List ℕ) → nat_lt 0 (length l) ≡ true → l ≢ []
 filled_of l test none = let some = ltb-true 0 (length l) test in omega (arith, ap length none)
 
+-- where the test of first bytes passes, the label comes before the siblings
 rises : (l : List ℕ) (s : Siblings Nothing) → IsValid IsByteItem l → l ≢ [] → is_before l s ≡ true
     → IsWritable IsByteItem s → IsBeforeSiblings IsByteItem l s
 rises l end valid nonempty test ok = tt
@@ -143,6 +146,7 @@ byte_writable (node l v c s) test =
 abbrev pub has_room : ℕ → Record → Bool
 has_room w r = nat_lt r.level (256 ^ w) && (nat_lt (length r.label) 256 && are_bytes r.label)
 
+-- where the test of bytes passes, each is less than 256
 are_bytes-all : (l : List ℕ) → are_bytes l ≡ true → All (λ b. b < 256) l
 are_bytes-all [] test = All-nil (λ b. b < 256)
 are_bytes-all (b ∷ l) test = All-cons (λ b. b < 256) b l (ltb-true b 256 (first_so _ _ test)) (are_bytes-all l (second_so _ _ test))
