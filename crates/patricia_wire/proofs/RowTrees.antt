@@ -128,10 +128,12 @@ module _ (item : List ℕ → Type 0) where
   }
 
   mutual
+    -- the records of a forest are those of a writable row
     stands : (d : ℕ) (R : List Record) (E : List (List ℕ)) → Forest item d R E → Stands true d R E
     stands d R E (forest r C X Ec Ex inner child sibling before eR eE) =
         stands_node d R E r C X Ec Ex inner (stands_if r.child (d + 1) C Ec child) (stands_if r.sibling d X Ex sibling) before eR eE
 
+    -- and so are those of a forest that is there only where a mark is set
     stands_if : (mark : Bool) (d : ℕ) (R : List Record) (E : List (List ℕ))
         → ForestIf item mark d R E → Stands mark d R E
     stands_if mark d R E (absent unset eR eE) = record { row = end; there = sym unset; records = sym eR; keys = sym eE; ok = tt }
