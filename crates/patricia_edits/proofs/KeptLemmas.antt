@@ -16,7 +16,7 @@ module _ {V : Type 0} (is_clone : V → V → Type 0) where
   abbrev Kept : List (List ℕ × V) → Type 0
   Kept es = AllByRecursion (λ e. CloneIsSame is_clone e.1) es
 
-  -- where each clone in two lists is the same value, so it is in each of them
+  -- where the clones of the values of two lists are the same, so are those of each list
   kept_both : (xs ys : List (List ℕ × V)) → Kept (xs ++ ys) → Kept xs × Kept ys
   kept_both [] ys k = (tt, k)
   kept_both (x ∷ xs) ys k = let rest = kept_both xs ys k.1 in ((k.0, rest.0), rest.1)

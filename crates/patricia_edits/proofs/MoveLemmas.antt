@@ -20,7 +20,7 @@ module _ {V : Type 0} (s : NodeArena V) (id : ℕ) (fs : List (Frame V)) (l : Li
   abbrev pub bare : Plan V
   bare = Cell id l None Nil d
 
-  -- each number below the length is in a frame, the node, its children, its siblings or a free one
+  -- each number of the vector stands once: in a frame, at the node, below it, beside it or free
   all : (i : ℕ)
       → (count_frames fs i + (one id i + (count c i + count d i))) + times h.0 i ≡ below (length s.nodes.items) i
   all i = omega (arith, h.1.once i, count-fill fs old i)

@@ -86,7 +86,7 @@ module _ (item : List ℕ → Type 0) (kind : IsKeyKind item) {V : Type 0} (k : 
   node_row : IsCanonical item (node n.label n.value child_row sibling_row)
   node_row = subst (IsCanonical item) opens.is w.canonical
 
-  -- the step changes no entry: those along the key are read from that node and what follows
+  -- before the step, the entries along the key of that node and of what follows are left
   before : left k d ≡ prefixed (take d.len k)
       (along (drop d.len k) (entries (node n.label n.value child_row sibling_row)))
   before = ap (λ v. left_from k d.len (option_copied v) (siblings_left d)) taken ∙ ap (λ r. prefixed (take d.len k) (along (drop d.len k) (entries r))) opens.is

@@ -105,7 +105,7 @@ module _ (item : List ℕ → Type 0) (kind : IsKeyKind item) {V : Type 0} (s : 
   place_row : IsCanonical item (row (fill p.frames p.focus))
   place_row = rw p.fills ok
 
-  -- how far keys go with the key is the bytes passed, and how far those in the place go
+  -- keys go with the key as far as the bytes passed, and as those in the place go with its rest
   parts :
       (m : ℕ) × (m + length rest ≡ length key) ×
       ((n : ℕ) → Reaches item (keys_of (entries (row p.focus))) rest n → Reaches item

@@ -80,7 +80,7 @@ module _ (item : List ℕ → Type 0) (kind : IsKeyKind item) where
       → IsBefore item l m
   before_left k l m valid nonempty (t, e) b = IsBefore-shorter_left item kind l m t valid nonempty (subst (λ x. IsBefore item x m) (sym e) b)
 
-  -- and what comes before such a key comes before the label
+  -- what comes before a key comes before a label that begins it
   before_right : (k m l : List ℕ) → IsValid item l → l ≢ [] → Begins l m → IsBefore item k m
       → IsBefore item k l
   before_right k m l valid nonempty begun b =
@@ -97,7 +97,7 @@ module _ (item : List ℕ → Type 0) (kind : IsKeyKind item) where
       }
 
   module _ {V : Type 0} where
-    -- where the longer key comes before all siblings, the label does too
+    -- a label that begins a key comes before the siblings that the key comes before
     pub before_row_left : (k l : List ℕ) (s : Siblings V) → IsValid item l → l ≢ [] → Begins l k
         → IsBeforeSiblings item k s → IsBeforeSiblings item l s
     before_row_left k l end valid nonempty begun b = tt

@@ -15,7 +15,7 @@ least_rule sibling_order = omega arith
 least_rule no_value_no_child = omega arith
 least_rule too_few_values = omega arith
 
--- the last rule has number 10
+-- no rule has a number past 10
 pub last_rule : (rule : Rule) → number rule < 11
 last_rule level = omega arith
 last_rule root_label = omega arith

@@ -31,7 +31,7 @@ module _ {V : Type 0} where
       (ends_low (d + 1) (node l' v' c' s')) (ends_low d s)
 
 module _ (item : List ℕ → Type 0) where
-  -- where the first list ends so, neighbours that stay apart in each of two do in both together
+  -- where the first of two lists ends without a child, what stays apart in each does joined
   apart_append : (R X : List Record) → EndsLow R → StayApart item R → StayApart item X
       → StayApart item (R ++ X)
   apart_append [] X low a b = b
