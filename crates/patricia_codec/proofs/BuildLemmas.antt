@@ -29,7 +29,7 @@ pub some_snoc : (R : List Record) (r : Record) → R ++ (r ∷ []) ≢ []
 some_snoc [] r e = cc
 some_snoc (x ∷ R) r e = cc
 
--- numbers that fall
+-- numbers that fall from below n fall from below any greater number
 fall_up : (n m : ℕ) (gaps : List Gap) → n ≤ m → Fall n gaps → Fall m gaps
 fall_up n m [] h f = tt
 fall_up n m (g ∷ gaps) h f = (omega (arith, f.0), f.1)
@@ -45,7 +45,7 @@ fall_next : (b : Bool) (level : ℕ) (label : List ℕ) (n : ℕ) (gaps : List G
 fall_next true level label n gaps f = (omega arith, f)
 fall_next false level label n gaps f = fall_up n (n + 1) gaps (omega arith) f
 
--- one gap more
+-- one node more that waits adds its number at the end of those that wait
 ids_next : (b : Bool) (level : ℕ) (label : List ℕ) (n : ℕ) (gaps : List Gap) (w : List ℕ)
     → ids gaps ≡ reverse w → ids (gap_if b level label n ++ gaps) ≡ reverse (w ++ number_if b n)
 ids_next true level label n gaps w e = ap (λ l. n ∷ l) e ∙ sym (reverse-append w (n ∷ []))
@@ -57,7 +57,7 @@ dues_next : (b : Bool) (level : ℕ) (label : List ℕ) (n : ℕ) (gaps : List G
 dues_next true level label n gaps = refl
 dues_next false level label n gaps = refl
 
--- what is due behind a record
+-- behind a record its child is due, then its sibling, then what was due before
 pub due_next : (r : Record) (level n : ℕ) (gaps : List Gap) → r.level ≡ level
     → due_behind r ++ dues gaps ≡ due_where r.child (record { level = level + 1; after = None }) ++ dues (gap_if r.sibling level r.label n ++ gaps)
 due_next r level n gaps e =
@@ -136,7 +136,7 @@ module _ (item : List ℕ → Type 0) {V : Type 0} where
         due ≡ due_where child (record { level = node.below; after = None }) ++ dues (gap_if node.sibling node.level node.own_label (count_of b) ++ gaps)
     some : R ≢ []
 
-  -- the node that is laid for it
+  -- what is laid behind the nodes is the open node, with its label, value and child
   laid_is : (b new : Builder V) (u : Unlaid V) (x : Option V) (child : Bool)
       → u.label ≡ b.label.items → u.value ≡ x → u.child ≡ child → Lays b x child new
       → new.nodes.items ≡ b.nodes.items ++ laid_node item b.nodes.items b.root b.value u ∷ []

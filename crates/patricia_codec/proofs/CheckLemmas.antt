@@ -75,7 +75,7 @@ module _ (item : List ℕ → Type 0) (kind : IsKeyKind item) where
         ]
       ]
 
--- what the tests say
+-- where two tests hold together, each holds
 both : (a b : Bool) → a && b ≡ true → (a ≡ true) × (b ≡ true)
 both true b e = (refl, e)
 both false b e = absurd (cc)
@@ -165,7 +165,7 @@ module _ (item : List ℕ → Type 0) (due : Due) (left : ℕ) (r : Record) wher
       → not (eqb due.level 0) && b ≡ true → Breaks item due left r empty_label
   breaks_empty_label b is t = (let both = level_some due.level b t in (both.0, is_nil r.label b is both.1))
 
--- one byte more, where so many are not valid
+-- where the first n bytes of a label are not valid, the fewest valid are at least one more
 pub one_more_not : (item : List ℕ → Type 0) (label : List ℕ) (n : ℕ) → 1 ≤ n → n ≤ length label
     → ((m : ℕ) → 1 ≤ m → m < n → IsValid item (take m label) → ⊥) → IsValid item label
     → (IsValid item (take n label) → ⊥)
@@ -182,7 +182,7 @@ one_more_not item label n some within fewest valid fails = record {
   ];
 }
 
--- an error that is passed up
+-- what holds of the error that is passed up holds of the result's error
 pub handed_on : {T E : Type 0} (P : E → Type 0) (out : Result T E) (e : E)
     → IsErrAnd out (λ x. x ≡ e) → P e → IfErr out P
 handed_on P (Ok x) e is h = tt

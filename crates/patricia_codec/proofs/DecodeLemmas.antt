@@ -96,7 +96,7 @@ module _ (item : List ℕ → Type 0) where
       at_level = same_number r.level due.level (keeps.rules level)
 
 module _ {V : Type 0} where
-  -- how many values are left
+  -- the values left and the value marks read are together as many as all values
   pub counted : (all taken items : List V) (before : List Record) (left : ℕ) → all ≡ taken ++ items
       → length taken ≡ value_marks before → left ≡ length items
       → left + value_marks before ≡ length all
@@ -121,7 +121,7 @@ module _ {V : Type 0} where
       → length (taken ++ option_to_list value) ≡ value_marks (before ++ (r ∷ []))
   marks_on taken value before r marks is = omega (arith, length-append taken (option_to_list value), marks, given_mark value r.value is, marks_more before r)
 
-  -- how many are left
+  -- the count less a value that is taken is that of the values left
   pub left_on : (items rest : List V) (value : Option V) (len was : ℕ)
       → items ≡ option_to_list value ++ rest → len + length (option_to_list value) ≡ was
       → was ≡ length items → len ≡ length rest

@@ -23,7 +23,7 @@ use Rattle.patricia_codec.specs.Internal.Lefts.{nodes_of, IsEncoderStart, SomeLe
 use Rattle.patricia_codec.proofs.LeftLemmas.{has_link}
 use Rattle.patricia_codec.proofs.PieceLemmas.{some_records}
 
--- spellings one after the other
+-- the spelling of one more record follows those of the others
 pub spellings-snoc : (w : ℕ) (A : List Record) (r : Record)
     → canonical_bytes_of w (A ++ r ∷ []) ≡ canonical_bytes_of w A ++ canonical_bytes w r
 spellings-snoc w [] r = append-nil (canonical_bytes w r)
@@ -34,7 +34,7 @@ spellings-snoc w (x ∷ A) r = ap (λ b. canonical_bytes w x ++ b) (spellings-sn
 abbrev pub AreShallow : List Record → Type 0
 AreShallow A = All (λ r. r.level < 65536) A
 
--- one more record that is not too deep
+-- one more record that is not too deep leaves none too deep
 pub shallow-snoc : (A : List Record) (r : Record) → AreShallow A → r.level < 65536
     → AreShallow (A ++ r ∷ [])
 shallow-snoc A r all one = All-append (λ r. r.level < 65536) A (r ∷ []) all (All-cons (λ r. r.level < 65536) r [] one (All-nil (λ r. r.level < 65536)))

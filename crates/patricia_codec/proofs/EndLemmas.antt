@@ -31,7 +31,7 @@ none_below n at e = grind (arith, nat_tests)
 
 module _ (item : List ℕ → Type 0) {V : Type 0} (nodes : List (Node V)) (root : Option ℕ)
     (value : Option V) where
-  -- a tree of a root and a row
+  -- a root's record, with a row laid below it, makes the nodes stand for a tree
   rooted : (later : List (Node V)) (plan : Plan V) (written : Siblings V) → nodes ≡ []
       → Hangs item later root plan written → (r : Record) → r.level ≡ 0 → r.label ≡ []
       → r.sibling ≡ false → is_some value ≡ r.value → has_node written ≡ r.child

@@ -44,7 +44,7 @@ module _ {V : Type 0} where
   values_of-own None = refl
   values_of-own (Some x) = refl
 
-  -- the values of a tree, and of a node with what is below it and beside it
+  -- the values of a node and what is below it are its own, then those below it
   pub values_inside : (v : Option V) (c : Siblings V)
       → values_of (own v ++ entries c) ≡ option_to_list v ++ values_of (entries c)
   values_inside v c = values_of-append (own v) (entries c) ∙ ap (λ k. k ++ values_of (entries c)) (values_of-own v)
@@ -57,7 +57,7 @@ module _ {V : Type 0} where
       ∙ ap (λ k. k ++ values_of (entries s)) (values_of-prefixed l (own v ++ entries c) ∙ values_inside v c)
       ∙ append_assoc (option_to_list v) (values_of (entries c)) (values_of (entries s))
 
-  -- a label that takes in what has taken a child in
+  -- a node without value over a lone child is that child under both labels
   over_over : (l m : List ℕ) (v : Option V) (c s : Siblings V)
       → over l None (over m v c end) s ≡ over (l ++ m) v c s
   over_over l m (Some x) c s = refl

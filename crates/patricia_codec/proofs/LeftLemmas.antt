@@ -41,7 +41,7 @@ module _ {V : Type 0} where
   behind_some (suc m) l v c s f = refl
 
 module _ (item : List ℕ → Type 0) {V : Type 0} (nodes : List (Node V)) where
-  -- one more row that waits
+  -- one more row that waits has its records before those of the others
   all_wait-snoc : (fs : List (ℕ × Option ℕ)) (f : ℕ × Option ℕ) (W X : List Record)
       → AllWait item nodes fs W → WaitsToWrite item nodes f X
       → AllWait item nodes (fs ++ f ∷ []) (X ++ W)
@@ -127,7 +127,7 @@ module _ (item : List ℕ → Type 0) (kind : IsKeyKind item) {V : Type 0} (p : 
             (λ r. node (drop p.skipped n.label) n.value children (row r)) (sym none);
       })
 
-  -- what is next is some of the node
+  -- what stands beside the record is the node's siblings, or nothing
   beside_some : (at : Option ℕ) × Beside at
   beside_some = by p.skipped refl
     where
@@ -216,7 +216,7 @@ module _ (item : List ℕ → Type 0) (kind : IsKeyKind item) {V : Type 0} (p : 
       lighter = omega (arith, length-drop k (drop p.skipped n.label), piece.nonempty, short);
     }
 
-    -- both together are the step
+    -- a piece with what is below and beside it is the record that is taken off
     pub taken : (r : Record) (at : Option ℕ) (under : Siblings V) → Beside at
         → q.stack.items ≡ p.stack.items ++ (p.level, at) ∷ [] → Below r.value r.child under
         → r.level ≡ p.level → r.label ≡ take k (drop p.skipped n.label) → r.sibling ≡ is_some at

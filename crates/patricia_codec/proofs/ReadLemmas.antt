@@ -6,7 +6,7 @@ use Rattle.std.proofs.lemmas.Bool.Decides.{nat_tests}
 use Rattle.std.proofs.lemmas.List.Elements.{All-from_get_or, All-take}
 use Rattle.patricia_codec.specs.Internal.Steps.{Fronts}
 
--- a test of a bit
+-- a bit is found set exactly where it is not 0
 tested_bit : (n : ℕ) → IsTrue (not (nat_eq n 0)) ↔ (n ≢ 0)
 tested_bit n = (λ t e. grind (arith, nat_tests), λ some. grind (arith, nat_tests))
 

@@ -51,7 +51,7 @@ module _ {V : Type 0} (old made new : NodeArena V) (c d q : Plan V) (takes : IsB
       → count whole id + times m.left id ≡ 0
   fresh whole sound = omega (arith, sound.once id, m.counted id, below_le (length made.nodes.items) id, one-same id)
 
-  -- the numbers add up
+  -- of each number the plan and the free list gain together what the vector gains
   sums : (nodes : List (Node V)) → length nodes ≡ length made.nodes.items → (i : ℕ)
       → count cell i + times m.left i + below (length old.nodes.items) i ≡ count q i + times spare i + below (length nodes) i
   sums nodes long i = rw long (omega (arith, m.counted i, count_takes c d q takes i))
@@ -61,7 +61,7 @@ module _ {V : Type 0} (old made new : NodeArena V) (c d q : Plan V) (takes : IsB
       → size cell + length m.left + length old.nodes.items ≡ size q + length spare + length nodes
   sizes nodes long = omega (arith, m.longer, size_takes c d q takes)
 
-  -- at the top
+  -- with the new node first at the top, over or before what was there, the nodes are sound
   sound-add_root : IsSound old.nodes.items old.root old.free q spare
       → Relinks made new Root (Some id) → IsSound new.nodes.items new.root new.free cell m.left
   sound-add_root sound links =
@@ -187,7 +187,7 @@ module _ {V : Type 0} where
 
 module _ {V : Type 0} (s : NodeArena V) (id : ℕ) (r : Node V)
     (reads : r ≡ get_or s.nodes.items id r) where
-  -- the room stays
+  -- another label and value at a node leave as much room
   pub room_write : (fs : List (Frame V)) (l l' : List ℕ) (v v' : Option V) (c d : Plan V)
       → Holds s (fill fs (Cell id l v c d)) → (n : ℕ) → HasRoomFor s n
       → RoomFor (set s.nodes.items id (linked l' v' r.child r.sibling)) s.free (vec_capacity s.nodes) n
@@ -220,7 +220,7 @@ module _ {V : Type 0} (s : NodeArena V) (id : ℕ) (r : Node V)
         let grown = adds (InChild id ul uv d ∷ fs) c Nil c refl (inl (refl, refl)) (child_is ∙ ap (λ (x : Node V). x.child) is) sibling_is mid in
         (rw (← label, ← value_is, ← value) grown.0, λ j room. grown.1 j (room_write fs l ul v uv c d h (suc j) room))
 
-  -- the place below it
+  -- once a node is written, the place of its children is below it
   pub spot_below : (ul : List ℕ) (uv : Option V) → HasCell s id
       → (fs : List (Frame V)) × (q : Plan V) × (Child id ≡ link_ref_of fs) ×
       ((spare : List ℕ) × IsSound (set s.nodes.items id (linked ul uv r.child r.sibling))

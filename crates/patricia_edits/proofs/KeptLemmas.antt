@@ -60,7 +60,7 @@ module _ {V : Type 0} (is_clone : V → V → Type 0) where
   pub row_kept : (s : NodeArena V) → EntriesKept is_clone s → RowKept is_clone (siblings_of s)
   row_kept s k = kept-entries (siblings_of s) (recursion_from_All (λ e. CloneIsSame is_clone e.1) (entries (siblings_of s)) k)
 
-  -- the children of a node have some of them
+  -- the clones of a node's children are the same, where those of the whole row are
   kept-open : (i : ℕ) (q : Mix V) (w : Plan V) → OpenAt i q w → RowKept is_clone (row (flat q))
       → RowKept is_clone (row w)
   kept-open i Empty w due k = absurd due
@@ -69,7 +69,7 @@ module _ {V : Type 0} (is_clone : V → V → Type 0) where
   kept-open i (Open id l v c d) w (inl here) k = subst (λ x. RowKept is_clone (row x)) here.1 k.1
   kept-open i (Open id l v c d) w (inr due) k = kept-open i d w due k.2
 
-  -- and so has the next row that is laid
+  -- and so are those of the next row that is laid
   pub next_row_kept : (p : Plan V) (from : List (Node V)) (i : ℕ) (to : List (Node V))
       (root : Option ℕ) (l : Laying p from i to root) (next : NextRow p from i to l.mix)
       → RowKept is_clone (row p) → RowKept is_clone (row next.row)

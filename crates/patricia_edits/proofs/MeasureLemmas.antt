@@ -14,7 +14,7 @@ length-prefixed l [] = refl
 length-prefixed l (e ∷ es) = ap (λ n. suc n) (length-prefixed l es)
 
 module _ {V : Type 0} where
-  -- a value, those below it and those beside it
+  -- the values of a node's plan are its own, those below it and those beside it
   pub values-cell : (id : ℕ) (l : List ℕ) (v : Option V) (c d : Plan V)
       → values (Cell id l v c d) ≡ length (own v) + (values c + values d)
   values-cell id l v c d = omega (
@@ -24,7 +24,7 @@ module _ {V : Type 0} where
     length-append (own v) (entries (row c)),
   )
 
-  -- no more of them than nodes
+  -- a node has at most one value
   pub own-one : (v : Option V) → length (own v) ≤ 1
   own-one None = omega arith
   own-one (Some x) = omega arith

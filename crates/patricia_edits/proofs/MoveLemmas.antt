@@ -34,7 +34,7 @@ module _ {V : Type 0} (s : NodeArena V) (id : ℕ) (fs : List (Frame V)) (l : Li
     abbrev pub moved : Plan V
     moved = Cell id top v c Nil
 
-    -- as the node is read, and written
+    -- a node that is written back without value and child has the label and sibling it had
     pub bare_is : (n : Node V) → n ≡ linked l v (head c) (head d) → (i : ℕ) → i ≡ id
         → (child : Option ℕ) → child ≡ None → (value : Option V) → value ≡ None
         → set s.nodes.items i (linked n.label value child n.sibling) ≡ set s.nodes.items id (linked l None None (head d))
@@ -67,7 +67,7 @@ module _ {V : Type 0} (s : NodeArena V) (id : ℕ) (fs : List (Frame V)) (l : Li
       free_kept : (free : Option ℕ) → free ≡ s.free → IsFree nodes free h.0
       free_kept free is = (chain-keep s.nodes.items nodes h.0 (λ i k. kept i (λ e. k (omega (arith, apart, ap (times h.0) e)))) h.1.chain, is ∙ h.1.free_is)
 
-    -- what is left is whole
+    -- without the moved nodes, the nodes stand for the plan with the bare node
     pub emptied : (first last : NodeArena V)
         → first.nodes.items ≡ set s.nodes.items id (linked l None None (head d))
         → first.root ≡ s.root → first.free ≡ s.free → TakesBelow first last moved

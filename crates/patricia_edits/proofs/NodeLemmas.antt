@@ -29,7 +29,7 @@ module _ {V : Type 0} (s : NodeArena V) (id : ℕ) (fs : List (Frame V)) (l : Li
   pub tree_fits : suc (size c) ≤ length s.nodes.items
   tree_fits = omega (arith, h.1.plan_ok.fits, size-fill fs (Cell id l v c d))
 
-  -- no more values than nodes
+  -- the node and those below it have no more values than there are nodes
   pub values_fit : values c + length (own v) ≤ length s.nodes.items
   values_fit = omega (arith, tree_fits, values-within c, own-one v)
 

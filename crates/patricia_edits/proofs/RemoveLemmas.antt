@@ -34,7 +34,7 @@ label_is : (item : List ℕ → Type 0) (q l : List ℕ) → Passes item q l [] 
 label_is item q l passes = sym (append-nil l) ∙ passes.splits
 
 module _ {V : Type 0} where
-  -- what is left of a first node, by what stands below it
+  -- a first node without value stays, and so does the row
   first_none : (l : List ℕ) (v : Option V) (c s : Siblings V) → v ≡ None
       → without_first (node l v c s) ≡ node l v c s
   first_none l None c s e = refl
@@ -66,7 +66,7 @@ module _ {V : Type 0} where
   lone_parent l (Some x) m w d s e = tt
 
 module _ (item : List ℕ → Type 0) (kind : IsKeyKind item) {V : Type 0} where
-  -- the first node goes, or its value does
+  -- without the value of its first node, a row is without that node's key
   first_gone : (l : List ℕ) (v : Option V) (c s : Siblings V) → IsCanonical item (node l v c s)
       → (q : List ℕ) → Passes item q l []
       → Gone item others (node l v c s) (without_first (node l v c s)) q
@@ -168,7 +168,7 @@ module _ {item : List ℕ → Type 0} {V : Type 0} {s : NodeArena V} {key : List
   gone_cell : Gone item others (row cell) (without_first (row cell)) rest
   gone_cell = first_gone item kind r.label r.value (row there.child) (row there.sibling) inner_ok rest passes
 
-  -- a node stays in the place
+  -- where no fewer nodes stay in the place, the key is removed from the whole
   removes_in : (new : NodeArena V) (q : Plan V) → Holds new (fill p.frames q)
       → without_first (row cell) ≡ row q → 1 + width (row there.sibling) ≤ width (row q)
       → Removes item s new key
@@ -352,7 +352,7 @@ module _ {item : List ℕ → Type 0} {V : Type 0} {s : NodeArena V} {key : List
           let n = linked l v (head c) (head d) in
           (n, sym (get_or_from_slice_get s.nodes.items id n n (ap (slice_get s.nodes.items) (sym same) ∙ w.stands.0)))
 
--- the value of a node that is there
+-- a node that is there has the value that the plan says
 value_is : {V : Type 0} (nodes : List (Node V)) (id : ℕ) (n : Node V) (l : List ℕ) (v : Option V)
     (c d : Option ℕ) → slice_get nodes id ≡ Some n → slice_get nodes id ≡ Some (linked l v c d)
     → v ≡ n.value

@@ -26,7 +26,7 @@ begins_either (c ∷ a) (d ∷ b) x y e =
 pub Begins-trans : (a b c : List ℕ) → Begins a b → Begins b c → Begins a c
 Begins-trans a b c (x, e) (y, f) = (x ++ y, sym (append_assoc a x y) ∙ ap (λ l. l ++ y) e ∙ f)
 
--- where two lists still agree one place on
+-- where the first bytes of a list begin another, each of them is at the same place there
 agrees : (a b : List ℕ) (n m : ℕ) → m ≤ length a → n < m → Begins (take m a) b
     → get_or a n 0 ≡ get_or b n 0
 agrees a b n m within below (rest, e) =
@@ -72,7 +72,7 @@ module _ (item : List ℕ → Type 0) where
   pub IsValid-item : (i : List ℕ) → item i → IsValid item i
   IsValid-item i p = (i ∷ [], (p, tt), append-nil i)
 
-  -- the first item of a key, and the key that is left
+  -- a valid key that is not empty begins with an item
   pub first_of : (k : List ℕ) → IsValid item k → k ≢ [] → (i : List ℕ) × (item i) × Begins i k
   first_of k ([], ok, e) nonempty = absurd (nonempty (sym e))
   first_of k (i ∷ is, ok, e) nonempty = (i, ok.0, (concat is, e))

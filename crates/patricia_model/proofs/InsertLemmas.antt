@@ -113,7 +113,7 @@ module _ (item : List ℕ → Type 0) (kind : IsKeyKind item) {V : Type 0} where
   earns_elsewhere l m None (node k v c (node k' v' c' s')) e = tt
 
 module _ (item : List ℕ → Type 0) (kind : IsKeyKind item) {V : Type 0} (x : V) where
-  -- a key alone
+  -- a node alone with a value has the one entry of its label
   pub single : (q : List ℕ) → entries (node q (Some x) end end) ≡ (q, x) ∷ []
   single q = ap (λ k. (k, x) ∷ []) (append-nil q)
 
@@ -138,7 +138,7 @@ module _ (item : List ℕ → Type 0) (kind : IsKeyKind item) {V : Type 0} (x : 
       above None = tt
       above (Some y) = (empty_below t nonempty, tt)
 
-  -- a write behind the label of the first node
+  -- a write to a node's own entry and children is one to the row, behind the label
   pub put_front : (l : List ℕ) (v : Option V) (c s : Siblings V) → IsCanonical item s
       → IsBeforeSiblings item l s → (q t : List ℕ) (v' : Option V) (c' : Siblings V) → l ++ t ≡ q
       → own v' ++ entries c' ≡ put key_cmp t x (own v ++ entries c)
@@ -150,7 +150,7 @@ module _ (item : List ℕ → Type 0) (kind : IsKeyKind item) {V : Type 0} (x : 
       ∙ ap (λ k. put key_cmp k x (entries (node l v c s))) splits
 
   module _ (l : List ℕ) (v : Option V) (c s : Siblings V) (ok : IsCanonical item (node l v c s)) where
-    -- the key goes before the row
+    -- a leaf before all siblings is a write of its key
     pub put_before : (q : List ℕ) → IsBefore item q l
         → entries (node q (Some x) end (node l v c s)) ≡ put key_cmp q x (entries (node l v c s))
     put_before q before =
@@ -159,7 +159,7 @@ module _ (item : List ℕ → Type 0) (kind : IsKeyKind item) {V : Type 0} (x : 
         (subst (λ k. IsBelow k (entries (node l v c s))) (append-nil q)
         (below_row item kind q [] (node l v c s) ok before)))
 
-    -- it goes into the rest of the row
+    -- a write to the siblings behind a node is one to the row
     pub put_past : (q : List ℕ) (s' : Siblings V) → IsBefore item l q
         → entries s' ≡ put key_cmp q x (entries s)
         → entries (node l v c s') ≡ put key_cmp q x (entries (node l v c s))
@@ -183,7 +183,7 @@ module _ (item : List ℕ → Type 0) (kind : IsKeyKind item) {V : Type 0} (x : 
       sibling = ok';
     }
 
-    -- it goes through the label
+    -- and so is one below a node whose label the key passes
     pub put_through : (q t : List ℕ) (v' : Option V) (c' : Siblings V) → Passes item q l t
         → own v' ++ entries c' ≡ put key_cmp t x (own v ++ entries c)
         → entries (node l v' c' s) ≡ put key_cmp q x (entries (node l v c s))

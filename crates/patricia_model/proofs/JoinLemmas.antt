@@ -16,7 +16,7 @@ use Rattle.patricia_model.proofs.RemovalLemmas.{survivor}
 use Rattle.patricia_model.proofs.PointLemmas.{nil_first, nil_second, has_prefixed, has_after, has_one, within_own}
 use Rattle.patricia_model.proofs.UniqueLemmas.{has_entry}
 
--- the keys other than one
+-- a key other than q is among the keys without q
 without-has : (S : List (List ℕ)) (q k : List ℕ) → Has S k → (q ≡ k → ⊥) → Has (without S q) k
 without-has [] q k h other = absurd h
 without-has (x ∷ S) q k h other = by (key_cmp q x) refl h (λ g. without-has S q k g other)
@@ -107,7 +107,7 @@ module _ (item : List ℕ → Type 0) where
       follows : (i : List ℕ) → Follows item S p i → Follows item T p i
       follows i f = record { is_item = f.is_item; key = f.key; has = there f.key f.has (shorter_front p i f.key f.begins); begins = f.begins }
 
-  -- a point behind a label
+  -- a point stays one behind a label that is before all keys
   point_behind : (S T : List (List ℕ)) (l p : List ℕ) → IsValid item l
       → ((k : List ℕ) → Has S k → Has T (l ++ k)) → IsPoint item S p → IsPoint item T (l ++ p)
   point_behind S T l p valid there point = record {
@@ -139,7 +139,7 @@ module _ (item : List ℕ → Type 0) where
         );
       }
 
-  -- and ahead of it
+  -- and without that label, where the keys that it begins are there
   point_ahead : (S T : List (List ℕ)) (l p : List ℕ) → IsValid item p → p ≢ []
       → ((k : List ℕ) → Has T (l ++ k) → Begins p k → Has S k) → IsPoint item T (l ++ p)
       → IsPoint item S p
@@ -342,13 +342,13 @@ module _ (item : List ℕ → Type 0) (kind : IsKeyKind item) {V : Type 0} (l : 
         | inr g ↦ absurd g
       ]
 
-  -- a node without value branches
+  -- a node without value branches at its label
   branching : v ≡ None → Branches item (keys_of (entries (node l v c s))) l
   branching none = two_children item kind l c ok.child
       (subst (λ (w : Option V). EarnsWithin item None l w c) none ok.earns)
       (keys_of (entries (node l v c s))) key_of_child
 
-  -- one of two children goes
+  -- where one of two children goes, the labels of the node and the other are joined
   pub joins_alone : (q t m : List ℕ) → Passes item q l t → t ≢ [] → v ≡ None → LeavesAlone t c m
       → Joins item (keys_of (entries (node l v c s))) q
   joins_alone q t m passes nonempty none alone =

@@ -36,13 +36,13 @@ module _ {V : Type 0} where
   AllKeys-prefixed P p all [] = tt
   AllKeys-prefixed P p all (e ∷ es) = (all e.0, AllKeys-prefixed P p all es)
 
-  -- a prefix before a prefix
+  -- bytes before bytes before keys are both before the keys
   pub prefixed-prefixed : (p q : List ℕ) (es : List (List ℕ × V))
       → prefixed p (prefixed q es) ≡ prefixed (p ++ q) es
   prefixed-prefixed p q [] = refl
   prefixed-prefixed p q (e ∷ es) = let key = append_assoc p q e.0 in let rest = prefixed-prefixed p q es in cc
 
-  -- a prefix before two lists
+  -- bytes before the keys of two lists are before those of both together
   pub prefixed-append : (p : List ℕ) (xs ys : List (List ℕ × V))
       → prefixed p (xs ++ ys) ≡ prefixed p xs ++ prefixed p ys
   prefixed-append p [] ys = refl

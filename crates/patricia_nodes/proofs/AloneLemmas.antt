@@ -23,7 +23,7 @@ some_not_none None e n = absurd (false≢true e)
 some_not_none (Some x) e n = absurd (cc)
 
 module _ {V : Type 0} where
-  -- a row without its last link
+  -- where a link is none, no node is behind it
   pub plan_end : (nodes : List (Node V)) (at : Option ℕ) (p : Plan V) → IsPlan nodes at p
       → at ≡ None → p ≡ Nil
   plan_end nodes at Nil w e = refl
@@ -142,7 +142,7 @@ module _ {V : Type 0} where
 module _ {item : List ℕ → Type 0} (kind : IsKeyKind item) {V : Type 0} {s : NodeArena V}
     {link_ref : LinkRef} {id : ℕ} {fs : List (Frame V)} {l : List ℕ}
     {v : Option V} {c d : Plan V} (at : StandsAt item s link_ref id fs l v c d) where
-  -- no node is above
+  -- where no node is above, none has to keep its place
   pub alone_top : node_above link_ref ≡ None → Spares fs d
   alone_top none = spares_top fs d (sym (ap node_above at.link_ref_is ∙ node_above-link_ref_of fs) ∙ none)
 
@@ -180,11 +180,11 @@ module _ {item : List ℕ → Type 0} (kind : IsKeyKind item) {V : Type 0} {s : 
       pub inside_plan : IsPlan s.nodes.items n.child inside
       inside_plan = record { stands = upper_plan.stands.1; at_is = ap (λ (x : Node V). x.child) upper_is; fits = omega (arith, upper_plan.fits) }
 
-      -- the node above has a value
+      -- a node above that has a value keeps its place
       pub alone_valued : (n.value ≡ None → ⊥) → Spares fs d
       alone_valued some = up.spares d (λ none. absurd (some (ap (λ (x : Node V). x.value) upper_is ∙ none)))
 
-      -- or it has not just two children
+      -- and so does one that has not just two children
       pub alone_more : (width (row inside) ≡ 2 → ⊥) → Spares fs d
       alone_more not_two = up.spares d (λ none.
           let two = width_of_earned item kind up.label (row inside) (row up.beside)

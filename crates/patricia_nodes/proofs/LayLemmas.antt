@@ -20,7 +20,7 @@ all_turns : (i n : ℕ) → i ≤ n → n ≤ i → i ≡ n
 all_turns i n a b = omega arith
 
 module _ {V : Type 0} where
-  -- the first of two lists
+  -- an item of the first of two lists has the same place in both together
   get_front : (xs ys : List (Node V)) (i : ℕ) → i < length xs
       → slice_get (xs ++ ys) i ≡ slice_get xs i
   get_front [] ys i h = absurd (omega arith)
@@ -49,7 +49,7 @@ module _ {V : Type 0} where
       → IsSound nodes root free p spare → (at : ℕ) → count p at ≤ 1
   counted_once nodes root free p spare sound at = omega (arith, sound.once at, below_le (length nodes) at)
 
-  -- the top row is there
+  -- once the top row is laid, the turn is that of its first node
   pub laying_start : (p : Plan V) (from to : List (Node V)) → IsLaid from to p
       → Laying p from 0 to (head (numbered_siblings 0 p))
   laying_start p from to l =
@@ -96,7 +96,7 @@ module _ {V : Type 0} where
         room = omega (arith, l.sized, within.0, (tops_within w).0);
       }
 
-  -- as the node is read
+  -- the row from the child's number of the node that is read is the next one
   pub next_top : (p : Plan V) (from : List (Node V)) (i : ℕ) (to : List (Node V)) (mix : Mix V)
       (next : NextRow p from i to mix) (n : Node V) → n ≡ get_or to i n
       → IsTopRow from n.child next.row

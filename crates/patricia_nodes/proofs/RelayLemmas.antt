@@ -320,7 +320,7 @@ module _ {V : Type 0} where
   get-behind [] ys y = refl
   get-behind (x ∷ xs) ys y = get-behind xs ys y
 
-  -- what is below a row that stands, and is not touched
+  -- where nodes below a row that stands are not touched, they still stand
   pub below-keep : (from later : List (Node V)) (w : Plan V)
       → ((at : ℕ) → count_below w at ≢ 0 → slice_get later at ≡ slice_get from at) → LaidOut from w
       → BelowStands later w

@@ -31,7 +31,7 @@ module _ {item : List ℕ → Type 0} {V : Type 0} {s : NodeArena V} {key : List
   pub focus_ok : IsCanonical item (row p.focus)
   focus_ok = row-within item p.frames p.focus (place_row sought)
 
-  -- a write in the place
+  -- what is a write to the row in the place is an insert into the nodes
   pub puts : (new : NodeArena V) (x : V) (focus : Plan V) → Holds new (fill p.frames focus)
       → IsCanonical item (row focus)
       → entries (row focus) ≡ put key_cmp rest x (entries (row p.focus)) → Puts item s new key x

@@ -18,14 +18,14 @@ module _ (p : ℕ → Bool) where
       → slice_split p (x ∷ xs) ≡ onto_first x (slice_split p xs)
   split-no x xs never = cond-false (p x) _ _ (false_unless (p x) never)
 
-  -- no byte passes the test
+  -- a text none of whose bytes passes the test is one piece
   pub split_none : (xs : List ℕ) → ((i : ℕ) → i < length xs → ¬ (p (get_or xs i 0) ≡ true))
       → slice_split p xs ≡ xs ∷ []
   split_none [] none = refl
   split_none (x ∷ xs) none =
       split-no x xs (none 0 (omega arith)) ∙ ap (onto_first x) (split_none xs (λ i less. none (suc i) (omega (arith, less))))
 
-  -- the first byte that passes the test
+  -- a text is cut at the first byte that passes the test, and then what is behind it
   pub split_first : (xs : List ℕ) (k : ℕ) → k < length xs
       → ((i : ℕ) → i < k → ¬ (p (get_or xs i 0) ≡ true)) → p (get_or xs k 0) ≡ true
       → slice_split p xs ≡ take k xs ∷ slice_split p (drop (suc k) xs)

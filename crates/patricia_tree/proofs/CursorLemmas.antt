@@ -50,7 +50,7 @@ module _ {V : Type 0} where
             is_next = λ v guard. row ∙ (let both = sym there ∙ guard in cc);
           }
 
-  -- the same without the key
+  -- and where a row is next, its value is lent, whatever its key
   pub is_next_value : (s : CursorView V) → next_row s ≢ None → IsNextValue s
   is_next_value s some = by (next_row s) refl some
     where

@@ -139,7 +139,7 @@ module _ {V : Type 0} where
       by None row = row
       by (Some e) row = absurd (let no = sym none ∙ ap (option_map (λ r. r.0)) row in cc)
 
-  -- what is left after a step that may hand out a key
+  -- a step that gives a key leaves a row less, and where it gives none, none was left
   pub key_came : {K E : Type 0} (bytes : K → List ℕ) (s t : CursorView V) (r : Result (Option K) E)
       → IfOk r (λ key. option_map bytes key ≡ next_key s) → OnOk r (t ≡ stepped s)
       → IfOk r (λ key. MatchOption key (left s ≡ 0) (λ _. left s ≡ left t + 1))
@@ -150,7 +150,7 @@ module _ {V : Type 0} where
       some none = let no = key ∙ ap (option_map (λ r. r.0)) none in cc
   key_came bytes s t (Err e) key step = tt
 
-  -- the same where it says whether there is a key
+  -- and so does a step that says that there is a key
   pub row_came : {E : Type 0} (s t : CursorView V) (r : Result Bool E)
       → IfOk r (λ found. IsTrue found ↔ (next_key s ≢ None)) → OnOk r (t ≡ stepped s)
       → IfOk r (λ found. IsTrue found → left s ≡ left t + 1)

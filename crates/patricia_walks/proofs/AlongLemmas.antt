@@ -91,7 +91,7 @@ module _ (item : List ℕ → Type 0) (kind : IsKeyKind item) {V : Type 0} (k : 
       (along (drop d.len k) (entries (node n.label n.value child_row sibling_row)))
   before = ap (λ v. left_from k d.len (option_copied v) (siblings_left d)) taken ∙ ap (λ r. prefixed (take d.len k) (along (drop d.len k) (entries r))) opens.is
 
-  -- down to the children
+  -- where a node's label begins what is left of the key, the step goes to its children
   pub moves_down : begins n.label (drop d.len k) ≡ true → e.len ≡ d.len + length n.label
       → option_copied e.pending ≡ n.value → e.next ≡ n.child → Moves item k d e
   moves_down begun_is len pending child =
@@ -116,7 +116,7 @@ module _ (item : List ℕ → Type 0) (kind : IsKeyKind item) {V : Type 0} (k : 
         less = rw (row_is, opens.is) (omega arith);
       }
 
-  -- to the sibling
+  -- where it does not, the step goes to the sibling
   pub moves_past : begins n.label (drop d.len k) ≡ false → e.len ≡ d.len → e.pending ≡ d.pending
       → e.next ≡ n.sibling → Moves item k d e
   moves_past other len pending sibling =
@@ -137,7 +137,7 @@ module _ (item : List ℕ → Type 0) (kind : IsKeyKind item) {V : Type 0} (k : 
         less = rw (row_is, opens.is) (omega arith);
       }
 
-  -- to the end
+  -- or to the end, where the key comes before the label
   pub moves_off : begins n.label (drop d.len k) ≡ false → key_cmp (drop d.len k) n.label ≡ Less
       → e.len ≡ d.len → e.pending ≡ d.pending → e.next ≡ None → Moves item k d e
   moves_off other less len pending none =
@@ -153,7 +153,7 @@ module _ (item : List ℕ → Type 0) (kind : IsKeyKind item) {V : Type 0} (k : 
         less = rw (row_is, opens.is) (omega (arith, some_step child_row, some_step sibling_row));
       }
 
--- a slice from a place on
+-- a slice of a list from a place to its end is all that is behind the place
 pub rest_is : (n : ℕ) (k : List ℕ) → take (length k - n) (drop n k) ≡ drop n k
 rest_is n k = take_all (length k - n) (drop n k) (omega (arith, length-drop n k))
 

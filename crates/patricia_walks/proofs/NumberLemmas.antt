@@ -40,13 +40,13 @@ module _ {V : Type 0} where
   abbrev pub marked_node : ℕ → Node V → Node ValueSlot
   marked_node id n = linked n.label (mark id n.value) n.child n.sibling
 
-  -- there are as many nodes
+  -- there are as many numbered nodes as nodes
   pub numbered_slots-length : (i : ℕ) (nodes : List (Node V))
       → length (numbered_slots i nodes) ≡ length nodes
   numbered_slots-length i [] = refl
   numbered_slots-length i (n ∷ ns) = ap suc (numbered_slots-length (suc i) ns)
 
-  -- a node by its number, behind i others
+  -- a numbered node is the node at its place, with its number behind i others
   numbered_slots-get_from : (i : ℕ) (nodes : List (Node V)) (id : ℕ)
       → slice_get (numbered_slots i nodes) id ≡ option_map (marked_node (i + id))
       (slice_get nodes id)
@@ -56,20 +56,20 @@ module _ {V : Type 0} where
       let same : suc i + id ≡ i + suc id = omega arith in
       numbered_slots-get_from (suc i) ns id ∙ ap (λ k. option_map (marked_node k) (slice_get ns id)) same
 
-  -- a node by its number
+  -- and with its own number, where none is before
   pub numbered_slots-get : (nodes : List (Node V)) (id : ℕ)
       → slice_get (numbered_slots 0 nodes) id ≡ option_map (marked_node id) (slice_get nodes id)
   numbered_slots-get nodes id =
       let same : 0 + id ≡ id = omega arith in
       numbered_slots-get_from 0 nodes id ∙ ap (λ k. option_map (marked_node k) (slice_get nodes id)) same
 
-  -- where there is a node
+  -- so it is there where the node is
   pub numbered_slots-some : (nodes : List (Node V)) (id : ℕ) (n : Node V)
       → slice_get nodes id ≡ Some n
       → slice_get (numbered_slots 0 nodes) id ≡ Some (marked_node id n)
   numbered_slots-some nodes id n there = numbered_slots-get nodes id ∙ ap (option_map (marked_node id)) there
 
-  -- and as it is read
+  -- and is read where the node is
   pub numbered_slots-read : (nodes : List (Node V)) (id : ℕ) (n : Node V) → id < length nodes
       → n ≡ get_or nodes id n
       → marked_node id n ≡ get_or (numbered_slots 0 nodes) id (marked_node id n)
@@ -178,7 +178,7 @@ module _ {V : Type 0} where
   pub length-marks : (p : Plan V) → length (entries (row (marks p))) ≡ length (entries (row p))
   length-marks p = let same = ap length (keys-marks p) in simp length-map at same
 
-  -- lists whose parts are read so
+  -- where each of two lists reads its rows, both together read theirs
   pub reads-append :
       (h : ValueSlot → Option V) (es fs : List (List ℕ × ValueSlot)) (rs ss : List (List ℕ × V))
       → Reads h es rs → Reads h fs ss → Reads h (es ++ fs) (rs ++ ss)

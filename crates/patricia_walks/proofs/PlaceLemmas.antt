@@ -31,7 +31,7 @@ module _ (item : List ℕ → Type 0) (kind : IsKeyKind item) {V : Type 0} where
     pub valid : IsValid item path
     pub under_is : under key (entries whole) ≡ prefixed path (under rest (entries focus))
 
-  -- what the frames of a place pass
+  -- the rows under a key are those under its rest in the place, behind the bytes passed
   pub passed-fill : (fs : List (Frame V)) (q : Plan V) → IsCanonical item (row (fill fs q))
       → (key rest : List ℕ) → Leads item fs key rest → Passed (row (fill fs q)) (row q) key rest
   passed-fill [] q ok key rest e = record {
@@ -62,7 +62,7 @@ module _ (item : List ℕ → Type 0) (kind : IsKeyKind item) {V : Type 0} where
             (under_past item kind l v (row c) (row q) inner rest before);
       }
 
-  -- and how far the keys go with it
+  -- and keys go with it as far as the bytes passed, and as those in the place with its rest
   reaches-fill : (fs : List (Frame V)) (q : Plan V) → IsCanonical item (row (fill fs q))
       → (key rest : List ℕ) → Leads item fs key rest
       → (m : ℕ) × (m + length rest ≡ length key) ×

@@ -14,7 +14,7 @@ use Rattle.patricia_nodes.proofs.SeekLemmas.{Opened, head_within, opened, whole_
 use Rattle.patricia_nodes.proofs.WriteLemmas.{stands-keep}
 
 module _ {V : Type 0} (nodes : List (Node V)) where
-  -- one more row that waits
+  -- where the rows that wait stand in the nodes, they do with one more that does
   all_plans-snoc : (fs : List (ℕ × Option ℕ)) (n : ℕ) (at : Option ℕ) → AllPlans nodes fs
       → IsPlan nodes at (plan_at nodes at) → AllPlans nodes (fs ++ (n, at) ∷ [])
   all_plans-snoc [] n at ps p = (p, tt)

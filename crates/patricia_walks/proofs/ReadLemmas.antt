@@ -21,7 +21,7 @@ use Rattle.patricia_walks.specs.Internal.Holders.{is_same, key_at, uses, Reads}
 same_row : {V : Type 0} (x y : List ℕ × V) → x.0 ≡ y.0 → x.1 ≡ y.1 → x ≡ y
 same_row (k, v) (q, w) a b = cc
 
--- a test of two holders
+-- holders that are found to be the same are the same
 same_is : (g h : ValueSlot) → is_same g h ≡ true → g ≡ h
 same_is OfEmptyKey OfEmptyKey e = refl
 same_is OfEmptyKey (OfNode j) e = absurd (cc)
@@ -65,7 +65,7 @@ module _ (h : ValueSlot) where
       ]
 
 module _ {V : Type 0} (held : ValueSlot → Option V) where
-  -- the rows that pass a test of their keys
+  -- the rows whose keys pass a test are read where all are
   reads_filter : (f : List ℕ → Bool) (es : List (List ℕ × ValueSlot)) (rs : List (List ℕ × V))
       → Reads held es rs → Reads held (filter (λ e. f e.0) es) (filter (λ e. f e.0) rs)
   reads_filter f [] [] r = tt
@@ -89,7 +89,7 @@ module _ {V : Type 0} (held : ValueSlot → Option V) where
   reads_after None p es rs r = reads_filter (λ k. begins p k) es rs r
   reads_after (Some q) p es rs r = reads_filter (λ k. is_lt (key_cmp q k)) _ _ (reads_filter (λ k. begins p k) es rs r)
 
-  -- the first row, where there is one
+  -- where no holder is, no row is read
   pub reads_none : (rs : List (List ℕ × V)) → Reads held [] rs → rs ≡ []
   reads_none [] r = refl
   reads_none (x ∷ rs) r = absurd r

@@ -62,7 +62,7 @@ module _ (item : List ℕ → Type 0) (kind : IsKeyKind item) {V : Type 0} (s : 
       → under key (holders None s) ≡ []
   starts_nowhere valid none = rw (← is.nodes, ← is.root) (place_nothing item kind m is.whole m_row key link_ref at rest matched m_place valid none)
 
--- the node is there
+-- the node at which a walk can begin is in the vector
 pub start_within :
     (item : List ℕ → Type 0) {V : Type 0} (nodes : List (Node V)) (front : List ℕ) (top : ℕ)
     → IsAtStart item (numbered_slots 0 nodes) front top → top < length nodes

@@ -199,7 +199,7 @@ module _ (item : List ℕ → Type 0) (kind : IsKeyKind item) {V : Type 0} (t u 
         by (Some k) = (λ some none. absurd (cc), λ some. refl)
     step_found (Err e) goes = tt
 
--- what a result advances to
+-- what holds of an Ok's value holds of the value that the result has
 pub goes_so : {A E : Type 0} (P : A → Type 0) (r : Result A E) → IfOk r P → (a : A) → r ≡ Ok a → P a
 goes_so P (Ok b) p a e = let same : b ≡ a = cc in subst P same p
 goes_so P (Err b) p a e = absurd (cc)

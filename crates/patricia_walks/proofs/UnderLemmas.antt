@@ -38,7 +38,7 @@ within_none : (i n : ℕ) (rest : List ℕ) → node_under rest (InsideLabel i n
 within_none i n rest e same = let some = rw (eq-eqb n (length rest) same) at e in absurd (cc)
 
 module _ (item : List ℕ → Type 0) (kind : IsKeyKind item) {V : Type 0} where
-  -- a front before all of them
+  -- the rows below a node, with a path before their keys, are its rows behind that path
   behind : (path : List ℕ) (r : Siblings V) → prefixed path (rows_below [] r) ≡ rows_below path r
   behind path end = refl
   behind path (node l v c s) = prefixed-prefixed path l (own v ++ entries c)

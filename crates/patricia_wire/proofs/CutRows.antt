@@ -75,7 +75,7 @@ module _ (item : List ℕ → Type 0) (kind : IsKeyKind item) where
       (take_items i is (IsValid-item item i ok.0) (item-nonempty item kind i ok.0)
       (let s = kind.sized i ok.0 in s.1) ok.1)
 
-  -- what comes before a label comes before what begins with its first item, and the other way round
+  -- where a key comes before another, so does a label that begins it
   before_left : (k l m : List ℕ) → IsValid item l → l ≢ [] → Begins l k → IsBefore item k m
       → IsBefore item l m
   before_left k l m valid nonempty (t, e) b = IsBefore-shorter_left item kind l m t valid nonempty (subst (λ x. IsBefore item x m) (sym e) b)
@@ -112,7 +112,7 @@ module _ (item : List ℕ → Type 0) (kind : IsKeyKind item) where
       pub ok : IsCanonicalWithin item (Some 255) (node label value child s)
       pub same : entries (node label value child s) ≡ prefixed k (own v ++ entries c) ++ entries s
 
-    -- a long label as a chain of pieces
+    -- a label is a chain of pieces of at most 255 bytes, with the node's value at its end
     pub chain : (n : ℕ) (k : List ℕ) (v : Option V) (c s : Siblings V) → length k ≤ n
         → IsValid item k → k ≢ [] → ((l : List ℕ) → EarnsWithin item (Some 255) l v c)
         → IsCanonicalWithin item (Some 255) c → IsCanonicalWithin item (Some 255) s
@@ -188,7 +188,7 @@ module _ (item : List ℕ → Type 0) (kind : IsKeyKind item) where
       pub wide : width row ≡ width r
       pub before : (k : List ℕ) → IsBeforeSiblings item k r → IsBeforeSiblings item k row
 
-    -- siblings with their long labels cut
+    -- a row in memory has a row with the same entries, and labels of at most 255 bytes
     pub cut_row : (r : Siblings V) → IsCanonical item r → Cut r
     cut_row end ok = record { row = end; ok = tt; same = refl; wide = refl; before = λ k b. b }
     cut_row (node l v c s) ok =

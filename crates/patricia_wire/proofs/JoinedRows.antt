@@ -66,7 +66,7 @@ module _ (item : List ℕ → Type 0) (kind : IsKeyKind item) {V : Type 0} where
       }
       go None (node m w d (node m' w' d' t')) marked okd there same = kept None (node m w d (node m' w' d' t')) tt okd same
 
-  -- siblings with their cut labels joined again
+  -- a writable row with its lone children joined keeps the invariant, and its entries
   pub joined_is : (r : Siblings V) → IsWritable item r → IsJoined r (joined r)
   joined_is end ok = record { ok = tt; same = refl; there = refl; before = λ k b. b }
   joined_is (node l v c s) ok = joined_node l v c s (joined c) (joined s) ok (joined_is c ok.child) (joined_is s ok.sibling)

@@ -40,7 +40,7 @@ prefix w (x ∷ P) (r ∷ R) b read rest p e q =
     let tail = more.1 in
     (more.0, (λ i. sym head i ∷ tail i), more.2)
 
--- a record needs its bytes
+-- bytes that begin with a record are not too few for one
 pub enough : (w : ℕ) (r : Record) (b rest : List ℕ) → Encodes w r b → IsCutShort w (b ++ rest) → ⊥
 enough w r b rest p short =
     let whole : b ++ rest ≡ (p.flags ∷ after_flags w r) ++ rest = ap (λ l. l ++ rest) p.is in

@@ -36,7 +36,7 @@ module _ {V : Type 0} where
   keys_of-own None = refl
   keys_of-own (Some x) = refl
 
-  -- the keys of a value and of what lies below it
+  -- the keys of a node are the empty one, where it has a value, and those below it
   keys_inside : (v : Option V) (c : Siblings V)
       → keys_of (own v ++ entries c) ≡ own_key (is_some v) ++ keys_of (entries c)
   keys_inside v c = keys_of-append (own v) (entries c) ∙ ap (λ k. k ++ keys_of (entries c)) (keys_of-own v)

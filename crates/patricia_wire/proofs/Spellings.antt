@@ -15,12 +15,12 @@ same_mark true false P x y = sym (y.1 (x.0 refl))
 same_mark false true P x y = x.1 (y.0 refl)
 same_mark false false P x y = refl
 
--- how many bytes a level has
+-- a level is spelled in as many bytes as it is given
 pub length-high_first : (k n : ℕ) → length (bytes_high_first k n) ≡ k
 length-high_first zero n = refl
 length-high_first (suc k) n = ap suc (length-high_first k n)
 
--- lists of one length, and what follows them, are told apart
+-- where two lists of one length, with more behind each, are equal, so are both parts
 split_at : (a b x y : List ℕ) → length a ≡ length b → a ++ x ≡ b ++ y → (a ≡ b) × (x ≡ y)
 split_at [] [] x y len e = (refl, e)
 split_at [] (d ∷ b) x y len e = absurd (cc)
@@ -56,7 +56,7 @@ level_same : (w n m : ℕ) → n < 256 ^ w → m < 256 ^ w → bytes_high_first 
     → n ≡ m
 level_same w n m h h' e = sym (mod-eq_of_lt h) ∙ low_same w n m e ∙ mod-eq_of_lt h'
 
--- one record, and where it ends
+-- bytes begin with one record, and it ends at one place
 pub record_same : (w : ℕ) (r s : Record) (b c x y : List ℕ) → Encodes w r b → Encodes w s c
     → b ++ x ≡ c ++ y → (r ≡ s) × (x ≡ y)
 record_same w r s b c x y p q e =
@@ -96,7 +96,7 @@ one_list w (r ∷ R) (x ∷ X) b p q =
     let tail = one_list w R X q.rest (subst (EncodeAll w R) both.1 p.others) q.others in
     λ i. head i ∷ tail i
 
--- a bit that is set, and one that is clear
+-- a bit that is not 0 is a mark that is set
 pub set : (bit : ℕ) → bit ≢ 0 → IsTrue true ↔ (bit ≢ 0)
 set bit some = (λ e. some, λ h. refl)
 

@@ -27,7 +27,7 @@ each_passes t = t level &&
     (t empty_label &&
     (t invalid_label && (t sibling_order && (t no_value_no_child && t too_few_values))))))
 
--- where each passes, one does
+-- where the test of each rule passes, that of any rule does
 passes : (t : Rule → Bool) → each_passes t ≡ true → (rule : Rule) → t rule ≡ true
 passes t all rule = go rule
   where

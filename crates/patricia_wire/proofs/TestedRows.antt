@@ -54,7 +54,7 @@ module _ (item : List ℕ → Type 0) (kind : IsKeyKind item) where
       by false true true n test none child lone = absurd (cc)
       by false true false n test none child lone = ltb-true 254 n test
 
-  -- and what it tells
+  -- where the test of records passes, none could be one with its child
   pub stay_apart : (R : List Record) → are_apart R ≡ true → StayApart item R
   stay_apart [] test = tt
   stay_apart (r ∷ []) test = tt
@@ -68,7 +68,7 @@ module _ (item : List ℕ → Type 0) (kind : IsKeyKind item) where
     | inr deep ↦ absurd (not_deep w (tree_records v r) shallow deep)
   ]
 
-  -- the encoding of the keys of a row
+  -- a row whose tests pass has the clean spelling of its records as its encoding
   pub written : (w : ℕ) (v : Option Nothing) (r : Siblings Nothing) → IsWritable item r
       → are_shallow w (tree_records v r) ≡ true → are_apart (records_of 1 r) ≡ true
       → Canon item w (canonical_bytes_of w (tree_records v r)) (keys_of (own v ++ entries r))

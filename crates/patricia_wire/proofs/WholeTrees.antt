@@ -51,7 +51,7 @@ module _ (item : List ℕ → Type 0) where
   first_if true due D R (A, B, E, joined, fills, rest) = (A, B, E, joined, set refl fills, rest)
 
   module _ (r : Record) where
-    -- what fills the place of a child
+    -- what fills the place of a child is a forest, or nothing where the mark is clear
     child_forest : (C : List Record) (E : List (List ℕ))
         → FillsIf r.child (record { level = r.level + 1; after = None }) C E
         → ForestIf item r.child (r.level + 1) C E
@@ -119,7 +119,7 @@ module _ (item : List ℕ → Type 0) where
             kept.ordered,
       )
 
-  -- one record more
+  -- with one record more, and what is due behind it, the records make a tree still
   pub closes_more : (before : List Record) (due : Due) (W : List Due) (r : Record)
       → Closes before (due ∷ W) → KeepsRules due r → (due.level ≡ 0) ⊎ (due.level ≢ 0)
       → Closes (before ++ (r ∷ [])) (due_behind r ++ W)
