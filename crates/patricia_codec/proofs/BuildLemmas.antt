@@ -29,32 +29,35 @@ pub some_snoc : (R : List Record) (r : Record) → R ++ (r ∷ []) ≢ []
 some_snoc [] r e = cc
 some_snoc (x ∷ R) r e = cc
 
--- numbers that fall
+-- numbers that fall from below n fall from below any greater number
 fall_up : (n m : ℕ) (gaps : List Gap) → n ≤ m → Fall n gaps → Fall m gaps
 fall_up n m [] h f = tt
 fall_up n m (g ∷ gaps) h f = (omega (arith, f.0), f.1)
 
+-- numbers that fall from below n are all below n
 within : (n : ℕ) (gaps : List Gap) → Fall n gaps → AreWithin n gaps
 within n [] f = All-nil (λ g. g.id < n)
 within n (g ∷ gaps) f = All-cons (λ g. g.id < n) g gaps f.0 (within n gaps (fall_up g.id n gaps (omega (arith, f.0)) f.1))
 
+-- with the next node's number before them, where it waits, they fall still
 fall_next : (b : Bool) (level : ℕ) (label : List ℕ) (n : ℕ) (gaps : List Gap) → Fall n gaps
     → Fall (n + 1) (gap_if b level label n ++ gaps)
 fall_next true level label n gaps f = (omega arith, f)
 fall_next false level label n gaps f = fall_up n (n + 1) gaps (omega arith) f
 
--- one gap more
+-- one node more that waits adds its number at the end of those that wait
 ids_next : (b : Bool) (level : ℕ) (label : List ℕ) (n : ℕ) (gaps : List Gap) (w : List ℕ)
     → ids gaps ≡ reverse w → ids (gap_if b level label n ++ gaps) ≡ reverse (w ++ number_if b n)
 ids_next true level label n gaps w e = ap (λ l. n ∷ l) e ∙ sym (reverse-append w (n ∷ []))
 ids_next false level label n gaps w e = e ∙ ap reverse (sym (append-nil w))
 
+-- what is due beside the node that waits comes before what is due beside the others
 dues_next : (b : Bool) (level : ℕ) (label : List ℕ) (n : ℕ) (gaps : List Gap)
     → dues (gap_if b level label n ++ gaps) ≡ due_where b (record { level = level; after = Some label }) ++ dues gaps
 dues_next true level label n gaps = refl
 dues_next false level label n gaps = refl
 
--- what is due behind a record
+-- behind a record its child is due, then its sibling, then what was due before
 pub due_next : (r : Record) (level n : ℕ) (gaps : List Gap) → r.level ≡ level
     → due_behind r ++ dues gaps ≡ due_where r.child (record { level = level + 1; after = None }) ++ dues (gap_if r.sibling level r.label n ++ gaps)
 due_next r level n gaps e =
@@ -69,6 +72,7 @@ module _ {V : Type 0} where
   HasTwo end = ⊥
   HasTwo (node l v c s) = has_node s ≡ true
 
+  -- a node that takes in its lone child where it has to is one node, with the same siblings
   shape : (l : List ℕ) (v : Option V) (c s : Siblings V)
       → (k : List ℕ) × (w : Option V) × (d : Siblings V) × (over l v c s ≡ node k w d s)
   shape l (Some x) c s = (l, Some x, c, refl)
@@ -88,6 +92,7 @@ module _ {V : Type 0} where
       subst (λ (t : Siblings V). over l None t s ≡ node l None t s) (sym same) refl
 
 module _ (item : List ℕ → Type 0) {V : Type 0} where
+  -- an open row is open for equal nodes, with an equal root and an equal value
   at_same : (nodes now : List (Node V)) (root top : Option ℕ) (value held : Option V)
       (Allowed : Siblings V → Type 0) (level : ℕ) (gaps : List Gap) (R : List Record) (vs : List V)
       → now ≡ nodes → top ≡ root → held ≡ value
@@ -98,6 +103,7 @@ module _ (item : List ℕ → Type 0) {V : Type 0} where
       (subst (λ r. IsOpenAt item nodes r held Allowed level gaps R vs) (sym f)
       (subst (λ v. IsOpenAt item nodes root v Allowed level gaps R vs) (sym g) h))
 
+  -- and so are the places beside the nodes that wait
   beside_same : (nodes now : List (Node V)) (root top : Option ℕ) (value held : Option V)
       (gaps : List Gap) (R : List Record) (vs : List V) → now ≡ nodes → top ≡ root → held ≡ value
       → IsOpenBeside item nodes root value gaps R vs → IsOpenBeside item now top held gaps R vs
@@ -106,6 +112,7 @@ module _ (item : List ℕ → Type 0) {V : Type 0} where
       (subst (λ r. IsOpenBeside item nodes r held gaps R vs) (sym f)
       (subst (λ v. IsOpenBeside item nodes root v gaps R vs) (sym g) h))
 
+  -- and so is an open node
   within_same : (nodes now : List (Node V)) (root top : Option ℕ) (value held : Option V)
       (u : Unlaid V) (gaps : List Gap) (R : List Record) (vs : List V) → now ≡ nodes → top ≡ root
       → held ≡ value → IsOpenWithin item nodes root value u gaps R vs
@@ -129,16 +136,18 @@ module _ (item : List ℕ → Type 0) {V : Type 0} where
         due ≡ due_where child (record { level = node.below; after = None }) ++ dues (gap_if node.sibling node.level node.own_label (count_of b) ++ gaps)
     some : R ≢ []
 
-  -- the node that is laid for it
+  -- what is laid behind the nodes is the open node, with its label, value and child
   laid_is : (b new : Builder V) (u : Unlaid V) (x : Option V) (child : Bool)
       → u.label ≡ b.label.items → u.value ≡ x → u.child ≡ child → Lays b x child new
       → new.nodes.items ≡ b.nodes.items ++ laid_node item b.nodes.items b.root b.value u ∷ []
   laid_is b new u x child l v c lays = lays.nodes ∙ (λ i. b.nodes.items ++ linked (sym l i) (sym v i) (link_if (sym c i) (count_of b + 1)) None ∷ [])
 
+  -- there is one node more
   laid_count : (b new : Builder V) (x : Option V) (child : Bool) → Lays b x child new
       → count_of new ≡ count_of b + 1
   laid_count b new x child lays = ap length lays.nodes ∙ length-append b.nodes.items _
 
+  -- the node that is laid waits before the others, where it has a sibling to come
   laid_wait : (b new : Builder V) (u : Unlaid V) (x : Option V) (child : Bool) (gaps : List Gap)
       → Lays b x child new
       → Wait b (count_of b) (gap_if u.sibling u.level u.own_label (count_of b) ++ gaps) gaps

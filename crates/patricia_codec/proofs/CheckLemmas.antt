@@ -16,6 +16,7 @@ use Rattle.patricia_wire.proofs.Orders.{before_compares}
 use Rattle.patricia_wire.proofs.Rules.{below_level, kept_next, kept_all}
 use Rattle.patricia_codec.specs.Internal.Steps.{NamesFirst, BreaksLabel, KeepsLabel}
 
+-- what the first n bytes of a label begin with, the label begins with
 take_front : (n : ℕ) (label i rest : List ℕ) → i ++ rest ≡ take n label → take (length i) label ≡ i
 take_front n label [] rest e = refl
 take_front zero label (y ∷ i) rest e = absurd (cc)
@@ -74,51 +75,64 @@ module _ (item : List ℕ → Type 0) (kind : IsKeyKind item) where
         ]
       ]
 
--- what the tests say
+-- where two tests hold together, each holds
 both : (a b : Bool) → a && b ≡ true → (a ≡ true) × (b ≡ true)
 both true b e = (refl, e)
 both false b e = absurd (cc)
 
+-- of two tests that do not both hold, the second fails where the first holds
 not_both : (a b : Bool) → a && b ≡ false → a ≡ true → b ≡ false
 not_both true b e t = e
 not_both false b e t = absurd (cc)
 
+-- numbers that are found equal are equal
 tested : (n m : ℕ) → eqb n m ≡ true → n ≡ m
 tested n m e = grind (arith, nat_tests)
 
+-- equal numbers are found equal
 test_same : (n m : ℕ) → n ≡ m → eqb n m ≡ true
 test_same n m e = grind (arith, nat_tests)
 
+-- numbers that differ are found to differ
 test_other : (n m : ℕ) → n ≢ m → not (eqb n m) ≡ true
 test_other n m e = grind (arith, nat_tests)
 
+-- numbers that are found to differ do
 tested_other : (n m : ℕ) → not (eqb n m) ≡ true → n ≢ m
 tested_other n m e = λ same. (let t = test_same n m same in cc)
 
+-- what is found of a level of 0 and of a mark holds of each
 level_zero : (n : ℕ) (b : Bool) → eqb n 0 && b ≡ true → (n ≡ 0) × (b ≡ true)
 level_zero n b e = (let parts = both (eqb n 0) b e in (tested n 0 parts.0, parts.1))
 
+-- where it is not found, and the level is 0, the mark is unset
 level_zero_not : (n : ℕ) (b : Bool) → eqb n 0 && b ≡ false → n ≡ 0 → b ≡ false
 level_zero_not n b e z = not_both (eqb n 0) b e (test_same n 0 z)
 
+-- what is found of a level that is not 0 and of a mark holds of each
 level_some : (n : ℕ) (b : Bool) → not (eqb n 0) && b ≡ true → (n ≢ 0) × (b ≡ true)
 level_some n b e = (let parts = both (not (eqb n 0)) b e in (tested_other n 0 parts.0, parts.1))
 
+-- a label whose length is found to be 0 is empty
 is_nil : (l : List ℕ) (b : Bool) → b ≡ (length l == 0) → b ≡ true → l ≡ []
 is_nil l b is t = nil_from_length l (tested (length l) 0 (sym is ∙ t))
 
+-- and one whose length is not has bytes
 not_nil : (l : List ℕ) (b : Bool) → b ≡ (length l == 0) → b ≡ false → l ≢ []
 not_nil l b is f = λ none. (let t = test_same (length l) 0 (ap length none) in let h : true ≡ false = sym t ∙ sym is ∙ f in cc)
 
+-- a mark whose opposite is set is unset
 not_true : (b : Bool) → not b ≡ true → b ≡ false
 not_true true e = absurd (cc)
 not_true false e = refl
 
+-- and one whose opposite is unset is set
 not_false : (b : Bool) → not b ≡ false → b ≡ true
 not_false true e = refl
 not_false false e = absurd (cc)
 
 module _ (item : List ℕ → Type 0) (due : Due) (left : ℕ) (r : Record) where
+  -- a record at the level that is due keeps the rules below number 4
   pub kept_level : r.level ≡ due.level → BreaksNoneBelow item due left r 4
   kept_level e = kept_next item due left r level (below_level item due left r) (λ b. b e)
 
@@ -151,7 +165,7 @@ module _ (item : List ℕ → Type 0) (due : Due) (left : ℕ) (r : Record) wher
       → not (eqb due.level 0) && b ≡ true → Breaks item due left r empty_label
   breaks_empty_label b is t = (let both = level_some due.level b t in (both.0, is_nil r.label b is both.1))
 
--- one byte more, where so many are not valid
+-- where the first n bytes of a label are not valid, the fewest valid are at least one more
 pub one_more_not : (item : List ℕ → Type 0) (label : List ℕ) (n : ℕ) → 1 ≤ n → n ≤ length label
     → ((m : ℕ) → 1 ≤ m → m < n → IsValid item (take m label) → ⊥) → IsValid item label
     → (IsValid item (take n label) → ⊥)
@@ -168,13 +182,14 @@ one_more_not item label n some within fewest valid fails = record {
   ];
 }
 
--- an error that is passed up
+-- what holds of the error that is passed up holds of the result's error
 pub handed_on : {T E : Type 0} (P : E → Type 0) (out : Result T E) (e : E)
     → IsErrAnd out (λ x. x ≡ e) → P e → IfErr out P
 handed_on P (Ok x) e is h = tt
 handed_on P (Err x) e is h = subst P (sym is) h
 
 module _ (item : List ℕ → Type 0) (due : Due) (left : ℕ) (r : Record) where
+  -- where a record keeps the rules below 7, the error of its label names the first it breaks
   pub broken_label : BreaksNoneBelow item due left r 7 → (offset : ℕ) (e : DecodeError)
       → BreaksLabel item due r.label offset e → NamesFirst item due left r offset e
   broken_label below offset e broken = elim broken [

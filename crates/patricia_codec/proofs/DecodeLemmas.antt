@@ -55,15 +55,18 @@ module _ (item : List ℕ → Type 0) where
         within = fall.0;
       }
 
+  -- of two marks that are not both unset, one is set
   some_mark : (v c : Bool) → ((v ≡ false) × (c ≡ false) → ⊥) → (v ≡ true) ⊎ (c ≡ true)
   some_mark true c h = inl refl
   some_mark false true h = inr refl
   some_mark false false h = absurd (h (refl, refl))
 
+  -- a label that cannot have bytes is empty
   some_bytes : (l : List ℕ) → (l ≢ [] → ⊥) → l ≡ []
   some_bytes [] h = refl
   some_bytes (x ∷ l) h = absurd (h (λ e. cc))
 
+  -- a mark that cannot be set is unset
   unset : (b : Bool) → (b ≡ true → ⊥) → b ≡ false
   unset true h = absurd (h refl)
   unset false h = refl
@@ -93,7 +96,7 @@ module _ (item : List ℕ → Type 0) where
       at_level = same_number r.level due.level (keeps.rules level)
 
 module _ {V : Type 0} where
-  -- how many values are left
+  -- the values left and the value marks read are together as many as all values
   pub counted : (all taken items : List V) (before : List Record) (left : ℕ) → all ≡ taken ++ items
       → length taken ≡ value_marks before → left ≡ length items
       → left + value_marks before ≡ length all
@@ -104,6 +107,7 @@ module _ {V : Type 0} where
       → items ≡ option_to_list value ++ rest → all ≡ (taken ++ option_to_list value) ++ rest
   split_on all taken items rest value split e = split ∙ ap (λ l. taken ++ l) e ∙ sym (append_assoc taken (option_to_list value) rest)
 
+  -- one value is taken where the mark is set, and none where it is not
   given_mark : (value : Option V) (b : Bool) → is_some value ≡ b
       → length (option_to_list value) ≡ bit_if b 1
   given_mark (Some x) true e = refl
@@ -117,7 +121,7 @@ module _ {V : Type 0} where
       → length (taken ++ option_to_list value) ≡ value_marks (before ++ (r ∷ []))
   marks_on taken value before r marks is = omega (arith, length-append taken (option_to_list value), marks, given_mark value r.value is, marks_more before r)
 
-  -- how many are left
+  -- the count less a value that is taken is that of the values left
   pub left_on : (items rest : List V) (value : Option V) (len was : ℕ)
       → items ≡ option_to_list value ++ rest → len + length (option_to_list value) ≡ was
       → was ≡ length items → len ≡ length rest
@@ -155,9 +159,11 @@ all_taken all taken rest len split is z = split ∙ ap (λ l. taken ++ l) (nil_f
 module _ (item : List ℕ → Type 0) {V : Type 0} (b : Builder V) (p q : Reader) (n : ℕ)
     (R : List Record) (due : List Due) (taken : List V) (reading : IsReading item n p R due)
     (built : IsBuilt item b R due taken) (ends : Ends item p q) where
+  -- no record is due behind those that were read
   pub read_all : IsReading item n q R []
   read_all = let on = ends n R due reading in on.1
 
+  -- the nodes stand for a tree of these records and values, in which each number stands once
   grown_all : IsGrown item b.nodes.items b.root b.value R taken (below (length b.nodes.items))
       (length b.nodes.items)
   grown_all = let on = ends n R due reading in grown item b R taken (subst (λ l. IsBuilt item b R l taken) on.0 built)

@@ -23,7 +23,7 @@ use Rattle.patricia_codec.specs.Internal.Lefts.{nodes_of, IsEncoderStart, SomeLe
 use Rattle.patricia_codec.proofs.LeftLemmas.{has_link}
 use Rattle.patricia_codec.proofs.PieceLemmas.{some_records}
 
--- spellings one after the other
+-- the spelling of one more record follows those of the others
 pub spellings-snoc : (w : ℕ) (A : List Record) (r : Record)
     → canonical_bytes_of w (A ++ r ∷ []) ≡ canonical_bytes_of w A ++ canonical_bytes w r
 spellings-snoc w [] r = append-nil (canonical_bytes w r)
@@ -34,7 +34,7 @@ spellings-snoc w (x ∷ A) r = ap (λ b. canonical_bytes w x ++ b) (spellings-sn
 abbrev pub AreShallow : List Record → Type 0
 AreShallow A = All (λ r. r.level < 65536) A
 
--- one more record that is not too deep
+-- one more record that is not too deep leaves none too deep
 pub shallow-snoc : (A : List Record) (r : Record) → AreShallow A → r.level < 65536
     → AreShallow (A ++ r ∷ [])
 shallow-snoc A r all one = All-append (λ r. r.level < 65536) A (r ∷ []) all (All-cons (λ r. r.level < 65536) r [] one (All-nil (λ r. r.level < 65536)))
@@ -83,6 +83,7 @@ module _ (item : List ℕ → Type 0) (kind : IsKeyKind item) {V : Type 0} (aren
 
 module _ (item : List ℕ → Type 0) (kind : IsKeyKind item) {V : Type 0} (value : Option V)
     (row : Siblings V) (R : List Record) (a : AreRecords item 1 row R) where
+  -- with its labels cut the row has the same entries, and the empty key its value
   same_rows : own value ++ entries a.cut ≡ own value ++ entries row
   same_rows = ap (λ es. own value ++ es) a.same
 
@@ -107,12 +108,15 @@ module _ (item : List ℕ → Type 0) (kind : IsKeyKind item) {V : Type 0} (valu
   abbrev pub root_record : Record
   root_record = record { level = 0; label = []; value = is_some value; child = has_node row; sibling = false }
 
+  -- the records of the tree are the root's and then those of the row
   tree_is : tree_records value a.cut ≡ root_record ∷ R
   tree_is = λ i. record { level = 0; label = []; value = is_some value; child = cut_node i; sibling = false } ∷ sym a.is i
 
+  -- where each level is below 65536, no record lies too deep
   none_deep : (X : List Record) → AreShallow X → Any (λ r. 65536 ≤ r.level) X → ⊥
   none_deep X all (k, r, h, e, deep) = (let one = subst (λ r. r.level < 65536) e (all k r h) in omega arith)
 
+  -- they are a tree with the keys of the row, and with the empty key where it has a value
   is_tree : Root item (tree_records value a.cut) (keys_of (own value ++ entries row))
   is_tree = subst (λ es. Root item (tree_records value a.cut) (keys_of es)) same_rows (tree_of item value a.cut (within_writable item a.cut a.cut_ok))
 

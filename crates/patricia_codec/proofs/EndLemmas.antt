@@ -25,12 +25,13 @@ use Rattle.patricia_codec.specs.Internal.Builds.{dues, gap_if, count_of, AddsRoo
 use Rattle.patricia_codec.proofs.GrowingLemmas.{values_inside}
 use Rattle.patricia_codec.proofs.BuildLemmas.{some_snoc, due_next}
 
+-- no number is below 0
 none_below : (n at : ℕ) → n ≡ 0 → below n at ≡ 0
 none_below n at e = grind (arith, nat_tests)
 
 module _ (item : List ℕ → Type 0) {V : Type 0} (nodes : List (Node V)) (root : Option ℕ)
     (value : Option V) where
-  -- a tree of a root and a row
+  -- a root's record, with a row laid below it, makes the nodes stand for a tree
   rooted : (later : List (Node V)) (plan : Plan V) (written : Siblings V) → nodes ≡ []
       → Hangs item later root plan written → (r : Record) → r.level ≡ 0 → r.label ≡ []
       → r.sibling ≡ false → is_some value ≡ r.value → has_node written ≡ r.child
@@ -59,6 +60,7 @@ module _ (item : List ℕ → Type 0) {V : Type 0} (nodes : List (Node V)) (root
     sizes = omega (arith, ap length none, zero);
   }
 
+  -- a root's record with a child opens the row at level 1, of which nothing is laid yet
   start_above : nodes ≡ [] → root ≡ Some 0 → (r : Record) → r.level ≡ 0 → r.label ≡ []
       → r.sibling ≡ false → is_some value ≡ r.value → r.child ≡ true
       → IsOpenAt item nodes root value (λ w. Unit {0}) 1 [] (r ∷ []) (option_to_list value)
@@ -68,6 +70,7 @@ module _ (item : List ℕ → Type 0) {V : Type 0} (nodes : List (Node V)) (root
       (ap (λ (l : List (Node V)). Some (length l)) none ∙ sym top) hangs) r level label alone
       vm (there ∙ sym cm) R2 vs2 ids n beside
 
+  -- a root's record without a child leaves nothing open
   start_alone : nodes ≡ [] → root ≡ None → (r : Record) → r.level ≡ 0 → r.label ≡ []
       → r.sibling ≡ false → is_some value ≡ r.value → r.child ≡ false
       → IsOpenBeside item nodes root value [] (r ∷ []) (option_to_list value)

@@ -16,6 +16,7 @@ use Rattle.patricia_wire.specs.Internal.WrittenRows.{has_node, record_of, record
 use Rattle.patricia_codec.specs.Internal.Builds.{link_if, gap_if}
 use Rattle.patricia_codec.specs.Internal.Growing.{Gap, IsLater, Hangs, Unlaid, AreBeside, IsGrown, IsOpenBeside, IsOpenAt, IsOpenWithin}
 
+-- two numbers are equal, or they differ
 same_or : (i k : ℕ) → (i ≡ k) ⊎ (i ≢ k)
 same_or zero zero = inl refl
 same_or zero (suc k) = inr (λ e. omega arith)
@@ -26,25 +27,29 @@ same_or (suc i) (suc k) = elim (same_or i k) [
 ]
 
 module _ {V : Type 0} where
+  -- the values of two lists of entries are those of the first, then those of the second
   values_of-append : (xs ys : List (List ℕ × V))
       → values_of (xs ++ ys) ≡ values_of xs ++ values_of ys
   values_of-append [] ys = refl
   values_of-append (x ∷ xs) ys = ap (λ r. x.1 ∷ r) (values_of-append xs ys)
 
+  -- a label before the keys leaves the values
   values_of-prefixed : (p : List ℕ) (xs : List (List ℕ × V))
       → values_of (prefixed p xs) ≡ values_of xs
   values_of-prefixed p [] = refl
   values_of-prefixed p (x ∷ xs) = ap (λ r. x.1 ∷ r) (values_of-prefixed p xs)
 
+  -- the empty key's entry, where there is one, has its value
   values_of-own : (v : Option V) → values_of (own v) ≡ option_to_list v
   values_of-own None = refl
   values_of-own (Some x) = refl
 
-  -- the values of a tree, and of a node with what is below it and beside it
+  -- the values of a node and what is below it are its own, then those below it
   pub values_inside : (v : Option V) (c : Siblings V)
       → values_of (own v ++ entries c) ≡ option_to_list v ++ values_of (entries c)
   values_inside v c = values_of-append (own v) (entries c) ∙ ap (λ k. k ++ values_of (entries c)) (values_of-own v)
 
+  -- those of a row are its first node's, then those below it and those beside it
   values_of-node : (l : List ℕ) (v : Option V) (c s : Siblings V)
       → values_of (entries (node l v c s)) ≡ option_to_list v ++ (values_of (entries c) ++ values_of (entries s))
   values_of-node l v c s =
@@ -52,7 +57,7 @@ module _ {V : Type 0} where
       ∙ ap (λ k. k ++ values_of (entries s)) (values_of-prefixed l (own v ++ entries c) ∙ values_inside v c)
       ∙ append_assoc (option_to_list v) (values_of (entries c)) (values_of (entries s))
 
-  -- a label that takes in what has taken a child in
+  -- a node without value over a lone child is that child under both labels
   over_over : (l m : List ℕ) (v : Option V) (c s : Siblings V)
       → over l None (over m v c end) s ≡ over (l ++ m) v c s
   over_over l m (Some x) c s = refl
@@ -61,6 +66,7 @@ module _ {V : Type 0} where
   over_over l m None (node k w d (node k' w' d' s')) s = refl
 
 module _ (item : List ℕ → Type 0) {V : Type 0} where
+  -- nodes stand for a tree whichever of equal records, values and numbers it is told by
   regrown : (nodes : List (Node V)) (root : Option ℕ) (value : Option V) (R X : List Record)
       (vs ws : List V) (ids jds : ℕ → ℕ) (n m : ℕ) → X ≡ R → ws ≡ vs → ((at : ℕ) → ids at ≡ jds at)
       → n ≡ m → IsGrown item nodes root value R vs ids n → IsGrown item nodes root value X ws jds m
@@ -75,6 +81,7 @@ module _ (item : List ℕ → Type 0) {V : Type 0} where
   }
 
   module _ (nodes : List (Node V)) (root : Option ℕ) (value : Option V) where
+    -- a record below the root is a node that can be written, over and beside rows that can
     inner_row : (level : ℕ) (r : Record) (x : Option V) (c s : Siblings V) → IsInner item level r
         → is_some x ≡ r.value → has_node c ≡ r.child → IsWritable item c → IsWritable item s
         → IsBeforeSiblings item r.label s → IsWritable item (node r.label x c s)
@@ -91,6 +98,7 @@ module _ (item : List ℕ → Type 0) {V : Type 0} where
       sibling = ws;
     }
 
+    -- and the record of that node is the one that was read
     inner_record : (level : ℕ) (r : Record) (x : Option V) (c s : Siblings V) → IsInner item level r
         → is_some x ≡ r.value → has_node c ≡ r.child → has_node s ≡ r.sibling
         → record_of level r.label x c s ≡ r
@@ -190,6 +198,7 @@ not_at n (g ∷ gaps) all = All-cons (λ g. g.id ≢ n) g gaps
     (λ e. omega (arith, e, All-head (λ g. g.id < n) g gaps all))
     (not_at n gaps (All-tail (λ g. g.id < n) g gaps all))
 
+-- the numbers below the next one are those below this one, and this one
 below_next : (n at : ℕ) → below (n + 1) at ≡ below n at + one n at
 below_next n at = grind (arith, nat_tests)
 
@@ -211,6 +220,7 @@ module _ (item : List ℕ → Type 0) {V : Type 0} (nodes : List (Node V)) (root
           (λ e. omega (arith, e, within, All-head (λ g. g.id ≡ length nodes) g more here))
           (both more (All-tail (λ g. g.id ≡ length nodes) g more here) apart within)
 
+  -- where the next node waits, it waits under its own number
   gap_here : (b : Bool) (level : ℕ) (label : List ℕ)
       → All (λ g. g.id ≡ length nodes) (gap_if b level label (length nodes))
   gap_here true level label = All-cons (λ g. g.id ≡ length nodes)

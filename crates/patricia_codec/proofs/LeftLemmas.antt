@@ -18,6 +18,7 @@ use Rattle.patricia_codec.specs.Internal.Lefts.{nodes_of, next_row, weight_waiti
 use Rattle.patricia_codec.proofs.PieceLemmas.{Off, off_whole, off_part, first_record, no_records}
 
 module _ {V : Type 0} where
+  -- a plan has a first number where its row has a node
   plan_link : (q : Plan V) → is_some (head q) ≡ has_node (row q)
   plan_link Nil = refl
   plan_link (Cell id l v c s) = refl
@@ -27,6 +28,7 @@ module _ {V : Type 0} where
       → is_some at ≡ has_node (row_at nodes at)
   has_link nodes at w = ap is_some w.at_is ∙ plan_link (plan_at nodes at)
 
+  -- with no byte of its label written, a node is whole
   behind_zero : (m : ℕ) (l : List ℕ) (v : Option V) (c s : Siblings V) → m ≡ 0
       → behind m (node l v c s) ≡ node (drop m l) v c s
   behind_zero zero l v c s e = refl
@@ -39,7 +41,7 @@ module _ {V : Type 0} where
   behind_some (suc m) l v c s f = refl
 
 module _ (item : List ℕ → Type 0) {V : Type 0} (nodes : List (Node V)) where
-  -- one more row that waits
+  -- one more row that waits has its records before those of the others
   all_wait-snoc : (fs : List (ℕ × Option ℕ)) (f : ℕ × Option ℕ) (W X : List Record)
       → AllWait item nodes fs W → WaitsToWrite item nodes f X
       → AllWait item nodes (fs ++ f ∷ []) (X ++ W)
@@ -68,6 +70,7 @@ module _ (item : List ℕ → Type 0) {V : Type 0} (nodes : List (Node V)) where
         is = e ∙ ap (λ l. l ++ B) last.is ∙ append_assoc last.here last.waiting B;
       }
 
+  -- one more row that waits adds its weight
   weight_waiting-snoc : (fs : List (ℕ × Option ℕ)) (f : ℕ × Option ℕ)
       → weight_waiting nodes (fs ++ f ∷ []) ≡ weight (row_at nodes f.1) + weight_waiting nodes fs
   weight_waiting-snoc [] f = omega arith
@@ -79,15 +82,19 @@ module _ (item : List ℕ → Type 0) (kind : IsKeyKind item) {V : Type 0} (p : 
   abbrev pub children : Siblings V
   children = row_at (nodes_of p) n.child
 
+  -- the node that is next as it is read, with the plans of its children and of its siblings
   open_here : Opened (nodes_of p) (plan_at (nodes_of p) p.next) id n
   open_here = opened (nodes_of p) p.next (plan_at (nodes_of p) p.next) id n plan next reads
 
+  -- its child's link is read to a plan
   child_plan : IsPlan (nodes_of p) n.child (plan_at (nodes_of p) n.child)
   child_plan = rw (plan_is (nodes_of p) n.child open_here.child open_here.child_plan) open_here.child_plan
 
+  -- and so is its sibling's
   sibling_plan : IsPlan (nodes_of p) n.sibling (plan_at (nodes_of p) n.sibling)
   sibling_plan = rw (plan_is (nodes_of p) n.sibling open_here.sibling open_here.sibling_plan) open_here.sibling_plan
 
+  -- the row that is next is this node, with its children and its siblings
   row_is :
       row_at (nodes_of p) p.next ≡ node n.label n.value children (row_at (nodes_of p) n.sibling)
   row_is = ap row open_here.is ∙
@@ -120,7 +127,7 @@ module _ (item : List ℕ → Type 0) (kind : IsKeyKind item) {V : Type 0} (p : 
             (λ r. node (drop p.skipped n.label) n.value children (row r)) (sym none);
       })
 
-  -- what is next is some of the node
+  -- what stands beside the record is the node's siblings, or nothing
   beside_some : (at : Option ℕ) × Beside at
   beside_some = by p.skipped refl
     where
@@ -134,6 +141,7 @@ module _ (item : List ℕ → Type 0) (kind : IsKeyKind item) {V : Type 0} (p : 
     pub valid : IsValid item (drop p.skipped n.label)
     pub nonempty : drop p.skipped n.label ≢ []
 
+  -- the first records left are those of the node, without the bytes of its label that are written
   row_left : (R : List Record) (a : AreRecordsLeft item p R)
       → AreRecords item p.level (node (drop p.skipped n.label) n.value children (row_at (nodes_of p) beside_some.0)) a.here
   row_left R a = let b = beside_some.1 in subst (λ r. AreRecords item p.level r a.here) b.row_is a.are_here
@@ -208,7 +216,7 @@ module _ (item : List ℕ → Type 0) (kind : IsKeyKind item) {V : Type 0} (p : 
       lighter = omega (arith, length-drop k (drop p.skipped n.label), piece.nonempty, short);
     }
 
-    -- both together are the step
+    -- a piece with what is below and beside it is the record that is taken off
     pub taken : (r : Record) (at : Option ℕ) (under : Siblings V) → Beside at
         → q.stack.items ≡ p.stack.items ++ (p.level, at) ∷ [] → Below r.value r.child under
         → r.level ≡ p.level → r.label ≡ take k (drop p.skipped n.label) → r.sibling ≡ is_some at
@@ -256,6 +264,7 @@ module _ (item : List ℕ → Type 0) (kind : IsKeyKind item) {V : Type 0} (p : 
         })
 
 module _ {V : Type 0} where
+  -- where there is no row, nothing is behind any of its bytes
   behind_end : (m : ℕ) (r : Siblings V) → r ≡ end → behind m r ≡ end
   behind_end zero r e = e
   behind_end (suc m) end e = refl
@@ -270,9 +279,11 @@ err_from x (Err f) e d is same again = (let found : f ≡ d = cc in is ∙ ap Er
 -- where no row is next
 module _ (item : List ℕ → Type 0) (kind : IsKeyKind item) {V : Type 0} (p : Records V)
     (next : p.next ≡ None) where
+  -- no row is next
   nothing : next_row p ≡ end
   nothing = behind_end p.skipped (row_at (nodes_of p) p.next) (ap (row_at (nodes_of p)) next ∙ row_none (nodes_of p))
 
+  -- so the records left are those of the rows that wait
   none_here : (R : List Record) (a : AreRecordsLeft item p R) → R ≡ a.waiting
   none_here R a = a.is ∙ ap (λ h. h ++ a.waiting) (no_records item kind p.level a.here (subst (λ r. AreRecords item p.level r a.here) nothing a.are_here))
 
@@ -284,6 +295,7 @@ module _ (item : List ℕ → Type 0) (kind : IsKeyKind item) {V : Type 0} (p : 
   module _ (q : Records V) (level : ℕ) (at : Option ℕ)
       (stack : p.stack.items ≡ q.stack.items ++ (level, at) ∷ []) (kept : nodes_of q ≡ nodes_of p)
       (level_is : q.level ≡ level) (next_is : q.next ≡ at) (skipped : q.skipped ≡ 0) where
+    -- the records that were left are left after the step back
     back : (R : List Record) → AreRecordsLeft item p R → AreRecordsLeft item q R
     back R a =
         let last = all_wait-last item (nodes_of p) q.stack.items (level, at) a.waiting
@@ -297,6 +309,7 @@ module _ (item : List ℕ → Type 0) (kind : IsKeyKind item) {V : Type 0} (p : 
           is = none_here R a ∙ last.is;
         }
 
+    -- and they weigh the same
     back_weight : weight_left q ≡ weight_left p
     back_weight =
         let here : next_row q ≡ row_at (nodes_of p) at = rw (kept, next_is, skipped) refl in

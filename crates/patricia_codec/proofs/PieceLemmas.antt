@@ -16,9 +16,11 @@ use Rattle.patricia_codec.specs.Internal.Pieces.{IsPiece, AreRecords}
 pub drop_filled : (n : ℕ) (l : List ℕ) → n < length l → drop n l ≢ []
 drop_filled n l h e = omega (arith, ap length e, length-drop n l)
 
+-- one byte or more of a list is something
 take_filled : (n : ℕ) (l : List ℕ) → 1 ≤ n → n ≤ length l → take n l ≢ []
 take_filled n l h w e = omega (arith, ap length e, length-take n l)
 
+-- of two rows with as many nodes beside one another, both have a node or none has
 has_node-width : {V : Type 0} (r s : Siblings V) → width r ≡ width s → has_node r ≡ has_node s
 has_node-width end end e = refl
 has_node-width end (node l v c s) e = absurd (omega arith)
@@ -27,6 +29,7 @@ has_node-width (node l v c s) (node l' v' c' s') e = refl
 
 -- the label at hand is a piece where it fits
 module _ (item : List ℕ → Type 0) (kind : IsKeyKind item) where
+  -- no item is a prefix of nothing
   no_item : (i : List ℕ) → item i → Begins i [] → ⊥
   no_item i p b = (let h = kind.sized i p in omega (arith, ap length b.1, length-append i b.0, h.0))
 
@@ -150,6 +153,7 @@ module _ (item : List ℕ → Type 0) (kind : IsKeyKind item) {V : Type 0} where
         later = record { canonical = ok.sibling; cut = sibling.row; cut_ok = sibling.ok; same = sibling.same; is = refl };
       }
 
+  -- where labels have no limit, a node earns its place under any label
   earns_any : (l m : List ℕ) (v : Option V) (c : Siblings V) → EarnsWithin item None l v c
       → EarnsWithin item None m v c
   earns_any l m (Some x) c e = tt

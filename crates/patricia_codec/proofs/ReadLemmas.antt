@@ -6,10 +6,11 @@ use Rattle.std.proofs.lemmas.Bool.Decides.{nat_tests}
 use Rattle.std.proofs.lemmas.List.Elements.{All-from_get_or, All-take}
 use Rattle.patricia_codec.specs.Internal.Steps.{Fronts}
 
--- a test of a bit
+-- a bit is found set exactly where it is not 0
 tested_bit : (n : ℕ) → IsTrue (not (nat_eq n 0)) ↔ (n ≢ 0)
 tested_bit n = (λ t e. grind (arith, nat_tests), λ some. grind (arith, nat_tests))
 
+-- a number below 65536 is spelled by its high byte, then its low one
 high_first : (h l : ℕ) → h < 256 → l < 256 → bytes_high_first 2 (h * 256 + l) ≡ h ∷ l ∷ []
 high_first h l a b =
     let high : (h * 256 + l) / 256 % 256 ≡ h = omega (arith, a, b) in

@@ -17,7 +17,7 @@ use Rattle.patricia_codec.specs.declared.reader.Reader.{Reader}
 use Rattle.patricia_codec.specs.Internal.Steps.{Fronts, sibling_then_child, NamesFirst, IsAccepted, IsReading, Ends}
 
 module _ (item : List ℕ → Type 0) (p : Reader) (n : ℕ) where
-  -- bytes are left behind the tree
+  -- where bytes are left behind the tree, they are refused
   pub refused_behind : (R : List Record) (E : List (List ℕ)) → IsReading item n p R []
       → Root item R E → p.offset < length p.bytes.now
       → IsRefusal item 2 p.bytes.now n (TrailingBytes p.offset)
@@ -33,13 +33,14 @@ module _ (item : List ℕ → Type 0) (p : Reader) (n : ℕ) where
       let none = nil_from_length (drop p.offset p.bytes.now) (omega (arith, over, length-drop p.offset p.bytes.now)) in
       subst (EncodeAll 2 R) (sym (append-nil reading.reads.read) ∙ ap (λ l. reading.reads.read ++ l) (sym none) ∙ reading.reads.joined) reading.reads.spelled
 
-  -- values are left behind the tree
+  -- where values are left behind the tree, they are refused
   pub refused_values : (R : List Record) (E : List (List ℕ)) → IsReading item n p R []
       → Root item R E → length p.bytes.now ≤ p.offset → value_marks R < n
       → IsRefusal item 2 p.bytes.now n TooManyValues
   refused_values R E reading tree over less =
       inr (first_too_many item n 2 p.bytes.now R E reading.read (spelled_all R [] reading over) tree less)
 
+-- the spelling of one more record follows those of the others
 spell_all-snoc : (w : ℕ) (R : List Record) (b : List ℕ) (r : Record) (c : List ℕ) → EncodeAll w R b
     → Encodes w r c → EncodeAll w (R ++ (r ∷ [])) (b ++ c)
 spell_all-snoc w [] b r c none one = record { first = c; rest = []; spelled = one; others = refl; joined = ap (λ l. l ++ c) none ∙ sym (append-nil c) }
@@ -51,6 +52,7 @@ spell_all-snoc w (x ∷ R) b r c all one = record {
   joined = ap (λ l. l ++ c) all.joined ∙ append_assoc all.first all.rest c;
 }
 
+-- two lists without as many bytes as the first has are the second
 drop_front : (a b : List ℕ) (n : ℕ) → n ≡ length a → drop n (a ++ b) ≡ b
 drop_front a b n e = ap (λ k. drop k (a ++ b)) e ∙ go a
   where
@@ -58,6 +60,7 @@ drop_front a b n e = ap (λ k. drop k (a ++ b)) e ∙ go a
     go [] = refl
     go (x ∷ a) = go a
 
+-- what is due behind a record, from the top of the stack on, is its child and then its sibling
 flipped : (s c : Bool) (x y : Due)
     → reverse (due_where s x ++ due_where c y) ≡ due_where c y ++ due_where s x
 flipped true true x y = refl
@@ -65,11 +68,12 @@ flipped true false x y = refl
 flipped false true x y = refl
 flipped false false x y = refl
 
+-- a record takes four bytes, and those of its label
 spelled_length : (r : Record) (b : List ℕ) → Encodes 2 r b → length b ≡ 4 + length r.label
 spelled_length r b s = omega (arith, ap length s.is)
 
 module _ (item : List ℕ → Type 0) where
-  -- nothing is due
+  -- where nothing is on the stack, nothing is due
   pub ended : (p q : Reader) → q.bytes.now ≡ p.bytes.now → q.offset ≡ p.offset → p.due.items ≡ []
       → q.due.items ≡ [] → Ends item p q
   ended p q bytes offset none also n before due reading =
@@ -87,11 +91,11 @@ module _ (item : List ℕ → Type 0) where
   module _ (p : Reader) (d : Due) (others : List Due) (top : p.due.items ≡ others ++ d ∷ [])
       (n : ℕ) (before : List Record) (due : List Due)
       (reading : IsReading item n p before due) where
-    -- the record that is due next
+    -- the top of the stack is due next
     pub next_due : due ≡ d ∷ reverse others
     next_due = sym reading.due_is ∙ ap reverse top ∙ reverse-append others (d ∷ [])
 
-    -- what was read so far, with the record that is due on top
+    -- the records so far are read, with the top of the stack due next
     pub read_on : IsRead item n before (d ∷ reverse others)
     read_on = subst (IsRead item n before) next_due reading.read
 
@@ -99,11 +103,12 @@ module _ (item : List ℕ → Type 0) where
     pub after_next : IsAfter item d
     after_next = All-head (IsAfter item) d (reverse others) (subst (All (IsAfter item)) next_due reading.after)
 
+    -- the bytes that are left are all those from the offset on
     left_is :
         take (length p.bytes.now - p.offset) (drop p.offset p.bytes.now) ≡ drop p.offset p.bytes.now
     left_is = take_all (length p.bytes.now - p.offset) (drop p.offset p.bytes.now) (omega (arith, length-drop p.offset p.bytes.now))
 
-    -- too few bytes are left for it
+    -- where too few bytes are left for a record, the input is refused as cut short
     pub refused_cut :
         IsCutShort 2 (take (length p.bytes.now - p.offset) (drop p.offset p.bytes.now))
         → IsRefusal item 2 p.bytes.now n (Truncated p.offset)
@@ -113,10 +118,11 @@ module _ (item : List ℕ → Type 0) where
 
     module _ (left : ℕ) (count : left + value_marks before ≡ n) (r : Record)
         (front : Fronts r (take (length p.bytes.now - p.offset) (drop p.offset p.bytes.now))) where
+      -- they are the record's spelling and what follows it
       is_front : drop p.offset p.bytes.now ≡ front.first ++ front.rest
       is_front = sym left_is ∙ front.joined
 
-      -- it breaks a rule
+      -- where the record breaks a rule, the input is refused by the first it breaks
       pub refused_record : (e : DecodeError) → NamesFirst item d left r p.offset e
           → IsRefusal item 2 p.bytes.now n e
       refused_record e b =
@@ -126,7 +132,7 @@ module _ (item : List ℕ → Type 0) where
           (first_in_record item n 2 p.bytes.now before d (reverse others) p.offset r
           front.first front.rest b.rule read_on reads front.spelled broken))
 
-      -- it is read
+      -- where it keeps all rules it is read, and what is due behind it takes its place
       pub read_next : (q : Reader) → IsAccepted item d left r → q.bytes.now ≡ p.bytes.now
           → q.offset ≡ p.offset + (4 + length r.label)
           → q.due.items ≡ others ++ sibling_then_child r

@@ -18,6 +18,7 @@ spelled_long w (r ∷ R) b p =
     omega (arith, rest, whole, head)
 
 module _ {V : Type 0} where
+  -- a node has at most one value
   own_few : (v : Option V) → length (own v) ≤ 1
   own_few None = omega arith
   own_few (Some x) = omega arith

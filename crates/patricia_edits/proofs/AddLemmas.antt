@@ -21,10 +21,12 @@ module _ {V : Type 0} where
   count_takes c d q (inl e) at = rw (e.0, e.1) (omega arith)
   count_takes c d q (inr e) at = rw (e.0, e.1) (omega arith)
 
+  -- such a plan has as many nodes below and beside the node as before
   size_takes : (c d q : Plan V) → IsBelowOrBeside c d q → size c + size d ≡ size q
   size_takes c d q (inl e) = rw (e.0, e.1) (omega arith)
   size_takes c d q (inr e) = rw (e.0, e.1) (omega arith)
 
+  -- and its nodes lie where the plans below and beside the node say
   stands_takes : (nodes : List (Node V)) (c d q : Plan V) → IsBelowOrBeside c d q → LaidOut nodes q
       → LaidOut nodes c × LaidOut nodes d
   stands_takes nodes c d q (inl e) s = rw (e.0, e.1) (s, tt)
@@ -49,16 +51,17 @@ module _ {V : Type 0} (old made new : NodeArena V) (c d q : Plan V) (takes : IsB
       → count whole id + times m.left id ≡ 0
   fresh whole sound = omega (arith, sound.once id, m.counted id, below_le (length made.nodes.items) id, one-same id)
 
-  -- the numbers add up
+  -- of each number the plan and the free list gain together what the vector gains
   sums : (nodes : List (Node V)) → length nodes ≡ length made.nodes.items → (i : ℕ)
       → count cell i + times m.left i + below (length old.nodes.items) i ≡ count q i + times spare i + below (length nodes) i
   sums nodes long i = rw long (omega (arith, m.counted i, count_takes c d q takes i))
 
+  -- the nodes of the plan and the free ones are together as many as the vector has
   sizes : (nodes : List (Node V)) → length nodes ≡ length made.nodes.items
       → size cell + length m.left + length old.nodes.items ≡ size q + length spare + length nodes
   sizes nodes long = omega (arith, m.longer, size_takes c d q takes)
 
-  -- at the top
+  -- with the new node first at the top, over or before what was there, the nodes are sound
   sound-add_root : IsSound old.nodes.items old.root old.free q spare
       → Relinks made new Root (Some id) → IsSound new.nodes.items new.root new.free cell m.left
   sound-add_root sound links =
@@ -97,24 +100,30 @@ module _ {V : Type 0} (old made new : NodeArena V) (c d q : Plan V) (takes : IsB
         ) in
         get-set_other made.nodes.items k i holder (λ e. some (ap rest e ∙ mine)) ∙ m.others i (λ e. some (ap rest e ∙ new))
 
+    -- the new number is not that of the node above or before it
     apart : id ≢ k
     apart e = omega (arith, fresh whole sound, counts id, ap (one k) e, one-same k)
 
+    -- the new node lies where the plan says, with what was in the place below or beside it
     cell_stands : LaidOut old.nodes.items q → LaidOut final cell
     cell_stands = stands_cell final (get-set_other made.nodes.items k id holder apart) (λ i n. kept i (λ z. n (omega arith)))
 
+    -- the plan at the node's other link lies as before
     other_stands : LaidOut old.nodes.items o → LaidOut final o
     other_stands = stands-keep old.nodes.items final o (λ i n. kept i (λ z. n (omega arith)))
 
+    -- the free nodes that are left are linked one to the next
     chained : IsChain final m.left
     chained = chain-keep old.nodes.items final m.left (λ i n. kept i (λ z. n (omega arith))) m.chain
 
+    -- the node above or before is unchanged by the new one, and has its new link at the end
     holds : (n : Node V) → slice_get old.nodes.items k ≡ Some n
         → (slice_get made.nodes.items k ≡ Some n) × (slice_get final k ≡ Some holder)
     holds n at =
         let there = m.others k (λ e. apart (sym e)) ∙ at in
         (there, get-set_same made.nodes.items k holder (slice_get_within made.nodes.items k n there))
 
+    -- the frames' nodes are as before
     framed : (i : ℕ) → count_frames fs i ≢ 0 → slice_get final i ≡ slice_get old.nodes.items i
     framed i n = kept i (λ z. n (omega arith))
 
@@ -178,7 +187,7 @@ module _ {V : Type 0} where
 
 module _ {V : Type 0} (s : NodeArena V) (id : ℕ) (r : Node V)
     (reads : r ≡ get_or s.nodes.items id r) where
-  -- the room stays
+  -- another label and value at a node leave as much room
   pub room_write : (fs : List (Frame V)) (l l' : List ℕ) (v v' : Option V) (c d : Plan V)
       → Holds s (fill fs (Cell id l v c d)) → (n : ℕ) → HasRoomFor s n
       → RoomFor (set s.nodes.items id (linked l' v' r.child r.sibling)) s.free (vec_capacity s.nodes) n
@@ -195,6 +204,7 @@ module _ {V : Type 0} (s : NodeArena V) (id : ℕ) (r : Node V)
   module _ (new : NodeArena V) (n k : ℕ) (lower : Node V) (ul : List ℕ) (w uv : Option V)
       (label_is : ul ≡ take n r.label) (value_is : uv ≡ w) (moved : lower.value ≡ r.value)
       (child_is : lower.child ≡ r.child) (sibling_is : lower.sibling ≡ None) where
+    -- a node's first bytes stay in it, and its value and children are in a new node below it
     pub splits :
         ((fs : List (Frame V)) (c d q : Plan V) → Child id ≡ link_ref_of fs → IsBelowOrBeside c d q
         → lower.child ≡ head c → lower.sibling ≡ head d → (spare : List ℕ) × IsSound
@@ -210,7 +220,7 @@ module _ {V : Type 0} (s : NodeArena V) (id : ℕ) (r : Node V)
         let grown = adds (InChild id ul uv d ∷ fs) c Nil c refl (inl (refl, refl)) (child_is ∙ ap (λ (x : Node V). x.child) is) sibling_is mid in
         (rw (← label, ← value_is, ← value) grown.0, λ j room. grown.1 j (room_write fs l ul v uv c d h (suc j) room))
 
-  -- the place below it
+  -- once a node is written, the place of its children is below it
   pub spot_below : (ul : List ℕ) (uv : Option V) → HasCell s id
       → (fs : List (Frame V)) × (q : Plan V) × (Child id ≡ link_ref_of fs) ×
       ((spare : List ℕ) × IsSound (set s.nodes.items id (linked ul uv r.child r.sibling))

@@ -14,7 +14,7 @@ module _ {V : Type 0} where
     pub at_is : at ≡ first rest
     pub counted : used ≡ size p + length rest
 
-  -- all are at first
+  -- at first all nodes are counted as used
   pub counting_start : (s : NodeArena V) (n : ℕ) → n ≡ length s.nodes.items → IsWellFormed s
       → Counting s.nodes.items (plan_at s.nodes.items s.root) s.free n
   counting_start s n e (p, (spare, sound)) =
@@ -36,6 +36,7 @@ module _ {V : Type 0} where
     next : n.sibling ≡ first ids
     chain : IsChain nodes ids
 
+  -- where the first free number is known, its node is there and leads to the other free numbers
   opens : (nodes : List (Node V)) (id : ℕ) (rest : List ℕ) → IsChain nodes rest
       → Some id ≡ first rest → Opens nodes id rest
   opens nodes id [] c e = absurd (cc)
@@ -43,12 +44,12 @@ module _ {V : Type 0} where
       let same : i ≡ id = cc in
       record { ids = ids; more = omega arith; n = c.0.0; there = rw (← same) c.0.1; next = c.0.2; chain = c.1 }
 
-  -- it is in the vector
+  -- the free node that is next is in the vector
   pub free_within : (nodes : List (Node V)) (p : Plan V) (id used : ℕ)
       → Counting nodes p (Some id) used → id < length nodes
   free_within nodes p id used c = let o = opens nodes id c.rest c.chain c.at_is in slice_get_within nodes id o.n o.there
 
-  -- and one that is not used
+  -- with each free node, one node less is counted as used
   pub counting_next : (nodes : List (Node V)) (p : Plan V) (id used : ℕ) (n : Node V)
       → n ≡ get_or nodes id n → Counting nodes p (Some id) used
       → Counting nodes p n.sibling (used - 1)

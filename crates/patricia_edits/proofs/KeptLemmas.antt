@@ -16,18 +16,22 @@ module _ {V : Type 0} (is_clone : V → V → Type 0) where
   abbrev Kept : List (List ℕ × V) → Type 0
   Kept es = AllByRecursion (λ e. CloneIsSame is_clone e.1) es
 
+  -- where the clones of the values of two lists are the same, so are those of each list
   kept_both : (xs ys : List (List ℕ × V)) → Kept (xs ++ ys) → Kept xs × Kept ys
   kept_both [] ys k = (tt, k)
   kept_both (x ∷ xs) ys k = let rest = kept_both xs ys k.1 in ((k.0, rest.0), rest.1)
 
+  -- a prefix before the keys makes no difference to whether clones are the same
   kept-prefixed : (p : List ℕ) (es : List (List ℕ × V)) → Kept (prefixed p es) → Kept es
   kept-prefixed p [] k = tt
   kept-prefixed p (e ∷ es) k = (k.0, kept-prefixed p es k.1)
 
+  -- a clone of the empty key's value, where there is one, is the same value
   kept-own : (v : Option V) → Kept (own v) → IfSome v (CloneIsSame is_clone)
   kept-own None k = tt
   kept-own (Some v) k = k.0
 
+  -- where the clones of a row's entries are the same, so are those of its nodes' values
   kept-entries : (r : Siblings V) → Kept (entries r) → RowKept is_clone r
   kept-entries end k = tt
   kept-entries (node l v c s) k =
@@ -35,6 +39,7 @@ module _ {V : Type 0} (is_clone : V → V → Type 0) where
       let inner = kept_both (own v) (entries c) (kept-prefixed l (own v ++ entries c) both.0) in
       (kept-own v inner.0, kept-entries c inner.1, kept-entries s both.1)
 
+  -- what is said of the clones of a list of values is said of the entries that have them
   kept_values : (es : List (List ℕ × V)) → AllByRecursion (CloneIsSame is_clone) (map (λ e. e.1) es)
       → Kept es
   kept_values [] k = tt
@@ -55,7 +60,7 @@ module _ {V : Type 0} (is_clone : V → V → Type 0) where
   pub row_kept : (s : NodeArena V) → EntriesKept is_clone s → RowKept is_clone (siblings_of s)
   row_kept s k = kept-entries (siblings_of s) (recursion_from_All (λ e. CloneIsSame is_clone e.1) (entries (siblings_of s)) k)
 
-  -- the children of a node have some of them
+  -- the clones of a node's children are the same, where those of the whole row are
   kept-open : (i : ℕ) (q : Mix V) (w : Plan V) → OpenAt i q w → RowKept is_clone (row (flat q))
       → RowKept is_clone (row w)
   kept-open i Empty w due k = absurd due
@@ -64,7 +69,7 @@ module _ {V : Type 0} (is_clone : V → V → Type 0) where
   kept-open i (Open id l v c d) w (inl here) k = subst (λ x. RowKept is_clone (row x)) here.1 k.1
   kept-open i (Open id l v c d) w (inr due) k = kept-open i d w due k.2
 
-  -- and so has the next row that is laid
+  -- and so are those of the next row that is laid
   pub next_row_kept : (p : Plan V) (from : List (Node V)) (i : ℕ) (to : List (Node V))
       (root : Option ℕ) (l : Laying p from i to root) (next : NextRow p from i to l.mix)
       → RowKept is_clone (row p) → RowKept is_clone (row next.row)

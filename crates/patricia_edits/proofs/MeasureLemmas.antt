@@ -14,7 +14,7 @@ length-prefixed l [] = refl
 length-prefixed l (e ∷ es) = ap (λ n. suc n) (length-prefixed l es)
 
 module _ {V : Type 0} where
-  -- a value, those below it and those beside it
+  -- the values of a node's plan are its own, those below it and those beside it
   pub values-cell : (id : ℕ) (l : List ℕ) (v : Option V) (c d : Plan V)
       → values (Cell id l v c d) ≡ length (own v) + (values c + values d)
   values-cell id l v c d = omega (
@@ -24,7 +24,7 @@ module _ {V : Type 0} where
     length-append (own v) (entries (row c)),
   )
 
-  -- no more of them than nodes
+  -- a node has at most one value
   pub own-one : (v : Option V) → length (own v) ≤ 1
   own-one None = omega arith
   own-one (Some x) = omega arith
@@ -50,26 +50,31 @@ module _ {V : Type 0} where
     AllPlans [] = Unit {0}
     AllPlans (at ∷ ats) = IsPlan nodes at (plan_at nodes at) × AllPlans ats
 
+    -- one more row that waits adds its nodes to the sum
     size-last : (ats : List (Option ℕ)) (at : Option ℕ)
         → size_of (ats ++ at ∷ []) ≡ size_of ats + size (plan_at nodes at)
     size-last [] at = omega arith
     size-last (b ∷ ats) at = omega (arith, size-last ats at)
 
+    -- and its values to theirs
     values-last : (ats : List (Option ℕ)) (at : Option ℕ)
         → values_of (ats ++ at ∷ []) ≡ values_of ats + values (plan_at nodes at)
     values-last [] at = omega arith
     values-last (b ∷ ats) at = omega (arith, values-last ats at)
 
+    -- where a plan is read from each link, so it is with one more link at the end
     plans-last : (ats : List (Option ℕ)) (at : Option ℕ) → AllPlans ats
         → IsPlan nodes at (plan_at nodes at) → AllPlans (ats ++ at ∷ [])
     plans-last [] at all p = (p, tt)
     plans-last (b ∷ ats) at all p = (all.0, plans-last ats at all.1 p)
 
+    -- where a plan is read from each link, so it is without the last, and from the last
     plans-but_last : (ats : List (Option ℕ)) (at : Option ℕ) → AllPlans (ats ++ at ∷ [])
         → AllPlans ats × IsPlan nodes at (plan_at nodes at)
     plans-but_last [] at all = (tt, all.0)
     plans-but_last (b ∷ ats) at all = let rest = plans-but_last ats at all.1 in ((all.0, rest.0), rest.1)
 
+    -- where no row waits, the list of rows that wait is empty
     no_rows : (ats : List (Option ℕ)) → length ats ≡ 0 → ats ≡ []
     no_rows [] e = refl
     no_rows (at ∷ ats) e = absurd (omega (arith, e))
@@ -98,23 +103,29 @@ module _ {V : Type 0} where
     module _ (first at : Option ℕ) (waiting : List (Option ℕ)) (n m : ℕ) (w : Measuring first at waiting n m) where
       -- a node
       module _ (id : ℕ) (is : at ≡ Some id) where
+        -- the node that is next is in the vector
         pub next_within : id < length nodes
         next_within = head_within nodes at (plan_at nodes at) id w.here is
 
         module _ (r : Node V) (reads : r ≡ get_or nodes id r) where
+          -- the node as it is read, with the plans of its children and of its siblings
           o : Opened nodes (plan_at nodes at) id r
           o = opened nodes at (plan_at nodes at) id r w.here is reads
 
+          -- what is read from its child's link is the plan of its children
           child_is : plan_at nodes r.child ≡ o.child
           child_is = plan_is nodes r.child o.child o.child_plan
 
+          -- what is read from its sibling's link is the plan of its siblings
           sibling_is : plan_at nodes r.sibling ≡ o.sibling
           sibling_is = plan_is nodes r.sibling o.sibling o.sibling_plan
 
+          -- the nodes from it on are itself, those below it and those beside it
           sizes_are :
               size (plan_at nodes at) ≡ suc (size (plan_at nodes r.child) + size (plan_at nodes r.sibling))
           sizes_are = omega (arith, ap (λ (p : Plan V). size p) o.is, ap (λ (p : Plan V). size p) child_is, ap (λ (p : Plan V). size p) sibling_is)
 
+          -- the values from it on are its own, those below it and those beside it
           values_are :
               values (plan_at nodes at) ≡ length (own r.value) + (values (plan_at nodes r.child) + values (plan_at nodes r.sibling))
           values_are = omega (
@@ -154,6 +165,7 @@ module _ {V : Type 0} where
 
       -- the end of a row
       module _ (none : at ≡ None) where
+        -- where there is no number, no node is left in the row
         no_node : plan_at nodes at ≡ Nil
         no_node = by (plan_at nodes at) w.here
           where

@@ -20,10 +20,12 @@ module _ {V : Type 0} (s : NodeArena V) (id : ℕ) (fs : List (Frame V)) (l : Li
   abbrev pub bare : Plan V
   bare = Cell id l None Nil d
 
+  -- each number of the vector stands once: in a frame, at the node, below it, beside it or free
   all : (i : ℕ)
       → (count_frames fs i + (one id i + (count c i + count d i))) + times h.0 i ≡ below (length s.nodes.items) i
   all i = omega (arith, h.1.once i, count-fill fs old i)
 
+  -- the node's number is that of no frame, no child, no sibling and no free node
   apart : (count_frames fs id + (count c id + count d id)) + times h.0 id ≡ 0
   apart = omega (arith, all id, below_le (length s.nodes.items) id, one-same id)
 
@@ -32,16 +34,18 @@ module _ {V : Type 0} (s : NodeArena V) (id : ℕ) (fs : List (Frame V)) (l : Li
     abbrev pub moved : Plan V
     moved = Cell id top v c Nil
 
-    -- as the node is read, and written
+    -- a node that is written back without value and child has the label and sibling it had
     pub bare_is : (n : Node V) → n ≡ linked l v (head c) (head d) → (i : ℕ) → i ≡ id
         → (child : Option ℕ) → child ≡ None → (value : Option V) → value ≡ None
         → set s.nodes.items i (linked n.label value child n.sibling) ≡ set s.nodes.items id (linked l None None (head d))
     bare_is n is i at child none value gone = rw (is, at, none, gone) refl
 
     module _ (nodes : List (Node V)) (nodes_is : nodes ≡ set s.nodes.items id (linked l None None (head d))) where
+      -- each other node is as before
       kept : (i : ℕ) → i ≢ id → slice_get nodes i ≡ slice_get s.nodes.items i
       kept i k = ap (λ xs. slice_get xs i) nodes_is ∙ get-set_other s.nodes.items id i (linked l None None (head d)) k
 
+      -- the vector is as long as before
       long : length nodes ≡ length s.nodes.items
       long = ap length nodes_is ∙ length-set s.nodes.items id (linked l None None (head d))
 
@@ -59,10 +63,11 @@ module _ {V : Type 0} (s : NodeArena V) (id : ℕ) (fs : List (Frame V)) (l : Li
         once = λ i. omega (arith, all i, below_le (length s.nodes.items) i);
       }
 
+      -- the same nodes are free as before
       free_kept : (free : Option ℕ) → free ≡ s.free → IsFree nodes free h.0
       free_kept free is = (chain-keep s.nodes.items nodes h.0 (λ i k. kept i (λ e. k (omega (arith, apart, ap (times h.0) e)))) h.1.chain, is ∙ h.1.free_is)
 
-    -- what is left is whole
+    -- without the moved nodes, the nodes stand for the plan with the bare node
     pub emptied : (first last : NodeArena V)
         → first.nodes.items ≡ set s.nodes.items id (linked l None None (head d))
         → first.root ≡ s.root → first.free ≡ s.free → TakesBelow first last moved

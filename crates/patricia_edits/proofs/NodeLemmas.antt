@@ -17,6 +17,7 @@ own_as n m is = ap (λ (x : Node _). length (own x.value)) is
 
 module _ {V : Type 0} (s : NodeArena V) (id : ℕ) (fs : List (Frame V)) (l : List ℕ) (v : Option V)
     (c d : Plan V) (h : Holds s (fill fs (Cell id l v c d))) where
+  -- at the node's number is the node, with the first of its children and its sibling
   pub node_there : slice_get s.nodes.items id ≡ Some (linked l v (head c) (head d))
   node_there = (stands-within s.nodes.items fs (Cell id l v c d) h.1.plan_ok.stands).0
 
@@ -28,12 +29,13 @@ module _ {V : Type 0} (s : NodeArena V) (id : ℕ) (fs : List (Frame V)) (l : Li
   pub tree_fits : suc (size c) ≤ length s.nodes.items
   tree_fits = omega (arith, h.1.plan_ok.fits, size-fill fs (Cell id l v c d))
 
-  -- no more values than nodes
+  -- the node and those below it have no more values than there are nodes
   pub values_fit : values c + length (own v) ≤ length s.nodes.items
   values_fit = omega (arith, tree_fits, values-within c, own-one v)
 
   -- as the node is read
   module _ (r : Node V) (reads : r ≡ get_or s.nodes.items id r) where
+    -- a node that is read at the number has the plan's label, value and links
     pub node_read : r ≡ linked l v (head c) (head d)
     node_read = read_at s id r reads fs l v c d h
 

@@ -75,7 +75,7 @@ module _ (item : List ℕ → Type 0) (kind : IsKeyKind item) {V : Type 0}
         }
   ]
 
-  -- the node above takes in the other
+  -- the whole row keeps the invariant, with the node above and its children
   pub whole_ok :
       IsCanonical item (row (fill other.outer (Cell u other.label None inside.old other.beside)))
   whole_ok = subst (λ (q : Plan V). IsCanonical item (row q)) inside.was ok

@@ -25,7 +25,7 @@ use Rattle.patricia_model.proofs.InsertLemmas.{single, put_before}
 use Rattle.patricia_model.proofs.DivideLemmas.{Divides, divides_label, ends_at_cut, put_at_cut, row_before_cut, put_before_cut, row_after_cut, put_after_cut, past_cut}
 
 module _ (item : List ℕ → Type 0) (kind : IsKeyKind item) {V : Type 0} (x : V) where
-  -- a new node before a plan
+  -- a new leaf before a row that comes after its label leaves the invariant
   row_first : (k : ℕ) (focus : Plan V) → IsCanonical item (row focus) → (rest : List ℕ)
       → Matches item focus rest Absent → IsValid item rest → rest ≢ []
       → IsCanonical item (row (Cell k rest (Some x) Nil focus))
@@ -40,6 +40,7 @@ module _ (item : List ℕ → Type 0) (kind : IsKeyKind item) {V : Type 0} (x : 
     sibling = ok;
   }
 
+  -- its entries are those of the plan with the value at the new node's key
   put_first : (k : ℕ) (focus : Plan V) → IsCanonical item (row focus) → (rest : List ℕ)
       → Matches item focus rest Absent
       → entries (row (Cell k rest (Some x) Nil focus)) ≡ put key_cmp rest x (entries (row focus))
@@ -55,7 +56,7 @@ module _ {item : List ℕ → Type 0} {V : Type 0} {s : NodeArena V} {key : List
   pub place_link_ref : HasLinkRef s link_ref
   place_link_ref = (p.frames, p.focus, p.link_ref_is, place_holds sought)
 
-  -- between two nodes
+  -- a new leaf between two nodes inserts the value at the key
   pub puts_first : (new : NodeArena V) (x : V) (leaf : Node V) (k : ℕ) → matched ≡ Absent
       → IsValid item rest → leaf.label ≡ rest → leaf.value ≡ Some x → leaf.child ≡ None
       → leaf.sibling ≡ at → AddsNode s new link_ref leaf k → Puts item s new key x
@@ -85,6 +86,7 @@ module _ {item : List ℕ → Type 0} {V : Type 0} {s : NodeArena V} {key : List
       pub there : Opened s.nodes.items p.focus id r
       there = opened s.nodes.items at p.focus id r (focus_plan_at sought) at_id reads
 
+      -- what is left of the key and the label have n bytes in common, and the label has more
       ends : EndsWithin item rest r.label n
       ends =
           let is_match = subst (λ (q : Plan V). Matches item q rest matched) there.is p.is_match in
@@ -94,9 +96,11 @@ module _ {item : List ℕ → Type 0} {V : Type 0} {s : NodeArena V} {key : List
       pub ends_short : n < length r.label
       ends_short = ends.short
 
+      -- the nodes stand for the plan with this node in the place
       there_holds : Holds s (fill p.frames (Cell id r.label r.value there.child there.sibling))
       there_holds = subst (λ (q : Plan V). Holds s (fill p.frames q)) there.is (place_holds sought)
 
+      -- the row from this node on keeps the invariant
       there_ok : IsCanonical item (node r.label r.value (row there.child) (row there.sibling))
       there_ok = subst (λ (q : Plan V). IsCanonical item (row q)) there.is (focus_ok sought)
 
@@ -117,7 +121,7 @@ module _ {item : List ℕ → Type 0} {V : Type 0} {s : NodeArena V} {key : List
         puts_there new x focus holds canonical put_is = puts sought new x focus holds canonical
             (put_is ∙ ap (λ (q : Plan V). put key_cmp rest x (entries (row q))) (sym there.is))
 
-        -- the key ends there
+        -- where the key ends at the cut, the upper node takes the value, and the key has it
         pub puts_cut : (new : NodeArena V) (x : V) (lower : List ℕ) (k : ℕ) → lower ≡ drop n r.label
             → drop n rest ≡ [] → SplitsNode s new id n lower (Some x) k → Puts item s new key x
         puts_cut new x lower k label none splits =
@@ -139,6 +143,7 @@ module _ {item : List ℕ → Type 0} {V : Type 0} {s : NodeArena V} {key : List
           abbrev beside : List (Frame V)
           beside = InSibling k (drop n r.label) r.value there.child ∷ above
 
+          -- once it is split, the upper node has the first bytes and the lower one all the rest
           cut_holds : Holds mid (fill above low)
           cut_holds = rw (← label) (splits p.frames r.label r.value there.child there.sibling there_holds).0
 

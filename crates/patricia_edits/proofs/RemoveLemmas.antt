@@ -34,35 +34,39 @@ label_is : (item : List ℕ → Type 0) (q l : List ℕ) → Passes item q l [] 
 label_is item q l passes = sym (append-nil l) ∙ passes.splits
 
 module _ {V : Type 0} where
-  -- what is left of a first node, by what stands below it
+  -- a first node without value stays, and so does the row
   first_none : (l : List ℕ) (v : Option V) (c s : Siblings V) → v ≡ None
       → without_first (node l v c s) ≡ node l v c s
   first_none l None c s e = refl
   first_none l (Some x) c s e = absurd (cc)
 
+  -- a leaf with a value goes, and its siblings are left
   first_leaf : (l : List ℕ) (v : Option V) (s : Siblings V) → (v ≡ None → ⊥)
       → without_first (node l v end s) ≡ s
   first_leaf l None s e = absurd (e refl)
   first_leaf l (Some x) s e = refl
 
+  -- a node with a value and one child takes in that child, and their labels are joined
   first_lone : (l : List ℕ) (v : Option V) (m : List ℕ) (w : Option V) (d s : Siblings V)
       → (v ≡ None → ⊥) → without_first (node l v (node m w d end) s) ≡ node (l ++ m) w d s
   first_lone l None m w d s e = absurd (e refl)
   first_lone l (Some x) m w d s e = refl
 
+  -- a node with two children or more loses its value alone
   first_more : (l : List ℕ) (v : Option V) (m : List ℕ) (w : Option V) (d : Siblings V)
       (m' : List ℕ) (w' : Option V) (d' t s : Siblings V)
       → without_first (node l v (node m w d (node m' w' d' t)) s) ≡ node l None (node m w d (node m' w' d' t)) s
   first_more l None m w d m' w' d' t s = refl
   first_more l (Some x) m w d m' w' d' t s = refl
 
+  -- a node with a value and one child is one that takes in its child
   lone_parent : (l : List ℕ) (v : Option V) (m : List ℕ) (w : Option V) (d s : Siblings V)
       → (v ≡ None → ⊥) → IsLoneParent (node l v (node m w d end) s)
   lone_parent l None m w d s e = absurd (e refl)
   lone_parent l (Some x) m w d s e = tt
 
 module _ (item : List ℕ → Type 0) (kind : IsKeyKind item) {V : Type 0} where
-  -- the first node goes, or its value does
+  -- without the value of its first node, a row is without that node's key
   first_gone : (l : List ℕ) (v : Option V) (c s : Siblings V) → IsCanonical item (node l v c s)
       → (q : List ℕ) → Passes item q l []
       → Gone item others (node l v c s) (without_first (node l v c s)) q
@@ -81,6 +85,7 @@ module _ {item : List ℕ → Type 0} {V : Type 0} {s : NodeArena V} {key : List
   pub there : Opened s.nodes.items p.focus id r
   there = opened s.nodes.items at p.focus id r (focus_plan_at sought) (p.at_is ∙ stop_at item rest p.focus id matched p.is_match (ap node_of is)) reads
 
+  -- the key ends with the node's label
   passes : Passes item rest r.label []
   passes = here_passes item rest id r.label id matched (subst (λ (q : Plan V). Matches item q rest matched) there.is p.is_match) (ap node_of is)
 
@@ -88,17 +93,21 @@ module _ {item : List ℕ → Type 0} {V : Type 0} {s : NodeArena V} {key : List
   abbrev pub cell : Plan V
   cell = Cell id r.label r.value there.child there.sibling
 
+  -- this plan in its place is the plan that is read from the root
   fills : fill p.frames cell ≡ plan_at s.nodes.items s.root
   fills = ap (fill p.frames) (sym there.is) ∙ p.fills
 
+  -- the nodes stand for the plan with this node in the place
   holds : Holds s (fill p.frames cell)
   holds =
       let same : whole.0 ≡ fill p.frames cell = sym (fills ∙ plan_is s.nodes.items s.root whole.0 whole.1.1.plan_ok) in
       subst (λ (q : Plan V). Holds s q) same whole.1
 
+  -- the whole row keeps the invariant
   whole_ok' : IsCanonical item (row (fill p.frames cell))
   whole_ok' = rw fills ok
 
+  -- and so does the row from the node on
   inner_ok : IsCanonical item (row cell)
   inner_ok = row-within item p.frames cell whole_ok'
 
@@ -112,6 +121,7 @@ module _ {item : List ℕ → Type 0} {V : Type 0} {s : NodeArena V} {key : List
       (sym (node_is s.nodes.items id r _
       (stands-within s.nodes.items p.frames cell holds.1.plan_ok.stands).0 reads))
 
+  -- where the key is gone from the row of the new nodes, the removal is done
   removes : (new : NodeArena V) (plan : Plan V) → Holds new plan
       → Gone item others (row (fill p.frames cell)) (row plan) key → Removes item s new key
   removes new plan h gone =
@@ -154,10 +164,11 @@ module _ {item : List ℕ → Type 0} {V : Type 0} {s : NodeArena V} {key : List
       lone_child last = first_child.is ∙ ap (Cell k m.label m.value first_child.child)
           (plan_end s.nodes.items m.sibling first_child.sibling first_child.sibling_plan last)
 
+  -- without the value of its first node, the row from the node on is without the key
   gone_cell : Gone item others (row cell) (without_first (row cell)) rest
   gone_cell = first_gone item kind r.label r.value (row there.child) (row there.sibling) inner_ok rest passes
 
-  -- a node stays in the place
+  -- where no fewer nodes stay in the place, the key is removed from the whole
   removes_in : (new : NodeArena V) (q : Plan V) → Holds new (fill p.frames q)
       → without_first (row cell) ≡ row q → 1 + width (row there.sibling) ≤ width (row q)
       → Removes item s new key
@@ -194,6 +205,7 @@ module _ {item : List ℕ → Type 0} {V : Type 0} {s : NodeArena V} {key : List
       abbrev lone_cell : Plan V
       lone_cell = Cell id r.label r.value (Cell k m w e Nil) there.sibling
 
+      -- the node's plan, with the child written out
       cell_is : cell ≡ lone_cell
       cell_is = ap (λ c. Cell id r.label r.value c there.sibling) child_is
 
@@ -233,15 +245,19 @@ module _ {item : List ℕ → Type 0} {V : Type 0} {s : NodeArena V} {key : List
       abbrev leaf_cell : Plan V
       leaf_cell = Cell id r.label r.value Nil there.sibling
 
+      -- the node's plan, with no children written out
       leaf_is : cell ≡ leaf_cell
       leaf_is = ap (λ c. Cell id r.label r.value c there.sibling) child_is
 
+      -- the nodes stand for the plan with the leaf in the place
       leaf_holds : Holds s (fill p.frames leaf_cell)
       leaf_holds = subst (λ (q : Plan V). Holds s (fill p.frames q)) leaf_is holds
 
+      -- the whole row with the leaf in it keeps the invariant
       leaf_ok : IsCanonical item (row (fill p.frames leaf_cell))
       leaf_ok = subst (λ (q : Plan V). IsCanonical item (row (fill p.frames q))) leaf_is whole_ok'
 
+      -- without the leaf the siblings behind it are left, and of the entries all but the key's
       leaf_goes : (beside : Siblings V) → IsCanonical item (node r.label r.value end beside)
           → Gone item others (node r.label r.value end beside) beside rest
       leaf_goes beside inner = subst
@@ -264,6 +280,7 @@ module _ {item : List ℕ → Type 0} {V : Type 0} {s : NodeArena V} {key : List
 
       -- and the node above takes in the other child
       module _ (u o : ℕ) (left : LeavesOther p.frames there.sibling u o) where
+        -- without the leaf the plan is that of the node above with the other child alone
         left_is :
             fill p.frames there.sibling ≡ fill left.outer (Cell u left.label None (Cell o left.inner left.own left.below Nil) left.beside)
         left_is = left_plan item kind others (others_leave item kind) id r.label r.value Nil key rest leaf_goes p.frames there.sibling p.leads leaf_ok u o left
@@ -296,6 +313,7 @@ module _ {item : List ℕ → Type 0} {V : Type 0} {s : NodeArena V} {key : List
             (two.alone (label_is item rest r.label passes) refl))))
 
         module _ (mid : NodeArena V) (taken : Option V) (unlinks : Unlinks s mid link_ref id taken) where
+          -- once the leaf is unlinked, the nodes stand for that plan
           mid_holds :
               Holds mid (fill left.outer (Cell u left.label None (Cell o left.inner left.own left.below Nil) left.beside))
           mid_holds = subst (λ (q : Plan V). Holds mid q) left_is (unlinks p.frames r.label r.value there.sibling p.link_ref_is leaf_holds).0
@@ -334,7 +352,7 @@ module _ {item : List ℕ → Type 0} {V : Type 0} {s : NodeArena V} {key : List
           let n = linked l v (head c) (head d) in
           (n, sym (get_or_from_slice_get s.nodes.items id n n (ap (slice_get s.nodes.items) (sym same) ∙ w.stands.0)))
 
--- the value of a node that is there
+-- a node that is there has the value that the plan says
 value_is : {V : Type 0} (nodes : List (Node V)) (id : ℕ) (n : Node V) (l : List ℕ) (v : Option V)
     (c d : Option ℕ) → slice_get nodes id ≡ Some n → slice_get nodes id ≡ Some (linked l v c d)
     → v ≡ n.value
@@ -437,6 +455,7 @@ some_number (Some x) e = (x, refl)
 
 -- a key that is not there
 module _ (item : List ℕ → Type 0) (kind : IsKeyKind item) {V : Type 0} where
+  -- where a look-up ends at no node, removing the key leaves all entries of the row
   absent : (focus : Plan V) → IsCanonical item (row focus) → (rest : List ℕ) (matched : Match)
       → Matches item focus rest matched → node_of matched ≡ None
       → others rest (entries (row focus)) ≡ entries (row focus)

@@ -30,6 +30,7 @@ use Rattle.patricia_edits.proofs.TakeLemmas.{Gone, spared-fill}
 use Rattle.patricia_edits.specs.Internal.Splits.{HasSplitNode, HasTreeAt, CountsTree, IsTopLabel, SplitsOff}
 use Rattle.patricia_edits.proofs.MeasureLemmas.{length-prefixed}
 
+-- the bytes of two lists without as many as the first has are those of the second
 drop-front : (xs ys : List ℕ) → drop (length xs) (xs ++ ys) ≡ ys
 drop-front [] ys = refl
 drop-front (x ∷ xs) ys = drop-front xs ys
@@ -49,6 +50,7 @@ record Topmost (item : List ℕ → Type 0) {V : Type 0} (rest : List ℕ) (id :
   shares : SharesItem item rest label
   begun : Begins rest label
 
+-- the topmost node under a prefix is the first of the plan at which the look-up ends
 topmost : (item : List ℕ → Type 0) {V : Type 0} (focus : Plan V) (rest : List ℕ) (matched : Match)
     → Matches item focus rest matched → (id : ℕ) → node_under rest matched ≡ Some id
     → Topmost item rest id focus
@@ -101,29 +103,36 @@ module _ {item : List ℕ → Type 0} {V : Type 0} {s : NodeArena V} {prefix : L
     (sought : Sought item s prefix link_ref at rest matched) {id : ℕ} (is_under : node_under rest matched ≡ Some id) where
   open sought use {kind, whole, canonical as ok, place as p}
 
+  -- what is known of that node
   t : Topmost item rest id p.focus
   t = topmost item p.focus rest matched p.is_match id is_under
 
   abbrev cell : Plan V
   cell = Cell id t.label t.value t.child t.sibling
 
+  -- this plan in its place is the plan that is read from the root
   fills : fill p.frames cell ≡ plan_at s.nodes.items s.root
   fills = ap (fill p.frames) (sym t.is) ∙ p.fills
 
+  -- the whole row keeps the invariant
   whole_row : IsCanonical item (row (fill p.frames cell))
   whole_row = rw fills ok
 
+  -- the nodes stand for the plan with this node in the place
   holds : Holds s (fill p.frames cell)
   holds =
       let same : whole.0 ≡ fill p.frames cell = sym (fills ∙ plan_is s.nodes.items s.root whole.0 whole.1.1.plan_ok) in
       subst (λ (q : Plan V). Holds s q) same whole.1
 
+  -- the entries under the prefix are those under the rest of it in the place, with the path before
   passed : Passed item kind (row (fill p.frames cell)) (row cell) prefix rest
   passed = passed-fill item kind p.frames cell whole_row prefix rest p.leads
 
+  -- the row in the place keeps the invariant
   focus_row : IsCanonical item (row p.focus)
   focus_row = rw (t.is) (row-within item p.frames cell whole_row)
 
+  -- the entries under the rest of the prefix are the node's own and those below it
   first_rows :
       under rest (entries (row cell)) ≡ prefixed t.label (own t.value ++ entries (row t.child))
   first_rows = rw t.is at (stop_some item kind p.focus focus_row rest matched p.is_match id is_under).1
@@ -154,6 +163,7 @@ module _ {item : List ℕ → Type 0} (kind : IsKeyKind item) {V : Type 0} {s : 
   abbrev here : Plan V
   here = Cell id f.label f.value f.child f.sibling
 
+  -- the row from the node on keeps the invariant
   here_row : IsCanonical item (row here)
   here_row = row-within item f.frames here f.at.canonical
 
@@ -216,12 +226,14 @@ module _ {item : List ℕ → Type 0} (kind : IsKeyKind item) {V : Type 0} {s : 
   goes b inner = record { canonical = inner.sibling; left_is = sym (outside_first item kind f.label f.value (row f.child) b inner rest f.shares f.begun) }
 
   module _ (top : List ℕ) (labelled : IsTopLabel s id prefix (length rest) top) where
+    -- the new tree's top label is the path to the node and its label
     top_is : top ≡ f.path ++ f.label
     top_is =
         let there = (stands-within s.nodes.items f.frames here f.at.holds.1.plan_ok.stands).0 in
         labelled _ there ∙ ap (λ l. prefix ++ drop (length rest) l) (sym f.begun.1) ∙ ap (λ l. prefix ++ l) (drop-front rest f.begun.0)
         ∙ ap (λ l. l ++ f.begun.0) (sym f.path_is) ∙ append_assoc f.path rest f.begun.0 ∙ ap (λ l. f.path ++ l) f.begun.1
 
+    -- the new tree's row keeps the invariant
     top_row : IsCanonical item (node top f.value (row f.child) end)
     top_row = rw top_is (record {
       valid = IsValid-append item f.path f.label f.path_valid here_row.valid;
@@ -321,6 +333,7 @@ module _ {item : List ℕ → Type 0} (kind : IsKeyKind item) {V : Type 0} {s : 
 -- where nothing is under the prefix, nothing goes
 module _ (item : List ℕ → Type 0) {V : Type 0} (s : NodeArena V) (prefix : List ℕ)
     (whole : IsWellFormed s) (ok : IsCanonical item (siblings_of s)) where
+  -- a split then leaves all entries, and its new tree is empty and counts none
   pub splits_none : under prefix (entries_of s) ≡ [] → (out : NodeArena V) → IsWellFormed out
       → siblings_of out ≡ end → SplitsOff item s s prefix (record { arena = out; count = 0 })
   splits_none nothing out out_whole is = record {

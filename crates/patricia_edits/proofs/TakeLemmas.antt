@@ -22,7 +22,7 @@ pub record Gone (item : List ℕ → Type 0) {V : Type 0}
 
 module _ (item : List ℕ → Type 0) (kind : IsKeyKind item) {V : Type 0}
     (left : List ℕ → List (List ℕ × V) → List (List ℕ × V)) (leaves : Leaves item left) where
-  -- past a node
+  -- what is gone from the siblings behind a node is gone from the row
   pub gone_past : (l : List ℕ) (v : Option V) (c s s' : Siblings V)
       → IsCanonical item (node l v c s) → (q : List ℕ) → IsBefore item l q → Gone item left s s' q
       → Gone item left (node l v c s) (node l v c s') q
@@ -31,7 +31,7 @@ module _ (item : List ℕ → Type 0) (kind : IsKeyKind item) {V : Type 0}
     left_is = entries_past_left item kind left leaves l v c s ok q s' before gone.left_is;
   }
 
-  -- through a node that keeps its place
+  -- what is gone below a node that keeps its place is gone from the row
   gone_through : (l : List ℕ) (v : Option V) (c s c' : Siblings V) → IsCanonical item (node l v c s)
       → (q t : List ℕ) → Passes item q l t → t ≢ [] → Gone item left c c' t
       → (v ≡ None → 2 ≤ width c') → Gone item left (node l v c s) (node l v c' s) q
@@ -48,7 +48,7 @@ module _ (item : List ℕ → Type 0) (kind : IsKeyKind item) {V : Type 0}
     left_is = ap (λ es. prefixed l (own v ++ es) ++ entries s) gone.left_is ∙ sym (leaves.deeper l v c s ok q t passes nonempty);
   }
 
-  -- through a node without value that takes in what is left below it
+  -- and so it is where the node has no value and takes in what is left below it
   pub gone_joined : (l : List ℕ) (c s : Siblings V) (m : List ℕ) (w : Option V) (d : Siblings V)
       → IsCanonical item (node l None c s) → (q t : List ℕ) → Passes item q l t → t ≢ []
       → Gone item left c (node m w d end) t
@@ -58,7 +58,7 @@ module _ (item : List ℕ → Type 0) (kind : IsKeyKind item) {V : Type 0}
     left_is = taken_in_entries item kind l m w d s ∙ ap (λ es. prefixed l es ++ entries s) gone.left_is ∙ sym (leaves.deeper l None c s ok q t passes nonempty);
   }
 
-  -- a place that has as many nodes as before
+  -- what is gone from a place that has no fewer nodes is gone from the whole
   pub gone-fill : (fs : List (Frame V)) (q p : Plan V) → IsCanonical item (row (fill fs q))
       → (key rest : List ℕ) → Leads item fs key rest → width (row q) ≤ width (row p)
       → Gone item left (row q) (row p) rest → Gone item left (row (fill fs q)) (row (fill fs p)) key
@@ -76,7 +76,7 @@ module _ (item : List ℕ → Type 0) (kind : IsKeyKind item) {V : Type 0}
       gone-fill fs (Cell id l v c q) (Cell id l v c p) ok key rest leads (omega arith)
       (gone_past l v (row c) (row q) (row p) inner rest before gone)
 
-  -- or fewer, where the node above keeps its place
+  -- or has fewer, where the node above keeps its place
   pub spared-fill : (fs : List (Frame V)) (q p : Plan V) → IsCanonical item (row (fill fs q))
       → (key rest : List ℕ) → Leads item fs key rest → Spares fs p
       → Gone item left (row q) (row p) rest → Gone item left (row (fill fs q)) (row (fill fs p)) key

@@ -13,7 +13,7 @@ module _ {V : Type 0} where
   no_nodes Nil e = refl
   no_nodes (Cell id l v c d) e = absurd (cc)
 
-  -- the plan of whole nodes, as it is read
+  -- whole nodes can be read from the root
   whole_readable : (s : NodeArena V) → IsWellFormed s
       → Readable s.nodes.items s.root (plan_at s.nodes.items s.root)
   whole_readable s whole = readable s.nodes.items s.root s.free whole.0 whole.1.0 whole.1.1

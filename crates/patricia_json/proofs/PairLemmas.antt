@@ -70,7 +70,7 @@ two_long (x ∷ []) a b h = cc
 two_long (x ∷ y ∷ []) a b h = refl
 two_long (x ∷ y ∷ z ∷ vs) a b h = cc
 
--- what an array of two arrays holds
+-- an array of two holds the one that is left, and then the one that was removed
 pub two_are : (vs ws : List Value) (a b : Value)
     → length vs ≡ 2 → b ≡ get_or vs 1 b → ws ≡ remove vs 1 → a ≡ get_or ws 0 a
     → items_view vs ≡ item (view a) (item (view b) no_items)

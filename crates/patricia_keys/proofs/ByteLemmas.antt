@@ -12,6 +12,7 @@ abbrev singles : List ℕ → List (List ℕ)
 singles [] = []
 singles (b ∷ k) = (b ∷ []) ∷ singles k
 
+-- the bytes of a list, each as an item, are the list
 concat-singles : (k : List ℕ) → concat (singles k) ≡ k
 concat-singles [] = refl
 concat-singles (b ∷ k) = ap (λ r. b ∷ r) (concat-singles k)
@@ -20,6 +21,7 @@ concat-singles (b ∷ k) = ap (λ r. b ∷ r) (concat-singles k)
 abbrev pub AreBytes : List ℕ → Type 0
 AreBytes k = (i : ℕ) → i < length k → get_or k i 0 < 256
 
+-- and each of them is an item
 items-singles : (k : List ℕ) → AreBytes k → AllByRecursion IsByteItem (singles k)
 items-singles [] h = tt
 items-singles (b ∷ k) h = (one_byte (h 0 (omega arith)), items-singles k (λ i l. h (suc i) (omega arith)))
@@ -28,6 +30,7 @@ items-singles (b ∷ k) h = (one_byte (h 0 (omega arith)), items-singles k (λ i
 pub byte_valid : (k : List ℕ) → AreBytes k → IsValid IsByteItem k
 byte_valid k h = (singles k, items-singles k h, concat-singles k)
 
+-- the first bytes of a byte key are a valid one
 byte_valid_front : (k : List ℕ) (n : ℕ) → AreBytes k → IsValid IsByteItem (take n k)
 byte_valid_front k n h = byte_valid (take n k)
     (λ i l. let short = length-take n k in let same = get_or-take n k i 0 (omega arith) in rw same

@@ -26,7 +26,7 @@ begins_either (c ∷ a) (d ∷ b) x y e =
 pub Begins-trans : (a b c : List ℕ) → Begins a b → Begins b c → Begins a c
 Begins-trans a b c (x, e) (y, f) = (x ++ y, sym (append_assoc a x y) ∙ ap (λ l. l ++ y) e ∙ f)
 
--- where two lists still agree one place on
+-- where the first bytes of a list begin another, each of them is at the same place there
 agrees : (a b : List ℕ) (n m : ℕ) → m ≤ length a → n < m → Begins (take m a) b
     → get_or a n 0 ≡ get_or b n 0
 agrees a b n m within below (rest, e) =
@@ -48,11 +48,13 @@ key_cmp-by_first [] j some other less = absurd (omega arith)
 key_cmp-by_first (x ∷ i) [] some other less = absurd (omega arith)
 key_cmp-by_first (x ∷ i) (y ∷ j) some other less = ap (λ o. ordering_then o (key_cmp i j)) (sym (nat_cmp_is x y Less less))
 
+-- the bytes of two lists of items are those of the first, then those of the second
 concat-append : (is js : List (List ℕ)) → concat (is ++ js) ≡ concat is ++ concat js
 concat-append [] js = refl
 concat-append (i ∷ is) js = ap (λ r. i ++ r) (concat-append is js) ∙ sym (append_assoc i (concat is) (concat js))
 
 module _ (item : List ℕ → Type 0) where
+  -- two lists of items are items together
   items-append : (is js : List (List ℕ)) → AllByRecursion item is → AllByRecursion item js
       → AllByRecursion item (is ++ js)
   items-append [] js a b = b
@@ -70,12 +72,13 @@ module _ (item : List ℕ → Type 0) where
   pub IsValid-item : (i : List ℕ) → item i → IsValid item i
   IsValid-item i p = (i ∷ [], (p, tt), append-nil i)
 
-  -- the first item of a key, and the key that is left
+  -- a valid key that is not empty begins with an item
   pub first_of : (k : List ℕ) → IsValid item k → k ≢ [] → (i : List ℕ) × (item i) × Begins i k
   first_of k ([], ok, e) nonempty = absurd (nonempty (sym e))
   first_of k (i ∷ is, ok, e) nonempty = (i, ok.0, (concat is, e))
 
   module _ (kind : IsKeyKind item) where
+    -- no item is empty
     pub item-nonempty : (i : List ℕ) → item i → i ≢ []
     item-nonempty i ok e = let sized = kind.sized i ok in let none = ap length e in omega arith
 
@@ -100,6 +103,7 @@ module _ (item : List ℕ → Type 0) where
         let same' : get_or b 0 0 ≡ get_or j 0 0 = rw (← y.1) (get_or_append_left j y.0 0 0 (omega arith)) in
         key_cmp-by_first i j (omega arith) (omega arith) (omega arith)
 
+    -- what is left of a valid key behind some items is a valid key
     valid_rest_of : (is js : List (List ℕ)) (b : List ℕ) → AllByRecursion item is
         → AllByRecursion item js → concat js ≡ concat is ++ b → IsValid item b
     valid_rest_of [] js b p q e = (js, q, e)
@@ -113,6 +117,7 @@ module _ (item : List ℕ → Type 0) where
         let same = items_same j i _ _ q.0 p.0 e' in
         valid_rest_of is js b p.1 q.1 (append_cancel_left i _ _ (ap (λ l. l ++ concat js) (sym same) ∙ e'))
 
+    -- the bytes of items are less than 256
     items_bytes : (is : List (List ℕ)) → AllByRecursion item is → All (λ b. b < 256) (concat is)
     items_bytes [] ok = All-nil (λ b. b < 256)
     items_bytes (i ∷ is) ok = All-append (λ b. b < 256) i (concat is) (kind.bytes i ok.0) (items_bytes is ok.1)

@@ -14,6 +14,7 @@ use Rattle.patricia_keys.specs.Keys.{Begins, IsValid, IsFloor, IsFirstItem}
 use Rattle.patricia_keys.specs.TextKind.{IsTextItem, one_char}
 use Rattle.patricia_keys.proofs.KeyLemmas.{first_of}
 
+-- what characters are encoded to is a valid text key
 valid_chars : (cs : List ℕ) → scalars cs ≡ true → IsValid IsTextItem (encodes cs)
 valid_chars [] h = ([], tt, refl)
 valid_chars (c ∷ cs) h =
@@ -24,9 +25,11 @@ valid_chars (c ∷ cs) h =
 pub text_valid : (k : List ℕ) → IsUtf8 k → IsValid IsTextItem k
 text_valid k u = subst (IsValid IsTextItem) u.1.1 (valid_chars u.0 u.1.0)
 
+-- an item of a text is UTF-8
 item_utf8 : (i : List ℕ) → IsTextItem i → IsUtf8 i
 item_utf8 i (one_char c s e) = subst IsUtf8 e (IsUtf8-encode c s)
 
+-- and so are items, one after the other
 items_utf8 : (is : List (List ℕ)) → AllByRecursion IsTextItem is → IsUtf8 (concat is)
 items_utf8 [] h = IsUtf8-nil
 items_utf8 (i ∷ is) h = IsUtf8-append i (concat is) (item_utf8 i h.0) (items_utf8 is h.1)

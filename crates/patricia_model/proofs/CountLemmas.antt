@@ -100,7 +100,7 @@ module _ (item : List ℕ → Type 0) (kind : IsKeyKind item) {V : Type 0} (l : 
     bounded = λ single. let below = byte_below item kind single l ok.valid ok.nonempty in let some = filled_length k nonempty in omega arith;
   }
 
-  -- the key comes before the label
+  -- where the key comes before the label, one step is counted
   pub counted_before : IsBefore item k l → IsCounted item (node l v c s) k n b
   counted_before before = counted_stop (stops_before item kind l k before) (λ t some e.
       let same = begins_same item kind before.first before.second k before.first_item
@@ -108,13 +108,13 @@ module _ (item : List ℕ → Type 0) (kind : IsKeyKind item) {V : Type 0} (l : 
       (Begins-trans before.second l k before.second_begins (t, e)) in
       key_cmp-irreflexive before.first before.second same before.less)
 
-  -- the key ends within it
+  -- and so where the key ends within it
   pub counted_within : (m : ℕ) → EndsWithin item k l m → IsCounted item (node l v c s) k n b
   counted_within m ends = counted_stop (stops_shared item kind l k ends.shares)
       (λ t some e. let long = common_whole item k l m ok.valid ends.common (t, e) in
       let short = ends.short in omega arith)
 
-  -- the key is the label
+  -- and where the key is the label
   pub counted_here : (t : List ℕ) → Passes item k l t → t ≡ [] → IsCounted item (node l v c s) k n b
   counted_here t passes none = counted_stop (stops_shared item kind l k passes.shares)
       (λ u some e. some (append_cancel_left l u t (e ∙ sym passes.splits) ∙ none))

@@ -22,6 +22,7 @@ pub second_part : (a b : Bool) → T (a && b) → T b
 second_part true b h = h
 second_part false b h = absurd h
 
+-- an order that is found to be less is less
 less_is : (o : Ordering) → is_lt o ≡ true → o ≡ Less
 less_is Less h = refl
 less_is Equal h = absurd (cc)
@@ -71,6 +72,7 @@ module _ {V : Type 0} where
       → key_cmp k e.0 ≡ Less
   after_less k es e h = less_is _ (has_filter (λ x. is_lt (key_cmp k x.0)) es e h).1
 
+  -- the rows after a key are in order, as all rows are
   after_sorted : (o : Option (List ℕ)) (es : List (List ℕ × V)) → T (is_sorted key_cmp es)
       → T (is_sorted key_cmp (after o es))
   after_sorted None es h = h

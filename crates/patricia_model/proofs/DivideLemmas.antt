@@ -24,13 +24,15 @@ pub record Divides (item : List ℕ → Type 0) (q l p t d : List ℕ) : Type 0 
   pub apart : SharesItem item t d → ⊥
 
 module _ (item : List ℕ → Type 0) (kind : IsKeyKind item) where
+  -- an empty list has no bytes
   nil_length : (a : List ℕ) → a ≡ [] → length a ≡ 0
   nil_length a e = ap length e
 
-  -- the bytes that are common, as a list
+  -- a key and a label have the same first bytes, as many as they have in common
   front_of : (q l : List ℕ) (n : ℕ) → IsCommon item q l n → take n q ≡ take n l
   front_of q l n c = let short = length-take-le n q c.within in sym (take_at (take n q) c.begins.0 n short) ∙ ap (take n) c.begins.1
 
+  -- bytes before both an item and what begins with it leave it a prefix
   longer : (a i : List ℕ) (q : List ℕ) → Begins i q → Begins (a ++ i) (a ++ q)
   longer a i q b = (b.0, append_assoc a i b.0 ∙ ap (λ r. a ++ r) b.1)
 
@@ -97,6 +99,7 @@ module _ (item : List ℕ → Type 0) (kind : IsKeyKind item) {V : Type 0} (x : 
   abbrev lower : Siblings V
   lower = node d v c end
 
+  -- the lower node alone is a row that keeps the invariant
   lower_row : IsCanonical item lower
   lower_row = record {
     valid = div.label_valid;
@@ -108,6 +111,7 @@ module _ (item : List ℕ → Type 0) (kind : IsKeyKind item) {V : Type 0} (x : 
     sibling = tt;
   }
 
+  -- the label above the cut comes before the siblings, as the whole label does
   front_rises : IsBeforeSiblings item p s
   front_rises = by s ok.rises
     where
@@ -122,12 +126,13 @@ module _ (item : List ℕ → Type 0) (kind : IsKeyKind item) {V : Type 0} (x : 
       ∙ ap (λ es. es ++ entries s) (prefixed-prefixed p d (own v ++ entries c))
       ∙ ap (λ k. prefixed k (own v ++ entries c) ++ entries s) div.label
 
+  -- a write below the cut at the rest of the key is one to the row at the key
   written : (v' : Option V) (c' : Siblings V)
       → own v' ++ entries c' ≡ put key_cmp t x (entries lower)
       → entries (node p v' c' s) ≡ put key_cmp q x (entries (node l v c s))
   written v' c' e = put_front item kind x p None lower s ok.sibling front_rises q t v' c' div.key e ∙ ap (put key_cmp q x) cut_same
 
-  -- the key ends at the cut
+  -- where the key ends at the cut, the upper part with its value keeps the invariant
   pub ends_at_cut : t ≡ [] → IsCanonical item (node p (Some x) lower s)
   ends_at_cut none = record {
     valid = div.front_valid;
@@ -144,7 +149,7 @@ module _ (item : List ℕ → Type 0) (kind : IsKeyKind item) {V : Type 0} (x : 
       → entries (node p (Some x) lower s) ≡ put key_cmp q x (entries (node l v c s))
   put_at_cut none = written (Some x) lower (put_own item kind x None lower lower_row ∙ ap (λ k. put key_cmp k x (entries lower)) (sym none))
 
-  -- it goes on before the rest of the label
+  -- where the key goes on before the lower part, a leaf there keeps the invariant
   pub row_before_cut : t ≢ [] → IsBefore item t d
       → IsCanonical item (node p None (node t (Some x) end lower) s)
   row_before_cut nonempty before = record {
@@ -162,7 +167,7 @@ module _ (item : List ℕ → Type 0) (kind : IsKeyKind item) {V : Type 0} (x : 
       → entries (node p None (node t (Some x) end lower) s) ≡ put key_cmp q x (entries (node l v c s))
   put_before_cut before = written None (node t (Some x) end lower) (put_before item kind x d v c end lower_row t before)
 
-  -- or past it
+  -- and so does a leaf behind it, where the key goes on there
   pub row_after_cut : t ≢ [] → IsBefore item d t
       → IsCanonical item (node p None (node d v c (node t (Some x) end end)) s)
   row_after_cut nonempty before = record {

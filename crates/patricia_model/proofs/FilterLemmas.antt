@@ -14,14 +14,17 @@ use Rattle.patricia_model.specs.Points.{Has}
 use Rattle.patricia_model.specs.Prefixes.{begins, under, along, longest, IsReach}
 use Rattle.patricia_model.proofs.PrefixLemmas.{begins_is, begins_from, begins_other, not_above}
 
+-- of two tests that hold, the first holds
 first_of : (a b : Bool) → T (a && b) → T a
 first_of true b h = tt
 first_of false b h = h
 
+-- and so does the second
 second_of : (a b : Bool) → T (a && b) → T b
 second_of true b h = h
 second_of false b h = absurd h
 
+-- an order that is tested to be less is less
 lt_is : (o : Ordering) → T (is_lt o) → o ≡ Less
 lt_is Less h = refl
 lt_is Equal h = absurd h
@@ -36,6 +39,7 @@ no_shorter a b k x y less = elim (begins_either a b x.0 y.0 (x.1 ∙ sym y.1)) [
 
 -- the members that a test lets through
 module _ {A : Type 0} (f : A → Bool) where
+  -- a member of a filtered list was in the list, and passes the test
   pub has_filter : (xs : List A) (x : A) → Has (filter f xs) x → Has xs x × (f x ≡ true)
   has_filter [] x h = absurd h
   has_filter (y ∷ xs) x h = by (f y) refl (has_filter xs x)
@@ -59,6 +63,7 @@ module _ {A : Type 0} (f : A → Bool) where
       by false h = h
 
 module _ {V : Type 0} where
+  -- the rows under a prefix are those whose key begins with it
   pub under_has : (p : List ℕ) (rows : List (List ℕ × V)) (r : List ℕ × V)
       → Has (under p rows) r ↔ (Has rows r × Begins p r.0)
   under_has p rows r = (λ h. let found = has_filter _ rows r h in (found.0, begins_is p r.0 found.1), λ h. filter_has _ rows r h.0 (begins_from p r.0 h.1))
@@ -68,6 +73,7 @@ module _ {V : Type 0} where
       → Has (along k rows) r ↔ (Has rows r × Begins r.0 k)
   along_has k rows r = (λ h. let found = has_filter _ rows r h in (found.0, begins_is r.0 k found.1), λ h. filter_has _ rows r h.0 (begins_from r.0 k h.1))
 
+  -- a key that is below all entries of a list comes before the key of each
   below_is : (q : List ℕ) (es : List (List ℕ × V)) (e : List ℕ × V) → T (below_all key_cmp q es)
       → Has es e → key_cmp q e.0 ≡ Less
   below_is q [] e below h = absurd h
@@ -81,6 +87,7 @@ module _ {V : Type 0} where
     longest_is : (e : List ℕ × V) → Has es e → Begins e.0 k → length e.0 ≤ length r.0
     before_is : (e : List ℕ × V) → o ≡ Some e → length e.0 ≤ length r.0
 
+  -- the last row along a key is the longest of those that begin it, or the one from before
   last_is : (k : List ℕ) (o : Option (List ℕ × V)) (es : List (List ℕ × V)) (r : List ℕ × V)
       → T (is_sorted key_cmp es)
       → ((x : List ℕ × V) → o ≡ Some x → Begins x.0 k × T (below_all key_cmp x.0 es))

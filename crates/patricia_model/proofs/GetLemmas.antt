@@ -20,6 +20,7 @@ not_below q [] h = tt
 not_below q (e ∷ es) h = (λ same. key_cmp-irreflexive q e.0 same h.0, not_below q es h.1)
 
 module _ (item : List ℕ → Type 0) where
+  -- of two keys with bytes, the one whose first item is found to be less comes before
   pub compared_less : (a b : List ℕ) → a ≢ [] → b ≢ [] → ComparesFirst item a b Less
       → IsBefore item a b
   compared_less a b p q c =
@@ -167,6 +168,7 @@ module _ (item : List ℕ → Type 0) (kind : IsKeyKind item) {V : Type 0} (l : 
       → find key_cmp q (entries (node l v c s)) ≡ None
   find_within q n ends = find_absent q _ (lacks_within q n ends)
 
+  -- a key that begins with the label is looked up by its rest among the node's own and children
   find_through : (q t : List ℕ) → Passes item q l t
       → find key_cmp q (entries (node l v c s)) ≡ find key_cmp t (own v ++ entries c)
   find_through q t passes =

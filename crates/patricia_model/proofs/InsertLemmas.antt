@@ -12,11 +12,13 @@ use Rattle.patricia_model.proofs.ListLemmas.{IsBelow, IsAbove, put_below, put-ap
 use Rattle.patricia_model.proofs.OrderLemmas.{IsBefore-less, below_row, below_own}
 use Rattle.patricia_model.proofs.UniqueLemmas.{branches, has_entry}
 
+-- what begins some bytes begins them with more behind
 begins_longer : (i m t : List ℕ) → Begins i m → Begins i (m ++ t)
 begins_longer i m t b = Begins-trans i m (m ++ t) b (t, refl)
 
 -- the order of first items looks at no more than the first items
 module _ (item : List ℕ → Type 0) (kind : IsKeyKind item) where
+  -- a label that comes before a key comes before it with more behind
   IsBefore-longer : (l m t : List ℕ) → IsBefore item l m → IsBefore item l (m ++ t)
   IsBefore-longer l m t b = record {
     first = b.first;
@@ -40,6 +42,7 @@ module _ (item : List ℕ → Type 0) (kind : IsKeyKind item) where
     less = b.less;
   }
 
+  -- a label that comes before a key with more behind comes before a nonempty front of it
   IsBefore-shorter : (l m t : List ℕ) → IsValid item m → m ≢ [] → IsBefore item l (m ++ t)
       → IsBefore item l m
   IsBefore-shorter l m t valid nonempty b =
@@ -73,6 +76,7 @@ module _ (item : List ℕ → Type 0) (kind : IsKeyKind item) where
 
 -- what is said of a row by its entries alone
 module _ (item : List ℕ → Type 0) (kind : IsKeyKind item) {V : Type 0} where
+  -- a label that comes before a row's first one comes before each of its keys
   pub keys_rise : (l : List ℕ) (s : Siblings V) → IsCanonical item s → IsBeforeSiblings item l s
       → AllKeys (λ k. IsBefore item l k) (entries s)
   keys_rise l end ok before = tt
@@ -109,7 +113,7 @@ module _ (item : List ℕ → Type 0) (kind : IsKeyKind item) {V : Type 0} where
   earns_elsewhere l m None (node k v c (node k' v' c' s')) e = tt
 
 module _ (item : List ℕ → Type 0) (kind : IsKeyKind item) {V : Type 0} (x : V) where
-  -- a key alone
+  -- a node alone with a value has the one entry of its label
   pub single : (q : List ℕ) → entries (node q (Some x) end end) ≡ (q, x) ∷ []
   single q = ap (λ k. (k, x) ∷ []) (append-nil q)
 
@@ -119,6 +123,7 @@ module _ (item : List ℕ → Type 0) (kind : IsKeyKind item) {V : Type 0} (x : 
   put_own None c ok = sym (put_below [] x (entries c) (below_own item kind (Some x) c ok).0)
   put_own (Some y) c ok = refl
 
+  -- the empty key comes before each other key
   empty_below : (t : List ℕ) → t ≢ [] → key_cmp [] t ≡ Less
   empty_below [] nonempty = absurd (nonempty refl)
   empty_below (b ∷ t) nonempty = refl
@@ -133,7 +138,7 @@ module _ (item : List ℕ → Type 0) (kind : IsKeyKind item) {V : Type 0} (x : 
       above None = tt
       above (Some y) = (empty_below t nonempty, tt)
 
-  -- a write behind the label of the first node
+  -- a write to a node's own entry and children is one to the row, behind the label
   pub put_front : (l : List ℕ) (v : Option V) (c s : Siblings V) → IsCanonical item s
       → IsBeforeSiblings item l s → (q t : List ℕ) (v' : Option V) (c' : Siblings V) → l ++ t ≡ q
       → own v' ++ entries c' ≡ put key_cmp t x (own v ++ entries c)
@@ -145,7 +150,7 @@ module _ (item : List ℕ → Type 0) (kind : IsKeyKind item) {V : Type 0} (x : 
       ∙ ap (λ k. put key_cmp k x (entries (node l v c s))) splits
 
   module _ (l : List ℕ) (v : Option V) (c s : Siblings V) (ok : IsCanonical item (node l v c s)) where
-    -- the key goes before the row
+    -- a leaf before all siblings is a write of its key
     pub put_before : (q : List ℕ) → IsBefore item q l
         → entries (node q (Some x) end (node l v c s)) ≡ put key_cmp q x (entries (node l v c s))
     put_before q before =
@@ -154,7 +159,7 @@ module _ (item : List ℕ → Type 0) (kind : IsKeyKind item) {V : Type 0} (x : 
         (subst (λ k. IsBelow k (entries (node l v c s))) (append-nil q)
         (below_row item kind q [] (node l v c s) ok before)))
 
-    -- it goes into the rest of the row
+    -- a write to the siblings behind a node is one to the row
     pub put_past : (q : List ℕ) (s' : Siblings V) → IsBefore item l q
         → entries s' ≡ put key_cmp q x (entries s)
         → entries (node l v c s') ≡ put key_cmp q x (entries (node l v c s))
@@ -178,7 +183,7 @@ module _ (item : List ℕ → Type 0) (kind : IsKeyKind item) {V : Type 0} (x : 
       sibling = ok';
     }
 
-    -- it goes through the label
+    -- and so is one below a node whose label the key passes
     pub put_through : (q t : List ℕ) (v' : Option V) (c' : Siblings V) → Passes item q l t
         → own v' ++ entries c' ≡ put key_cmp t x (own v ++ entries c)
         → entries (node l v' c' s) ≡ put key_cmp q x (entries (node l v c s))

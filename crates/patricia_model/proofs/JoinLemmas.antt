@@ -16,7 +16,7 @@ use Rattle.patricia_model.proofs.RemovalLemmas.{survivor}
 use Rattle.patricia_model.proofs.PointLemmas.{nil_first, nil_second, has_prefixed, has_after, has_one, within_own}
 use Rattle.patricia_model.proofs.UniqueLemmas.{has_entry}
 
--- the keys other than one
+-- a key other than q is among the keys without q
 without-has : (S : List (List ℕ)) (q k : List ℕ) → Has S k → (q ≡ k → ⊥) → Has (without S q) k
 without-has [] q k h other = absurd h
 without-has (x ∷ S) q k h other = by (key_cmp q x) refl h (λ g. without-has S q k g other)
@@ -30,6 +30,7 @@ without-has (x ∷ S) q k h other = by (key_cmp q x) refl h (λ g. without-has S
     by Greater f (inl same) rest = rw f (inl same)
     by Greater f (inr g) rest = rw f (inr (rest g))
 
+-- a key of those other than one is a key, and another
 has-without : (S : List (List ℕ)) (q k : List ℕ) → Has (without S q) k → Has S k × (q ≡ k → ⊥)
 has-without [] q k h = absurd h
 has-without (x ∷ S) q k h = by (key_cmp q x) refl (has-without S q k)
@@ -50,6 +51,7 @@ has-without (x ∷ S) q k h = by (key_cmp q x) refl (has-without S q k)
 
 -- the keys of entries
 module _ {V : Type 0} where
+  -- what holds of the keys of all entries holds of each key that is among them
   pub AllKeys-at : (P : List ℕ → Type 0) (es : List (List ℕ × V)) (k : List ℕ) → AllKeys P es
       → Has (keys_of es) k → P k
   AllKeys-at P [] k all h = absurd h
@@ -67,14 +69,17 @@ module _ {V : Type 0} where
       [ Less ↦ refl | Equal ↦ refl | Greater ↦ refl ]
       ∙ ap (λ l. cond (not (is_eq (key_cmp q e.0))) (e.0 ∷ l) l) (keys-others q es)
 
+  -- a key among the entries is among those other than q, where it differs from q
   key-others : (q : List ℕ) (es : List (List ℕ × V)) (k : List ℕ) → Has (keys_of es) k → (q ≡ k → ⊥)
       → Has (keys_of (others q es)) k
   key-others q es k h other = subst (λ S. Has S k) (sym (keys-others q es)) (without-has (keys_of es) q k h other)
 
+  -- a key among the entries other than q is among the entries, and differs from q
   others-key : (q : List ℕ) (es : List (List ℕ × V)) (k : List ℕ) → Has (keys_of (others q es)) k
       → Has (keys_of es) k × (q ≡ k → ⊥)
   others-key q es k h = has-without (keys_of es) q k (subst (λ S. Has S k) (keys-others q es) h)
 
+-- where p and more begin a key, p begins it
 shorter_front : (p i k : List ℕ) → Begins (p ++ i) k → Begins p k
 shorter_front p i k b = (i ++ b.0, sym (append_assoc p i b.0) ∙ b.1)
 
@@ -102,7 +107,7 @@ module _ (item : List ℕ → Type 0) where
       follows : (i : List ℕ) → Follows item S p i → Follows item T p i
       follows i f = record { is_item = f.is_item; key = f.key; has = there f.key f.has (shorter_front p i f.key f.begins); begins = f.begins }
 
-  -- a point behind a label
+  -- a point stays one behind a label that is before all keys
   point_behind : (S T : List (List ℕ)) (l p : List ℕ) → IsValid item l
       → ((k : List ℕ) → Has S k → Has T (l ++ k)) → IsPoint item S p → IsPoint item T (l ++ p)
   point_behind S T l p valid there point = record {
@@ -134,7 +139,7 @@ module _ (item : List ℕ → Type 0) where
         );
       }
 
-  -- and ahead of it
+  -- and without that label, where the keys that it begins are there
   point_ahead : (S T : List (List ℕ)) (l p : List ℕ) → IsValid item p → p ≢ []
       → ((k : List ℕ) → Has T (l ++ k) → Begins p k → Has S k) → IsPoint item T (l ++ p)
       → IsPoint item S p
@@ -245,6 +250,7 @@ module _ (item : List ℕ → Type 0) (kind : IsKeyKind item) {V : Type 0} (l : 
       below (Some x) (inl none) = absurd (nonempty (sym none))
       below (Some x) (inr g) = g
 
+  -- a key below the node has the label before it in the row
   key_of_child : (r : List ℕ) → Has (keys_of (entries c)) r
       → Has (keys_of (entries (node l v c s))) (l ++ r)
   key_of_child r h = has_prefixed l (own v ++ entries c) (entries s) r (has_after (own v) (entries c) r h)
@@ -336,13 +342,13 @@ module _ (item : List ℕ → Type 0) (kind : IsKeyKind item) {V : Type 0} (l : 
         | inr g ↦ absurd g
       ]
 
-  -- a node without value branches
+  -- a node without value branches at its label
   branching : v ≡ None → Branches item (keys_of (entries (node l v c s))) l
   branching none = two_children item kind l c ok.child
       (subst (λ (w : Option V). EarnsWithin item None l w c) none ok.earns)
       (keys_of (entries (node l v c s))) key_of_child
 
-  -- one of two children goes
+  -- where one of two children goes, the labels of the node and the other are joined
   pub joins_alone : (q t m : List ℕ) → Passes item q l t → t ≢ [] → v ≡ None → LeavesAlone t c m
       → Joins item (keys_of (entries (node l v c s))) q
   joins_alone q t m passes nonempty none alone =
@@ -360,6 +366,7 @@ module _ (item : List ℕ → Type 0) (kind : IsKeyKind item) {V : Type 0} (l : 
 
 -- the value of a node with one child goes
 module _ (item : List ℕ → Type 0) (kind : IsKeyKind item) {V : Type 0} where
+  -- removing the value of a node with one child joins its label and the child's
   pub joins_lone : (l : List ℕ) (v : Option V) (c s : Siblings V)
       (ok : IsCanonical item (node l v c s)) (q t : List ℕ) → Passes item q l t → t ≡ []
       → IsLoneParent (node l v c s) → Joins item (keys_of (entries (node l v c s))) q
@@ -380,6 +387,7 @@ module _ (item : List ℕ → Type 0) (kind : IsKeyKind item) {V : Type 0} where
 
 -- the empty key is no point, and begins with none
 module _ (item : List ℕ → Type 0) {V : Type 0} where
+  -- the empty key beside the others changes nothing about which labels are joined
   pub joins_root : (v : Option V) (es : List (List ℕ × V)) (q : List ℕ) → Joins item (keys_of es) q
       → Joins item (keys_of (own v ++ es)) q
   joins_root v es q j =

@@ -22,6 +22,7 @@ pub record Leaves (item : List ℕ → Type 0) {V : Type 0} (left : List ℕ →
       → AllKeys (λ k. IsBefore item l k) (left q es)
 
 module _ (item : List ℕ → Type 0) (kind : IsKeyKind item) {V : Type 0} where
+  -- the rows of the keys other than one are rows that stay
   pub others_leave : Leaves item {V = V} others
   others_leave = record {
     past = λ l v c s ok q before. others_past item kind l v c s ok q before;
@@ -39,7 +40,7 @@ module _ (item : List ℕ → Type 0) (kind : IsKeyKind item) {V : Type 0} where
 
   module _ (left : List ℕ → List (List ℕ × V) → List (List ℕ × V)) (leaves : Leaves item left)
       (l : List ℕ) (v : Option V) (c s : Siblings V) (ok : IsCanonical item (node l v c s)) where
-    -- they were in the rest of the row
+    -- where rows leave the siblings behind a node, the row keeps the invariant
     pub row_past_left : (q : List ℕ) (s' : Siblings V) → IsCanonical item s'
         → entries s' ≡ left q (entries s) → IsCanonical item (node l v c s')
     row_past_left q s' ok' e = record {

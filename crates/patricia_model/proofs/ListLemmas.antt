@@ -15,7 +15,7 @@ use Rattle.patricia_model.proofs.RowLemmas.{AllKeys}
 pub key_cmp-equal : (a b : List ℕ) → key_cmp a b ≡ Equal → a ≡ b
 key_cmp-equal a b e = slice_cmp-IsAntisymmetric nat_cmp-IsAntisymmetric a b e
 
--- the order reversed
+-- where a key is less than another, that one is greater
 pub key_cmp-turned : (a b : List ℕ) → key_cmp a b ≡ Less → key_cmp b a ≡ Greater
 key_cmp-turned a b e = nat_list_cmp_total.antisymm b a ∙ ap ordering_reverse e
 
@@ -24,7 +24,7 @@ pub key_cmp-front : (p a b : List ℕ) → key_cmp (p ++ a) (p ++ b) ≡ key_cmp
 key_cmp-front [] a b = refl
 key_cmp-front (c ∷ p) a b = ap (λ r. ordering_then r (key_cmp (p ++ a) (p ++ b))) (tied_itself nat_cmp_total c) ∙ key_cmp-front p a b
 
--- a byte that decides still decides
+-- a key that is less stays so with more behind both, or begins the other
 pub key_cmp-extends : (a b x y : List ℕ) → key_cmp a b ≡ Less
     → (key_cmp (a ++ x) (b ++ y) ≡ Less) ⊎ Begins a b
 key_cmp-extends [] b x y e = inr (b, refl)
@@ -45,9 +45,11 @@ key_cmp-extends (c ∷ a) (d ∷ b) x y e =
         ]
     by Greater f g = let no = rw f at e in absurd (cc)
 
+-- an order that is less is tested to be less
 less_is : (r : Ordering) → r ≡ Less → T (is_lt r)
 less_is r e = subst (λ o. T (is_lt o)) (sym e) tt
 
+-- two tests that hold, hold together
 both : (a b : Bool) → T a → T b → T (a && b)
 both true b x y = y
 both false b x y = x
@@ -73,7 +75,7 @@ module _ {V : Type 0} where
       by Equal f rest = absurd (h.0 (key_cmp-equal q e.0 f))
       by Greater f rest = rw f rest
 
-  -- a look-up in two lists, where the first lacks the key
+  -- a key that the first of two lists lacks is looked up in the second
   pub find-append_left : (q : List ℕ) (xs ys : List (List ℕ × V)) → find key_cmp q xs ≡ None
       → find key_cmp q (xs ++ ys) ≡ find key_cmp q ys
   find-append_left q [] ys h = refl
@@ -86,13 +88,13 @@ module _ {V : Type 0} where
       by Equal f rest = let no = rw f at h in absurd (cc)
       by Greater f rest = rw f (rest (rw f at h))
 
-  -- and where the second lacks it
+  -- and one that the second lacks in the first
   pub find-append_right : (q : List ℕ) (xs ys : List (List ℕ × V)) → find key_cmp q ys ≡ None
       → find key_cmp q (xs ++ ys) ≡ find key_cmp q xs
   find-append_right q [] ys h = h
   find-append_right q (x ∷ xs) ys h = ap (cond (eq_by_cmp key_cmp q x.0) (Some x.1)) (find-append_right q xs ys h)
 
-  -- a look-up below a common prefix
+  -- the same bytes before the key and all keys change no look-up
   pub find-prefixed : (p q : List ℕ) (es : List (List ℕ × V))
       → find key_cmp (p ++ q) (prefixed p es) ≡ find key_cmp q es
   find-prefixed p q [] = refl
@@ -100,13 +102,13 @@ module _ {V : Type 0} where
       ap (λ r. cond (is_eq r) (Some e.1) (find key_cmp (p ++ q) (prefixed p es))) (key_cmp-front p q e.0)
       ∙ ap (cond (eq_by_cmp key_cmp q e.0) (Some e.1)) (find-prefixed p q es)
 
-  -- an insert before all rows
+  -- a key before all rows is inserted in front
   pub put_below : (q : List ℕ) (v : V) (es : List (List ℕ × V)) → IsBelow q es
       → put key_cmp q v es ≡ (q, v) ∷ es
   put_below q v [] h = refl
   put_below q v (e ∷ es) h = ap (λ r. by_order r ((q, v) ∷ e ∷ es) ((e.0, v) ∷ es) (e ∷ put key_cmp q v es)) h.0
 
-  -- an insert behind the first of two lists
+  -- a key behind the first of two lists is inserted into the second
   pub put-append_right : (q : List ℕ) (v : V) (xs ys : List (List ℕ × V)) → IsAbove q xs
       → put key_cmp q v (xs ++ ys) ≡ xs ++ put key_cmp q v ys
   put-append_right q v [] ys h = refl
@@ -114,7 +116,7 @@ module _ {V : Type 0} where
       ap (λ r. by_order r ((q, v) ∷ x ∷ (xs ++ ys)) ((x.0, v) ∷ (xs ++ ys)) (x ∷ put key_cmp q v (xs ++ ys))) (key_cmp-turned x.0 q h.0)
       ∙ ap (λ r. x ∷ r) (put-append_right q v xs ys h.1)
 
-  -- an insert before the second of two lists
+  -- and one before the second into the first
   pub put-append_left : (q : List ℕ) (v : V) (xs ys : List (List ℕ × V)) → IsBelow q ys
       → put key_cmp q v (xs ++ ys) ≡ put key_cmp q v xs ++ ys
   put-append_left q v [] ys h = put_below q v ys h
@@ -129,7 +131,7 @@ module _ {V : Type 0} where
         | Greater ↦ refl
       ]
 
-  -- an insert below a common prefix
+  -- the same bytes before the key and all keys change no insert
   pub put-prefixed : (p q : List ℕ) (v : V) (es : List (List ℕ × V))
       → put key_cmp (p ++ q) v (prefixed p es) ≡ prefixed p (put key_cmp q v es)
   put-prefixed p q v [] = refl

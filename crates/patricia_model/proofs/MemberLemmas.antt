@@ -37,7 +37,7 @@ module _ {A : Type 0} where
     AreApart-append xs ys a.1 b (λ y l r. c y (inr l) r),
   )
 
-  -- the list without one place where x stands
+  -- a list that has x has all its members at x or in a list shorter by one
   taken : (ys : List A) (x : A) → Has ys x
       → (zs : List A) × (length ys ≡ suc (length zs)) × ((y : A) → Has ys y → (x ≡ y) ⊎ Has zs y)
   taken [] x h = absurd h
@@ -79,7 +79,7 @@ module _ {A : Type 0} where
       → length xs ≡ length ys
   same_length xs ys a b same = omega (arith, no_longer xs ys a (λ x. (same x).0), no_longer ys xs b (λ x. (same x).1))
 
--- the members behind a common front
+-- a member behind a front is a member of the list behind that front
 pub Has-behind : (p : List ℕ) (qs : List (List ℕ)) (q : List ℕ) → Has qs q
     → Has (map (λ t. p ++ t) qs) (p ++ q)
 Has-behind p [] q h = absurd h

@@ -10,23 +10,28 @@ use Rattle.patricia_keys.proofs.KeyLemmas.{key_cmp-irreflexive}
 use Rattle.patricia_model.proofs.RowLemmas.{AllKeys, AllKeys-append, AllKeys-prefixed, rises_on, lacks_empty}
 use Rattle.patricia_model.proofs.ListLemmas.{IsBelow, key_cmp-extends, key_cmp-front, below_all-from}
 
+-- the empty key comes before each other key
 empty_first : (q : List ℕ) → (q ≡ [] → ⊥) → key_cmp [] q ≡ Less
 empty_first [] h = absurd (h refl)
 empty_first (b ∷ q) h = refl
 
+-- of two tests that hold, the first holds
 first_part : (a b : Bool) → T (a && b) → T a
 first_part true b h = tt
 first_part false b h = h
 
+-- and so does the second
 second_part : (a b : Bool) → T (a && b) → T b
 second_part true b h = h
 second_part false b h = absurd h
 
+-- two tests that hold, hold together
 pair : (a b : Bool) → T a → T b → T (a && b)
 pair true b x y = y
 pair false b x y = x
 
 module _ {V : Type 0} where
+  -- a key that is below the entries of two lists is below those of both together
   below_append : (q : List ℕ) (xs ys : List (List ℕ × V)) → T (below_all key_cmp q xs)
       → IsBelow q ys → T (below_all key_cmp q (xs ++ ys))
   below_append q [] ys a b = below_all-from q ys b
@@ -38,6 +43,7 @@ module _ {V : Type 0} where
   sorted-append [] ys a b c = b
   sorted-append (x ∷ xs) ys a b c = pair _ _ (below_append x.0 xs ys (first_part _ _ a) c.0) (sorted-append xs ys (second_part _ _ a) b c.1)
 
+  -- the same bytes before a key and before the keys above it leave it below them
   below-prefixed : (p q : List ℕ) (es : List (List ℕ × V)) → T (below_all key_cmp q es)
       → T (below_all key_cmp (p ++ q) (prefixed p es))
   below-prefixed p q [] a = tt

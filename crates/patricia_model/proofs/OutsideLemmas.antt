@@ -13,15 +13,17 @@ use Rattle.patricia_model.proofs.PrefixLemmas.{begins-front, begins_from, filter
 use Rattle.patricia_model.proofs.FilterLemmas.{has_filter, filter_has}
 
 module _ {V : Type 0} where
+  -- the rows of two lists outside a prefix are those of the first, then those of the second
   outside-append : (p : List ℕ) (xs ys : List (List ℕ × V))
       → outside p (xs ++ ys) ≡ outside p xs ++ outside p ys
   outside-append p xs ys = filter-append _ xs ys
 
+  -- the same bytes before the prefix and before all keys leave the same rows outside
   outside-prefixed : (l p : List ℕ) (es : List (List ℕ × V))
       → outside (l ++ p) (prefixed l es) ≡ prefixed l (outside p es)
   outside-prefixed l p es = filter-prefixed (λ k. not (begins (l ++ p) k)) (λ k. not (begins p k)) l (λ k. ap not (begins-front l p k)) es
 
-  -- all rows, or none
+  -- where no row is under a prefix, all are outside
   pub outside_all : (p : List ℕ) (es : List (List ℕ × V)) → under p es ≡ [] → outside p es ≡ es
   outside_all p [] none = refl
   outside_all p (e ∷ es) none = by (begins p e.0) refl (outside_all p es)
@@ -31,6 +33,7 @@ module _ {V : Type 0} where
       by true f rest = absurd (let no = rw f at none in cc)
       by false f rest = let left = rw f at none in rw f (ap (λ r. e ∷ r) (rest left))
 
+  -- where each key has the prefix, no row is outside
   outside_none : (p : List ℕ) (es : List (List ℕ × V)) → AllKeys (Begins p) es → outside p es ≡ []
   outside_none p [] all = refl
   outside_none p (e ∷ es) all = rw (begins_from p e.0 all.0) (outside_none p es all.1)
@@ -93,13 +96,13 @@ module _ {V : Type 0} where
 
 module _ (item : List ℕ → Type 0) (kind : IsKeyKind item) {V : Type 0} (l : List ℕ) (v : Option V)
     (c s : Siblings V) (ok : IsCanonical item (node l v c s)) where
-  -- a prefix past the label
+  -- the rows outside a prefix that comes after the label are the node's and those of the rest
   pub outside_past : (p : List ℕ) → IsBefore item l p
       → outside p (entries (node l v c s)) ≡ prefixed l (own v ++ entries c) ++ outside p (entries s)
   outside_past p before = outside-append p (prefixed l (own v ++ entries c)) (entries s) ∙ ap
       (λ r. r ++ outside p (entries s)) (outside_all p _ (first_none item kind l v c s ok p before))
 
-  -- one that goes on past the label
+  -- outside one that goes on past the label are all rows but the children under its rest
   pub outside_deeper : (p t : List ℕ) → Passes item p l t → t ≢ []
       → outside p (entries (node l v c s)) ≡ prefixed l (own v ++ outside t (entries c)) ++ entries s
   outside_deeper p t passes some =
@@ -108,7 +111,7 @@ module _ (item : List ℕ → Type 0) (kind : IsKeyKind item) {V : Type 0} (l : 
       ∙ ap (λ q. outside q (prefixed l (own v ++ entries c)) ++ entries s) (sym passes.splits)
       ∙ ap (λ r. r ++ entries s) (outside-prefixed l t (own v ++ entries c) ∙ ap (prefixed l) (outside_filled t some v (entries c)))
 
-  -- one that begins the label
+  -- outside one that begins the label are the rows of the siblings
   pub outside_first : (p : List ℕ) → SharesItem item p l → Begins p l
       → outside p (entries (node l v c s)) ≡ entries s
   outside_first p share begun =

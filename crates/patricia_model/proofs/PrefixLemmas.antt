@@ -30,6 +30,7 @@ begins_from p k b = subst (λ q. begins p q ≡ true) b.1 (front p b.0)
     front [] rest = refl
     front (c ∷ p) rest = and_from _ _ (eq-eqb c c refl) (front p rest)
 
+-- where two tests hold together, each holds
 both : (a b : Bool) → (a && b) ≡ true → (a ≡ true) × (b ≡ true)
 both true b h = (refl, h)
 both false b h = absurd (cc)
@@ -67,16 +68,17 @@ pub begins_other : (p k : List ℕ) → begins p k ≡ false → Begins p k → 
 begins_other p k none b = let some = begins_from p k b in absurd (cc)
 
 module _ {V : Type 0} where
+  -- the rows of two lists under a prefix are those of the first, then those of the second
   pub under-append : (p : List ℕ) (xs ys : List (List ℕ × V))
       → under p (xs ++ ys) ≡ under p xs ++ under p ys
   under-append p xs ys = filter-append _ xs ys
 
-  -- the rows along a key, of two lists
+  -- the rows of two lists along a key are those of the first, then those of the second
   pub along-append : (k : List ℕ) (xs ys : List (List ℕ × V))
       → along k (xs ++ ys) ≡ along k xs ++ along k ys
   along-append k xs ys = filter-append _ xs ys
 
-  -- a test that looks past a front
+  -- a test of keys behind a front lets through what the test of their rest does
   pub filter-prefixed : (f g : List ℕ → Bool) (l : List ℕ) → ((k : List ℕ) → f (l ++ k) ≡ g k)
       → (es : List (List ℕ × V))
       → filter (λ e. f e.0) (prefixed l es) ≡ prefixed l (filter (λ e. g e.0) es)
@@ -102,7 +104,7 @@ module _ {V : Type 0} where
       → along (l ++ k) (prefixed l es) ≡ prefixed l (along k es)
   along-prefixed l k es = filter-prefixed (λ q. begins q (l ++ k)) (λ q. begins q k) l (λ q. begins-front l q k) es
 
-  -- all rows, or none
+  -- where no key has the prefix, no row is under it
   pub under_none : (p : List ℕ) (es : List (List ℕ × V)) → AllKeys (λ k. Begins p k → ⊥) es
       → under p es ≡ []
   under_none p [] all = refl
@@ -119,6 +121,7 @@ module _ {V : Type 0} where
   along_none k [] all = refl
   along_none k (e ∷ es) all = rw (begins_not e.0 k all.0) (along_none k es all.1)
 
+  -- what follows from a fact of a key holds of all keys where the fact does
   AllKeys-follows : (P Q : List ℕ → Type 0) → ((k : List ℕ) → P k → Q k) → (es : List (List ℕ × V))
       → AllKeys P es → AllKeys Q es
   AllKeys-follows P Q follows [] all = tt
@@ -143,12 +146,13 @@ module _ {V : Type 0} where
       AllKeys-any [] = tt
       AllKeys-any (e ∷ es) = ((e.0, refl), AllKeys-any es)
 
+  -- no row is along a key that comes before each of them
   along_above : (q : List ℕ) (es : List (List ℕ × V)) → IsBelow q es → along q es ≡ []
   along_above q es above = along_none q es (AllKeys-follows (λ k. key_cmp q k ≡ Less) (λ k. Begins k q → ⊥) (λ k less b. not_above q k b less) es above)
 
 module _ (item : List ℕ → Type 0) (kind : IsKeyKind item) {V : Type 0} (l : List ℕ) (v : Option V)
     (c s : Siblings V) (ok : IsCanonical item (node l v c s)) where
-  -- along a key that the label begins
+  -- along a key that the label begins are the node's own row and those of its children
   pub along_down : (t : List ℕ)
       → along (l ++ t) (entries (node l v c s)) ≡ prefixed l (own v ++ along t (entries c))
   along_down t =
@@ -158,7 +162,7 @@ module _ (item : List ℕ → Type 0) (kind : IsKeyKind item) {V : Type 0} (l : 
       ∙ along-prefixed l t (own v ++ entries c)
       ∙ ap (prefixed l) (along-append t (own v) (entries c) ∙ ap (λ r. r ++ along t (entries c)) (along_own t v))
 
-  -- along another, past the node
+  -- along another are the rows of the siblings alone
   pub along_past : (q : List ℕ) → (Begins l q → ⊥)
       → along q (entries (node l v c s)) ≡ along q (entries s)
   along_past q other =
@@ -191,7 +195,7 @@ module _ (item : List ℕ → Type 0) (kind : IsKeyKind item) {V : Type 0} (l : 
             ap (λ k. key_cmp q k) split ∙ ap (λ k. key_cmp k (q ++ (b.0 ++ t))) (sym (append-nil q)) ∙ key_cmp-front q [] (b.0 ++ t) ∙ nonempty b.0 t some
       ]
 
-  -- under a prefix past the label, and before it
+  -- under a prefix that comes after the label is no row of the node
   pub first_none : (p : List ℕ) → IsBefore item l p → under p (prefixed l (own v ++ entries c)) ≡ []
   first_none p before = under_none p _
       (AllKeys-prefixed (λ k. Begins p k → ⊥) l
@@ -203,6 +207,7 @@ module _ (item : List ℕ → Type 0) (kind : IsKeyKind item) {V : Type 0} (l : 
       → under p (entries (node l v c s)) ≡ under p (entries s)
   under_past p before = under-append p (prefixed l (own v ++ entries c)) (entries s) ∙ ap (λ r. r ++ under p (entries s)) (first_none p before)
 
+  -- siblings that come after the first item of a prefix have no row under it
   lacks : (p i k : List ℕ) → item i → Begins i k → Begins i p → (r : Siblings V)
       → IsCanonical item r → IsBeforeSiblings item k r → under p (entries r) ≡ []
   lacks p i k is b d r canonical before = under_none p _
@@ -218,7 +223,7 @@ module _ (item : List ℕ → Type 0) (kind : IsKeyKind item) {V : Type 0} (l : 
   pub past_none : (p : List ℕ) → SharesItem item p l → under p (entries s) ≡ []
   past_none p share = lacks p share.shared l share.is_item share.begins_second share.begins_first s ok.sibling ok.rises
 
-  -- under one that goes on past the label
+  -- under one that goes on past the label are the node's rows under its rest
   pub under_through : (p t : List ℕ) → Passes item p l t
       → under p (entries (node l v c s)) ≡ prefixed l (under t (own v ++ entries c))
   under_through p t passes =
@@ -234,12 +239,12 @@ module _ (item : List ℕ → Type 0) (kind : IsKeyKind item) {V : Type 0} (l : 
   under_deeper p t passes some =
       under_through p t passes ∙ ap (prefixed l) (under-append t (own v) (entries c) ∙ ap (λ r. r ++ under t (entries c)) (under_own t some v))
 
-  -- at the node where it ends
+  -- under one that ends at the node are all its rows
   pub under_here : (p : List ℕ) → Passes item p l []
       → under p (entries (node l v c s)) ≡ prefixed l (own v ++ entries c)
   under_here p passes = under_through p [] passes ∙ ap (prefixed l) (under_empty (own v ++ entries c))
 
-  -- in whose label it ends
+  -- and so where the prefix ends in its label
   pub under_within : (p : List ℕ) → SharesItem item p l → Begins p l
       → under p (entries (node l v c s)) ≡ prefixed l (own v ++ entries c)
   under_within p share begun =

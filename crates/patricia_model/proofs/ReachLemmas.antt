@@ -29,6 +29,7 @@ module _ (item : List ℕ → Type 0) where
   none_or_item q m within ([], ok, e) = inl (let none = ap length e in let long = length-take-le m q within in omega arith)
   none_or_item q m within (i ∷ is, ok, e) = inr (i, ok.0, (_, e))
 
+  -- the first bytes of a key begin it
   front_begins : (q : List ℕ) (m : ℕ) → Begins (take m q) q
   front_begins q m = (drop m q, take-append-drop m q)
 
@@ -111,7 +112,7 @@ module _ (item : List ℕ → Type 0) (kind : IsKeyKind item) {V : Type 0} (l : 
         absurd (other (rw same (Begins-trans some.0 (take m q) k some.2 begun)))
   ]
 
-  -- past the label
+  -- keys go with one that comes after the label as far as those of the siblings do
   pub reaches_past : IsBefore item l q → (n : ℕ) → Reaches item (keys_of (entries s)) q n
       → Reaches item S q n
   reaches_past before n r = record {
@@ -134,7 +135,7 @@ module _ (item : List ℕ → Type 0) (kind : IsKeyKind item) {V : Type 0} (l : 
     ];
   }
 
-  -- before the label
+  -- no key goes with one that comes before the label
   pub reaches_before : IsBefore item q l → Reaches item S q 0
   reaches_before before = record {
     within = omega arith;
@@ -158,7 +159,7 @@ module _ (item : List ℕ → Type 0) (kind : IsKeyKind item) {V : Type 0} (l : 
       ok.rises) has)
       m within valid b
 
-  -- into the label
+  -- where the key leaves the label or ends in it, keys go with it as far as the label does
   pub reaches_within : (n : ℕ) → EndsWithin item q l n → Reaches item S q n
   reaches_within n ends = record {
     within = ends.common.within;
@@ -176,7 +177,7 @@ module _ (item : List ℕ → Type 0) (kind : IsKeyKind item) {V : Type 0} (l : 
     ];
   }
 
-  -- through the label
+  -- through the label keys go with it as far as the label, and as those below do
   pub reaches_through : (t : List ℕ) → Passes item q l t → (n : ℕ)
       → Reaches item (keys_of (own v ++ entries c)) t n → Reaches item S q (length l + n)
   reaches_through t passes n r = record {

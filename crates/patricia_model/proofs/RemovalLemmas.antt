@@ -28,7 +28,7 @@ module _ {V : Type 0} where
       by Equal f rest = absurd (h.0 (key_cmp-equal q e.0 f))
       by Greater f rest = rw f (ap (λ l. e ∷ l) rest)
 
-  -- behind a common front
+  -- the same bytes before a key and all keys leave the same others
   pub others-prefixed : (p q : List ℕ) (es : List (List ℕ × V))
       → others (p ++ q) (prefixed p es) ≡ prefixed p (others q es)
   others-prefixed p q [] = refl
@@ -93,7 +93,7 @@ module _ (item : List ℕ → Type 0) (kind : IsKeyKind item) {V : Type 0} where
   width_of_earned l (node m w d end) s ok = let first = first_of item m ok.child.valid ok.child.nonempty in absurd (ok.earns first.0 first.1 first.2 tt)
   width_of_earned l (node m w d (node m' w' d' t')) s ok = omega arith
 
-  -- a lone child that is taken in
+  -- a lone child under both labels keeps the invariant in the place of the node above
   pub taken_in_row : (l : List ℕ) (v : Option V) (m : List ℕ) (w : Option V) (d s : Siblings V)
       → IsValid item l → l ≢ [] → IsBeforeSiblings item l s → IsCanonical item s
       → IsCanonical item (node m w d end) → IsCanonical item (node (l ++ m) w d s)
@@ -119,6 +119,7 @@ module _ (item : List ℕ → Type 0) (kind : IsKeyKind item) {V : Type 0} where
 
 module _ (item : List ℕ → Type 0) (kind : IsKeyKind item) {V : Type 0} (l : List ℕ) (v : Option V)
     (c s : Siblings V) (ok : IsCanonical item (node l v c s)) where
+  -- removing a key that comes after the label removes it from the siblings alone
   pub others_past : (q : List ℕ) → IsBefore item l q
       → others q (entries (node l v c s)) ≡ prefixed l (own v ++ entries c) ++ others q (entries s)
   others_past q before = filter-append _ (prefixed l (own v ++ entries c)) (entries s) ∙ ap
@@ -135,6 +136,7 @@ module _ (item : List ℕ → Type 0) (kind : IsKeyKind item) {V : Type 0} (l : 
       → others q (entries (node l v c s)) ≡ entries (node l v c s)
   others_within q n ends = others_absent q _ (lacks_within item kind l v c s ok q n ends)
 
+  -- removing a key that begins with the label removes its rest from the node's own and children
   others_through : (q t : List ℕ) → Passes item q l t
       → others q (entries (node l v c s)) ≡ prefixed l (others t (own v ++ entries c)) ++ entries s
   others_through q t passes =
@@ -172,6 +174,7 @@ module _ (item : List ℕ → Type 0) (kind : IsKeyKind item) where
 
 -- the key was that of the first node
 module _ (item : List ℕ → Type 0) (kind : IsKeyKind item) {V : Type 0} where
+  -- without the value of its first node a row keeps the invariant
   pub row_first_removed : (r : Siblings V) → IsCanonical item r → IsCanonical item (without_first r)
   row_first_removed end ok = ok
   row_first_removed (node l None c s) ok = ok
@@ -188,6 +191,7 @@ module _ (item : List ℕ → Type 0) (kind : IsKeyKind item) {V : Type 0} where
         sibling = ok.sibling;
       }
 
+  -- and its entries are those of the node's children, and of the siblings
   left_first : (l : List ℕ) (v : Option V) (c s : Siblings V) → IsCanonical item (node l v c s)
       → entries (without_first (node l v c s)) ≡ prefixed l (entries c) ++ entries s
   left_first l None c s ok = refl
@@ -195,7 +199,7 @@ module _ (item : List ℕ → Type 0) (kind : IsKeyKind item) {V : Type 0} where
   left_first l (Some x) (node m w d end) s ok = taken_in_entries item kind l m w d s
   left_first l (Some x) (node m w d (node m' w' d' t')) s ok = refl
 
-  -- the entries of siblings whose first node lost its value
+  -- where the first node loses its value, the entries left are those of other keys
   pub entries_first_removed : (l : List ℕ) (v : Option V) (c s : Siblings V)
       (ok : IsCanonical item (node l v c s)) (q t : List ℕ) → Passes item q l t → t ≡ []
       → entries (without_first (node l v c s)) ≡ others q (entries (node l v c s))

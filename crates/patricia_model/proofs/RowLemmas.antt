@@ -36,19 +36,20 @@ module _ {V : Type 0} where
   AllKeys-prefixed P p all [] = tt
   AllKeys-prefixed P p all (e ∷ es) = (all e.0, AllKeys-prefixed P p all es)
 
-  -- a prefix before a prefix
+  -- bytes before bytes before keys are both before the keys
   pub prefixed-prefixed : (p q : List ℕ) (es : List (List ℕ × V))
       → prefixed p (prefixed q es) ≡ prefixed (p ++ q) es
   prefixed-prefixed p q [] = refl
   prefixed-prefixed p q (e ∷ es) = let key = append_assoc p q e.0 in let rest = prefixed-prefixed p q es in cc
 
-  -- a prefix before two lists
+  -- bytes before the keys of two lists are before those of both together
   pub prefixed-append : (p : List ℕ) (xs ys : List (List ℕ × V))
       → prefixed p (xs ++ ys) ≡ prefixed p xs ++ prefixed p ys
   prefixed-append p [] ys = refl
   prefixed-append p (x ∷ xs) ys = ap (λ r. (p ++ x.0, x.1) ∷ r) (prefixed-append p xs ys)
 
 module _ (item : List ℕ → Type 0) (kind : IsKeyKind item) where
+  -- what comes before a key comes before all that the key comes before
   pub IsBefore-trans : (a b c : List ℕ) → IsBefore item a b → IsBefore item b c → IsBefore item a c
   IsBefore-trans a b c x y =
       let same = begins_same item kind x.second y.first b x.second_item y.first_item x.second_begins y.first_begins in

@@ -22,6 +22,7 @@ use Rattle.patricia_model.proofs.GetLemmas.{find_own, find_child}
 use Rattle.patricia_model.proofs.InsertLemmas.{put_own, put_child}
 
 module _ {V : Type 0} where
+  -- a write to a map made of sorted rows is one to the rows
   pub from_sorted-put : (es : List (List ℕ × V)) (k : List ℕ) (v : V) → T (is_sorted key_cmp es)
       → insert (from_sorted {R = key_cmp} es) k v ≡ from_sorted (put key_cmp k v es)
   from_sorted-put es k v sorted =
@@ -36,6 +37,7 @@ module _ {V : Type 0} where
   len-from_sorted es sorted = len-entries (from_sorted es) ∙ ap length (entries-from_sorted key_cmp es sorted)
 
 module _ (item : List ℕ → Type 0) (kind : IsKeyKind item) {V : Type 0} where
+  -- the entries of a tree are in order, that of the empty key first
   pub tree_sorted : (v : Option V) (r : Siblings V) → IsCanonical item r
       → T (is_sorted key_cmp (own v ++ entries r))
   tree_sorted v r ok = sorted-append (own v) (entries r) (sorted_own item kind v) (entries_sorted item kind r ok) (below_own item kind v r ok)
@@ -73,17 +75,17 @@ module _ (item : List ℕ → Type 0) (kind : IsKeyKind item) {V : Type 0} where
       → get (map_of v r) q ≡ find key_cmp q (entries r)
   get_filled v r q ok nonempty = get-from_sorted key_cmp (own v ++ entries r) q (tree_sorted v r ok) ∙ find_child item kind q v r nonempty
 
-  -- the number of entries, with that of the empty key
+  -- a tree's map has as many entries as its siblings, and that of the empty key
   pub len_map : (v : Option V) (r : Siblings V) → IsCanonical item r
       → len (map_of v r) ≡ length (own v) + length (entries r)
   len_map v r ok = len-from_sorted (own v ++ entries r) (tree_sorted v r ok) ∙ length-append (own v) (entries r)
 
-  -- an insert at the empty key
+  -- a value at the empty key is inserted there
   pub insert_empty : (v : Option V) (r : Siblings V) (x : V) → IsCanonical item r
       → map_of (Some x) r ≡ insert (map_of v r) [] x
   insert_empty v r x ok = ap from_sorted (put_own item kind x v r ok) ∙ sym (from_sorted-put (own v ++ entries r) [] x (tree_sorted v r ok))
 
-  -- and one at another key
+  -- and a write to the entries of the siblings at another key is an insert there
   pub insert_filled : (v : Option V) (r r' : Siblings V) (q : List ℕ) (x : V) → IsCanonical item r
       → q ≢ [] → entries r' ≡ put key_cmp q x (entries r) → map_of v r' ≡ insert (map_of v r) q x
   insert_filled v r r' q x ok nonempty e = ap from_sorted
@@ -122,11 +124,11 @@ module _ (item : List ℕ → Type 0) (kind : IsKeyKind item) {V : Type 0} where
 pub entries_empty : (V : Type 0) → map.entries (empty {X = V} {R = key_cmp}) ≡ []
 entries_empty V = nil_from_length (map.entries (empty {X = V} {R = key_cmp})) (sym (len-entries (empty {X = V} {R = key_cmp})) ∙ len-empty key_cmp V)
 
--- the map of a new tree
+-- a tree without value and nodes stands for the empty map
 pub map_of_none : {V : Type 0} → map_of {V = V} None end ≡ empty
 map_of_none {V} = same_entries_map _ _ (entries-from_sorted key_cmp [] tt ∙ sym (entries_empty V))
 
--- a map over none is none
+-- mapping an option that has nothing gives none
 pub option_map_none : {A B : Type 0} (f : A → B) (o : Option A) → is_some o ≡ false
     → option_map f o ≡ None
 option_map_none f None e = refl
@@ -140,6 +142,7 @@ option_map_not_none f (Some x) e g = absurd (cc)
 
 -- a removal from a finite map that is made of sorted entries
 module _ {V : Type 0} where
+  -- the map of the rows of other keys is the map with the key removed
   from_sorted-others : (es : List (List ℕ × V)) (q : List ℕ) → T (is_sorted key_cmp es)
       → from_sorted {R = key_cmp} (others q es) ≡ remove (from_sorted es) q
   from_sorted-others es q sorted =
@@ -157,11 +160,12 @@ module _ {V : Type 0} where
           ∙ ap (λ r. cond (is_eq r) None o) (sym (nat_list_cmp_total.antisymm x q))
 
 module _ (item : List ℕ → Type 0) (kind : IsKeyKind item) {V : Type 0} where
+  -- without the empty key's value, a tree stands for the map with the empty key removed
   pub remove_empty : (v : Option V) (r : Siblings V) → IsCanonical item r
       → map_of None r ≡ remove (map_of v r) []
   remove_empty v r ok = ap from_sorted (sym (others_own item kind v r ok)) ∙ from_sorted-others (own v ++ entries r) [] (tree_sorted item kind v r ok)
 
-  -- a removal of a key that is not empty
+  -- siblings without the entry of a key stand for the map with that key removed
   pub remove_filled : (v : Option V) (r r' : Siblings V) (q : List ℕ) → IsCanonical item r → q ≢ []
       → entries r' ≡ others q (entries r) → map_of v r' ≡ remove (map_of v r) q
   remove_filled v r r' q ok nonempty e =

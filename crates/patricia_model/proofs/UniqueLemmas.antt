@@ -38,6 +38,7 @@ module _ {V : Type 0} where
       let rest = prefixed_cancel p xs ys tails in
       λ i. (key i, values i) ∷ rest i
 
+  -- two nodes with the same own entry have the same value
   own_same : (v w : Option V) → own v ≡ own w → v ≡ w
   own_same None None e = refl
   own_same None (Some y) e = absurd (cc)
@@ -46,6 +47,7 @@ module _ {V : Type 0} where
       let heads : ◌≡◌ {A = List ℕ × V} ([], x) ([], y) = cc in
       ap (λ (h : List ℕ × V). Some h.1) heads
 
+  -- the own entry of a node is at the empty key
   own_keys : (v : Option V) → AllKeys (λ k. k ≡ []) (own v)
   own_keys None = tt
   own_keys (Some x) = (refl, tt)

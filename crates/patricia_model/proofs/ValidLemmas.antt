@@ -41,6 +41,7 @@ All-follows P Q follows xs all = λ i d short. follows _ (all i d short)
 
 module _ (item : List ℕ → Type 0) (kind : IsKeyKind item) {V : Type 0} (v : Option V)
     (r : Siblings V) (ok : IsCanonical item r) where
+  -- each key of the map that a tree stands for is valid
   pub keys_valid : All (IsValid item) (keys (map_of v r))
   keys_valid = subst (All (IsValid item)) (sym (keys_map item kind v r ok))
       (all_keys item (IsValid item) _ (valid_own item v (entries r) (valid_entries item r ok)))

@@ -33,13 +33,13 @@ module _ {V : Type 0} where
       ap (λ l. l ++ prefixed (take f.0 path) (entries f.1)) (waiting-snoc path fs n r)
       ∙ append_assoc (prefixed (take n path) (entries r)) (waiting path fs) (prefixed (take f.0 path) (entries f.1))
 
-  -- a bound of all numbers, and of one more at the end
+  -- a bound of all numbers and of one more at the end bounds them all
   within_all-snoc : (m : ℕ) (fs : List (ℕ × Siblings V)) (n : ℕ) (r : Siblings V) → IsWithinAll m fs
       → m ≤ n → IsWithinAll m (fs ++ (n, r) ∷ [])
   within_all-snoc m [] n r h le = (le, tt)
   within_all-snoc m (f ∷ fs) n r h le = (h.0, within_all-snoc m fs n r h.1 le)
 
-  -- a bound of the last number, and of those before it
+  -- a bound of all numbers bounds the last, and those before it
   within_all-last : (m : ℕ) (fs : List (ℕ × Siblings V)) (n : ℕ) (r : Siblings V)
       → IsWithinAll m (fs ++ (n, r) ∷ []) → (m ≤ n) × IsWithinAll m fs
   within_all-last m [] n r h = (h.0, tt)
@@ -136,7 +136,7 @@ module _ (item : List ℕ → Type 0) {V : Type 0} where
         same = cc;
       }
 
-  -- the entries that are left, before and after the step to the children
+  -- the entries that are left are the same before the step to the children and after it
   left-down : (path l : List ℕ) (v : Option V) (c s : Siblings V) (fs : List (ℕ × Siblings V))
       → WaitsWithin item path fs
       → prefixed path (entries (node l v c s)) ++ waiting path fs ≡ prefixed (path ++ l)

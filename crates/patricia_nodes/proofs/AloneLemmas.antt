@@ -23,7 +23,7 @@ some_not_none None e n = absurd (false≢true e)
 some_not_none (Some x) e n = absurd (cc)
 
 module _ {V : Type 0} where
-  -- a row without its last link
+  -- where a link is none, no node is behind it
   pub plan_end : (nodes : List (Node V)) (at : Option ℕ) (p : Plan V) → IsPlan nodes at p
       → at ≡ None → p ≡ Nil
   plan_end nodes at Nil w e = refl
@@ -50,6 +50,7 @@ module _ {V : Type 0} where
   AllBeside (InSibling id l v c ∷ fs) = AllBeside fs
   AllBeside (InChild id l v d ∷ fs) = ⊥
 
+  -- a row in frames that are beside one another has a node more for each frame
   wide_beside : (near : List (Frame V)) (x : Plan V) → AllBeside near
       → width (row (fill near x)) ≡ length near + width (row x)
   wide_beside [] x s = omega arith
@@ -141,11 +142,12 @@ module _ {V : Type 0} where
 module _ {item : List ℕ → Type 0} (kind : IsKeyKind item) {V : Type 0} {s : NodeArena V}
     {link_ref : LinkRef} {id : ℕ} {fs : List (Frame V)} {l : List ℕ}
     {v : Option V} {c d : Plan V} (at : StandsAt item s link_ref id fs l v c d) where
-  -- no node is above
+  -- where no node is above, none has to keep its place
   pub alone_top : node_above link_ref ≡ None → Spares fs d
   alone_top none = spares_top fs d (sym (ap node_above at.link_ref_is ∙ node_above-link_ref_of fs) ∙ none)
 
   module _ {u : ℕ} (is : node_above link_ref ≡ Some u) where
+    -- the node above, with the frames from the place up to it and those past it
     pub up : Above fs u
     up = above fs u (sym (ap node_above at.link_ref_is ∙ node_above-link_ref_of fs) ∙ is)
 
@@ -153,9 +155,11 @@ module _ {item : List ℕ → Type 0} (kind : IsKeyKind item) {V : Type 0} {s : 
     abbrev pub inside : Plan V
     inside = fill up.near (Cell id l v c d)
 
+    -- the nodes stand for the plan with the node above and its row of children in it
     whole : Holds s (fill up.outer (Cell u up.label up.value inside up.beside))
     whole = subst (λ (p : Plan V). Holds s p) (up.nonempty (Cell id l v c d)) at.holds
 
+    -- what is read from the number of the node above is that node, and what is below and beside it
     upper_plan : IsPlan s.nodes.items (Some u) (Cell u up.label up.value inside up.beside)
     upper_plan = plan_within s.nodes.items s.root (Some u) up.outer _ whole.1.plan_ok refl
 
@@ -163,10 +167,12 @@ module _ {item : List ℕ → Type 0} (kind : IsKeyKind item) {V : Type 0} {s : 
     pub upper_within : u < length s.nodes.items
     upper_within = head_within s.nodes.items (Some u) _ u upper_plan refl
 
+    -- the row from the node above on keeps the invariant
     upper_ok : IsCanonical item (node up.label up.value (row inside) (row up.beside))
     upper_ok = row-within item up.outer _ (subst (λ (p : Plan V). IsCanonical item (row p)) (up.nonempty (Cell id l v c d)) at.canonical)
 
     module _ {n : Node V} (reads : n ≡ get_or s.nodes.items u n) where
+      -- the node above, as it is read, has the label and the value of the plan
       upper_is : n ≡ linked up.label up.value (head inside) (head up.beside)
       upper_is = node_is s.nodes.items u n _ upper_plan.stands.0 reads
 
@@ -174,11 +180,11 @@ module _ {item : List ℕ → Type 0} (kind : IsKeyKind item) {V : Type 0} {s : 
       pub inside_plan : IsPlan s.nodes.items n.child inside
       inside_plan = record { stands = upper_plan.stands.1; at_is = ap (λ (x : Node V). x.child) upper_is; fits = omega (arith, upper_plan.fits) }
 
-      -- the node above has a value
+      -- a node above that has a value keeps its place
       pub alone_valued : (n.value ≡ None → ⊥) → Spares fs d
       alone_valued some = up.spares d (λ none. absurd (some (ap (λ (x : Node V). x.value) upper_is ∙ none)))
 
-      -- or it has not just two children
+      -- and so does one that has not just two children
       pub alone_more : (width (row inside) ≡ 2 → ⊥) → Spares fs d
       alone_more not_two = up.spares d (λ none.
           let two = width_of_earned item kind up.label (row inside) (row up.beside)
@@ -192,15 +198,19 @@ module _ {item : List ℕ → Type 0} (kind : IsKeyKind item) {V : Type 0} {s : 
 
       -- or it has
       module _ (none : n.value ≡ None) (a b : ℕ) (exactly_two : IsPair inside a b) where
+        -- the node above has no value in the plan
         no_value : up.value ≡ None
         no_value = sym (ap (λ (x : Node V). x.value) upper_is) ∙ none
 
+        -- the frames are those beside the place, then that of the node above, then those past it
         frames_are : fs ≡ up.near ++ InChild u up.label None up.beside ∷ up.outer
         frames_are = up.is ∙ ap (λ w. up.near ++ InChild u up.label w up.beside ∷ up.outer) no_value
 
+        -- no number stands twice in the row that the place is in
         once : (i : ℕ) → count inside i ≤ 1
         once i = omega (arith, whole.1.once i, below_le (length s.nodes.items) i, count-fill up.outer (Cell u up.label up.value inside up.beside) i)
 
+        -- of the two children, the one that does not stand in the place is the other child
         found : (near : List (Frame V)) → AllBeside near
             → fs ≡ near ++ InChild u up.label None up.beside ∷ up.outer
             → ((i : ℕ) → count (fill near (Cell id l v c d)) i ≤ 1)

@@ -20,7 +20,7 @@ module _ {V : Type 0} where
   stands-within nodes (InChild id l v d ∷ fs) q s = (stands-within nodes fs (Cell id l v q d) s).1
   stands-within nodes (InSibling id l v c ∷ fs) q s = (stands-within nodes fs (Cell id l v c q) s).2
 
-  -- sizes and numbers add up
+  -- the nodes of a filled place are those of its frames and those in it
   pub size-fill : (fs : List (Frame V)) (q : Plan V) → size (fill fs q) ≡ size_frames fs + size q
   size-fill [] q = omega arith
   size-fill (InChild id l v d ∷ fs) q = omega (arith, size-fill fs (Cell id l v q d))
@@ -44,6 +44,7 @@ passed_filled item k [] t p nonempty none = nonempty (p.splits ∙ none)
 passed_filled item k (b ∷ l) t p nonempty none = let e = p.splits in absurd (cc)
 
 module _ (item : List ℕ → Type 0) {V : Type 0} where
+  -- where a whole row keeps the invariant, the row in the place does too
   pub row-within : (fs : List (Frame V)) (q : Plan V) → IsCanonical item (row (fill fs q))
       → IsCanonical item (row q)
   row-within [] q ok = ok
@@ -80,7 +81,7 @@ module _ (item : List ℕ → Type 0) (kind : IsKeyKind item) {V : Type 0} where
       (row_past item kind x l v (row c) (row q) inner rest (row p) before okp w)
       (put_past item kind x l v (row c) (row q) inner rest (row p) before w)
 
-  -- each frame is a step
+  -- a look-up makes a step for each frame, and then those in the place
   pub counted-fill : (fs : List (Frame V)) (q : Plan V) → IsCanonical item (row (fill fs q))
       → (key rest : List ℕ) → Leads item fs key rest → rest ≢ [] → (n m : ℕ)
       → IsCounted item (row q) rest (n + length fs) m → IsCounted item (row (fill fs q)) key n m

@@ -27,6 +27,7 @@ module _ {V : Type 0} (old freed : NodeArena V) (id : ℕ) (n : Node V) (f : Fre
       → IsChain old.nodes.items spare → old.free ≡ first spare → IsChain nodes (id ∷ spare)
   freed_chain nodes here k chain free_is = ((hollow, here, free_is), chain-keep old.nodes.items nodes spare k chain)
 
+  -- once the node is freed, an empty one with the link to the next free one is in its place
   bare_here : id < length old.nodes.items → slice_get bare id ≡ Some hollow
   bare_here short = get-set_same old.nodes.items id hollow short
 
@@ -35,6 +36,7 @@ module _ {V : Type 0} (old freed : NodeArena V) (id : ℕ) (n : Node V) (f : Fre
     abbrev leaf : Plan V
     leaf = Cell id l v Nil d
 
+    -- the nodes are sound without the first node of the top row, and its sibling is the root
     sound-unlink_root : IsSound old.nodes.items old.root old.free leaf spare
         → new.nodes.items ≡ freed.nodes.items → new.root ≡ head d
         → IsSound new.nodes.items new.root new.free d (id ∷ spare)
@@ -64,6 +66,7 @@ module _ {V : Type 0} (old freed : NodeArena V) (id : ℕ) (n : Node V) (f : Fre
       abbrev rest : ℕ → ℕ
       rest i = count_frames fs i + (count d i + (count o i + times spare i))
 
+      -- the node that is freed is not the one above or before it
       apart : id ≢ k
       apart e = omega (arith, sound.once id, counts id, below_le (length old.nodes.items) id, one-same id, ap (λ j. one j id) e)
 
@@ -74,24 +77,31 @@ module _ {V : Type 0} (old freed : NodeArena V) (id : ℕ) (n : Node V) (f : Fre
           let gone : rest id ≡ 0 = omega (arith, sound.once id, counts id, below_le (length old.nodes.items) id, one-same id) in
           get-set_other bare k i holder (λ e. some (ap rest e ∙ mine)) ∙ get-set_other old.nodes.items id i hollow (λ e. some (ap rest e ∙ gone))
 
+      -- the free nodes are linked, the new one first
       chained : IsChain final (id ∷ spare)
       chained = freed_chain final (get-set_other bare k id holder apart ∙ bare_here short) (λ i n. kept i (λ z. n (omega arith))) sound.chain sound.free_is
 
+      -- the node above or before it is written at its number
       held : slice_get final k ≡ Some holder
       held = get-set_same bare k holder (rw length-set k_short)
 
+      -- the vector is as long as before
       long : length final ≡ length old.nodes.items
       long = length-set bare k holder ∙ length-set old.nodes.items id hollow
 
+      -- the plan at that node's other link lies as before
       other_stands : LaidOut old.nodes.items o → LaidOut final o
       other_stands = stands-keep old.nodes.items final o (λ i n. kept i (λ z. n (omega arith)))
 
+      -- the siblings of the freed node lie as before
       rest_stands : LaidOut old.nodes.items d → LaidOut final d
       rest_stands = stands-keep old.nodes.items final d (λ i n. kept i (λ z. n (omega arith)))
 
+      -- the frames' nodes are as before
       framed : (i : ℕ) → count_frames fs i ≢ 0 → slice_get final i ≡ slice_get old.nodes.items i
       framed i n = kept i (λ z. n (omega arith))
 
+      -- freeing the node leaves the one above or before it as it was
       still_there : (m : Node V) → slice_get old.nodes.items k ≡ Some m
           → slice_get freed.nodes.items k ≡ Some m
       still_there m at = ap (λ xs. slice_get xs k) f.nodes_is ∙ get-set_other old.nodes.items id k hollow (λ e. apart (sym e)) ∙ at
@@ -173,6 +183,7 @@ module _ {V : Type 0} (old freed : NodeArena V) (id : ℕ) (n : Node V) (f : Fre
 
   -- the lower of two nodes, where the upper one takes its place
   module _ (u : ℕ) (l l' : List ℕ) (v : Option V) (m : List ℕ) (w : Option V) (e d : Plan V) where
+    -- the nodes are sound with the upper node in the place of both, and the lower one free
     pub sound-merge_only_child : (fs : List (Frame V))
         → IsSound old.nodes.items old.root old.free (fill fs (Cell u l v (Cell id m w e Nil) d)) spare
         → IsSound (set bare u (linked l' w (head e) (head d))) old.root (Some id)

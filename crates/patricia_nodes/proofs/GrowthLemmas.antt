@@ -11,11 +11,11 @@ use Rattle.patricia_nodes.proofs.PlanLemmas.{one-same}
 use Rattle.patricia_nodes.proofs.WriteLemmas.{get-set_same, get-set_other, chain-keep}
 
 module _ {V : Type 0} where
-  -- nothing is taken
+  -- where nothing changes no node is taken
   pub takes_none : (s : NodeArena V) → TakesNodes s s (λ i. 0) 0
   takes_none s = record { others = λ i z. refl; long = refl; root_is = refl; freed = λ spare free once. (spare, free, λ i. omega arith, omega arith) }
 
-  -- the same, counted otherwise
+  -- what is taken is the same, however it is counted
   pub takes_same : (old new : NodeArena V) (f g : ℕ → ℕ) (n m : ℕ) → ((i : ℕ) → f i ≡ g i) → n ≡ m
       → TakesNodes old new f n → TakesNodes old new g m
   takes_same old new f g n m e k t = record {
@@ -27,7 +27,7 @@ module _ {V : Type 0} where
         (l.0, l.1, λ i. omega (arith, l.2 i, e i), omega (arith, l.3, k));
   }
 
-  -- one after the other
+  -- what is taken first and what is taken then are taken together
   pub takes_more : (a b c : NodeArena V) (f g : ℕ → ℕ) (n m : ℕ) → TakesNodes a b f n
       → TakesNodes b c g m → TakesNodes a c (λ i. f i + g i) (n + m)
   takes_more a b c f g n m t u = record {
@@ -147,6 +147,7 @@ module _ {V : Type 0} where
       (numbers : (d : Plan V) → n.sibling ≡ head d → number ≡ head
       (numbered_siblings (suc (length to)) d))
       (pushed : to' ≡ to ++ linked n.label n.value n.child number ∷ []) where
+    -- the node that moves is the one that is freed, and all others are as before
     one_taken : TakesNodes from later (λ i. one id i) 1
     one_taken = takes_one from later id n frees
 

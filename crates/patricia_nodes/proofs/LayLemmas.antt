@@ -11,20 +11,23 @@ use Rattle.patricia_nodes.proofs.WriteLemmas.{get-set_same, get-set_other}
 use Rattle.patricia_nodes.proofs.GrowthLemmas.{takes_none, takes_same, takes_more}
 use Rattle.patricia_nodes.proofs.RelayLemmas.{Mix, flat, first_of, flat_first, Lies, IsUpTo, news, olds, waits, OpenAt, opened, step, row-opened, size-opened, first-opened, olds-below, waits-opened, waits-below, count-parts, below-keep, news-opened, up_to-opened, row-step, size-step, first-step, step-moves, open_exists, opens_at, open_within, top_row, tops_within, up_to-step, lies-opened, length-laid, lies-step, lies_done}
 
+-- a number that is not below a length counts as none below it
 below_out : (n at : ℕ) → n ≤ at → below n at ≡ 0
 below_out n at h = grind (arith, nat_tests)
 
+-- where the numbers had their turn up to the length, the next one is the length
 all_turns : (i n : ℕ) → i ≤ n → n ≤ i → i ≡ n
 all_turns i n a b = omega arith
 
 module _ {V : Type 0} where
-  -- the first of two lists
+  -- an item of the first of two lists has the same place in both together
   get_front : (xs ys : List (Node V)) (i : ℕ) → i < length xs
       → slice_get (xs ++ ys) i ≡ slice_get xs i
   get_front [] ys i h = absurd (omega arith)
   get_front (x ∷ xs) ys zero h = refl
   get_front (x ∷ xs) ys (suc i) h = get_front xs ys i (omega arith)
 
+  -- two nodes at the same number are one
   same_node : {a b : Node V} → Some a ≡ Some b → a ≡ b
   same_node e = cc
 
@@ -46,7 +49,7 @@ module _ {V : Type 0} where
       → IsSound nodes root free p spare → (at : ℕ) → count p at ≤ 1
   counted_once nodes root free p spare sound at = omega (arith, sound.once at, below_le (length nodes) at)
 
-  -- the top row is there
+  -- once the top row is laid, the turn is that of its first node
   pub laying_start : (p : Plan V) (from to : List (Node V)) → IsLaid from to p
       → Laying p from 0 to (head (numbered_siblings 0 p))
   laying_start p from to l =
@@ -93,12 +96,13 @@ module _ {V : Type 0} where
         room = omega (arith, l.sized, within.0, (tops_within w).0);
       }
 
-  -- as the node is read
+  -- the row from the child's number of the node that is read is the next one
   pub next_top : (p : Plan V) (from : List (Node V)) (i : ℕ) (to : List (Node V)) (mix : Mix V)
       (next : NextRow p from i to mix) (n : Node V) → n ≡ get_or to i n
       → IsTopRow from n.child next.row
   next_top p from i to mix next n reads = rw (node_is to i n next.parent next.there reads) next.top
 
+  -- with the children of node i behind the others, the laying goes on at the number after i
   laying_on : (p : Plan V) (from later : List (Node V)) (i : ℕ) (to final : List (Node V))
       (root : Option ℕ) (l : Laying p from i to root) → i < length to
       → (next : NextRow p from i to l.mix)
@@ -191,6 +195,7 @@ module _ {V : Type 0} where
     pub laying : Laying w now.nodes.items i to (head (numbered_siblings 0 w))
     pub emptied : Emptied old w laying.mix now
 
+  -- at first nothing is taken from the old nodes but the top row
   emptied_start : (s : NodeArena V) (w : Plan V) → Emptied s w (opened 0 w) s
   emptied_start s w = record {
     counts = λ at. 0;
@@ -200,6 +205,7 @@ module _ {V : Type 0} where
     sized = omega (arith, waits-below 0 w);
   }
 
+  -- once a row more has moved, its nodes are free in the old vector
   emptied_next :
       (old : NodeArena V) (w : Plan V) (q : Mix V) (from later : NodeArena V) (i n : ℕ) (r : Plan V)
       → news q i ≤ 1 → OpenAt i q r → TakesRow from later r → Emptied old w q from

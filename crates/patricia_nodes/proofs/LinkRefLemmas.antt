@@ -11,6 +11,7 @@ use Rattle.patricia_nodes.specs.Internal.Writes.{LinkRefWithin, HasLinkRef}
 use Rattle.patricia_nodes.proofs.FillLemmas.{stands-within}
 
 module _ {V : Type 0} where
+  -- the node at the spot of a place is in the vector
   spot_within : (nodes : List (Node V)) (fs : List (Frame V)) (q : Plan V)
       → LaidOut nodes (fill fs q) → LinkRefWithin (link_ref_of fs) (length nodes)
   spot_within nodes [] q s = tt

@@ -20,7 +20,7 @@ use Rattle.patricia_nodes.proofs.SeekLemmas.{Sought, find_some, here_within}
 use Rattle.patricia_nodes.proofs.ValueLemmas.{puts_here}
 use Rattle.patricia_nodes.specs.Internal.Loans.{value_in, value_of, with_value, HasValueNode}
 
--- a value that is there
+-- an option that is found to have a value has one
 some_of : {A : Type 0} (o : Option A) → is_some o ≡ true → (x : A) × (o ≡ Some x)
 some_of None e = absurd (cc)
 some_of (Some x) e = (x, refl)
@@ -52,10 +52,11 @@ same_vec {X} v xs is =
 
 module _ {V : Type 0} (s : NodeArena V) (id at : ℕ) (same : at ≡ id)
     (within : id < vec_len s.nodes) (n : Node V) (reads : n ≡ get_or s.nodes.items at n) where
+  -- at the number is the node that is read
   there : slice_get s.nodes.items id ≡ Some n
   there = slice_get_read s.nodes.items (vec_len s.nodes) id n s.nodes.ok.0 within (rw same at reads)
 
-  -- the value that is lent
+  -- the value that is lent is that of the node with the number
   pub lent_value : n.value ≡ value_of s id
   lent_value = ap value_in (sym there)
 

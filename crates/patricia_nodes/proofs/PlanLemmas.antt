@@ -41,7 +41,7 @@ module _ {V : Type 0} where
       → IsSound nodes root free p spare → IsPlan nodes root (plan_at nodes root)
   plan_read nodes root free p spare sound = rw (plan_is nodes root p sound.plan_ok) sound.plan_ok
 
-  -- no nodes
+  -- a vector without nodes is sound, with an empty plan and nothing free
   pub sound_none : (nodes : List (Node V)) → nodes ≡ [] → IsSound nodes None None Nil []
   sound_none nodes e = rw e (record {
     plan_ok = record { stands = tt; at_is = refl; fits = omega arith };
@@ -56,7 +56,7 @@ module _ {V : Type 0} where
       → n ≡ get_or nodes id n → n ≡ m
   node_is nodes id n m there reads = reads ∙ get_or_from_slice_get nodes id m n there
 
--- a test that found nothing
+-- an option that is found to have no value is none
 pub not_some : {A : Type 0} (o : Option A) → false ≡ is_some o → o ≡ None
 not_some None e = refl
 not_some (Some n) e = absurd (false≢true e)

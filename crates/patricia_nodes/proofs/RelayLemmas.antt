@@ -19,6 +19,7 @@ other_number id i none = by (nat_eq id i) refl
     by true e = absurd (let no : (if true then 1 else 0) ≡ 0 = rw e at none in omega arith)
     by false e = e
 
+-- a number is found equal to itself
 same_number : (i : ℕ) → nat_eq i i ≡ true
 same_number i = grind (arith, nat_tests)
 
@@ -271,6 +272,7 @@ module _ {V : Type 0} where
   pub count-parts : (w : Plan V) (at : ℕ) → count_below w at + times (tops w) at ≡ count w at
   count-parts w at = omega (arith, olds-opened 0 w at, olds-below 0 w at)
 
+  -- where a plan lies in the nodes, so does its top row
   rows_stand : (nodes : List (Node V)) (w : Plan V) → LaidOut nodes w → RowStands nodes w
   rows_stand nodes Nil s = tt
   rows_stand nodes (Cell id l v c d) s = (s.0, rows_stand nodes d s.2)
@@ -313,11 +315,12 @@ module _ {V : Type 0} where
   length-laid n Nil = refl
   length-laid n (Cell id l v c d) = omega (arith, length-laid (suc n) d)
 
+  -- right behind a list of nodes is the next one
   get-behind : (xs ys : List (Node V)) (y : Node V) → slice_get (xs ++ y ∷ ys) (length xs) ≡ Some y
   get-behind [] ys y = refl
   get-behind (x ∷ xs) ys y = get-behind xs ys y
 
-  -- what is below a row that stands, and is not touched
+  -- where nodes below a row that stands are not touched, they still stand
   pub below-keep : (from later : List (Node V)) (w : Plan V)
       → ((at : ℕ) → count_below w at ≢ 0 → slice_get later at ≡ slice_get from at) → LaidOut from w
       → BelowStands later w
@@ -354,6 +357,7 @@ module _ {V : Type 0} where
     abbrev stepped : Mix V → Mix V
     stepped q = step i (length to) q
 
+    -- a part of the plan without node i lies as before, since its nodes did not change
     still : (q : Mix V) → news q i ≡ 0 → ((at : ℕ) → news q at ≢ 0 → at < length to)
         → ((at : ℕ) → olds (stepped q) at ≢ 0 → slice_get later at ≡ slice_get from at)
         → Lies from to q → Lies later final (stepped q)
@@ -363,6 +367,7 @@ module _ {V : Type 0} where
         (λ at n. others at (short at n) (λ e. n (ap (news q) e ∙ none)))
         (λ at n. o at (λ e. n (ap (λ r. olds r at) (sym same) ∙ e))) lies)
 
+    -- a node other than i is as before
     own : (id : ℕ) (n m : Node V) → id < length to → one id i ≡ 0 → slice_get to id ≡ Some n → n ≡ m
         → slice_get final id ≡ Some m
     own id n m short none at e = others id short (λ z. absurd (omega (arith, none, ap (λ k. one k i) z, one-same i))) ∙ at ∙ ap (λ x. Some x) e

@@ -108,7 +108,7 @@ node_above-link_ref_of (InChild id l v d ∷ fs) = refl
 node_above-link_ref_of (InSibling id l v c ∷ fs) = refl
 
 module _ (item : List ℕ → Type 0) (kind : IsKeyKind item) {V : Type 0} where
-  -- how a look-up ends decides what is found
+  -- where a look-up ends at no node, nothing is found in the place
   found_stop : (focus : Plan V) → IsCanonical item (row focus) → (rest : List ℕ) (matched : Match)
       → Matches item focus rest matched → node_of matched ≡ None
       → find key_cmp rest (entries (row focus)) ≡ None
@@ -117,7 +117,7 @@ module _ (item : List ℕ → Type 0) (kind : IsKeyKind item) {V : Type 0} where
   found_stop (Cell id l v c d) ok rest (InsideLabel i n) h none = find_within item kind l v (row c) (row d) ok rest n h.1
   found_stop (Cell id l v c d) ok rest (Exact i) h none = absurd (cc)
 
-  -- and what is counted
+  -- and a step is counted for the node at the place, if there is one
   counted_stop : (focus : Plan V) → IsCanonical item (row focus) → (rest : List ℕ) → rest ≢ []
       → (matched : Match) → Matches item focus rest matched → (n m : ℕ) → m ≡ n + ticks focus
       → IsCounted item (row focus) rest n m
@@ -130,7 +130,7 @@ module _ (item : List ℕ → Type 0) (kind : IsKeyKind item) {V : Type 0} where
 
 module _ {item : List ℕ → Type 0} (kind : IsKeyKind item) {V : Type 0} {s : NodeArena V}
     {key : List ℕ} (whole : IsWellFormed s) (ok : IsCanonical item (siblings_of s)) where
-  -- the walk begins at the top
+  -- at first the walk is at the top, with all of the key left
   pub walks_root : (start : ℕ) → key ≢ [] → Walks item s key Root s.root key start start
   walks_root start some = record {
     frames = [];
@@ -144,15 +144,19 @@ module _ {item : List ℕ → Type 0} (kind : IsKeyKind item) {V : Type 0} {s : 
   }
 
   module _ {link_ref : LinkRef} {at : Option ℕ} {rest : List ℕ} {start now : ℕ} (w : Walks item s key link_ref at rest start now) where
+    -- what is read from the link that is reached is the plan in the place
     focus_plan : IsPlan s.nodes.items at w.focus
     focus_plan = plan_within s.nodes.items s.root at w.frames w.focus (rw w.fills (whole_plan s whole)) w.at_is
 
+    -- the whole row, with the place filled, keeps the invariant
     filled_row : IsCanonical item (row (fill w.frames w.focus))
     filled_row = rw w.fills ok
 
+    -- the row in the place keeps the invariant
     focus_row : IsCanonical item (row w.focus)
     focus_row = row-within item w.frames w.focus filled_row
 
+    -- where the look-up ends so, the walk has reached the place of the key
     placed : (matched : Match) → Matches item w.focus rest matched
         → Placed item s key link_ref at rest matched
     placed matched h = record {
@@ -166,6 +170,7 @@ module _ {item : List ℕ → Type 0} (kind : IsKeyKind item) {V : Type 0} {s : 
       is_match = h;
     }
 
+    -- the steps are as many as the nodes that a look-up of the key meets
     counted : (matched : Match) → Matches item w.focus rest matched → (m : ℕ)
         → m ≡ now + ticks w.focus → IsCounted item (siblings_of s) key start m
     counted matched h m e =
@@ -173,23 +178,26 @@ module _ {item : List ℕ → Type 0} (kind : IsKeyKind item) {V : Type 0} {s : 
         (counted-fill item kind w.frames w.focus filled_row key rest w.leads w.rest_nonempty start m
         (counted_stop item kind w.focus focus_row rest w.rest_nonempty matched h (start + length w.frames) m (e ∙ ap (λ k. k + ticks w.focus) w.ticked)))
 
+    -- where there is no number, no node is left in the row
     nothing : (p : Plan V) → IsPlan s.nodes.items at p → at ≡ None → p ≡ Nil
     nothing Nil q e = refl
     nothing (Cell id l v c d) q e = let h = q.at_is in absurd (cc)
 
-    -- past the last node
+    -- past the last node the key has its place, at which no node is
     pub ends_placed : at ≡ None → Placed item s key link_ref at rest Absent
     ends_placed e = let nil = nothing w.focus focus_plan e in placed Absent (rw nil refl)
 
-    -- where no step more is counted
+    -- and no step more is counted there
     pub ends_counted : at ≡ None → IsCounted item (siblings_of s) key start now
     ends_counted e = let nil = nothing w.focus focus_plan e in counted Absent (rw nil refl) now (rw nil (omega arith))
 
     module _ {id : ℕ} (is : at ≡ Some id) where
+      -- the node that is next is in the vector
       pub in_nodes : id < length s.nodes.items
       in_nodes = head_within s.nodes.items at w.focus id focus_plan is
 
       module _ {n : Node V} (reads : n ≡ get_or s.nodes.items id n) where
+        -- the node as it is read, with the plans of its children and of its siblings
         pub opens : Opened s.nodes.items w.focus id n
         opens = opened s.nodes.items at w.focus id n focus_plan is reads
 
@@ -198,7 +206,7 @@ module _ {item : List ℕ → Type 0} (kind : IsKeyKind item) {V : Type 0} {s : 
             IsCanonical item (node n.label n.value (row opens.child) (row opens.sibling))
         opens_row = subst (λ (p : Plan V). IsCanonical item (row p)) opens.is focus_row
 
-        -- at the node
+        -- where the look-up ends at the node, the key has its place there
         pub stops_placed : (matched : Match) → MatchesAt item id n.label rest matched
             → Placed item s key link_ref at rest matched
         stops_placed matched h = placed matched (rw opens.is h)
@@ -208,7 +216,7 @@ module _ {item : List ℕ → Type 0} (kind : IsKeyKind item) {V : Type 0} {s : 
             → m ≡ now + 1 → IsCounted item (siblings_of s) key start m
         stops_counted matched h m e = counted matched (rw opens.is h) m (rw opens.is e)
 
-        -- on to the sibling
+        -- past a node that comes before the key, the walk is at the sibling
         pub walks_next : (m : ℕ) → m ≡ now + 1 → (above : Option ℕ) → above ≡ node_above link_ref
             → IsBefore item n.label rest
             → Walks item s key (Sibling id above) n.sibling rest start m
@@ -223,7 +231,7 @@ module _ {item : List ℕ → Type 0} (kind : IsKeyKind item) {V : Type 0} {s : 
           ticked = omega (arith, w.ticked);
         }
 
-        -- down to the children
+        -- through a node whose label the key passes, the walk is at the children
         pub walks_down : (m : ℕ) → m ≡ now + 1 → (left : List ℕ) → Passes item rest n.label left
             → left ≢ [] → Walks item s key (Child id) n.child left start m
         walks_down m e left h some = record {
@@ -237,7 +245,7 @@ module _ {item : List ℕ → Type 0} (kind : IsKeyKind item) {V : Type 0} {s : 
           ticked = omega (arith, w.ticked);
         }
 
-        -- less is left there
+        -- from the node on there are itself, the nodes below it and those beside it
         measure : size (plan_at s.nodes.items at) ≡ suc (size opens.child + size opens.sibling)
         measure = ap size (plan_is s.nodes.items at w.focus focus_plan ∙ opens.is)
 
@@ -282,6 +290,7 @@ module _ {item : List ℕ → Type 0} {V : Type 0} {s : NodeArena V} {key : List
   pub focus_plan_at : IsPlan s.nodes.items at p.focus
   focus_plan_at = plan_within s.nodes.items s.root at p.frames p.focus place_plan p.at_is
 
+  -- what the entries of the whole row have at the key, those in the place have at the rest of it
   found : find key_cmp key (entries (siblings_of s)) ≡ find key_cmp rest (entries (row p.focus))
   found = ap (λ (q : Plan V). find key_cmp key (entries (row q))) (sym p.fills) ∙ find-fill item kind p.frames p.focus place_row key rest p.leads
 

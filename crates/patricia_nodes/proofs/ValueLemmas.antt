@@ -31,7 +31,7 @@ module _ {item : List ℕ → Type 0} {V : Type 0} {s : NodeArena V} {key : List
   pub focus_ok : IsCanonical item (row p.focus)
   focus_ok = row-within item p.frames p.focus (place_row sought)
 
-  -- a write in the place
+  -- what is a write to the row in the place is an insert into the nodes
   pub puts : (new : NodeArena V) (x : V) (focus : Plan V) → Holds new (fill p.frames focus)
       → IsCanonical item (row focus)
       → entries (row focus) ≡ put key_cmp rest x (entries (row p.focus)) → Puts item s new key x
@@ -46,6 +46,7 @@ module _ {item : List ℕ → Type 0} {V : Type 0} {s : NodeArena V} {key : List
 
   -- at the node of the key
   module _ (id : ℕ) (is : node_of matched ≡ Some id) (r : Node V) (reads : r ≡ get_or s.nodes.items id r) where
+    -- the node of the key as it is read, with the plans of its children and of its siblings
     here : Opened s.nodes.items p.focus id r
     here = opened s.nodes.items at p.focus id r (focus_plan_at sought) (p.at_is ∙ stop_at item rest p.focus id matched p.is_match is) reads
 

@@ -8,7 +8,7 @@ use Rattle.patricia_nodes.specs.Internal.Places.{Frame, InChild, InSibling, fill
 use Rattle.patricia_nodes.proofs.PlanLemmas.{one-same, below_le, node_is}
 use Rattle.patricia_nodes.proofs.FillLemmas.{stands-within, size-fill, count-fill}
 
--- a list after a write, and after a push
+-- at the index of a write is the item that was written
 pub get-set_same : {X : Type 0} (xs : List X) (i : ℕ) (x : X) → i < length xs
     → slice_get (set xs i x) i ≡ Some x
 get-set_same [] i x h = absurd (omega arith)
@@ -101,7 +101,7 @@ module _ {V : Type 0} where
     total = omega (arith, sound.total, size-fill fs q, size-fill fs p, sized);
   }
 
-  -- another label and value at a node of the plan
+  -- with another label and value at a node of the plan, the nodes are sound
   pub sound-write : (nodes : List (Node V)) (root free : Option ℕ) (fs : List (Frame V)) (id : ℕ)
       (l l' : List ℕ) (v v' : Option V) (c d : Plan V) (spare : List ℕ)
       → IsSound nodes root free (fill fs (Cell id l v c d)) spare
@@ -149,12 +149,12 @@ module _ {V : Type 0} where
 
 module _ {V : Type 0} (s : NodeArena V) (id : ℕ) (r : Node V)
     (reads : r ≡ get_or s.nodes.items id r) where
-  -- a node of the plan, as it is read
+  -- a node of the plan is read with its label, its value and its links
   pub read_at : (fs : List (Frame V)) (l : List ℕ) (v : Option V) (c d : Plan V)
       → Holds s (fill fs (Cell id l v c d)) → r ≡ linked l v (head c) (head d)
   read_at fs l v c d h = node_is s.nodes.items id r _ (stands-within s.nodes.items fs (Cell id l v c d) h.1.plan_ok.stands).0 reads
 
-  -- a write of its label and its value
+  -- with another label and value there, the nodes stand for the plan that has them
   pub holds_write : (fs : List (Frame V)) (l l' : List ℕ) (v v' : Option V) (c d : Plan V)
       → Holds s (fill fs (Cell id l v c d))
       → (spare : List ℕ) × IsSound (set s.nodes.items id (linked l' v' r.child r.sibling)) s.root s.free (fill fs (Cell id l' v' c d)) spare

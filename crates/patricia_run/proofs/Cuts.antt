@@ -7,23 +7,25 @@ use Rattle.std.proofs.lemmas.List.{take_all, length-drop}
 use Rattle.std.proofs.lemmas.Bool.{cond-true, cond-false, cases_Bool, ne_eqb}
 use Rattle.patricia_run.specs.Text.{without_last_empty, lines_of}
 
+-- a test that never holds is false
 false_unless : (b : Bool) → ¬ (b ≡ true) → b ≡ false
 false_unless true never = absurd (never refl)
 false_unless false never = refl
 
 module _ (p : ℕ → Bool) where
+  -- a byte at which a text is not cut begins its first part
   split-no : (x : ℕ) (xs : List ℕ) → ¬ (p x ≡ true)
       → slice_split p (x ∷ xs) ≡ onto_first x (slice_split p xs)
   split-no x xs never = cond-false (p x) _ _ (false_unless (p x) never)
 
-  -- no byte passes the test
+  -- a text none of whose bytes passes the test is one piece
   pub split_none : (xs : List ℕ) → ((i : ℕ) → i < length xs → ¬ (p (get_or xs i 0) ≡ true))
       → slice_split p xs ≡ xs ∷ []
   split_none [] none = refl
   split_none (x ∷ xs) none =
       split-no x xs (none 0 (omega arith)) ∙ ap (onto_first x) (split_none xs (λ i less. none (suc i) (omega (arith, less))))
 
-  -- the first byte that passes the test
+  -- a text is cut at the first byte that passes the test, and then what is behind it
   pub split_first : (xs : List ℕ) (k : ℕ) → k < length xs
       → ((i : ℕ) → i < k → ¬ (p (get_or xs i 0) ≡ true)) → p (get_or xs k 0) ≡ true
       → slice_split p xs ≡ take k xs ∷ slice_split p (drop (suc k) xs)

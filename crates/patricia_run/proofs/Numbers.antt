@@ -12,7 +12,7 @@ pub digits_value_after-ge : (n : ℕ) (bs : List ℕ) → n ≤ digits_value_aft
 digits_value_after-ge n [] = omega arith
 digits_value_after-ge n (b ∷ bs) = omega (arith, digits_value_after-ge (n * 10 + digit_value b) bs)
 
--- one more digit
+-- a number goes on with its next digit, behind ten times what it was
 pub after_drop : (bs : List ℕ) (i n : ℕ) → i < length bs
     → digits_value_after 10 n (drop i bs) ≡ digits_value_after 10 (n * 10 + digit_value (get_or bs i 0))
     (drop (i + 1) bs)

@@ -10,6 +10,7 @@ OnErr-from (Ok x) p = tt
 OnErr-from (Err e) p = p
 
 module _ {K V : Type 0} (key_of : K → List ℕ) where
+  -- one more row comes last, with the bytes of its key
   by_bytes-append : (rows : List (K × V)) (row : K × V)
       → by_bytes key_of (rows ++ row ∷ []) ≡ by_bytes key_of rows ++ (key_of row.0, row.1) ∷ []
   by_bytes-append [] row = refl

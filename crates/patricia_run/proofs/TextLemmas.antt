@@ -22,6 +22,7 @@ read_text key_of Q field (Err e) h = by (is_utf8 field) refl
     by false f = refl
 
 module _ (s : KeyFormat) (a b c d : List ℕ) (more : List (List ℕ)) where
+  -- three fields after the word are too many for any command, whatever the third and later hold
   after-many : (shape : Shape)
       → parse_command s shape (a ∷ b ∷ c ∷ more) ≡ parse_command s shape (a ∷ b ∷ d ∷ [])
   after-many (alone command) = refl

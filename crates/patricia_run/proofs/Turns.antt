@@ -16,6 +16,7 @@ use Rattle.patricia_run.specs.Internal.Turns.{AnswersFrom}
 
 module _ {K : Type 0} (item : List ℕ → Type 0) (s : KeyFormat) (key_of : K → List ℕ)
     (old mid new : State ℕ) (rest : List Parsed) (first later : List ℕ) where
+  -- a line with a fault writes its text first, then what the other lines write
   fault_first : (fault : Fault) (replies : List (Reply K ℕ)) → Run item key_of old [] replies mid
       → first ≡ fault_line fault ++ output_of s key_of [] replies
       → AnswersFrom item s key_of mid rest later new
@@ -27,6 +28,7 @@ module _ {K : Type 0} (item : List ℕ → Type 0) (s : KeyFormat) (key_of : K �
   )
   fault_first fault (r ∷ rs) run is more = absurd run
 
+  -- a line with a command writes its reply first, then what the other lines write
   reply_first : (command : Command (List ℕ) ℕ) (replies : List (Reply K ℕ))
       → Run item key_of old (command ∷ []) replies mid
       → first ≡ output_of s key_of (Ok command ∷ []) replies
@@ -40,7 +42,7 @@ module _ {K : Type 0} (item : List ℕ → Type 0) (s : KeyFormat) (key_of : K �
   )
   reply_first command (r ∷ q ∷ rs) run is more = absurd run.2
 
-  -- what is written for a line, and then for the lines after it
+  -- the first line's answer, and then those of the lines after it, answer them all
   pub line_first : (said : Parsed) → AnswersFrom item s key_of old (said ∷ []) first mid
       → AnswersFrom item s key_of mid rest later new
       → AnswersFrom item s key_of old (said ∷ rest) (first ++ later) new
@@ -48,7 +50,7 @@ module _ {K : Type 0} (item : List ℕ → Type 0) (s : KeyFormat) (key_of : K �
   line_first (Ok command) one more = reply_first command one.0 one.1 one.2 more
 
 module _ {K : Type 0} (item : List ℕ → Type 0) (s : KeyFormat) (key_of : K → List ℕ) where
-  -- what is written for the line of a command
+  -- the line of a command is answered by the text of its reply
   pub reply_alone :
       (old new : State ℕ) (said : Parsed) (command : Command (List ℕ) ℕ) (reply : Reply K ℕ)
       → Ok command ≡ said → Step item key_of old command reply new
@@ -57,7 +59,7 @@ module _ {K : Type 0} (item : List ℕ → Type 0) (s : KeyFormat) (key_of : K �
       subst (λ (x : Parsed). AnswersFrom item s key_of old (x ∷ []) (reply_lines s key_of reply)
       new) is (reply ∷ [], (new, step, refl), sym (append-nil (reply_lines s key_of reply)))
 
-  -- what is written for a faulty line
+  -- a faulty line is answered by the text of its fault, and changes nothing
   pub fault_alone : (old : State ℕ) (said : Parsed) (fault : Fault) → Err fault ≡ said
       → AnswersFrom item s key_of old (said ∷ []) (fault_line fault) old
   fault_alone old said fault is =
@@ -82,7 +84,7 @@ module _ {K : Type 0} (item : List ℕ → Type 0) (s : KeyFormat) (key_of : K �
       ap (λ o. o ++ later) nothing ∙ more.2 ∙ ap (λ ls. output_of s key_of (map (parse_line s) ls) more.0) all,
     )
 
-    -- a line is answered
+    -- once a line is answered, its answer is written and the rest is left
     pub completes_more :
         (old mid : State ℕ) (line : List ℕ) (lines rest : List (List ℕ)) (out first longer : List ℕ)
         → lines ≡ line ∷ rest → longer ≡ out ++ first
@@ -95,7 +97,7 @@ module _ {K : Type 0} (item : List ℕ → Type 0) (s : KeyFormat) (key_of : K �
         (sym (ap (λ o. o ++ later) written ∙ append_assoc out first later))
         (whole (first ++ later) new from)
 
-    -- no line is left
+    -- where no line is left, the input is answered
     pub completes_last : (bench : State ℕ) (lines : List (List ℕ)) (out : List ℕ) → lines ≡ []
         → Completes bench lines out → Answers item s key_of input out
     completes_last bench lines out none whole =

@@ -6,7 +6,7 @@ use Rattle.std.specs.Iterator.{Yields}
 use Rattle.patricia_core.specs.Keys.{key_cmp}
 use Rattle.patricia_tree.specs.Bulk.{insert_all, by_bytes, IsStoppedAt}
 
--- a pair that is inserted last
+-- with one more pair, all pairs but it are inserted, and then it
 insert_all_more : {Q V : Type 0} (bytes : Q → List ℕ) (m : map.FinMap key_cmp V)
     (pairs : List (Q × V)) (pair : Q × V)
     → insert_all m (by_bytes bytes (pairs ++ pair ∷ [])) ≡ map.insert (insert_all m (by_bytes bytes pairs))

@@ -14,10 +14,12 @@ use Rattle.patricia_model.specs.Prefixes.{begins, under}
 use Rattle.patricia_tree.proofs.FoundLemmas.{find_has, has_filter}
 
 module _ {V : Type 0} where
+  -- the first of some rows is one of them
   has_first : (rows : List (List ℕ × V)) (e : List ℕ × V) → slice_get rows 0 ≡ Some e → Has rows e
   has_first [] e is = absurd (cc)
   has_first (x ∷ rows) e is = inl (let same : x ≡ e = cc in same)
 
+  -- a row behind a key is one of the rows
   has_after : (o : Option (List ℕ)) (rows : List (List ℕ × V)) (e : List ℕ × V)
       → Has (after o rows) e → Has rows e
   has_after None rows e h = h
@@ -48,7 +50,7 @@ module _ {V : Type 0} where
             is_next = λ v guard. row ∙ (let both = sym there ∙ guard in cc);
           }
 
-  -- the same without the key
+  -- and where a row is next, its value is lent, whatever its key
   pub is_next_value : (s : CursorView V) → next_row s ≢ None → IsNextValue s
   is_next_value s some = by (next_row s) refl some
     where

@@ -11,14 +11,17 @@ use Rattle.std.specs.FinMap.Entries.{below_all}
 use Rattle.patricia_keys.specs.Keys.{key_cmp}
 use Rattle.patricia_model.specs.Points.{Has}
 
+-- of two tests that hold, the first holds
 first_of : (a b : Bool) → T (a && b) → T a
 first_of true b h = tt
 first_of false b h = h
 
+-- and so does the second
 second_of : (a b : Bool) → T (a && b) → T b
 second_of true b h = h
 second_of false b h = absurd h
 
+-- an order that is tested to be less is less
 lt_is : (o : Ordering) → T (is_lt o) → o ≡ Less
 lt_is Less h = refl
 lt_is Equal h = absurd h
@@ -37,6 +40,7 @@ module _ {A : Type 0} where
       by false rest h = inr (rest h)
 
 module _ {V : Type 0} where
+  -- a key that is below all entries of a list comes before the key of each
   below_is : (q : List ℕ) (es : List (List ℕ × V)) (e : List ℕ × V) → T (below_all key_cmp q es)
       → Has es e → key_cmp q e.0 ≡ Less
   below_is q [] e below h = absurd h

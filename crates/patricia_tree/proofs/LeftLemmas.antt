@@ -26,6 +26,7 @@ not_less k = by (key_cmp k k) refl
     by Equal same = refl
     by Greater same = refl
 
+-- a test that fails does not hold
 never : IsTrue false → ⊥
 never h = cc
 
@@ -130,6 +131,7 @@ module _ {V : Type 0} where
       some : next_row s ≢ None
       some none = let no = sym (ap (option_map (λ r. r.1)) none) ∙ value in cc
 
+  -- where no key is next, no row is
   no_row : (s : CursorView V) → next_key s ≡ None → next_row s ≡ None
   no_row s none = by (next_row s) refl
     where
@@ -137,7 +139,7 @@ module _ {V : Type 0} where
       by None row = row
       by (Some e) row = absurd (let no = sym none ∙ ap (option_map (λ r. r.0)) row in cc)
 
-  -- what is left after a step that may hand out a key
+  -- a step that gives a key leaves a row less, and where it gives none, none was left
   pub key_came : {K E : Type 0} (bytes : K → List ℕ) (s t : CursorView V) (r : Result (Option K) E)
       → IfOk r (λ key. option_map bytes key ≡ next_key s) → OnOk r (t ≡ stepped s)
       → IfOk r (λ key. MatchOption key (left s ≡ 0) (λ _. left s ≡ left t + 1))
@@ -148,7 +150,7 @@ module _ {V : Type 0} where
       some none = let no = key ∙ ap (option_map (λ r. r.0)) none in cc
   key_came bytes s t (Err e) key step = tt
 
-  -- the same where it says whether there is a key
+  -- and so does a step that says that there is a key
   pub row_came : {E : Type 0} (s t : CursorView V) (r : Result Bool E)
       → IfOk r (λ found. IsTrue found ↔ (next_key s ≢ None)) → OnOk r (t ≡ stepped s)
       → IfOk r (λ found. IsTrue found → left s ≡ left t + 1)

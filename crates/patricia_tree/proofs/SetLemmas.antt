@@ -17,6 +17,7 @@ at_error P (Err e) holds = holds
 abbrev pub in_pairs : {Q : Type 0} → List Q → List (Q × Unit {0})
 in_pairs given = map (λ key. (key, tt)) given
 
+-- one more key with `()` comes last where the key does
 in_pairs_more : {Q : Type 0} (given : List Q) (key : Q)
     → in_pairs (given ++ key ∷ []) ≡ in_pairs given ++ (key, tt) ∷ []
 in_pairs_more [] key = refl

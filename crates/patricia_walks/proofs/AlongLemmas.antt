@@ -27,6 +27,7 @@ use Rattle.patricia_walks.specs.Internal.Descents.{IsDescent, Moves, siblings_le
 
 -- a front of a list, and what is left, where some of it follows
 module _ (k l t : List ℕ) (n : ℕ) (within : n ≤ length k) (rest : l ++ t ≡ drop n k) where
+  -- the first n bytes of the list, with those that follow, are its first bytes
   front_then : take (n + length l) k ≡ take n k ++ l
   front_then =
       let long = length-take-le n k within in
@@ -34,6 +35,7 @@ module _ (k l t : List ℕ) (n : ℕ) (within : n ≤ length k) (rest : l ++ t �
       ap (λ m. take (m + length l) k) (sym long) ∙ ap (take (length (take n k) + length l)) (sym split)
       ∙ take-append-add (take n k) (l ++ t) (length l) ∙ ap (λ r. take n k ++ r) (take_at l t (length l) refl)
 
+  -- behind both is what is left
   left_then : drop (n + length l) k ≡ t
   left_then =
       let long = length-take-le n k within in
@@ -41,6 +43,7 @@ module _ (k l t : List ℕ) (n : ℕ) (within : n ≤ length k) (rest : l ++ t �
       ap (λ m. drop (m + length l) k) (sym long) ∙ ap (drop (length (take n k) + length l)) (sym split)
       ∙ drop-append-add (take n k) (l ++ t) (length l) ∙ drop-append_seam l t
 
+  -- both together are no longer than the list
   more_within : n + length l ≤ length k
   more_within = omega (arith, ap length rest, length-append l t, length-drop n k, within)
 
@@ -70,6 +73,7 @@ module _ (item : List ℕ → Type 0) (kind : IsKeyKind item) {V : Type 0} (k : 
     sibling_plan :
         IsPlan d.arena.now.nodes.items n.sibling (plan_at d.arena.now.nodes.items n.sibling)
 
+  -- the row that is next is its first node, with the rows that its two links lead to
   opens : Opens
   opens =
       let nodes = d.arena.now.nodes.items in
@@ -78,14 +82,16 @@ module _ (item : List ℕ → Type 0) (kind : IsKeyKind item) {V : Type 0} (k : 
       let s_is = plan_is nodes n.sibling o.sibling o.sibling_plan in
       record { is = rw (c_is, s_is) (ap row o.is); child_plan = rw c_is o.child_plan; sibling_plan = rw s_is o.sibling_plan }
 
+  -- that row keeps the invariant
   node_row : IsCanonical item (node n.label n.value child_row sibling_row)
   node_row = subst (IsCanonical item) opens.is w.canonical
 
+  -- before the step, the entries along the key of that node and of what follows are left
   before : left k d ≡ prefixed (take d.len k)
       (along (drop d.len k) (entries (node n.label n.value child_row sibling_row)))
   before = ap (λ v. left_from k d.len (option_copied v) (siblings_left d)) taken ∙ ap (λ r. prefixed (take d.len k) (along (drop d.len k) (entries r))) opens.is
 
-  -- down to the children
+  -- where a node's label begins what is left of the key, the step goes to its children
   pub moves_down : begins n.label (drop d.len k) ≡ true → e.len ≡ d.len + length n.label
       → option_copied e.pending ≡ n.value → e.next ≡ n.child → Moves item k d e
   moves_down begun_is len pending child =
@@ -110,7 +116,7 @@ module _ (item : List ℕ → Type 0) (kind : IsKeyKind item) {V : Type 0} (k : 
         less = rw (row_is, opens.is) (omega arith);
       }
 
-  -- to the sibling
+  -- where it does not, the step goes to the sibling
   pub moves_past : begins n.label (drop d.len k) ≡ false → e.len ≡ d.len → e.pending ≡ d.pending
       → e.next ≡ n.sibling → Moves item k d e
   moves_past other len pending sibling =
@@ -131,7 +137,7 @@ module _ (item : List ℕ → Type 0) (kind : IsKeyKind item) {V : Type 0} (k : 
         less = rw (row_is, opens.is) (omega arith);
       }
 
-  -- to the end
+  -- or to the end, where the key comes before the label
   pub moves_off : begins n.label (drop d.len k) ≡ false → key_cmp (drop d.len k) n.label ≡ Less
       → e.len ≡ d.len → e.pending ≡ d.pending → e.next ≡ None → Moves item k d e
   moves_off other less len pending none =
@@ -147,7 +153,7 @@ module _ (item : List ℕ → Type 0) (kind : IsKeyKind item) {V : Type 0} (k : 
         less = rw (row_is, opens.is) (omega (arith, some_step child_row, some_step sibling_row));
       }
 
--- a slice from a place on
+-- a slice of a list from a place to its end is all that is behind the place
 pub rest_is : (n : ℕ) (k : List ℕ) → take (length k - n) (drop n k) ≡ drop n k
 rest_is n k = take_all (length k - n) (drop n k) (omega (arith, length-drop n k))
 

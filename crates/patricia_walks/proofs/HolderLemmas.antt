@@ -32,22 +32,26 @@ module _ {V : Type 0} where
   fill-marks (InChild id l v d ∷ fs) p = fill-marks fs (Cell id l v p d)
   fill-marks (InSibling id l v c ∷ fs) p = fill-marks fs (Cell id l v c p)
 
+  -- the node above the place has the same number
   above-marks : (fs : List (Frame V)) → above_of (mark_frames fs) ≡ above_of fs
   above-marks [] = refl
   above-marks (InChild id l v d ∷ fs) = refl
   above-marks (InSibling id l v c ∷ fs) = above-marks fs
 
+  -- the spot of the place is the same
   link_ref-marks : (fs : List (Frame V)) → link_ref_of (mark_frames fs) ≡ link_ref_of fs
   link_ref-marks [] = refl
   link_ref-marks (InChild id l v d ∷ fs) = refl
   link_ref-marks (InSibling id l v c ∷ fs) = rw (above-marks fs) refl
 
+  -- a look-up of a key passes the same frames
   leads-marks : (item : List ℕ → Type 0) (fs : List (Frame V)) (key rest : List ℕ)
       → Leads item fs key rest → Leads item (mark_frames fs) key rest
   leads-marks item [] key rest h = h
   leads-marks item (InChild id l v d ∷ fs) key rest h = (h.0, h.1, h.2, leads-marks item fs key h.0 h.3)
   leads-marks item (InSibling id l v c ∷ fs) key rest h = (h.0, leads-marks item fs key rest h.1)
 
+  -- and it ends in the same way
   is_match-marks : (item : List ℕ → Type 0) (p : Plan V) (rest : List ℕ) (matched : Match)
       → Matches item p rest matched → Matches item (marks p) rest matched
   is_match-marks item Nil rest matched h = h

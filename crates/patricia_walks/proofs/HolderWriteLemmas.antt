@@ -21,14 +21,17 @@ module _ {V : Type 0} (nodes : List (Node V)) where
   valued Nil = Nil
   valued (Cell id label value child sibling) = Cell id label (value_in (slice_get nodes id)) (valued child) (valued sibling)
 
+  -- a plan of holders, read to its values, has the same first number
   head-valued : (p : Plan ValueSlot) → head (valued p) ≡ head p
   head-valued Nil = refl
   head-valued (Cell id l v c d) = refl
 
+  -- it has as many nodes
   size-valued : (p : Plan ValueSlot) → size (valued p) ≡ size p
   size-valued Nil = refl
   size-valued (Cell id l v c d) = omega (arith, size-valued c, size-valued d)
 
+  -- each number stands in it as often
   count-valued : (p : Plan ValueSlot) (at : ℕ) → count (valued p) at ≡ count p at
   count-valued Nil at = refl
   count-valued (Cell id l v c d) at = omega (arith, count-valued c at, count-valued d at)
@@ -40,15 +43,18 @@ module _ {V : Type 0} (nodes : List (Node V)) where
   node-valued id m None e = absurd (cc)
   node-valued id m (Some n) e = let is : m ≡ marked_node id n = cc in rw is refl
 
+  -- a node that stands among the numbered nodes is the vector's, but for its value
   get-valued : (id : ℕ) (m : Node ValueSlot) → slice_get (numbered_slots 0 nodes) id ≡ Some m
       → slice_get nodes id ≡ Some (linked m.label (value_in (slice_get nodes id)) m.child m.sibling)
   get-valued id m there = node-valued id m (slice_get nodes id) (sym there ∙ numbered_slots-get nodes id)
 
+  -- where a plan of holders lies in the numbered nodes, that of their values lies in the nodes
   stands-valued : (p : Plan ValueSlot) → LaidOut (numbered_slots 0 nodes) p
       → LaidOut nodes (valued p)
   stands-valued Nil s = tt
   stands-valued (Cell id l v c d) s = (rw (head-valued c, head-valued d) (get-valued id _ s.0), stands-valued c s.1, stands-valued d s.2)
 
+  -- the free nodes are linked as among the numbered nodes
   chain-valued : (spare : List ℕ) → IsChain (numbered_slots 0 nodes) spare → IsChain nodes spare
   chain-valued [] c = tt
   chain-valued (id ∷ ids) c = ((_, get-valued id c.0.0 c.0.1, c.0.2), chain-valued ids c.1)

@@ -31,6 +31,7 @@ node_in None v e = absurd (cc)
 node_in (Some n) v e = (n, refl, e)
 
 module _ (item : List ℕ → Type 0) {V : Type 0} (t : CursorState V) (w : IsHeld item t) where
+  -- what was lent last holds a value
   holds : (h : ValueSlot) → t.last ≡ Some h
       → (v : V) × (held t.value t.arena.nodes.items h ≡ Some v)
   holds h is = key_value (held t.value t.arena.nodes.items) h (holders t.value t.arena)
@@ -61,6 +62,7 @@ module _ (item : List ℕ → Type 0) (kind : IsKeyKind item) {V : Type 0} (t u 
     (here : held u.value u.arena.nodes.items h ≡ Some x)
     (others : (g : ValueSlot) → is_same g h ≡ false → held u.value u.arena.nodes.items g ≡ held
     t.value t.arena.nodes.items g) where
+  -- what a caller sees after the write is the map with the value at the holder's key
   key_is : (k : Option (List ℕ)) → key_at (holders t.value t.arena) h ≡ k
       → standing u prefix ≡ written_at (standing t prefix) k x
   key_is None e = absurd (w.held.known h lent e)
@@ -161,6 +163,7 @@ pub record WroteUnder (item : List ℕ → Type 0) {V : Type 0} (t u : CursorSta
 
 module _ (item : List ℕ → Type 0) (kind : IsKeyKind item) {V : Type 0} (t : CursorState V)
     (prefix : List ℕ) (x : V) where
+  -- a write through the loan is one to a cursor under a prefix, even before it has begun
   pub wrote_under : (o : Option Start) → IsPrefixCursor item t prefix o
       → WroteUnder item t (with_held t t.last x) prefix o x
   wrote_under None w = let wrote = wrote_last item kind t prefix w x in record { state = wrote.state; stands = wrote.stands }

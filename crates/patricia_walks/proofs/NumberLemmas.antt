@@ -13,6 +13,7 @@ use Rattle.patricia_nodes.specs.Internal.Loans.{value_in}
 use Rattle.patricia_walks.specs.Internal.Holders.{numbered_slots, held, uses, Reads}
 
 module _ {W : Type 0} where
+  -- entries behind a label have the label before each of their keys
   keys-prefixed : (l : List ℕ) (es : List (List ℕ × W))
       → keys_of (prefixed l es) ≡ map (λ k. l ++ k) (keys_of es)
   keys-prefixed l [] = refl
@@ -24,6 +25,7 @@ pub uses-append : (es fs : List (List ℕ × ValueSlot)) (h : ValueSlot)
 uses-append [] fs h = omega arith
 uses-append (e ∷ es) fs h = omega (arith, uses-append es fs h)
 
+-- a label before the keys changes nothing about who stands in a list
 uses-prefixed : (l : List ℕ) (es : List (List ℕ × ValueSlot)) (h : ValueSlot)
     → uses (prefixed l es) h ≡ uses es h
 uses-prefixed l [] h = refl
@@ -38,13 +40,13 @@ module _ {V : Type 0} where
   abbrev pub marked_node : ℕ → Node V → Node ValueSlot
   marked_node id n = linked n.label (mark id n.value) n.child n.sibling
 
-  -- there are as many nodes
+  -- there are as many numbered nodes as nodes
   pub numbered_slots-length : (i : ℕ) (nodes : List (Node V))
       → length (numbered_slots i nodes) ≡ length nodes
   numbered_slots-length i [] = refl
   numbered_slots-length i (n ∷ ns) = ap suc (numbered_slots-length (suc i) ns)
 
-  -- a node by its number, behind i others
+  -- a numbered node is the node at its place, with its number behind i others
   numbered_slots-get_from : (i : ℕ) (nodes : List (Node V)) (id : ℕ)
       → slice_get (numbered_slots i nodes) id ≡ option_map (marked_node (i + id))
       (slice_get nodes id)
@@ -54,20 +56,20 @@ module _ {V : Type 0} where
       let same : suc i + id ≡ i + suc id = omega arith in
       numbered_slots-get_from (suc i) ns id ∙ ap (λ k. option_map (marked_node k) (slice_get ns id)) same
 
-  -- a node by its number
+  -- and with its own number, where none is before
   pub numbered_slots-get : (nodes : List (Node V)) (id : ℕ)
       → slice_get (numbered_slots 0 nodes) id ≡ option_map (marked_node id) (slice_get nodes id)
   numbered_slots-get nodes id =
       let same : 0 + id ≡ id = omega arith in
       numbered_slots-get_from 0 nodes id ∙ ap (λ k. option_map (marked_node k) (slice_get nodes id)) same
 
-  -- where there is a node
+  -- so it is there where the node is
   pub numbered_slots-some : (nodes : List (Node V)) (id : ℕ) (n : Node V)
       → slice_get nodes id ≡ Some n
       → slice_get (numbered_slots 0 nodes) id ≡ Some (marked_node id n)
   numbered_slots-some nodes id n there = numbered_slots-get nodes id ∙ ap (option_map (marked_node id)) there
 
-  -- and as it is read
+  -- and is read where the node is
   pub numbered_slots-read : (nodes : List (Node V)) (id : ℕ) (n : Node V) → id < length nodes
       → n ≡ get_or nodes id n
       → marked_node id n ≡ get_or (numbered_slots 0 nodes) id (marked_node id n)
@@ -144,6 +146,7 @@ module _ {V : Type 0} where
   earns-marks id l None (Cell i m w d Nil) item = refl
   earns-marks id l None (Cell i m w d (Cell j k u e f)) item = refl
 
+  -- a label comes before a row with marks where it comes before the row
   rises-marks : (l : List ℕ) (d : Plan V) (item : List ℕ → Type 0)
       → IsBeforeSiblings item l (row (marks d)) ≡ IsBeforeSiblings item l (row d)
   rises-marks l Nil item = refl
@@ -175,7 +178,7 @@ module _ {V : Type 0} where
   pub length-marks : (p : Plan V) → length (entries (row (marks p))) ≡ length (entries (row p))
   length-marks p = let same = ap length (keys-marks p) in simp length-map at same
 
-  -- lists whose parts are read so
+  -- where each of two lists reads its rows, both together read theirs
   pub reads-append :
       (h : ValueSlot → Option V) (es fs : List (List ℕ × ValueSlot)) (rs ss : List (List ℕ × V))
       → Reads h es rs → Reads h fs ss → Reads h (es ++ fs) (rs ++ ss)
@@ -184,6 +187,7 @@ module _ {V : Type 0} where
   reads-append h (e ∷ es) fs [] ss a b = absurd a
   reads-append h (e ∷ es) fs (r ∷ rs) ss a b = (a.0, a.1, reads-append h es fs rs ss a.2 b)
 
+  -- a label before the keys of both lists leaves them the same rows
   reads-prefixed : (h : ValueSlot → Option V) (l : List ℕ) (es : List (List ℕ × ValueSlot))
       (rs : List (List ℕ × V)) → Reads h es rs → Reads h (prefixed l es) (prefixed l rs)
   reads-prefixed h l [] [] a = tt

@@ -31,7 +31,7 @@ module _ (item : List ℕ → Type 0) (kind : IsKeyKind item) {V : Type 0} where
     pub valid : IsValid item path
     pub under_is : under key (entries whole) ≡ prefixed path (under rest (entries focus))
 
-  -- what the frames of a place pass
+  -- the rows under a key are those under its rest in the place, behind the bytes passed
   pub passed-fill : (fs : List (Frame V)) (q : Plan V) → IsCanonical item (row (fill fs q))
       → (key rest : List ℕ) → Leads item fs key rest → Passed (row (fill fs q)) (row q) key rest
   passed-fill [] q ok key rest e = record {
@@ -62,7 +62,7 @@ module _ (item : List ℕ → Type 0) (kind : IsKeyKind item) {V : Type 0} where
             (under_past item kind l v (row c) (row q) inner rest before);
       }
 
-  -- and how far the keys go with it
+  -- and keys go with it as far as the bytes passed, and as those in the place with its rest
   reaches-fill : (fs : List (Frame V)) (q : Plan V) → IsCanonical item (row (fill fs q))
       → (key rest : List ℕ) → Leads item fs key rest
       → (m : ℕ) × (m + length rest ≡ length key) ×
@@ -86,6 +86,7 @@ module _ (item : List ℕ → Type 0) (kind : IsKeyKind item) {V : Type 0} where
       let inner = row-within item fs (Cell id l v c q) ok in
       (o.0, o.1, λ n r. o.2 n (reaches_past item kind l v (row c) (row q) inner rest before n r))
 
+  -- in the place, how far the keys go with the rest of the key is what the look-up has found
   reaches_stop : (focus : Plan V) → IsCanonical item (row focus) → (rest : List ℕ) (matched : Match)
       → Matches item focus rest matched
       → Reaches item (keys_of (entries (row focus))) rest (common_at rest matched)
@@ -100,9 +101,11 @@ module _ (item : List ℕ → Type 0) (kind : IsKeyKind item) {V : Type 0} where
 module _ (item : List ℕ → Type 0) (kind : IsKeyKind item) {V : Type 0} (s : NodeArena V)
     (ok : IsCanonical item (siblings_of s)) (key : List ℕ) (link_ref : LinkRef) (at : Option ℕ)
     (rest : List ℕ) (matched : Match) (p : Placed item s key link_ref at rest matched) where
+  -- the whole row, with the place filled, keeps the invariant
   place_row : IsCanonical item (row (fill p.frames p.focus))
   place_row = rw p.fills ok
 
+  -- keys go with the key as far as the bytes passed, and as those in the place go with its rest
   parts :
       (m : ℕ) × (m + length rest ≡ length key) ×
       ((n : ℕ) → Reaches item (keys_of (entries (row p.focus))) rest n → Reaches item

@@ -14,17 +14,19 @@ use Rattle.patricia_nodes.proofs.SeekLemmas.{Opened, head_within, opened, whole_
 use Rattle.patricia_nodes.proofs.WriteLemmas.{stands-keep}
 
 module _ {V : Type 0} (nodes : List (Node V)) where
-  -- one more row that waits
+  -- where the rows that wait stand in the nodes, they do with one more that does
   all_plans-snoc : (fs : List (ℕ × Option ℕ)) (n : ℕ) (at : Option ℕ) → AllPlans nodes fs
       → IsPlan nodes at (plan_at nodes at) → AllPlans nodes (fs ++ (n, at) ∷ [])
   all_plans-snoc [] n at ps p = (p, tt)
   all_plans-snoc (f ∷ fs) n at ps p = (ps.0, all_plans-snoc fs n at ps.1 p)
 
+  -- where all rows that wait stand in the nodes, so does the last, and so do those before it
   all_plans-last : (fs : List (ℕ × Option ℕ)) (n : ℕ) (at : Option ℕ)
       → AllPlans nodes (fs ++ (n, at) ∷ []) → IsPlan nodes at (plan_at nodes at) × AllPlans nodes fs
   all_plans-last [] n at ps = (ps.0, tt)
   all_plans-last (f ∷ fs) n at ps = let later = all_plans-last fs n at ps.1 in (later.0, (ps.0, later.1))
 
+  -- one more row that waits adds its numbers to those of the others
   count_all-snoc : (fs : List (ℕ × Option ℕ)) (n : ℕ) (at : Option ℕ) (i : ℕ)
       → count_all nodes (fs ++ (n, at) ∷ []) i ≡ count (plan_at nodes at) i + count_all nodes fs i
   count_all-snoc [] n at i = omega arith
@@ -53,6 +55,7 @@ module _ {V : Type 0} (nodes later : List (Node V)) (id : ℕ) (long : length la
     rows : rows_at later fs ≡ rows_at nodes fs
     counts : (i : ℕ) → count_all later fs i ≡ count_all nodes fs i
 
+  -- rows that wait and do not have the node are as they were
   all-keep : (fs : List (ℕ × Option ℕ)) → AllPlans nodes fs → count_all nodes fs id ≡ 0 → Keeps fs
   all-keep [] ps none = record { plans = tt; rows = refl; counts = λ i. refl }
   all-keep (f ∷ fs) ps none =
@@ -78,6 +81,7 @@ module _ {V : Type 0} (p q : Position V) (id : ℕ) (n : Node V) (stands : Stand
         rows_at q.nodes q.stack ≡ rows_at p.nodes p.stack ++ (front, row_at q.nodes n.sibling) ∷ []
     stand : Stand q
 
+  -- the step to a node's children leaves their row next, and its siblings waiting
   down : Down
   down =
       let o = opened p.nodes p.next (plan_at p.nodes p.next) id n stands.next_plan next reads in
@@ -183,9 +187,11 @@ module _ (item : List ℕ → Type 0) {V : Type 0} where
 
 module _ (item : List ℕ → Type 0) {V : Type 0} (arena : NodeArena V) (front : List ℕ) (top : ℕ)
     (n : Node V) (w : IsTop item arena front top) (reads : n ≡ get_or arena.nodes.items top n) where
+  -- the node where a walk begins, as it is read, with its children and siblings
   top_opened : Opened arena.nodes.items (plan_at arena.nodes.items (Some top)) top n
   top_opened = opened arena.nodes.items (Some top) (plan_at arena.nodes.items (Some top)) top n w.plan refl reads
 
+  -- the row from that node on is the node with the rows of its two links
   top_row :
       row_at arena.nodes.items (Some top) ≡ node n.label n.value (row_at arena.nodes.items n.child)
       (row top_opened.sibling)

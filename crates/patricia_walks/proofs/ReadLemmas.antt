@@ -17,22 +17,25 @@ use Rattle.patricia_walks.specs.declared.cursor_state.ValueSlot.{ValueSlot}
 use Rattle.patricia_walks.specs.declared.cursor_state.ValueSlot.TheVariants.{OfEmptyKey, OfNode}
 use Rattle.patricia_walks.specs.Internal.Holders.{is_same, key_at, uses, Reads}
 
+-- two entries with the same key and the same value are one
 same_row : {V : Type 0} (x y : List ℕ × V) → x.0 ≡ y.0 → x.1 ≡ y.1 → x ≡ y
 same_row (k, v) (q, w) a b = cc
 
--- a test of two holders
+-- holders that are found to be the same are the same
 same_is : (g h : ValueSlot) → is_same g h ≡ true → g ≡ h
 same_is OfEmptyKey OfEmptyKey e = refl
 same_is OfEmptyKey (OfNode j) e = absurd (cc)
 same_is (OfNode i) OfEmptyKey e = absurd (cc)
 same_is (OfNode i) (OfNode j) e = ap OfNode (eqb-true i j e)
 
+-- a holder is found the same as itself
 same_self : (h : ValueSlot) → is_same h h ≡ true
 same_self OfEmptyKey = refl
 same_self (OfNode i) = eq-eqb i i refl
 
 -- a holder that stands in no row has no key, and one that stands once has one
 module _ (h : ValueSlot) where
+  -- a holder that is used nowhere in a list stands at no key of it
   unused_key : (es : List (List ℕ × ValueSlot)) → uses es h ≡ 0 → (k : List ℕ) → Has es (k, h) → ⊥
   unused_key [] none k has = has
   unused_key (e ∷ es) none k has = by (is_same e.1 h) refl (λ n. unused_key es n k)
@@ -62,7 +65,7 @@ module _ (h : ValueSlot) where
       ]
 
 module _ {V : Type 0} (held : ValueSlot → Option V) where
-  -- the rows that pass a test of their keys
+  -- the rows whose keys pass a test are read where all are
   reads_filter : (f : List ℕ → Bool) (es : List (List ℕ × ValueSlot)) (rs : List (List ℕ × V))
       → Reads held es rs → Reads held (filter (λ e. f e.0) es) (filter (λ e. f e.0) rs)
   reads_filter f [] [] r = tt
@@ -86,7 +89,7 @@ module _ {V : Type 0} (held : ValueSlot → Option V) where
   reads_after None p es rs r = reads_filter (λ k. begins p k) es rs r
   reads_after (Some q) p es rs r = reads_filter (λ k. is_lt (key_cmp q k)) _ _ (reads_filter (λ k. begins p k) es rs r)
 
-  -- the first row, where there is one
+  -- where no holder is, no row is read
   pub reads_none : (rs : List (List ℕ × V)) → Reads held [] rs → rs ≡ []
   reads_none [] r = refl
   reads_none (x ∷ rs) r = absurd r

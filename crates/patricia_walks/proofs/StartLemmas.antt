@@ -29,6 +29,7 @@ starts_at : (item : List ℕ → Type 0) (m : NodeArena ValueSlot) (nodes : List
     → IsAtStart item nodes front top
 starts_at item m nodes same front top w = record { valid = w.valid; plan = rw (← same) w.plan; once = rw (← same) w.once; canonical = rw (← same) w.canonical }
 
+-- and one that can begin in those nodes can begin in the slots
 top_at : (item : List ℕ → Type 0) (m : NodeArena ValueSlot) (nodes : List (Node ValueSlot))
     → m.nodes.items ≡ nodes → (front : List ℕ) (top : ℕ) → IsAtStart item nodes front top
     → IsTop item m front top
@@ -38,9 +39,11 @@ module _ (item : List ℕ → Type 0) (kind : IsKeyKind item) {V : Type 0} (s : 
     (m : NodeArena ValueSlot) (is : Marked s m) (whole : IsWellFormed s)
     (ok : IsCanonical item (siblings_of s)) (key : List ℕ) (link_ref : LinkRef) (at : Option ℕ)
     (rest : List ℕ) (matched : Match) (p : Placed item s key link_ref at rest matched) where
+  -- the row of the numbered nodes keeps the invariant
   m_row : IsCanonical item (siblings_of m)
   m_row = rw (is.nodes, is.root) ((row_marked s whole item).0 ok)
 
+  -- the place of the key among them is the same
   m_place : Placed item m key link_ref at rest matched
   m_place = place_marked s whole item m is key link_ref at rest matched p
 
@@ -59,7 +62,7 @@ module _ (item : List ℕ → Type 0) (kind : IsKeyKind item) {V : Type 0} (s : 
       → under key (holders None s) ≡ []
   starts_nowhere valid none = rw (← is.nodes, ← is.root) (place_nothing item kind m is.whole m_row key link_ref at rest matched m_place valid none)
 
--- the node is there
+-- the node at which a walk can begin is in the vector
 pub start_within :
     (item : List ℕ → Type 0) {V : Type 0} (nodes : List (Node V)) (front : List ℕ) (top : ℕ)
     → IsAtStart item (numbered_slots 0 nodes) front top → top < length nodes
@@ -76,9 +79,11 @@ module _ (item : List ℕ → Type 0) {V : Type 0} (s : NodeArena V) (m : NodeAr
     (reads : n ≡ get_or s.nodes.items top n)
     (p : Position ValueSlot) (nodes : p.nodes ≡ numbered_slots 0 s.nodes.items)
     (path : p.path ≡ front ++ n.label) (next : p.next ≡ n.child) (stack : p.stack ≡ []) where
+  -- the walk over the numbered nodes can begin at that node
   m_top : IsTop item m front top
   m_top = top_at item m (numbered_slots 0 s.nodes.items) is.nodes front top w
 
+  -- the numbered node is the one that was read, with its number for its value
   m_reads : marked_node top n ≡ get_or m.nodes.items top (marked_node top n)
   m_reads = rw is.nodes (numbered_slots-read s.nodes.items top n (start_within item s.nodes.items front top w) reads)
 

@@ -56,6 +56,7 @@ module _ (item : List ℕ → Type 0) (kind : IsKeyKind item) {V : Type 0} (t : 
   next_filled [] is nonempty = λ none. nonempty refl
   next_filled ((key, h) ∷ rest) is nonempty = λ none. let some = next_some key h rest is in absurd (cc)
 
+  -- the holders under a prefix are in the order of their keys
   under_sorted : T (is_sorted key_cmp (under prefix (holders t.value t.arena)))
   under_sorted = is_sorted-where_key key_cmp (begins prefix) (holders t.value t.arena) (holders_sorted t.arena w.whole item kind t.value w.tree.canonical)
 
@@ -99,11 +100,13 @@ module _ (item : List ℕ → Type 0) (kind : IsKeyKind item) {V : Type 0} (t u 
   same_standing : u.last ≡ t.last → standing u prefix ≡ standing t prefix
   same_standing last = rw (s.value, s.arena, last) refl
 
+  -- with the last holder, the rows behind its key are the same
   same_rows : u.last ≡ t.last → after (last_key u)
       (under prefix (holders u.value u.arena)) ≡ after (last_key t)
       (under prefix (holders t.value t.arena))
   same_rows last = rw (s.value, s.arena, last) refl
 
+  -- a trail whose last holder and rows are kept is still one
   same_last : u.last ≡ t.last → left_of u ≡ left_of t → IsTrail item u prefix
   same_last last left = record {
     held = same_held item t u w.held s (λ h is. w.held.known h (sym last ∙ is));
@@ -196,7 +199,7 @@ module _ (item : List ℕ → Type 0) (kind : IsKeyKind item) {V : Type 0} (t u 
         by (Some k) = (λ some none. absurd (cc), λ some. refl)
     step_found (Err e) goes = tt
 
--- what a result advances to
+-- what holds of an Ok's value holds of the value that the result has
 pub goes_so : {A E : Type 0} (P : A → Type 0) (r : Result A E) → IfOk r P → (a : A) → r ≡ Ok a → P a
 goes_so P (Ok b) p a e = let same : b ≡ a = cc in subst P same p
 goes_so P (Err b) p a e = absurd (cc)
@@ -205,13 +208,16 @@ module _ (item : List ℕ → Type 0) {V : Type 0} (p : TreeParts V) (t : Cursor
     (prefix : List ℕ) (whole : IsWellFormed p.arena)
     (tree : IsTree item (siblings_of p.arena) p.count) (made : IsMadeOf p t)
     (last : t.last ≡ None) where
+  -- the tree is whole, and nothing was lent last
   made_held : IsHeld item t
   made_held = record { whole = rw (← made.arena) whole; tree = rw (← made.arena, ← made.count) tree; known = λ h is. absurd (let no = sym last ∙ is in cc) }
 
+  -- the rows that are left are all those under the prefix
   made_left : (rows : List (List ℕ × ValueSlot)) → rows ≡ under prefix (holders p.value p.arena)
       → AreEntriesLeft t prefix rows
   made_left rows is = is ∙ rw (last, made.value, made.arena) refl
 
+  -- the empty key is not under a prefix with bytes, so its value makes no difference
   below : prefix ≢ [] → under prefix (holders p.value p.arena) ≡ under prefix (holders None p.arena)
   below nonempty = under_filled prefix nonempty (option_map (λ _. OfEmptyKey) p.value) (entries (row_at (numbered_slots 0 p.arena.nodes.items) p.arena.root))
 

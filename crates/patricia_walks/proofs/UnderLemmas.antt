@@ -33,11 +33,12 @@ within_node i id n rest e = by (nat_eq n (length rest)) refl
     by true f = let same = rw f at e in (cc, eqb-true n (length rest) f)
     by false f = let none = rw f at e in absurd (cc)
 
+-- with no such node, the key differs from the label before the key's end
 within_none : (i n : ℕ) (rest : List ℕ) → node_under rest (InsideLabel i n) ≡ None → n ≢ length rest
 within_none i n rest e same = let some = rw (eq-eqb n (length rest) same) at e in absurd (cc)
 
 module _ (item : List ℕ → Type 0) (kind : IsKeyKind item) {V : Type 0} where
-  -- a front before all of them
+  -- the rows below a node, with a path before their keys, are its rows behind that path
   behind : (path : List ℕ) (r : Siblings V) → prefixed path (rows_below [] r) ≡ rows_below path r
   behind path end = refl
   behind path (node l v c s) = prefixed-prefixed path l (own v ++ entries c)
@@ -75,33 +76,42 @@ module _ (item : List ℕ → Type 0) (kind : IsKeyKind item) {V : Type 0} (s : 
     (whole : IsWellFormed s) (ok : IsCanonical item (siblings_of s)) (key : List ℕ)
     (link_ref : LinkRef) (at : Option ℕ) (rest : List ℕ) (matched : Match)
     (p : Placed item s key link_ref at rest matched) where
+  -- the whole row, with the place filled, keeps the invariant
   place_row : IsCanonical item (row (fill p.frames p.focus))
   place_row = rw p.fills ok
 
+  -- the row in the place keeps the invariant
   focus_row : IsCanonical item (row p.focus)
   focus_row = row-within item p.frames p.focus place_row
 
+  -- the rows under the key are those under its rest in the place, with the path before
   passed : Passed item kind (row (fill p.frames p.focus)) (row p.focus) key rest
   passed = passed-fill item kind p.frames p.focus place_row key rest p.leads
 
+  -- and so are those of the nodes
   under_is : under key (entries_of s) ≡ prefixed passed.path (under rest (entries (row p.focus)))
   under_is = ap (λ (q : Plan V). under key (entries (row q))) (sym p.fills) ∙ passed.under_is
 
   module _ (front : ℕ) (front_is : front ≡ length key - length rest) where
+    -- the key is as long as the path and the rest of it
     long : length key ≡ length passed.path + length rest
     long = ap length (sym passed.splits) ∙ length-append passed.path rest
 
+    -- the first bytes of the key are the path
     path_is : take front key ≡ passed.path
     path_is = ap (take front) (sym passed.splits) ∙ take_at passed.path rest front (omega (arith, front_is, long))
 
     module _ (id : ℕ) (e : node_under rest matched ≡ Some id) where
+      -- the place begins with that node, and the rows under the rest are those of the node
       here :
           (head p.focus ≡ Some id) × (under rest (entries (row p.focus)) ≡ rows_below [] (row p.focus))
       here = stop_some item kind p.focus focus_row rest matched p.is_match id e
 
+      -- what is read from that node's number is the plan in the place
       plan : IsPlan s.nodes.items (Some id) p.focus
       plan = plan_within s.nodes.items s.root (Some id) p.frames p.focus (rw p.fills (whole_plan s whole)) (sym here.0)
 
+      -- the plan from that number on is the one in the place
       focus_is : plan_at s.nodes.items (Some id) ≡ p.focus
       focus_is = plan_is s.nodes.items (Some id) p.focus plan
 

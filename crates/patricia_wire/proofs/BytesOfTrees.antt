@@ -15,6 +15,7 @@ use Rattle.patricia_wire.proofs.FrontLemmas.{labels_are_fronts}
 use Rattle.patricia_wire.proofs.CountLemmas.{records_are_points, records_are_few}
 
 module _ (item : List ℕ → Type 0) (kind : IsKeyKind item) where
+  -- the encoding of the keys of rows is the tree bytes of the rows
   pub tree_bytes : {V : Type 0} (w : ℕ) (b : List ℕ) (rows : List (List ℕ × V))
       → Canon item w b (keys_of rows) → AreTreeBytes item w b rows
   tree_bytes w b rows x =
@@ -30,6 +31,7 @@ module _ (item : List ℕ → Type 0) (kind : IsKeyKind item) where
         few = λ R spelled. subst (λ X. AreFew X S) (one R spelled) (records_are_few item kind x.records S x.root x.tight);
       }
 
+  -- the tree bytes of rows are the encoding of their keys
   canon : {V : Type 0} (w : ℕ) (b : List ℕ) (rows : List (List ℕ × V)) → AreTreeBytes item w b rows
       → Canon item w b (keys_of rows)
   canon w b rows x = (let one = x.one_key_set (keys_of rows) in one.1 refl)

@@ -17,6 +17,7 @@ use Rattle.patricia_wire.proofs.OneTree.{tight_within}
 use Rattle.patricia_wire.proofs.RowTrees.{Nothing, stands_tree}
 
 module _ {V : Type 0} where
+  -- a row has as many records as its nodes have paths
   as_many : (d : ℕ) (r : Siblings V) → length (records_of d r) ≡ length (paths r)
   as_many d end = refl
   as_many d (node l v c s) = omega (
@@ -31,6 +32,7 @@ module _ {V : Type 0} where
   )
 
 module _ (item : List ℕ → Type 0) (kind : IsKeyKind item) {V : Type 0} where
+  -- where keys are short, a node that earns its place under the wire's limit does under none
   earns_short : (l : List ℕ) (v : Option V) (c s : Siblings V) → IsCanonicalWithin item (Some 255) c
       → AreShort (keys_of (entries (node l v c s))) → EarnsWithin item (Some 255) l v c
       → EarnsWithin item None l v c
@@ -60,6 +62,7 @@ module _ (item : List ℕ → Type 0) (kind : IsKeyKind item) {V : Type 0} where
   }
 
 module _ (item : List ℕ → Type 0) (kind : IsKeyKind item) where
+  -- where keys are short, a tight tree has a record for each point, and the root's
   pub records_are_points : (R : List Record) (E : List (List ℕ)) → Root item R E → IsTight item R
       → RecordsArePoints item R E
   records_are_points R E root tight short =
@@ -87,6 +90,7 @@ module _ (item : List ℕ → Type 0) (kind : IsKeyKind item) where
       )
 
 module _ {V : Type 0} where
+  -- entries under a label are as many
   pub length-prefixed : (p : List ℕ) (es : List (List ℕ × V)) → length (prefixed p es) ≡ length es
   length-prefixed p [] = refl
   length-prefixed p (e ∷ es) = ap suc (length-prefixed p es)

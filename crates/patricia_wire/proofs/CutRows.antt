@@ -10,6 +10,7 @@ use Rattle.patricia_keys.proofs.KeyLemmas.{Begins-trans, begins_same, first_of, 
 use Rattle.patricia_model.proofs.InsertLemmas.{IsBefore-shorter_left}
 use Rattle.patricia_model.proofs.RowLemmas.{prefixed-prefixed}
 
+-- without a label that has bytes, a key of at most n + 1 bytes has at most n
 rest_shorter : (l r k : List ℕ) (n : ℕ) → l ++ r ≡ k → l ≢ [] → length k ≤ suc n → length r ≤ n
 rest_shorter [] r k n e f h = absurd (f refl)
 rest_shorter (x ∷ l) r k n e f h = omega (arith, ap length e, length-append l r)
@@ -26,10 +27,12 @@ module _ (item : List ℕ → Type 0) (kind : IsKeyKind item) where
     pub rest_valid : IsValid item rest
     pub full : (i : List ℕ) → item i → Begins i rest → length (piece ++ i) ≤ 255 → ⊥
 
+  -- a label that has bytes has bytes with more behind
   filled_on : (l i : List ℕ) → l ≢ [] → l ++ i ≢ []
   filled_on [] i f e = f refl
   filled_on (x ∷ l) i f e = cc
 
+  -- no item is a prefix of nothing
   no_item : (i : List ℕ) → item i → Begins i [] → ⊥
   no_item [] p a = item-nonempty item kind [] p refl
   no_item (x ∷ i) p a = absurd (let h = a.1 in cc)
@@ -72,11 +75,12 @@ module _ (item : List ℕ → Type 0) (kind : IsKeyKind item) where
       (take_items i is (IsValid-item item i ok.0) (item-nonempty item kind i ok.0)
       (let s = kind.sized i ok.0 in s.1) ok.1)
 
-  -- what comes before a label comes before what begins with its first item, and the other way round
+  -- where a key comes before another, so does a label that begins it
   before_left : (k l m : List ℕ) → IsValid item l → l ≢ [] → Begins l k → IsBefore item k m
       → IsBefore item l m
   before_left k l m valid nonempty (t, e) b = IsBefore-shorter_left item kind l m t valid nonempty (subst (λ x. IsBefore item x m) (sym e) b)
 
+  -- what comes before a key comes before a label that begins it
   before_right : (k m l : List ℕ) → IsValid item l → l ≢ [] → Begins l m → IsBefore item k m
       → IsBefore item k l
   before_right k m l valid nonempty begun b =
@@ -93,6 +97,7 @@ module _ (item : List ℕ → Type 0) (kind : IsKeyKind item) where
       }
 
   module _ {V : Type 0} where
+    -- a label that begins a key comes before the siblings that the key comes before
     pub before_row_left : (k l : List ℕ) (s : Siblings V) → IsValid item l → l ≢ [] → Begins l k
         → IsBeforeSiblings item k s → IsBeforeSiblings item l s
     before_row_left k l end valid nonempty begun b = tt
@@ -107,7 +112,7 @@ module _ (item : List ℕ → Type 0) (kind : IsKeyKind item) where
       pub ok : IsCanonicalWithin item (Some 255) (node label value child s)
       pub same : entries (node label value child s) ≡ prefixed k (own v ++ entries c) ++ entries s
 
-    -- a long label as a chain of pieces
+    -- a label is a chain of pieces of at most 255 bytes, with the node's value at its end
     pub chain : (n : ℕ) (k : List ℕ) (v : Option V) (c s : Siblings V) → length k ≤ n
         → IsValid item k → k ≢ [] → ((l : List ℕ) → EarnsWithin item (Some 255) l v c)
         → IsCanonicalWithin item (Some 255) c → IsCanonicalWithin item (Some 255) s
@@ -183,7 +188,7 @@ module _ (item : List ℕ → Type 0) (kind : IsKeyKind item) where
       pub wide : width row ≡ width r
       pub before : (k : List ℕ) → IsBeforeSiblings item k r → IsBeforeSiblings item k row
 
-    -- siblings with their long labels cut
+    -- a row in memory has a row with the same entries, and labels of at most 255 bytes
     pub cut_row : (r : Siblings V) → IsCanonical item r → Cut r
     cut_row end ok = record { row = end; ok = tt; same = refl; wide = refl; before = λ k b. b }
     cut_row (node l v c s) ok =

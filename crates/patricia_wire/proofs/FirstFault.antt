@@ -13,6 +13,7 @@ named k at = get_or
     TooManyValues ∷ []) k Memory
 
 module _ (item : List ℕ → Type 0) where
+  -- the error of a broken rule is the one of its number, at its record's offset
   rule_named : (before : List Record) (r : Record) (n at k : ℕ) (e : DecodeError)
       → Breaks item before r n at k e → e ≡ named k at
   rule_named before r n at k e (other_level h) = refl
@@ -24,6 +25,7 @@ module _ (item : List ℕ → Type 0) where
   rule_named before r n at k e (bare later value child) = refl
   rule_named before r n at k e (no_value less) = refl
 
+  -- and so is the error of each fault that stands
   stands_named : (w : ℕ) (b : List ℕ) (n k at : ℕ) (e : DecodeError) → Stands item w b n k at e
       → e ≡ named k at
   stands_named w b n k at e (cut_short before rest reads begun cut) = refl

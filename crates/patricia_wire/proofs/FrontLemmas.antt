@@ -25,10 +25,12 @@ abbrev firsts : List ℕ → List (List ℕ)
 firsts [] = []
 firsts (b ∷ l) = (b ∷ []) ∷ map (λ p. (b ∷ []) ++ p) (firsts l)
 
+-- a list has as many fronts as bytes
 length-firsts : (l : List ℕ) → length (firsts l) ≡ length l
 length-firsts [] = refl
 length-firsts (b ∷ l) = ap suc (length-map (firsts l) (λ p. (b ∷ []) ++ p) ∙ length-firsts l)
 
+-- each of them has bytes, and is a prefix of the list
 firsts-begin : (l p : List ℕ) → Has (firsts l) p → (p ≢ []) × Begins p l
 firsts-begin [] p h = absurd h
 firsts-begin (b ∷ l) p (inl e) = ((λ none. let same : (b ∷ []) ≡ [] = e ∙ none in cc), subst (λ q. Begins q (b ∷ l)) e (l, refl))
@@ -37,6 +39,7 @@ firsts-begin (b ∷ l) p (inr h) =
     let shorter = firsts-begin l behind.0 behind.2 in
     ((λ none. let same : (b ∷ behind.0) ≡ [] = behind.1 ∙ none in cc), subst (λ q. Begins q (b ∷ l)) behind.1 (Begins-behind (b ∷ []) behind.0 l shorter.1))
 
+-- each prefix of the list that has bytes is one of them
 begin-firsts : (l p : List ℕ) → p ≢ [] → Begins p l → Has (firsts l) p
 begin-firsts l [] nonempty begun = absurd (nonempty refl)
 begin-firsts [] (x ∷ p) nonempty (rest, e) = absurd (cc)
@@ -48,6 +51,7 @@ begin-firsts (b ∷ l) (x ∷ y ∷ p) nonempty (rest, e) =
     (Has-behind (b ∷ []) (firsts l) (y ∷ p)
     (begin-firsts l (y ∷ p) (λ none. cc) (rest, tails))))
 
+-- no front of a list stands twice among them
 firsts-apart : (l : List ℕ) → AreApart (firsts l)
 firsts-apart [] = tt
 firsts-apart (b ∷ l) = (
@@ -94,6 +98,7 @@ module _ {V : Type 0} where
         length-map (fronts c) (λ p. l ++ p),
       )
 
+  -- what holds of the keys of all entries holds of each key that is among them
   has_key : (P : List ℕ → Type 0) (es : List (List ℕ × V)) (k : List ℕ) → AllKeys P es
       → Has (keys_of es) k → P k
   has_key P [] k all h = absurd h
@@ -101,6 +106,7 @@ module _ {V : Type 0} where
   has_key P (e ∷ es) k all (inr h) = has_key P es k all.1 h
 
 module _ (item : List ℕ → Type 0) (kind : IsKeyKind item) {V : Type 0} where
+  -- each front of a row is a front of its keys
   fronts-of : (r : Siblings V) → IsCanonicalWithin item (Some 255) r → (p : List ℕ)
       → Has (fronts r) p → IsFront (keys_of (entries r)) p
   fronts-of end ok p h = absurd h
@@ -131,6 +137,7 @@ module _ (item : List ℕ → Type 0) (kind : IsKeyKind item) {V : Type 0} where
     ]
   ]
 
+  -- each front of a row's keys is one of the row
   of-fronts : (r : Siblings V) → (p : List ℕ) → IsFront (keys_of (entries r)) p → Has (fronts r) p
   of-fronts end p f = absurd f.has
   of-fronts (node l v c s) p f = elim (has_one l (own v ++ entries c) (entries s) f.key f.has) [
@@ -190,6 +197,7 @@ module _ (item : List ℕ → Type 0) (kind : IsKeyKind item) {V : Type 0} where
         ]
       ]
 
+  -- where items are bytes, no front of a row stands twice among them
   fronts-apart : AreSingle item → (r : Siblings V) → IsCanonicalWithin item (Some 255) r
       → AreApart (fronts r)
   fronts-apart single end ok = tt
@@ -214,6 +222,7 @@ module _ (item : List ℕ → Type 0) (kind : IsKeyKind item) {V : Type 0} where
       too_long x (y ∷ q) nonempty begun e = omega (arith, ap length e, ap length begun.1, length-append l (y ∷ q), length-append x begun.0)
 
 module _ (item : List ℕ → Type 0) (kind : IsKeyKind item) where
+  -- where items are bytes, the labels of a tight tree have a byte for each front of its keys
   pub labels_are_fronts : (R : List Record) (E : List (List ℕ)) → Root item R E → IsTight item R
       → LabelsAreFronts item R E
   labels_are_fronts R E root tight single =

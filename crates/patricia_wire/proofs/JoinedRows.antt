@@ -8,6 +8,7 @@ use Rattle.patricia_model.proofs.RemovalLemmas.{taken_in_row, taken_in_entries}
 use Rattle.patricia_wire.specs.Internal.WrittenRows.{has_node, over, joined, IsWritable}
 
 module _ (item : List ℕ → Type 0) where
+  -- what comes before a label comes before it with more behind
   before_longer : (k l m : List ℕ) → IsBefore item k l → IsBefore item k (l ++ m)
   before_longer k l m b = record {
     first = b.first;
@@ -27,6 +28,7 @@ module _ (item : List ℕ → Type 0) (kind : IsKeyKind item) {V : Type 0} where
     pub there : has_node row ≡ has_node r
     pub before : (k : List ℕ) → IsBeforeSiblings item k r → IsBeforeSiblings item k row
 
+  -- where children and siblings are joined, a node is, once it takes in a lone child
   joined_node : (l : List ℕ) (v : Option V) (c s d t : Siblings V) → IsWritable item (node l v c s)
       → IsJoined c d → IsJoined s t → IsJoined (node l v c s) (over l v d t)
   joined_node l v c s d t ok child sibling = go v d ok.marked child.ok child.there child.same
@@ -64,7 +66,7 @@ module _ (item : List ℕ → Type 0) (kind : IsKeyKind item) {V : Type 0} where
       }
       go None (node m w d (node m' w' d' t')) marked okd there same = kept None (node m w d (node m' w' d' t')) tt okd same
 
-  -- siblings with their cut labels joined again
+  -- a writable row with its lone children joined keeps the invariant, and its entries
   pub joined_is : (r : Siblings V) → IsWritable item r → IsJoined r (joined r)
   joined_is end ok = record { ok = tt; same = refl; there = refl; before = λ k b. b }
   joined_is (node l v c s) ok = joined_node l v c s (joined c) (joined s) ok (joined_is c ok.child) (joined_is s ok.sibling)

@@ -18,6 +18,7 @@ use Rattle.patricia_wire.proofs.JoinedRows.{joined_is}
 use Rattle.patricia_wire.proofs.RowTrees.{Nothing, stands_tree}
 
 module _ (item : List ℕ → Type 0) (kind : IsKeyKind item) where
+  -- the keys of a tree of records are those of a finite map, and valid
   pub keys_of_tree : (R : List Record) (S : List (List ℕ)) → Root item R S
       → (m : map.FinMap key_cmp Nothing) × (map.keys m ≡ S) × All (IsValid item) S
   keys_of_tree R S root =
@@ -39,6 +40,7 @@ below-keys k (x ∷ xs) (y ∷ ys) e =
     let rest = below-keys k xs ys tail in
     λ i. is_lt (key_cmp k (head i)) && rest i
 
+-- lists of entries with the same keys are both in order, or neither is
 sorted-keys : {V W : Type 0} (xs : List (List ℕ × V)) (ys : List (List ℕ × W))
     → keys_of xs ≡ keys_of ys → is_sorted key_cmp xs ≡ is_sorted key_cmp ys
 sorted-keys [] [] e = λ _. is_sorted {X = Nothing} key_cmp []
@@ -52,6 +54,7 @@ sorted-keys (x ∷ xs) (y ∷ ys) e =
     λ i. below i && rest i
 
 module _ (item : List ℕ → Type 0) (kind : IsKeyKind item) {V : Type 0} where
+  -- what bytes and values mean is the rows of a finite map, and its keys are valid
   pub meant_map : (w : ℕ) (b : List ℕ) (values : List V) (M : List (List ℕ × V))
       → Means item w b values M
       → (m : map.FinMap key_cmp V) × (map.entries m ≡ M) × All (IsValid item) (map.keys m)

@@ -196,7 +196,7 @@ module _ (item : List ℕ → Type 0) (kind : IsKeyKind item) (due : Due) (left 
               (inl top))
               (λ not_valid. broken invalid_label (not_valid, bare_under))
 
--- a value that a mark takes
+-- where a mark is set, a value is left for it, and is taken off their number
 take_value : (value : Bool) (left : ℕ) → ((value ≡ true) × (left ≡ 0) → ⊥)
     → (more : ℕ) × (more + bit_if value 1 ≡ left)
 take_value false left enough = (left, omega arith)
@@ -221,12 +221,13 @@ module _ (item : List ℕ → Type 0) (kind : IsKeyKind item) where
   AllAfter [] = Unit {0}
   AllAfter (due ∷ D) = IsAfter item due × AllAfter D
 
+  -- where a mark adds what is due, each label that is waited behind is valid still
   after_where : (mark : Bool) (due : Due) (D : List Due) → (mark ≡ true → IsAfter item due)
       → AllAfter D → AllAfter (due_where mark due ++ D)
   after_where false due D is all = all
   after_where true due D is all = (is refl, all)
 
-  -- what is due behind a record that keeps the rules
+  -- behind a record that keeps the rules, each label that is waited behind is valid
   after_more : (due : Due) (r : Record) (W : List Due) → KeepsRules item due r → AllAfter W
       → AllAfter (due_behind r ++ W)
   after_more due r W kept all =
@@ -252,7 +253,7 @@ module _ (item : List ℕ → Type 0) (kind : IsKeyKind item) where
       after : AllAfter D
       bytes : All (λ x. x < 256) rest
 
-    -- nothing is due
+    -- where nothing is due, the input means rows or has a first fault
     ends : (left : ℕ) (before : List Record) (offset : ℕ) (rest : List ℕ)
         → IsSoFar left before [] offset rest → G
     ends left before offset (x ∷ rest) s =
@@ -298,6 +299,7 @@ module _ (item : List ℕ → Type 0) (kind : IsKeyKind item) where
         rest_bytes [] y a = a
         rest_bytes (z ∷ x) y a = rest_bytes x y (All-tail (λ z. z < 256) z (x ++ y) a)
 
+    -- whatever of the bytes is left to be read, the input means rows or has a first fault
     run : (fuel left : ℕ) (before : List Record) (D : List Due) (offset : ℕ) (rest : List ℕ)
         → length rest < fuel → IsSoFar left before D offset rest → G
     run zero left before D offset rest less s = absurd (omega (arith, less))
@@ -322,7 +324,7 @@ module _ (item : List ℕ → Type 0) (kind : IsKeyKind item) where
           ))
     ]
 
-    -- from the first byte on
+    -- so the input means rows or has a first fault
     pub meant_or_refused : All (λ x. x < 256) b → G
     meant_or_refused bytes =
         run (suc (length b)) (length values) [] _ 0 b (omega arith) (record {

@@ -40,7 +40,7 @@ prefix w (x ∷ P) (r ∷ R) b read rest p e q =
     let tail = more.1 in
     (more.0, (λ i. sym head i ∷ tail i), more.2)
 
--- a record needs its bytes
+-- bytes that begin with a record are not too few for one
 pub enough : (w : ℕ) (r : Record) (b rest : List ℕ) → Encodes w r b → IsCutShort w (b ++ rest) → ⊥
 enough w r b rest p short =
     let whole : b ++ rest ≡ (p.flags ∷ after_flags w r) ++ rest = ap (λ l. l ++ rest) p.is in
@@ -57,10 +57,12 @@ enough w r b rest p short =
 abbrev one_if : Record → ℕ
 one_if r = bit_if r.value 1
 
+-- a node has a value mark for its own entry
 marks_own : (v : Option Nothing) → bit_if (is_some v) 1 ≡ length (own v)
 marks_own None = refl
 marks_own (Some x) = refl
 
+-- the records of a row have a value mark for each entry
 marks_row : (d : ℕ) (row : Siblings Nothing) → value_marks (records_of d row) ≡ length (entries row)
 marks_row d end = refl
 marks_row d (node l v c s) = omega (
@@ -78,6 +80,7 @@ marks_row d (node l v c s) = omega (
   length-append (own v) (entries c),
 )
 
+-- and so have those of a tree, with the root's
 marks_tree : (v : Option Nothing) (row : Siblings Nothing)
     → value_marks (tree_records v row) ≡ length (own v ++ entries row)
 marks_tree v row = omega (
@@ -90,6 +93,7 @@ marks_tree v row = omega (
 )
 
 module _ (item : List ℕ → Type 0) where
+  -- a tree of records has a value mark for each of its keys
   pub marks : (R : List Record) (E : List (List ℕ)) → Root item R E → value_marks R ≡ length E
   marks R E root =
       let t = stands_tree item R E root in
@@ -118,6 +122,7 @@ module _ (item : List ℕ → Type 0) where
       let tails : records_of 1 row ≡ before ++ (r ∷ Y) = cc in
       inr ((λ none. cc), good item 1 row ok before r Y tails)
 
+  -- a record of a tree comes after the sibling before it
   tree_rising : (v : Option Nothing) (row : Siblings Nothing) (before : List Record) (r : Record)
       (Y : List Record) → IsWritable item row → tree_records v row ≡ before ++ (r ∷ Y)
       → (x : Record) → IsLastUpTo before r.level x → x.level ≡ r.level
@@ -131,6 +136,7 @@ module _ (item : List ℕ → Type 0) where
         | inr later ↦ rising item 1 row ok before r Y tails x later same
       ]
 
+  -- no record of a tree breaks a rule, where there are as many values as keys
   not_faulty : (R before : List Record) (r : Record) (Y : List Record) (E : List (List ℕ)) (n : ℕ)
       → n ≡ length E → Root item R E → R ≡ before ++ (r ∷ Y) → (at k : ℕ) (f : DecodeError)
       → Breaks item before r n at k f → ⊥
@@ -179,6 +185,7 @@ module _ (item : List ℕ → Type 0) where
           (before ++ (r ∷ [])) Y in
           omega (arith, all, parts, count, less)
 
+  -- no fault stands in the bytes of a tree, where there are as many values as keys
   no_fault : (w : ℕ) (b : List ℕ) (R : List Record) (E : List (List ℕ)) (n : ℕ) → n ≡ length E
       → EncodeAll w R b → Root item R E → (k at : ℕ) (f : DecodeError) → Stands item w b n k at f
       → ⊥

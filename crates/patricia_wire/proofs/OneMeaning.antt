@@ -11,6 +11,7 @@ use Rattle.patricia_wire.specs.Internal.WrittenRows.{has_node, record_of, record
 use Rattle.patricia_wire.proofs.RowTrees.{Nothing, stands_tree}
 use Rattle.patricia_wire.proofs.Spellings.{one_list, clean_spell_all}
 
+-- two marks that are both set or both clear are the same
 is_some-same : (v w : Option Nothing) → is_some v ≡ is_some w → v ≡ w
 is_some-same None None e = refl
 is_some-same None (Some y) e = absurd (cc)

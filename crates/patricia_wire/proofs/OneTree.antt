@@ -28,6 +28,7 @@ module _ (item : List ℕ → Type 0) where
   tight_within R E t tight = apart_within item 1 t.row t.ok (subst (IsTight item) (sym t.records) tight)
 
 module _ (item : List ℕ → Type 0) (kind : IsKeyKind item) where
+  -- two tight trees with the same keys are the same list of records
   pub one_tree : (R X : List Record) (E : List (List ℕ)) → Root item R E → Root item X E
       → IsTight item R → IsTight item X → R ≡ X
   one_tree R X E x y t u =

@@ -45,6 +45,7 @@ split_place (a ∷ A) B (h ∷ ahead) r after e =
       | inr x ↦ (let rest = x.1 in inr (x.0, (λ i. head i ∷ rest i), x.2))
     ]
 
+-- records that end low have a last one, and it has no child
 last_of : (h : Record) (C : List Record) → EndsLow (h ∷ C)
     → (init : List Record) × (last : Record) × (h ∷ C ≡ init ++ (last ∷ [])) × (last.child ≡ false)
 last_of h [] low = ([], h, refl, low)
@@ -61,6 +62,7 @@ module _ {V : Type 0} where
     past : (inner : List Record) → ahead ≡ record_of d l v c s ∷ (records_of (d + 1) c ++ inner)
         → records_of d s ≡ inner ++ (r ∷ after) → Place d l v c s ahead r after
 
+  -- a record of a row is its first node's, or one below that node or beside it
   place : (d : ℕ) (l : List ℕ) (v : Option V) (c s : Siblings V) (ahead : List Record) (r : Record)
       (after : List Record) → records_of d (node l v c s) ≡ ahead ++ (r ∷ after)
       → Place d l v c s ahead r after
@@ -86,12 +88,14 @@ module _ {V : Type 0} where
     | past inner a b ↦ deep d s inner r after b
   ]
 
+  -- where a row lies below a level, so do all its records
   all_above : (k d : ℕ) (row : Siblings V) → k < d → All (λ y. k < y.level) (records_of d row)
   all_above k d end h = All-nil (λ y. k < y.level)
   all_above k d (node l v c s) h =
       All-cons (λ y. k < y.level) (record_of d l v c s) (records_of (d + 1) c ++ records_of d s) h
       (All-append (λ y. k < y.level) (records_of (d + 1) c) (records_of d s) (all_above k (d + 1) c (omega arith)) (all_above k d s h))
 
+  -- a row that has a record has a node
   is_child : (d : ℕ) (row : Siblings V) (ahead : List Record) (r : Record) (after : List Record)
       → records_of d row ≡ ahead ++ (r ∷ after) → has_node row ≡ true
   is_child d end ahead r after e = absurd (nil_split ahead r after e)
@@ -192,6 +196,7 @@ behind h inner d x up = go up.ahead up.after up.is up.deeper
         let tails : inner ≡ A ++ (x ∷ Z) = cc in
         inr (record { ahead = A; after = Z; is = tails; level = up.level; deeper = all })
 
+-- the last record up to a level is among the first records, or it is one of the rest
 skip : (C inner : List Record) (d : ℕ) (x : Record) → IsLastUpTo (C ++ inner) d x
     → ((A : List Record) × (Z : List Record) × (C ≡ A ++ (x ∷ Z)) × All (λ y. d < y.level) inner) ⊎ IsLastUpTo inner d x
 skip [] inner d x up = inr up

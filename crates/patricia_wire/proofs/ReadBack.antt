@@ -15,13 +15,13 @@ module _ (item : List ℕ → Type 0) {V : Type 0} where
       → Means item w b (values_of rows) M → M ≡ rows
   reads_back w b rows M x means = one_meaning item w b (values_of rows) M rows means x.means
 
-  -- a first fault stands
+  -- bytes and values that mean rows have no first fault
   pub no_first_fault :
       (w : ℕ) (b : List ℕ) (values : List V) (M : List (List ℕ × V)) (e : DecodeError)
       → Means item w b values M → IsFirst item w b (length values) e → ⊥
   no_first_fault w b values M e means first = no_fault_meant item w b values M first.number first.at e means first.stands
 
-  -- so nothing but out of memory refuses it
+  -- so nothing but out of memory refuses them
   pub memory_alone :
       (w : ℕ) (b : List ℕ) (values : List V) (M : List (List ℕ × V)) (e : DecodeError)
       → Means item w b values M → IsRefusal item w b (length values) e → e ≡ Memory

@@ -282,6 +282,7 @@ module _ (before : List Record) (r : Record) (e : Due) (W : List Due) (h : IsHel
     | inr more ↦ omega (arith, more, same)
   ]
 
+  -- what waited before is still due behind the record
   rest : All (IsBehind after) W
   rest = still_behind before r W low (rest_behind before e W h.state)
 
@@ -348,6 +349,7 @@ module _ (before : List Record) (r : Record) (e : Due) (W : List Due) (h : IsHel
         | inr later ↦ has_later x.level (due_behind r) W later
       ]
 
+  -- so each record that waits has its sibling's level due
   more_waits : (x : Record) → IsWaiting after x → HasLevel x.level (due_behind r ++ W)
   more_waits x w = elim (back_split before r w.ahead (x ∷ w.after) w.is) [
     | inl none ↦ absurd (let gone = none.0 in cc)

@@ -11,7 +11,7 @@ use Rattle.patricia_wire.specs.Faults.{value_marks, IsLastUpTo, IsDue, other_lev
 use Rattle.patricia_wire.specs.declared.error.DecodeError.{DecodeError}
 use Rattle.patricia_wire.proofs.Readings.{same_number, one_due, is_due, root_due, first_due, after_given, after_is}
 
--- one value more, where the mark is set
+-- one record more adds its value mark, where it is set
 pub marks_more : (before : List Record) (r : Record)
     → value_marks (before ++ (r ∷ [])) ≡ value_marks before + bit_if r.value 1
 marks_more before r = omega (arith, sum_by-append (λ (x : Record). bit_if x.value 1) before (r ∷ []))

@@ -20,7 +20,7 @@ data IsAligned (w : ℕ) (P Q : List Record) (x y : List ℕ) : Type 0 where
   nearer : (s : Record) (S : List Record) (one others : List ℕ) → P ≡ Q ++ (s ∷ S) → Encodes w s one
       → y ≡ one ++ others → IsAligned w P Q x y
 
--- so they are
+-- where two lists of records are read from one input, one begins the other
 align : (w : ℕ) (P Q : List Record) (p q x y : List ℕ) → EncodeAll w P p → EncodeAll w Q q
     → p ++ x ≡ q ++ y → IsAligned w P Q x y
 align w [] Q p q x y a b e = further Q q refl b (ap (λ l. l ++ x) (sym a) ∙ e)
@@ -168,7 +168,7 @@ module _ (item : List ℕ → Type 0) (n : ℕ) where
         least j (over E e tree some) = absurd (begun before [] E (sym (append-nil before)) tree)
         least j (many E e tree none) = absurd (begun before [] E (sym (append-nil before)) tree)
 
-    -- bytes that end within a record
+    -- where bytes end within a record, that is the first fault
     pub first_cut_short :
         (before : List Record) (due : Due) (waiting : List Due) (offset : ℕ) (rest : List ℕ)
         → IsRead item n before (due ∷ waiting) → Reads w b before offset rest → IsCutShort w rest
@@ -183,7 +183,7 @@ module _ (item : List ℕ → Type 0) (n : ℕ) where
         least j (over E e tree some) = omega (arith, e)
         least j (many E e tree none) = omega (arith, e)
 
-    -- bytes behind a tree
+    -- where bytes are left behind a tree, that is
     pub first_trailing : (R : List Record) (offset : ℕ) (rest : List ℕ) (E : List (List ℕ))
         → IsRead item n R [] → Reads w b R offset rest → Root item R E → rest ≢ []
         → IsFirst item w b n (TrailingBytes offset)
@@ -196,7 +196,7 @@ module _ (item : List ℕ → Type 0) (n : ℕ) where
         least j (over F e other more) = omega (arith, e)
         least j (many F e other none) = absurd (some none)
 
-    -- values that no record takes
+    -- and where values are left that no record takes, that is
     pub first_too_many : (R : List Record) (E : List (List ℕ)) → IsRead item n R []
         → EncodeAll w R b → Root item R E → value_marks R < n → IsFirst item w b n TooManyValues
     first_too_many R E read spelled tree less =

@@ -18,6 +18,7 @@ number_of : List ℕ → ℕ
 number_of [] = 0
 number_of (x ∷ l) = x * 256 ^ length l + number_of l
 
+-- it is less than 256 to the power of how many bytes there are
 number_below : (l : List ℕ) → AreBytes l → number_of l < 256 ^ length l
 unfolding number_of
 number_below [] all = omega arith
@@ -25,13 +26,14 @@ number_below (x ∷ l) all =
     let less = mul-add-lt x (256 ^ length l) (number_of l) 256 (All-head (λ b. b < 256) x l all) (number_below l (All-tail (λ b. b < 256) x l all)) in
     subst (λ p. x * 256 ^ length l + number_of l < p) (sym (pow-suc 256 (length l))) less
 
--- the byte that stands before so many others
+-- of a number, the byte that has k others behind it is the one that stands there
 byte_before : (k x high low n : ℕ) → x < 256 → low < 256 ^ k → n ≡ (high * 256 + x) * 256 ^ k + low
     → byte_at k n ≡ x
 byte_before zero x high low n small below is = omega (arith, small, below, is)
 byte_before (suc k) x high low n small below is =
     ap (λ m. m / 256 ^ suc k % 256) is ∙ ap (λ m. m % 256) (div-mul-add (high * 256 + x) (256 ^ suc k) low below) ∙ mod-mul-add high 256 x small
 
+-- bytes spell their number, the high byte first, whatever stands above it
 high_first : (l : List ℕ) → AreBytes l → (high n : ℕ) → n ≡ high * 256 ^ length l + number_of l
     → bytes_high_first (length l) n ≡ l
 unfolding number_of
@@ -49,7 +51,7 @@ high_first (x ∷ l) all high n is =
     regroup : (h p x m : ℕ) → h * (p * 256) + (x * p + m) ≡ (h * 256 + x) * p + m
     regroup h p x m = grind arith
 
--- a test of a bit
+-- a bit is found set exactly where it is not 0
 tested_bit : (n : ℕ) → IsTrue (not (nat_eq n 0)) ↔ (n ≢ 0)
 tested_bit n = (λ t e. grind (arith, nat_tests), λ some. grind (arith, nat_tests))
 
@@ -61,7 +63,7 @@ pub record Fronts (w : ℕ) (r : Record) (bytes : List ℕ) : Type 0 where
   pub joined : bytes ≡ first ++ rest
   pub fewer : length rest < length bytes
 
--- the record whose head is these bytes and whose label is the next ones
+-- bytes that have room for the level and the label they claim begin with a record
 fronts : (w f n : ℕ) (l : List ℕ) → AreBytes (f ∷ n ∷ l) → w + n ≤ length l
     → (r : Record) × Fronts w r (f ∷ n ∷ l)
 fronts w f n l all enough = (

@@ -14,25 +14,29 @@ abbrev mark_value : Bool → Option Nothing
 mark_value false = None
 mark_value true = Some tt
 
+-- a value is there exactly where the mark is set
 is_some-mark : (m : Bool) → is_some (mark_value m) ≡ m
 is_some-mark false = refl
 is_some-mark true = refl
 
 module _ {V : Type 0} where
+  -- the keys of two lists of entries are those of the first, then those of the second
   keys_of-append : (xs ys : List (List ℕ × V)) → keys_of (xs ++ ys) ≡ keys_of xs ++ keys_of ys
   keys_of-append [] ys = refl
   keys_of-append (x ∷ xs) ys = ap (λ r. x.0 ∷ r) (keys_of-append xs ys)
 
+  -- the keys of entries behind a label are theirs, each with the label before it
   keys_of-prefixed : (p : List ℕ) (xs : List (List ℕ × V))
       → keys_of (prefixed p xs) ≡ behind p (keys_of xs)
   keys_of-prefixed p [] = refl
   keys_of-prefixed p (x ∷ xs) = ap (λ r. (p ++ x.0) ∷ r) (keys_of-prefixed p xs)
 
+  -- the own entry of a node, where it has a value, is at the empty key
   keys_of-own : (v : Option V) → keys_of (own v) ≡ own_key (is_some v)
   keys_of-own None = refl
   keys_of-own (Some x) = refl
 
-  -- the keys of a value and of what lies below it
+  -- the keys of a node are the empty one, where it has a value, and those below it
   keys_inside : (v : Option V) (c : Siblings V)
       → keys_of (own v ++ entries c) ≡ own_key (is_some v) ++ keys_of (entries c)
   keys_inside v c = keys_of-append (own v) (entries c) ∙ ap (λ k. k ++ keys_of (entries c)) (keys_of-own v)
@@ -45,6 +49,7 @@ module _ {V : Type 0} where
       ∙ ap (λ k. k ++ keys_of (entries s)) (keys_of-prefixed l (own v ++ entries c) ∙ ap (behind l) (keys_inside v c))
 
 module _ (item : List ℕ → Type 0) {V : Type 0} where
+  -- a label that comes before siblings comes before the label of their first record
   before_first : (d : ℕ) (l : List ℕ) (s : Siblings V) → IsBeforeSiblings item l s
       → IsBeforeFirst item l (records_of d s)
   before_first d l end before = tt
@@ -83,11 +88,13 @@ module _ (item : List ℕ → Type 0) where
     keys : keys_of (entries row) ≡ E
     ok : IsWritable item row
 
+  -- a label that comes before the first record of siblings comes before the siblings
   rises_of : (d : ℕ) (l : List ℕ) (s : Siblings Nothing) → IsBeforeFirst item l (records_of d s)
       → IsBeforeSiblings item l s
   rises_of d l end before = tt
   rises_of d l (node m v c s) before = before
 
+  -- a record with what stands below it and beside it stands for a node
   stands_node : (d : ℕ) (R : List Record) (E : List (List ℕ)) (r : Record) (C X : List Record)
       (Ec Ex : List (List ℕ)) → IsInner item d r → Stands r.child (d + 1) C Ec
       → Stands r.sibling d X Ex → IsBeforeFirst item r.label X → R ≡ r ∷ (C ++ X)
@@ -121,10 +128,12 @@ module _ (item : List ℕ → Type 0) where
   }
 
   mutual
+    -- the records of a forest are those of a writable row
     stands : (d : ℕ) (R : List Record) (E : List (List ℕ)) → Forest item d R E → Stands true d R E
     stands d R E (forest r C X Ec Ex inner child sibling before eR eE) =
         stands_node d R E r C X Ec Ex inner (stands_if r.child (d + 1) C Ec child) (stands_if r.sibling d X Ex sibling) before eR eE
 
+    -- and so are those of a forest that is there only where a mark is set
     stands_if : (mark : Bool) (d : ℕ) (R : List Record) (E : List (List ℕ))
         → ForestIf item mark d R E → Stands mark d R E
     stands_if mark d R E (absent unset eR eE) = record { row = end; there = sym unset; records = sym eR; keys = sym eE; ok = tt }

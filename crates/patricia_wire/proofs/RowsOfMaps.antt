@@ -20,10 +20,12 @@ use Rattle.patricia_model.proofs.InsertLemmas.{single, put_own, put_child, put_f
 use Rattle.patricia_model.proofs.ListLemmas.{IsBelow, key_cmp-equal, put_below}
 use Rattle.patricia_model.proofs.TreeLemmas.{entries_map}
 
+-- of two tests that hold, the first holds
 first : (a b : Bool) → T (a && b) → T a
 first true b t = tt
 first false b t = t
 
+-- and so does the second
 second : (a b : Bool) → T (a && b) → T b
 second true b t = t
 second false b t = absurd t
@@ -41,10 +43,12 @@ module _ (item : List ℕ → Type 0) (kind : IsKeyKind item) where
     label_valid : IsValid item label_rest
     apart : SharesItem item key_rest label_rest → ⊥
 
+  -- no item is a prefix of the empty key
   no_item : (i k : List ℕ) → k ≡ [] → item i → Begins i k → ⊥
   no_item [] k none is begun = item-nonempty item kind [] is refl
   no_item (x ∷ i) k none is begun = absurd (let h : (x ∷ i) ++ begun.0 ≡ [] = begun.1 ∙ none in cc)
 
+  -- lists of items have a common front, and rests that share no first item
   parted : (is js : List (List ℕ)) → AllByRecursion item is → AllByRecursion item js
       → Parts (concat is) (concat js)
   parted [] js p q = record {
@@ -103,6 +107,7 @@ module _ (item : List ℕ → Type 0) (kind : IsKeyKind item) where
         apart = rest.apart;
       }
 
+  -- and so have a valid key and a valid label
   parts : (q l : List ℕ) → IsValid item q → IsValid item l → Parts q l
   parts q l v w = subst (λ k. Parts k l) v.2 (subst (Parts (concat v.0)) w.2 (parted v.0 w.0 v.1 w.1))
 
@@ -148,6 +153,7 @@ module _ (item : List ℕ → Type 0) (kind : IsKeyKind item) where
             less = nat_list_cmp_total.antisymm second.0 first.0 ∙ ap ordering_reverse e;
           })
 
+  -- a key is empty, or it has bytes
   empty_or_not : (k : List ℕ) → (k ≡ []) ⊎ (k ≢ [])
   empty_or_not [] = inl refl
   empty_or_not (x ∷ k) = inr (λ e. cc)
@@ -159,6 +165,7 @@ module _ (item : List ℕ → Type 0) (kind : IsKeyKind item) where
       ok : IsCanonical item row
       put : entries row ≡ put key_cmp q x (entries r)
 
+    -- each row takes in one more valid key, which its entries then have
     grown : (q : List ℕ) (x : V) (r : Siblings V) → IsValid item q → q ≢ [] → IsCanonical item r
         → Grown q x r
     grown q x end valid nonempty ok = record {
@@ -273,6 +280,7 @@ module _ (item : List ℕ → Type 0) (kind : IsKeyKind item) where
           ]
         ]
 
+    -- a key that is tested to be below all entries is
     below_from : (q : List ℕ) (es : List (List ℕ × V)) → T (below_all key_cmp q es) → IsBelow q es
     below_from q [] t = tt
     below_from q (e ∷ es) t = (less (key_cmp q e.0) (first (is_lt (key_cmp q e.0)) _ t), below_from q es (second (is_lt (key_cmp q e.0)) _ t))
@@ -289,6 +297,7 @@ module _ (item : List ℕ → Type 0) (kind : IsKeyKind item) where
       pub ok : IsCanonical item row
       pub same : own value ++ entries row ≡ es
 
+    -- a tree with sorted entries takes in a valid key that is below them all
     one_more : (k : List ℕ) (x : V) (es : List (List ℕ × V)) → IsValid item k → IsBelow k es
         → Holds es → Holds ((k, x) ∷ es)
     one_more k x es valid below held = elim (empty_or_not k) [
@@ -312,6 +321,7 @@ module _ (item : List ℕ → Type 0) (kind : IsKeyKind item) where
         whole : put key_cmp k x (own held.value ++ entries held.row) ≡ (k, x) ∷ es
         whole = ap (put key_cmp k x) held.same ∙ put_below k x es below
 
+    -- sorted entries with valid keys are those of a tree
     holds : (es : List (List ℕ × V)) → All (IsValid item) (keys_of es) → T (is_sorted key_cmp es)
         → Holds es
     holds [] valid sorted = record { value = None; row = end; ok = tt; same = refl }

@@ -4,7 +4,7 @@ use Rattle.std.proofs.lemmas.Bool.{cases_lt}
 use Rattle.patricia_wire.specs.Records.{Record}
 use Rattle.patricia_wire.specs.Internal.Readings.{Rule, level, root_label, root_sibling, empty_label, invalid_label, sibling_order, no_value_no_child, too_few_values, number, Due, Breaks, BreaksNone, BreaksNoneBelow}
 
--- the numbers are those from 3 to 10
+-- no rule has a number below 3
 pub least_rule : (rule : Rule) → 3 ≤ number rule
 least_rule level = omega arith
 least_rule root_label = omega arith
@@ -15,6 +15,7 @@ least_rule sibling_order = omega arith
 least_rule no_value_no_child = omega arith
 least_rule too_few_values = omega arith
 
+-- no rule has a number past 10
 pub last_rule : (rule : Rule) → number rule < 11
 last_rule level = omega arith
 last_rule root_label = omega arith
@@ -31,6 +32,7 @@ numbered k = get_or
     (level ∷ level ∷ level ∷ level ∷ root_label ∷ root_sibling ∷ empty_label ∷ invalid_label ∷
     sibling_order ∷ no_value_no_child ∷ too_few_values ∷ []) k level
 
+-- each rule is the one of its number
 numbered-number : (rule : Rule) → numbered (number rule) ≡ rule
 numbered-number level = refl
 numbered-number root_label = refl
@@ -50,7 +52,7 @@ module _ (item : List ℕ → Type 0) (due : Due) (left : ℕ) (r : Record) wher
   pub below_level : BreaksNoneBelow item due left r 3
   below_level rule less b = omega (arith, less, least_rule rule)
 
-  -- one rule more that is kept
+  -- where the rules below one are kept, and it is, so are those up to it
   pub kept_next : (rule : Rule) → BreaksNoneBelow item due left r (number rule)
       → (Breaks item due left r rule → ⊥) → BreaksNoneBelow item due left r (number rule + 1)
   kept_next rule below kept g less b = elim (cases_lt (number g) (number rule)) [
@@ -58,6 +60,6 @@ module _ (item : List ℕ → Type 0) (due : Due) (left : ℕ) (r : Record) wher
     | inr least ↦ kept (subst (Breaks item due left r) (number_same g rule (omega (arith, less, least))) b)
   ]
 
-  -- all rules are kept
+  -- where the rules below number 11 are kept, all are
   pub kept_all : BreaksNoneBelow item due left r 11 → BreaksNone item due left r
   kept_all below rule b = below rule (last_rule rule) b

@@ -8,18 +8,19 @@ use Rattle.std.proofs.lemmas.List.{append_assoc}
 use Rattle.std.proofs.lemmas.List.Elements.{All-head, All-tail}
 use Rattle.patricia_wire.specs.Records.{Record, AreFlags, HasRoom, Encodes, EncodeAll, canonical_flags, canonical_bytes, canonical_bytes_of, after_flags}
 
+-- two marks that are set where the same fact holds are the same
 same_mark : (a b : Bool) (P : Type 0) → IsTrue a ↔ P → IsTrue b ↔ P → a ≡ b
 same_mark true true P x y = refl
 same_mark true false P x y = sym (y.1 (x.0 refl))
 same_mark false true P x y = x.1 (y.0 refl)
 same_mark false false P x y = refl
 
--- how many bytes a level has
+-- a level is spelled in as many bytes as it is given
 pub length-high_first : (k n : ℕ) → length (bytes_high_first k n) ≡ k
 length-high_first zero n = refl
 length-high_first (suc k) n = ap suc (length-high_first k n)
 
--- lists of one length, and what follows them, are told apart
+-- where two lists of one length, with more behind each, are equal, so are both parts
 split_at : (a b x y : List ℕ) → length a ≡ length b → a ++ x ≡ b ++ y → (a ≡ b) × (x ≡ y)
 split_at [] [] x y len e = (refl, e)
 split_at [] (d ∷ b) x y len e = absurd (cc)
@@ -37,6 +38,7 @@ pub positive : (k : ℕ) → 0 < 256 ^ k
 positive zero = omega arith
 positive (suc k) = let less = positive k in let e = pow-succ' 256 k in omega arith
 
+-- numbers with the same k bytes are the same but for what is above those bytes
 low_same : (k n m : ℕ) → bytes_high_first k n ≡ bytes_high_first k m → n % 256 ^ k ≡ m % 256 ^ k
 low_same zero n m e = omega arith
 low_same (suc zero) n m e = cc
@@ -49,11 +51,12 @@ low_same (suc (suc k)) n m e =
     let whole = pow-succ' 256 (suc k) in
     ap (λ p. n % p) whole ∙ x ∙ (λ i. top i * 256 ^ suc k + low i) ∙ sym y ∙ sym (ap (λ p. m % p) whole)
 
+-- levels that have room in w bytes and the same bytes are the same
 level_same : (w n m : ℕ) → n < 256 ^ w → m < 256 ^ w → bytes_high_first w n ≡ bytes_high_first w m
     → n ≡ m
 level_same w n m h h' e = sym (mod-eq_of_lt h) ∙ low_same w n m e ∙ mod-eq_of_lt h'
 
--- one record, and where it ends
+-- bytes begin with one record, and it ends at one place
 pub record_same : (w : ℕ) (r s : Record) (b c x y : List ℕ) → Encodes w r b → Encodes w s c
     → b ++ x ≡ c ++ y → (r ≡ s) × (x ≡ y)
 record_same w r s b c x y p q e =
@@ -93,7 +96,7 @@ one_list w (r ∷ R) (x ∷ X) b p q =
     let tail = one_list w R X q.rest (subst (EncodeAll w R) both.1 p.others) q.others in
     λ i. head i ∷ tail i
 
--- a bit that is set, and one that is clear
+-- a bit that is not 0 is a mark that is set
 pub set : (bit : ℕ) → bit ≢ 0 → IsTrue true ↔ (bit ≢ 0)
 set bit some = (λ e. some, λ h. refl)
 

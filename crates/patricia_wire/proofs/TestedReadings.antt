@@ -27,7 +27,7 @@ each_passes t = t level &&
     (t empty_label &&
     (t invalid_label && (t sibling_order && (t no_value_no_child && t too_few_values))))))
 
--- where each passes, one does
+-- where the test of each rule passes, that of any rule does
 passes : (t : Rule → Bool) → each_passes t ≡ true → (rule : Rule) → t rule ≡ true
 passes t all rule = go rule
   where
@@ -57,10 +57,12 @@ abbrev pub is_nil : List ℕ → Bool
 is_nil [] = true
 is_nil (x ∷ l) = false
 
+-- a list that is tested to be empty is
 nil_is : (l : List ℕ) → is_nil l ≡ true → l ≡ []
 nil_is [] test = refl
 nil_is (x ∷ l) test = absurd (cc)
 
+-- and one that is tested to have something has
 some_is : (l : List ℕ) → not (is_nil l) ≡ true → l ≢ []
 some_is [] test = absurd (cc)
 some_is (x ∷ l) test = λ none. cc

@@ -20,6 +20,7 @@ use Rattle.patricia_wire.proofs.RowTrees.{Nothing, tree_of}
 abbrev pub are_shallow : ℕ → List Record → Bool
 are_shallow w R = list_all (λ r. nat_lt r.level (256 ^ w)) R
 
+-- where the test of levels passes, no record lies too deep
 not_deep : (w : ℕ) (R : List Record) → are_shallow w R ≡ true → Any (λ r. 256 ^ w ≤ r.level) R → ⊥
 not_deep w [] test (k, y, h, e, deep) = omega arith
 not_deep w (r ∷ R) test (zero, y, h, e, deep) =
@@ -39,6 +40,7 @@ are_apart (r ∷ []) = true
 are_apart (r ∷ c ∷ R) = is_apart r c && are_apart (c ∷ R)
 
 module _ (item : List ℕ → Type 0) (kind : IsKeyKind item) where
+  -- where the test of a record and its child passes, they could not be one
   stays_apart : (r c : Record) → is_apart r c ≡ true → StaysApart item r c
   stays_apart r c test none child lone i is begun =
       let full = by r.value r.child c.sibling (length r.label) test none child lone in
@@ -52,7 +54,7 @@ module _ (item : List ℕ → Type 0) (kind : IsKeyKind item) where
       by false true true n test none child lone = absurd (cc)
       by false true false n test none child lone = ltb-true 254 n test
 
-  -- and what it tells
+  -- where the test of records passes, none could be one with its child
   pub stay_apart : (R : List Record) → are_apart R ≡ true → StayApart item R
   stay_apart [] test = tt
   stay_apart (r ∷ []) test = tt
@@ -66,7 +68,7 @@ module _ (item : List ℕ → Type 0) (kind : IsKeyKind item) where
     | inr deep ↦ absurd (not_deep w (tree_records v r) shallow deep)
   ]
 
-  -- the encoding of the keys of a row
+  -- a row whose tests pass has the clean spelling of its records as its encoding
   pub written : (w : ℕ) (v : Option Nothing) (r : Siblings Nothing) → IsWritable item r
       → are_shallow w (tree_records v r) ≡ true → are_apart (records_of 1 r) ≡ true
       → Canon item w (canonical_bytes_of w (tree_records v r)) (keys_of (own v ++ entries r))
@@ -111,6 +113,7 @@ either false b e = inr e
 pub filled_of : (l : List ℕ) → nat_lt 0 (length l) ≡ true → l ≢ []
 filled_of l test none = let some = ltb-true 0 (length l) test in omega (arith, ap length none)
 
+-- where the test of first bytes passes, the label comes before the siblings
 rises : (l : List ℕ) (s : Siblings Nothing) → IsValid IsByteItem l → l ≢ [] → is_before l s ≡ true
     → IsWritable IsByteItem s → IsBeforeSiblings IsByteItem l s
 rises l end valid nonempty test ok = tt
@@ -143,6 +146,7 @@ byte_writable (node l v c s) test =
 abbrev pub has_room : ℕ → Record → Bool
 has_room w r = nat_lt r.level (256 ^ w) && (nat_lt (length r.label) 256 && are_bytes r.label)
 
+-- where the test of bytes passes, each is less than 256
 are_bytes-all : (l : List ℕ) → are_bytes l ≡ true → All (λ b. b < 256) l
 are_bytes-all [] test = All-nil (λ b. b < 256)
 are_bytes-all (b ∷ l) test = All-cons (λ b. b < 256) b l (ltb-true b 256 (first_so _ _ test)) (are_bytes-all l (second_so _ _ test))

@@ -13,6 +13,7 @@ EndsLow [] = Unit {0}
 EndsLow (r ∷ []) = r.child ≡ false
 EndsLow (r ∷ x ∷ R) = EndsLow (x ∷ R)
 
+-- two lists that each end with a record without child do so together
 EndsLow-append : (R X : List Record) → EndsLow R → EndsLow X → EndsLow (R ++ X)
 EndsLow-append [] X a b = b
 EndsLow-append (r ∷ []) [] a b = a
@@ -20,6 +21,7 @@ EndsLow-append (r ∷ []) (x ∷ X) a b = b
 EndsLow-append (r ∷ y ∷ R) X a b = EndsLow-append (y ∷ R) X a b
 
 module _ {V : Type 0} where
+  -- the last record of a row has no child
   pub ends_low : (d : ℕ) (r : Siblings V) → EndsLow (records_of d r)
   ends_low d end = tt
   ends_low d (node l v end end) = refl
@@ -29,6 +31,7 @@ module _ {V : Type 0} where
       (ends_low (d + 1) (node l' v' c' s')) (ends_low d s)
 
 module _ (item : List ℕ → Type 0) where
+  -- where the first of two lists ends without a child, what stays apart in each does joined
   apart_append : (R X : List Record) → EndsLow R → StayApart item R → StayApart item X
       → StayApart item (R ++ X)
   apart_append [] X low a b = b
@@ -36,20 +39,24 @@ module _ (item : List ℕ → Type 0) where
   apart_append (r ∷ []) (x ∷ X) low a b = (λ none child. (let h : true ≡ false = sym child ∙ low in absurd (cc)), b)
   apart_append (r ∷ y ∷ R) X low a b = (a.0, apart_append (y ∷ R) X low a.1 b)
 
+  -- what stays apart in two lists together does in the first
   apart_left : (R X : List Record) → StayApart item (R ++ X) → StayApart item R
   apart_left [] X a = tt
   apart_left (r ∷ []) X a = tt
   apart_left (r ∷ y ∷ R) X a = (a.0, apart_left (y ∷ R) X a.1)
 
+  -- what stays apart in a list does without its first record
   apart_rest : (r : Record) (R : List Record) → StayApart item (r ∷ R) → StayApart item R
   apart_rest r [] a = tt
   apart_rest r (x ∷ R) a = a.1
 
+  -- what stays apart in two lists together does in the second
   apart_right : (R X : List Record) → StayApart item (R ++ X) → StayApart item X
   apart_right [] X a = a
   apart_right (r ∷ R) X a = apart_right R X (apart_rest r (R ++ X) a)
 
 module _ (item : List ℕ → Type 0) {V : Type 0} where
+  -- a node that earns its place has a value or a child
   marked : (l : List ℕ) (v : Option V) (c : Siblings V) → EarnsWithin item (Some 255) l v c
       → (is_some v ≡ true) ⊎ (has_node c ≡ true)
   marked l (Some v) c earns = inl refl
@@ -91,6 +98,7 @@ module _ (item : List ℕ → Type 0) {V : Type 0} where
       (apart_append item (records_of (d + 1) c) (records_of d s) (ends_low (d + 1) c)
       (within_apart (d + 1) c ok.child) (within_apart d s ok.sibling))
 
+  -- a node with a value or a child, whose records stay apart, earns its place
   earns_of : (d : ℕ) (l : List ℕ) (v : Option V) (c s : Siblings V)
       → (is_some v ≡ true) ⊎ (has_node c ≡ true) → StayApart item (records_of d (node l v c s))
       → EarnsWithin item (Some 255) l v c

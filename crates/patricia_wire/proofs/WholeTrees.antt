@@ -43,6 +43,7 @@ module _ (item : List ℕ → Type 0) where
     clear : mark ≡ false → A ≡ [] → E ≡ [] → FillsIf mark due A E
     set : mark ≡ true → Fills due A E → FillsIf mark due A E
 
+  -- what fills all that is due begins with what fills the first, where its mark is set
   first_if : (mark : Bool) (due : Due) (D : List Due) (R : List Record)
       → FillAll (due_where mark due ++ D) R
       → (A B : List Record) × (E : List (List ℕ)) × (R ≡ A ++ B) × FillsIf mark due A E × FillAll D B
@@ -50,7 +51,7 @@ module _ (item : List ℕ → Type 0) where
   first_if true due D R (A, B, E, joined, fills, rest) = (A, B, E, joined, set refl fills, rest)
 
   module _ (r : Record) where
-    -- what fills the place of a child
+    -- what fills the place of a child is a forest, or nothing where the mark is clear
     child_forest : (C : List Record) (E : List (List ℕ))
         → FillsIf r.child (record { level = r.level + 1; after = None }) C E
         → ForestIf item r.child (r.level + 1) C E
@@ -66,6 +67,7 @@ module _ (item : List ℕ → Type 0) where
     sibling_forest some X E (set mark (whole zero tree)) = absurd (some zero)
     sibling_forest some X E (set mark (below inner f after)) = (present mark f, after r.label refl)
 
+    -- a record without a sibling mark has nothing in its sibling's place
     no_sibling : r.sibling ≡ false → (X : List Record) (E : List (List ℕ))
         → FillsIf r.sibling (record { level = r.level; after = Some r.label }) X E → X ≡ []
     no_sibling alone X E (clear mark none no_keys) = none
@@ -117,7 +119,7 @@ module _ (item : List ℕ → Type 0) where
             kept.ordered,
       )
 
-  -- one record more
+  -- with one record more, and what is due behind it, the records make a tree still
   pub closes_more : (before : List Record) (due : Due) (W : List Due) (r : Record)
       → Closes before (due ∷ W) → KeepsRules due r → (due.level ≡ 0) ⊎ (due.level ≢ 0)
       → Closes (before ++ (r ∷ [])) (due_behind r ++ W)

@@ -19,6 +19,7 @@ use Rattle.patricia_wire.proofs.Spellings.{positive}
 use Rattle.patricia_wire.proofs.TightRows.{within_writable, within_apart}
 
 module _ (P : Record → Type 0) where
+  -- what holds of the first holds of some
   pub any_here : (x : Record) (xs : List Record) → P x → Any P (x ∷ xs)
   any_here x xs p = (0, x, omega arith, refl, p)
 
@@ -46,6 +47,7 @@ not_deep w R room (k, y, h, e, deep) = let fits = subst (HasRoom w) e (room k y 
 
 module _ (item : List ℕ → Type 0) (kind : IsKeyKind item) where
   module _ {V : Type 0} where
+    -- each record of a row has room in w bytes, or some record lies too deep for them
     room_or_deep : (w d : ℕ) (r : Siblings V) → IsWritable item r
         → All (HasRoom w) (records_of d r) ⊎ Any (IsDeep w) (records_of d r)
     room_or_deep w d end ok = inl (All-nil (HasRoom w))
@@ -103,6 +105,7 @@ module _ (item : List ℕ → Type 0) (kind : IsKeyKind item) where
           | inr deep ↦ inr (record { records = tree_records v r; root = tree_of item v r ok; tight = tight; deep = deep })
         ]
 
+    -- the keys of a row in memory have an encoding, or lie too deep
     row_written : (w : ℕ) (v : Option V) (r : Siblings V) → IsCanonical item r
         → ((b : List ℕ) × Canon item w b (keys_of (own v ++ entries r))) ⊎ TooDeep item w (keys_of (own v ++ entries r))
     row_written w v r ok =

@@ -6,6 +6,7 @@ use Rattle.std.proofs.lemmas.Bool.{eqb-true}
 use Rattle.std.proofs.lemmas.Fmt.{IsAscii-from_digits}
 use Rattle.std.proofs.lemmas.Str.{IsUtf8-from_ascii, IsAscii-append}
 
+-- a plus is ASCII
 plus_is_ascii : IsAscii (43 ∷ [])
 plus_is_ascii zero = lit< tt
 plus_is_ascii (suc i) = lit< tt

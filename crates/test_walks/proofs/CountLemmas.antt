@@ -5,6 +5,7 @@ use Rattle.std.specs.Cmp.Lexicographic.{nat_list_cmp_total}
 use Rattle.std.proofs.lemmas.List.{nil_from_length}
 use Rattle.patricia_core.specs.Keys.{key_cmp}
 
+-- the empty map has no entries
 entries_none : entries {R = key_cmp} (empty {K = List ℕ} {X = ℕ}) ≡ []
 entries_none = nil_from_length (entries (empty {K = List ℕ} {X = ℕ} {R = key_cmp})) (sym (len-entries empty) ∙ len-empty key_cmp ℕ)
 
