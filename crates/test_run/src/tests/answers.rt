@@ -1,7 +1,7 @@
 //! What the program answers, held against a plain run over two ordered maps of std. `.ci/run` runs
 //! it with the Nth memory request refused, for each N.
 
-use patricia_run::answer::answer_bytes;
+use patricia_run::answer_bytes;
 use std::alloc::{AllocError, Global};
 use std::collections::BTreeMap;
 use std::mem;

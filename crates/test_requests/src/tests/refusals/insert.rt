@@ -50,6 +50,10 @@ fn len_of_one<Q: BorrowedBytes>(alloc: Global, key: Q) -> Result<usize, AllocErr
     Ok(map_of_one(alloc, key)?.len())
 }
 
+// More than 30 bytes: a shorter label stands in the node, and there is room for a few nodes from the
+// first insert on, so a shorter key would ask for nothing.
+const BARS: &[u8] = b"bar bar bar bar bar bar bar bar bar";
+
 #[test]
 fn made(rt: HostRuntime) -> Result<(), AllocError> {
     assert!(rt; len_of_one(rt.alloc(), b"foo".as_slice())? == 1);
@@ -58,7 +62,7 @@ fn made(rt: HostRuntime) -> Result<(), AllocError> {
 
 #[test]
 fn called(rt: HostRuntime) -> Result<(), Fail> {
-    if is_refused_anew(&rt, rt.alloc(), b"foo".as_slice(), b"bar".as_slice())? {
+    if is_refused_anew(&rt, rt.alloc(), b"foo".as_slice(), BARS)? {
         println!(rt; "the insert was refused")?;
     }
     Ok(())
