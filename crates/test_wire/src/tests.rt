@@ -4,4 +4,5 @@ mod chains;
 mod claims;
 mod decimals;
 mod helpers;
+mod hostile;
 mod json;
