@@ -1,5 +1,6 @@
 mod counts;
 mod cursors;
+mod drops;
 mod ends;
 mod helpers;
 mod set_examples;

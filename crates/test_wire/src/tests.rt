@@ -1,8 +1,10 @@
-//! Tests of deep trees, of many keys, of inputs that claim much, and of JSON.
+//! Tests of deep trees, of damaged encodings, of many keys, of inputs that claim much, and of JSON.
 
 mod chains;
 mod claims;
+mod damage;
 mod decimals;
 mod helpers;
 mod hostile;
 mod json;
+mod reader;

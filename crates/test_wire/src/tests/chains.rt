@@ -1,5 +1,6 @@
 //! Trees as deep as can be written. `.ci/run` runs these tests under a call stack of 512 KiB, too.
 use super::helpers::{chain, numbers};
+use super::reader::{end_of, records_of};
 use patricia_tree::{
     BorrowedBytes, Bytes, DecodeError, GenericPatriciaMap, PatriciaMap, WireError,
 };
@@ -7,10 +8,14 @@ use std::alloc::{AllocError, Global};
 use std::process::Abort;
 use std::test::Fail;
 
-// A byte map of a chain, with the numbers from 1 on.
-fn map_of_chain(alloc: Global, flags: u8, last: u8, count: u64) -> Result<PatriciaMap<u64>, Fail> {
+// A byte map of a chain, with these values.
+fn map_of_chain(
+    alloc: Global,
+    flags: u8,
+    last: u8,
+    values: Vec<u64>,
+) -> Result<PatriciaMap<u64>, Fail> {
     let tree = chain(alloc, flags, last)?;
-    let values = numbers(alloc, count)?;
     Ok(PatriciaMap::from_wire(alloc, &tree, values)?)
 }
 
@@ -30,24 +35,37 @@ fn tree_len<K: Bytes>(map: &GenericPatriciaMap<K, u64>) -> Result<usize, WireErr
     Ok(tree.len())
 }
 
-// Asserts that a map has one key with the value 1, and how many bytes it is written in.
+// How many records a map is written in, and how many bytes these have.
+fn written<K: Bytes>(
+    alloc: Global,
+    map: &GenericPatriciaMap<K, u64>,
+) -> Result<(usize, usize), WireError> {
+    let tree = map.tree_bytes()?;
+    let records = records_of(alloc, &tree)?;
+    Ok((records.len(), end_of(&records)))
+}
+
+// Asserts that a map has one key with the value 9, and that it is written in so many records and
+// bytes.
 fn check_joined<Q: BorrowedBytes>(
     rt: &impl Abort,
+    alloc: Global,
     map: &GenericPatriciaMap<Q::Owned, u64>,
     key: Q,
-    bytes: usize,
 ) -> Result<(), WireError> {
-    assert!(rt; has(map, 1, key, 1));
-    assert!(rt; tree_len(map)? == bytes);
+    assert!(rt; has(map, 1, key, 9));
+    assert!(rt; tree_len(map)? == 66_567);
+    assert!(rt; written(alloc, map)? == (258, 66_567));
     Ok(())
 }
 
-// The written form has 257 pieces of 255 bytes, in place of a record for each byte.
+// The written form has the root and 257 pieces of 255 bytes, in place of a record for each byte.
 #[test]
 fn lone_children_are_joined(rt: HostRuntime) -> Result<(), Fail> {
-    let map = map_of_chain(rt.alloc(), 12, 3, 1)?;
+    let values = Vec::from_slice(rt.alloc(), &[9])?;
+    let map = map_of_chain(rt.alloc(), 12, 3, values)?;
     let key = b"a".repeat(rt.alloc(), 65_535)?;
-    check_joined(&rt, &map, key.as_slice(), 66_567)?;
+    check_joined(&rt, rt.alloc(), &map, key.as_slice())?;
     Ok(())
 }
 
@@ -118,7 +136,8 @@ fn check_levels(rt: &impl Abort, map: &mut PatriciaMap<u64>, longer: &[u8]) -> R
 
 #[test]
 fn a_key_at_each_level(rt: HostRuntime) -> Result<(), Fail> {
-    let mut map = map_of_chain(rt.alloc(), 15, 3, 65_535)?;
+    let values = numbers(rt.alloc(), 65_535)?;
+    let mut map = map_of_chain(rt.alloc(), 15, 3, values)?;
     let longer = b"a".repeat(rt.alloc(), 65_536)?;
     check_levels(&rt, &mut map, &longer)
 }

@@ -1,0 +1,156 @@
+//! Walks and cursors that are dropped after one or two items.
+use super::helpers::{
+    Counted, KEYS, TREE, are_dropped, cells, chain, has_all, keys_of_chain, map_of,
+};
+use patricia_tree::{BorrowedBytes, Bytes, GenericPatriciaMap};
+use std::alloc::AllocError;
+use std::cell::Cell;
+use std::process::Abort;
+use std::test::Fail;
+
+// What a walk gives.
+type Item<K, V> = Option<Result<(K, V), AllocError>>;
+
+// The first two items of a walk, which is dropped.
+fn first_two<K: Bytes, V: Drop>(map: GenericPatriciaMap<K, V>) -> (Item<K, V>, Item<K, V>) {
+    let mut walk = map.into_iter();
+    let first = walk.next();
+    (first, walk.next())
+}
+
+// Whether an item is the value of this number, with a key of so many bytes.
+fn is_item<K: Bytes>(item: &Item<K, Counted<'_>>, number: usize, len: usize) -> bool {
+    match item {
+        Some(Ok((key, value))) => value.number == number && key.as_bytes().len() == len,
+        _ => false,
+    }
+}
+
+// Asserts that a walk is dropped with all values but those of the first two items, whose keys have
+// one byte and two, and that these are dropped with the items.
+fn check_two<K: Bytes>(
+    rt: &impl Abort,
+    map: GenericPatriciaMap<K, Counted<'_>>,
+    cells: &[Cell<u32>],
+) {
+    let (first, second) = first_two(map);
+    assert!(rt; are_dropped(cells, 2, cells.len()));
+    assert!(rt; is_item(&first, 0, 1) && is_item(&second, 1, 2));
+    drop(first);
+    drop(second);
+    assert!(rt; are_dropped(cells, 0, cells.len()));
+}
+
+// A key of each length up to 65,535.
+#[test]
+fn two_of_a_deep_map(rt: HostRuntime) -> Result<(), Fail> {
+    let cells = cells(rt.alloc(), 65_535)?;
+    let tree = chain(rt.alloc(), u16::MAX, 3)?;
+    let map = map_of::<Vec<u8>>(rt.alloc(), &tree, &cells)?;
+    check_two(&rt, map, &cells);
+    Ok(())
+}
+
+// Whether each of these gives one item. Then it is dropped.
+fn gives_entry<K: Bytes, V: Drop>(map: &GenericPatriciaMap<K, V>) -> bool {
+    match map.iter().next() {
+        Some(Ok(_)) => true,
+        _ => false,
+    }
+}
+
+fn gives_under<Q: BorrowedBytes, V: Drop>(
+    map: &GenericPatriciaMap<Q::Owned, V>,
+    prefix: Q,
+) -> bool {
+    match map.iter_prefix(prefix).next() {
+        Some(Ok(_)) => true,
+        _ => false,
+    }
+}
+
+fn lends_entry<K: Bytes, V: Drop>(map: &mut GenericPatriciaMap<K, V>) -> bool {
+    let mut cursor = map.iter_mut();
+    match cursor.next() {
+        Ok(Some(_)) => true,
+        _ => false,
+    }
+}
+
+fn lends_value<K: Bytes, V: Drop>(map: &mut GenericPatriciaMap<K, V>) -> bool {
+    let mut cursor = map.values_mut();
+    match cursor.next() {
+        Ok(Some(_)) => true,
+        _ => false,
+    }
+}
+
+fn lends_under<Q: BorrowedBytes, V: Drop>(
+    map: &mut GenericPatriciaMap<Q::Owned, V>,
+    prefix: Q,
+) -> bool {
+    let mut cursor = map.iter_prefix_mut(prefix);
+    match cursor.next() {
+        Ok(Some(_)) => true,
+        _ => false,
+    }
+}
+
+// Asserts that iterators which are dropped after one item leave a map as it is.
+fn check_iterators<Q: BorrowedBytes>(
+    rt: &impl Abort,
+    map: &GenericPatriciaMap<Q::Owned, Counted<'_>>,
+    keys: &[Q],
+    prefix: Q,
+) {
+    assert!(rt; gives_entry(map) && has_all(map, keys));
+    assert!(rt; gives_under(map, prefix) && has_all(map, keys));
+}
+
+// Asserts the same of cursors.
+fn check_cursors<Q: BorrowedBytes>(
+    rt: &impl Abort,
+    map: &mut GenericPatriciaMap<Q::Owned, Counted<'_>>,
+    keys: &[Q],
+    prefix: Q,
+) {
+    assert!(rt; lends_entry(map) && has_all(map, keys));
+    assert!(rt; lends_value(map) && has_all(map, keys));
+    assert!(rt; lends_under(map, prefix) && has_all(map, keys));
+}
+
+// Asserts that no value is dropped by these, and each by dropping the map.
+fn check_one<Q: BorrowedBytes>(
+    rt: &impl Abort,
+    mut map: GenericPatriciaMap<Q::Owned, Counted<'_>>,
+    cells: &[Cell<u32>],
+    keys: &[Q],
+    prefix: Q,
+) {
+    assert!(rt; has_all(&map, keys));
+    check_iterators(rt, &map, keys, prefix);
+    check_cursors(rt, &mut map, keys, prefix);
+    assert!(rt; are_dropped(cells, 0, 0));
+    drop(map);
+    assert!(rt; are_dropped(cells, 0, cells.len()));
+}
+
+#[test]
+fn one_of_four(rt: HostRuntime) -> Result<(), Fail> {
+    let cells = cells(rt.alloc(), 4)?;
+    let map = map_of::<Vec<u8>>(rt.alloc(), &TREE, &cells)?;
+    check_one(&rt, map, &cells, &KEYS, b"ba");
+    Ok(())
+}
+
+// A key of each length up to 1,000.
+#[test]
+fn one_of_a_chain(rt: HostRuntime) -> Result<(), Fail> {
+    let last = b"a".repeat(rt.alloc(), 1_000)?;
+    let keys = keys_of_chain(rt.alloc(), &last)?;
+    let cells = cells(rt.alloc(), 1_000)?;
+    let tree = chain(rt.alloc(), 1_000, 3)?;
+    let map = map_of::<Vec<u8>>(rt.alloc(), &tree, &cells)?;
+    check_one(&rt, map, &cells, &keys, b"aaa");
+    Ok(())
+}
