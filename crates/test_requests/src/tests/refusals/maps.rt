@@ -129,8 +129,8 @@ fn copy<Q: BorrowedBytes>(
     map.clone()
 }
 
-// Whether a map has some entries and the first of others, and no more. The others that are left are
-// put in.
+// Whether a map has some entries and the first of others, and no more. The others that are
+// left are inserted.
 fn is_extended<Q: BorrowedBytes>(
     map: &mut Map<Q::Owned>,
     rows: &[(Q, u64)],
