@@ -43,10 +43,11 @@ class Runs:
         def start():
             resource.setrlimit(resource.RLIMIT_CPU, (MOST_SECONDS, MOST_SECONDS))
             resource.setrlimit(resource.RLIMIT_CORE, (0, 0))
-            for limit, most in ((resource.RLIMIT_AS, space), (resource.RLIMIT_FSIZE, size)):
+            before()
+            # what is set last keeps Python itself from more memory
+            for limit, most in ((resource.RLIMIT_FSIZE, size), (resource.RLIMIT_AS, space)):
                 if most is not None:
                     resource.setrlimit(limit, (most, most))
-            before()
         self.count += 1
         streams = {'stdout': subprocess.PIPE, 'stderr': subprocess.PIPE, **streams}
         ran = subprocess.run(self.words, preexec_fn=start, **streams)

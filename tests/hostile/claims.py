@@ -2,10 +2,10 @@
 
     python3 -B tests/hostile/claims.py PROGRAM [--inputs N]
 
-PROGRAM is crates/test_wire/out/test_wire_tests. Its test reads N encodings, a million unless another number is given,
-and tells the shim tests/hostile/live.c by requests that are refused where each call begins, with how many bytes, of the
-tree and of the values, and where it ends. The most that is live in a call above what was live when it began, a block
-that grows counted twice, may be EACH bytes for each byte given, and FIXED besides.
+PROGRAM is crates/test_wire/out/test_wire_tests. Its test reads N encodings, a million unless another number is
+given, and tells the shim tests/hostile/live.c by requests that are refused where each call begins, with how many bytes,
+of the tree and of the values, and where it ends. The most that is live in a call above what was live when it began, a
+block that grows counted twice, may be EACH bytes for each byte given, and FIXED besides.
 
 EACH comes of the least record: 5 bytes, with a child and a sibling and no value. It may take a node of 64 bytes, of the
 records that are due one more, of 32 bytes, and 8 for a node that waits. A list has room for twice what it holds at the

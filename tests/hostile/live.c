@@ -101,6 +101,7 @@ void *calloc(size_t count, size_t n) {
 __attribute__((destructor)) static void end(void) {
     char line[160];
     if (calls)
-        say(line, snprintf(line, sizeof line, "calls=%lu over=%ld most=%zu multiple=%.2f\n", calls, over, most, multiple));
+        say(line, snprintf(line, sizeof line, "calls=%lu over=%ld most=%zu multiple=%.2f\n",
+                           calls, over, most, multiple));
     say(line, snprintf(line, sizeof line, "left=%ld\n", (long)live - (long)start_live));
 }

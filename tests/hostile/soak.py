@@ -11,9 +11,9 @@ a list whose room doubles, so its room is known from the lines that were answere
 is what the maps hold on to: that after each later tenth may differ from that after the first by 5 in 100. When the
 program has ended nothing may be live.
 
-This shows that removed nodes are used again, as the first map keeps its nodes in one vector for the whole run, and that
-no call leaks. It does not show what a call asks for while it runs. --lose N has the shim pretend that each Nth free
-never was, which must fail.
+This shows that removed nodes are used again, as the first map keeps its nodes in one vector for the whole run, and
+that no call leaks. It does not show what a call asks for while it runs. --lose N has the shim pretend that each Nth
+free never was, which must fail.
 """
 import argparse
 import os
@@ -118,8 +118,7 @@ class Script:
         self.add(MARK_LINES)
         self.add(self.commands.same_again())
         for tenth in range(1, TENTHS + 1):
-            # some 50,000 of a tenth make the keys the same again
-            while self.count < count * tenth // TENTHS - KEY_COUNT // 2:
+            while self.count < count * tenth // TENTHS:
                 self.add(self.commands.changes(BETWEEN_EVENTS))
                 self.add(self.commands.event())
             self.add(self.commands.same_again())
@@ -134,7 +133,7 @@ def room(length):
 
 
 def run(program, folder, data, lose):
-    """Runs the program under the shim. Gives what it wrote, as a path, what was live at each mark, and what was left."""
+    """Runs the program under the shim. Gives the path of what it wrote, what was live at each mark, and at the end."""
     shim, log, output = (os.path.join(folder, name) for name in ('live.so', 'log', 'out'))
     subprocess.run(['cc', '-O1', '-shared', '-fPIC', '-o', shim, os.path.join(HERE, 'live.c')], check=True)
     env = {**os.environ, 'LD_PRELOAD': shim, 'LIVE_LOG': log, 'LIVE_MARK': str(MARK), 'LIVE_LOSE': str(lose)}
