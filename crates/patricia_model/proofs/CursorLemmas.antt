@@ -11,28 +11,13 @@ use Rattle.patricia_keys.proofs.KeyLemmas.{key_cmp-irreflexive}
 use Rattle.patricia_model.specs.Cursors.{after}
 use Rattle.patricia_model.specs.Points.{Has}
 use Rattle.patricia_model.proofs.FilterLemmas.{has_filter}
-
--- of two tests that both pass the first passes
-pub first_part : (a b : Bool) → T (a && b) → T a
-first_part true b h = tt
-first_part false b h = h
-
--- and so does the second
-pub second_part : (a b : Bool) → T (a && b) → T b
-second_part true b h = h
-second_part false b h = absurd h
+use Rattle.patricia_model.proofs.TestLemmas.{first_part, second_part, less_so}
 
 -- an order that is found to be less is less
 less_is : (o : Ordering) → is_lt o ≡ true → o ≡ Less
 less_is Less h = refl
 less_is Equal h = absurd (cc)
 less_is Greater h = absurd (cc)
-
--- the test of an order tells that it is less
-pub less_so : (o : Ordering) → T (is_lt o) → o ≡ Less
-less_so Less h = refl
-less_so Equal h = absurd h
-less_so Greater h = absurd h
 
 module _ {V : Type 0} where
   -- all rows come after a key that is below them

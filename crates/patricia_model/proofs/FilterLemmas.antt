@@ -13,22 +13,7 @@ use Rattle.patricia_keys.proofs.KeyLemmas.{begins_either}
 use Rattle.patricia_model.specs.Points.{Has}
 use Rattle.patricia_model.specs.Prefixes.{begins, under, along, longest, IsReach}
 use Rattle.patricia_model.proofs.PrefixLemmas.{begins_is, begins_from, begins_other, not_above}
-
--- of two tests that hold, the first holds
-first_of : (a b : Bool) → T (a && b) → T a
-first_of true b h = tt
-first_of false b h = h
-
--- and so does the second
-second_of : (a b : Bool) → T (a && b) → T b
-second_of true b h = h
-second_of false b h = absurd h
-
--- an order that is tested to be less is less
-lt_is : (o : Ordering) → T (is_lt o) → o ≡ Less
-lt_is Less h = refl
-lt_is Equal h = absurd h
-lt_is Greater h = absurd h
+use Rattle.patricia_model.proofs.TestLemmas.{first_part, second_part, less_so}
 
 -- of two prefixes of a key the greater one is no shorter
 no_shorter : (a b k : List ℕ) → Begins a k → Begins b k → key_cmp a b ≡ Less → length a ≤ length b
@@ -77,8 +62,8 @@ module _ {V : Type 0} where
   below_is : (q : List ℕ) (es : List (List ℕ × V)) (e : List ℕ × V) → T (below_all key_cmp q es)
       → Has es e → key_cmp q e.0 ≡ Less
   below_is q [] e below h = absurd h
-  below_is q (x ∷ es) e below (inl same) = subst (λ y. key_cmp q y.0 ≡ Less) same (lt_is _ (first_of _ _ below))
-  below_is q (x ∷ es) e below (inr h) = below_is q es e (second_of _ _ below) h
+  below_is q (x ∷ es) e below (inl same) = subst (λ y. key_cmp q y.0 ≡ Less) same (less_so _ (first_part _ _ below))
+  below_is q (x ∷ es) e below (inr h) = below_is q es e (second_part _ _ below) h
 
   -- the last of some rows that rise along a key
   record IsLast (k : List ℕ) (o : Option (List ℕ × V)) (es : List (List ℕ × V)) (r : List ℕ × V) : Type 0 where
@@ -99,7 +84,7 @@ module _ {V : Type 0} where
     before_is = λ x f. let same : x ≡ r = (let g = sym f ∙ e in cc) in rw same (omega arith);
   }
   last_is k o (x ∷ es) r sorted before e =
-      by (begins x.0 k) refl (last_is k (Some x) es r (second_of _ _ sorted)) (last_is k o es r (second_of _ _ sorted))
+      by (begins x.0 k) refl (last_is k (Some x) es r (second_part _ _ sorted)) (last_is k o es r (second_part _ _ sorted))
     where
       by : (b : Bool) → begins x.0 k ≡ b
           → (((y : List ℕ × V) → Some x ≡ Some y → Begins y.0 k × T (below_all key_cmp y.0 es)) →
@@ -111,7 +96,7 @@ module _ {V : Type 0} where
           let found = here
           (λ y same. let is : x ≡ y = cc in subst
           (λ z. Begins z.0 k × T (below_all key_cmp z.0 es)) is
-          (begun, first_of _ _ sorted))
+          (begun, first_part _ _ sorted))
           (subst (λ b. last_or o (cond b (x ∷ along k es) (along k es)) ≡ Some r) f e) in
           let long = found.before_is x refl in
           record {
@@ -119,12 +104,12 @@ module _ {V : Type 0} where
             begun = found.begun;
             longest_is = λ y h b. elim h [ inl same ↦ subst (λ z. length z.0 ≤ length r.0) same long | inr later ↦ found.longest_is y later b ];
             before_is = λ y g. let first = before y g in
-                let less = lt_is _ (first_of _ _ first.1) in
+                let less = less_so _ (first_part _ _ first.1) in
                 let short = no_shorter y.0 x.0 k first.0 begun less in omega arith;
           }
       by false f here past =
           let found = past
-          (λ y same. let first = before y same in (first.0, second_of _ _ first.1))
+          (λ y same. let first = before y same in (first.0, second_part _ _ first.1))
           (subst (λ b. last_or o (cond b (x ∷ along k es) (along k es)) ≡ Some r) f e) in
           record {
             has = elim found.has [ inl h ↦ inl (inr h) | inr same ↦ inr same ];

@@ -16,6 +16,7 @@ pub mod PrefixLemmas
 pub mod ReachLemmas
 pub mod RemovalLemmas
 pub mod RowLemmas
+pub mod TestLemmas
 pub mod TreeLemmas
 pub mod UniqueLemmas
 pub mod ValidLemmas

@@ -9,21 +9,12 @@ use Rattle.patricia_model.specs.Siblings.{Siblings, end, node, prefixed, own, en
 use Rattle.patricia_keys.proofs.KeyLemmas.{key_cmp-irreflexive}
 use Rattle.patricia_model.proofs.RowLemmas.{AllKeys, AllKeys-append, AllKeys-prefixed, rises_on, lacks_empty}
 use Rattle.patricia_model.proofs.ListLemmas.{IsBelow, key_cmp-extends, key_cmp-front, below_all-from}
+use Rattle.patricia_model.proofs.TestLemmas.{first_part, second_part}
 
 -- the empty key comes before each other key
 empty_first : (q : List ℕ) → (q ≡ [] → ⊥) → key_cmp [] q ≡ Less
 empty_first [] h = absurd (h refl)
 empty_first (b ∷ q) h = refl
-
--- of two tests that hold, the first holds
-first_part : (a b : Bool) → T (a && b) → T a
-first_part true b h = tt
-first_part false b h = h
-
--- and so does the second
-second_part : (a b : Bool) → T (a && b) → T b
-second_part true b h = h
-second_part false b h = absurd h
 
 -- two tests that hold, hold together
 pair : (a b : Bool) → T a → T b → T (a && b)

@@ -11,7 +11,7 @@ use Rattle.patricia_keys.proofs.KeyLemmas.{key_cmp-same}
 use Rattle.patricia_model.specs.Cursors.{after}
 use Rattle.patricia_model.specs.Points.{Has}
 use Rattle.patricia_model.specs.Prefixes.{begins, under}
-use Rattle.patricia_model.proofs.CursorLemmas.{first_part, second_part, less_so}
+use Rattle.patricia_model.proofs.TestLemmas.{first_part, second_part, less_so}
 use Rattle.patricia_model.proofs.ListLemmas.{key_cmp-turned}
 use Rattle.patricia_walks.specs.declared.cursor_state.ValueSlot.{ValueSlot}
 use Rattle.patricia_walks.specs.declared.cursor_state.ValueSlot.TheVariants.{OfEmptyKey, OfNode}

@@ -18,17 +18,8 @@ use Rattle.patricia_model.specs.Trees.{map_of}
 use Rattle.patricia_model.proofs.DivideLemmas.{Divides, ends_at_cut, put_at_cut, row_before_cut, put_before_cut, row_after_cut, put_after_cut}
 use Rattle.patricia_model.proofs.InsertLemmas.{single, put_own, put_child, put_front, put_before, put_past, row_past, row_valued, row_child}
 use Rattle.patricia_model.proofs.ListLemmas.{IsBelow, key_cmp-equal, put_below}
+use Rattle.patricia_model.proofs.TestLemmas.{first_part, second_part}
 use Rattle.patricia_model.proofs.TreeLemmas.{entries_map}
-
--- of two tests that hold, the first holds
-first : (a b : Bool) → T (a && b) → T a
-first true b t = tt
-first false b t = t
-
--- and so does the second
-second : (a b : Bool) → T (a && b) → T b
-second true b t = t
-second false b t = absurd t
 
 module _ (item : List ℕ → Type 0) (kind : IsKeyKind item) where
   -- a key and a label fall into a common front and two rests that share no first item
@@ -326,8 +317,8 @@ module _ (item : List ℕ → Type 0) (kind : IsKeyKind item) where
         → Holds es
     holds [] valid sorted = record { value = None; row = end; ok = tt; same = refl }
     holds (e ∷ es) valid sorted = one_more e.0 e.1 es
-        (All-head (IsValid item) e.0 (keys_of es) valid) (below_from e.0 es (first _ _ sorted))
-        (holds es (All-tail (IsValid item) e.0 (keys_of es) valid) (second _ _ sorted))
+        (All-head (IsValid item) e.0 (keys_of es) valid) (below_from e.0 es (first_part _ _ sorted))
+        (holds es (All-tail (IsValid item) e.0 (keys_of es) valid) (second_part _ _ sorted))
 
     -- each finite map with valid keys is that of some canonical siblings
     pub held : (m : map.FinMap key_cmp V) → All (IsValid item) (map.keys m)
