@@ -11,7 +11,8 @@ use Rattle.patricia_tree.specs.Internal.Nexts.{IsNext, IsNextValue}
 use Rattle.patricia_keys.specs.Keys.{key_cmp}
 use Rattle.patricia_model.specs.Points.{Has}
 use Rattle.patricia_model.specs.Prefixes.{begins, under}
-use Rattle.patricia_tree.proofs.FoundLemmas.{find_has, has_filter}
+use Rattle.patricia_model.proofs.FilterLemmas.{has_filter}
+use Rattle.patricia_tree.proofs.FoundLemmas.{find_has}
 
 module _ {V : Type 0} where
   -- the first of some rows is one of them
@@ -23,14 +24,15 @@ module _ {V : Type 0} where
   has_after : (o : Option (List ℕ)) (rows : List (List ℕ × V)) (e : List ℕ × V)
       → Has (after o rows) e → Has rows e
   has_after None rows e h = h
-  has_after (Some key) rows e h = has_filter (λ x. is_lt (key_cmp key x.0)) rows e h
+  has_after (Some key) rows e h = (has_filter (λ x. is_lt (key_cmp key x.0)) rows e h).0
 
   -- the value of the next entry is the one at its key
   next_found : (s : CursorView V) (e : List ℕ × V) → next_row s ≡ Some e
       → map.get s.map e.0 ≡ Some e.1
   next_found s e is =
       let rows = map.entries s.map in
-      let has = has_filter (λ x. begins s.prefix x.0) rows e (has_after s.last (under s.prefix rows) e (has_first (remaining_rows s) e is)) in
+      let first = has_first (remaining_rows s) e is in
+      let has = (has_filter (λ x. begins s.prefix x.0) rows e (has_after s.last (under s.prefix rows) e first)).0 in
       get-entries s.map e.0 ∙ find_has rows (entries_sorted s.map) e has
 
   -- so it is what is lent a step on

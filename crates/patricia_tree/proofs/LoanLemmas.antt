@@ -7,7 +7,8 @@ use Rattle.std.specs.FinMap.{entries_sorted, get-entries}
 use Rattle.patricia_core.specs.Keys.{Begins, key_cmp}
 use Rattle.patricia_core.specs.Points.{Has}
 use Rattle.patricia_core.specs.Prefixes.{along, longest}
-use Rattle.patricia_tree.proofs.FoundLemmas.{find_has, has_filter}
+use Rattle.patricia_model.proofs.FilterLemmas.{has_filter}
+use Rattle.patricia_tree.proofs.FoundLemmas.{find_has}
 use Rattle.patricia_tree.specs.Internal.Longest.{IsLongest}
 
 module _ {A : Type 0} where
@@ -24,7 +25,7 @@ module _ {V : Type 0} where
   longest_found : (m : map.FinMap key_cmp V) (key : List ℕ) (e : List ℕ × V)
       → longest key (map.entries m) ≡ Some e → map.get m e.0 ≡ Some e.1
   longest_found m key e is = elim (has_last None (along key (map.entries m)) e is) [
-    | inl h ↦ get-entries m e.0 ∙ find_has (map.entries m) (entries_sorted m) e (has_filter _ (map.entries m) e h)
+    | inl h ↦ get-entries m e.0 ∙ find_has (map.entries m) (entries_sorted m) e (has_filter _ (map.entries m) e h).0
     | inr none ↦ absurd (cc)
   ]
 
