@@ -8,7 +8,7 @@ use Rattle.std.specs.FinMap.{find, is_sorted}
 use Rattle.std.specs.FinMap.Entries.{below_all}
 use Rattle.patricia_keys.specs.Keys.{key_cmp}
 use Rattle.patricia_model.specs.Points.{Has}
-use Rattle.patricia_model.proofs.CursorLemmas.{first_part, second_part, less_so}
+use Rattle.patricia_model.proofs.TestLemmas.{first_part, second_part, less_so}
 
 module _ {V : Type 0} where
   -- a key that is below all entries of a list comes before the key of each
