@@ -18,7 +18,7 @@ use Rattle.patricia_model.specs.Trees.{map_of}
 use Rattle.patricia_model.proofs.DivideLemmas.{Divides, ends_at_cut, put_at_cut, row_before_cut, put_before_cut, row_after_cut, put_after_cut}
 use Rattle.patricia_model.proofs.InsertLemmas.{single, put_own, put_child, put_front, put_before, put_past, row_past, row_valued, row_child}
 use Rattle.patricia_model.proofs.ListLemmas.{IsBelow, key_cmp-equal, put_below}
-use Rattle.patricia_model.proofs.TestLemmas.{first_part, second_part}
+use Rattle.patricia_model.proofs.TestLemmas.{first_part, second_part, less_so}
 use Rattle.patricia_model.proofs.TreeLemmas.{entries_map}
 
 module _ (item : List ℕ → Type 0) (kind : IsKeyKind item) where
@@ -274,12 +274,7 @@ module _ (item : List ℕ → Type 0) (kind : IsKeyKind item) where
     -- a key that is tested to be below all entries is
     below_from : (q : List ℕ) (es : List (List ℕ × V)) → T (below_all key_cmp q es) → IsBelow q es
     below_from q [] t = tt
-    below_from q (e ∷ es) t = (less (key_cmp q e.0) (first (is_lt (key_cmp q e.0)) _ t), below_from q es (second (is_lt (key_cmp q e.0)) _ t))
-      where
-        less : (r : Ordering) → T (is_lt r) → r ≡ Less
-        less Less t = refl
-        less Equal t = absurd t
-        less Greater t = absurd t
+    below_from q (e ∷ es) t = (less_so _ (first_part _ _ t), below_from q es (second_part _ _ t))
 
     -- a value of the empty key and a row that hold these entries
     pub record Holds (es : List (List ℕ × V)) : Type 0 where
