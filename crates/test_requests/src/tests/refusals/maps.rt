@@ -129,18 +129,21 @@ fn copy<Q: BorrowedBytes>(
     map.clone()
 }
 
-// Whether a map has some entries and the first of others, and no more. The others that are
-// left are inserted.
+// Whether a map has some entries and so many of others, and no more. The others that are left are
+// inserted.
 fn is_extended<Q: BorrowedBytes>(
     map: &mut Map<Q::Owned>,
     rows: &[(Q, u64)],
     added: &[(Q, u64)],
+    count: usize,
 ) -> bool {
-    let n = map.len().saturating_sub(rows.len());
-    let Some((put, left)) = added.split_at_checked(n) else {
+    let Some((put, left)) = added.split_at_checked(count) else {
         return false;
     };
-    has_among(map, rows) && has_among(map, put) && map.extend(left.iter().copied()).is_ok()
+    map.len() == rows.len().saturating_add(count)
+        && has_among(map, rows)
+        && has_among(map, put)
+        && map.extend(left.iter().copied()).is_ok()
 }
 
 // Whether a map has what was kept and what was added, and no more.
@@ -149,15 +152,22 @@ fn is_whole_copy<Q: BorrowedBytes>(map: &Map<Q::Owned>, script: &Script<'_, Q>) 
     has_among(map, script.kept) && has_among(map, script.added) && map.len() == len
 }
 
+// Extends the copy. The last pair taken is the refused one, and those before it are there.
 fn extend<Q: BorrowedBytes>(
     rt: &impl Abort,
     map: &mut Map<Q::Owned>,
     script: &Script<'_, Q>,
     tally: &mut Tally,
 ) {
-    if map.extend(script.added.iter().copied()).is_err() {
+    let mut taken: usize = 0;
+    let pairs = script.added.iter().map(|pair| {
+        taken = taken.saturating_add(1);
+        *pair
+    });
+    if map.extend(pairs).is_err() {
         tally.add();
-        assert!(rt; is_extended(map, script.kept, script.added));
+        let count = taken.saturating_sub(1);
+        assert!(rt; is_extended(map, script.kept, script.added, count));
     }
 }
 

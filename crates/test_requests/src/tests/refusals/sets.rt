@@ -109,14 +109,21 @@ fn copy<Q: BorrowedBytes>(
     set.clone()
 }
 
-// Whether a set has some elements and the first of others, and no more. The others that are left
-// are inserted.
-fn is_extended<Q: BorrowedBytes>(set: &mut Set<Q::Owned>, before: &[Q], added: &[Q]) -> bool {
-    let n = set.len().saturating_sub(before.len());
-    let Some((put, left)) = added.split_at_checked(n) else {
+// Whether a set has some elements and so many of others, and no more. The others that are left are
+// inserted.
+fn is_extended<Q: BorrowedBytes>(
+    set: &mut Set<Q::Owned>,
+    before: &[Q],
+    added: &[Q],
+    count: usize,
+) -> bool {
+    let Some((put, left)) = added.split_at_checked(count) else {
         return false;
     };
-    has_among(set, before) && has_among(set, put) && set.extend(left.iter().copied()).is_ok()
+    set.len() == before.len().saturating_add(count)
+        && has_among(set, before)
+        && has_among(set, put)
+        && set.extend(left.iter().copied()).is_ok()
 }
 
 // Whether a set has what was kept and what was added, and no more.
@@ -125,15 +132,22 @@ fn is_whole_copy<Q: BorrowedBytes>(set: &Set<Q::Owned>, script: &Script<'_, Q>) 
     has_among(set, script.kept) && has_among(set, script.added) && set.len() == len
 }
 
+// Extends the copy. The last element taken is the refused one, and those before it are there.
 fn extend<Q: BorrowedBytes>(
     rt: &impl Abort,
     set: &mut Set<Q::Owned>,
     script: &Script<'_, Q>,
     tally: &mut Tally,
 ) {
-    if set.extend(script.added.iter().copied()).is_err() {
+    let mut taken: usize = 0;
+    let elements = script.added.iter().map(|element| {
+        taken = taken.saturating_add(1);
+        *element
+    });
+    if set.extend(elements).is_err() {
         tally.add();
-        assert!(rt; is_extended(set, script.kept, script.added));
+        let count = taken.saturating_sub(1);
+        assert!(rt; is_extended(set, script.kept, script.added, count));
     }
 }
 
