@@ -43,7 +43,7 @@ def write_script(folder, kind, name, data):
 def main(folder):
     rng, rng_of_all = random.Random(SEED), random.Random(SEED_OF_ALL)
     rng_of_wires, rng_of_reloads = random.Random(SEED_OF_WIRES), random.Random(SEED_OF_RELOADS)
-    for kind in 'bytes', 'text':
+    for kind in 'bytes', 'text', 'units':
         for shape in SHAPES:
             data = script(rng, kind, shape, 130 if shape == 'long' else 400)
             write_script(folder, kind, shape, data)

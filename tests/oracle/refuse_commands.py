@@ -9,7 +9,7 @@ for memory, is answered `no memory` and changes nothing. With no request refused
 model's own. The last line says how many runs there were.
 """
 import sys
-from model import Maps, along, answer, joins, line_answer, lines, rows, under
+from model import Maps, along, answer, joins, line_answer, lines, read_key, rows, under
 from refused_run import run
 
 LONG = b'bcd' * 20
@@ -41,18 +41,19 @@ MOST_REQUESTS = 5000
 def may_be_refused(m, kind, line):
     """Whether a command may find no memory."""
     word, *fields = line.split(b'\t')
+    key = read_key(fields[0], kind) if fields else None
     if word == b'insert':
-        return fields[0] != b'' and fields[0] not in m
+        return key != b'' and key not in m
     if word == b'remove':
-        return joins(m, fields[0], kind)
+        return joins(m, key, kind)
     if word == b'list':
         return bool(rows(m))
     if word == b'under':
-        return bool(under(m, fields[0]))
+        return bool(under(m, key))
     if word == b'along':
-        return bool(along(m, fields[0]))
+        return bool(along(m, key))
     if word == b'split':
-        return fields[0] != b'' and bool(under(m, fields[0]))
+        return key != b'' and bool(under(m, key))
     if word == b'copy':
         return bool(m)
     return word in (b'wire', b'reload')
@@ -75,6 +76,16 @@ def is_allowed(kind, data, output):
     return not rest and (not output or output.endswith(b'\n'))
 
 
+def spelled(kind, data):
+    """The lines of a script with their keys as a kind spells them: units of one byte each."""
+    if kind != 'units':
+        return data
+    fields = [line.split(b'\t') for line in lines(data)]
+    for line in fields:
+        line[1:2] = [b''.join(b'%04x' % byte for byte in key) for key in line[1:2]]
+    return b''.join(b'\t'.join(line) + b'\n' for line in fields)
+
+
 def check(program, shim, kind, data):
     """Runs until no request is refused, and gives how many were."""
     for n in range(1, MOST_REQUESTS):
@@ -91,7 +102,7 @@ def check(program, shim, kind, data):
 
 
 def main(program, shim):
-    counts = [check(program, shim, kind, data) for kind in ('bytes', 'text') for data in SCRIPTS]
+    counts = [check(program, shim, kind, spelled(kind, data)) for kind in ('bytes', 'text', 'units') for data in SCRIPTS]
     assert min(counts) > 0, 'no request'
     print('%s: passed with each of %s requests refused' % (program, ', '.join(map(str, counts))))
 

@@ -3,6 +3,7 @@
 ITEMS = {
     'bytes': [b'a', b'b', b'\0', b'\xff'],
     'text': [x.encode() for x in 'abéèあのい🌏🗻🍔'],
+    'units': [b'\0a', b'\0b', b'a\0', b'\xd8\x3c', b'\xdf\x0f', b'\xff\xff'],
 }
 BINARY = [bytes([x]) for x in range(256) if x not in (9, 10)]
 
@@ -16,6 +17,21 @@ def char(rng):
             return c.encode()
 
 
+def wide_item(rng, kind):
+    """Any item of a kind that a line can have."""
+    if kind == 'units':
+        return rng.randrange(65536).to_bytes(2, 'big')
+    return rng.choice(BINARY) if kind == 'bytes' else char(rng)
+
+
+def spell(rng, kind, key):
+    """How a line has a key, which is a list of items: units in digits of either case."""
+    key = b''.join(key)
+    if kind != 'units':
+        return key
+    return b''.join(rng.choice([b'%02x', b'%02X']) % byte for byte in key)
+
+
 def key_maker(rng, kind, shape):
     """A function that makes a fresh key as a list of items."""
     few = rng.sample(ITEMS[kind], 3)
@@ -27,15 +43,15 @@ def key_maker(rng, kind, shape):
         if shape == 'shared':
             return rng.choice(stems) + rng.choice([[], rng.choice(stems)]) + rng.choices(few, k=2)
         if shape == 'wide':
-            wide = (lambda: rng.choice(BINARY)) if kind == 'bytes' else (lambda: char(rng))
-            return [wide() for _ in range(rng.randrange(5))]
+            return [wide_item(rng, kind) for _ in range(rng.randrange(5))]
         if shape == 'nested':
             return few[:1] * rng.randrange(40)
         if shape == 'long':
             length = rng.choice([253, 254, 255, 256, 300, 509, 510, 511, 700])
             count = rng.choice([length // len(few[0]), length // len(few[0]), 3])
             return few[:1] * count + rng.choices(few, k=rng.randrange(4))
-        return [bytes([d]) for d in b'%d' % rng.randrange(3000)]
+        high = b'\0' if kind == 'units' else b''
+        return [high + bytes([d]) for d in b'%d' % rng.randrange(3000)]
     return make
 
 
@@ -56,6 +72,9 @@ FAULTY = [b'', b'put\ta', b'get', b'len\t', b'insert\ta', b'insert\ta\t', b'inse
           b'insert\ta\t-1', b'insert\ta\t18446744073709551616', b'get\ta\tb', b'Get\ta',
           b'insert\ta\t+1', b'insert\ta\t1 ', b' len', b'len\r', b'insert\ta\t1\t', b'\t',
           b'under', b'along\ta\tb', b'longest', b'reach\ta\t', b'Reach\ta', b'unde\ta']
+# lines whose key spells no units, or does so beside a fault of a lower number
+FAULTY_UNITS = [b'get\t00', b'get\t0061006', b'get\t006g', b'under\t0061 ', b'longest\t00610062006', b'insert\t006\tx',
+                b'insert\t006\t1', b'insert\tzz61\t1', b'len\tzz', b'split\t+061', b'reach\t006:']
 
 
 def near_key(rng, known, make, inserts):
@@ -73,7 +92,7 @@ def near_key(rng, known, make, inserts):
     return near
 
 
-def command(rng, word, known, make, n):
+def command(rng, kind, word, known, make, n):
     """A command line of a word, with `n` as its number, if it has one."""
     key = near_key(rng, known, make, word == b'insert')
     if word == b'split':
@@ -81,7 +100,7 @@ def command(rng, word, known, make, n):
     if word == b'insert' or rng.random() < .05:
         known.append(key)
     number = rng.choice(NUMBERS) if rng.random() < .05 else b'%d' % n
-    return b'\t'.join([word, b''.join(key), number][:1 + FIELDS[word]])
+    return b'\t'.join([word, spell(rng, kind, key), number][:1 + FIELDS[word]])
 
 
 def script_of_all(rng, kind, shape, size, weights=ALL_WEIGHTS):
@@ -89,7 +108,7 @@ def script_of_all(rng, kind, shape, size, weights=ALL_WEIGHTS):
     make, known = key_maker(rng, kind, shape), [[]]
     more = rng.choices(list(weights), weights.values(), k=size - len(weights))
     words = rng.sample([*weights, *more], k=size)
-    out = [command(rng, word, known, make, n) for n, word in enumerate(words)]
+    out = [command(rng, kind, word, known, make, n) for n, word in enumerate(words)]
     return b''.join(line + b'\n' for line in [*out, b'list', b'swap', b'list'])
 
 
@@ -97,10 +116,11 @@ def script(rng, kind, shape, size, faults=.03):
     """`size` command lines, then `len` and `list`; keys of queries are mostly near stored ones."""
     make, known, out = key_maker(rng, kind, shape), [[]], []
     weights = [x * rng.choice([.3, 1, 1, 3]) for x in WEIGHTS.values()]
+    faulty = FAULTY + FAULTY_UNITS if kind == 'units' else FAULTY
     for n in range(size):
         if rng.random() < faults:
-            out.append(rng.choice(FAULTY))
+            out.append(rng.choice(faulty))
             continue
         word = rng.choices(list(WEIGHTS), weights)[0]
-        out.append(command(rng, word, known, make, n))
+        out.append(command(rng, kind, word, known, make, n))
     return b''.join(line + b'\n' for line in [*out, b'len', b'list'])

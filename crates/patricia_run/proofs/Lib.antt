@@ -1,6 +1,8 @@
 pub mod Cuts
+pub mod KeyTextLemmas
 pub mod MachineLemmas
 pub mod Numbers
 pub mod RowLemmas
 pub mod TextLemmas
 pub mod Turns
+pub mod UnitLemmas

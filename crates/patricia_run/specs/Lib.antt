@@ -3,4 +3,5 @@ pub mod Internal
 pub mod Machine
 pub mod KeyFormats
 pub mod Text
+pub mod UnitKind
 pub mod Writing

@@ -10,6 +10,7 @@ mod key_format;
 mod program;
 mod reading;
 pub mod run;
+pub mod units;
 mod writing;
 
-pub use run::{Bench, Command, Reply, answer_bytes, answer_text, serve};
+pub use run::{Bench, Command, Reply, answer_bytes, answer_text, answer_units, serve};

@@ -1,6 +1,6 @@
 //! The program over its words and streams.
 
-use crate::answer::{answer_bytes, answer_text};
+use crate::answer::{answer_bytes, answer_text, answer_units};
 use std::alloc::{AllocError, Global};
 use std::io::{Read, Write};
 
@@ -9,6 +9,7 @@ use std::io::{Read, Write};
 enum Kind {
     Bytes,
     Text,
+    Units,
 }
 
 // What may keep the program from its answer.
@@ -24,6 +25,7 @@ fn kind_named(words: &[String]) -> Option<Kind> {
     match words {
         [word] if word.as_str() == "bytes" => Some(Kind::Bytes),
         [word] if word.as_str() == "text" => Some(Kind::Text),
+        [word] if word.as_str() == "units" => Some(Kind::Units),
         _ => None,
     }
 }
@@ -40,6 +42,7 @@ fn answer_for(kind: Kind, alloc: Global, input: &[u8]) -> Result<Vec<u8>, AllocE
     match kind {
         Kind::Bytes => answer_bytes(alloc, input),
         Kind::Text => answer_text(alloc, input),
+        Kind::Units => answer_units(alloc, input),
     }
 }
 
@@ -74,7 +77,7 @@ pub fn serve<R: Read + Drop, W: Write + Drop, E: Write + Drop>(
     mut errors: E,
 ) -> u8 {
     let Some(kind) = kind_named(words) else {
-        let _ = errors.write_all(b"usage: ptree bytes|text\n");
+        let _ = errors.write_all(b"usage: ptree bytes|text|units\n");
         return 2;
     };
     match attempt(kind, alloc, &mut input, &mut output) {

@@ -1,6 +1,6 @@
 //! What a line says: a command, or what is wrong with the line.
 
-ghost use Rattle.std.specs.Prelude.{◌≡◌, map};
+ghost use Rattle.std.specs.Prelude.{◌≡◌, map, IfOk};
 ghost use Rattle.std.specs.Result.{result_map_both};
 ghost use Rattle.std.specs.Option.{option_map};
 ghost use Rattle.patricia_run.specs.Machine.{with_key};
@@ -12,6 +12,7 @@ ghost use Rattle.patricia_run.specs.declared.command.Command.TheVariants as Comm
 use crate::Command;
 use crate::cutting::cut;
 use crate::key_format::KeyText;
+use std::alloc::AllocError;
 
 /// What is wrong with a line.
 #[derive(Clone, Copy)]
@@ -102,13 +103,16 @@ fn first_word(field: &[u8]) -> Option<Word>
 }
 
 // The key that the only field spells.
-fn only_key<'a, Q: KeyText<'a>>(fields: &[&'a [u8]]) -> Result<Q, Fault>
-    ensures { result_map_both Q.key (λ fault. fault) result
-        ≡ key_alone Q.key_format (map (λ f. f.now) fields.now) }
+fn only_key<'a, Q: KeyText<'a>>(
+    fields: &[&'a [u8]],
+    buffer: &'a mut Vec<u8>,
+) -> Result<Result<Q, Fault>, AllocError>
+    ensures { IfOk result (λ key. result_map_both Q.key (λ fault. fault) key
+        ≡ key_alone Q.key_format (map (λ f. f.now) fields.now)) }
 {
     match fields {
-        [field] => Q::read(field).ok_or(Fault::BadKey),
-        _ => Err(Fault::FieldCount),
+        [field] => Ok(Q::read(field, buffer)?.ok_or(Fault::BadKey)),
+        _ => Ok(Err(Fault::FieldCount)),
     }
 }
 
@@ -126,74 +130,91 @@ fn alone<'a, Q: KeyText<'a>>(command: Command<Q, u64>, fields: &[&'a [u8]]) -> R
 }
 
 // The insert of a key and a number.
-fn insert<'a, Q: KeyText<'a>>(fields: &[&'a [u8]]) -> Reading<Q>
-    ensures { parse_with Q.key result
+fn insert<'a, Q: KeyText<'a>>(
+    fields: &[&'a [u8]],
+    buffer: &'a mut Vec<u8>,
+) -> Result<Reading<Q>, AllocError>
+    ensures { IfOk result (λ reading. parse_with Q.key reading
         ≡ parse_command Q.key_format (valued (λ key n. Commands.Insert key n))
-        (map (λ f. f.now) fields.now) }
+        (map (λ f. f.now) fields.now)) }
 {
-    match fields {
-        [key, value] => {
-            let value = number(value).ok_or(Fault::BadNumber)?;
-            let key = Q::read(key).ok_or(Fault::BadKey)?;
-            Ok(Command::Insert(key, value))
-        }
-        _ => Err(Fault::FieldCount),
-    }
+    let [key, value] = fields else {
+        return Ok(Err(Fault::FieldCount));
+    };
+    let Some(value) = number(value) else {
+        return Ok(Err(Fault::BadNumber));
+    };
+    Ok(match Q::read(key, buffer)? {
+        Some(key) => Ok(Command::Insert(key, value)),
+        None => Err(Fault::BadKey),
+    })
 }
 
 // The command of the fields after a word.
-fn command<'a, Q: KeyText<'a>>(word: Word, fields: &[&'a [u8]]) -> Reading<Q>
-    ensures { parse_with Q.key result
-        ≡ parse_command Q.key_format (shape_after word) (map (λ f. f.now) fields.now) }
+fn command<'a, Q: KeyText<'a>>(
+    word: Word,
+    fields: &[&'a [u8]],
+    buffer: &'a mut Vec<u8>,
+) -> Result<Reading<Q>, AllocError>
+    ensures { IfOk result (λ reading. parse_with Q.key reading
+        ≡ parse_command Q.key_format (shape_after word) (map (λ f. f.now) fields.now)) }
 {
-    match word {
-        Word::Insert => insert(fields),
-        Word::Get => Ok(Command::Get(only_key(fields)?)),
-        Word::Remove => Ok(Command::Remove(only_key(fields)?)),
+    Ok(match word {
+        Word::Insert => insert(fields, buffer)?,
+        Word::Get => only_key(fields, buffer)?.map(Command::Get),
+        Word::Remove => only_key(fields, buffer)?.map(Command::Remove),
         Word::Len => alone(Command::Len, fields),
         Word::List => alone(Command::List, fields),
-        Word::Under => Ok(Command::Under(only_key(fields)?)),
-        Word::Along => Ok(Command::Along(only_key(fields)?)),
-        Word::Longest => Ok(Command::Longest(only_key(fields)?)),
-        Word::Reach => Ok(Command::Reach(only_key(fields)?)),
-        Word::Split => Ok(Command::Split(only_key(fields)?)),
+        Word::Under => only_key(fields, buffer)?.map(Command::Under),
+        Word::Along => only_key(fields, buffer)?.map(Command::Along),
+        Word::Longest => only_key(fields, buffer)?.map(Command::Longest),
+        Word::Reach => only_key(fields, buffer)?.map(Command::Reach),
+        Word::Split => only_key(fields, buffer)?.map(Command::Split),
         Word::Swap => alone(Command::Swap, fields),
         Word::Copy => alone(Command::Copy, fields),
         Word::Clear => alone(Command::Clear, fields),
         Word::Wire => alone(Command::Wire, fields),
         Word::Reload => alone(Command::Reload, fields),
-    }
+    })
 }
 
 // The command of the fields of a line.
-fn from_fields<'a, Q: KeyText<'a>>(fields: &[&'a [u8]]) -> Reading<Q>
-    ensures { parse_with Q.key result ≡ parse_fields Q.key_format (map (λ f. f.now) fields.now) }
+fn from_fields<'a, Q: KeyText<'a>>(
+    fields: &[&'a [u8]],
+    buffer: &'a mut Vec<u8>,
+) -> Result<Reading<Q>, AllocError>
+    ensures { IfOk result (λ reading. parse_with Q.key reading
+        ≡ parse_fields Q.key_format (map (λ f. f.now) fields.now)) }
 {
     let Some((first, more)) = fields.split_first() else {
-        return Err(Fault::UnknownWord);
+        return Ok(Err(Fault::UnknownWord));
     };
     match first_word(first) {
-        Some(word) => command(word, more),
-        None => Err(Fault::UnknownWord),
+        Some(word) => command(word, more, buffer),
+        None => Ok(Err(Fault::UnknownWord)),
     }
 }
 
-/// What a line says.
-pub fn read_line<'a, Q: KeyText<'a>>(line: &'a [u8]) -> Reading<Q>
-    ensures { parse_with Q.key result ≡ parse_line Q.key_format line.now }
+/// What a line says. The buffer is for a key that is decoded. The error is out of memory.
+pub fn read_line<'a, Q: KeyText<'a>>(
+    line: &'a [u8],
+    buffer: &'a mut Vec<u8>,
+) -> Result<Reading<Q>, AllocError>
+    ensures { IfOk result (λ reading. parse_with Q.key reading
+        ≡ parse_line Q.key_format line.now) }
 {
     let (word, more) = cut(line, b'\t');
     let Some(more) = more else {
-        return from_fields(&[word]);
+        return from_fields(&[word], buffer);
     };
     let (key, more) = cut(more, b'\t');
     let Some(more) = more else {
-        return from_fields(&[word, key]);
+        return from_fields(&[word, key], buffer);
     };
     let (value, more) = cut(more, b'\t');
     match more {
-        None => from_fields(&[word, key, value]),
+        None => from_fields(&[word, key, value], buffer),
         // no command has so many fields, whatever they hold
-        Some(others) => from_fields(&[word, key, value, others]),
+        Some(others) => from_fields(&[word, key, value, others], buffer),
     }
 }

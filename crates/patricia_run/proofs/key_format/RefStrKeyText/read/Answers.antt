@@ -1,4 +1,4 @@
-use Rattle.patricia_run.proofs.TextLemmas.{read_text}
+use Rattle.patricia_run.proofs.KeyTextLemmas.{read_text}
 use Rattle.patricia_run.proofs.key_format.RefStrKeyText.read.Goals as goal
 
 pub returns : goal.returns
