@@ -5,3 +5,4 @@ mod bench;
 mod helpers;
 mod reload;
 mod serve;
+mod units;

@@ -6,7 +6,7 @@ use std::alloc::{AllocError, Global};
 use std::io::ErrorKind;
 use std::process::Abort;
 
-const USAGE: &str = "usage: ptree bytes|text\n";
+const USAGE: &str = "usage: ptree bytes|text|units\n";
 
 const READ_FAILED: &str = "ptree: read failed\n";
 
@@ -145,6 +145,14 @@ fn answers_for_each_kind(rt: HostRuntime) -> Result<(), AllocError> {
 
 // An allocation failure that did not happen meets the contracts of a wire. So its whole answer is
 // asked for.
+// Of units the digits of a key are read in either case, and printed in lower case.
+#[test]
+fn unit_keys(rt: HostRuntime) -> Result<(), AllocError> {
+    let text = b"insert\t0061006A\t7\nget\t0061006\nlist".as_slice();
+    let output = b"none\nfault 4\nrows 1\n0061006a 7\n".as_slice();
+    check_answer(&rt, rt.alloc(), "units", text, output)
+}
+
 #[test]
 fn wires_for_each_kind(rt: HostRuntime) -> Result<(), AllocError> {
     let text = b"wire\ninsert\ta\t7\nwire\nwire\tx\n".as_slice();
@@ -243,10 +251,11 @@ fn check_usage(
 }
 
 // Words that are refused, how much room there is for the line of usage, and what is written of it.
-const REFUSED_WORDS: [(&[&str], usize, &str); 6] = [
+const REFUSED_WORDS: [(&[&str], usize, &str); 7] = [
     (&[], 100, USAGE),
     (&["Bytes"], 100, USAGE),
     (&["texts"], 100, USAGE),
+    (&["unit"], 100, USAGE),
     (&[""], 100, USAGE),
     (&["text", "bytes"], 100, USAGE),
     (&["bytes", "bytes"], 0, ""),
