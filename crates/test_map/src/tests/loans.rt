@@ -1,8 +1,22 @@
 //! Loans of the value of a key.
 use super::helpers::{has_values, two};
-use patricia_tree::BorrowedBytes;
+use patricia_tree::{BorrowedBytes, GenericPatriciaMap};
 use std::alloc::{AllocError, Global};
-use uses_loans::loans::replace;
+
+// Writes through a loan of the value of a key, if there is one. Returns whether there is.
+fn replace<Q: BorrowedBytes>(
+    map: &mut GenericPatriciaMap<Q::Owned, u32>,
+    key: Q,
+    value: u32,
+) -> bool {
+    match map.get_mut(key) {
+        Some(place) => {
+            *place = value;
+            true
+        }
+        None => false,
+    }
+}
 
 // Whether 3 can be written at the second key of a map of two, 4 at the first, and nothing at one
 // that is not there.

@@ -2,7 +2,7 @@
 use super::helpers::{has_values, two};
 use patricia_tree::{BorrowedBytes, GenericPatriciaMap};
 use std::alloc::{AllocError, Global};
-use uses_loans::loans::replace_longest;
+use std::mem;
 
 // Writes through a loan of the value of the longest key that begins a key, and answers the old one.
 fn lend_longest<Q: BorrowedBytes>(
@@ -34,7 +34,7 @@ fn written<Q: BorrowedBytes>(
     if by_loan {
         lend_longest(map, key, value)
     } else {
-        replace_longest(map, key, value)
+        map.with_longest_common_prefix_mut(key, |_, place| mem::replace(place, value))
     }
 }
 
