@@ -1,10 +1,10 @@
 //! The functions of the key traits.
 
+use crate::answers::Answers;
+use crate::calls::{self, Readable};
 use patricia_tree::{BorrowedBytes, Bytes};
 use std::alloc::{AllocError, Global};
 use std::cmp::Ordering;
-use test_script_support::answers::Answers;
-use test_script_support::calls::{self, Readable};
 
 /// Adds the answers to a call.
 pub(super) fn answer<'a, Q: Readable<'a>>(

@@ -1,8 +1,18 @@
-//! Reads calls of maps and sets, a line each, and writes each line with its answers, as
-//! `test_script_support` says. The kinds of keys are `bytes` and `text` for maps, and `bytes_set`
-//! and `text_set` for sets, in this order.
+//! Reads calls of maps and sets, a line each, and writes each line with its answers.
+//!
+//! A line is words separated by spaces: the kind of keys, the call, and its arguments. The kinds
+//! are `bytes` and `text` for maps, and `bytes_set` and `text_set` for sets, in this order. The
+//! lines of each kind are called in their order, on one map or set, which is empty at first. Other
+//! lines are left out.
+//!
+//! A call that finds no memory answers `refused` and what the map or the set then has, and behind
+//! `again` what it answers when it is made once more. A list of entries that is refused is written
+//! once more behind `refused` alone.
 #![tactic(auto)]
 
+mod answering;
+mod answers;
+mod calls;
 mod key_calls;
 mod map_calls;
 mod map_queries;
@@ -10,12 +20,11 @@ mod prefix_calls;
 mod set_calls;
 mod set_queries;
 
+use answering::write_answers;
 use map_calls::MapCalls;
 use set_calls::SetCalls;
 use std::alloc::Global;
 use std::io::{self, Read};
-use test_script_support::answering::write_answers;
-use test_script_support::calls;
 
 // So many bytes of answers to a call ask for no memory, and what is refused is the library's.
 const ROOM: usize = 65536;

@@ -2,16 +2,16 @@
 
 ghost use Rattle.std.specs.Prelude.{◌≡◌, []};
 ghost use Rattle.std.specs.FinMap as map;
-ghost use Rattle.test_script_support.specs.Answers.{rows_text};
+ghost use Rattle.test_scripts.specs.Answers.{rows_text};
 
+use crate::answering::{Answering, Listed, add_entries, add_refusal};
+use crate::answers::{Answers, is_still_whole, outcome};
+use crate::calls::{self, Readable};
 use crate::map_queries;
 use patricia_tree::{BorrowedBytes, Bytes, GenericPatriciaMap};
 use std::alloc::{AllocError, Global};
 use std::fmt::Debug;
 use std::mem;
-use test_script_support::answering::{Answering, Listed, add_entries, add_refusal};
-use test_script_support::answers::{Answers, is_still_whole, outcome};
-use test_script_support::calls::{self, Readable};
 
 type Map<K> = GenericPatriciaMap<K, u64>;
 

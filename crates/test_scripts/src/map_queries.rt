@@ -2,14 +2,14 @@
 
 ghost use Rattle.std.specs.Prelude.{◌≡◌, ◌++◌, IsOkAnd, OnOk};
 ghost use Rattle.std.specs.String.{string_bytes};
-ghost use Rattle.test_script_support.specs.Answers.{row_text};
+ghost use Rattle.test_scripts.specs.Answers.{row_text};
 
+use crate::answers::{Answers, is_still_whole, outcome};
+use crate::calls::Readable;
 use crate::prefix_calls;
 use patricia_tree::{BorrowedBytes, Bytes, GenericPatriciaMap};
 use std::alloc::{AllocError, Global};
 use std::fmt::Debug;
-use test_script_support::answers::{Answers, is_still_whole, outcome};
-use test_script_support::calls::Readable;
 
 type Map<K> = GenericPatriciaMap<K, u64>;
 

@@ -1,10 +1,10 @@
 //! The calls of a map about prefixes of keys.
 
+use crate::answers::{Answers, is_still_whole, outcome};
+use crate::calls::Readable;
 use crate::{key_calls, map_queries};
 use patricia_tree::{BorrowedBytes, Bytes, GenericPatriciaMap};
 use std::alloc::{AllocError, Global};
-use test_script_support::answers::{Answers, is_still_whole, outcome};
-use test_script_support::calls::Readable;
 
 type Map<K> = GenericPatriciaMap<K, u64>;
 

@@ -2,13 +2,13 @@
 
 ghost use Rattle.std.specs.Prelude.{◌≡◌, ◌++◌, IsOkAnd, OnOk};
 ghost use Rattle.std.specs.String.{string_bytes};
-ghost use Rattle.test_script_support.specs.Answers.{key_text};
+ghost use Rattle.test_scripts.specs.Answers.{key_text};
 
+use crate::answers::{Answers, is_still_whole, outcome};
+use crate::calls::Readable;
 use patricia_tree::{BorrowedBytes, Bytes, GenericPatriciaSet};
 use std::alloc::AllocError;
 use std::fmt::Debug;
-use test_script_support::answers::{Answers, is_still_whole, outcome};
-use test_script_support::calls::Readable;
 
 type Set<K> = GenericPatriciaSet<K>;
 

@@ -1,7 +1,7 @@
 use Rattle.std.proofs.Common.{◌≡◌, ◌++◌, [], true}
 use Rattle.std.specs.String.{string_bytes}
 use Rattle.std.specs.FinMap as map
-use Rattle.test_script_support.specs.Answers.{keys_text}
+use Rattle.test_scripts.specs.Answers.{keys_text}
 use Rattle.test_scripts.proofs.set_calls.SetCallsListed.add_walked.Given as goal
 
 abbrev pub invariant-loop-element : goal.invariant-loop-element

@@ -1,7 +1,7 @@
 use Rattle.std.proofs.Common.{◌≡◌, ◌<◌, ◌⊎◌, take, length}
 use Rattle.std.specs.String.{string_bytes}
-use Rattle.test_script_support.specs.Calls.{NoneOf}
-use Rattle.test_script_support.proofs.answering.write_answers.Given as goal
+use Rattle.test_scripts.specs.Calls.{NoneOf}
+use Rattle.test_scripts.proofs.answering.write_answers.Given as goal
 
 abbrev pub invariant-loop-call : goal.invariant-loop-call
 invariant-loop-call g l =

@@ -1,10 +1,10 @@
 use Rattle.std.proofs.Common.{rules, subst, ◌⊎◌, ◌<◌, length}
 use Rattle.std.proofs.lemmas.List.{take_all}
 use Rattle.std.specs.String.{string_bytes}
-use Rattle.test_script_support.specs.Calls.{NoneOf}
-use Rattle.test_script_support.proofs.CallLemmas.{NoneOf-more}
-use Rattle.test_script_support.proofs.answering.write_answers.Goals.{then-eq+in_ok-write_answer, else-eq}
-use Rattle.test_script_support.proofs.answering.write_answers.Goals as goal
+use Rattle.test_scripts.specs.Calls.{NoneOf}
+use Rattle.test_scripts.proofs.CallLemmas.{NoneOf-more}
+use Rattle.test_scripts.proofs.answering.write_answers.Goals.{then-eq+in_ok-write_answer, else-eq}
+use Rattle.test_scripts.proofs.answering.write_answers.Goals as goal
 
 pub loop-call-preserved : goal.loop-call-preserved
 loop-call-preserved g c = elim c.if-eq.branch [

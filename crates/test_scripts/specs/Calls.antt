@@ -3,7 +3,7 @@ use Rattle.std.specs.Prelude.{ℕ, ◌^◌, ◌<◌, ◌≢◌, ◌==◌, List, 
 use Rattle.std.specs.List.{slice_split}
 use Rattle.std.specs.Str.Lines.{lines}
 use Rattle.std.specs.Str.Parse.{IsNumeral, digits_value, without_leading_plus}
-use Rattle.test_script_support.specs.declared.calls.Call.{Call}
+use Rattle.test_scripts.specs.declared.calls.Call.{Call}
 
 -- a call as its line, the kind of its keys, and its name
 abbrev pub Told : Type 0

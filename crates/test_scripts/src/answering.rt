@@ -2,8 +2,8 @@
 
 ghost use Rattle.std.specs.Prelude.{◌≡◌, ◌<◌, ◌⊎◌, ◌++◌, List, ℕ, codes, length, IsOk, OnOk};
 ghost use Rattle.std.specs.String.{string_bytes};
-ghost use Rattle.test_script_support.specs.Answers.{Ends};
-ghost use Rattle.test_script_support.specs.Calls.{NoneOf};
+ghost use Rattle.test_scripts.specs.Answers.{Ends};
+ghost use Rattle.test_scripts.specs.Calls.{NoneOf};
 
 use crate::answers::Answers;
 use crate::calls::{Call, Readable};

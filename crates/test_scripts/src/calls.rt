@@ -6,7 +6,7 @@
 ghost use Rattle.std.specs.Prelude.{◌≡◌, ◌++◌, ◌==◌, map, IfOk, OnOk};
 ghost use Rattle.std.specs.List.{slice_split};
 ghost use Rattle.std.specs.Str.Lines.{lines};
-ghost use Rattle.test_script_support.specs.Calls.{told, told_by, call_of, calls_of, IsNumber, number_of};
+ghost use Rattle.test_scripts.specs.Calls.{told, told_by, call_of, calls_of, IsNumber, number_of};
 
 use patricia_tree::BorrowedBytes;
 use std::alloc::{AllocError, Global};

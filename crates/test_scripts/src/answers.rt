@@ -2,7 +2,7 @@
 
 ghost use Rattle.std.specs.Prelude.{◌≡◌, ◌<◌, ◌++◌, ◌&&◌, List, ℕ, codes, is_ok, if◌then◌else◌, IfOk, OnOk};
 ghost use Rattle.std.specs.String.{string_bytes};
-ghost use Rattle.test_script_support.specs.Answers.{escaped, hexadecimal, key_text, row_text};
+ghost use Rattle.test_scripts.specs.Answers.{escaped, hexadecimal, key_text, row_text};
 
 use patricia_tree::wire::{DecodeError, WireError};
 use std::alloc::AllocError;
