@@ -4,4 +4,5 @@ mod answers;
 mod bench;
 mod helpers;
 mod reload;
+mod router;
 mod serve;
