@@ -9,6 +9,7 @@ mod cutting;
 mod key_format;
 mod program;
 mod reading;
+pub mod router;
 pub mod run;
 pub mod units;
 mod writing;

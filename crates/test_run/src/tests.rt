@@ -4,5 +4,6 @@ mod answers;
 mod bench;
 mod helpers;
 mod reload;
+mod router;
 mod serve;
 mod units;
