@@ -62,7 +62,6 @@ impl<'a> KeyText<'a> for Units<'a> {
         if field.len() % 4 != 0 {
             return Ok(None);
         }
-        buffer.clear();
         buffer.resize(field.len() / 2, 0)?;
         if hex::decode_to_slice(field, buffer.as_mut_slice()).is_err() {
             return Ok(None);
