@@ -97,8 +97,8 @@ fn check_list<Q: BorrowedBytes>(
 ) -> Result<(), AllocError> {
     let routes = routes_of(router, keys)?;
     assert_eq!(rt; routes.len(), routed.len());
-    for (route, (_, wanted)) in routes.iter().zip(routed) {
-        assert!(rt; is_route(*route, *wanted));
+    for (route, (_, wanted)) in routes.into_iter().zip(routed) {
+        assert!(rt; is_route(route, *wanted));
     }
     Ok(())
 }
