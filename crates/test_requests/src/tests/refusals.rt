@@ -4,6 +4,7 @@
 mod insert;
 mod maps;
 mod owned;
+mod reading;
 mod sets;
 mod tally;
 mod walks;

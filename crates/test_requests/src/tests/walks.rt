@@ -1,54 +1,57 @@
 // Walks to the end, and calls of `next` past it, over labels of at most 30 bytes and of more.
 use super::helpers::map_of;
-use patricia_tree::{BorrowedBytes, Bytes, GenericPatriciaMap};
+use patricia_tree::map::{IntoIter, Iter, Keys, Values};
+use patricia_tree::{BorrowedBytes, Bytes};
 use std::alloc::{AllocError, Global};
 
-// Whether a walk gives as many entries as there are, and past the end none where that is asked.
-fn gives_entries<K: Bytes>(map: &GenericPatriciaMap<K, u64>, past: bool) -> bool {
-    let mut walk = map.iter();
-    let mut gives_all = true;
-    for _ in 0..map.len() {
-        gives_all &= walk.next().is_some();
-    }
-    gives_all && (!past || walk.next().is_none())
+// A walk over a map.
+trait Walk: Drop {
+    // Whether a step gives something.
+    fn gives(&mut self) -> bool;
 }
 
-fn gives_keys<K: Bytes>(map: &GenericPatriciaMap<K, u64>, past: bool) -> bool {
-    let mut walk = map.keys();
-    let mut gives_all = true;
-    for _ in 0..map.len() {
-        gives_all &= walk.next().is_some();
+impl<'a, K: Bytes> Walk for Iter<'a, K, u64> {
+    fn gives(&mut self) -> bool {
+        self.next().is_some()
     }
-    gives_all && (!past || walk.next().is_none())
 }
 
-fn gives_values<K: Bytes>(map: &GenericPatriciaMap<K, u64>, past: bool) -> bool {
-    let mut walk = map.values();
-    let mut gives_all = true;
-    for _ in 0..map.len() {
-        gives_all &= walk.next().is_some();
+impl<'a, K: Bytes> Walk for Keys<'a, K, u64> {
+    fn gives(&mut self) -> bool {
+        self.next().is_some()
     }
-    gives_all && (!past || walk.next().is_none())
 }
 
-fn gives_owned<K: Bytes>(map: GenericPatriciaMap<K, u64>, past: bool) -> bool {
-    let len = map.len();
-    let mut walk = map.into_iter();
-    let mut gives_all = true;
+impl<'a, K: Bytes> Walk for Values<'a, K, u64> {
+    fn gives(&mut self) -> bool {
+        self.next().is_some()
+    }
+}
+
+impl<K: Bytes> Walk for IntoIter<K, u64> {
+    fn gives(&mut self) -> bool {
+        self.next().is_some()
+    }
+}
+
+// Whether a walk gives so many items, and past the end none where that is asked.
+fn gives_all<W: Walk>(mut walk: W, len: usize, past: bool) -> bool {
+    let mut gives_each = true;
     for _ in 0..len {
-        gives_all &= walk.next().is_some();
+        gives_each &= walk.gives();
     }
-    gives_all && (!past || walk.next().is_none())
+    gives_each && (!past || !walk.gives())
 }
 
 // Whether each walk over a map of some keys does.
 fn gives_each<Q: BorrowedBytes>(alloc: Global, keys: &[Q], past: bool) -> Result<bool, AllocError> {
     let map = map_of(alloc, keys)?;
+    let len = map.len();
     Ok(
-        gives_entries(&map, past)
-            && gives_keys(&map, past)
-            && gives_values(&map, past)
-            && gives_owned(map, past),
+        gives_all(map.iter(), len, past)
+            && gives_all(map.keys(), len, past)
+            && gives_all(map.values(), len, past)
+            && gives_all(map.into_iter(), len, past),
     )
 }
 

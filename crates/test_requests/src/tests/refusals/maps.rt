@@ -23,34 +23,54 @@ struct Script<'a, Q> {
     split: &'a [(Q, u64)],
     kept: &'a [(Q, u64)],
     more: &'a [(Q, u64)],
+    // those of the last that begin with ru
+    under: &'a [(Q, u64)],
     // what the copy is extended by
     added: &'a [(Q, u64)],
     tree: &'a [u8],
 }
 
-// Makes the map.
-fn make<Q: BorrowedBytes>(
+fn make_once<Q: BorrowedBytes>(
+    alloc: Global,
+    rows: &[(Q, u64)],
+) -> Result<Map<Q::Owned>, AllocError> {
+    GenericPatriciaMap::from_iter(alloc, rows.iter().copied())
+}
+
+/// Makes a map.
+pub(super) fn make<Q: BorrowedBytes>(
     alloc: Global,
     rows: &[(Q, u64)],
     tally: &mut Tally,
 ) -> Result<Map<Q::Owned>, AllocError> {
-    if let Ok(map) = GenericPatriciaMap::from_iter(alloc, rows.iter().copied()) {
+    if let Ok(map) = make_once(alloc, rows) {
         return Ok(map);
     }
     tally.add();
-    GenericPatriciaMap::from_iter(alloc, rows.iter().copied())
+    make_once(alloc, rows)
 }
 
-// Whether an insert is done, and found this value.
-fn found<Q: BorrowedBytes>(map: &mut Map<Q::Owned>, key: Q, value: u64) -> Option<Option<u64>> {
-    map.insert(key, value).ok()
+// Whether an insert is done, where this value was.
+fn is_put<Q: BorrowedBytes>(map: &mut Map<Q::Owned>, key: Q, value: u64, old: Option<u64>) -> bool {
+    match map.insert(key, value) {
+        Ok(found) => found == old,
+        Err(_) => false,
+    }
 }
 
 // Inserts of the empty key and of a key that is there. They do not allocate.
 fn replace<Q: BorrowedBytes>(rt: &impl Abort, map: &mut Map<Q::Owned>, script: &Script<'_, Q>) {
-    assert!(rt; found(map, script.empty, 6) == Some(None));
-    assert!(rt; found(map, script.rust, 7) == Some(Some(1)));
+    assert!(rt; is_put(map, script.empty, 6, None));
+    assert!(rt; is_put(map, script.rust, 7, Some(1)));
     assert!(rt; has(map, script.whole));
+}
+
+// Removes a key. Returns the value that it had, or `None` where memory ran out.
+fn removed<Q: BorrowedBytes>(map: &mut Map<Q::Owned>, key: Q) -> Option<u64> {
+    match map.remove(key) {
+        Ok(old) => old,
+        Err(_) => None,
+    }
 }
 
 fn remove<Q: BorrowedBytes>(
@@ -59,16 +79,18 @@ fn remove<Q: BorrowedBytes>(
     key: Q,
     before: &[(Q, u64)],
     tally: &mut Tally,
-) -> Result<Option<u64>, AllocError> {
-    if let Ok(old) = map.remove(key) {
-        return Ok(old);
+) -> Option<u64> {
+    let mut old = removed(map, key);
+    if old.is_none() {
+        tally.add();
+        assert!(rt; has(map, before));
+        old = removed(map, key);
     }
-    tally.add();
-    assert!(rt; has(map, before));
-    map.remove(key)
+    old
 }
 
-// Inserts a key, the second time with the value that was handed back.
+// Inserts a new key, the second time with the value that was handed back. Returns whether it is
+// done.
 fn insert<Q: BorrowedBytes>(
     rt: &impl Abort,
     map: &mut Map<Q::Owned>,
@@ -76,13 +98,13 @@ fn insert<Q: BorrowedBytes>(
     value: u64,
     before: &[(Q, u64)],
     tally: &mut Tally,
-) -> Option<Option<u64>> {
+) -> bool {
     match map.insert(key, value) {
-        Ok(old) => Some(old),
+        Ok(old) => old.is_none(),
         Err(refused) => {
             tally.add();
             assert!(rt; refused.value == value && has(map, before));
-            found(map, key, refused.value)
+            is_put(map, key, refused.value, None)
         }
     }
 }
@@ -93,12 +115,11 @@ fn out_and_in<Q: BorrowedBytes>(
     map: &mut Map<Q::Owned>,
     script: &Script<'_, Q>,
     tally: &mut Tally,
-) -> Result<(), AllocError> {
-    assert!(rt; remove(rt, map, script.ruby, script.whole, tally)? == Some(2));
+) {
+    assert!(rt; remove(rt, map, script.ruby, script.whole, tally) == Some(2));
     assert!(rt; has(map, script.without_ruby));
-    assert!(rt; insert(rt, map, script.ruby, 2, script.without_ruby, tally) == Some(None));
+    assert!(rt; insert(rt, map, script.ruby, 2, script.without_ruby, tally));
     assert!(rt; has(map, script.whole));
-    Ok(())
 }
 
 fn split<Q: BorrowedBytes>(
@@ -129,6 +150,15 @@ fn copy<Q: BorrowedBytes>(
     map.clone()
 }
 
+// Inserts pairs by one call, and counts those that it takes. Returns whether it is done.
+fn put<Q: BorrowedBytes>(map: &mut Map<Q::Owned>, rows: &[(Q, u64)], taken: &mut usize) -> bool {
+    let pairs = rows.iter().map(|pair| {
+        *taken = taken.saturating_add(1);
+        *pair
+    });
+    map.extend(pairs).is_ok()
+}
+
 // Whether a map has some entries and so many of others, and no more. The others that are left are
 // inserted.
 fn is_extended<Q: BorrowedBytes>(
@@ -137,13 +167,14 @@ fn is_extended<Q: BorrowedBytes>(
     added: &[(Q, u64)],
     count: usize,
 ) -> bool {
-    let Some((put, left)) = added.split_at_checked(count) else {
+    let Some((there, left)) = added.split_at_checked(count) else {
         return false;
     };
+    let mut taken = 0;
     map.len() == rows.len().saturating_add(count)
         && has_among(map, rows)
-        && has_among(map, put)
-        && map.extend(left.iter().copied()).is_ok()
+        && has_among(map, there)
+        && put(map, left, &mut taken)
 }
 
 // Whether a map has what was kept and what was added, and no more.
@@ -159,12 +190,8 @@ fn extend<Q: BorrowedBytes>(
     script: &Script<'_, Q>,
     tally: &mut Tally,
 ) {
-    let mut taken: usize = 0;
-    let pairs = script.added.iter().map(|pair| {
-        taken = taken.saturating_add(1);
-        *pair
-    });
-    if map.extend(pairs).is_err() {
+    let mut taken = 0;
+    if !put(map, script.added, &mut taken) {
         tally.add();
         let count = taken.saturating_sub(1);
         assert!(rt; is_extended(map, script.kept, script.added, count));
@@ -240,7 +267,7 @@ fn run_rest<Q: BorrowedBytes>(
     let mut copied = copy(rt, map, script, tally)?;
     extend(rt, &mut copied, script, tally);
     add_ten(rt, map, script.kept, tally);
-    read_each(rt, map, script.ru, script.more, tally);
+    read_each(rt, map, script.more, script.ru, script.under, tally);
     assert!(rt; is_encoded(alloc, map, script, tally)?);
     assert!(rt; has(&part, script.split) && is_whole_copy(&copied, script));
     Ok(())
@@ -257,7 +284,7 @@ fn run<Q: BorrowedBytes>(
     let mut map = make(alloc, script.first, &mut tally)?;
     assert!(rt; has(&map, script.first));
     replace(rt, &mut map, script);
-    out_and_in(rt, &mut map, script, &mut tally)?;
+    out_and_in(rt, &mut map, script, &mut tally);
     run_rest(rt, alloc, &mut map, script, &mut tally)?;
     tally.check(rt, most);
     Ok(())
@@ -295,6 +322,7 @@ const SHORT: Script<'static, &'static [u8]> = Script {
     split: &[(b"elixir", 5), (b"erlang", 4)],
     kept: &[(b"", 6), (b"bash", 3), (b"ruby", 2), (b"rust", 7)],
     more: &[(b"", 16), (b"bash", 13), (b"ruby", 12), (b"rust", 17)],
+    under: &[(b"ruby", 12), (b"rust", 17)],
     added: &[(b"x", 7), (b"y", 8), (b"z", 9)],
     tree: &[
         15, 0, 0, 0, 51, 4, 0, 1, 98, 97, 115, 104, 12, 2, 0, 1, 114, 117, 51, 2, 0, 2, 98, 121, 3,
@@ -369,6 +397,10 @@ const LONG: Script<'static, &'static [u8]> = Script {
     more: &[
         (b"", 16),
         (b"bash------------------------------------", 13),
+        (b"ru------------------by..................", 12),
+        (b"ru------------------st..................", 17),
+    ],
+    under: &[
         (b"ru------------------by..................", 12),
         (b"ru------------------st..................", 17),
     ],

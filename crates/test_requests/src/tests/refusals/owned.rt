@@ -1,52 +1,10 @@
 //! A map that a walk takes, of which a step may be refused.
+use super::maps::make;
+use super::reading::is_taken;
 use super::tally::Tally;
-use patricia_tree::{BorrowedBytes, Bytes, GenericPatriciaMap};
+use patricia_tree::BorrowedBytes;
 use std::alloc::{AllocError, Global};
 use std::process::Abort;
-
-fn map_of<Q: BorrowedBytes>(
-    alloc: Global,
-    rows: &[(Q, u64)],
-) -> Result<GenericPatriciaMap<Q::Owned, u64>, AllocError> {
-    GenericPatriciaMap::from_iter(alloc, rows.iter().copied())
-}
-
-fn map_of_again<Q: BorrowedBytes>(
-    alloc: Global,
-    rows: &[(Q, u64)],
-    tally: &mut Tally,
-) -> Result<GenericPatriciaMap<Q::Owned, u64>, AllocError> {
-    if let Ok(map) = map_of(alloc, rows) {
-        return Ok(map);
-    }
-    tally.add();
-    map_of(alloc, rows)
-}
-
-// Whether a walk gives the rows, in key order, or the first of them and then an error. After either
-// it gives nothing.
-fn is_walked<Q: BorrowedBytes>(
-    map: GenericPatriciaMap<Q::Owned, u64>,
-    rows: &[(Q, u64)],
-    tally: &mut Tally,
-) -> bool {
-    let mut walk = map.into_iter();
-    for (key, due) in rows {
-        match walk.next() {
-            Some(Ok((found, value))) => {
-                if found.as_bytes() != key.as_bytes() || value != *due {
-                    return false;
-                }
-            }
-            Some(Err(_)) => {
-                tally.add();
-                break;
-            }
-            None => return false,
-        }
-    }
-    walk.next().is_none() && walk.next().is_none()
-}
 
 fn check<Q: BorrowedBytes>(
     rt: &impl Abort,
@@ -55,8 +13,8 @@ fn check<Q: BorrowedBytes>(
     most: usize,
 ) -> Result<(), AllocError> {
     let mut tally = Tally::new();
-    let map = map_of_again(alloc, rows, &mut tally)?;
-    assert!(rt; is_walked(map, rows, &mut tally));
+    let map = make(alloc, rows, &mut tally)?;
+    assert!(rt; is_taken(map.into_iter(), rows, &mut tally));
     tally.check(rt, most);
     Ok(())
 }

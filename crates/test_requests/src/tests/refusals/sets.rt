@@ -1,4 +1,5 @@
 //! The script of a set.
+use super::reading::{Outcome, is_taken, read};
 use super::tally::Tally;
 use patricia_tree::{BorrowedBytes, Bytes, DecodeError, GenericPatriciaSet, WireError};
 use std::alloc::{AllocError, Global};
@@ -21,6 +22,8 @@ struct Script<'a, Q> {
     // the elements under e, and the others
     split: &'a [Q],
     kept: &'a [Q],
+    // those of the others that begin with ru
+    under: &'a [Q],
     // what the copy is extended by
     added: &'a [Q],
     tree: &'a [u8],
@@ -40,23 +43,73 @@ fn has_among<Q: BorrowedBytes>(set: &Set<Q::Owned>, elements: &[Q]) -> bool {
     true
 }
 
+fn make_once<Q: BorrowedBytes>(alloc: Global, elements: &[Q]) -> Result<Set<Q::Owned>, AllocError> {
+    GenericPatriciaSet::from_iter(alloc, elements.iter().copied())
+}
+
 fn make<Q: BorrowedBytes>(
     alloc: Global,
     elements: &[Q],
     tally: &mut Tally,
 ) -> Result<Set<Q::Owned>, AllocError> {
-    if let Ok(set) = GenericPatriciaSet::from_iter(alloc, elements.iter().copied()) {
+    if let Ok(set) = make_once(alloc, elements) {
         return Ok(set);
     }
     tally.add();
-    GenericPatriciaSet::from_iter(alloc, elements.iter().copied())
+    make_once(alloc, elements)
+}
+
+// Whether an insert is done, where the element was there or was not.
+fn is_put<Q: BorrowedBytes>(set: &mut Set<Q::Owned>, element: Q, is_new: bool) -> bool {
+    match set.insert(element) {
+        Ok(found) => found == is_new,
+        Err(_) => false,
+    }
 }
 
 // Inserts of the empty element and of one that is there. They do not allocate.
 fn replace<Q: BorrowedBytes>(rt: &impl Abort, set: &mut Set<Q::Owned>, script: &Script<'_, Q>) {
-    assert!(rt; set.insert(script.empty).ok() == Some(true));
-    assert!(rt; set.insert(script.rust).ok() == Some(false));
+    assert!(rt; is_put(set, script.empty, true));
+    assert!(rt; is_put(set, script.rust, false));
     assert!(rt; has(set, script.whole));
+}
+
+// Whether an element is removed.
+fn is_removed<Q: BorrowedBytes>(set: &mut Set<Q::Owned>, element: Q) -> bool {
+    match set.remove(element) {
+        Ok(was_there) => was_there,
+        Err(_) => false,
+    }
+}
+
+fn remove<Q: BorrowedBytes>(
+    rt: &impl Abort,
+    set: &mut Set<Q::Owned>,
+    element: Q,
+    before: &[Q],
+    tally: &mut Tally,
+) {
+    if is_removed(set, element) {
+        return;
+    }
+    tally.add();
+    assert!(rt; has(set, before));
+    assert!(rt; is_removed(set, element));
+}
+
+fn insert<Q: BorrowedBytes>(
+    rt: &impl Abort,
+    set: &mut Set<Q::Owned>,
+    element: Q,
+    before: &[Q],
+    tally: &mut Tally,
+) {
+    if is_put(set, element, true) {
+        return;
+    }
+    tally.add();
+    assert!(rt; has(set, before));
+    assert!(rt; is_put(set, element, true));
 }
 
 // Removes an element, which joins labels, and inserts it again.
@@ -65,20 +118,11 @@ fn out_and_in<Q: BorrowedBytes>(
     set: &mut Set<Q::Owned>,
     script: &Script<'_, Q>,
     tally: &mut Tally,
-) -> Result<(), AllocError> {
-    if set.remove(script.ruby).ok() != Some(true) {
-        tally.add();
-        assert!(rt; has(set, script.whole));
-        assert!(rt; set.remove(script.ruby)?);
-    }
+) {
+    remove(rt, set, script.ruby, script.whole, tally);
     assert!(rt; has(set, script.without_ruby));
-    if set.insert(script.ruby).ok() != Some(true) {
-        tally.add();
-        assert!(rt; has(set, script.without_ruby));
-        assert!(rt; set.insert(script.ruby)?);
-    }
+    insert(rt, set, script.ruby, script.without_ruby, tally);
     assert!(rt; has(set, script.whole));
-    Ok(())
 }
 
 fn split<Q: BorrowedBytes>(
@@ -109,6 +153,15 @@ fn copy<Q: BorrowedBytes>(
     set.clone()
 }
 
+// Inserts elements by one call, and counts those that it takes. Returns whether it is done.
+fn put<Q: BorrowedBytes>(set: &mut Set<Q::Owned>, elements: &[Q], taken: &mut usize) -> bool {
+    let counted = elements.iter().map(|element| {
+        *taken = taken.saturating_add(1);
+        *element
+    });
+    set.extend(counted).is_ok()
+}
+
 // Whether a set has some elements and so many of others, and no more. The others that are left are
 // inserted.
 fn is_extended<Q: BorrowedBytes>(
@@ -117,13 +170,14 @@ fn is_extended<Q: BorrowedBytes>(
     added: &[Q],
     count: usize,
 ) -> bool {
-    let Some((put, left)) = added.split_at_checked(count) else {
+    let Some((there, left)) = added.split_at_checked(count) else {
         return false;
     };
+    let mut taken = 0;
     set.len() == before.len().saturating_add(count)
         && has_among(set, before)
-        && has_among(set, put)
-        && set.extend(left.iter().copied()).is_ok()
+        && has_among(set, there)
+        && put(set, left, &mut taken)
 }
 
 // Whether a set has what was kept and what was added, and no more.
@@ -139,70 +193,21 @@ fn extend<Q: BorrowedBytes>(
     script: &Script<'_, Q>,
     tally: &mut Tally,
 ) {
-    let mut taken: usize = 0;
-    let elements = script.added.iter().map(|element| {
-        taken = taken.saturating_add(1);
-        *element
-    });
-    if set.extend(elements).is_err() {
+    let mut taken = 0;
+    if !put(set, script.added, &mut taken) {
         tally.add();
         let count = taken.saturating_sub(1);
         assert!(rt; is_extended(set, script.kept, script.added, count));
     }
 }
 
-// Whether a step of a walk gave this element, or `None` where memory ran out.
-fn is_due<K: Bytes>(came: Option<Result<K, AllocError>>, element: &[u8]) -> Option<bool> {
-    match came {
-        Some(Ok(found)) => Some(found.as_bytes() == element),
-        Some(Err(_)) => None,
-        None => Some(false),
+// Reads the walk over the whole set, or the one under the prefix.
+fn walk<Q: BorrowedBytes>(set: &Set<Q::Owned>, is_whole: bool, script: &Script<'_, Q>) -> Outcome {
+    if is_whole {
+        read(set.iter(), script.kept)
+    } else {
+        read(set.iter_prefix(script.ru), script.under)
     }
-}
-
-// Whether a walk gives these elements, or `None` where memory ran out and the walk was over.
-fn walk<Q: BorrowedBytes>(set: &Set<Q::Owned>, elements: &[Q]) -> Option<bool> {
-    let mut walk = set.iter();
-    for element in elements {
-        match is_due(walk.next(), element.as_bytes()) {
-            Some(true) => {}
-            None if walk.next().is_none() => return None,
-            _ => return Some(false),
-        }
-    }
-    Some(walk.next().is_none() && walk.next().is_none())
-}
-
-// The same of those under a prefix.
-fn walk_under<Q: BorrowedBytes>(set: &Set<Q::Owned>, prefix: Q, elements: &[Q]) -> Option<bool> {
-    let mut walk = set.iter_prefix(prefix);
-    for element in elements {
-        if !element.as_bytes().starts_with(prefix.as_bytes()) {
-            continue;
-        }
-        match is_due(walk.next(), element.as_bytes()) {
-            Some(true) => {}
-            None if walk.next().is_none() => return None,
-            _ => return Some(false),
-        }
-    }
-    Some(walk.next().is_none() && walk.next().is_none())
-}
-
-// The same where the set is taken. It gives the elements, or the first of them and then an error.
-fn is_taken<Q: BorrowedBytes>(set: Set<Q::Owned>, elements: &[Q], tally: &mut Tally) -> bool {
-    let mut walk = set.into_iter();
-    for element in elements {
-        match is_due(walk.next(), element.as_bytes()) {
-            Some(true) => {}
-            Some(false) => return false,
-            None => {
-                tally.add();
-                break;
-            }
-        }
-    }
-    walk.next().is_none() && walk.next().is_none()
 }
 
 // Reads each walk to its end.
@@ -212,18 +217,14 @@ fn read_each<Q: BorrowedBytes>(
     script: &Script<'_, Q>,
     tally: &mut Tally,
 ) {
-    let mut came = walk(set, script.kept);
-    if came.is_none() {
-        tally.add();
-        came = walk(set, script.kept);
+    for is_whole in &[true, false] {
+        let mut came = walk(set, *is_whole, script);
+        if came == Outcome::Refused {
+            tally.add();
+            came = walk(set, *is_whole, script);
+        }
+        assert!(rt; came == Outcome::Right);
     }
-    assert!(rt; came == Some(true));
-    came = walk_under(set, script.ru, script.kept);
-    if came.is_none() {
-        tally.add();
-        came = walk_under(set, script.ru, script.kept);
-    }
-    assert!(rt; came == Some(true));
 }
 
 fn encode<K: Bytes>(set: &Set<K>, tally: &mut Tally) -> Result<Vec<u8>, WireError> {
@@ -278,6 +279,18 @@ fn is_encoded<Q: BorrowedBytes>(
     tree.as_slice() == script.tree && has(&read, script.kept) && has(set, script.kept)
 }
 
+// What was split off and the copy are as they should be at the end.
+fn check_parts<Q: BorrowedBytes>(
+    rt: &impl Abort,
+    part: Set<Q::Owned>,
+    copied: &Set<Q::Owned>,
+    script: &Script<'_, Q>,
+    tally: &mut Tally,
+) {
+    assert!(rt; has(&part, script.split) && is_whole_copy(copied, script));
+    assert!(rt; is_taken(part.into_iter(), script.split, tally));
+}
+
 // The calls from the split on. What was split off is kept to the end.
 fn run_rest<Q: BorrowedBytes>(
     rt: &impl Abort,
@@ -292,8 +305,7 @@ fn run_rest<Q: BorrowedBytes>(
     extend(rt, &mut copied, script, tally);
     read_each(rt, set, script, tally);
     assert!(rt; is_encoded(alloc, set, script, tally));
-    assert!(rt; has(&part, script.split) && is_whole_copy(&copied, script));
-    assert!(rt; is_taken(part, script.split, tally));
+    check_parts(rt, part, &copied, script, tally);
     Ok(())
 }
 
@@ -308,7 +320,7 @@ fn run<Q: BorrowedBytes>(
     let mut set = make(alloc, script.first, &mut tally)?;
     assert!(rt; has(&set, script.first));
     replace(rt, &mut set, script);
-    out_and_in(rt, &mut set, script, &mut tally)?;
+    out_and_in(rt, &mut set, script, &mut tally);
     run_rest(rt, alloc, &mut set, script, &mut tally)?;
     tally.check(rt, most);
     Ok(())
@@ -326,6 +338,7 @@ const SHORT: Script<'static, &'static [u8]> = Script {
     without_ruby: &[b"", b"bash", b"elixir", b"erlang", b"rust"],
     split: &[b"elixir", b"erlang"],
     kept: &[b"", b"bash", b"ruby", b"rust"],
+    under: &[b"ruby", b"rust"],
     added: &[b"x", b"y", b"z"],
     tree: &[
         15, 0, 0, 0, 51, 4, 0, 1, 98, 97, 115, 104, 12, 2, 0, 1, 114, 117, 51, 2, 0, 2, 98, 121, 3,
@@ -364,6 +377,7 @@ const LONG: Script<'static, &'static str> = Script {
     ],
     split: &["えええああああああああああああ", "えええりりりりりりりりりりりり"],
     kept: &["", "ばっしゅばっしゅばっしゅばっしゅ", "るるるるるるるすとすとすとすと", "るるるるるるるびいびいびいびい"],
+    under: &["るるるるるるるすとすとすとすと", "るるるるるるるびいびいびいびい"],
     added: &[
         "xxxxxxxxxxxxxxxxxxxxxxxxxxxxxxxxxxxxxxxx",
         "yyyyyyyyyyyyyyyyyyyyyyyyyyyyyyyyyyyyyyyy",
