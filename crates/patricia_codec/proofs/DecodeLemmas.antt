@@ -23,9 +23,9 @@ use Rattle.patricia_codec.proofs.ReaderLemmas.{spelled_all}
 
 module _ (item : List ℕ → Type 0) where
   -- at the start the root is due
-  pub started : (n : ℕ) (p : Reader) → IsReaderStart p
-      → IsReading item n p [] ((record { level = 0; after = None }) ∷ [])
-  started n p start = record {
+  pub started : (w n : ℕ) (p : Reader) → IsReaderStart p
+      → IsReading item w n p [] ((record { level = 0; after = None }) ∷ [])
+  started w n p start = record {
     read = nothing;
     reads = rw start.offset (record { read = []; spelled = refl; joined = refl; ends = refl });
     due_is = ap reverse start.due;
@@ -156,11 +156,11 @@ pub all_taken : {V : Type 0} (all taken rest : List V) (len : ℕ) → all ≡ t
 all_taken all taken rest len split is z = split ∙ ap (λ l. taken ++ l) (nil_from_length rest (omega (arith, is, z))) ∙ append-nil taken
 
 -- records are read and built with these values, and nothing more is due
-module _ (item : List ℕ → Type 0) {V : Type 0} (b : Builder V) (p q : Reader) (n : ℕ)
-    (R : List Record) (due : List Due) (taken : List V) (reading : IsReading item n p R due)
-    (built : IsBuilt item b R due taken) (ends : Ends item p q) where
+module _ (item : List ℕ → Type 0) (w : ℕ) {V : Type 0} (b : Builder V) (p q : Reader) (n : ℕ)
+    (R : List Record) (due : List Due) (taken : List V) (reading : IsReading item w n p R due)
+    (built : IsBuilt item b R due taken) (ends : Ends item w p q) where
   -- no record is due behind those that were read
-  pub read_all : IsReading item n q R []
+  pub read_all : IsReading item w n q R []
   read_all = let on = ends n R due reading in on.1
 
   -- the nodes stand for a tree of these records and values, in which each number stands once
@@ -176,10 +176,10 @@ module _ (item : List ℕ → Type 0) {V : Type 0} (b : Builder V) (p q : Reader
   pub decoded : (kind : IsKeyKind item) (bytes : List ℕ) → q.bytes.now ≡ bytes
       → (items rest : List V) (left : ℕ) → items ≡ taken ++ rest → left ≡ length rest
       → (q.offset ≡ length q.bytes.now) × (left ≡ 0) → (free : Option ℕ) → free ≡ None
-      → IsDone item (record { nodes = b.nodes; root = b.root; free = free }) b.value bytes items
+      → IsDone item w (record { nodes = b.nodes; root = b.root; free = free }) b.value bytes items
   decoded kind bytes same items rest left split count over free none =
-      subst (λ l. IsDone item s b.value l items) same (subst (IsDone item s b.value q.bytes.now) (sym (all_taken items taken rest left split count over.1))
-      (done item kind s b.value R taken q.bytes.now grown_all none (spelled_all item q n R [] read_all (omega (arith, over.0)))))
+      subst (λ l. IsDone item w s b.value l items) same (subst (IsDone item w s b.value q.bytes.now) (sym (all_taken items taken rest left split count over.1))
+      (done item w kind s b.value R taken q.bytes.now grown_all none (spelled_all item w q n R [] read_all (omega (arith, over.0)))))
     where
       s : NodeArena V
       s = record { nodes = b.nodes; root = b.root; free = free }

@@ -1,6 +1,6 @@
 -- What is written, and what is left, make the encoding.
 use Rattle.std.proofs.Common.{◌≡◌, ℕ, ◌<◌, ◌≤◌, inl, inr, false, List, [], ◌∷◌, ◌++◌, Option, Some, None, refl, sym, ap, subst, ◌∙◌, arith, append_assoc, append-nil}
-use Rattle.std.specs.Prelude.{All, Any, is_some}
+use Rattle.std.specs.Prelude.{◌^◌, All, Any, is_some}
 use Rattle.std.proofs.lemmas.List.Elements.{All-nil, All-cons, All-append}
 use Rattle.patricia_keys.specs.Keys.{IsKeyKind}
 use Rattle.patricia_model.specs.Siblings.{Siblings, end, node, own, prefixed, entries, keys_of, IsCanonical, IsCanonicalWithin}
@@ -15,6 +15,7 @@ use Rattle.patricia_wire.specs.TreeBytes.{AreTreeBytes}
 use Rattle.patricia_wire.specs.Writings.{TooDeep}
 use Rattle.patricia_wire.proofs.BytesOfTrees.{tree_bytes}
 use Rattle.patricia_wire.proofs.RowTrees.{tree_of}
+use Rattle.patricia_wire.proofs.Spellings.{positive}
 use Rattle.patricia_wire.proofs.TightRows.{within_writable, within_apart}
 use Rattle.patricia_wire.proofs.WrittenOrDeep.{any_there, any_right, tree_room_or_deep}
 use Rattle.patricia_codec.specs.declared.records.Records.{Records}
@@ -30,14 +31,14 @@ spellings-snoc w [] r = append-nil (canonical_bytes w r)
 spellings-snoc w (x ∷ A) r = ap (λ b. canonical_bytes w x ++ b) (spellings-snoc w A r) ∙ sym
     (append_assoc (canonical_bytes w x) (canonical_bytes_of w A) (canonical_bytes w r))
 
--- no record is deeper than two bytes can tell
-abbrev pub AreShallow : List Record → Type 0
-AreShallow A = All (λ r. r.level < 65536) A
+-- no record is deeper than w bytes can tell
+abbrev pub AreShallow : ℕ → List Record → Type 0
+AreShallow w A = All (λ r. r.level < 256 ^ w) A
 
 -- one more record that is not too deep leaves none too deep
-pub shallow-snoc : (A : List Record) (r : Record) → AreShallow A → r.level < 65536
-    → AreShallow (A ++ r ∷ [])
-shallow-snoc A r all one = All-append (λ r. r.level < 65536) A (r ∷ []) all (All-cons (λ r. r.level < 65536) r [] one (All-nil (λ r. r.level < 65536)))
+pub shallow-snoc : (w : ℕ) (A : List Record) (r : Record) → AreShallow w A → r.level < 256 ^ w
+    → AreShallow w (A ++ r ∷ [])
+shallow-snoc w A r all one = All-append (λ r. r.level < 256 ^ w) A (r ∷ []) all (All-cons (λ r. r.level < 256 ^ w) r [] one (All-nil (λ r. r.level < 256 ^ w)))
 
 module _ (item : List ℕ → Type 0) (kind : IsKeyKind item) {V : Type 0} (arena : NodeArena V) where
   -- at the start all records are left
@@ -62,19 +63,19 @@ module _ (item : List ℕ → Type 0) (kind : IsKeyKind item) {V : Type 0} (aren
   some_left p A ok at = (let some = some_records item kind 1 (siblings_of arena) ok in let left = at some.0 some.1 in (left.0, left.2))
 
   -- a record that is taken is written behind those that are written
-  pub at_next : (p q : Records V) (A : List Record) (r : Record) → IsAt item arena p A
-      → TakesRecord item p r q → IsAt item arena q (A ++ r ∷ [])
-  at_next p q A r at taken R a =
+  pub at_next : (w : ℕ) (p q : Records V) (A : List Record) (r : Record) → IsAt item arena p A
+      → TakesRecord item w p r q → IsAt item arena q (A ++ r ∷ [])
+  at_next w p q A r at taken R a =
       let left = at R a in
       let rest = taken.left left.0 left.2 in
       (rest.0, left.1 ∙ ap (λ l. A ++ l) rest.1 ∙ sym (append_assoc A (r ∷ []) rest.0), rest.2)
 
   -- what is too deep among those that are left is too deep
-  pub deep_left : (p : Records V) (A : List Record) → IsAt item arena p A → IsDeep item p
-      → AreDeep item arena
-  deep_left p A at deep R a =
+  pub deep_left : (w : ℕ) (p : Records V) (A : List Record) → IsAt item arena p A → IsDeep item w p
+      → AreDeep item w arena
+  deep_left w p A at deep R a =
       let left = at R a in
-      rw left.1 (any_right (λ r. 65536 ≤ r.level) A left.0 (deep left.0 left.2))
+      rw left.1 (any_right (λ r. 256 ^ w ≤ r.level) A left.0 (deep left.0 left.2))
 
   -- where nothing is left, all is written
   pub at_end : (p : Records V) (A : List Record) → IsAt item arena p A → IsOver item p
@@ -112,56 +113,56 @@ module _ (item : List ℕ → Type 0) (kind : IsKeyKind item) {V : Type 0} (valu
   tree_is : tree_records value a.cut ≡ root_record ∷ R
   tree_is = λ i. record { level = 0; label = []; value = is_some value; child = cut_node i; sibling = false } ∷ sym a.is i
 
-  -- where each level is below 65536, no record lies too deep
-  none_deep : (X : List Record) → AreShallow X → Any (λ r. 65536 ≤ r.level) X → ⊥
-  none_deep X all (k, r, h, e, deep) = (let one = subst (λ r. r.level < 65536) e (all k r h) in omega arith)
+  -- where w bytes have room for each level, no record lies too deep
+  none_deep : (w : ℕ) (X : List Record) → AreShallow w X → HasDeep w X → ⊥
+  none_deep w X all (k, r, h, e, deep) = (let one = subst (λ r. r.level < 256 ^ w) e (all k r h) in omega arith)
 
   -- they are a tree with the keys of the row, and with the empty key where it has a value
   is_tree : Root item (tree_records value a.cut) (keys_of (own value ++ entries row))
   is_tree = subst (λ es. Root item (tree_records value a.cut) (keys_of es)) same_rows (tree_of item value a.cut (within_writable item a.cut a.cut_ok))
 
   -- its clean spelling is the tree bytes where no record lies too deep
-  pub written : AreShallow R
-      → AreTreeBytes item 2 (canonical_bytes 2 root_record ++ canonical_bytes_of 2 R)
+  pub written : (w : ℕ) → AreShallow w R
+      → AreTreeBytes item w (canonical_bytes w root_record ++ canonical_bytes_of w R)
       (own value ++ entries row)
-  written shallow = elim (tree_room_or_deep item kind 2 value a.cut (within_writable item a.cut a.cut_ok)) [
-    | inl room ↦ tree_bytes item kind 2 _ _
+  written w shallow = elim (tree_room_or_deep item kind w value a.cut (within_writable item a.cut a.cut_ok)) [
+    | inl room ↦ tree_bytes item kind w _ _
         (record {
           records = tree_records value a.cut;
           root = is_tree;
           tight = within_apart item 1
               a.cut a.cut_ok;
           room = room;
-          is = ap (canonical_bytes_of 2) (sym tree_is);
+          is = ap (canonical_bytes_of w) (sym tree_is);
         })
     | inr deep ↦ absurd
-        (none_deep (root_record ∷ R)
-        (All-cons (λ r. r.level < 65536) root_record R (omega arith) shallow)
-        (subst (Any (λ r. 65536 ≤ r.level)) tree_is deep))
+        (none_deep w (root_record ∷ R)
+        (All-cons (λ r. r.level < 256 ^ w) root_record R (positive w) shallow)
+        (subst (HasDeep w) tree_is deep))
   ]
 
   -- and it is too deep where one does
-  pub deep : HasDeep R → TooDeep item 2 (keys_of (own value ++ entries row))
-  deep some = record {
+  pub deep : (w : ℕ) → HasDeep w R → TooDeep item w (keys_of (own value ++ entries row))
+  deep w some = record {
     records = tree_records value a.cut;
     root = is_tree;
     tight = within_apart item 1 a.cut a.cut_ok;
-    deep = subst HasDeep (sym tree_is) (any_there (λ r. 65536 ≤ r.level) root_record R some);
+    deep = subst (HasDeep w) (sym tree_is) (any_there (λ r. 256 ^ w ≤ r.level) root_record R some);
   }
 
 module _ (item : List ℕ → Type 0) (kind : IsKeyKind item) {V : Type 0} (arena : NodeArena V)
-    (value : Option V) (ok : IsCanonical item (siblings_of arena)) where
+    (value : Option V) (w : ℕ) (ok : IsCanonical item (siblings_of arena)) where
   -- so the nodes lie too deep where one of their records does
-  pub too_deep : AreDeep item arena
-      → TooDeep item 2 (keys_of (own value ++ entries (siblings_of arena)))
-  too_deep all = (let some = some_records item kind 1 (siblings_of arena) ok in deep item kind value (siblings_of arena) some.0 some.1 (all some.0 some.1))
+  pub too_deep : AreDeep item w arena
+      → TooDeep item w (keys_of (own value ++ entries (siblings_of arena)))
+  too_deep all = (let some = some_records item kind 1 (siblings_of arena) ok in deep item kind value (siblings_of arena) some.0 some.1 w (all some.0 some.1))
 
   -- and where no record is left, what is written is the tree bytes
   pub all_written : (p : Records V) (A : List Record) (b : List ℕ) (root : Record)
-      → IsWellFormed arena → IsAt item arena p A → IsOver item p → AreShallow A
+      → IsWellFormed arena → IsAt item arena p A → IsOver item p → AreShallow w A
       → root ≡ record { level = 0; label = []; value = is_some value; child = is_some arena.root; sibling = false }
-      → b ≡ canonical_bytes 2 root ++ canonical_bytes_of 2 A
-      → AreTreeBytes item 2 b (own value ++ entries (siblings_of arena))
+      → b ≡ canonical_bytes w root ++ canonical_bytes_of w A
+      → AreTreeBytes item w b (own value ++ entries (siblings_of arena))
   all_written p A b root whole at over shallow root_is is =
       let some = some_records item kind 1 (siblings_of arena) ok in
       let R = some.0 in
@@ -175,6 +176,6 @@ module _ (item : List ℕ → Type 0) (kind : IsKeyKind item) {V : Type 0} (aren
         child = sym child i;
         sibling = false;
       }) ∙ sym root_is in
-      subst (λ c. AreTreeBytes item 2 c (own value ++ entries (siblings_of arena)))
-      ((λ i. canonical_bytes 2 (same_root i) ++ canonical_bytes_of 2 (all i)) ∙ sym is)
-      (written item kind value (siblings_of arena) R some.1 (subst AreShallow (sym all) shallow))
+      subst (λ c. AreTreeBytes item w c (own value ++ entries (siblings_of arena)))
+      ((λ i. canonical_bytes w (same_root i) ++ canonical_bytes_of w (all i)) ∙ sym is)
+      (written item kind value (siblings_of arena) R some.1 w (subst (AreShallow w) (sym all) shallow))

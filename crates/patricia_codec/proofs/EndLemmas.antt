@@ -181,17 +181,17 @@ module _ (item : List ℕ → Type 0) {V : Type 0} where
       (tree_of item value g.written g.hangs.writable)
 
   -- nodes that are grown are whole, and mean what was read
-  pub record IsDone (s : NodeArena V) (value : Option V) (b : List ℕ) (vs : List V) : Type 0 where
+  pub record IsDone (w : ℕ) (s : NodeArena V) (value : Option V) (b : List ℕ) (vs : List V) : Type 0 where
     pub whole : IsWellFormed s
     pub canonical : IsCanonical item (siblings_of s)
-    pub means : Means item 2 b vs (own value ++ entries_of s)
+    pub means : Means item w b vs (own value ++ entries_of s)
 
   -- when nothing is due, the nodes are those that the bytes and values mean
-  pub done : (kind : IsKeyKind item) (s : NodeArena V) (value : Option V) (R : List Record)
+  pub done : (w : ℕ) (kind : IsKeyKind item) (s : NodeArena V) (value : Option V) (R : List Record)
       (vs : List V) (b : List ℕ)
       → IsGrown item s.nodes.items s.root value R vs (below (length s.nodes.items))
-      (length s.nodes.items) → s.free ≡ None → EncodeAll 2 R b → IsDone s value b vs
-  done kind s value R vs b g free spelled =
+      (length s.nodes.items) → s.free ≡ None → EncodeAll w R b → IsDone w s value b vs
+  done w kind s value R vs b g free spelled =
       let plan : IsPlan s.nodes.items s.root g.plan = record { stands = g.hangs.stands; at_is = g.hangs.at_is; fits = omega (arith, g.sizes) } in
       let is = plan_is s.nodes.items s.root g.plan plan in
       let row_is : siblings_of s ≡ joined g.written = ap row is ∙ g.hangs.same in

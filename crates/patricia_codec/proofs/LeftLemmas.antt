@@ -1,6 +1,6 @@
 -- How taking a record changes what is left.
 use Rattle.std.proofs.Common.{◌≡◌, ◌≢◌, ℕ, zero, suc, ◌+◌, ◌<◌, ◌≤◌, true, false, List, [], ◌∷◌, ◌++◌, length, take, drop, get_or, Option, Some, None, refl, sym, ap, subst, ◌∙◌, arith, take_all, drop-drop, length-take, length-drop, append-nil, append_assoc}
-use Rattle.std.specs.Prelude.{Bool, is_some, Result, Ok, Err, IsErrAnd, vec_len}
+use Rattle.std.specs.Prelude.{◌^◌, Bool, is_some, Result, Ok, Err, IsErrAnd, vec_len}
 use Rattle.patricia_keys.specs.Keys.{IsKeyKind, IsValid}
 use Rattle.patricia_model.specs.Siblings.{Siblings, end, node}
 use Rattle.patricia_nodes.specs.declared.arena.Node.{Node}
@@ -156,12 +156,12 @@ module _ (item : List ℕ → Type 0) (kind : IsKeyKind item) {V : Type 0} (p : 
       short [] e f = absurd (f refl)
       short (x ∷ l) e f = omega (arith, ap length e, length-drop p.skipped n.label)
 
-  -- a record too deep for two bytes is one of those that are left
-  pub first_deep : 65536 ≤ p.level → IsDeep item p
-  first_deep deep R a =
+  -- a record too deep for w bytes is one of those that are left
+  pub first_deep : (w : ℕ) → 256 ^ w ≤ p.level → IsDeep item w p
+  first_deep w deep R a =
       let first = first_record item kind p.level _ _ _ _ a.here (row_left R a) in
-      let here : HasDeep a.here = rw first.is (any_here (λ r. 65536 ≤ r.level) first.first first.more (omega (arith, first.level, deep))) in
-      rw a.is (any_left (λ r. 65536 ≤ r.level) a.here a.waiting here)
+      let here : HasDeep w a.here = rw first.is (any_here (λ r. 256 ^ w ≤ r.level) first.first first.more (omega (arith, first.level, deep))) in
+      rw a.is (any_left (λ r. 256 ^ w ≤ r.level) a.here a.waiting here)
 
   module _ (q : Records V) (k : ℕ) (piece : IsPiece item (drop p.skipped n.label) k) (kept : nodes_of q ≡ nodes_of p) (level : q.level ≡ p.level + 1) where
     -- the row below the record, which is next afterwards
@@ -217,11 +217,11 @@ module _ (item : List ℕ → Type 0) (kind : IsKeyKind item) {V : Type 0} (p : 
     }
 
     -- a piece with what is below and beside it is the record that is taken off
-    pub taken : (r : Record) (at : Option ℕ) (under : Siblings V) → Beside at
+    pub taken : (w : ℕ) (r : Record) (at : Option ℕ) (under : Siblings V) → Beside at
         → q.stack.items ≡ p.stack.items ++ (p.level, at) ∷ [] → Below r.value r.child under
         → r.level ≡ p.level → r.label ≡ take k (drop p.skipped n.label) → r.sibling ≡ is_some at
-        → p.level < 65536 → TakesRecord item p r q
-    taken r at under beside stack below level_is label_is sibling_is shallow =
+        → p.level < 256 ^ w → TakesRecord item w p r q
+    taken w r at under beside stack below level_is label_is sibling_is shallow =
         let b = row_at (nodes_of p) at in
         let first : Record = record { level = p.level; label = take k (drop p.skipped n.label); value = r.value; child = r.child; sibling = has_node b } in
         let same : first ≡ r = λ i. record {
@@ -231,7 +231,7 @@ module _ (item : List ℕ → Type 0) (kind : IsKeyKind item) {V : Type 0} (p : 
           child = r.child;
           sibling = sym (sibling_is ∙ has_link (nodes_of p) at beside.stands) i;
         } in
-        subst (λ r. TakesRecord item p r q) same (record {
+        subst (λ r. TakesRecord item w p r q) same (record {
           left = λ R a.
               let off = below.off b a.here (subst (λ r. AreRecords item p.level r a.here) beside.row_is a.are_here) in
               let waiting = off.beside_records ++ a.waiting in (

@@ -1,27 +1,21 @@
 -- A record at the front of bytes.
-use Rattle.std.proofs.Common.{◌≡◌, ◌≢◌, ℕ, suc, ◌+◌, ◌-◌, ◌*◌, ◌<◌, ◌≤◌, ◌/◌, ◌%◌, List, [], ◌∷◌, ◌++◌, length, take, drop, get_or, sym, ap, subst, ◌∙◌, arith, take-append-drop, take_all}
-use Rattle.std.specs.Prelude.{◌↔◌, not, nat_eq, bit_and, IsTrue, All, slice_range}
+use Rattle.std.proofs.Common.{◌≡◌, ◌≢◌, ℕ, suc, ◌+◌, ◌-◌, ◌<◌, ◌≤◌, List, [], ◌∷◌, ◌++◌, length, take, drop, get_or, sym, ap, subst, ◌∙◌, arith, append_assoc, take-append-drop, take_all, drop-drop, length-drop}
+use Rattle.std.specs.Prelude.{◌^◌, ◌↔◌, not, nat_eq, bit_and, IsTrue, All, slice_range}
 use Rattle.std.specs.Int.{bytes_high_first}
 use Rattle.std.proofs.lemmas.Bool.Decides.{nat_tests}
-use Rattle.std.proofs.lemmas.List.Elements.{All-from_get_or, All-take}
+use Rattle.std.proofs.lemmas.List.Elements.{All-from_get_or, All-take, All-drop}
 use Rattle.patricia_codec.specs.Internal.Steps.{Fronts}
 
 -- a bit is found set exactly where it is not 0
 tested_bit : (n : ℕ) → IsTrue (not (nat_eq n 0)) ↔ (n ≢ 0)
 tested_bit n = (λ t e. grind (arith, nat_tests), λ some. grind (arith, nat_tests))
 
--- a number below 65536 is spelled by its high byte, then its low one
-high_first : (h l : ℕ) → h < 256 → l < 256 → bytes_high_first 2 (h * 256 + l) ≡ h ∷ l ∷ []
-high_first h l a b =
-    let high : (h * 256 + l) / 256 % 256 ≡ h = omega (arith, a, b) in
-    let low : (h * 256 + l) % 256 ≡ l = omega (arith, a, b) in
-    λ i. high i ∷ low i ∷ []
-
--- the bytes at the front are a record's encoding
-pub fronts : (b label : List ℕ) (level : ℕ) → 4 ≤ length b → ((i : ℕ) → get_or b i 0 < 256)
-    → label ≡ slice_range (take (length b - 4) (drop 4 b)) 0 (get_or b 1 0)
-    → length label ≡ get_or b 1 0 → level ≡ get_or b 2 0 * 256 + get_or b 3 0
-    → Fronts
+-- the bytes at the front are a record's encoding, where these of them spell its level
+pub fronts : (w head : ℕ) (b label levels : List ℕ) (level : ℕ) → head ≡ 2 + w → head ≤ length b
+    → ((i : ℕ) → get_or b i 0 < 256) → levels ≡ take (head - 2) (drop 2 b)
+    → label ≡ slice_range (take (length b - head) (drop head b)) 0 (get_or b 1 0)
+    → length label ≡ get_or b 1 0 → bytes_high_first w level ≡ levels → level < 256 ^ w
+    → Fronts w
     (record {
       level = level;
       label = label;
@@ -29,32 +23,36 @@ pub fronts : (b label : List ℕ) (level : ℕ) → 4 ≤ length b → ((i : ℕ
       child = not (nat_eq (bit_and (get_or b 0 0) 8) 0);
       sibling = not (nat_eq (bit_and (get_or b 0 0) 32) 0);
     }) b
-fronts [] label level enough bytes is size level_is = absurd (omega arith)
-fronts (f ∷ []) label level enough bytes is size level_is = absurd (omega arith)
-fronts (f ∷ n ∷ []) label level enough bytes is size level_is = absurd (omega arith)
-fronts (f ∷ n ∷ h ∷ []) label level enough bytes is size level_is = absurd (omega arith)
-fronts (f ∷ n ∷ h ∷ l ∷ rest) label level enough bytes is size level_is =
-    let whole : label ≡ take n rest = is ∙ ap (λ r. slice_range r 0 n)
-    (take_all (suc (suc (suc (suc (length rest)))) - 4) rest (omega arith)) ∙ ap
-    (λ k. take k rest) (omega arith) in
-    let high = bytes 2 in
-    let low = bytes 3 in
-    let spelled : bytes_high_first 2 level ≡ h ∷ l ∷ [] = ap (bytes_high_first 2) level_is ∙ high_first h l high low in
+fronts w head [] label levels level wide enough bytes levels_are is size spelled room = absurd (omega (arith, wide))
+fronts w head (f ∷ []) label levels level wide enough bytes levels_are is size spelled room = absurd (omega (arith, wide))
+fronts w head (f ∷ n ∷ l) label levels level wide enough bytes levels_are is size spelled room =
+    let b = f ∷ n ∷ l in
+    let behind : drop head b ≡ drop w l = ap (λ k. drop k b) wide ∙ sym (drop-drop w 2 b) in
+    let left : take (length b - head) (drop head b) ≡ drop w l =
+    take_all (length b - head) (drop head b) (omega (arith, length-drop head b)) ∙ behind in
+    let whole : label ≡ take n (drop w l) = is ∙ ap (λ r. slice_range r 0 n) left ∙ ap
+    (λ k. take k (drop w l)) (omega arith) in
+    let levels_is : levels ≡ take w l = levels_are ∙ ap (λ k. take k l) (omega (arith, wide)) in
+    let spelling : bytes_high_first w level ≡ take w l = spelled ∙ levels_is in
+    let rest = drop n (drop w l) in
+    let parts : (take w l ++ label) ++ rest ≡ l = ap (λ x. (take w l ++ x) ++ rest) whole ∙ append_assoc
+    (take w l) (take n (drop w l)) rest ∙ ap (λ x. take w l ++ x)
+    (take-append-drop n (drop w l)) ∙ take-append-drop w l in
     record {
-      first = f ∷ n ∷ h ∷ l ∷ label;
-      rest = drop n rest;
+      first = f ∷ n ∷ (take w l ++ label);
+      rest = rest;
       spelled = record {
         flags = f;
         marks = record { in_a_byte = bytes 0; value = tested_bit (bit_and f 2); child = tested_bit (bit_and f 8); sibling = tested_bit (bit_and f 32) };
         room = record {
-          level = omega (arith, level_is, high, low);
+          level = room;
           label = omega (arith, size, bytes 1);
           bytes = subst (λ x. All (λ b. b < 256) x) (sym whole)
-              (All-take (λ b. b < 256) n rest
-              (All-from_get_or (λ b. b < 256) rest 0
-              (λ i within. bytes (suc (suc (suc (suc i)))))));
+              (All-take (λ b. b < 256) n (drop w l)
+              (All-drop (λ b. b < 256) w l
+              (All-from_get_or (λ b. b < 256) l 0 (λ i within. bytes (suc (suc i))))));
         };
-        is = λ i. f ∷ sym size i ∷ (sym spelled i ++ label);
+        is = λ i. f ∷ sym size i ∷ (sym spelling i ++ label);
       };
-      joined = ap (λ r. f ∷ n ∷ h ∷ l ∷ r) (sym (take-append-drop n rest) ∙ ap (λ r. r ++ drop n rest) (sym whole));
+      joined = λ i. f ∷ n ∷ sym parts i;
     }

@@ -1,6 +1,7 @@
 -- Records that are read one after the other, and what is refused.
 use Rattle.std.proofs.Common.{inr, ◌≡◌, ◌≢◌, ℕ, ◌+◌, ◌-◌, ◌<◌, ◌≤◌, Bool, true, false, List, [], ◌∷◌, ◌++◌, length, take, drop, Some, None, refl, sym, ap, subst, ◌∙◌, arith, append-nil, append_assoc, length-append, length-drop, take_all}
 use Rattle.std.specs.Prelude.{reverse, All}
+use Rattle.std.specs.Int.{bytes_high_first}
 use Rattle.std.proofs.lemmas.List.{reverse-append, nil_from_length}
 use Rattle.std.proofs.lemmas.List.Elements.{All-nil, All-cons, All-head, All-tail, All-append}
 use Rattle.patricia_keys.specs.Keys.{IsValid}
@@ -11,34 +12,35 @@ use Rattle.patricia_wire.specs.Internal.Readings.{level, root_sibling, empty_lab
 use Rattle.patricia_wire.specs.declared.error.DecodeError.{DecodeError}
 use Rattle.patricia_wire.specs.declared.error.DecodeError.TheVariants.{Truncated, TrailingBytes, TooManyValues}
 use Rattle.patricia_wire.proofs.Readings.{same_number}
+use Rattle.patricia_wire.proofs.Spellings.{length-high_first}
 use Rattle.patricia_wire.proofs.ReadingsFaults.{faulty, faultless}
 use Rattle.patricia_wire.proofs.ReadingsFirst.{first_in_record, first_cut_short, first_trailing, first_too_many}
 use Rattle.patricia_codec.specs.declared.reader.Reader.{Reader}
 use Rattle.patricia_codec.specs.Internal.Steps.{Fronts, sibling_then_child, NamesFirst, IsAccepted, IsReading, Ends}
 
-module _ (item : List ℕ → Type 0) (p : Reader) (n : ℕ) where
+module _ (item : List ℕ → Type 0) (w : ℕ) (p : Reader) (n : ℕ) where
   -- where bytes are left behind the tree, they are refused
-  pub refused_behind : (R : List Record) (E : List (List ℕ)) → IsReading item n p R []
+  pub refused_behind : (R : List Record) (E : List (List ℕ)) → IsReading item w n p R []
       → Root item R E → p.offset < length p.bytes.now
-      → IsRefusal item 2 p.bytes.now n (TrailingBytes p.offset)
+      → IsRefusal item w p.bytes.now n (TrailingBytes p.offset)
   refused_behind R E reading tree less =
-      inr (first_trailing item n 2 p.bytes.now R p.offset (drop p.offset p.bytes.now) E
+      inr (first_trailing item n w p.bytes.now R p.offset (drop p.offset p.bytes.now) E
       reading.read reading.reads tree
       (λ none. omega (arith, less, ap length none, length-drop p.offset p.bytes.now)))
 
   -- all bytes are read
-  pub spelled_all : (R : List Record) (due : List Due) → IsReading item n p R due
-      → length p.bytes.now ≤ p.offset → EncodeAll 2 R p.bytes.now
+  pub spelled_all : (R : List Record) (due : List Due) → IsReading item w n p R due
+      → length p.bytes.now ≤ p.offset → EncodeAll w R p.bytes.now
   spelled_all R due reading over =
       let none = nil_from_length (drop p.offset p.bytes.now) (omega (arith, over, length-drop p.offset p.bytes.now)) in
-      subst (EncodeAll 2 R) (sym (append-nil reading.reads.read) ∙ ap (λ l. reading.reads.read ++ l) (sym none) ∙ reading.reads.joined) reading.reads.spelled
+      subst (EncodeAll w R) (sym (append-nil reading.reads.read) ∙ ap (λ l. reading.reads.read ++ l) (sym none) ∙ reading.reads.joined) reading.reads.spelled
 
   -- where values are left behind the tree, they are refused
-  pub refused_values : (R : List Record) (E : List (List ℕ)) → IsReading item n p R []
+  pub refused_values : (R : List Record) (E : List (List ℕ)) → IsReading item w n p R []
       → Root item R E → length p.bytes.now ≤ p.offset → value_marks R < n
-      → IsRefusal item 2 p.bytes.now n TooManyValues
+      → IsRefusal item w p.bytes.now n TooManyValues
   refused_values R E reading tree over less =
-      inr (first_too_many item n 2 p.bytes.now R E reading.read (spelled_all R [] reading over) tree less)
+      inr (first_too_many item n w p.bytes.now R E reading.read (spelled_all R [] reading over) tree less)
 
 -- the spelling of one more record follows those of the others
 spell_all-snoc : (w : ℕ) (R : List Record) (b : List ℕ) (r : Record) (c : List ℕ) → EncodeAll w R b
@@ -68,14 +70,20 @@ flipped true false x y = refl
 flipped false true x y = refl
 flipped false false x y = refl
 
--- a record takes four bytes, and those of its label
-spelled_length : (r : Record) (b : List ℕ) → Encodes 2 r b → length b ≡ 4 + length r.label
-spelled_length r b s = omega (arith, ap length s.is)
+-- a record takes its flags, the label's length, the bytes of its level, and those of its label
+spelled_length : (w : ℕ) (r : Record) (b : List ℕ) → Encodes w r b
+    → length b ≡ 2 + w + length r.label
+spelled_length w r b s = omega (
+  arith,
+  ap length s.is,
+  length-append (bytes_high_first w r.level) r.label,
+  length-high_first w r.level,
+)
 
-module _ (item : List ℕ → Type 0) where
+module _ (item : List ℕ → Type 0) (w : ℕ) where
   -- where nothing is on the stack, nothing is due
   pub ended : (p q : Reader) → q.bytes.now ≡ p.bytes.now → q.offset ≡ p.offset → p.due.items ≡ []
-      → q.due.items ≡ [] → Ends item p q
+      → q.due.items ≡ [] → Ends item w p q
   ended p q bytes offset none also n before due reading =
       let over : due ≡ [] = sym reading.due_is ∙ ap reverse none in (
         over,
@@ -90,7 +98,7 @@ module _ (item : List ℕ → Type 0) where
 
   module _ (p : Reader) (d : Due) (others : List Due) (top : p.due.items ≡ others ++ d ∷ [])
       (n : ℕ) (before : List Record) (due : List Due)
-      (reading : IsReading item n p before due) where
+      (reading : IsReading item w n p before due) where
     -- the top of the stack is due next
     pub next_due : due ≡ d ∷ reverse others
     next_due = sym reading.due_is ∙ ap reverse top ∙ reverse-append others (d ∷ [])
@@ -110,42 +118,42 @@ module _ (item : List ℕ → Type 0) where
 
     -- where too few bytes are left for a record, the input is refused as cut short
     pub refused_cut :
-        IsCutShort 2 (take (length p.bytes.now - p.offset) (drop p.offset p.bytes.now))
-        → IsRefusal item 2 p.bytes.now n (Truncated p.offset)
+        IsCutShort w (take (length p.bytes.now - p.offset) (drop p.offset p.bytes.now))
+        → IsRefusal item w p.bytes.now n (Truncated p.offset)
     refused_cut short = inr
-        (first_cut_short item n 2 p.bytes.now before d (reverse others) p.offset
-        (drop p.offset p.bytes.now) read_on reading.reads (subst (IsCutShort 2) left_is short))
+        (first_cut_short item n w p.bytes.now before d (reverse others) p.offset
+        (drop p.offset p.bytes.now) read_on reading.reads (subst (IsCutShort w) left_is short))
 
     module _ (left : ℕ) (count : left + value_marks before ≡ n) (r : Record)
-        (front : Fronts r (take (length p.bytes.now - p.offset) (drop p.offset p.bytes.now))) where
+        (front : Fronts w r (take (length p.bytes.now - p.offset) (drop p.offset p.bytes.now))) where
       -- they are the record's spelling and what follows it
       is_front : drop p.offset p.bytes.now ≡ front.first ++ front.rest
       is_front = sym left_is ∙ front.joined
 
       -- where the record breaks a rule, the input is refused by the first it breaks
       pub refused_record : (e : DecodeError) → NamesFirst item d left r p.offset e
-          → IsRefusal item 2 p.bytes.now n e
+          → IsRefusal item w p.bytes.now n e
       refused_record e b =
           let broken = faulty item n left before d (reverse others) r read_on count b.rule b.broken in
-          let reads = subst (Reads 2 p.bytes.now before p.offset) is_front reading.reads in
-          inr (subst (IsFirst item 2 p.bytes.now n) (sym b.names)
-          (first_in_record item n 2 p.bytes.now before d (reverse others) p.offset r
+          let reads = subst (Reads w p.bytes.now before p.offset) is_front reading.reads in
+          inr (subst (IsFirst item w p.bytes.now n) (sym b.names)
+          (first_in_record item n w p.bytes.now before d (reverse others) p.offset r
           front.first front.rest b.rule read_on reads front.spelled broken))
 
       -- where it keeps all rules it is read, and what is due behind it takes its place
       pub read_next : (q : Reader) → IsAccepted item d left r → q.bytes.now ≡ p.bytes.now
-          → q.offset ≡ p.offset + (4 + length r.label)
+          → q.offset ≡ p.offset + (2 + w + length r.label)
           → q.due.items ≡ others ++ sibling_then_child r
-          → IsReading item n q (before ++ (r ∷ [])) (due_behind r ++ reverse others)
+          → IsReading item w n q (before ++ (r ∷ [])) (due_behind r ++ reverse others)
       read_next q keeps bytes offset dues = record {
         read = one_more before r d (reverse others) read_on (faultless item n left before d (reverse others) r read_on count keeps.rules);
         reads = rw (bytes, offset) (record {
           read = reading.reads.read ++ front.first;
-          spelled = spell_all-snoc 2 before reading.reads.read r front.first reading.reads.spelled front.spelled;
+          spelled = spell_all-snoc w before reading.reads.read r front.first reading.reads.spelled front.spelled;
           joined = ap (λ l. (reading.reads.read ++ front.first) ++ l) rest_is ∙ append_assoc
               reading.reads.read front.first front.rest ∙ ap (λ l. reading.reads.read ++ l)
               (sym is_front) ∙ reading.reads.joined;
-          ends = omega (arith, length-append reading.reads.read front.first, reading.reads.ends, spelled_length r front.first front.spelled);
+          ends = omega (arith, length-append reading.reads.read front.first, reading.reads.ends, spelled_length w r front.first front.spelled);
         });
         due_is = ap reverse dues ∙ reverse-append others (sibling_then_child r) ∙ ap (λ l. l ++ reverse others) (flipped r.sibling r.child _ _);
         after = All-append (IsAfter item) (due_behind r) (reverse others)
@@ -158,14 +166,14 @@ module _ (item : List ℕ → Type 0) where
           whole : p.bytes.now ≡ (reading.reads.read ++ front.first) ++ front.rest
           whole = sym reading.reads.joined ∙ ap (λ l. reading.reads.read ++ l) is_front ∙ sym (append_assoc reading.reads.read front.first front.rest)
 
-          rest_is : drop (p.offset + (4 + length r.label)) p.bytes.now ≡ front.rest
-          rest_is = ap (drop (p.offset + (4 + length r.label))) whole ∙ drop_front
-              (reading.reads.read ++ front.first) front.rest (p.offset + (4 + length r.label))
+          rest_is : drop (p.offset + (2 + w + length r.label)) p.bytes.now ≡ front.rest
+          rest_is = ap (drop (p.offset + (2 + w + length r.label))) whole ∙ drop_front
+              (reading.reads.read ++ front.first) front.rest (p.offset + (2 + w + length r.label))
               (omega (
                 arith,
                 length-append reading.reads.read front.first,
                 reading.reads.ends,
-                spelled_length r front.first front.spelled,
+                spelled_length w r front.first front.spelled,
               ))
 
           at_level : r.level ≡ d.level
@@ -190,9 +198,9 @@ module _ (item : List ℕ → Type 0) where
 
     -- a record was read, and what is due behind it takes its place
     pub went_on : (q : Reader) (left : ℕ) (r : Record)
-        → Fronts r (take (length p.bytes.now - p.offset) (drop p.offset p.bytes.now))
+        → Fronts w r (take (length p.bytes.now - p.offset) (drop p.offset p.bytes.now))
         → left + value_marks before ≡ n → IsAccepted item d left r → q.bytes.now ≡ p.bytes.now
-        → q.offset ≡ p.offset + (4 + length r.label) → q.due.items ≡ others ++ sibling_then_child r
-        → (next : Due) × (waiting : List Due) × (due ≡ next ∷ waiting) × IsAccepted item next left r × IsReading item n q (before ++ (r ∷ []))
+        → q.offset ≡ p.offset + (2 + w + length r.label) → q.due.items ≡ others ++ sibling_then_child r
+        → (next : Due) × (waiting : List Due) × (due ≡ next ∷ waiting) × IsAccepted item next left r × IsReading item w n q (before ++ (r ∷ []))
         (due_behind r ++ waiting)
     went_on q left r front count keeps bytes offset dues = (d, reverse others, next_due, keeps, read_next left count r front q keeps bytes offset dues)

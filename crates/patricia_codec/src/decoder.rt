@@ -7,6 +7,7 @@ ghost use Rattle.patricia_wire.specs.Faults.{IsRefusal};
 
 use crate::builder::Builder;
 use crate::reader::Reader;
+use crate::width::Width;
 use patricia_keys::Bytes;
 use patricia_nodes::arena::NodeArena;
 use patricia_nodes::link::Link;
@@ -21,7 +22,7 @@ pub struct Decoded<V> {
 }
 
 /// Reads a tree from its bytes and its values. Where they are refused the values are dropped.
-pub fn decode<K: Bytes, V: Drop>(
+pub fn decode<K: Bytes, W: Width, V: Drop>(
     alloc: Global,
     bytes: &[u8],
     values: Vec<V>,
@@ -29,17 +30,18 @@ pub fn decode<K: Bytes, V: Drop>(
     ensures whole { IfOk result (λ d. IsWellFormed d.arena) }
     ensures row { IfOk result (λ d. IsCanonical K.item (siblings_of d.arena)) }
     ensures means { IfOk result (λ d.
-        Means K.item 2 bytes.now values.items (own d.value ++ entries_of d.arena)) }
-    ensures first_fault { IfErr result (λ e. IsRefusal K.item 2 bytes.now (length values.items) e) }
+        Means K.item W.width bytes.now values.items (own d.value ++ entries_of d.arena)) }
+    ensures first_fault { IfErr result (λ e.
+        IsRefusal K.item W.width bytes.now (length values.items) e) }
 {
     let mut values = values.into_iter();
     let mut reader = Reader::new(alloc, bytes)?;
     let mut builder = Builder::new(alloc);
-    while let Some(record) = reader.next::<K>(values.len())? {
+    while let Some(record) = reader.next::<K, W>(values.len())? {
         let value = if record.value { values.next() } else { None };
         builder.add::<K>(&record, value)?;
     }
-    reader.finish::<K>(values.len())?;
+    reader.finish::<K, W>(values.len())?;
     Ok(Decoded {
         value: builder.value,
         arena: NodeArena {

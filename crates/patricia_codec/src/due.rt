@@ -13,7 +13,7 @@ use std::marker::Model;
 /// A record that is due.
 #[derive(Drop)]
 pub struct Due<'a> {
-    pub level: u32,
+    pub level: u64,
     // the label of the sibling before it, if there is one
     pub after: Option<&'a [u8]>,
 }
@@ -72,7 +72,7 @@ impl<'a> Due<'a> {
         ensures broken { IfErr result (λ e. (left : ℕ) → NamesFirst K.item self.now left record.now offset e) }
     {
         let root = self.level == 0;
-        if record.level as u32 != self.level {
+        if record.level as u64 != self.level {
             return Err(DecodeError::Level(offset));
         }
         if root & !record.label.is_empty() {

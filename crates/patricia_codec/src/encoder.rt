@@ -6,8 +6,9 @@ ghost use Rattle.patricia_wire.specs.TreeBytes.{AreTreeBytes};
 ghost use Rattle.patricia_wire.specs.Writings.{TooDeep};
 ghost use Rattle.patricia_codec.specs.Internal.Lefts.{AreDeep};
 
-use crate::record::{HEAD, Record};
+use crate::record::Record;
 use crate::records::Records;
+use crate::width::Width;
 use patricia_keys::Bytes;
 use patricia_nodes::arena::NodeArena;
 use std::alloc::{AllocError, Global};
@@ -22,6 +23,9 @@ pub enum WireError {
     /// A record would lie deeper than two bytes can tell.
     #[error("tree deeper than level 65535")]
     TooDeep,
+    /// A record would lie deeper than four bytes can tell.
+    #[error("tree deeper than level 4294967295")]
+    TooDeepWide,
 }
 
 impl From<AllocError> for WireError {
@@ -35,32 +39,52 @@ impl From<AllocError> for WireError {
     }
 }
 
+/// Why nodes were not written, whatever the width of levels.
+#[derive(Clone, Copy)]
+pub enum EncodeError {
+    /// Memory ran out.
+    Memory,
+    /// A record would lie deeper than the bytes of a level can tell.
+    TooDeep,
+}
+
+impl From<AllocError> for EncodeError {
+    ghost use Rattle.std.specs.Prelude.{◌≡◌};
+    ghost use Rattle.patricia_codec.specs.declared.encoder.EncodeError.TheVariants.{Memory};
+
+    ghost from_gives = { λ _ e. e ≡ Memory };
+
+    fn from(_: AllocError) -> EncodeError {
+        EncodeError::Memory
+    }
+}
+
 // How many bytes the encoding has. The error says as well that it would be too deep.
-fn size<K: Bytes, V>(alloc: Global, arena: &NodeArena<V>) -> Result<usize, WireError>
+fn size<K: Bytes, W: Width, V>(alloc: Global, arena: &NodeArena<V>) -> Result<usize, EncodeError>
     requires whole { IsWellFormed arena.now }
     requires row { IsCanonical K.item (siblings_of arena.now) }
-    ensures { result ≡ Err WireError.TooDeep → AreDeep K.item arena.now }
+    ensures { result ≡ Err EncodeError.TooDeep → AreDeep K.item W.width arena.now }
 {
     let mut records = Records::new(alloc, arena);
-    let mut size = HEAD;
-    while let Some(record) = records.next::<K>()? {
-        size = size.saturating_add(HEAD + record.label.len());
+    let mut size = W::head();
+    while let Some(record) = records.next::<K, W>()? {
+        size = size.saturating_add(W::head() + record.label.len());
     }
     Ok(size)
 }
 
 /// The tree bytes of the empty key's value and the nodes.
-pub fn encode<K: Bytes, V>(
+pub fn encode<K: Bytes, W: Width, V>(
     alloc: Global,
     value: &Option<V>,
     arena: &NodeArena<V>,
-) -> Result<Vec<u8>, WireError>
+) -> Result<Vec<u8>, EncodeError>
     requires whole { IsWellFormed arena.now }
     requires row { IsCanonical K.item (siblings_of arena.now) }
     ensures ok { IfOk result (λ b.
-        AreTreeBytes K.item 2 b.items (own value.now ++ entries_of arena.now)) }
-    ensures too_deep { result ≡ Err WireError.TooDeep
-        → TooDeep K.item 2 (keys_of (own value.now ++ entries_of arena.now)) }
+        AreTreeBytes K.item W.width b.items (own value.now ++ entries_of arena.now)) }
+    ensures too_deep { result ≡ Err EncodeError.TooDeep
+        → TooDeep K.item W.width (keys_of (own value.now ++ entries_of arena.now)) }
 {
     let root = Record {
         level: 0,
@@ -69,11 +93,11 @@ pub fn encode<K: Bytes, V>(
         child: arena.root.get().is_some(),
         sibling: false,
     };
-    let mut out = Vec::with_capacity(alloc, size::<K, V>(alloc, arena)?)?;
-    root.write(&mut out)?;
+    let mut out = Vec::with_capacity(alloc, size::<K, W, V>(alloc, arena)?)?;
+    root.write::<W>(&mut out)?;
     let mut records = Records::new(alloc, arena);
-    while let Some(record) = records.next::<K>()? {
-        record.write(&mut out)?;
+    while let Some(record) = records.next::<K, W>()? {
+        record.write::<W>(&mut out)?;
     }
     Ok(out)
 }

@@ -10,7 +10,9 @@ pub mod encoder;
 mod reader;
 mod record;
 mod records;
+pub mod width;
 
 pub use decoder::{Decoded, decode};
-pub use encoder::{WireError, encode};
+pub use encoder::{EncodeError, WireError, encode};
 pub use patricia_wire::DecodeError;
+pub use width::{Narrow, Wide, Width};

@@ -6,7 +6,8 @@ ghost use Rattle.patricia_wire.specs.Internal.Readings.{Due};
 ghost use Rattle.patricia_codec.specs.Internal.Steps.{IsReading, IsReaderStart, HasRead, ReadsOn, ReadIsRefused, IsRefusedAfter, sibling_then_child};
 
 use crate::due::Due;
-use crate::record::{HEAD, Record};
+use crate::record::Record;
+use crate::width::Width;
 use patricia_keys::Bytes;
 use patricia_wire::DecodeError;
 use std::alloc::{AllocError, Global};
@@ -45,7 +46,7 @@ impl<'a> Reader<'a> {
         ensures bytes { self.new.bytes ≡ self.old.bytes }
         ensures offset { self.new.offset ≡ self.old.offset }
     {
-        let level = record.level as u32;
+        let level = record.level as u64;
         if record.sibling {
             self.due.push(Due {
                 level,
@@ -62,29 +63,32 @@ impl<'a> Reader<'a> {
     }
 
     /// The record that comes, where so many values are left, or `None` where no record is due.
-    pub fn next<K: Bytes>(&mut self, left: usize) -> Result<Option<Record<'a>>, DecodeError>
-        requires { HasRead K.item self.old left }
-        ensures ok { IfOk result (λ found. ReadsOn K.item left self.old found self.new) }
-        ensures refused { IfErr result (λ e. ReadIsRefused K.item left self.old e) }
+    pub fn next<K: Bytes, W: Width>(
+        &mut self,
+        left: usize,
+    ) -> Result<Option<Record<'a>>, DecodeError>
+        requires { HasRead K.item W.width self.old left }
+        ensures ok { IfOk result (λ found. ReadsOn K.item W.width left self.old found self.new) }
+        ensures refused { IfErr result (λ e. ReadIsRefused K.item W.width left self.old e) }
         ensures bytes { self.new.bytes ≡ self.old.bytes }
     {
         let Some(due) = self.due.pop() else {
             return Ok(None);
         };
-        let Some(record) = Record::read(&self.bytes[self.offset..]) else {
+        let Some(record) = Record::read::<W>(&self.bytes[self.offset..]) else {
             return Err(DecodeError::Truncated(self.offset));
         };
         due.check::<K>(&record, left, self.offset)?;
-        self.offset += HEAD + record.label.len();
+        self.offset += W::head() + record.label.len();
         self.expect(&record)?;
         Ok(Some(record))
     }
 
     /// Looks at what is left behind the last record, where so many values are left.
-    pub fn finish<K: Bytes>(&self, left: usize) -> Result<(), DecodeError>
-        requires { HasRead K.item self.now left }
+    pub fn finish<K: Bytes, W: Width>(&self, left: usize) -> Result<(), DecodeError>
+        requires { HasRead K.item W.width self.now left }
         ensures whole { OnOk result ((self.now.offset ≡ length self.now.bytes.now) × (left ≡ 0)) }
-        ensures refused { IfErr result (λ e. IsRefusedAfter K.item left self.now e) }
+        ensures refused { IfErr result (λ e. IsRefusedAfter K.item W.width left self.now e) }
     {
         if self.offset < self.bytes.len() {
             return Err(DecodeError::TrailingBytes(self.offset));

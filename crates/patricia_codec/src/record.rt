@@ -1,15 +1,13 @@
 //! A record of the written form, as it is written and as it is read.
-ghost use Rattle.std.specs.Prelude.{◌≡◌, ◌≤◌, ◌++◌, ℕ, List, None, length, IfSome, OnOk};
+ghost use Rattle.std.specs.Prelude.{◌≡◌, ◌≤◌, ◌<◌, ◌^◌, ◌++◌, ℕ, List, None, length, IfSome, OnOk};
 ghost use Rattle.patricia_wire.specs.Faults.{IsCutShort};
 ghost use Rattle.patricia_wire.specs.Records as records;
 ghost use Rattle.patricia_wire.specs.Records.{canonical_flags, canonical_bytes};
 ghost use Rattle.patricia_codec.specs.Internal.Steps.{Fronts};
 
+use crate::width::Width;
 use std::alloc::AllocError;
 use std::marker::Model;
-
-// How many bytes stand before a record's label: its flags, the label's length and two of its level.
-pub const HEAD: usize = 4;
 
 // The most bytes of a label.
 pub const LONGEST: usize = 255;
@@ -17,7 +15,7 @@ pub const LONGEST: usize = 255;
 /// A node, or a piece of one, with its label where it stands: in the node, or in the bytes read.
 #[derive(Drop)]
 pub struct Record<'a> {
-    pub level: u16,
+    pub level: u32,
     pub label: &'a [u8],
     pub value: bool,
     pub child: bool,
@@ -54,29 +52,31 @@ impl<'a> Record<'a> {
     }
 
     /// Writes the record behind what is there. The error is out of memory.
-    pub fn write(&self, out: &mut Vec<u8>) -> Result<(), AllocError>
-        requires { length self.now.label ≤ LONGEST }
-        ensures { OnOk result (out.new.items ≡ out.old.items ++ canonical_bytes 2 self.now) }
+    pub fn write<W: Width>(&self, out: &mut Vec<u8>) -> Result<(), AllocError>
+        requires label { length self.now.label ≤ LONGEST }
+        requires level { self.now.level < 256 ^ W.width }
+        ensures { OnOk result (out.new.items ≡ out.old.items ++ canonical_bytes W.width self.now) }
     {
         out.push(self.flags())?;
         out.push(self.label.len() as u8)?;
-        out.extend_from_slice(&self.level.to_be_bytes())?;
+        W::write(self.level, out)?;
         out.extend_from_slice(self.label)?;
         Ok(())
     }
 
     /// The record at the front of the bytes, or `None` where they are too few.
-    pub fn read(bytes: &'a [u8]) -> Option<Record<'a>>
-        ensures some { IfSome result (λ r. Fronts r bytes.now) }
-        ensures none { result ≡ None → IsCutShort 2 bytes.now }
+    pub fn read<W: Width>(bytes: &'a [u8]) -> Option<Record<'a>>
+        ensures some { IfSome result (λ r. Fronts W.width r bytes.now) }
+        ensures none { result ≡ None → IsCutShort W.width bytes.now }
     {
-        if bytes.len() < HEAD {
+        let head = W::head();
+        if bytes.len() < head {
             return None;
         }
         let flags = bytes[0];
         Some(Record {
-            level: u16::from_be_bytes([bytes[2], bytes[3]]),
-            label: bytes[HEAD..].get(..bytes[1] as usize)?,
+            level: W::read(&bytes[2..head]),
+            label: bytes[head..].get(..bytes[1] as usize)?,
             value: flags & 2 != 0,
             child: flags & 8 != 0,
             sibling: flags & 32 != 0,

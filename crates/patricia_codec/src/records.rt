@@ -4,8 +4,9 @@ ghost use Rattle.patricia_keys.specs.Keys.{IsValid};
 ghost use Rattle.patricia_codec.specs.Internal.Pieces.{IsPiece};
 ghost use Rattle.patricia_codec.specs.Internal.Lefts.{SomeLeft, TakesRecord, GivesRecord, GoesBack, IsDeep, IsOver, IsEncoderStart};
 
-use crate::encoder::WireError;
+use crate::encoder::EncodeError;
 use crate::record::{LONGEST, Record};
+use crate::width::Width;
 use patricia_keys::Bytes;
 use patricia_nodes::arena::{Node, NodeArena};
 use patricia_nodes::link::{Link, NodeId};
@@ -63,15 +64,15 @@ impl<'a, V> Records<'a, V> {
     }
 
     // Takes the record of what is left of the node that is next.
-    fn take<K: Bytes>(&mut self, id: NodeId) -> Result<Record<'a>, WireError>
+    fn take<K: Bytes, W: Width>(&mut self, id: NodeId) -> Result<Record<'a>, EncodeError>
         requires left { SomeLeft K.item self.old }
         requires next { self.old.next ≡ Some id }
-        ensures ok { IfOk result (λ r. TakesRecord K.item self.old r self.new) }
-        ensures too_deep { result ≡ Err WireError.TooDeep → IsDeep K.item self.old }
+        ensures ok { IfOk result (λ r. TakesRecord K.item W.width self.old r self.new) }
+        ensures too_deep { result ≡ Err EncodeError.TooDeep → IsDeep K.item W.width self.old }
     {
         let node = &self.arena.nodes[id.index()];
-        let Ok(level) = u16::try_from(self.level) else {
-            return Err(WireError::TooDeep);
+        let Some(level) = W::level_at(self.level) else {
+            return Err(EncodeError::TooDeep);
         };
         let left = label_behind(node, self.skipped);
         let beside = if self.skipped == 0 {
@@ -81,7 +82,7 @@ impl<'a, V> Records<'a, V> {
         };
         self.stack
             .push((self.level, beside))
-            .map_err(|_| WireError::Memory)?;
+            .map_err(|_| EncodeError::Memory)?;
         self.level += 1;
         let n = room::<K>(left);
         let (value, child) = if n == left.len() {
@@ -117,14 +118,14 @@ impl<'a, V> Records<'a, V> {
     }
 
     /// The next record, or `None` behind the last.
-    pub fn next<K: Bytes>(&mut self) -> Result<Option<Record<'a>>, WireError>
+    pub fn next<K: Bytes, W: Width>(&mut self) -> Result<Option<Record<'a>>, EncodeError>
         requires { SomeLeft K.item self.old }
-        ensures ok { IfOk result (λ found. GivesRecord K.item self.old found self.new) }
-        ensures too_deep { result ≡ Err WireError.TooDeep → IsDeep K.item self.old }
+        ensures ok { IfOk result (λ found. GivesRecord K.item W.width self.old found self.new) }
+        ensures too_deep { result ≡ Err EncodeError.TooDeep → IsDeep K.item W.width self.old }
     {
         loop {
             if let Some(id) = self.next.get() {
-                return Ok(Some(self.take::<K>(id)?));
+                return Ok(Some(self.take::<K, W>(id)?));
             }
             if !self.back::<K>() {
                 return Ok(None);

@@ -16,7 +16,7 @@ ghost use Rattle.patricia_wire.specs.Faults.{IsRefusal};
 
 mod cursors;
 
-pub use patricia_codec::{DecodeError, WireError};
+pub use patricia_codec::{DecodeError, EncodeError, Narrow, Wide, Width, WireError};
 use patricia_codec::{Decoded, decode, encode};
 use patricia_edits::{copy, copy_value, insert, remove, split};
 use patricia_keys::{BorrowedBytes, Bytes};
@@ -313,23 +313,30 @@ impl<K: Bytes, V: Drop> Tree<K, V> {
         Under::new(self.alloc, self.value.as_ref(), &self.arena, prefix)
     }
 
-    /// Returns the encoding of the keys, with levels in two bytes. The values are no part of it. The
-    /// error is out of memory, or that a record would lie deeper than two bytes can tell.
-    pub fn tree_bytes(&self) -> Result<Vec<u8>, WireError>
-        ensures ok { IfOk result (λ b. AreTreeBytes K.item 2 b.items (map.entries self.now)) }
-        ensures too_deep { result ≡ Err WireError.TooDeep → TooDeep K.item 2 (map.keys self.now) }
+    /// Returns the encoding of the keys, with levels of this width. The values are no part of it. The
+    /// error is out of memory, or that a record would lie deeper than such a level can tell.
+    pub fn tree_bytes<W: Width>(&self) -> Result<Vec<u8>, EncodeError>
+        ensures ok { IfOk result (λ b. AreTreeBytes K.item W.width b.items (map.entries self.now)) }
+        ensures too_deep { result ≡ Err EncodeError.TooDeep
+            → TooDeep K.item W.width (map.keys self.now) }
     {
-        encode::<K, V>(self.alloc, &self.value, &self.arena)
+        encode::<K, W, V>(self.alloc, &self.value, &self.arena)
     }
 
-    /// The tree of the rows that the bytes mean with the values, which are in key order. Where it is
-    /// refused the values are dropped.
-    pub fn from_wire(alloc: Global, bytes: &[u8], values: Vec<V>) -> Result<Self, DecodeError>
-        ensures ok { IfOk result (λ t. Means K.item 2 bytes.now values.items (map.entries t)) }
-        ensures refused { IfErr result (λ e. IsRefusal K.item 2 bytes.now (length values.items) e) }
+    /// The tree of the rows that the bytes mean with the values, which are in key order, where levels
+    /// have this width. Where it is refused the values are dropped.
+    pub fn from_wire<W: Width>(
+        alloc: Global,
+        bytes: &[u8],
+        values: Vec<V>,
+    ) -> Result<Self, DecodeError>
+        ensures ok { IfOk result (λ t.
+            Means K.item W.width bytes.now values.items (map.entries t)) }
+        ensures refused { IfErr result (λ e.
+            IsRefusal K.item W.width bytes.now (length values.items) e) }
     {
         let given = values.len();
-        let Decoded { value, arena } = decode::<K, V>(alloc, bytes, values)?;
+        let Decoded { value, arena } = decode::<K, W, V>(alloc, bytes, values)?;
         let count = if value.is_some() { given - 1 } else { given };
         Ok(Tree {
             alloc,

@@ -38,6 +38,8 @@ with_key key_of Commands.Copy = Commands.Copy
 with_key key_of Commands.Clear = Commands.Clear
 with_key key_of Commands.Wire = Commands.Wire
 with_key key_of Commands.Reload = Commands.Reload
+with_key key_of Commands.Wide = Commands.Wide
+with_key key_of Commands.ReloadWide = Commands.ReloadWide
 
 -- keys are made of such items, and key_of gives the bytes of a row's key
 module _ {K V : Type 0} (item : List ℕ → Type 0) (key_of : K → List ℕ) where
@@ -53,12 +55,16 @@ module _ {K V : Type 0} (item : List ℕ → Type 0) (key_of : K → List ℕ) w
   MayRefuse main Commands.Copy = map.len main ≢ 0
   MayRefuse main Commands.Wire = Unit {0}
   MayRefuse main Commands.Reload = Unit {0}
+  MayRefuse main Commands.Wide = Unit {0}
+  MayRefuse main Commands.ReloadWide = Unit {0}
   MayRefuse main _ = ⊥
 
   -- a command encodes the keys, and they lie too deep for the bytes of its levels
   abbrev pub IsTooDeep : map.FinMap key_cmp V → Command (List ℕ) V → Type 0
   IsTooDeep main Commands.Wire = TooDeep item 2 (map.keys main)
   IsTooDeep main Commands.Reload = TooDeep item 2 (map.keys main)
+  IsTooDeep main Commands.Wide = TooDeep item 4 (map.keys main)
+  IsTooDeep main Commands.ReloadWide = TooDeep item 4 (map.keys main)
   IsTooDeep main _ = ⊥
 
   -- the value that was found, or none
@@ -93,6 +99,9 @@ module _ {K V : Type 0} (item : List ℕ → Type 0) (key_of : K → List ℕ) w
       (n : ℕ) × IsReach item (map.keys main) key n × (reply ≡ Replies.Count n)
   IsReply main Commands.Wire reply = HasTree 2 main reply
   IsReply main Commands.Reload reply = ¬ (IsTooDeep main Commands.Reload) × (reply ≡ Replies.Done)
+  IsReply main Commands.Wide reply = HasTree 4 main reply
+  IsReply main Commands.ReloadWide reply =
+      ¬ (IsTooDeep main Commands.ReloadWide) × (reply ≡ Replies.Done)
   IsReply main _ reply = reply ≡ Replies.Done
 
   -- the state after a command that is not refused; a reload makes main anew of its encoding, which

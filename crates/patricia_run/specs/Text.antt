@@ -32,7 +32,15 @@ pub data Shape : Type 0 where
   keyed : (List ℕ → Command (List ℕ) ℕ) → Shape
   valued : (List ℕ → ℕ → Command (List ℕ) ℕ) → Shape
 
--- the words, and the command of each
+-- the words that write the tree or read it again, with levels in two bytes and in four, and the
+-- command of each
+abbrev pub wire_words : List (List ℕ × Shape)
+wire_words = (codes "wire", alone Commands.Wire)
+    ∷ (codes "reload", alone Commands.Reload)
+    ∷ (codes "wide", alone Commands.Wide)
+    ∷ (codes "reloadwide", alone Commands.ReloadWide) ∷ []
+
+-- all words, and the command of each
 abbrev pub words : List (List ℕ × Shape)
 words = (codes "insert", valued (λ key value. Commands.Insert key value))
     ∷ (codes "get", keyed (λ key. Commands.Get key))
@@ -46,13 +54,15 @@ words = (codes "insert", valued (λ key value. Commands.Insert key value))
     ∷ (codes "split", keyed (λ prefix. Commands.Split prefix))
     ∷ (codes "swap", alone Commands.Swap)
     ∷ (codes "copy", alone Commands.Copy)
-    ∷ (codes "clear", alone Commands.Clear)
-    ∷ (codes "wire", alone Commands.Wire)
-    ∷ (codes "reload", alone Commands.Reload) ∷ []
+    ∷ (codes "clear", alone Commands.Clear) ∷ wire_words
+
+-- what follows this word, if it is one of these
+abbrev pub shape_in : List (List ℕ × Shape) → List ℕ → Option Shape
+shape_in table word = option_map (λ row. row.1) (find (λ row. bytes_eq word row.0) table)
 
 -- what follows this word
 abbrev pub shape_of : List ℕ → Option Shape
-shape_of word = option_map (λ row. row.1) (find (λ row. bytes_eq word row.0) words)
+shape_of word = shape_in words word
 
 -- the key that the only field spells
 abbrev pub key_alone : KeyFormat → List (List ℕ) → Result (List ℕ) Fault

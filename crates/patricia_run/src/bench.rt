@@ -113,6 +113,19 @@ fn written<K: Bytes, V: Copy>(
     Ok((entries.tree_bytes()?, values(alloc, entries)?))
 }
 
+// The wide tree bytes of a map, and its values in key order.
+fn wide_written<K: Bytes, V: Copy>(
+    alloc: Global,
+    entries: &GenericPatriciaMap<K, V>,
+) -> Result<(Vec<u8>, Vec<V>), WireError>
+    ensures bytes { IfOk result (λ w. AreTreeBytes K.item 4 w.0.items (map.entries entries.now)) }
+    ensures values { IfOk result (λ w. w.1.items ≡ map.values entries.now) }
+    ensures too_deep { result ≡ Err WireError.TooDeepWide
+        → TooDeep K.item 4 (map.keys entries.now) }
+{
+    Ok((entries.wide_tree_bytes()?, values(alloc, entries)?))
+}
+
 impl<K: Bytes, V: Copy> Bench<K, V> {
     /// Makes a bench whose maps are empty.
     pub fn new(alloc: Global) -> Self
@@ -261,7 +274,18 @@ impl<K: Bytes, V: Copy> Bench<K, V> {
         match written(self.alloc, &self.main) {
             Ok((bytes, values)) => Reply::Wire(bytes, values),
             Err(WireError::TooDeep) => Reply::TooDeep,
-            Err(WireError::Memory) => Reply::NoMemory,
+            Err(_) => Reply::NoMemory,
+        }
+    }
+
+    // Writes the tree with wide levels.
+    fn wide(&self) -> Reply<K, V>
+        ensures { Step K.item K.key self.now Commands.Wide result self.now }
+    {
+        match wide_written(self.alloc, &self.main) {
+            Ok((bytes, values)) => Reply::Wire(bytes, values),
+            Err(WireError::TooDeepWide) => Reply::TooDeep,
+            Err(_) => Reply::NoMemory,
         }
     }
 
@@ -272,12 +296,32 @@ impl<K: Bytes, V: Copy> Bench<K, V> {
         let (bytes, values) = match written(self.alloc, &self.main) {
             Ok(written) => written,
             Err(WireError::TooDeep) => return Reply::TooDeep,
-            Err(WireError::Memory) => return Reply::NoMemory,
+            Err(_) => return Reply::NoMemory,
         };
         laws::tree_bytes_read_back::<K, V>();
         match GenericPatriciaMap::from_wire(self.alloc, &bytes, values) {
             Ok(read) => {
                 self.main = read;
+                Reply::Done
+            }
+            // what was written has no fault, so an allocation failed (`meant_is_never_faulty`)
+            Err(_) => Reply::NoMemory,
+        }
+    }
+
+    // Writes the tree with wide levels and makes the map anew of what was written.
+    fn reload_wide(&mut self) -> Reply<K, V>
+        ensures { Step K.item K.key self.old Commands.ReloadWide result self.new }
+    {
+        let (bytes, values) = match wide_written(self.alloc, &self.main) {
+            Ok(wide) => wide,
+            Err(WireError::TooDeepWide) => return Reply::TooDeep,
+            Err(_) => return Reply::NoMemory,
+        };
+        laws::tree_bytes_read_back::<K, V>();
+        match GenericPatriciaMap::from_wide_wire(self.alloc, &bytes, values) {
+            Ok(again) => {
+                self.main = again;
                 Reply::Done
             }
             // what was written has no fault, so an allocation failed (`meant_is_never_faulty`)
@@ -306,6 +350,8 @@ impl<K: Bytes, V: Copy> Bench<K, V> {
             Command::Clear => self.clear(),
             Command::Wire => self.wire(),
             Command::Reload => self.reload(),
+            Command::Wide => self.wide(),
+            Command::ReloadWide => self.reload_wide(),
         }
     }
 }

@@ -18,6 +18,8 @@ pub enum Command<Q, V> {
     Clear,
     Wire,
     Reload,
+    Wide,
+    ReloadWide,
 }
 
 /// What a bench replies.

@@ -4,7 +4,7 @@ ghost use Rattle.std.specs.Prelude.{◌≡◌, map, IfOk};
 ghost use Rattle.std.specs.Result.{result_map_both};
 ghost use Rattle.std.specs.Option.{option_map};
 ghost use Rattle.patricia_run.specs.Machine.{with_key};
-ghost use Rattle.patricia_run.specs.Text.{alone, valued, number_of, shape_of, key_alone};
+ghost use Rattle.patricia_run.specs.Text.{alone, valued, number_of, wire_words, shape_in, shape_of, key_alone};
 ghost use Rattle.patricia_run.specs.Text.{parse_command, parse_fields, parse_line, parse_with};
 ghost use Rattle.patricia_run.specs.Internal.Words.{shape_after};
 ghost use Rattle.patricia_run.specs.declared.command.Command.TheVariants as Commands;
@@ -44,6 +44,8 @@ enum Word {
     Clear,
     Wire,
     Reload,
+    Wide,
+    ReloadWide,
 }
 
 // The number that a field writes.
@@ -61,6 +63,23 @@ fn number(field: &[u8]) -> Option<u64>
         value = value.checked_mul(10)?.checked_add(u64::from(*b - b'0'))?;
     }
     Some(value)
+}
+
+// The word of tree bytes that a field is.
+fn wire_word(field: &[u8]) -> Option<Word>
+    ensures { option_map shape_after result ≡ shape_in wire_words field.now }
+{
+    if field == b"wire".as_slice() {
+        Some(Word::Wire)
+    } else if field == b"reload".as_slice() {
+        Some(Word::Reload)
+    } else if field == b"wide".as_slice() {
+        Some(Word::Wide)
+    } else if field == b"reloadwide".as_slice() {
+        Some(Word::ReloadWide)
+    } else {
+        None
+    }
 }
 
 // The word that a field is.
@@ -93,12 +112,8 @@ fn first_word(field: &[u8]) -> Option<Word>
         Some(Word::Copy)
     } else if field == b"clear".as_slice() {
         Some(Word::Clear)
-    } else if field == b"wire".as_slice() {
-        Some(Word::Wire)
-    } else if field == b"reload".as_slice() {
-        Some(Word::Reload)
     } else {
-        None
+        wire_word(field)
     }
 }
 
@@ -175,6 +190,8 @@ fn command<'a, Q: KeyText<'a>>(
         Word::Clear => alone(Command::Clear, fields),
         Word::Wire => alone(Command::Wire, fields),
         Word::Reload => alone(Command::Reload, fields),
+        Word::Wide => alone(Command::Wide, fields),
+        Word::ReloadWide => alone(Command::ReloadWide, fields),
     })
 }
 

@@ -29,7 +29,7 @@ pub use patricia_core::prefixes::{
     CommonPrefixValues, CommonPrefixValuesOwned, CommonPrefixesIter, IterPrefix,
 };
 pub use patricia_core::tree::Refused;
-use patricia_core::tree::{DecodeError, Tree, WireError};
+use patricia_core::tree::{DecodeError, EncodeError, Narrow, Tree, Wide, WireError};
 use std::alloc::{AllocError, Global};
 use std::marker::Model;
 use std::sync::ledger::Ledger;
@@ -366,8 +366,46 @@ impl<K: Bytes, V: Drop> GenericPatriciaMap<K, V> {
     pub fn tree_bytes(&self) -> Result<Vec<u8>, WireError>
         ensures ok { IfOk result (λ b. AreTreeBytes K.item 2 b.items (map.entries self.now)) }
         ensures too_deep { result ≡ Err WireError.TooDeep → TooDeep K.item 2 (map.keys self.now) }
+        ensures not_wide { result ≢ Err WireError.TooDeepWide }
     {
-        self.tree.tree_bytes()
+        match self.tree.tree_bytes::<Narrow>() {
+            Ok(bytes) => Ok(bytes),
+            Err(EncodeError::TooDeep) => Err(WireError::TooDeep),
+            Err(EncodeError::Memory) => Err(WireError::Memory),
+        }
+    }
+
+    /// Returns the wide tree bytes, in which each level takes four bytes. All else is as in those of
+    /// `tree_bytes`, which are read by `from_wire` and written anew by this call where they are to
+    /// be made wide.
+    ///
+    /// Takes time in proportion to the bytes.
+    ///
+    /// # Errors
+    ///
+    /// `TooDeepWide` where a record would lie deeper than level 4,294,967,295; or out of memory.
+    ///
+    /// # Examples
+    ///
+    /// ```
+    /// let mut map = StringPatriciaMap::new(rt.alloc());
+    /// map.insert("a", 1)?;
+    /// assert_eq!(rt;
+    ///     map.wide_tree_bytes()?.as_slice(),
+    ///     [12, 0, 0, 0, 0, 0, 3, 1, 0, 0, 0, 1, 97].as_slice()
+    /// );
+    /// ```
+    pub fn wide_tree_bytes(&self) -> Result<Vec<u8>, WireError>
+        ensures ok { IfOk result (λ b. AreTreeBytes K.item 4 b.items (map.entries self.now)) }
+        ensures too_deep { result ≡ Err WireError.TooDeepWide
+            → TooDeep K.item 4 (map.keys self.now) }
+        ensures not_narrow { result ≢ Err WireError.TooDeep }
+    {
+        match self.tree.tree_bytes::<Wide>() {
+            Ok(bytes) => Ok(bytes),
+            Err(EncodeError::TooDeep) => Err(WireError::TooDeepWide),
+            Err(EncodeError::Memory) => Err(WireError::Memory),
+        }
     }
 
     /// Makes a map of tree bytes and values, in key order.
@@ -399,7 +437,37 @@ impl<K: Bytes, V: Drop> GenericPatriciaMap<K, V> {
         ensures refused { IfErr result (λ e. IsRefusal K.item 2 bytes.now (length values.items) e) }
     {
         Ok(GenericPatriciaMap {
-            tree: Tree::from_wire(alloc, bytes, values)?,
+            tree: Tree::from_wire::<Narrow>(alloc, bytes, values)?,
+        })
+    }
+
+    /// Makes a map of wide tree bytes and values, in key order, as `from_wire` does of tree bytes.
+    ///
+    /// Takes time in proportion to the bytes.
+    ///
+    /// # Errors
+    ///
+    /// The first fault of the bytes or of the number of values, and where it stands. A whole tree
+    /// with the right number of values has none, and is refused as out of memory alone. The values
+    /// are dropped then.
+    ///
+    /// # Examples
+    ///
+    /// ```
+    /// let bytes = [12, 0, 0, 0, 0, 0, 3, 1, 0, 0, 0, 1, 97];
+    /// let values = Vec::from_slice(rt.alloc(), &[1])?;
+    /// let map = StringPatriciaMap::from_wide_wire(rt.alloc(), &bytes, values)?;
+    /// assert_eq!(rt; map.get("a"), Some(&1));
+    ///
+    /// let cut = PatriciaMap::<u32>::from_wide_wire(rt.alloc(), &bytes[..4], Vec::new(rt.alloc()));
+    /// assert!(rt; matches!(cut, Err(DecodeError::Truncated(0))));
+    /// ```
+    pub fn from_wide_wire(alloc: Global, bytes: &[u8], values: Vec<V>) -> Result<Self, DecodeError>
+        ensures ok { IfOk result (λ m. Means K.item 4 bytes.now values.items (map.entries m)) }
+        ensures refused { IfErr result (λ e. IsRefusal K.item 4 bytes.now (length values.items) e) }
+    {
+        Ok(GenericPatriciaMap {
+            tree: Tree::from_wire::<Wide>(alloc, bytes, values)?,
         })
     }
 

@@ -309,8 +309,36 @@ impl<T: Bytes> GenericPatriciaSet<T> {
     pub fn tree_bytes(&self) -> Result<Vec<u8>, WireError>
         ensures ok { IfOk result (λ b. AreTreeBytes T.item 2 b.items (map.entries self.now)) }
         ensures too_deep { result ≡ Err WireError.TooDeep → TooDeep T.item 2 (map.keys self.now) }
+        ensures not_wide { result ≢ Err WireError.TooDeepWide }
     {
         self.map.tree_bytes()
+    }
+
+    /// Returns the wide tree bytes, in which each level takes four bytes. They are those of a map
+    /// with these keys.
+    ///
+    /// Takes time in proportion to the bytes.
+    ///
+    /// # Errors
+    ///
+    /// `TooDeepWide` where a record would lie deeper than level 4,294,967,295; or out of memory.
+    ///
+    /// # Examples
+    ///
+    /// ```
+    /// let set = StringPatriciaSet::from_iter(rt.alloc(), ["a"])?;
+    /// assert_eq!(rt;
+    ///     set.wide_tree_bytes()?.as_slice(),
+    ///     [12, 0, 0, 0, 0, 0, 3, 1, 0, 0, 0, 1, 97].as_slice()
+    /// );
+    /// ```
+    pub fn wide_tree_bytes(&self) -> Result<Vec<u8>, WireError>
+        ensures ok { IfOk result (λ b. AreTreeBytes T.item 4 b.items (map.entries self.now)) }
+        ensures too_deep { result ≡ Err WireError.TooDeepWide
+            → TooDeep T.item 4 (map.keys self.now) }
+        ensures not_narrow { result ≢ Err WireError.TooDeep }
+    {
+        self.map.wide_tree_bytes()
     }
 
     /// Makes a set of tree bytes, with a `()` for each element.
@@ -338,6 +366,33 @@ impl<T: Bytes> GenericPatriciaSet<T> {
     {
         Ok(GenericPatriciaSet {
             map: GenericPatriciaMap::from_wire(alloc, bytes, values)?,
+        })
+    }
+
+    /// Makes a set of wide tree bytes, with a `()` for each element, as `from_wire` does of tree
+    /// bytes.
+    ///
+    /// Takes time in proportion to the bytes.
+    ///
+    /// # Errors
+    ///
+    /// The first fault of the bytes or of the number of values, and where it stands. A whole tree
+    /// with the right number has none, and is refused as out of memory alone.
+    ///
+    /// # Examples
+    ///
+    /// ```
+    /// let bytes = [12, 0, 0, 0, 0, 0, 3, 1, 0, 0, 0, 1, 97];
+    /// let values = Vec::from_slice(rt.alloc(), &[()])?;
+    /// let set = StringPatriciaSet::from_wide_wire(rt.alloc(), &bytes, values)?;
+    /// assert!(rt; set.contains("a"));
+    /// ```
+    pub fn from_wide_wire(alloc: Global, bytes: &[u8], values: Vec<()>) -> Result<Self, DecodeError>
+        ensures ok { IfOk result (λ s. Means T.item 4 bytes.now values.items (map.entries s)) }
+        ensures refused { IfErr result (λ e. IsRefusal T.item 4 bytes.now (length values.items) e) }
+    {
+        Ok(GenericPatriciaSet {
+            map: GenericPatriciaMap::from_wide_wire(alloc, bytes, values)?,
         })
     }
 

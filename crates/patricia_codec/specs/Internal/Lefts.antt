@@ -1,5 +1,5 @@
 -- The records that are left to be written.
-use Rattle.std.specs.Prelude.{◌≡◌, ℕ, ◌+◌, ◌<◌, ◌≤◌, List, [], ◌∷◌, ◌++◌, length, Option, Some, None, Any, vec_len}
+use Rattle.std.specs.Prelude.{◌≡◌, ℕ, ◌+◌, ◌^◌, ◌<◌, ◌≤◌, List, [], ◌∷◌, ◌++◌, length, Option, Some, None, Any, vec_len}
 use Rattle.patricia_model.specs.Siblings.{Siblings}
 use Rattle.patricia_nodes.specs.declared.arena.Node.{Node}
 use Rattle.patricia_nodes.specs.declared.arena.NodeArena.{NodeArena}
@@ -9,9 +9,9 @@ use Rattle.patricia_wire.specs.Records.{Record}
 use Rattle.patricia_codec.specs.declared.records.Records.{Records}
 use Rattle.patricia_codec.specs.Internal.Pieces.{AreRecords, behind, weight}
 
--- one of the records lies deeper than two bytes can tell
-abbrev pub HasDeep : List Record → Type 0
-HasDeep R = Any (λ r. 65536 ≤ r.level) R
+-- one of the records lies deeper than w bytes can tell
+abbrev pub HasDeep : ℕ → List Record → Type 0
+HasDeep w R = Any (λ r. 256 ^ w ≤ r.level) R
 
 module _ {V : Type 0} where
   abbrev pub nodes_of : Records V → List (Node V)
@@ -60,13 +60,6 @@ module _ (item : List ℕ → Type 0) {V : Type 0} where
   abbrev pub SomeLeft : Records V → Type 0
   SomeLeft p = (R : List Record) × AreRecordsLeft p R
 
-  -- whatever was left, the record was the first of it, and the rest is left now
-  pub record TakesRecord (old : Records V) (r : Record) (new : Records V) : Type 0 where
-    pub left : (R : List Record) → AreRecordsLeft old R → (rest : List Record) × (R ≡ r ∷ rest) × AreRecordsLeft new rest
-    pub less : weight_left new < weight_left old
-    pub fits : length r.label ≤ 255
-    pub shallow : r.level < 65536
-
   -- nothing was left
   abbrev pub IsOver : Records V → Type 0
   IsOver p = (R : List Record) → AreRecordsLeft p R → R ≡ []
@@ -77,21 +70,32 @@ module _ (item : List ℕ → Type 0) {V : Type 0} where
     pub same : weight_left new ≡ weight_left old
     pub fewer : vec_len new.stack < vec_len old.stack
 
-  -- the first record was taken, or there was none
-  abbrev pub GivesRecord : Records V → Option Record → Records V → Type 0
-  GivesRecord old None new = IsOver old
-  GivesRecord old (Some r) new = TakesRecord old r new
-
-  -- whatever was left, one of it lies too deep
-  abbrev pub IsDeep : Records V → Type 0
-  IsDeep p = (R : List Record) → AreRecordsLeft p R → HasDeep R
-
   -- of the records of the nodes all but these are left
   abbrev pub IsAt : NodeArena V → Records V → List Record → Type 0
   IsAt arena p written =
       (R : List Record) → AreRecords item 1 (siblings_of arena) R
       → (rest : List Record) × (R ≡ written ++ rest) × AreRecordsLeft p rest
 
-  -- and one of the records of the nodes lies too deep
+module _ (item : List ℕ → Type 0) (w : ℕ) {V : Type 0} where
+  -- whatever was left, the record was the first of it, and the rest is left now; w bytes have room
+  -- for its level
+  pub record TakesRecord (old : Records V) (r : Record) (new : Records V) : Type 0 where
+    pub left :
+        (R : List Record) → AreRecordsLeft item old R
+        → (rest : List Record) × (R ≡ r ∷ rest) × AreRecordsLeft item new rest
+    pub less : weight_left new < weight_left old
+    pub fits : length r.label ≤ 255
+    pub shallow : r.level < 256 ^ w
+
+  -- the first record was taken, or there was none
+  abbrev pub GivesRecord : Records V → Option Record → Records V → Type 0
+  GivesRecord old None new = IsOver item old
+  GivesRecord old (Some r) new = TakesRecord old r new
+
+  -- whatever was left, one of it lies too deep
+  abbrev pub IsDeep : Records V → Type 0
+  IsDeep p = (R : List Record) → AreRecordsLeft item p R → HasDeep w R
+
+  -- one of the records of the nodes lies too deep
   abbrev pub AreDeep : NodeArena V → Type 0
-  AreDeep arena = (R : List Record) → AreRecords item 1 (siblings_of arena) R → HasDeep R
+  AreDeep arena = (R : List Record) → AreRecords item 1 (siblings_of arena) R → HasDeep w R

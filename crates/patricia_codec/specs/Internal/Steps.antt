@@ -12,10 +12,10 @@ use Rattle.patricia_wire.specs.declared.error.DecodeError.TheVariants.{InvalidLa
 use Rattle.patricia_codec.specs.declared.reader.Reader.{Reader}
 
 -- the bytes begin with the spelling of the record
-pub record Fronts (r : Record) (bytes : List ℕ) : Type 0 where
+pub record Fronts (w : ℕ) (r : Record) (bytes : List ℕ) : Type 0 where
   pub first : List ℕ
   pub rest : List ℕ
-  pub spelled : Encodes 2 r first
+  pub spelled : Encodes w r first
   pub joined : bytes ≡ first ++ rest
 
 -- what is due behind a record, the next last
@@ -57,10 +57,11 @@ module _ (item : List ℕ → Type 0) where
     pub rules : BreaksNone item due left r
     pub label : KeepsLabel due r.label
 
+module _ (item : List ℕ → Type 0) (w : ℕ) where
   -- these records are read, and these are due, the next first
   pub record IsReading (n : ℕ) (p : Reader) (before : List Record) (due : List Due) : Type 0 where
     pub read : IsRead item n before due
-    pub reads : Reads 2 p.bytes.now before p.offset (drop p.offset p.bytes.now)
+    pub reads : Reads w p.bytes.now before p.offset (drop p.offset p.bytes.now)
     pub due_is : reverse p.due.items ≡ due
     pub after : All (IsAfter item) due
 
@@ -78,7 +79,7 @@ module _ (item : List ℕ → Type 0) where
     pub fits : length r.label ≤ 255
     pub reading :
         (n : ℕ) (before : List Record) (due : List Due) → IsReading n old before due → left + value_marks before ≡ n
-        → (next : Due) × (waiting : List Due) × (due ≡ next ∷ waiting) × IsAccepted next left r
+        → (next : Due) × (waiting : List Due) × (due ≡ next ∷ waiting) × IsAccepted item next left r
         × IsReading n new (before ++ (r ∷ [])) (due_behind r ++ waiting)
 
   -- nothing is due, whatever was read
@@ -96,10 +97,10 @@ module _ (item : List ℕ → Type 0) where
   abbrev pub ReadIsRefused : ℕ → Reader → DecodeError → Type 0
   ReadIsRefused left p e =
       (n : ℕ) (before : List Record) (due : List Due) → IsReading n p before due → left + value_marks before ≡ n
-      → IsRefusal item 2 p.bytes.now n e
+      → IsRefusal item w p.bytes.now n e
 
   -- the bytes behind a whole tree, or the values that are left, are refused
   abbrev pub IsRefusedAfter : ℕ → Reader → DecodeError → Type 0
   IsRefusedAfter left p e =
       (n : ℕ) (R : List Record) (E : List (List ℕ)) → IsReading n p R [] → left + value_marks R ≡ n → Root item R E
-      → IsRefusal item 2 p.bytes.now n e
+      → IsRefusal item w p.bytes.now n e

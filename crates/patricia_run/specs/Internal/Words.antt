@@ -21,3 +21,5 @@ shape_after Words.Copy = alone Commands.Copy
 shape_after Words.Clear = alone Commands.Clear
 shape_after Words.Wire = alone Commands.Wire
 shape_after Words.Reload = alone Commands.Reload
+shape_after Words.Wide = alone Commands.Wide
+shape_after Words.ReloadWide = alone Commands.ReloadWide

@@ -251,6 +251,33 @@ fn from_wire(rt: HostRuntime) -> anyhow::Result<()> {
 }
 
 #[test]
+fn wide_tree_bytes(rt: HostRuntime) -> anyhow::Result<()> {
+    // example: map wide_tree_bytes
+    let mut map = StringPatriciaMap::new(rt.alloc());
+    map.insert("a", 1)?;
+    assert_eq!(rt;
+        map.wide_tree_bytes()?.as_slice(),
+        [12, 0, 0, 0, 0, 0, 3, 1, 0, 0, 0, 1, 97].as_slice()
+    );
+    // end
+    Ok(())
+}
+
+#[test]
+fn from_wide_wire(rt: HostRuntime) -> anyhow::Result<()> {
+    // example: map from_wide_wire
+    let bytes = [12, 0, 0, 0, 0, 0, 3, 1, 0, 0, 0, 1, 97];
+    let values = Vec::from_slice(rt.alloc(), &[1])?;
+    let map = StringPatriciaMap::from_wide_wire(rt.alloc(), &bytes, values)?;
+    assert_eq!(rt; map.get("a"), Some(&1));
+
+    let cut = PatriciaMap::<u32>::from_wide_wire(rt.alloc(), &bytes[..4], Vec::new(rt.alloc()));
+    assert!(rt; matches!(cut, Err(DecodeError::Truncated(0))));
+    // end
+    Ok(())
+}
+
+#[test]
 fn extend(rt: HostRuntime) -> anyhow::Result<()> {
     // example: map extend
     let mut map = StringPatriciaMap::new(rt.alloc());

@@ -147,6 +147,29 @@ fn from_wire(rt: HostRuntime) -> Result<(), DecodeError> {
 }
 
 #[test]
+fn wide_tree_bytes(rt: HostRuntime) -> Result<(), WireError> {
+    // example: set wide_tree_bytes
+    let set = StringPatriciaSet::from_iter(rt.alloc(), ["a"])?;
+    assert_eq!(rt;
+        set.wide_tree_bytes()?.as_slice(),
+        [12, 0, 0, 0, 0, 0, 3, 1, 0, 0, 0, 1, 97].as_slice()
+    );
+    // end
+    Ok(())
+}
+
+#[test]
+fn from_wide_wire(rt: HostRuntime) -> Result<(), DecodeError> {
+    // example: set from_wide_wire
+    let bytes = [12, 0, 0, 0, 0, 0, 3, 1, 0, 0, 0, 1, 97];
+    let values = Vec::from_slice(rt.alloc(), &[()])?;
+    let set = StringPatriciaSet::from_wide_wire(rt.alloc(), &bytes, values)?;
+    assert!(rt; set.contains("a"));
+    // end
+    Ok(())
+}
+
+#[test]
 fn extend(rt: HostRuntime) -> Result<(), AllocError> {
     // example: set extend
     let mut set = StringPatriciaSet::new(rt.alloc());

@@ -16,7 +16,7 @@ loop-builder-init g c = record {
   before = [];
   due = (record { level = 0; after = None }) ∷ [];
   taken = [];
-  reading = started g.K.Bytes.item _ c.in_ok-reader.reader c.in_ok-reader.ensures.start;
+  reading = started g.K.Bytes.item g.W.Width.width _ c.in_ok-reader.reader c.in_ok-reader.ensures.start;
   built = new_built g.K.Bytes.item c.new-builder.result c.new-builder.ensures;
   split = refl;
   left = c.into_iter-values.ensures.len ∙ c.args.values.ok.0 ∙ ap length (sym c.into_iter-values.ensures.rest);
@@ -42,11 +42,11 @@ returns-in_err-record-clause-first_fault g c =
     let bytes = ap (λ b. b.now) inv.bytes ∙ c.in_ok-reader.ensures.bytes in
     let count = counted _ inv.taken _ inv.before c.len.result inv.split inv.marks (c.len.ensures ∙ inv.left) in
     let refused = c.in_err-record.ensures.refused _ inv.before inv.due inv.reading count in
-    handed_on (λ e. IsRefusal g.K.Bytes.item 2 c.args.bytes.now (length c.args.values.items) e)
+    handed_on (λ e. IsRefusal g.K.Bytes.item g.W.Width.width c.args.bytes.now (length c.args.values.items) e)
     c.from_residual-in_err-record.result c.in_err-record.field-0.0
     c.from_residual-in_err-record.ensures.1
-    (subst (λ b. IsRefusal g.K.Bytes.item 2 b (length c.args.values.items) c.in_err-record.field-0.0) bytes
-    (subst (λ l. IsRefusal g.K.Bytes.item 2 c.loop-builder.reader.bytes.now (length l) c.in_err-record.field-0.0) c.into_iter-values.ensures.rest refused))
+    (subst (λ b. IsRefusal g.K.Bytes.item g.W.Width.width b (length c.args.values.items) c.in_err-record.field-0.0) bytes
+    (subst (λ l. IsRefusal g.K.Bytes.item g.W.Width.width c.loop-builder.reader.bytes.now (length l) c.in_err-record.field-0.0) c.into_iter-values.ensures.rest refused))
 
 pub add-requires : goal.add-requires
 add-requires g c =
@@ -101,7 +101,7 @@ pub finish-requires : goal.finish-requires
 finish-requires g c =
     let inv = c.loop-builder.invariant in
     let ends = rw c.in_default.is at c.in_ok-record.ensures.ok in
-    let reading = read_all g.K.Bytes.item c.loop-builder.builder _ _ _ inv.before inv.due inv.taken inv.reading inv.built ends in
+    let reading = read_all g.K.Bytes.item g.W.Width.width c.loop-builder.builder _ _ _ inv.before inv.due inv.taken inv.reading inv.built ends in
     record {
       n = _;
       before = inv.before;
@@ -117,14 +117,14 @@ returns-in_err-finish-clause-first_fault g c =
     let ends = rw c.in_default.is at c.in_ok-record.ensures.ok in
     let bytes = ap (λ b. b.now) (c.in_ok-record.ensures.bytes ∙ inv.bytes) ∙ c.in_ok-reader.ensures.bytes in
     let count = counted _ inv.taken _ inv.before c.len-2.result inv.split inv.marks (c.len-2.ensures ∙ inv.left) in
-    let reading = read_all g.K.Bytes.item c.loop-builder.builder _ _ _ inv.before inv.due inv.taken inv.reading inv.built ends in
-    let tree = tree_of_all g.K.Bytes.item c.loop-builder.builder _ _ _ inv.before inv.due inv.taken inv.reading inv.built ends in
+    let reading = read_all g.K.Bytes.item g.W.Width.width c.loop-builder.builder _ _ _ inv.before inv.due inv.taken inv.reading inv.built ends in
+    let tree = tree_of_all g.K.Bytes.item g.W.Width.width c.loop-builder.builder _ _ _ inv.before inv.due inv.taken inv.reading inv.built ends in
     let refused = c.in_err-finish.ensures.refused _ inv.before tree.0 reading count tree.1 in
-    handed_on (λ e. IsRefusal g.K.Bytes.item 2 c.args.bytes.now (length c.args.values.items) e)
+    handed_on (λ e. IsRefusal g.K.Bytes.item g.W.Width.width c.args.bytes.now (length c.args.values.items) e)
     c.from_residual-in_err-finish.result c.in_err-finish.field-0.0
     c.from_residual-in_err-finish.ensures.1
-    (subst (λ b. IsRefusal g.K.Bytes.item 2 b (length c.args.values.items) c.in_err-finish.field-0.0) bytes
-    (subst (λ l. IsRefusal g.K.Bytes.item 2 c.next.new.self.bytes.now (length l) c.in_err-finish.field-0.0) c.into_iter-values.ensures.rest refused))
+    (subst (λ b. IsRefusal g.K.Bytes.item g.W.Width.width b (length c.args.values.items) c.in_err-finish.field-0.0) bytes
+    (subst (λ l. IsRefusal g.K.Bytes.item g.W.Width.width c.next.new.self.bytes.now (length l) c.in_err-finish.field-0.0) c.into_iter-values.ensures.rest refused))
 
 pub returns-clause-whole : goal.returns-clause-whole
 returns-clause-whole g c =
@@ -132,7 +132,7 @@ returns-clause-whole g c =
     let ends = rw c.in_default.is at c.in_ok-record.ensures.ok in
     let bytes = ap (λ b. b.now) (c.in_ok-record.ensures.bytes ∙ inv.bytes) ∙ c.in_ok-reader.ensures.bytes in
     let split = sym c.into_iter-values.ensures.rest ∙ inv.split in
-    let done = decoded g.K.Bytes.item c.loop-builder.builder _ _ _ inv.before inv.due inv.taken inv.reading inv.built ends
+    let done = decoded g.K.Bytes.item g.W.Width.width c.loop-builder.builder _ _ _ inv.before inv.due inv.taken inv.reading inv.built ends
     g.met.K.Bytes.lawful _ bytes _ _ c.len-2.result split (c.len-2.ensures ∙ inv.left) c.in_ok-finish.ensures.whole c.none.result c.none.ensures in
     done.whole
 
@@ -142,7 +142,7 @@ returns-clause-row g c =
     let ends = rw c.in_default.is at c.in_ok-record.ensures.ok in
     let bytes = ap (λ b. b.now) (c.in_ok-record.ensures.bytes ∙ inv.bytes) ∙ c.in_ok-reader.ensures.bytes in
     let split = sym c.into_iter-values.ensures.rest ∙ inv.split in
-    let done = decoded g.K.Bytes.item c.loop-builder.builder _ _ _ inv.before inv.due inv.taken inv.reading inv.built ends
+    let done = decoded g.K.Bytes.item g.W.Width.width c.loop-builder.builder _ _ _ inv.before inv.due inv.taken inv.reading inv.built ends
     g.met.K.Bytes.lawful _ bytes _ _ c.len-2.result split (c.len-2.ensures ∙ inv.left) c.in_ok-finish.ensures.whole c.none.result c.none.ensures in
     done.canonical
 
@@ -152,7 +152,7 @@ returns-clause-means g c =
     let ends = rw c.in_default.is at c.in_ok-record.ensures.ok in
     let bytes = ap (λ b. b.now) (c.in_ok-record.ensures.bytes ∙ inv.bytes) ∙ c.in_ok-reader.ensures.bytes in
     let split = sym c.into_iter-values.ensures.rest ∙ inv.split in
-    let done = decoded g.K.Bytes.item c.loop-builder.builder _ _ _ inv.before inv.due inv.taken inv.reading inv.built ends
+    let done = decoded g.K.Bytes.item g.W.Width.width c.loop-builder.builder _ _ _ inv.before inv.due inv.taken inv.reading inv.built ends
     g.met.K.Bytes.lawful _ bytes _ _ c.len-2.result split (c.len-2.ensures ∙ inv.left) c.in_ok-finish.ensures.whole c.none.result c.none.ensures in
     done.means
 

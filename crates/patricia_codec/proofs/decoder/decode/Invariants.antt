@@ -14,7 +14,7 @@ invariant-loop-builder g l = record {
   due : List Due;
   taken : List g.row.V.Denot;
   reading :
-      IsReading g.K.Bytes.item (length (into_iter_items l.initial.values)) l.reader before due;
+      IsReading g.K.Bytes.item g.W.Width.width (length (into_iter_items l.initial.values)) l.reader before due;
   built : IsBuilt g.K.Bytes.item l.builder before due taken;
   split : into_iter_items l.initial.values ≡ taken ++ into_iter_items l.values;
   left : into_iter_len l.values ≡ length (into_iter_items l.values);

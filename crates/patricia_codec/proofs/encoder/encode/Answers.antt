@@ -1,7 +1,8 @@
 use Rattle.std.proofs.Common.{◌≡◌, ◌<◌, ◌++◌, [], sym, ap, ◌∙◌, append-nil, append_assoc}
 use Rattle.std.proofs.lemmas.List.Elements.{All-nil}
-use Rattle.std.specs.Prelude.{is_some, false}
+use Rattle.std.specs.Prelude.{◌^◌, is_some, false}
 use Rattle.patricia_wire.specs.Records.{Record, canonical_bytes, canonical_bytes_of}
+use Rattle.patricia_wire.proofs.Spellings.{positive}
 use Rattle.patricia_codec.proofs.EncodeLemmas.{at_start, some_left, at_next, deep_left, all_written, too_deep, shallow-snoc, spellings-snoc}
 use Rattle.patricia_codec.proofs.LeftLemmas.{err_from}
 use Rattle.patricia_codec.proofs.encoder.encode.Goals as goal
@@ -9,7 +10,10 @@ use Rattle.patricia_codec.proofs.encoder.encode.Goals as goal
 pub returns-in_err-size-clause-too_deep : goal.returns-in_err-size-clause-too_deep
 returns-in_err-size-clause-too_deep g c deep =
     let is = err_from c.size.result c.from_residual.result _ _ c.in_err-size.was c.from_residual.ensures.1 deep in
-    too_deep g.K.Bytes.item g.met.K.Bytes.lawful c.args.arena.now c.args.value.now c.requires.row (c.size.ensures is)
+    too_deep g.K.Bytes.item g.met.K.Bytes.lawful c.args.arena.now c.args.value.now g.W.Width.width c.requires.row (c.size.ensures is)
+
+pub write-requires-clause-level : goal.write-requires-clause-level
+write-requires-clause-level g c = positive g.W.Width.width
 
 pub loop-records-init : goal.loop-records-init
 loop-records-init g c =
@@ -19,7 +23,7 @@ loop-records-init g c =
       some = some_left g.K.Bytes.item g.met.K.Bytes.lawful c.args.arena.now c.new-records.result [] c.requires.row at;
       taken = [];
       at = at;
-      shallow = All-nil (λ r. r.level < 65536);
+      shallow = All-nil (λ r. r.level < 256 ^ g.W.Width.width);
       written = sym (append-nil _);
     }
 
@@ -27,8 +31,8 @@ pub returns-in_err-record-clause-too_deep : goal.returns-in_err-record-clause-to
 returns-in_err-record-clause-too_deep g c deep =
     let inv = c.loop-records.invariant in
     let is = err_from c.next.result c.from_residual-in_err-record.result _ _ c.in_err-record.was c.from_residual-in_err-record.ensures.1 deep in
-    too_deep g.K.Bytes.item g.met.K.Bytes.lawful c.args.arena.now c.args.value.now c.requires.row
-    (deep_left g.K.Bytes.item g.met.K.Bytes.lawful c.args.arena.now c.loop-records.records
+    too_deep g.K.Bytes.item g.met.K.Bytes.lawful c.args.arena.now c.args.value.now g.W.Width.width c.requires.row
+    (deep_left g.K.Bytes.item g.met.K.Bytes.lawful c.args.arena.now g.W.Width.width c.loop-records.records
     inv.taken inv.at (c.next.ensures.too_deep is))
 
 pub loop-records-preserved : goal.loop-records-preserved
@@ -42,16 +46,16 @@ loop-records-preserved g c =
       sibling = c.in-Some.record.sibling;
     } in
     let taken = rw c.in-Some.is at c.in_ok-record.ensures.ok in
-    let at = at_next g.K.Bytes.item g.met.K.Bytes.lawful c.args.arena.now c.loop-records.records c.next.new.self inv.taken r inv.at taken in
+    let at = at_next g.K.Bytes.item g.met.K.Bytes.lawful c.args.arena.now g.W.Width.width c.loop-records.records c.next.new.self inv.taken r inv.at taken in
     let wrote = c.in_ok-write-2.ensures in
     record {
       some = some_left g.K.Bytes.item g.met.K.Bytes.lawful c.args.arena.now c.next.new.self _ c.requires.row at;
       taken = _;
       at = at;
-      shallow = shallow-snoc inv.taken _ inv.shallow taken.shallow;
-      written = wrote ∙ ap (λ b. b ++ canonical_bytes 2 r) inv.written ∙ append_assoc _
-          (canonical_bytes_of 2 inv.taken) (canonical_bytes 2 r) ∙ ap
-          (λ b. c.write.new.out.items ++ b) (sym (spellings-snoc 2 inv.taken r));
+      shallow = shallow-snoc g.W.Width.width inv.taken _ inv.shallow taken.shallow;
+      written = wrote ∙ ap (λ b. b ++ canonical_bytes g.W.Width.width r) inv.written ∙ append_assoc _
+          (canonical_bytes_of g.W.Width.width inv.taken) (canonical_bytes g.W.Width.width r) ∙ ap
+          (λ b. c.write.new.out.items ++ b) (sym (spellings-snoc g.W.Width.width inv.taken r));
     }
 
 pub returns-clause-ok : goal.returns-clause-ok
@@ -62,8 +66,8 @@ returns-clause-ok g c =
     λ i. record { level = 0; label = []; value = c.is_some.ensures i; child = (c.is_some-2.ensures ∙ ap is_some c.get.ensures) i; sibling = false } in
     let over = rw c.in_default.is at c.in_ok-record.ensures.ok in
     let wrote = c.in_ok-write.ensures in
-    let out = wrote ∙ ap (λ b. b ++ canonical_bytes 2 root) c.in_ok-out.ensures.items in
+    let out = wrote ∙ ap (λ b. b ++ canonical_bytes g.W.Width.width root) c.in_ok-out.ensures.items in
     all_written g.K.Bytes.item g.met.K.Bytes.lawful c.args.arena.now c.args.value.now
-    c.requires.row c.loop-records.records inv.taken c.loop-records.out.items root
+    g.W.Width.width c.requires.row c.loop-records.records inv.taken c.loop-records.out.items root
     c.requires.whole inv.at over inv.shallow root_is
-    (inv.written ∙ ap (λ b. b ++ canonical_bytes_of 2 inv.taken) out)
+    (inv.written ∙ ap (λ b. b ++ canonical_bytes_of g.W.Width.width inv.taken) out)

@@ -10,8 +10,8 @@ invariant-loop-records g l = record {
   some : SomeLeft g.K.Bytes.item l.records;
   taken : List Record;
   at : IsAt g.K.Bytes.item l.arena l.records taken;
-  shallow : AreShallow taken;
-  written : l.out.items ≡ l.initial.out.items ++ canonical_bytes_of 2 taken;
+  shallow : AreShallow g.W.Width.width taken;
+  written : l.out.items ≡ l.initial.out.items ++ canonical_bytes_of g.W.Width.width taken;
 }
 
 abbrev pub decreases-loop-records : goal.decreases-loop-records

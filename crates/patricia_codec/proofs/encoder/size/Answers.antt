@@ -13,13 +13,13 @@ pub returns-in_err-record : goal.returns-in_err-record
 returns-in_err-record g c too_deep =
     let counted = c.loop-records.invariant.at in
     let is = err_from c.next.result c.from_residual.result _ _ c.in_err-record.was c.from_residual.ensures.1 too_deep in
-    deep_left g.K.Bytes.item g.met.K.Bytes.lawful c.args.arena.now c.loop-records.records counted.0 counted.1 (c.next.ensures.too_deep is)
+    deep_left g.K.Bytes.item g.met.K.Bytes.lawful c.args.arena.now g.W.Width.width c.loop-records.records counted.0 counted.1 (c.next.ensures.too_deep is)
 
 pub loop-records-preserved : goal.loop-records-preserved
 loop-records-preserved g c =
     let counted = c.loop-records.invariant.at in
     let taken = rw c.in-Some.is at c.in_ok-record.ensures.ok in
-    let at = at_next g.K.Bytes.item g.met.K.Bytes.lawful c.args.arena.now c.loop-records.records c.next.new.self counted.0 _ counted.1 taken in
+    let at = at_next g.K.Bytes.item g.met.K.Bytes.lawful c.args.arena.now g.W.Width.width c.loop-records.records c.next.new.self counted.0 _ counted.1 taken in
     record { some = some_left g.K.Bytes.item g.met.K.Bytes.lawful c.args.arena.now c.next.new.self _ c.requires.row at; at = (_, at) }
 
 pub returns : goal.returns

@@ -1,5 +1,5 @@
 use Rattle.std.proofs.Common.{◌≡◌, ◌<◌, ◌++◌, ◌∷◌, [], sym, ap, subst, ◌∙◌, arith, take, drop, length, length-drop, rules}
-use Rattle.std.specs.Prelude.{is_some, is_ok, true}
+use Rattle.std.specs.Prelude.{◌^◌, is_some, is_ok, true}
 use Rattle.patricia_model.specs.Siblings.{end, node}
 use Rattle.patricia_walks.specs.Internal.Positions.{row_at}
 use Rattle.patricia_wire.specs.Records.{Record}
@@ -22,8 +22,8 @@ returns-in_default-clause-too_deep g c _ =
     let left = c.requires.left.1 in
     let reads = rw c.index.ensures at c.index-node.ensures in
     first_deep g.K.Bytes.item g.met.K.Bytes.lawful c.args.self.now c.args.id
-    c.index-node.result.now left.plan c.requires.next reads
-    (grind (arith, c.in_default.ensures))
+    c.index-node.result.now left.plan c.requires.next reads g.W.Width.width
+    (c.level_at.ensures.too_deep c.in_default.is)
 
 pub label_behind-left-requires : goal.label_behind-left-requires
 label_behind-left-requires g c =
@@ -84,7 +84,7 @@ returns-clause-ok g c =
       | else-self-eq0 w ↦ beside_later item kind p c.args.id n left.plan c.requires.next reads at w.if-self-eq0.false (w.beside-is ∙ w.none-beside.ensures)
     ] in
     let r : Record = record {
-      level = c.in-Ok.level;
+      level = c.in-Some.level;
       label = take k c.label_behind-left.result.now;
       value = c.if-n-left.value.0;
       child = c.if-n-left.value.1;
@@ -92,8 +92,8 @@ returns-clause-ok g c =
     } in
     let pushed : is_ok c.push.result ≡ true = sym c.map_err.ensures.variant ∙ ap is_ok c.in_ok-map_err.was in
     let stack : c.push.new.self.items ≡ p.stack.items ++ (p.level, at) ∷ [] = rw pushed at c.push.ensures.items in
-    let shallow = (let e = c.in-Ok.ensures in e.0) in
-    let level_is = (let e = c.in-Ok.ensures in e.1) in
+    let level_is = (let e = c.in-Some.ensures.room in e.0) in
+    let shallow = (let e = c.in-Some.ensures.room in subst (λ l. l < 256 ^ g.W.Width.width) level_is e.1) in
     let label_is = ap (take k) label in
     let sibling_is = c.is_some-2.ensures ∙ ap is_some c.get-2.ensures in
     elim c.if-n-left.branch [
@@ -106,8 +106,8 @@ returns-clause-ok g c =
           let below = below_whole item kind p c.args.id n left.plan c.requires.next reads q k piece
           kept level (w.if-n-left.true ∙ ap length label) (ap (λ s. s.next) w.self-is)
           (ap (λ s. s.skipped) w.self-is) in
-          taken item kind p c.args.id n left.plan c.requires.next reads q k piece kept level r at
-          under beside (ap (λ s. s.stack.items) w.self-is ∙ stack) (rw (value, child) below)
+          taken item kind p c.args.id n left.plan c.requires.next reads q k piece kept level g.W.Width.width r
+          at under beside (ap (λ s. s.stack.items) w.self-is ∙ stack) (rw (value, child) below)
           level_is label_is sibling_is shallow
       | else-n-left w ↦
           let kept = ap nodes_of w.self-is in
@@ -118,8 +118,8 @@ returns-clause-ok g c =
           let short : k < length (drop p.skipped n.label) = omega (arith, piece.within, ap length label, w.if-n-left.false) in
           let below = below_part item kind p c.args.id n left.plan c.requires.next reads q k piece
           kept level short (ap (λ s. s.next) w.self-is) (ap (λ s. s.skipped) w.self-is) in
-          taken item kind p c.args.id n left.plan c.requires.next reads q k piece kept level r at
-          under beside (ap (λ s. s.stack.items) w.self-is ∙ stack) (rw (value, child) below)
+          taken item kind p c.args.id n left.plan c.requires.next reads q k piece kept level g.W.Width.width r
+          at under beside (ap (λ s. s.stack.items) w.self-is ∙ stack) (rw (value, child) below)
           level_is label_is sibling_is shallow
     ]
 

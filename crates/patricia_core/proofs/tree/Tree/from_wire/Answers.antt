@@ -10,8 +10,8 @@ pub invariant_of-result : goal.invariant_of-result
 invariant_of-result g c =
     let d = c.in_ok-value.field-0 in
     let means = c.in_ok-value.ensures.means in
-    let few = few_values g.K.Bytes.item 2 c.args.bytes.now c.args.values.items _ means in
-    let count = row_count g.K.Bytes.item 2 c.args.bytes.now c.args.values.items d.value (entries_of d.arena) means in
+    let few = few_values g.K.Bytes.item g.W.Width.width c.args.bytes.now c.args.values.items _ means in
+    let count = row_count g.K.Bytes.item g.W.Width.width c.args.bytes.now c.args.values.items d.value (entries_of d.arena) means in
     record {
       whole = c.in_ok-value.ensures.whole;
       tree = record {
@@ -39,6 +39,6 @@ invariant_of-result g c =
 pub returns-clause-ok : goal.returns-clause-ok
 returns-clause-ok g c =
     let d = c.in_ok-value.field-0 in
-    subst (Means g.K.Bytes.item 2 c.args.bytes.now c.args.values.items)
+    subst (Means g.K.Bytes.item g.W.Width.width c.args.bytes.now c.args.values.items)
     (sym (entries_map g.K.Bytes.item g.met.K.Bytes.lawful d.value (siblings_of d.arena)
     c.in_ok-value.ensures.row)) c.in_ok-value.ensures.means

@@ -27,6 +27,3 @@ returns-in-Ok-from_wire g c =
 
 pub returns-in-Err-TooDeep : goal.returns-in-Err-TooDeep
 returns-in-Err-TooDeep g c = search rules
-
-pub returns-in-Err-Memory : goal.returns-in-Err-Memory
-returns-in-Err-Memory g c = search rules

@@ -7,6 +7,3 @@ returns-in-Ok g c = ((grind (arith, common_steps), grind (arith, common_steps)),
 
 pub returns-in-Err-TooDeep : goal.returns-in-Err-TooDeep
 returns-in-Err-TooDeep g c = search rules
-
-pub returns-in-Err-Memory : goal.returns-in-Err-Memory
-returns-in-Err-Memory g c = search rules
