@@ -8,7 +8,7 @@ listed, written, read again, and removed, the byte keys from the longest, so tha
 down to the last node, and the texts from the least. Then they are inserted again and copied, the tree
 is split at the key in the middle, which drops the copy, what was taken is copied and written, and the
 two maps are dropped at the end. The byte keys end with one so long that its tree is too deep to be
-written, and so to be read again.
+written, and so to be read again, unless with wide levels.
 Each NAME.out is the answer by model.py.
 """
 import os
@@ -35,7 +35,7 @@ def script(keys, removals):
     look_ups = [b'get\t' + key for key in (keys[0], keys[-1], past)]
     queries = [b'longest\t' + past, b'reach\t' + past, b'under\t' + keys[-1], b'along\t' + past]
     removes = [b'remove\t' + key for key in removals]
-    asked = [*look_ups, *queries, b'len', b'list', b'wire', b'reload']
+    asked = [*look_ups, *queries, b'len', b'list', b'wire', b'reload', b'wide', b'reloadwide']
     again = [*inserts, b'len', *two_maps(keys), b'wire']
     lines = [*inserts, *asked, *removes, b'len', b'list', *again]
     return b''.join(line + b'\n' for line in lines)
@@ -43,7 +43,7 @@ def script(keys, removals):
 
 def main(folder):
     for kind, keys, removals, end in (
-        ('bytes', NESTED, NESTED[::-1], b'clear\ninsert\t%s\t1\nwire\nreload\nlen\n' % TOO_LONG),
+        ('bytes', NESTED, NESTED[::-1], b'clear\ninsert\t%s\t1\nwire\nreload\nreloadwide\nlen\n' % TOO_LONG),
         ('text', CHARACTERS, CHARACTERS, b''),
     ):
         path = os.path.join(folder, kind)

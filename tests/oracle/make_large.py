@@ -32,11 +32,11 @@ def commands(keys, prefix):
     inserts = [b'insert\t%s\t%d' % (key, n) for n, key in enumerate([b'', *keys])]
     some = keys[::20000]
     asked = [b'%s\t%s' % (word, key) for word in (b'get', b'longest', b'along') for key in some]
-    lists = [b'len', b'list', b'under\t' + prefix, b'reach\t' + prefix + b'x', b'wire']
+    lists = [b'len', b'list', b'under\t' + prefix, b'reach\t' + prefix + b'x', b'wire', b'wide']
     removals = [b'remove\t' + key for key in keys[::2]]
     halves = [b'split\t' + prefix, b'list', b'swap', b'list', b'copy', b'clear', b'swap']
     again = [*inserts[:COUNT // 2:2], b'list', b'copy', b'split\t' + prefix[:1] + b'1', b'len']
-    lines = [*inserts, *lists, b'reload', *asked, b'copy', b'len', *removals, b'list', b'swap', *halves,
+    lines = [*inserts, *lists, b'reload', b'reloadwide', *asked, b'copy', b'len', *removals, b'list', b'swap', *halves,
              b'len', b'list', *again, b'swap', b'wire', b'reload', b'list']
     return b''.join(line + b'\n' for line in lines)
 

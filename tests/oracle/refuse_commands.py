@@ -17,7 +17,8 @@ LONG = b'bcd' * 20
 # What changes the map, and its list; questions about prefixes, some of which find no row; and what
 # changes the two maps, by a prefix that ends a key, one in a label, one in a label of more than 30
 # bytes, one that leaves one of two children, one under which there is nothing, and the empty one;
-# what writes the tree; and what reads again what it wrote, a label of 300 bytes among it.
+# what writes the tree; what reads again what it wrote, a label of 300 bytes among it; and both with wide
+# levels.
 SCRIPTS = [
     b'insert\t\t1\ninsert\tab\t2\ninsert\tac\t3\ninsert\tab\t4\nget\tac\nlist\n'
     b'remove\tab\nlen\nlist\nremove\t\nclear\nlist\n',
@@ -31,6 +32,8 @@ SCRIPTS = [
     b'remove\tab\nwire\nlist\n',
     b'reload\ninsert\t\t1\nreload\ninsert\tab\t2\ninsert\t%s\t30\ninsert\tac\t4\nreload\nlist\n'
     b'remove\tab\nreload\ninsert\tabc\t5\nlist\nclear\nreload\nlist\n' % (LONG * 5),
+    b'wide\nreloadwide\ninsert\t\t1\ninsert\tab\t2\nwide\ninsert\t%s\t30\ninsert\tac\t4\n'
+    b'reloadwide\nlist\nremove\tab\nreloadwide\nwide\nclear\nreloadwide\nlist\n' % (LONG * 5),
 ]
 
 ERRORS = [b'ptree: read failed\n', b'ptree: out of memory\n']
@@ -56,7 +59,7 @@ def may_be_refused(m, kind, line):
         return key != b'' and bool(under(m, key))
     if word == b'copy':
         return bool(m)
-    return word in (b'wire', b'reload')
+    return word in (b'wire', b'reload', b'wide', b'reloadwide')
 
 
 def is_allowed(kind, data, output):

@@ -64,9 +64,11 @@ ALL_WEIGHTS = {**WEIGHTS, b'insert': 80, b'list': 4, b'split': 40, b'swap': 25, 
 WIRE_WEIGHTS = {**ALL_WEIGHTS, b'insert': 160, b'split': 10, b'swap': 15, b'wire': 40}
 # and where it is written and read again, too, between questions and changes
 RELOAD_WEIGHTS = {**WIRE_WEIGHTS, b'wire': 10, b'remove': 40, b'reload': 40}
+# and with levels in four bytes
+WIDE_WEIGHTS = {**RELOAD_WEIGHTS, b'reload': 10, b'wide': 20, b'reloadwide': 30}
 FIELDS = {b'insert': 2, b'remove': 1, b'get': 1, b'len': 0, b'list': 0, b'clear': 0,
           b'under': 1, b'along': 1, b'longest': 1, b'reach': 1, b'split': 1, b'swap': 0, b'copy': 0,
-          b'wire': 0, b'reload': 0}
+          b'wire': 0, b'reload': 0, b'wide': 0, b'reloadwide': 0}
 NUMBERS = [b'0', b'1', b'007', b'18446744073709551615', b'00018446744073709551615']
 FAULTY = [b'', b'put\ta', b'get', b'len\t', b'insert\ta', b'insert\ta\t', b'insert\ta\tx',
           b'insert\ta\t-1', b'insert\ta\t18446744073709551616', b'get\ta\tb', b'Get\ta',
