@@ -8,6 +8,23 @@ use std::marker::Brand;
 use std::process::Abort;
 use std::sync::ledger::{Blank, Ledger};
 
+fn is_counted<Q: BorrowedBytes, L: Ledger>(
+    map: &GenericPatriciaMap<Q::Owned, u64>,
+    key: Q,
+    steps: &mut Steps<L>,
+) -> bool {
+    map.get_counted(key, steps).is_some()
+}
+
+// Whether a key is found, by each of two calls, or not.
+fn is_found<Q: BorrowedBytes>(
+    map: &GenericPatriciaMap<Q::Owned, u64>,
+    key: Q,
+    is_stored: bool,
+) -> bool {
+    map.contains_key(key) == is_stored && map.get(key).is_some() == is_stored
+}
+
 // Whether each call on each key finds it or not.
 fn are_found<Q: BorrowedBytes, L: Ledger>(
     map: &GenericPatriciaMap<Q::Owned, u64>,
@@ -21,47 +38,61 @@ fn are_found<Q: BorrowedBytes, L: Ledger>(
 {
     let mut steps: Steps<L> = Steps::new(blank);
     for key in keys {
-        if map.contains_key(*key) != is_stored
-            || map.get(*key).is_some() != is_stored
-            || map.get_counted(*key, &mut steps).is_some() != is_stored
-        {
+        if !is_found(map, *key, is_stored) || is_counted(map, *key, &mut steps) != is_stored {
             return false;
         }
     }
     true
 }
 
-// Inserts each key, and returns whether each was there or was not.
+// Whether an insert is done, where the key was there or was not.
+fn is_put<Q: BorrowedBytes>(
+    map: &mut GenericPatriciaMap<Q::Owned, u64>,
+    key: Q,
+    is_stored: bool,
+) -> bool {
+    match map.insert(key, key.as_bytes().len() as u64) {
+        Ok(old) => old.is_some() == is_stored,
+        Err(_) => false,
+    }
+}
+
 fn are_put<Q: BorrowedBytes>(
     map: &mut GenericPatriciaMap<Q::Owned, u64>,
     keys: &[Q],
     is_stored: bool,
 ) -> bool {
     for key in keys {
-        match map.insert(*key, key.as_bytes().len() as u64) {
-            Ok(old) => {
-                if old.is_some() != is_stored {
-                    return false;
-                }
-            }
-            Err(_) => return false,
+        if !is_put(map, *key, is_stored) {
+            return false;
         }
     }
     true
 }
 
-// Removes each key, and returns whether each was there or was not.
+// Whether a removal is done, where the key was there or was not.
+fn is_removed<Q: BorrowedBytes>(
+    map: &mut GenericPatriciaMap<Q::Owned, u64>,
+    key: Q,
+    is_stored: bool,
+) -> bool {
+    match map.remove(key) {
+        Ok(old) => old.is_some() == is_stored,
+        Err(_) => false,
+    }
+}
+
 fn are_removed<Q: BorrowedBytes>(
     map: &mut GenericPatriciaMap<Q::Owned, u64>,
     keys: &[Q],
     is_stored: bool,
-) -> Result<bool, AllocError> {
+) -> bool {
     for key in keys {
-        if map.remove(*key)?.is_some() != is_stored {
-            return Ok(false);
+        if !is_removed(map, *key, is_stored) {
+            return false;
         }
     }
-    Ok(true)
+    true
 }
 
 fn has_entry<K: Bytes>(map: &GenericPatriciaMap<K, u64>) -> bool {
@@ -130,23 +161,21 @@ fn remove_each<Q: BorrowedBytes>(
     rt: &impl Abort,
     map: &mut GenericPatriciaMap<Q::Owned, u64>,
     keys: &Keys<'_, Q>,
-) -> Result<(), AllocError> {
-    assert!(rt; are_removed(map, keys.absent, false)?);
-    assert!(rt; are_removed(map, keys.removed, true)?);
-    assert!(rt; are_removed(map, keys.removed, false)?);
-    Ok(())
+) {
+    assert!(rt; are_removed(map, keys.absent, false));
+    assert!(rt; are_removed(map, keys.removed, true));
+    assert!(rt; are_removed(map, keys.removed, false));
 }
 
 fn change_each<Q: BorrowedBytes>(
     rt: &impl Abort,
     map: &mut GenericPatriciaMap<Q::Owned, u64>,
     keys: &Keys<'_, Q>,
-) -> Result<(), AllocError> {
+) {
     assert!(rt; are_put(map, keys.stored, true));
-    remove_each(rt, map, keys)?;
+    remove_each(rt, map, keys);
     assert!(rt; are_put(map, keys.empty, false));
     assert!(rt; has_left(map, keys));
-    Ok(())
 }
 
 // Whether a split by a prefix under which there is nothing is made. One that begins a key is left
@@ -233,7 +262,8 @@ fn call_each<Q: BorrowedBytes>(
 ) -> Result<(), AllocError> {
     look_up_each(rt, map, keys);
     take_each(rt, alloc, map, keys)?;
-    change_each(rt, map, keys)
+    change_each(rt, map, keys);
+    Ok(())
 }
 
 // Makes a map, and then each call.

@@ -38,42 +38,62 @@ fn ask<Q: BorrowedBytes>(
     drop(set.iter_prefix(element));
 }
 
+/// Whether an insert is done, where the element was there or was not.
+pub(super) fn is_put<Q: BorrowedBytes>(
+    set: &mut GenericPatriciaSet<Q::Owned>,
+    element: Q,
+    is_new: bool,
+) -> bool {
+    match set.insert(element) {
+        Ok(found) => found == is_new,
+        Err(_) => false,
+    }
+}
+
+/// Whether a removal is done, where the element was there or was not.
+pub(super) fn is_removed<Q: BorrowedBytes>(
+    set: &mut GenericPatriciaSet<Q::Owned>,
+    element: Q,
+    is_there: bool,
+) -> bool {
+    match set.remove(element) {
+        Ok(found) => found == is_there,
+        Err(_) => false,
+    }
+}
+
+// Whether an element is inserted by a call that takes an iterator.
+fn is_extended<Q: BorrowedBytes>(set: &mut GenericPatriciaSet<Q::Owned>, element: Q) -> bool {
+    set.extend(iter::once(element)).is_ok()
+}
+
 // Whether there is nothing under a prefix to remove.
-fn splits_nothing<Q: BorrowedBytes>(
-    set: &mut GenericPatriciaSet<Q::Owned>,
-    prefix: Q,
-) -> Result<bool, AllocError> {
-    Ok(set.split_by_prefix(prefix)?.is_empty())
+fn splits_nothing<Q: BorrowedBytes>(set: &mut GenericPatriciaSet<Q::Owned>, prefix: Q) -> bool {
+    match set.split_by_prefix(prefix) {
+        Ok(part) => part.is_empty(),
+        Err(_) => false,
+    }
 }
 
-// Changes of one element that leave the set as it is.
-fn change_one<Q: BorrowedBytes>(
-    rt: &impl Abort,
-    set: &mut GenericPatriciaSet<Q::Owned>,
-    there: Q,
-    absent: Q,
-) -> Result<(), AllocError> {
-    assert!(rt; !set.insert(there)?);
-    assert!(rt; !set.remove(absent)?);
-    Ok(())
-}
-
-// The same, and changes by one call. The empty element is there.
+// Changes that leave the set as it is. The empty element is there.
 fn change<Q: BorrowedBytes>(
     rt: &impl Abort,
     set: &mut GenericPatriciaSet<Q::Owned>,
     there: Q,
     absent: Q,
-) -> Result<(), AllocError> {
-    change_one(rt, set, there, absent)?;
-    set.extend(iter::once(there))?;
-    assert!(rt; splits_nothing(set, absent)?);
-    Ok(())
+) {
+    assert!(rt; is_put(set, there, false));
+    assert!(rt; is_removed(set, absent, false));
+    assert!(rt; is_extended(set, there));
+    assert!(rt; splits_nothing(set, absent));
 }
 
 // Whether a copy of a set is empty.
-fn is_copy_empty<K: Bytes>(set: &GenericPatriciaSet<K>) -> Result<bool, AllocError> {
-    Ok(set.clone()?.is_empty())
+fn is_copy_empty<K: Bytes>(set: &GenericPatriciaSet<K>) -> bool {
+    match set.clone() {
+        Ok(copy) => copy.is_empty(),
+        Err(_) => false,
+    }
 }
 
 // Whether a walk over a set gives nothing.
@@ -82,22 +102,16 @@ fn gives_none<K: Bytes>(set: &GenericPatriciaSet<K>) -> bool {
 }
 
 // A copy of an empty set, and a walk over it.
-fn look_at_none<K: Bytes>(rt: &impl Abort, set: &GenericPatriciaSet<K>) -> Result<(), AllocError> {
+fn look_at_none<K: Bytes>(rt: &impl Abort, set: &GenericPatriciaSet<K>) {
     assert!(rt; set.is_empty());
-    assert!(rt; is_copy_empty(set)?);
+    assert!(rt; is_copy_empty(set));
     assert!(rt; gives_none(set));
-    Ok(())
 }
 
 // The empty element goes into an empty set and out of it.
-fn in_and_out<Q: BorrowedBytes>(
-    rt: &impl Abort,
-    set: &mut GenericPatriciaSet<Q::Owned>,
-    none: Q,
-) -> Result<(), AllocError> {
-    assert!(rt; set.insert(none)?);
-    assert!(rt; set.remove(none)?);
-    Ok(())
+fn in_and_out<Q: BorrowedBytes>(rt: &impl Abort, set: &mut GenericPatriciaSet<Q::Owned>, none: Q) {
+    assert!(rt; is_put(set, none, true));
+    assert!(rt; is_removed(set, none, true));
 }
 
 // A set of the empty element alone, and a walk over it that is not begun.
@@ -119,8 +133,9 @@ fn empty<Q: BorrowedBytes>(
     none: Q,
 ) -> Result<(), AllocError> {
     clear(rt, set.split_by_prefix(none)?);
-    look_at_none(rt, set)?;
-    in_and_out(rt, set, none)
+    look_at_none(rt, set);
+    in_and_out(rt, set, none);
+    Ok(())
 }
 
 // A walk that takes an empty set.
@@ -135,15 +150,14 @@ fn call_each<Q: BorrowedBytes>(
     there: &[Q],
     absent: &[Q],
     other: Q,
-) -> Result<(), AllocError> {
+) {
     for element in there {
         ask(rt, set, *element, true);
-        change(rt, set, *element, other)?;
+        change(rt, set, *element, other);
     }
     for element in absent {
         ask(rt, set, *element, false);
     }
-    Ok(())
 }
 
 const TEXTS: [&str; 4] = ["", "あい", "あいろ", "xxxxxxxxxxxxxxxxxxxxyyyyyyyyyyyyyyyyyyyy"];
@@ -160,7 +174,7 @@ fn texts_made(rt: HostRuntime) -> Result<(), AllocError> {
 #[test]
 fn texts_called(rt: HostRuntime) -> Result<(), AllocError> {
     let mut set = set_of(rt.alloc(), &TEXTS)?;
-    call_each(&rt, &mut set, &TEXTS, &ABSENT, "y")?;
+    call_each(&rt, &mut set, &TEXTS, &ABSENT, "y");
     empty(&rt, &mut set, "")?;
     walk_out(&rt, set);
     make_one(rt.alloc(), "")

@@ -1,7 +1,7 @@
 // Walks to the end, and calls of `next` past it, over labels of at most 30 bytes and of more.
 use super::helpers::map_of;
 use patricia_tree::map::{IntoIter, Iter, Keys, Values};
-use patricia_tree::{BorrowedBytes, Bytes};
+use patricia_tree::{BorrowedBytes, Bytes, GenericPatriciaMap};
 use std::alloc::{AllocError, Global};
 
 // A walk over a map.
@@ -43,16 +43,19 @@ fn gives_all<W: Walk>(mut walk: W, len: usize, past: bool) -> bool {
     gives_each && (!past || !walk.gives())
 }
 
+// Whether each walk over a map that stays does.
+fn gives_borrowed<K: Bytes>(map: &GenericPatriciaMap<K, u64>, past: bool) -> bool {
+    let len = map.len();
+    gives_all(map.iter(), len, past)
+        && gives_all(map.keys(), len, past)
+        && gives_all(map.values(), len, past)
+}
+
 // Whether each walk over a map of some keys does.
 fn gives_each<Q: BorrowedBytes>(alloc: Global, keys: &[Q], past: bool) -> Result<bool, AllocError> {
     let map = map_of(alloc, keys)?;
     let len = map.len();
-    Ok(
-        gives_all(map.iter(), len, past)
-            && gives_all(map.keys(), len, past)
-            && gives_all(map.values(), len, past)
-            && gives_all(map.into_iter(), len, past),
-    )
+    Ok(gives_borrowed(&map, past) && gives_all(map.into_iter(), len, past))
 }
 
 const BYTES: [&[u8]; 4] = [

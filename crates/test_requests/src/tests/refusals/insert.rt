@@ -1,5 +1,6 @@
 //! An insert that is refused, and one of a key that is there, which does not allocate. `.ci/run`
 //! counts the memory requests of `made`, and refuses the next one of `called`, which says so.
+use super::maps::is_put;
 use patricia_tree::{BorrowedBytes, GenericPatriciaMap};
 use std::alloc::{AllocError, Global};
 use std::process::Abort;
@@ -30,7 +31,7 @@ fn is_refused<Q: BorrowedBytes>(
     };
     assert!(rt; refused.value == 2);
     assert!(rt; map.len() == 1 && map.get(other).is_none());
-    assert!(rt; map.insert(key, 5).ok() == Some(Some(1)));
+    assert!(rt; is_put(map, key, 5, Some(1)));
     true
 }
 
@@ -50,8 +51,8 @@ fn len_of_one<Q: BorrowedBytes>(alloc: Global, key: Q) -> Result<usize, AllocErr
     Ok(map_of_one(alloc, key)?.len())
 }
 
-// More than 30 bytes: a shorter label stands in the node, and there is room for a few nodes from the
-// first insert on, so a shorter key would ask for nothing.
+// More than 30 bytes: a shorter label stands in the node, and there is room for a few nodes from
+// the first insert on, so a shorter key would ask for nothing.
 const BARS: &[u8] = b"bar bar bar bar bar bar bar bar bar";
 
 #[test]

@@ -50,8 +50,13 @@ pub(super) fn make<Q: BorrowedBytes>(
     make_once(alloc, rows)
 }
 
-// Whether an insert is done, where this value was.
-fn is_put<Q: BorrowedBytes>(map: &mut Map<Q::Owned>, key: Q, value: u64, old: Option<u64>) -> bool {
+/// Whether an insert is done, where this value was.
+pub(super) fn is_put<Q: BorrowedBytes>(
+    map: &mut Map<Q::Owned>,
+    key: Q,
+    value: u64,
+    old: Option<u64>,
+) -> bool {
     match map.insert(key, value) {
         Ok(found) => found == old,
         Err(_) => false,

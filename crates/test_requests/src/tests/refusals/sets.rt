@@ -1,6 +1,7 @@
 //! The script of a set.
 use super::reading::{Outcome, is_taken, read};
 use super::tally::Tally;
+use crate::tests::sets::{is_put, is_removed};
 use patricia_tree::{BorrowedBytes, Bytes, DecodeError, GenericPatriciaSet, WireError};
 use std::alloc::{AllocError, Global};
 use std::process::Abort;
@@ -59,27 +60,11 @@ fn make<Q: BorrowedBytes>(
     make_once(alloc, elements)
 }
 
-// Whether an insert is done, where the element was there or was not.
-fn is_put<Q: BorrowedBytes>(set: &mut Set<Q::Owned>, element: Q, is_new: bool) -> bool {
-    match set.insert(element) {
-        Ok(found) => found == is_new,
-        Err(_) => false,
-    }
-}
-
 // Inserts of the empty element and of one that is there. They do not allocate.
 fn replace<Q: BorrowedBytes>(rt: &impl Abort, set: &mut Set<Q::Owned>, script: &Script<'_, Q>) {
     assert!(rt; is_put(set, script.empty, true));
     assert!(rt; is_put(set, script.rust, false));
     assert!(rt; has(set, script.whole));
-}
-
-// Whether an element is removed.
-fn is_removed<Q: BorrowedBytes>(set: &mut Set<Q::Owned>, element: Q) -> bool {
-    match set.remove(element) {
-        Ok(was_there) => was_there,
-        Err(_) => false,
-    }
 }
 
 fn remove<Q: BorrowedBytes>(
@@ -89,12 +74,12 @@ fn remove<Q: BorrowedBytes>(
     before: &[Q],
     tally: &mut Tally,
 ) {
-    if is_removed(set, element) {
+    if is_removed(set, element, true) {
         return;
     }
     tally.add();
     assert!(rt; has(set, before));
-    assert!(rt; is_removed(set, element));
+    assert!(rt; is_removed(set, element, true));
 }
 
 fn insert<Q: BorrowedBytes>(

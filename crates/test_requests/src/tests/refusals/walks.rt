@@ -69,6 +69,22 @@ fn is_at_end<K: Bytes>(cursor: &mut IterMut<'_, K, u64>) -> bool {
     }
 }
 
+// The same, and once more on the same cursor where it is refused.
+fn step_on<K: Bytes>(
+    rt: &impl Abort,
+    cursor: &mut IterMut<'_, K, u64>,
+    key: &[u8],
+    due: u64,
+    tally: &mut Tally,
+) {
+    let mut came = step(cursor, key, due);
+    if came == Outcome::Refused {
+        tally.add();
+        came = step(cursor, key, due);
+    }
+    assert!(rt; came == Outcome::Right);
+}
+
 /// Adds ten to each value by a cursor. The rows are the entries in key order.
 pub(super) fn add_ten<Q: BorrowedBytes>(
     rt: &impl Abort,
@@ -78,12 +94,7 @@ pub(super) fn add_ten<Q: BorrowedBytes>(
 ) {
     let mut cursor = map.iter_mut();
     for (key, due) in rows {
-        let mut came = step(&mut cursor, key.as_bytes(), *due);
-        if came == Outcome::Refused {
-            tally.add();
-            came = step(&mut cursor, key.as_bytes(), *due);
-        }
-        assert!(rt; came == Outcome::Right);
+        step_on(rt, &mut cursor, key.as_bytes(), *due, tally);
     }
     assert!(rt; is_at_end(&mut cursor));
 }
