@@ -1,10 +1,8 @@
 -- Which rows are under a prefix and along a key, and which of them is the longest.
-use Rattle.std.proofs.Common.{◌≡◌, ℕ, ◌≤◌, ◌⊎◌, inl, inr, Bool, true, false, T, ◌&&◌, cond, List, [], ◌∷◌, length, Option, None, Some, refl, sym, ap, subst, ◌∙◌, arith}
+use Rattle.std.proofs.Common.{◌≡◌, ℕ, ◌≤◌, ◌⊎◌, inl, inr, Bool, true, false, T, cond, List, [], ◌∷◌, length, Option, None, Some, refl, sym, ap, subst, ◌∙◌, arith}
 use Rattle.std.specs.Prelude.{◌↔◌, filter}
 use Rattle.std.specs.List.{last_or}
-use Rattle.std.specs.declared.cmp.Ordering.{Ordering}
-use Rattle.std.specs.declared.cmp.Ordering.TheVariants.{Less, Equal, Greater}
-use Rattle.std.specs.Ordering.{is_lt}
+use Rattle.std.specs.declared.cmp.Ordering.TheVariants.{Less}
 use Rattle.std.specs.FinMap.{is_sorted}
 use Rattle.std.specs.FinMap.Entries.{below_all}
 use Rattle.std.proofs.lemmas.List.{length-append}
@@ -57,13 +55,6 @@ module _ {V : Type 0} where
   pub along_has : (k : List ℕ) (rows : List (List ℕ × V)) (r : List ℕ × V)
       → Has (along k rows) r ↔ (Has rows r × Begins r.0 k)
   along_has k rows r = (λ h. let found = has_filter _ rows r h in (found.0, begins_is r.0 k found.1), λ h. filter_has _ rows r h.0 (begins_from r.0 k h.1))
-
-  -- a key that is below all entries of a list comes before the key of each
-  below_is : (q : List ℕ) (es : List (List ℕ × V)) (e : List ℕ × V) → T (below_all key_cmp q es)
-      → Has es e → key_cmp q e.0 ≡ Less
-  below_is q [] e below h = absurd h
-  below_is q (x ∷ es) e below (inl same) = subst (λ y. key_cmp q y.0 ≡ Less) same (less_so _ (first_part _ _ below))
-  below_is q (x ∷ es) e below (inr h) = below_is q es e (second_part _ _ below) h
 
   -- the last of some rows that rise along a key
   record IsLast (k : List ℕ) (o : Option (List ℕ × V)) (es : List (List ℕ × V)) (r : List ℕ × V) : Type 0 where

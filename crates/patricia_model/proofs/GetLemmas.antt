@@ -9,7 +9,7 @@ use Rattle.patricia_keys.specs.Keys.{Begins, IsKeyKind, IsValid, IsCommon, Compa
 use Rattle.patricia_model.specs.Internal.LabelCmp.{SharesItem, EndsWithin, Passes}
 use Rattle.patricia_model.specs.Siblings.{Siblings, node, prefixed, own, entries, IsBefore, IsCanonical}
 use Rattle.patricia_keys.proofs.KeyLemmas.{key_cmp-irreflexive}
-use Rattle.patricia_model.proofs.RowLemmas.{AllKeys, AllKeys-append, AllKeys-prefixed, lacks_item, lacks_empty}
+use Rattle.patricia_model.proofs.RowLemmas.{AllKeys, AllKeys-append, AllKeys-prefixed, empty_lacks, lacks_item, lacks_empty}
 use Rattle.patricia_model.proofs.ListLemmas.{IsBelow, key_cmp-equal, find_absent, find-append_left, find-append_right, find-prefixed}
 use Rattle.patricia_model.proofs.OrderLemmas.{IsBefore-less, below_row}
 
@@ -105,11 +105,7 @@ module _ (item : List ℕ → Type 0) (kind : IsKeyKind item) {V : Type 0} where
   -- at the empty key stands the node's own value
   pub find_own : (v : Option V) (c : Siblings V) → IsCanonical item c
       → find key_cmp [] (own v ++ entries c) ≡ v
-  find_own None c ok = find_absent [] (entries c) (turn (entries c) (lacks_empty item kind None c ok))
-    where
-      turn : (es : List (List ℕ × V)) → AllKeys (λ k. k ≡ [] → ⊥) es → AllKeys (λ k. [] ≡ k → ⊥) es
-      turn [] h = tt
-      turn (e ∷ es) h = (λ same. h.0 (sym same), turn es h.1)
+  find_own None c ok = find_absent [] (entries c) (empty_lacks (entries c) (lacks_empty item kind None c ok))
   find_own (Some x) c ok = refl
 
   -- and at other keys the children decide

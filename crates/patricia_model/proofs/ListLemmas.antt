@@ -50,7 +50,7 @@ less_is : (r : Ordering) → r ≡ Less → T (is_lt r)
 less_is r e = subst (λ o. T (is_lt o)) (sym e) tt
 
 -- two tests that hold, hold together
-both : (a b : Bool) → T a → T b → T (a && b)
+pub both : (a b : Bool) → T a → T b → T (a && b)
 both true b x y = y
 both false b x y = x
 

@@ -1,5 +1,5 @@
 -- The entries of a row strictly rise.
-use Rattle.std.proofs.Common.{◌≡◌, ℕ, inl, inr, Bool, true, false, T, ◌&&◌, List, [], ◌∷◌, ◌++◌, Option, Some, None, refl, sym, ap, ◌∙◌}
+use Rattle.std.proofs.Common.{◌≡◌, ℕ, inl, inr, T, List, [], ◌∷◌, ◌++◌, Option, Some, None, refl, sym, ap, ◌∙◌}
 use Rattle.std.specs.declared.cmp.Ordering.TheVariants.{Less}
 use Rattle.std.specs.FinMap.{is_sorted}
 use Rattle.std.specs.FinMap.Entries.{below_all}
@@ -8,7 +8,7 @@ use Rattle.patricia_keys.specs.Keys.{IsKeyKind, key_cmp}
 use Rattle.patricia_model.specs.Siblings.{Siblings, end, node, prefixed, own, entries, IsBefore, IsBeforeSiblings, IsCanonical}
 use Rattle.patricia_keys.proofs.KeyLemmas.{key_cmp-irreflexive}
 use Rattle.patricia_model.proofs.RowLemmas.{AllKeys, AllKeys-append, AllKeys-prefixed, rises_on, lacks_empty}
-use Rattle.patricia_model.proofs.ListLemmas.{IsBelow, key_cmp-extends, key_cmp-front, below_all-from}
+use Rattle.patricia_model.proofs.ListLemmas.{IsBelow, key_cmp-extends, key_cmp-front, below_all-from, both}
 use Rattle.patricia_model.proofs.TestLemmas.{first_part, second_part}
 
 -- the empty key comes before each other key
@@ -16,35 +16,30 @@ empty_first : (q : List ℕ) → (q ≡ [] → ⊥) → key_cmp [] q ≡ Less
 empty_first [] h = absurd (h refl)
 empty_first (b ∷ q) h = refl
 
--- two tests that hold, hold together
-pair : (a b : Bool) → T a → T b → T (a && b)
-pair true b x y = y
-pair false b x y = x
-
 module _ {V : Type 0} where
   -- a key that is below the entries of two lists is below those of both together
   below_append : (q : List ℕ) (xs ys : List (List ℕ × V)) → T (below_all key_cmp q xs)
       → IsBelow q ys → T (below_all key_cmp q (xs ++ ys))
   below_append q [] ys a b = below_all-from q ys b
-  below_append q (x ∷ xs) ys a b = pair _ _ (first_part _ _ a) (below_append q xs ys (second_part _ _ a) b)
+  below_append q (x ∷ xs) ys a b = both _ _ (first_part _ _ a) (below_append q xs ys (second_part _ _ a) b)
 
   -- two sorted lists, each key of the first before the second, are sorted together
   pub sorted-append : (xs ys : List (List ℕ × V)) → T (is_sorted key_cmp xs)
       → T (is_sorted key_cmp ys) → AllKeys (λ q. IsBelow q ys) xs → T (is_sorted key_cmp (xs ++ ys))
   sorted-append [] ys a b c = b
-  sorted-append (x ∷ xs) ys a b c = pair _ _ (below_append x.0 xs ys (first_part _ _ a) c.0) (sorted-append xs ys (second_part _ _ a) b c.1)
+  sorted-append (x ∷ xs) ys a b c = both _ _ (below_append x.0 xs ys (first_part _ _ a) c.0) (sorted-append xs ys (second_part _ _ a) b c.1)
 
   -- the same bytes before a key and before the keys above it leave it below them
   below-prefixed : (p q : List ℕ) (es : List (List ℕ × V)) → T (below_all key_cmp q es)
       → T (below_all key_cmp (p ++ q) (prefixed p es))
   below-prefixed p q [] a = tt
-  below-prefixed p q (e ∷ es) a = pair _ _ (rw key_cmp-front (first_part _ _ a)) (below-prefixed p q es (second_part _ _ a))
+  below-prefixed p q (e ∷ es) a = both _ _ (rw key_cmp-front (first_part _ _ a)) (below-prefixed p q es (second_part _ _ a))
 
   -- a common prefix keeps rows sorted
   pub sorted-prefixed : (p : List ℕ) (es : List (List ℕ × V)) → T (is_sorted key_cmp es)
       → T (is_sorted key_cmp (prefixed p es))
   sorted-prefixed p [] a = tt
-  sorted-prefixed p (e ∷ es) a = pair _ _ (below-prefixed p e.0 es (first_part _ _ a)) (sorted-prefixed p es (second_part _ _ a))
+  sorted-prefixed p (e ∷ es) a = both _ _ (below-prefixed p e.0 es (first_part _ _ a)) (sorted-prefixed p es (second_part _ _ a))
 
 module _ (item : List ℕ → Type 0) (kind : IsKeyKind item) where
   -- first items that differ decide

@@ -7,7 +7,7 @@ use Rattle.patricia_model.specs.Points.{Has}
 use Rattle.patricia_model.specs.Prefixes.{begins, under, outside}
 use Rattle.patricia_model.specs.Internal.LabelCmp.{SharesItem, Passes}
 use Rattle.patricia_model.specs.Siblings.{Siblings, node, prefixed, own, entries, IsBefore, IsCanonical}
-use Rattle.patricia_model.proofs.RowLemmas.{AllKeys, AllKeys-prefixed}
+use Rattle.patricia_model.proofs.RowLemmas.{AllKeys, AllKeys-prefixed, all_begin}
 use Rattle.patricia_keys.proofs.KeyLemmas.{Begins-trans}
 use Rattle.patricia_model.proofs.PrefixLemmas.{begins-front, begins_from, filter-prefixed, under_own, first_none, past_none}
 use Rattle.patricia_model.proofs.FilterLemmas.{has_filter, filter_has}
@@ -40,11 +40,7 @@ module _ {V : Type 0} where
 
   -- nothing is outside the empty prefix
   pub outside_empty : (es : List (List ℕ × V)) → outside [] es ≡ []
-  outside_empty es = outside_none [] es (all es)
-    where
-      all : (es : List (List ℕ × V)) → AllKeys (Begins []) es
-      all [] = tt
-      all (e ∷ es) = ((e.0, refl), all es)
+  outside_empty es = outside_none [] es (all_begin es)
 
   -- what holds of each key holds of those outside
   pub AllKeys-outside : (P : List ℕ → Type 0) (p : List ℕ) (es : List (List ℕ × V)) → AllKeys P es

@@ -13,7 +13,7 @@ use Rattle.patricia_model.specs.Prefixes.{begins, under, along, longest}
 use Rattle.patricia_model.specs.Internal.LabelCmp.{SharesItem, Passes}
 use Rattle.patricia_model.specs.Siblings.{Siblings, node, prefixed, own, entries, IsBefore, IsBeforeSiblings, IsCanonical}
 use Rattle.patricia_keys.proofs.KeyLemmas.{Begins-trans, begins_either, key_cmp-irreflexive}
-use Rattle.patricia_model.proofs.RowLemmas.{AllKeys, AllKeys-append, AllKeys-prefixed, lacks_item}
+use Rattle.patricia_model.proofs.RowLemmas.{AllKeys, AllKeys-append, AllKeys-prefixed, all_begin, lacks_item}
 use Rattle.patricia_model.proofs.ListLemmas.{IsBelow, key_cmp-extends, key_cmp-front}
 use Rattle.patricia_model.proofs.OrderLemmas.{IsBefore-less, below_row}
 
@@ -140,11 +140,7 @@ module _ {V : Type 0} where
 
   -- all rows are under the empty prefix
   pub under_empty : (es : List (List ℕ × V)) → under [] es ≡ es
-  under_empty es = under_all [] es (AllKeys-any es)
-    where
-      AllKeys-any : (es : List (List ℕ × V)) → AllKeys (Begins []) es
-      AllKeys-any [] = tt
-      AllKeys-any (e ∷ es) = ((e.0, refl), AllKeys-any es)
+  under_empty es = under_all [] es (all_begin es)
 
   -- no row is along a key that comes before each of them
   along_above : (q : List ℕ) (es : List (List ℕ × V)) → IsBelow q es → along q es ≡ []

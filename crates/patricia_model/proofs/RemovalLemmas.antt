@@ -10,7 +10,7 @@ use Rattle.patricia_model.specs.Internal.LabelCmp.{EndsWithin, Passes}
 use Rattle.patricia_model.specs.Siblings.{Siblings, end, node, prefixed, own, entries, IsBefore, IsBeforeSiblings, EarnsWithin, IsCanonical}
 use Rattle.patricia_model.specs.Internal.Removals.{others, width, without_first, LeavesAlone}
 use Rattle.patricia_keys.proofs.KeyLemmas.{first_of, IsValid-append}
-use Rattle.patricia_model.proofs.RowLemmas.{AllKeys, prefixed-prefixed, lacks_empty}
+use Rattle.patricia_model.proofs.RowLemmas.{AllKeys, prefixed-prefixed, empty_lacks, lacks_empty}
 use Rattle.patricia_model.proofs.ListLemmas.{key_cmp-equal, key_cmp-front}
 use Rattle.patricia_model.proofs.GetLemmas.{lacks_past, lacks_before, lacks_within, later_lacks}
 use Rattle.patricia_model.proofs.InsertLemmas.{IsBefore-longer_left, earns_elsewhere}
@@ -60,12 +60,8 @@ module _ (item : List ℕ → Type 0) (kind : IsKeyKind item) {V : Type 0} where
   -- without the empty key a node has the entries of its children left
   pub others_own : (v : Option V) (c : Siblings V) → IsCanonical item c
       → others [] (own v ++ entries c) ≡ entries c
-  others_own v c ok = by v (others_absent [] (entries c) (turn (entries c) (lacks_empty item kind None c ok)))
+  others_own v c ok = by v (others_absent [] (entries c) (empty_lacks (entries c) (lacks_empty item kind None c ok)))
     where
-      turn : (es : List (List ℕ × V)) → AllKeys (λ k. k ≡ [] → ⊥) es → AllKeys (λ k. [] ≡ k → ⊥) es
-      turn [] h = tt
-      turn (e ∷ es) h = (λ same. h.0 (sym same), turn es h.1)
-
       by : (v : Option V) → others [] (entries c) ≡ entries c
           → others [] (own v ++ entries c) ≡ entries c
       by None h = h

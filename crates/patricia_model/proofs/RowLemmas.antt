@@ -36,6 +36,17 @@ module _ {V : Type 0} where
   AllKeys-prefixed P p all [] = tt
   AllKeys-prefixed P p all (e ∷ es) = (all e.0, AllKeys-prefixed P p all es)
 
+  -- where no key is empty, the empty key is none of them
+  pub empty_lacks : (es : List (List ℕ × V)) → AllKeys (λ k. k ≡ [] → ⊥) es
+      → AllKeys (λ k. [] ≡ k → ⊥) es
+  empty_lacks [] h = tt
+  empty_lacks (e ∷ es) h = (λ same. h.0 (sym same), empty_lacks es h.1)
+
+  -- the empty prefix begins each key
+  pub all_begin : (es : List (List ℕ × V)) → AllKeys (Begins []) es
+  all_begin [] = tt
+  all_begin (e ∷ es) = ((e.0, refl), all_begin es)
+
   -- bytes before bytes before keys are both before the keys
   pub prefixed-prefixed : (p q : List ℕ) (es : List (List ℕ × V))
       → prefixed p (prefixed q es) ≡ prefixed (p ++ q) es

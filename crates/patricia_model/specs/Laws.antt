@@ -83,7 +83,8 @@ module _ (item : List ℕ → Type 0) where
   -- rows that keep the invariant under one limit and have the same entries are the same row
   abbrev pub HasOneShape : Type 0 → Type 0
   HasOneShape V =
-      (limit : Option ℕ) (r s : Siblings V) → IsCanonicalWithin item limit r → IsCanonicalWithin item limit s
+      (limit : Option ℕ) (r s : Siblings V) → IsCanonicalWithin item limit r
+      → IsCanonicalWithin item limit s
       → entries r ≡ entries s → r ≡ s
 
   -- the nodes of a row stand at the points of its keys, one node at each

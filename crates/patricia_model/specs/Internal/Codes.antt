@@ -9,5 +9,7 @@ use Rattle.patricia_model.specs.Cursors.{CursorView}
 abbrev pub cursor_view_code : {V : Type 0} → Coded V → Coded (CursorView V)
 cursor_view_code {V} code =
     code_by (map.FinMap key_cmp V × (List ℕ × Option (List ℕ)))
-    (coded× (map.code {R = key_cmp} (coded_list coded_ℕ) code) (coded× (coded_list coded_ℕ) (coded_option (coded_list coded_ℕ))))
-    (λ s. (s.map, (s.prefix, s.last))) (λ p. record { map = p.0; prefix = p.1.0; last = p.1.1 }) (λ _. refl)
+    (coded× (map.code {R = key_cmp} (coded_list coded_ℕ) code)
+    (coded× (coded_list coded_ℕ) (coded_option (coded_list coded_ℕ))))
+    (λ s. (s.map, (s.prefix, s.last)))
+    (λ p. record { map = p.0; prefix = p.1.0; last = p.1.1 }) (λ _. refl)

@@ -10,13 +10,15 @@ first_byte end = 256
 first_byte (node label value child sibling) = get_or label 0 256
 
 -- these are the points that a look-up of k visits
-pub record AreVisits (item : List ℕ → Type 0) (S : List (List ℕ)) (k : List ℕ) (visited : List (List ℕ)) : Type 0 where
+pub record AreVisits (item : List ℕ → Type 0) (S : List (List ℕ)) (k : List ℕ)
+    (visited : List (List ℕ)) : Type 0 where
   pub once : AreApart visited
   pub exactly : (p : List ℕ) → Has visited p ↔ IsVisited item S k p
 
 -- one step for each point visited;
 -- where items are bytes, at most one for each byte that can come first in what is left of the key
-pub record IsCounted {V : Type 0} (item : List ℕ → Type 0) (row : Siblings V) (k : List ℕ) (before after : ℕ) : Type 0 where
+pub record IsCounted {V : Type 0} (item : List ℕ → Type 0) (row : Siblings V) (k : List ℕ)
+    (before after : ℕ) : Type 0 where
   pub visited : List (List ℕ)
   pub visits : AreVisits item (keys_of (entries row)) k visited
   pub is : after ≡ before + length visited
