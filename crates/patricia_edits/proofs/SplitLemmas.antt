@@ -10,6 +10,7 @@ use Rattle.patricia_model.specs.Siblings.{Siblings, end, node, prefixed, own, en
 use Rattle.patricia_model.proofs.InsertLemmas.{earns_elsewhere}
 use Rattle.patricia_model.proofs.LeavingLemmas.{outside_leave}
 use Rattle.patricia_model.proofs.OutsideLemmas.{outside_all, outside_first}
+use Rattle.patricia_model.proofs.PointLemmas.{nil_second}
 use Rattle.patricia_model.proofs.RowLemmas.{prefixed-prefixed}
 use Rattle.patricia_model.proofs.UniqueLemmas.{has_entry}
 use Rattle.patricia_nodes.specs.declared.arena.Node.{Node}
@@ -34,11 +35,6 @@ use Rattle.patricia_edits.proofs.MeasureLemmas.{length-prefixed}
 drop-front : (xs ys : List ℕ) → drop (length xs) (xs ++ ys) ≡ ys
 drop-front [] ys = refl
 drop-front (x ∷ xs) ys = drop-front xs ys
-
--- nothing behind some bytes is nothing
-nil_second : (xs ys : List ℕ) → xs ++ ys ≡ [] → ys ≡ []
-nil_second [] ys e = e
-nil_second (x ∷ xs) ys e = absurd (cc)
 
 -- the node whose label what is left of the prefix begins
 record Topmost (item : List ℕ → Type 0) {V : Type 0} (rest : List ℕ) (id : ℕ) (focus : Plan V) : Type 0 where

@@ -98,7 +98,8 @@ fn copy_below<V: Clone>(
     requires { (w : Plan V) × IsLaid from.now to.old.items w × RowKept V.is_clone (row w)
         × (size w ≤ vec_capacity to.old) }
     ensures laid { OnOk result ((w : Plan V) → IsLaid from.now to.old.items w
-        → (q : Plan V) × IsSound to.new.items (head (numbered_siblings 0 w)) None q [] × (row q ≡ row w)) }
+        → (q : Plan V) × IsSound to.new.items (head (numbered_siblings 0 w)) None q []
+        × (row q ≡ row w)) }
     ensures nonempty { OnErr result (to.old.items ≢ []) }
 {
     let mut i = 0;

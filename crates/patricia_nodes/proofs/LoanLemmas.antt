@@ -21,7 +21,7 @@ use Rattle.patricia_nodes.proofs.ValueLemmas.{puts_here}
 use Rattle.patricia_nodes.specs.Internal.Loans.{value_in, value_of, with_value, HasValueNode}
 
 -- an option that is found to have a value has one
-some_of : {A : Type 0} (o : Option A) → is_some o ≡ true → (x : A) × (o ≡ Some x)
+pub some_of : {A : Type 0} (o : Option A) → is_some o ≡ true → (x : A) × (o ≡ Some x)
 some_of None e = absurd (cc)
 some_of (Some x) e = (x, refl)
 

@@ -6,7 +6,7 @@ use Rattle.patricia_nodes.specs.declared.arena.NodeArena.{NodeArena}
 use Rattle.patricia_nodes.specs.declared.arena.seek.LinkRef.{LinkRef}
 use Rattle.patricia_nodes.specs.declared.arena.seek.Match.{Match}
 use Rattle.patricia_keys.specs.Keys.{key_cmp}
-use Rattle.patricia_model.specs.Siblings.{node, entries, IsCanonical}
+use Rattle.patricia_model.specs.Siblings.{entries, IsCanonical}
 use Rattle.patricia_nodes.specs.Internal.Plans.{Plan, Cell, linked, row, Holds, plan_at}
 use Rattle.patricia_nodes.specs.Internal.Places.{fill, node_of, Matches}
 use Rattle.patricia_nodes.specs.Internal.Writes.{Puts}

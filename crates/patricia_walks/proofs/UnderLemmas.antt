@@ -174,13 +174,6 @@ module _ (item : List ℕ → Type 0) (kind : IsKeyKind item) {Q V : Type 0} (ke
   left_at None walk rows some none over = over ∙ sym none
   left_at (Some s) walk rows some none over = some.1
 
-  -- a walk that has yielded nothing is one under the key
-  pub under_at : (start : Option (Start Q V)) (walk rows : List (List ℕ × V))
-      → IfSome start (λ s. IsStartUnder item key_of s × (rows_from key_of s ≡ rows)) → walk ≡ []
-      → IsUnderWalk item key_of start walk
-  under_at None walk rows some over = tt
-  under_at (Some s) walk rows some over = (some.0, over)
-
   -- before a walk has begun, rows are left, and once it is refused, none
   pub not_begun : (start : Option (Start Q V)) (walk : List (List ℕ × V)) (s : Start Q V)
       → start ≡ Some s → IsUnderWalk item key_of start walk

@@ -32,7 +32,8 @@ impl<'a, V> Descent<'a, V> {
         requires whole { IsWellFormed arena.now }
         requires row { IsCanonical K.item (siblings_of arena.now) }
         ensures descent { IsDescent K.item key.now result }
-        ensures left { left key.now result ≡ along key.now (own (option_copied pending.entry) ++ entries_of arena.now) }
+        ensures left { left key.now result
+            ≡ along key.now (own (option_copied pending.entry) ++ entries_of arena.now) }
     {
         Descent {
             arena,
@@ -68,7 +69,8 @@ impl<'a, V> Descent<'a, V> {
     fn seek<K: Bytes>(&mut self, key: &[u8]) -> Option<&'a V>
         requires { IsDescent K.item key.now self.old }
         ensures descent { IsDescent K.item key.now self.new }
-        ensures taken { TakesFirst (λ v. (take self.new.len key.now, v.now)) (left key.now self.old) result (left key.now self.new) }
+        ensures taken { TakesFirst (λ v. (take self.new.len key.now, v.now))
+            (left key.now self.old) result (left key.now self.new) }
     {
         loop {
             if let Some(value) = self.pending.take() {
@@ -106,7 +108,8 @@ impl<'a, Q: BorrowedBytes, V> Along<'a, Q, V> {
     pub fn new(pending: Option<&'a V>, arena: &'a NodeArena<V>, key: Q) -> Self
         requires whole { IsWellFormed arena.now }
         requires row { IsCanonical Q.Owned.item (siblings_of arena.now) }
-        ensures { result ≡ along (Q.key key) (own (option_copied pending.entry) ++ entries_of arena.now) }
+        ensures { result
+            ≡ along (Q.key key) (own (option_copied pending.entry) ++ entries_of arena.now) }
     {
         Along {
             key,
@@ -155,7 +158,8 @@ impl<'a, K: Bytes, V> AlongOwned<'a, K, V> {
     pub fn new(pending: Option<&'a V>, arena: &'a NodeArena<V>, key: K) -> Self
         requires whole { IsWellFormed arena.now }
         requires row { IsCanonical K.item (siblings_of arena.now) }
-        ensures { result ≡ values_of (along (K.key key) (own (option_copied pending.entry) ++ entries_of arena.now)) }
+        ensures { result ≡ values_of
+            (along (K.key key) (own (option_copied pending.entry) ++ entries_of arena.now)) }
     {
         let place = Descent::new::<K>(pending, arena, key.as_bytes());
         AlongOwned { key, place }

@@ -43,7 +43,11 @@ impl<K: Bytes, V: Drop> Cursor<K, V> {
     pub fn new(parts: TreeParts<V>) -> Self
         requires whole { IsWellFormed parts.arena }
         requires tree { IsTree K.item (siblings_of parts.arena) parts.count }
-        ensures { result ≡ record { map = map_of parts.value (siblings_of parts.arena); prefix = []; last = None } }
+        ensures { result ≡ record {
+          map = map_of parts.value (siblings_of parts.arena);
+          prefix = [];
+          last = None;
+        } }
     {
         Cursor {
             alloc: parts.alloc,
@@ -145,7 +149,11 @@ impl<Q: BorrowedBytes, V: Drop> PrefixCursor<Q, V> {
     pub fn new(parts: TreeParts<V>, prefix: Q) -> Self
         requires whole { IsWellFormed parts.arena }
         requires tree { IsTree Q.Owned.item (siblings_of parts.arena) parts.count }
-        ensures { result ≡ record { map = map_of parts.value (siblings_of parts.arena); prefix = Q.key prefix; last = None } }
+        ensures { result ≡ record {
+          map = map_of parts.value (siblings_of parts.arena);
+          prefix = Q.key prefix;
+          last = None;
+        } }
     {
         let alloc = parts.alloc;
         if prefix.is_empty() {
@@ -187,7 +195,8 @@ impl<Q: BorrowedBytes, V: Drop> PrefixCursor<Q, V> {
 
     /// Lends the value that it advanced to last, or returns `None` where it has not advanced yet.
     pub fn value(&mut self) -> Option<&mut V>
-        ensures* writes { sem 𝓛 (lends_last_under Q.row V.row Q.Owned.row Q.BorrowedBytes Q.Owned.Bytes self.entry result) }
+        ensures* writes { sem 𝓛 (lends_last_under Q.row V.row Q.Owned.row Q.BorrowedBytes
+            Q.Owned.Bytes self.entry result) }
         ensures value { option_copied_mut result ≡ last_value self.old }
     {
         self.state.value::<Q::Owned>()

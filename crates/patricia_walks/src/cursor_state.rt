@@ -294,8 +294,8 @@ impl<V> CursorState<V> {
         requires start { IsAtStart K.item (numbered_slots 0 self.old.arena.nodes.items) front.now top }
         requires stack { self.old.stack.items ≡ [] }
         ensures position { OnOk result (IsPosition K.item (seen self.new)) }
-        ensures left { OnOk result (left_of self.new
-            ≡ rows_below front.now (row_at (numbered_slots 0 self.old.arena.nodes.items) (Some top))) }
+        ensures left { OnOk result (left_of self.new ≡ rows_below front.now
+            (row_at (numbered_slots 0 self.old.arena.nodes.items) (Some top))) }
         ensures unchanged { OnErr result (self.new ≡ self.old) }
         ensures tree { IsSameTree self.old self.new }
         ensures last { self.new.last ≡ self.old.last }
@@ -323,7 +323,8 @@ impl<V> CursorState<V> {
 
     // The node that holds the value that was lent last.
     fn node(&self) -> Option<NodeId>
-        ensures { MatchOption result ((id : ℕ) → self.now.last ≢ Some (OfNode id)) (λ id. self.now.last ≡ Some (OfNode id)) }
+        ensures { MatchOption result ((id : ℕ) → self.now.last ≢ Some (OfNode id))
+            (λ id. self.now.last ≡ Some (OfNode id)) }
     {
         match &self.last {
             Some(ValueSlot::OfNode(id)) => Some(*id),

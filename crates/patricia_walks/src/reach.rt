@@ -12,7 +12,8 @@ use patricia_nodes::arena::seek::Match;
 pub fn reach<Q: BorrowedBytes, V>(arena: &NodeArena<V>, key: Q) -> usize
     requires whole { IsWellFormed arena.now }
     requires row { IsCanonical Q.Owned.item (siblings_of arena.now) }
-    ensures { (v : Option V) → IsReach Q.Owned.item (keys_of (own v ++ entries_of arena.now)) (Q.key key) result }
+    ensures { (v : Option V)
+        → IsReach Q.Owned.item (keys_of (own v ++ entries_of arena.now)) (Q.key key) result }
 {
     if key.is_empty() {
         return 0;

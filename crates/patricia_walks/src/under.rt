@@ -31,7 +31,8 @@ fn find_start<'a, Q: BorrowedBytes, V>(
     requires whole { IsWellFormed arena.now }
     requires row { IsCanonical Q.Owned.item (siblings_of arena.now) }
     requires nonempty { Q.key prefix ≢ [] }
-    ensures some { IfSome result (λ s. IsStartUnder Q.Owned.item Q.key s × (rows_from Q.key s ≡ under (Q.key prefix) (entries_of arena.now))) }
+    ensures some { IfSome result (λ s. IsStartUnder Q.Owned.item Q.key s
+        × (rows_from Q.key s ≡ under (Q.key prefix) (entries_of arena.now))) }
     ensures none { IfNone result (under (Q.key prefix) (entries_of arena.now) ≡ []) }
 {
     let place = arena.seek(prefix);
@@ -71,7 +72,8 @@ impl<'a, Q: BorrowedBytes, V> Under<'a, Q, V> {
     pub fn new(alloc: Global, pending: Option<&'a V>, arena: &'a NodeArena<V>, prefix: Q) -> Self
         requires whole { IsWellFormed arena.now }
         requires row { IsCanonical Q.Owned.item (siblings_of arena.now) }
-        ensures { result ≡ under (Q.key prefix) (own (option_copied pending.entry) ++ entries_of arena.now) }
+        ensures { result
+            ≡ under (Q.key prefix) (own (option_copied pending.entry) ++ entries_of arena.now) }
     {
         if prefix.is_empty() {
             return Under {

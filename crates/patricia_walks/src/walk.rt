@@ -76,8 +76,8 @@ impl<'a, V> Traversal<'a, V> {
     fn seek<K: Bytes>(&mut self) -> Result<Option<&'a V>, AllocError>
         requires { IsPosition K.item (lent self.old) }
         ensures position { OnOk result (IsPosition K.item (lent self.new)) }
-        ensures ok { IfOk result (λ found.
-            TakesEntry (state_of (lent self.old)) (option_copied found) (state_of (lent self.new))) }
+        ensures ok { IfOk result (λ found. TakesEntry (state_of (lent self.old))
+            (option_copied found) (state_of (lent self.new))) }
         ensures err { OnErr result (left (state_of (lent self.old)) ≢ []) }
     {
         loop {
@@ -162,7 +162,8 @@ impl<'a, K: Bytes, V> Walk<'a, K, V> {
         top: NodeId,
     ) -> Result<Self, AllocError>
         requires { IsTop K.item arena.now front.now top }
-        ensures { IfOk result (λ walk. walk ≡ rows_below front.now (row_at arena.now.nodes.items (Some top))) }
+        ensures { IfOk result (λ walk.
+            walk ≡ rows_below front.now (row_at arena.now.nodes.items (Some top))) }
     {
         let node = &arena.nodes[top.index()];
         let label = node.label.as_slice();

@@ -14,4 +14,5 @@ module _ {V : Type 0} (is_clone : V → V → Type 0) where
   -- and so in a row
   abbrev pub RowKept : Siblings V → Type 0
   RowKept end = Unit {0}
-  RowKept (node label value child sibling) = IfSome value (CloneIsSame is_clone) × RowKept child × RowKept sibling
+  RowKept (node label value child sibling) =
+      IfSome value (CloneIsSame is_clone) × RowKept child × RowKept sibling

@@ -23,15 +23,20 @@ module _ {V : Type 0} where
   HasValue s id value = (n : Node V) → slice_get s.nodes.items id ≡ Some n → value ≡ n.value
 
 -- the key is gone: the entries are the others
-pub record Removes (item : List ℕ → Type 0) {V : Type 0} (old new : NodeArena V) (key : List ℕ) : Type 0 where
+pub record Removes (item : List ℕ → Type 0) {V : Type 0} (old new : NodeArena V) (key : List ℕ)
+    : Type 0 where
   pub whole : IsWellFormed new
   pub canonical : IsCanonical item (siblings_of new)
   pub left_is : entries_of new ≡ others key (entries_of old)
 
 -- so it is at each key whose place this is
-abbrev pub RemovesAt : (List ℕ → Type 0) → {V Q : Type 0} → (Q → List ℕ) → NodeArena V → NodeArena V → SeekResult Q → Type 0
-RemovesAt item key_of old new place = (key : List ℕ) → IsSeekResult item key_of old key place → Removes item old new key
+abbrev pub RemovesAt : (List ℕ → Type 0) → {V Q : Type 0} → (Q → List ℕ) → NodeArena V → NodeArena V
+    → SeekResult Q → Type 0
+RemovesAt item key_of old new place =
+    (key : List ℕ) → IsSeekResult item key_of old key place → Removes item old new key
 
 -- without such a key labels are joined
-abbrev pub JoinsAt : (List ℕ → Type 0) → {V Q : Type 0} → (Q → List ℕ) → NodeArena V → SeekResult Q → Type 0
-JoinsAt item key_of s place = (key : List ℕ) → IsSeekResult item key_of s key place → Joins item (keys_of (entries_of s)) key
+abbrev pub JoinsAt : (List ℕ → Type 0) → {V Q : Type 0} → (Q → List ℕ) → NodeArena V → SeekResult Q
+    → Type 0
+JoinsAt item key_of s place =
+    (key : List ℕ) → IsSeekResult item key_of s key place → Joins item (keys_of (entries_of s)) key

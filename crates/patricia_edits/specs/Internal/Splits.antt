@@ -17,34 +17,42 @@ module _ {V : Type 0} where
   -- the number is that of a node, and this is what is below it
   abbrev pub HasSplitNode : NodeArena V → ℕ → Type 0
   HasSplitNode s id =
-      (frames : List (Frame V)) × (label : List ℕ) × (value : Option V) × (child : Plan V) × (sibling : Plan V)
+      (frames : List (Frame V)) × (label : List ℕ) × (value : Option V) × (child : Plan V)
+      × (sibling : Plan V)
       × Holds s (fill frames (Cell id label value child sibling))
 
   -- it stands at the spot, and there is so much room
   abbrev pub HasTreeAt : NodeArena V → LinkRef → ℕ → ℕ → Type 0
   HasTreeAt s link_ref id capacity =
-      (frames : List (Frame V)) × (label : List ℕ) × (value : Option V) × (child : Plan V) × (sibling : Plan V)
-      × (link_ref ≡ link_ref_of frames) × Holds s (fill frames (Cell id label value child sibling)) × (suc (size child) ≤ capacity)
+      (frames : List (Frame V)) × (label : List ℕ) × (value : Option V) × (child : Plan V)
+      × (sibling : Plan V)
+      × (link_ref ≡ link_ref_of frames) × Holds s (fill frames (Cell id label value child sibling))
+      × (suc (size child) ≤ capacity)
 
   -- so many nodes are that node and those below it, and so many of them have a value
   abbrev pub CountsTree : NodeArena V → ℕ → ℕ → ℕ → Type 0
   CountsTree s id nodes count =
-      (frames : List (Frame V)) (label : List ℕ) (value : Option V) (child sibling : Plan V) → Holds s (fill frames (Cell id label value child sibling))
+      (frames : List (Frame V)) (label : List ℕ) (value : Option V) (child sibling : Plan V)
+      → Holds s (fill frames (Cell id label value child sibling))
       → (suc (size child) ≤ nodes) × (count ≡ length (own value ++ entries (row child)))
 
   -- that node and those below it are gone, and stand in the other nodes under this label
   abbrev pub MovesOut : NodeArena V → NodeArena V → LinkRef → ℕ → List ℕ → NodeArena V → Type 0
   MovesOut old new link_ref id top moved =
-      (frames : List (Frame V)) (label : List ℕ) (value : Option V) (child sibling : Plan V) → link_ref ≡ link_ref_of frames
+      (frames : List (Frame V)) (label : List ℕ) (value : Option V) (child sibling : Plan V)
+      → link_ref ≡ link_ref_of frames
       → Holds old (fill frames (Cell id label value child sibling))
-      → Holds new (fill frames sibling) × ((plan : Plan V) × Holds moved plan × (row plan ≡ node top value (row child) end))
+      → Holds new (fill frames sibling)
+      × ((plan : Plan V) × Holds moved plan × (row plan ≡ node top value (row child) end))
 
   -- the label is the prefix, and what the node's label has past so many bytes
   abbrev pub IsTopLabel : NodeArena V → ℕ → List ℕ → ℕ → List ℕ → Type 0
-  IsTopLabel s id prefix passed top = (n : Node V) → slice_get s.nodes.items id ≡ Some n → top ≡ prefix ++ drop passed n.label
+  IsTopLabel s id prefix passed top =
+      (n : Node V) → slice_get s.nodes.items id ≡ Some n → top ≡ prefix ++ drop passed n.label
 
 -- what is under the prefix was removed, and the rest is left
-pub record SplitsOff (item : List ℕ → Type 0) {V : Type 0} (old new : NodeArena V) (prefix : List ℕ) (taken : Taken V) : Type 0 where
+pub record SplitsOff (item : List ℕ → Type 0) {V : Type 0} (old new : NodeArena V) (prefix : List ℕ)
+    (taken : Taken V) : Type 0 where
   pub whole : IsWellFormed new
   pub canonical : IsCanonical item (siblings_of new)
   pub left_is : entries_of new ≡ outside prefix (entries_of old)

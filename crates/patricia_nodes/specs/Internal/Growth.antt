@@ -14,19 +14,22 @@ module _ {V : Type 0} where
   -- the top row with numbers from n on
   abbrev pub numbered_siblings : ℕ → Plan V → Plan V
   numbered_siblings n Nil = Nil
-  numbered_siblings n (Cell id label value child sibling) = Cell n label value child (numbered_siblings (suc n) sibling)
+  numbered_siblings n (Cell id label value child sibling) =
+      Cell n label value child (numbered_siblings (suc n) sibling)
 
   -- the nodes of the top row with numbers from n on, which keep the old numbers of their children
   abbrev pub laid : ℕ → Plan V → List (Node V)
   laid n Nil = []
   laid n (Cell id label value child sibling) =
-      linked label value (head child) (head (numbered_siblings (suc n) sibling)) ∷ laid (suc n) sibling
+      linked label value (head child) (head (numbered_siblings (suc n) sibling))
+      ∷ laid (suc n) sibling
 
   -- at each number of the top row is its node
   abbrev pub RowStands : List (Node V) → Plan V → Type 0
   RowStands nodes Nil = Unit {0}
   RowStands nodes (Cell id label value child sibling) =
-      (slice_get nodes id ≡ Some (linked label value (head child) (head sibling))) × RowStands nodes sibling
+      (slice_get nodes id ≡ Some (linked label value (head child) (head sibling)))
+      × RowStands nodes sibling
 
   -- the row from a number on stands in the nodes, and no number stands in it twice
   pub record IsTopRow (nodes : List (Node V)) (at : Option ℕ) (w : Plan V) : Type 0 where
@@ -46,7 +49,8 @@ module _ {V : Type 0} where
   -- what is below the top row stands in the nodes
   abbrev pub BelowStands : List (Node V) → Plan V → Type 0
   BelowStands nodes Nil = Unit {0}
-  BelowStands nodes (Cell id label value child sibling) = LaidOut nodes child × BelowStands nodes sibling
+  BelowStands nodes (Cell id label value child sibling) =
+      LaidOut nodes child × BelowStands nodes sibling
 
   -- the top row is laid in the new nodes, and what is below it stands in the old ones
   pub record IsLaid (from to : List (Node V)) (w : Plan V) : Type 0 where
@@ -60,8 +64,10 @@ module _ {V : Type 0} where
     pub long : length new.nodes.items ≡ length old.nodes.items
     pub root_is : new.root ≡ old.root
     pub freed :
-        (spare : List ℕ) → IsFree old.nodes.items old.free spare → ((i : ℕ) → counts i + times spare i ≤ 1)
-        → (left : List ℕ) × IsFree new.nodes.items new.free left × ((i : ℕ) → times left i ≡ counts i + times spare i) × (length left ≡ n + length spare)
+        (spare : List ℕ) → IsFree old.nodes.items old.free spare
+        → ((i : ℕ) → counts i + times spare i ≤ 1)
+        → (left : List ℕ) × IsFree new.nodes.items new.free left
+        × ((i : ℕ) → times left i ≡ counts i + times spare i) × (length left ≡ n + length spare)
 
   abbrev pub TakesRow : NodeArena V → NodeArena V → Plan V → Type 0
   TakesRow old new w = TakesNodes old new (λ i. times (tops w) i) (length (tops w))

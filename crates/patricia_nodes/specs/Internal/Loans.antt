@@ -31,11 +31,14 @@ module _ {V : Type 0} where
   with_value s id w = record s { nodes = with_valued s.nodes id w (slice_get s.nodes.items id) }
 
 -- s ends with the value of a node as the loan leaves it
-abbrev pub lends_value : (V : RattleType) → MutBor (NodeArena V.Denot) → ℕ → Option (MutBor V.Denot) → Fml
+abbrev pub lends_value : (V : RattleType) → MutBor (NodeArena V.Denot) → ℕ → Option (MutBor V.Denot)
+    → Fml
 lends_value V s id r = LendsIf (the_row V) V s r (with_value s.now id) s.now
 
--- the number is that of the node that has the value of the key, and a write there puts a value in at the key
-pub record HasValueNode (item : List ℕ → Type 0) {V : Type 0} (s : NodeArena V) (key : List ℕ) (id : ℕ) : Type 0 where
+-- the number is that of the node that has the value of the key, and a write there puts a value in
+-- at the key
+pub record HasValueNode (item : List ℕ → Type 0) {V : Type 0} (s : NodeArena V) (key : List ℕ)
+    (id : ℕ) : Type 0 where
   pub within : id < vec_len s.nodes
   pub value : V
   pub is_value : value_of s id ≡ Some value

@@ -34,7 +34,8 @@ module _ {V : Type 0} where
   -- the upper one's value
   abbrev pub Absorbs : NodeArena V → NodeArena V → ℕ → ℕ → List ℕ → Option V → Type 0
   Absorbs old new upper lower joined taken =
-      (frames : List (Frame V)) (label : List ℕ) (value : Option V) (inner : List ℕ) (own : Option V) (below sibling : Plan V)
+      (frames : List (Frame V)) (label : List ℕ) (value : Option V) (inner : List ℕ)
+      (own : Option V) (below sibling : Plan V)
       → Holds old (fill frames (Cell upper label value (Cell lower inner own below Nil) sibling))
       → Holds new (fill frames (Cell upper joined own below sibling)) × (taken ≡ value)
 

@@ -25,8 +25,10 @@ module _ {V : Type 0} where
   -- how often a number stands in frames
   abbrev pub count_frames : List (Frame V) → ℕ → ℕ
   count_frames [] at = 0
-  count_frames (InChild id label value sibling ∷ fs) at = one id at + (count sibling at + count_frames fs at)
-  count_frames (InSibling id label value child ∷ fs) at = one id at + (count child at + count_frames fs at)
+  count_frames (InChild id label value sibling ∷ fs) at =
+      one id at + (count sibling at + count_frames fs at)
+  count_frames (InSibling id label value child ∷ fs) at =
+      one id at + (count child at + count_frames fs at)
 
   -- how many nodes are in frames
   abbrev pub size_frames : List (Frame V) → ℕ
@@ -70,7 +72,8 @@ module _ (item : List ℕ → Type 0) where
   Leads [] key rest = rest ≡ key
   Leads (InChild id label value sibling ∷ fs) key rest =
       (before : List ℕ) × Passes item before label rest × (rest ≢ []) × Leads fs key before
-  Leads (InSibling id label value child ∷ fs) key rest = IsBefore item label rest × Leads fs key rest
+  Leads (InSibling id label value child ∷ fs) key rest =
+      IsBefore item label rest × Leads fs key rest
 
   -- the look-up ends so at the node of this number and label
   abbrev pub MatchesAt : ℕ → List ℕ → List ℕ → Match → Type 0
@@ -84,7 +87,8 @@ module _ (item : List ℕ → Type 0) where
   Matches (Cell id label value child sibling) rest matched = MatchesAt id label rest matched
 
   -- the place of a key, where this is left of it
-  pub record Placed {V : Type 0} (s : NodeArena V) (key : List ℕ) (link_ref : LinkRef) (at : Option ℕ) (rest : List ℕ) (matched : Match) : Type 0 where
+  pub record Placed {V : Type 0} (s : NodeArena V) (key : List ℕ) (link_ref : LinkRef)
+      (at : Option ℕ) (rest : List ℕ) (matched : Match) : Type 0 where
     pub frames : List (Frame V)
     pub focus : Plan V
     pub fills : fill frames focus ≡ plan_at s.nodes.items s.root
@@ -94,5 +98,7 @@ module _ (item : List ℕ → Type 0) where
     pub rest_nonempty : rest ≢ []
     pub is_match : Matches focus rest matched
 
-  abbrev pub IsSeekResult : {V Q : Type 0} → (Q → List ℕ) → NodeArena V → List ℕ → SeekResult Q → Type 0
-  IsSeekResult key_of s key place = Placed s key place.link_ref place.at (key_of place.rest) place.matched
+  abbrev pub IsSeekResult : {V Q : Type 0} → (Q → List ℕ) → NodeArena V → List ℕ → SeekResult Q
+      → Type 0
+  IsSeekResult key_of s key place =
+      Placed s key place.link_ref place.at (key_of place.rest) place.matched

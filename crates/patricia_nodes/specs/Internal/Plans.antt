@@ -30,7 +30,8 @@ first (id ∷ ids) = Some id
 module _ {V : Type 0} where
   -- a node with these fields
   abbrev pub linked : List ℕ → Option V → Option ℕ → Option ℕ → Node V
-  linked label value child sibling = record { label = label; value = value; child = child; sibling = sibling }
+  linked label value child sibling =
+      record { label = label; value = value; child = child; sibling = sibling }
 
   -- the number of the first node
   abbrev pub head : Plan V → Option ℕ
@@ -56,12 +57,14 @@ module _ {V : Type 0} where
   abbrev pub LaidOut : List (Node V) → Plan V → Type 0
   LaidOut nodes Nil = Unit {0}
   LaidOut nodes (Cell id label value child sibling) =
-      (slice_get nodes id ≡ Some (linked label value (head child) (head sibling))) × LaidOut nodes child × LaidOut nodes sibling
+      (slice_get nodes id ≡ Some (linked label value (head child) (head sibling)))
+      × LaidOut nodes child × LaidOut nodes sibling
 
   -- at each number of the list is a node that is linked to the next
   abbrev pub IsChain : List (Node V) → List ℕ → Type 0
   IsChain nodes [] = Unit {0}
-  IsChain nodes (id ∷ ids) = ((n : Node V) × (slice_get nodes id ≡ Some n) × (n.sibling ≡ first ids)) × IsChain nodes ids
+  IsChain nodes (id ∷ ids) =
+      ((n : Node V) × (slice_get nodes id ≡ Some n) × (n.sibling ≡ first ids)) × IsChain nodes ids
 
   -- the nodes from this number on are this plan
   pub record IsPlan (nodes : List (Node V)) (at : Option ℕ) (plan : Plan V) : Type 0 where
@@ -69,8 +72,10 @@ module _ {V : Type 0} where
     pub at_is : at ≡ head plan
     pub fits : size plan ≤ length nodes
 
-  -- the nodes are this plan, these are free, and each number below the length stands once in one of the two
-  pub record IsSound (nodes : List (Node V)) (root free : Option ℕ) (plan : Plan V) (spare : List ℕ) : Type 0 where
+  -- the nodes are this plan, these are free, and each number below the length stands once in one of
+  -- the two
+  pub record IsSound (nodes : List (Node V)) (root free : Option ℕ) (plan : Plan V) (spare : List ℕ)
+      : Type 0 where
     pub plan_ok : IsPlan nodes root plan
     pub chain : IsChain nodes spare
     pub free_is : free ≡ first spare

@@ -28,7 +28,8 @@ module _ {V : Type 0} where
 
   -- there is room for so many nodes more, in free ones or behind the last
   abbrev pub RoomFor : List (Node V) → Option ℕ → ℕ → ℕ → Type 0
-  RoomFor nodes free capacity n = (spare : List ℕ) × IsFree nodes free spare × (n + length nodes ≤ length spare + capacity)
+  RoomFor nodes free capacity n =
+      (spare : List ℕ) × IsFree nodes free spare × (n + length nodes ≤ length spare + capacity)
 
   abbrev pub HasRoomFor : NodeArena V → ℕ → Type 0
   HasRoomFor s n = RoomFor s.nodes.items s.free (vec_capacity s.nodes) n
@@ -55,16 +56,23 @@ module _ {V : Type 0} where
   abbrev pub Relinks : NodeArena V → NodeArena V → LinkRef → Option ℕ → Type 0
   Relinks old new Root to = (new.nodes.items ≡ old.nodes.items) × (new.root ≡ to)
   Relinks old new (Child id) to =
-      ((n : Node V) → slice_get old.nodes.items id ≡ Some n → new.nodes.items ≡ slice_set old.nodes.items id (record n { child = to })) × (new.root ≡ old.root)
+      ((n : Node V) → slice_get old.nodes.items id ≡ Some n
+      → new.nodes.items ≡ slice_set old.nodes.items id (record n { child = to }))
+      × (new.root ≡ old.root)
   Relinks old new (Sibling id above) to =
-      ((n : Node V) → slice_get old.nodes.items id ≡ Some n → new.nodes.items ≡ slice_set old.nodes.items id (record n { sibling = to })) × (new.root ≡ old.root)
+      ((n : Node V) → slice_get old.nodes.items id ≡ Some n
+      → new.nodes.items ≡ slice_set old.nodes.items id (record n { sibling = to }))
+      × (new.root ≡ old.root)
 
   -- the spot is that of some place
   abbrev pub HasLinkRef : NodeArena V → LinkRef → Type 0
-  HasLinkRef s link_ref = (frames : List (Frame V)) × (q : Plan V) × (link_ref ≡ link_ref_of frames) × Holds s (fill frames q)
+  HasLinkRef s link_ref =
+      (frames : List (Frame V)) × (q : Plan V) × (link_ref ≡ link_ref_of frames)
+      × Holds s (fill frames q)
 
 -- nodes of a key kind, and the place of some key among them
-pub record Ready (item : List ℕ → Type 0) {V Q : Type 0} (key_of : Q → List ℕ) (s : NodeArena V) (place : SeekResult Q) : Type 0 where
+pub record Ready (item : List ℕ → Type 0) {V Q : Type 0} (key_of : Q → List ℕ) (s : NodeArena V)
+    (place : SeekResult Q) : Type 0 where
   pub whole : IsWellFormed s
   pub canonical : IsCanonical item (siblings_of s)
   pub key : List ℕ
@@ -75,7 +83,8 @@ abbrev pub IsPut : {V : Type 0} → NodeArena V → NodeArena V → List ℕ →
 IsPut old new key x = entries_of new ≡ put key_cmp key x (entries_of old)
 
 -- the value was inserted at the key
-pub record Puts (item : List ℕ → Type 0) {V : Type 0} (old new : NodeArena V) (key : List ℕ) (x : V) : Type 0 where
+pub record Puts (item : List ℕ → Type 0) {V : Type 0} (old new : NodeArena V) (key : List ℕ) (x : V)
+    : Type 0 where
   pub whole : IsWellFormed new
   pub canonical : IsCanonical item (siblings_of new)
   pub put_is : IsPut old new key x

@@ -13,7 +13,8 @@ module _ {V : Type 0} where
   -- what is left along the key where so many bytes of it are passed, this value is due there,
   -- and this row stands behind them
   abbrev pub left_from : List ℕ → ℕ → Option V → Siblings V → List (List ℕ × V)
-  left_from key len pending row = prefixed (take len key) (own pending ++ along (drop len key) (entries row))
+  left_from key len pending row =
+      prefixed (take len key) (own pending ++ along (drop len key) (entries row))
 
   -- the row that is next
   abbrev pub siblings_left : Descent V → Siblings V

@@ -15,12 +15,14 @@ module _ {V : Type 0} where
   abbrev pub numbered_slots : ℕ → List (Node V) → List (Node ValueSlot)
   numbered_slots i [] = []
   numbered_slots i (n ∷ ns) =
-      linked n.label (option_map (λ _. OfNode i) n.value) n.child n.sibling ∷ numbered_slots (suc i) ns
+      linked n.label (option_map (λ _. OfNode i) n.value) n.child n.sibling
+      ∷ numbered_slots (suc i) ns
 
   -- the entries of a tree with who holds each value
   abbrev pub holders : Option V → NodeArena V → List (List ℕ × ValueSlot)
   holders value arena =
-      own (option_map (λ _. OfEmptyKey) value) ++ entries (row_at (numbered_slots 0 arena.nodes.items) arena.root)
+      own (option_map (λ _. OfEmptyKey) value)
+      ++ entries (row_at (numbered_slots 0 arena.nodes.items) arena.root)
 
   -- the value that is held there
   abbrev pub held : Option V → List (Node V) → ValueSlot → Option V
@@ -45,7 +47,8 @@ uses [] h = 0
 uses (e ∷ es) h = (if is_same e.1 h then 1 else 0) + uses es h
 
 -- the rows have the same keys, and each value is the one that is held there
-abbrev pub Reads : {V : Type 0} → (ValueSlot → Option V) → List (List ℕ × ValueSlot) → List (List ℕ × V) → Type 0
+abbrev pub Reads : {V : Type 0} → (ValueSlot → Option V) → List (List ℕ × ValueSlot)
+    → List (List ℕ × V) → Type 0
 Reads held [] [] = Unit {0}
 Reads held [] (r ∷ rs) = ⊥
 Reads held (e ∷ es) [] = ⊥

@@ -11,13 +11,17 @@ use Rattle.patricia_walks.specs.contracts.cursor.PrefixCursor.{the_row as prefix
 use Rattle.patricia_walks.specs.Internal.Trails.{with_held}
 
 -- the trail ends with that value as the loan leaves it, or as it was where nothing is lent
-abbrev pub lends_held : (V : RattleType) → MutBor (CursorState V.Denot) → Option (MutBor V.Denot) → Fml
+abbrev pub lends_held : (V : RattleType) → MutBor (CursorState V.Denot) → Option (MutBor V.Denot)
+    → Fml
 lends_held V t r = LendsIf (the_row V) V t r (with_held t.now t.now.last) t.now
 
 -- and so does a cursor
-abbrev pub lends_last : (K V : RattleType) → Ghosts K.Denot → MutBor (CursorView V.Denot) → Option (MutBor V.Denot) → Fml
+abbrev pub lends_last : (K V : RattleType) → Ghosts K.Denot → MutBor (CursorView V.Denot)
+    → Option (MutBor V.Denot) → Fml
 lends_last K V bytes s r = LendsIf (cursor_row K V bytes) V s r (written s.now) s.now
 
 -- or one under a prefix
-abbrev pub lends_last_under : (Q V O : RattleType) → Borrowed Q.Denot O.Denot → Ghosts O.Denot → MutBor (CursorView V.Denot) → Option (MutBor V.Denot) → Fml
-lends_last_under Q V O borrowed bytes s r = LendsIf (prefix_row Q V O borrowed bytes) V s r (written s.now) s.now
+abbrev pub lends_last_under : (Q V O : RattleType) → Borrowed Q.Denot O.Denot → Ghosts O.Denot
+    → MutBor (CursorView V.Denot) → Option (MutBor V.Denot) → Fml
+lends_last_under Q V O borrowed bytes s r =
+    LendsIf (prefix_row Q V O borrowed bytes) V s r (written s.now) s.now

@@ -76,7 +76,8 @@ module _ {V : Type 0} where
   -- the entries of the first node of a row, behind these bytes
   abbrev pub rows_below : List ℕ → Siblings V → List (List ℕ × V)
   rows_below front end = []
-  rows_below front (node label value child sibling) = prefixed (front ++ label) (own value ++ entries child)
+  rows_below front (node label value child sibling) =
+      prefixed (front ++ label) (own value ++ entries child)
 
 module _ (item : List ℕ → Type 0) {V : Type 0} where
   -- a walk can begin at this node, behind these bytes

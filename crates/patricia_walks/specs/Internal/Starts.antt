@@ -6,7 +6,8 @@ use Rattle.patricia_walks.specs.declared.under.Start.{Start}
 module _ {Q V : Type 0} (key_of : Q → List ℕ) where
   -- the rows from there on
   abbrev pub rows_from : Start Q V → List (List ℕ × V)
-  rows_from s = rows_below (take s.front (key_of s.prefix)) (row_at s.arena.now.nodes.items (Some s.top))
+  rows_from s =
+      rows_below (take s.front (key_of s.prefix)) (row_at s.arena.now.nodes.items (Some s.top))
 
   -- what is left: these rows until the walk has begun
   abbrev pub rows_left : Option (Start Q V) → List (List ℕ × V) → List (List ℕ × V)

@@ -67,24 +67,30 @@ module _ {V : Type 0} where
 
   -- what a caller of the cursor sees
   abbrev pub standing : CursorState V → List ℕ → CursorView V
-  standing t prefix = record { map = map_of t.value (siblings_of t.arena); prefix = prefix; last = last_key t }
+  standing t prefix =
+      record { map = map_of t.value (siblings_of t.arena); prefix = prefix; last = last_key t }
 
 -- these are the rows behind the key that was lent last, below the prefix
-abbrev pub AreEntriesLeft : {V : Type 0} → CursorState V → List ℕ → List (List ℕ × ValueSlot) → Type 0
+abbrev pub AreEntriesLeft : {V : Type 0} → CursorState V → List ℕ → List (List ℕ × ValueSlot)
+    → Type 0
 AreEntriesLeft t prefix rows = rows ≡ after (last_key t) (under prefix (holders t.value t.arena))
 
 -- a walk can begin at this node, behind these bytes
-pub record IsAtStart (item : List ℕ → Type 0) (nodes : List (Node ValueSlot)) (front : List ℕ) (top : ℕ) : Type 0 where
+pub record IsAtStart (item : List ℕ → Type 0) (nodes : List (Node ValueSlot)) (front : List ℕ)
+    (top : ℕ) : Type 0 where
   pub valid : IsValid item front
   pub plan : IsPlan nodes (Some top) (plan_at nodes (Some top))
   pub once : (at : ℕ) → count (plan_at nodes (Some top)) at ≤ 1
   pub canonical : IsCanonical item (row_at nodes (Some top))
 
 -- the rows under a prefix are below the node where a walk can begin
-pub record StartsUnder {V : Type 0} (item : List ℕ → Type 0) (arena : NodeArena V) (prefix : List ℕ) (s : Start) : Type 0 where
+pub record StartsUnder {V : Type 0} (item : List ℕ → Type 0) (arena : NodeArena V) (prefix : List ℕ)
+    (s : Start) : Type 0 where
   pub within : s.front ≤ length prefix
   pub start : IsAtStart item (numbered_slots 0 arena.nodes.items) (take s.front prefix) s.top
-  pub rows : rows_below (take s.front prefix) (row_at (numbered_slots 0 arena.nodes.items) (Some s.top)) ≡ under prefix (holders None arena)
+  pub rows :
+      rows_below (take s.front prefix) (row_at (numbered_slots 0 arena.nodes.items) (Some s.top))
+      ≡ under prefix (holders None arena)
 
 module _ {V : Type 0} where
   -- the same with another value where this one holds one
@@ -118,7 +124,9 @@ module _ (item : List ℕ → Type 0) {V : Type 0} where
     pub within : front ≤ length prefix
     pub stack : t.stack.items ≡ []
     pub start : IsAtStart item (numbered_slots 0 t.arena.nodes.items) (take front prefix) top
-    pub left_is : AreEntriesLeft t prefix (rows_below (take front prefix) (row_at (numbered_slots 0 t.arena.nodes.items) (Some top)))
+    pub left_is :
+        AreEntriesLeft t prefix (rows_below (take front prefix)
+        (row_at (numbered_slots 0 t.arena.nodes.items) (Some top)))
 
   -- the one or the other
   abbrev pub IsPrefixCursor : CursorState V → List ℕ → Option Start → Type 0

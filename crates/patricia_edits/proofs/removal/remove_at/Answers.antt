@@ -5,7 +5,8 @@ use Rattle.patricia_nodes.specs.Internal.Places.{node_of}
 use Rattle.patricia_nodes.proofs.SeekLemmas.{ready_at, ready_here, here_within}
 use Rattle.patricia_nodes.proofs.PlanLemmas.{not_some}
 use Rattle.patricia_nodes.proofs.AloneLemmas.{some_not_none}
-use Rattle.patricia_edits.proofs.RemoveLemmas.{some_number, here_is, child_there, lone_value, read_is, child_within, two_children, lone_child, removes_none, removes_value, has_lone, removes_lone, joins_here, on_err_from}
+use Rattle.patricia_nodes.proofs.LoanLemmas.{some_of}
+use Rattle.patricia_edits.proofs.RemoveLemmas.{here_is, child_there, lone_value, read_is, child_within, two_children, lone_child, removes_none, removes_value, has_lone, removes_lone, joins_here, on_err_from}
 use Rattle.patricia_edits.proofs.removal.remove_at.Goals as goal
 
 -- a link, as it is read and tested
@@ -15,7 +16,7 @@ module _ {A : Type 0} {link read : Option A} {test : Bool} (read_of : read ≡ l
   last fails = sym read_of ∙ not_some read (sym fails ∙ test_of)
 
   next : test ≡ true → (x : A) × (link ≡ Some x)
-  next holds = let some = some_number read (sym test_of ∙ holds) in (some.0, sym read_of ∙ some.1)
+  next holds = let some = some_of read (sym test_of ∙ holds) in (some.0, sym read_of ∙ some.1)
 
 pub index-node-requires : goal.index-node-requires
 index-node-requires g c =
