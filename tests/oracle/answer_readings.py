@@ -11,7 +11,7 @@ import sys
 from functools import lru_cache
 from typing import NamedTuple
 from zlib import crc32
-from answer_wire import decimals, tree_bytes
+from answer_wire import NARROW, WIDE, decimals, tree_bytes
 from model import first_item, is_valid
 
 VALUE, CHILD, SIBLING = 2, 8, 32
@@ -27,12 +27,13 @@ class Record(NamedTuple):
 # ---- Records and whole trees ------------------------------------------------
 
 
-def records_of(b):
+def records_of(b, width):
     """The whole records at the front of some bytes, and the offset at which they end."""
-    records, at = [], 0
-    while at + 4 <= len(b) and at + 4 + b[at + 1] <= len(b):
-        end = at + 4 + b[at + 1]
-        records.append(Record(at, b[at], b[at + 2] * 256 + b[at + 3], b[at + 4:end]))
+    records, at, head = [], 0, 2 + width
+    while at + head <= len(b) and at + head + b[at + 1] <= len(b):
+        end = at + head + b[at + 1]
+        level = int.from_bytes(b[at + 2:at + head], 'big')
+        records.append(Record(at, b[at], level, b[at + head:end]))
         at = end
     return records, at
 
@@ -106,9 +107,9 @@ def faults_at(record, before, values, kind):
     yield 'too few values', marked > values
 
 
-def read(b, values, kind):
+def read(b, values, kind, width):
     """The keys that some bytes with so many values mean, and None; or None and the first fault."""
-    records, end = records_of(b)
+    records, end = records_of(b, width)
     for n in range(len(records) + 1):
         before, at = records[:n], records[n].offset if n < len(records) else end
         keys = tree_keys(before, kind)
@@ -127,38 +128,38 @@ def read(b, values, kind):
 
 
 @lru_cache(4)
-def written(keys, kind):
-    return decimals(tree_bytes(list(keys), kind))
+def written(keys, kind, width):
+    return decimals(tree_bytes(list(keys), kind, width))
 
 
-def answer(kind, b, values):
+def answer(kind, width, b, values):
     """What the map and the set of some bytes answer."""
-    keys, fault = read(b, len(values), kind)
+    keys, fault = read(b, len(values), kind, width)
     if fault:
         return 'map %s set %s' % (fault, fault)
-    shown, wire = [decimals(key) or '-' for key in keys], 'wire ' + written(tuple(keys), kind)
+    shown, wire = [decimals(key) or '-' for key in keys], 'wire ' + written(tuple(keys), kind, width)
     rows = ['%s=%d' % row for row in zip(shown, values)]
     return ' '.join(['map', *rows, wire, 'set', *shown, wire])
 
 
-def changes(kind, b, values):
+def changes(kind, width, b, values):
     """For each byte the sum of the answers where it is each other byte in turn."""
     sums = []
     for at in range(len(b)):
         others = [byte for byte in range(256) if byte != b[at]]
-        answers = [answer(kind, b[:at] + bytes([byte]) + b[at + 1:], values) for byte in others]
+        answers = [answer(kind, width, b[:at] + bytes([byte]) + b[at + 1:], values) for byte in others]
         sums.append('%d' % crc32(''.join(text + '\n' for text in answers).encode()))
     return ' '.join(sums)
 
 
-def cuts(kind, b, values):
+def cuts(kind, width, b, values):
     """The answers for each prefix but the whole."""
-    return ', '.join(answer(kind, b[:n], values) for n in range(len(b)))
+    return ', '.join(answer(kind, width, b[:n], values) for n in range(len(b)))
 
 
 CALLS = {'read': answer, 'changes': changes, 'cuts': cuts}
 NUMBERS = '(-|[0-9]+(?:,[0-9]+)*)'
-LINE = re.compile('(bytes|text) (read|changes|cuts) %s %s' % (NUMBERS, NUMBERS))
+LINE = re.compile('(bytes|text) (wide|)(read|changes|cuts) %s %s' % (NUMBERS, NUMBERS))
 
 
 def numbers(text):
@@ -170,10 +171,11 @@ def main():
         found = LINE.fullmatch(line)
         if not found:
             continue
-        kind, call, tree, values = found.groups()
+        kind, wide, call, tree, values = found.groups()
         if any(byte > 255 for byte in numbers(tree)) or any(value >= 2 ** 64 for value in numbers(values)):
             continue
-        print('%s: %s' % (line, CALLS[call](kind, bytes(numbers(tree)), numbers(values))))
+        width = WIDE if wide else NARROW
+        print('%s: %s' % (line, CALLS[call](kind, width, bytes(numbers(tree)), numbers(values))))
 
 
 if __name__ == '__main__':

@@ -12,7 +12,9 @@ import sys
 from itertools import groupby
 from model import common, first_item, floor_boundary, is_valid, rows
 
-CALLS = 'tree', 'size', 'json'
+# how many bytes a level takes in what a call asks for
+NARROW, WIDE = 2, 4
+CALLS = {'tree': NARROW, 'size': NARROW, 'json': NARROW, 'wide': WIDE, 'widesize': WIDE}
 VALUE, CHILD, SIBLING = 1 + 2, 4 + 8, 16 + 32
 
 
@@ -61,14 +63,14 @@ def records(keys, kind):
             yield level + n, piece, value and n == last, child or n < last, sibling and n == 0
 
 
-def tree_bytes(keys, kind):
-    """The written form of the keys, or None where it is too deep."""
+def tree_bytes(keys, kind, width=NARROW):
+    """The written form of the keys, or None where it is too deep for levels of so many bytes."""
     out = bytearray()
     for level, label, value, child, sibling in records(sorted(keys), kind):
-        if level > 65535:
+        if level >= 256 ** width:
             return None
-        out += bytes([value * VALUE + child * CHILD + sibling * SIBLING, len(label), *divmod(level, 256)])
-        out += label
+        out += bytes([value * VALUE + child * CHILD + sibling * SIBLING, len(label)])
+        out += level.to_bytes(width, 'big') + label
     return bytes(out)
 
 
@@ -76,12 +78,13 @@ def decimals(b):
     return ','.join(map(str, b))
 
 
-def size(b):
+def size(b, width):
     """The numbers of bytes and of records, and the deepest level."""
     at, count, deepest = 0, 0, 0
     while at < len(b):
-        count, deepest = count + 1, max(deepest, b[at + 2] * 256 + b[at + 3])
-        at += 4 + b[at + 1]
+        level = int.from_bytes(b[at + 2:at + 2 + width], 'big')
+        count, deepest = count + 1, max(deepest, level)
+        at += 2 + width + b[at + 1]
     return '%d %d %d' % (len(b), count, deepest)
 
 
@@ -91,11 +94,11 @@ def compact(value):
 
 def shown(call, keys, values, kind):
     """What a call asks for about a map or a set with these keys."""
-    b = tree_bytes(keys, kind)
+    b = tree_bytes(keys, kind, CALLS[call])
     if b is None:
-        return 'tree deeper than level 65535'
-    if call == 'size':
-        return size(b)
+        return 'tree deeper than level %d' % (256 ** CALLS[call] - 1)
+    if call in ('size', 'widesize'):
+        return size(b, CALLS[call])
     if call == 'json':
         return '%s %s %s' % (compact([list(b), values]), decimals(b), compact([[], values]))
     return decimals(b)

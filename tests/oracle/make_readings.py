@@ -6,7 +6,7 @@ First the lines that somebody thought of, then encodings by chance, whole ones a
 fixed seed. What must be answered is what answer_readings.py says.
 """
 import random
-from answer_wire import decimals, siblings, tree_bytes
+from answer_wire import NARROW, WIDE, decimals, siblings, tree_bytes
 from model import common, first_item
 
 ROOT = [12, 0, 0, 0]
@@ -102,6 +102,27 @@ def rows():
     yield from both(sum(marked, ROOT), *range(40))
 
 
+def wide():
+    """Tree bytes with levels in four bytes, whole ones and each fault of the first two records."""
+    root, three = [12, 0, 0, 0, 0, 0], list(tree_bytes([b'bar', b'baz', b'foo'], 'bytes', WIDE))
+    first = [3, 1, 0, 0, 0, 1, A]
+    for tree, *values in (
+        ([0, 0, 0, 0],), ([0, 0, 0, 0, 0, 0],), ([0, 0, 0, 0, 0, 0, 0],), ([0, 0, 0, 0, 0, 1],),
+        ([0, 0, 0, 1, 0, 0],), ([0, 0, 1, 0, 0, 0],), ([2, 1, 0, 0, 0, 0, A], 1), (root,),
+        ([*root, *first], 1), ([*root, *first], 1, 2), ([*root, *first],), ([*root, *first[:5]], 1),
+        ([*root, *first[:6]], 1), ([*root, 3, 1, 0, 0, 0, 2, A], 1), ([*root, 3, 1, 0, 1, 0, 1, A], 1),
+        ([*root, 3, 1, 1, 0, 0, 1, A], 1), ([*root, 0, 0, 0, 0, 0, 1],), ([*root, 0, 1, 0, 0, 0, 1, A],),
+        ([*root, 51, 1, 0, 0, 0, 1, B, *first], 1, 2), (three, 2, 3, 1), (three, 2, 3),
+        ([15, 0, 0, 0, 0, 0, *first], 1, 2), (THREE, 2, 3, 1),
+    ):
+        for kind in 'bytes', 'text':
+            yield line(kind, 'wideread', tree, values)
+    yield from both([0, 0, 0, 0, 0, 0])
+    yield from both(three, 2, 3, 1)
+    for call in 'widechanges', 'widecuts':
+        yield line('bytes', call, three, [2, 3, 1])
+
+
 def no_calls():
     """Lines that ask for nothing."""
     yield from ('', 'bytes', 'bytes read', 'bytes read -', 'bytes read - - -', 'bytes look - -')
@@ -141,7 +162,7 @@ def some_flags(rng, value, child, sibling):
     return 2 * value + 8 * child + 32 * sibling + rng.choice([0, 1, 4, 16, 64, 128, 21, 213])
 
 
-def some_row(rng, kind, keys, at, level):
+def some_row(rng, kind, keys, at, level, width):
     """Records of the keys, which are longer than `at` and alike up to it."""
     out, groups = [], siblings(keys, at, kind)
     for n, group in enumerate(groups):
@@ -152,30 +173,31 @@ def some_row(rng, kind, keys, at, level):
             is_last = i + 1 == len(pieces)
             value, child = is_last and has_value, not is_last or len(group) > has_value
             out += [some_flags(rng, value, child, i == 0 and n + 1 < len(groups)), len(piece)]
-            out += [*divmod(level + i, 256), *piece]
-        out += some_row(rng, kind, group[has_value:], end, level + len(pieces))
+            out += [*(level + i).to_bytes(width, 'big'), *piece]
+        out += some_row(rng, kind, group[has_value:], end, level + len(pieces), width)
     return out
 
 
-def some_writing(rng, keys, kind):
+def some_writing(rng, keys, kind, width):
     has_empty = keys[:1] == [b'']
     others = keys[has_empty:]
-    return [some_flags(rng, has_empty, bool(others), False), 0, 0, 0, *some_row(rng, kind, others, 0, 1)]
+    head = [some_flags(rng, has_empty, bool(others), False), 0, *bytes(width)]
+    return [*head, *some_row(rng, kind, others, 0, 1, width)]
 
 
-def starts(tree):
+def starts(tree, width):
     """The offsets of the whole records at the front."""
     at, found = 0, []
-    while at + 4 <= len(tree):
+    while at + 2 + width <= len(tree):
         found.append(at)
-        at += 4 + tree[at + 1]
+        at += 2 + width + tree[at + 1]
     return found
 
 
-def damage(rng, tree):
+def damage(rng, tree, width):
     """One change that leaves most of the records as they are."""
-    at, how = rng.randrange(len(tree) or 1), rng.randrange(9)
-    record = rng.choice(starts(tree) or [0])
+    at, how, last = rng.randrange(len(tree) or 1), rng.randrange(9), 1 + width
+    record = rng.choice(starts(tree, width) or [0])
     if how == 0:
         return tree[:at] + [rng.randrange(256)] + tree[at + 1:]
     if how == 1:
@@ -186,37 +208,41 @@ def damage(rng, tree):
         return tree[:at]
     if how == 4:
         return tree[:record] + tree[record:record + 9] + tree[record:]
-    if how == 5 and tree[record + 3:]:
-        level = max(0, min(255, tree[record + 3] + rng.choice([-1, 1])))
-        return tree[:record + 3] + [level] + tree[record + 4:]
+    if how == 5 and tree[record + last:]:
+        level = max(0, min(255, tree[record + last] + rng.choice([-1, 1])))
+        return tree[:record + last] + [level] + tree[record + last + 1:]
     if how == 6 and tree[record + 1:]:
         length = max(0, min(255, tree[record + 1] + rng.choice([-1, 1])))
         return tree[:record + 1] + [length] + tree[record + 2:]
     return tree[:record] + [(tree[record:] or [0])[0] ^ rng.choice([2, 8, 32])] + tree[record + 1:]
 
 
-def some_lines(rng):
+def some_lines(rng, call, width):
     """An encoding of some keys by chance, the encoding itself, and the same with damages."""
     kind = rng.choice(['bytes', 'text'])
     keys = some_keys(rng, kind)
     values = [rng.randrange(1000) for _ in keys]
-    other, tight = some_writing(rng, keys, kind), list(tree_bytes(keys, kind))
-    yield line(kind, 'read', other, values)
+    other, tight = some_writing(rng, keys, kind, width), list(tree_bytes(keys, kind, width))
+    yield line(kind, call, other, values)
     for tree in other, tight:
         for _ in range(4):
-            damaged = damage(rng, damage(rng, tree) if rng.random() < 0.3 else tree)
+            once = damage(rng, tree, width) if rng.random() < 0.3 else tree
+            damaged = damage(rng, once, width)
             changed_values = values[rng.random() < 0.1:] + [7] * (rng.random() < 0.2)
-            yield line(kind, 'read', damaged, changed_values)
-    yield line('text' if kind == 'bytes' else 'bytes', 'read', tight, values)
+            yield line(kind, call, damaged, changed_values)
+    yield line('text' if kind == 'bytes' else 'bytes', call, tight, values)
 
 
 def main():
-    for lines in faults, readings, changed, sweeps, rows, no_calls:
+    for lines in faults, readings, changed, sweeps, rows, wide, no_calls:
         for some in lines():
             print(some)
-    rng = random.Random(4096)
+    rng, wide_rng = random.Random(4096), random.Random(65536)
     for _ in range(200):
-        for some in some_lines(rng):
+        for some in some_lines(rng, 'read', NARROW):
+            print(some)
+    for _ in range(100):
+        for some in some_lines(wide_rng, 'wideread', WIDE):
             print(some)
 
 

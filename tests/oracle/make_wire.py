@@ -81,6 +81,22 @@ def deep():
     yield from both('size', '^a*300', '-a*300')
 
 
+def wide():
+    """The same with levels in four bytes."""
+    yield 'bytes wide'
+    yield 'text wide'
+    yield from both('wide', *put('foo', 'bar', 'baz'))
+    yield from both('wide', *put('', 'a'), '/*')
+    yield from both('wide', '+a')
+    yield from both('wide', *put('a*254.あの', 'b'))
+    yield from both('wide', *put('a*511', 'a*255.b', 'a*256'))
+    yield from both('widesize', '^a*300', '-a*300')
+    yield 'bytes widesize +a*%d' % (PIECE * DEEPEST)
+    yield 'bytes widesize +a*%d' % (PIECE * DEEPEST + 1)
+    yield 'bytes widesize +a*%d +b' % (PIECE * DEEPEST + 1)
+    yield 'text widesize +a*%d +a*%d.b' % (PIECE * DEEPEST, PIECE * DEEPEST - 1)
+
+
 def some_key(rng, kind, keys):
     """A key that often begins as one that is there."""
     items = ['a', 'b', 'é', 'あ', 'い', '🌏', '🍔'] if kind == 'text' else ['a', 'b', '%0', '%128', '%255']
@@ -91,7 +107,7 @@ def some_key(rng, kind, keys):
     return '.'.join(parts) or '*'
 
 
-def some_line(rng):
+def some_line(rng, calls):
     kind, keys, steps = rng.choice(['bytes', 'text']), [], []
     for _ in range(rng.randrange(1, 12)):
         key = some_key(rng, kind, keys)
@@ -100,16 +116,18 @@ def some_line(rng):
             key = rng.choice(keys)
         keys += [key] if key != '*' else []
         steps.append(sign + key + ('=%d' % rng.randrange(1000) if sign == '+' else ''))
-    return ' '.join([kind, rng.choice(['tree', 'tree', 'tree', 'json']), *steps])
+    return ' '.join([kind, rng.choice(calls), *steps])
 
 
 def main():
-    for lines in few_keys, characters, long_keys, pairs, deep:
+    for lines in few_keys, characters, long_keys, pairs, deep, wide:
         for line in lines():
             print(line)
-    rng = random.Random(255)
+    rng, wide_rng = random.Random(255), random.Random(65536)
     for _ in range(200):
-        print(some_line(rng))
+        print(some_line(rng, ['tree', 'tree', 'tree', 'json']))
+    for _ in range(100):
+        print(some_line(wide_rng, ['wide']))
 
 
 if __name__ == '__main__':

@@ -3,7 +3,8 @@
 //! The arguments of a call are the tree bytes and the values of the map. Numbers have commas
 //! between, and `-` stands for none. `read` asks for the map and the set that are read, or for
 //! the fault; `cuts` asks so for each prefix of the bytes but the whole; and `changes` asks for a
-//! sum for each byte, over what is read where it is each other byte in turn.
+//! sum for each byte, over what is read where it is each other byte in turn. `wideread`, `widecuts`
+//! and `widechanges` ask so of wide tree bytes.
 
 mod answers;
 mod sweeps;
@@ -21,9 +22,9 @@ fn add_asked<K: Bytes>(
     out: &mut String,
 ) -> Result<(), AllocError> {
     match call.name {
-        "read" => answers::add::<K>(alloc, &call.tree, &call.values, out),
-        "cuts" => sweeps::add_cuts::<K>(alloc, &call.tree, &call.values, out),
-        _ => sweeps::add_changes::<K>(alloc, &mut call.tree, &call.values, out),
+        "read" => answers::add::<K>(alloc, call.levels, &call.tree, &call.values, out),
+        "cuts" => sweeps::add_cuts::<K>(alloc, call.levels, &call.tree, &call.values, out),
+        _ => sweeps::add_changes::<K>(alloc, call.levels, &mut call.tree, &call.values, out),
     }
 }
 

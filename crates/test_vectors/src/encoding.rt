@@ -1,9 +1,9 @@
 //! The tree bytes of maps and sets.
 //!
-//! A call asks for the bytes (`tree`), for how many bytes and records there are and the deepest
-//! level (`size`), or for their JSON and what is read from it (`json`). Its arguments are the
-//! steps that make a map and a set. A split returns what it removes, and the last answer is
-//! about what is left.
+//! A call asks for the bytes (`tree`, and `wide` for the wide ones), for how many bytes and records
+//! there are and the deepest level (`size`, `widesize`), or for their JSON and what is read from it
+//! (`json`). Its arguments are the steps that make a map and a set. A split returns what it
+//! removes, and the last answer is about what is left.
 
 mod made;
 mod steps;

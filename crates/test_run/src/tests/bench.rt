@@ -50,7 +50,7 @@ fn check_numbers<Q: BorrowedBytes>(
 }
 
 // Each of the commands, over a key that is inserted and a prefix of it.
-fn commands<Q: Copy>(key: Q, beginning: Q) -> [Command<Q, u32>; 19] {
+fn commands<Q: Copy>(key: Q, beginning: Q) -> [Command<Q, u32>; 21] {
     [
         Command::Insert(key, 1),
         Command::Insert(key, 2),
@@ -64,6 +64,8 @@ fn commands<Q: Copy>(key: Q, beginning: Q) -> [Command<Q, u32>; 19] {
         Command::Reach(beginning),
         Command::Wire,
         Command::Reload,
+        Command::Wide,
+        Command::ReloadWide,
         Command::Copy,
         Command::Split(beginning),
         Command::Wire,
@@ -74,7 +76,7 @@ fn commands<Q: Copy>(key: Q, beginning: Q) -> [Command<Q, u32>; 19] {
     ]
 }
 
-const NUMBERS: [Option<u32>; 19] = [
+const NUMBERS: [Option<u32>; 21] = [
     None,
     Some(1),
     Some(2),
@@ -86,6 +88,8 @@ const NUMBERS: [Option<u32>; 19] = [
     Some(2),
     Some(2),
     Some(11),
+    None,
+    Some(15),
     None,
     None,
     None,
@@ -107,7 +111,7 @@ fn runs_over_bytes(rt: HostRuntime) -> Result<(), AllocError> {
     check_numbers(&rt, rt.alloc(), &commands, &NUMBERS)
 }
 
-const EACH_ONCE: [Command<&[u8], u32>; 15] = [
+const EACH_ONCE: [Command<&[u8], u32>; 17] = [
     Command::Insert(b"foo", 1),
     Command::Get(b"foo"),
     Command::Remove(b"foo"),
@@ -123,11 +127,13 @@ const EACH_ONCE: [Command<&[u8], u32>; 15] = [
     Command::Clear,
     Command::Wire,
     Command::Reload,
+    Command::Wide,
+    Command::ReloadWide,
 ];
 
 #[test]
 fn replies_to_each_command_once(rt: HostRuntime) -> Result<(), AllocError> {
     let replies = replies(rt.alloc(), &EACH_ONCE)?;
-    assert!(&rt; replies.len() == 15);
+    assert!(&rt; replies.len() == 17);
     Ok(())
 }

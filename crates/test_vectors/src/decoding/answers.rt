@@ -1,6 +1,6 @@
 //! What a map and a set have that are read from tree bytes.
 
-use super::words;
+use super::words::{self, Levels};
 use patricia_tree::wire::{DecodeError, WireError};
 use patricia_tree::{Bytes, GenericPatriciaMap, GenericPatriciaSet};
 use std::alloc::{AllocError, Global};
@@ -58,40 +58,84 @@ fn add_element<K: Bytes>(
     words::add_bytes(alloc, out, element.as_bytes())
 }
 
+fn map_tree<K: Bytes>(
+    levels: Levels,
+    map: &GenericPatriciaMap<K, u64>,
+) -> Result<Vec<u8>, WireError> {
+    match levels {
+        Levels::Narrow => map.tree_bytes(),
+        Levels::Wide => map.wide_tree_bytes(),
+    }
+}
+
+fn set_tree<K: Bytes>(levels: Levels, set: &GenericPatriciaSet<K>) -> Result<Vec<u8>, WireError> {
+    match levels {
+        Levels::Narrow => set.tree_bytes(),
+        Levels::Wide => set.wide_tree_bytes(),
+    }
+}
+
 // Adds the rows of a map, and its bytes.
 fn add_map<K: Bytes>(
     alloc: Global,
+    levels: Levels,
     map: &GenericPatriciaMap<K, u64>,
     out: &mut String,
 ) -> Result<(), AllocError> {
     for entry in map.iter() {
         add_entry(alloc, entry, out)?;
     }
-    add_tree(alloc, map.tree_bytes(), out)
+    add_tree(alloc, map_tree(levels, map), out)
 }
 
 // Adds the elements of a set, and its bytes.
 fn add_set<K: Bytes>(
     alloc: Global,
+    levels: Levels,
     set: &GenericPatriciaSet<K>,
     out: &mut String,
 ) -> Result<(), AllocError> {
     for element in set.iter() {
         add_element(alloc, element, out)?;
     }
-    add_tree(alloc, set.tree_bytes(), out)
+    add_tree(alloc, set_tree(levels, set), out)
+}
+
+fn map_of<K: Bytes>(
+    alloc: Global,
+    levels: Levels,
+    tree: &[u8],
+    values: Vec<u64>,
+) -> Result<GenericPatriciaMap<K, u64>, DecodeError> {
+    match levels {
+        Levels::Narrow => GenericPatriciaMap::from_wire(alloc, tree, values),
+        Levels::Wide => GenericPatriciaMap::from_wide_wire(alloc, tree, values),
+    }
+}
+
+fn set_of<K: Bytes>(
+    alloc: Global,
+    levels: Levels,
+    tree: &[u8],
+    values: Vec<()>,
+) -> Result<GenericPatriciaSet<K>, DecodeError> {
+    match levels {
+        Levels::Narrow => GenericPatriciaSet::from_wire(alloc, tree, values),
+        Levels::Wide => GenericPatriciaSet::from_wide_wire(alloc, tree, values),
+    }
 }
 
 // Adds what a map has that is read.
 fn add_map_read<K: Bytes>(
     alloc: Global,
+    levels: Levels,
     tree: &[u8],
     values: &[u64],
     out: &mut String,
 ) -> Result<(), AllocError> {
     out.push_str("map")?;
-    match GenericPatriciaMap::<K, u64>::from_wire(alloc, tree, values.to_vec(alloc)?) {
-        Ok(map) => add_map(alloc, &map, out),
+    match map_of::<K>(alloc, levels, tree, values.to_vec(alloc)?) {
+        Ok(map) => add_map(alloc, levels, &map, out),
         Err(fault) => add_fault(alloc, fault, out),
     }
 }
@@ -108,13 +152,14 @@ fn nothings(alloc: Global, count: usize) -> Result<Vec<()>, AllocError> {
 // Adds what a set has that is read with so many values.
 fn add_set_read<K: Bytes>(
     alloc: Global,
+    levels: Levels,
     tree: &[u8],
     count: usize,
     out: &mut String,
 ) -> Result<(), AllocError> {
     out.push_str(" set")?;
-    match GenericPatriciaSet::<K>::from_wire(alloc, tree, nothings(alloc, count)?) {
-        Ok(set) => add_set(alloc, &set, out),
+    match set_of::<K>(alloc, levels, tree, nothings(alloc, count)?) {
+        Ok(set) => add_set(alloc, levels, &set, out),
         Err(fault) => add_fault(alloc, fault, out),
     }
 }
@@ -123,10 +168,11 @@ fn add_set_read<K: Bytes>(
 /// times nothing for the set.
 pub(super) fn add<K: Bytes>(
     alloc: Global,
+    levels: Levels,
     tree: &[u8],
     values: &[u64],
     out: &mut String,
 ) -> Result<(), AllocError> {
-    add_map_read::<K>(alloc, tree, values, out)?;
-    add_set_read::<K>(alloc, tree, values.len(), out)
+    add_map_read::<K>(alloc, levels, tree, values, out)?;
+    add_set_read::<K>(alloc, levels, tree, values.len(), out)
 }

@@ -1,12 +1,14 @@
 //! What is read from bytes that are cut or changed.
 
 use super::answers;
+use super::words::Levels;
 use patricia_tree::Bytes;
 use std::alloc::{AllocError, Global};
 
 /// Adds what is read from each prefix of the bytes but the whole.
 pub(super) fn add_cuts<K: Bytes>(
     alloc: Global,
+    levels: Levels,
     tree: &[u8],
     values: &[u64],
     out: &mut String,
@@ -15,7 +17,7 @@ pub(super) fn add_cuts<K: Bytes>(
         if n > 0 {
             out.push_str(", ")?;
         }
-        answers::add::<K>(alloc, &tree[..n], values, out)?;
+        answers::add::<K>(alloc, levels, &tree[..n], values, out)?;
     }
     Ok(())
 }
@@ -44,12 +46,13 @@ fn sum_with_all(sum: u32, bytes: &[u8]) -> u32 {
 // The sum with what is read from the bytes, and a byte 10 behind it.
 fn sum_with_answer<K: Bytes>(
     alloc: Global,
+    levels: Levels,
     tree: &[u8],
     values: &[u64],
     sum: u32,
 ) -> Result<u32, AllocError> {
     let mut answer = String::new(alloc);
-    answers::add::<K>(alloc, tree, values, &mut answer)?;
+    answers::add::<K>(alloc, levels, tree, values, &mut answer)?;
     answer.push('\n')?;
     Ok(sum_with_all(sum, answer.as_bytes()))
 }
@@ -63,6 +66,7 @@ fn set(tree: &mut [u8], at: usize, byte: u8) {
 // The sum of what is read where one byte is each other byte in turn.
 fn changes_at<K: Bytes>(
     alloc: Global,
+    levels: Levels,
     tree: &mut [u8],
     values: &[u64],
     at: usize,
@@ -74,7 +78,7 @@ fn changes_at<K: Bytes>(
     for byte in 0..=u8::MAX {
         if byte != old {
             set(tree, at, byte);
-            sum = sum_with_answer::<K>(alloc, tree, values, sum)?;
+            sum = sum_with_answer::<K>(alloc, levels, tree, values, sum)?;
         }
     }
     set(tree, at, old);
@@ -83,12 +87,13 @@ fn changes_at<K: Bytes>(
 
 fn add_changes_at<K: Bytes>(
     alloc: Global,
+    levels: Levels,
     tree: &mut [u8],
     values: &[u64],
     at: usize,
     out: &mut String,
 ) -> Result<(), AllocError> {
-    let sum = changes_at::<K>(alloc, tree, values, at)?;
+    let sum = changes_at::<K>(alloc, levels, tree, values, at)?;
     let digits = sum.to_string(alloc)?;
     out.push_str(&digits)
 }
@@ -96,6 +101,7 @@ fn add_changes_at<K: Bytes>(
 /// Adds for each byte the sum of what is read where it is another.
 pub(super) fn add_changes<K: Bytes>(
     alloc: Global,
+    levels: Levels,
     tree: &mut [u8],
     values: &[u64],
     out: &mut String,
@@ -104,7 +110,7 @@ pub(super) fn add_changes<K: Bytes>(
         if at > 0 {
             out.push(' ')?;
         }
-        add_changes_at::<K>(alloc, tree, values, at, out)?;
+        add_changes_at::<K>(alloc, levels, tree, values, at, out)?;
     }
     Ok(())
 }

@@ -3,11 +3,19 @@
 use crate::decimals;
 use std::alloc::{AllocError, Global};
 
+/// How many bytes a level takes: two, or four.
+#[derive(Clone, Copy)]
+pub enum Levels {
+    Narrow,
+    Wide,
+}
+
 /// A line that is a call.
 #[derive(Drop)]
 pub struct Call<'t> {
     pub line: &'t str,
     pub kind: &'t str,
+    pub levels: Levels,
     pub name: &'t str,
     pub tree: Vec<u8>,
     pub values: Vec<u64>,
@@ -48,6 +56,14 @@ fn bytes(alloc: Global, word: &str) -> Result<Option<Vec<u8>>, AllocError> {
     }
 }
 
+// The levels that a call is about, and what it asks for.
+fn asked<'t>(name: &'t str) -> (Levels, &'t str) {
+    match name.strip_prefix("wide") {
+        Some(name) => (Levels::Wide, name),
+        None => (Levels::Narrow, name),
+    }
+}
+
 // The call with these words for its tree and its values.
 fn call_with<'t>(
     alloc: Global,
@@ -63,9 +79,11 @@ fn call_with<'t>(
     let Some(values) = numbers(alloc, values)? else {
         return Ok(None);
     };
+    let (levels, name) = asked(name);
     Ok(Some(Call {
         line,
         kind,
+        levels,
         name,
         tree,
         values,
@@ -73,7 +91,7 @@ fn call_with<'t>(
 }
 
 fn is_call(kind: &str, name: &str) -> bool {
-    matches!(kind, "bytes" | "text") && matches!(name, "read" | "cuts" | "changes")
+    matches!(kind, "bytes" | "text") && matches!(asked(name).1, "read" | "cuts" | "changes")
 }
 
 /// The call that a line is, or `None` where it is none.

@@ -13,6 +13,9 @@ pub trait Written: Drop {
     /// The tree bytes.
     fn tree(&self) -> Result<Vec<u8>, WireError>;
 
+    /// The wide tree bytes.
+    fn wide_tree(&self) -> Result<Vec<u8>, WireError>;
+
     /// Adds the values with commas between. Those of a set are nothing.
     fn add_values(&self, alloc: Global, values: &mut String) -> Result<(), AllocError>;
 }
@@ -36,6 +39,10 @@ impl<K: Bytes> Written for GenericPatriciaMap<K, u64> {
 
     fn tree(&self) -> Result<Vec<u8>, WireError> {
         self.tree_bytes()
+    }
+
+    fn wide_tree(&self) -> Result<Vec<u8>, WireError> {
+        self.wide_tree_bytes()
     }
 
     fn add_values(&self, alloc: Global, values: &mut String) -> Result<(), AllocError> {
@@ -68,6 +75,10 @@ impl<K: Bytes> Written for GenericPatriciaSet<K> {
 
     fn tree(&self) -> Result<Vec<u8>, WireError> {
         self.tree_bytes()
+    }
+
+    fn wide_tree(&self) -> Result<Vec<u8>, WireError> {
+        self.wide_tree_bytes()
     }
 
     fn add_values(&self, _alloc: Global, values: &mut String) -> Result<(), AllocError> {

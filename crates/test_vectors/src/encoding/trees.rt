@@ -7,28 +7,40 @@ use patricia_tree::wire::{WireError, pair_from_json, pair_to_json};
 use patricia_tree::{Bytes, GenericPatriciaMap};
 use std::alloc::{AllocError, Global};
 
-// The number of records, and the deepest level.
-fn records(bytes: &[u8]) -> (u64, u16) {
+// The number that bytes spell, the high byte first.
+fn number(bytes: &[u8]) -> u64 {
+    let mut number: u64 = 0;
+    for byte in bytes {
+        number = number.wrapping_mul(256).wrapping_add(u64::from(*byte));
+    }
+    number
+}
+
+// The number of records whose levels have so many bytes, and the deepest level.
+fn records(bytes: &[u8], width: usize) -> (u64, u64) {
     let mut records: u64 = 0;
-    let mut deepest: u16 = 0;
+    let mut deepest: u64 = 0;
     let mut left = bytes;
     for _ in 0..bytes.len() {
-        let [_, n, high, low, rest @ ..] = left else {
+        let [_, n, behind @ ..] = left else {
+            break;
+        };
+        let Some((level, rest)) = behind.split_at_checked(width) else {
             break;
         };
         records = records.wrapping_add(1);
-        deepest = deepest.max(u16::from_be_bytes([*high, *low]));
+        deepest = deepest.max(number(level));
         left = rest.get(*n as usize..).unwrap_or(&[]);
     }
     (records, deepest)
 }
 
 // Adds the numbers of bytes and of records, and the deepest level.
-fn add_size(alloc: Global, bytes: &[u8], out: &mut String) -> Result<(), AllocError> {
-    let (records, deepest) = records(bytes);
+fn add_size(alloc: Global, bytes: &[u8], width: usize, out: &mut String) -> Result<(), AllocError> {
+    let (records, deepest) = records(bytes, width);
     words::add_number(alloc, out, bytes.len() as u64)?;
     words::add_number(alloc, out, records)?;
-    words::add_number(alloc, out, deepest as u64)
+    words::add_number(alloc, out, deepest)
 }
 
 // Adds what was read from a JSON, its bytes and the JSON of its values.
@@ -76,7 +88,8 @@ fn add_bytes(
     out: &mut String,
 ) -> Result<(), AllocError> {
     match call {
-        "size" => add_size(alloc, bytes, out),
+        "size" => add_size(alloc, bytes, 2, out),
+        "widesize" => add_size(alloc, bytes, 4, out),
         "json" => add_json(alloc, bytes, values, out),
         _ => decimals::add_bytes(alloc, out, " ", bytes),
     }
@@ -139,6 +152,14 @@ pub(super) fn add_nulls(count: usize, values: &mut String) -> Result<(), AllocEr
     Ok(())
 }
 
+// The tree bytes that a call asks about.
+fn tree_of<M: Written>(made: &M, call: &str) -> Result<Vec<u8>, WireError> {
+    match call {
+        "wide" | "widesize" => made.wide_tree(),
+        _ => made.tree(),
+    }
+}
+
 /// Adds what a call asks for about a map or a set.
 pub(super) fn add_made<M: Written>(
     alloc: Global,
@@ -148,5 +169,5 @@ pub(super) fn add_made<M: Written>(
 ) -> Result<(), AllocError> {
     let mut values = String::new(alloc);
     made.add_values(alloc, &mut values)?;
-    add(alloc, made.tree(), &values, call, out)
+    add(alloc, tree_of(made, call), &values, call, out)
 }

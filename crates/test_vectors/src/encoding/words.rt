@@ -98,7 +98,8 @@ fn steps<'t>(alloc: Global, words: &[&'t str]) -> Result<Vec<Step<'t>>, AllocErr
 }
 
 fn is_call(kind: &str, name: &str) -> bool {
-    matches!(kind, "bytes" | "text") && matches!(name, "tree" | "size" | "json")
+    matches!(kind, "bytes" | "text")
+        && matches!(name, "tree" | "size" | "json" | "wide" | "widesize")
 }
 
 /// The call that a line is, or `None` where it is none.

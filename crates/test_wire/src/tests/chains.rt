@@ -92,6 +92,20 @@ fn check_longer<Q: BorrowedBytes>(
     assert!(rt; tree_len(map).err() == Some(WireError::TooDeep));
 }
 
+// The map is written with wide levels, and read again.
+fn check_wide<K: Bytes>(
+    rt: &impl Abort,
+    alloc: Global,
+    map: &GenericPatriciaMap<K, u64>,
+) -> Result<(), Fail> {
+    let tree = map.wide_tree_bytes()?;
+    assert!(rt; tree.len() == 458_758);
+    assert!(rt; tree.ends_with(&[3, 1, 0, 1, 0, 0, b'a']));
+    let read = GenericPatriciaMap::<K, u64>::from_wide_wire(alloc, &tree, numbers(alloc, 65_536)?)?;
+    assert!(rt; read.len() == 65_536);
+    Ok(())
+}
+
 // Whether this is what is split from a map of 65,536 keys by a prefix of 1,000 bytes.
 fn is_part<Q: BorrowedBytes>(part: GenericPatriciaMap<Q::Owned, u64>, longer: Q) -> bool {
     has(&part, 64_537, longer, 65_536)
@@ -127,9 +141,15 @@ fn front(bytes: &[u8], len: usize) -> &[u8] {
     bytes.get(..len).unwrap_or(bytes)
 }
 
-fn check_levels(rt: &impl Abort, map: &mut PatriciaMap<u64>, longer: &[u8]) -> Result<(), Fail> {
+fn check_levels(
+    rt: &impl Abort,
+    alloc: Global,
+    map: &mut PatriciaMap<u64>,
+    longer: &[u8],
+) -> Result<(), Fail> {
     check_filled(rt, map, front(longer, 65_535))?;
     check_longer(rt, map, longer);
+    check_wide(rt, alloc, map)?;
     check_parted(rt, map, front(longer, 1_000), longer)?;
     Ok(())
 }
@@ -139,7 +159,7 @@ fn a_key_at_each_level(rt: HostRuntime) -> Result<(), Fail> {
     let values = numbers(rt.alloc(), 65_535)?;
     let mut map = map_of_chain(rt.alloc(), 15, 3, values)?;
     let longer = b"a".repeat(rt.alloc(), 65_536)?;
-    check_levels(&rt, &mut map, &longer)
+    check_levels(&rt, rt.alloc(), &mut map, &longer)
 }
 
 // Asserts the fault of a byte map that is read with the numbers from 1 on.
