@@ -107,7 +107,7 @@ def faults_at(record, before, values, kind):
     yield 'too few values', marked > values
 
 
-def read(b, values, kind, width):
+def read(b, values, kind, width=NARROW):
     """The keys that some bytes with so many values mean, and None; or None and the first fault."""
     records, end = records_of(b, width)
     for n in range(len(records) + 1):
