@@ -1,6 +1,7 @@
 //! Encodings of two maps beside each other, known from the maps' contracts and the laws alone.
-ghost use Rattle.std.specs.Prelude.{◌≡◌, ◌≢◌, ◌↔◌, [], ◌∷◌, IfOk, OnOk};
+ghost use Rattle.std.specs.Prelude.{◌≡◌, ◌≢◌, ◌↔◌, ℕ, List, [], ◌∷◌, IfOk, IfSome, OnOk};
 ghost use Rattle.std.specs.FinMap as map;
+ghost use Rattle.patricia_tree.specs.Writings.{Means};
 
 use patricia_tree::wire::laws;
 use patricia_tree::{BorrowedBytes, Bytes, GenericPatriciaMap, PatriciaMap, WireError};
@@ -80,4 +81,20 @@ pub fn with_other_keys(alloc: Global) -> Result<(Vec<u8>, Vec<u8>), WireError>
     let first = in_order(alloc)?;
     let second = alone(alloc)?;
     encode_both(&first, &second)
+}
+
+/// Writes tree bytes again with levels in four bytes: the same values mean the same rows with both.
+/// Returns `None` where the bytes and the values mean no map, or memory runs out.
+pub fn widened<K: Bytes, V: Drop>(alloc: Global, bytes: &[u8], values: Vec<V>) -> Option<Vec<u8>>
+    ensures { IfSome result (λ wide. (rows : List (List ℕ × V))
+        × Means K.item 2 bytes.now values.items rows
+        × Means K.item 4 wide.items values.items rows) }
+{
+    let Ok(map) = GenericPatriciaMap::<K, V>::from_wire(alloc, bytes, values) else {
+        return None;
+    };
+    let Ok(wide) = map.wide_tree_bytes() else {
+        return None;
+    };
+    Some(wide)
 }
