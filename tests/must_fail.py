@@ -4,6 +4,8 @@
     tests/must_fail.py                             those that are due at this commit
     tests/must_fail.py --all                       all of them
     tests/must_fail.py CRATE..                     those of the crates named
+    tests/must_fail.py --since COMMIT CRATE..      those of the crates named that turn a file, or are one, which
+                                                   differs from that commit
     tests/must_fail.py [..] --beside FOLDER LOG    over the libraries that an rt ci makes in that folder
                                                    meanwhile, each crate once the log says that it is
                                                    proved; else over those that rt left in out/
@@ -189,6 +191,12 @@ class Crate:
         names = sorted(os.listdir(there)) if os.path.isdir(there) else []
         return [Edit(os.path.join(there, x)) for x in names if not x.endswith('.md')]
 
+    def edits_since(self, differ):
+        """Its edits that turn one of these files, or are one of them. The paths begin at the top of the repository."""
+        of = lambda *parts: os.path.join('crates', self.name, *parts)
+        return [x for x in self.edits()
+                if of('must-fail', x.name) in differ or any(of(file) in differ for file, _, _ in x.changes)]
+
     def held_lines(self):
         """The file and the number of each line that a comment 'refused:' holds, and the text with it as code."""
         for file, text in self.texts.items():
@@ -236,6 +244,13 @@ class Crate:
         """The names of the repository's crates on which this one stands."""
         own = [x for x in self.uses if x in crates]
         return {*own, *(x for name in own for x in crates[name].below(crates))}
+
+
+def differing(commit):
+    """The files that differ from a commit, and those that git does not track."""
+    calls = ['diff', '--name-only', commit], ['ls-files', '--others', '--exclude-standard']
+    told = [subprocess.run(['git', *x], cwd=ROOT, stdout=subprocess.PIPE, encoding='utf-8', check=True).stdout for x in calls]
+    return {x for lines in told for x in lines.split('\n') if x}
 
 
 def all_crates():
@@ -531,13 +546,16 @@ def commits():
 def main():
     parser = argparse.ArgumentParser(description='Tries the must-fail edits.')
     parser.add_argument('--all', action='store_true', help='those of all crates')
+    parser.add_argument('--since', metavar='COMMIT', help='those of files that differ from it')
     parser.add_argument('--beside', nargs=2, metavar=('FOLDER', 'LOG'), default=[ROOT], help='where rt ci runs')
     parser.add_argument('crates', nargs='*', metavar='CRATE')
     asked = parser.parse_args()
     crates = all_crates()
     libraries = Libraries(crates, *asked.beside)
     count = None if asked.all or asked.crates else commits()
-    tried = {name: [x for at, x in enumerate(crate.edits()) if count is None or is_due(crate, at, count)]
+    differ = differing(asked.since) if asked.since else None
+    tried = {name: crate.edits_since(differ) if asked.since else
+             [x for at, x in enumerate(crate.edits()) if count is None or is_due(crate, at, count)]
              for name, crate in crates.items() if name in (asked.crates or crates)}
     with tempfile.TemporaryDirectory(prefix='must-fail-') as room:
         works = [Work(crates[name], edits, libraries, room) for name, edits in tried.items()]
@@ -545,7 +563,7 @@ def main():
     good = [x.is_good or x.is_to_read for x in said]
     print('to be read: %d' % sum(x.is_to_read for x in said), *(x.line for x in said if x.is_to_read), sep='\n')
     print('%d passed, %d failed' % (sum(good), len(good) - sum(good)))
-    return 0 if good and all(good) else 1
+    return 0 if all(good) and (good or asked.since) else 1
 
 
 if __name__ == '__main__':
