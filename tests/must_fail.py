@@ -436,7 +436,8 @@ class Libraries:
 
     def words(self, crate, kept):
         """The command that checks a crate over what it proved before."""
-        words = [self.kit + '/bin/rattle', 'check', '--crate-name', crate.name, 'src/lib.rt']
+        root = 'src/lib.rt' if 'src/lib.rt' in crate.texts else 'src/main.rt'
+        words = [self.kit + '/bin/rattle', 'check', '--crate-name', crate.name, root]
         for name in ['std', *crate.uses]:
             words += ['--extern', '%s=%s' % (name, self.built(name))]
         for there in [self.kit + '/rlibs', *(os.path.dirname(self.built(x)) for x in crate.below(self.crates))]:
