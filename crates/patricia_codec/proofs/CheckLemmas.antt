@@ -10,7 +10,7 @@ use Rattle.std.proofs.Common.{is_lt}
 use Rattle.patricia_keys.specs.Keys.{IsKeyKind, IsValid, IsFirstItem, ComparesFirst, Begins, key_cmp}
 use Rattle.patricia_keys.proofs.KeyLemmas.{begins_same, first_of, IsValid-item}
 use Rattle.patricia_wire.specs.Records.{Record}
-use Rattle.patricia_wire.specs.Internal.Readings.{Rule, level, root_label, root_sibling, empty_label, invalid_label, sibling_order, no_value_no_child, too_few_values, Due, Breaks, BreaksNone, BreaksNoneBelow}
+use Rattle.patricia_wire.specs.Internal.Readings.{Rule, level, root_label, root_sibling, empty_label, invalid_label, sibling_order, no_value_no_child, too_few_values, Due, BreaksRule, BreaksNone, BreaksNoneBelow}
 use Rattle.patricia_wire.specs.declared.error.DecodeError.{DecodeError}
 use Rattle.patricia_wire.proofs.Orders.{before_compares}
 use Rattle.patricia_wire.proofs.Rules.{below_level, kept_next, kept_all}
@@ -152,17 +152,17 @@ module _ (item : List ℕ → Type 0) (due : Due) (left : ℕ) (r : Record) wher
 
   -- a root with a label breaks that rule
   pub breaks_root_label : (b : Bool) → b ≡ (length r.label == 0) → eqb due.level 0 && not b ≡ true
-      → Breaks item due left r root_label
+      → BreaksRule item due left r root_label
   breaks_root_label b is t = (let both = level_zero due.level (not b) t in (both.0, not_nil r.label b is (not_true b both.1)))
 
   -- and so does one with a sibling
   pub breaks_root_sibling : eqb due.level 0 && r.sibling ≡ true
-      → Breaks item due left r root_sibling
+      → BreaksRule item due left r root_sibling
   breaks_root_sibling t = level_zero due.level r.sibling t
 
   -- a record below the root without a label breaks that rule
   pub breaks_empty_label : (b : Bool) → b ≡ (length r.label == 0)
-      → not (eqb due.level 0) && b ≡ true → Breaks item due left r empty_label
+      → not (eqb due.level 0) && b ≡ true → BreaksRule item due left r empty_label
   breaks_empty_label b is t = (let both = level_some due.level b t in (both.0, is_nil r.label b is both.1))
 
 -- where the first n bytes of a label are not valid, the fewest valid are at least one more
@@ -206,7 +206,7 @@ module _ (item : List ℕ → Type 0) (due : Due) (left : ℕ) (r : Record) wher
 
   -- a record below the root with neither value nor child breaks that rule
   pub breaks_marks : (not (eqb due.level 0) && not r.value) && not r.child ≡ true
-      → Breaks item due left r no_value_no_child
+      → BreaksRule item due left r no_value_no_child
   breaks_marks t =
       let outer = both (not (eqb due.level 0) && not r.value) (not r.child) t in
       let inner = level_some due.level (not r.value) outer.0 in
@@ -222,7 +222,7 @@ module _ (item : List ℕ → Type 0) (due : Due) (left : ℕ) (r : Record) wher
       ))
 
   -- a value mark with no value left breaks that rule
-  pub breaks_values : r.value && eqb left 0 ≡ true → Breaks item due left r too_few_values
+  pub breaks_values : r.value && eqb left 0 ≡ true → BreaksRule item due left r too_few_values
   breaks_values t = (let parts = both r.value (eqb left 0) t in (parts.0, tested left 0 parts.1))
 
 module _ (item : List ℕ → Type 0) (due : Due) (left : ℕ) (r : Record) where

@@ -17,7 +17,7 @@ use Rattle.patricia_codec.specs.declared.builder.Builder.{Builder}
 use Rattle.patricia_codec.specs.declared.reader.Reader.{Reader}
 use Rattle.patricia_codec.specs.Internal.Growing.{Gap, IsGrown}
 use Rattle.patricia_codec.specs.Internal.Builds.{ids, dues, Fall, IsNew, CanAdd, CanLink, Suits, IsBuiltAs, IsBuilt}
-use Rattle.patricia_codec.specs.Internal.Steps.{IsReaderStart, IsAccepted, IsReading, Ends}
+use Rattle.patricia_codec.specs.Internal.Steps.{IsReaderStart, IsAccepted, IsReading, ReachesEnd}
 use Rattle.patricia_codec.proofs.EndLemmas.{grown, grown_tree, IsDone, done}
 use Rattle.patricia_codec.proofs.ReaderLemmas.{spelled_all}
 
@@ -158,7 +158,7 @@ all_taken all taken rest len split is z = split ∙ ap (λ l. taken ++ l) (nil_f
 -- records are read and built with these values, and nothing more is due
 module _ (item : List ℕ → Type 0) (w : ℕ) {V : Type 0} (b : Builder V) (p q : Reader) (n : ℕ)
     (R : List Record) (due : List Due) (taken : List V) (reading : IsReading item w n p R due)
-    (built : IsBuilt item b R due taken) (ends : Ends item w p q) where
+    (built : IsBuilt item b R due taken) (ends : ReachesEnd item w p q) where
   -- no record is due behind those that were read
   pub read_all : IsReading item w n q R []
   read_all = let on = ends n R due reading in on.1

@@ -13,8 +13,8 @@ use Rattle.patricia_wire.specs.Records.{Record}
 use Rattle.patricia_wire.specs.Internal.WrittenRows.{has_node}
 use Rattle.patricia_wire.proofs.WrittenOrDeep.{any_here, any_left}
 use Rattle.patricia_codec.specs.declared.records.Records.{Records}
-use Rattle.patricia_codec.specs.Internal.Pieces.{IsPiece, AreRecords, behind, weight}
-use Rattle.patricia_codec.specs.Internal.Lefts.{nodes_of, next_row, weight_waiting, weight_left, WaitsToWrite, AllWait, AreRecordsLeft, SomeLeft, HasDeep, IsDeep, GoesBack, TakesRecord}
+use Rattle.patricia_codec.specs.Internal.Pieces.{IsPiece, AreRecords, cut_front, weight}
+use Rattle.patricia_codec.specs.Internal.Lefts.{nodes_of, next_siblings, weight_waiting, weight_left, WaitsToWrite, AllWait, AreRecordsLeft, SomeLeft, HasDeep, IsDeep, GoesBack, TakesRecord}
 use Rattle.patricia_codec.proofs.PieceLemmas.{Off, off_whole, off_part, first_record, no_records}
 
 module _ {V : Type 0} where
@@ -30,13 +30,13 @@ module _ {V : Type 0} where
 
   -- with no byte of its label written, a node is whole
   behind_zero : (m : ℕ) (l : List ℕ) (v : Option V) (c s : Siblings V) → m ≡ 0
-      → behind m (node l v c s) ≡ node (drop m l) v c s
+      → cut_front m (node l v c s) ≡ node (drop m l) v c s
   behind_zero zero l v c s e = refl
   behind_zero (suc m) l v c s e = absurd (omega arith)
 
   -- what is behind a piece of a label is one node
   pub behind_some : (m : ℕ) (l : List ℕ) (v : Option V) (c s : Siblings V) → m ≢ 0
-      → behind m (node l v c s) ≡ node (drop m l) v c end
+      → cut_front m (node l v c s) ≡ node (drop m l) v c end
   behind_some zero l v c s f = absurd (f refl)
   behind_some (suc m) l v c s f = refl
 
@@ -106,13 +106,13 @@ module _ (item : List ℕ → Type 0) (kind : IsKeyKind item) {V : Type 0} (p : 
   pub record Beside (at : Option ℕ) : Type 0 where
     pub stands : IsPlan (nodes_of p) at (plan_at (nodes_of p) at)
     pub row_is :
-        next_row p ≡ node (drop p.skipped n.label) n.value children (row_at (nodes_of p) at)
+        next_siblings p ≡ node (drop p.skipped n.label) n.value children (row_at (nodes_of p) at)
 
   -- the first piece of a label has the node's sibling
   pub beside_first : (at : Option ℕ) → p.skipped ≡ 0 → at ≡ n.sibling → Beside at
   beside_first at none is = rw is (record {
     stands = sibling_plan;
-    row_is = ap (behind p.skipped) row_is ∙ behind_zero p.skipped n.label n.value children (row_at (nodes_of p) n.sibling) none;
+    row_is = ap (cut_front p.skipped) row_is ∙ behind_zero p.skipped n.label n.value children (row_at (nodes_of p) n.sibling) none;
   })
 
   -- a later piece has none
@@ -122,7 +122,7 @@ module _ (item : List ℕ → Type 0) (kind : IsKeyKind item) {V : Type 0} (p : 
       let none = plan_is (nodes_of p) None Nil nothing in
       rw is (record {
         stands = rw none nothing;
-        row_is = ap (behind p.skipped) row_is ∙ behind_some p.skipped n.label n.value children
+        row_is = ap (cut_front p.skipped) row_is ∙ behind_some p.skipped n.label n.value children
             (row_at (nodes_of p) n.sibling) some ∙ ap
             (λ r. node (drop p.skipped n.label) n.value children (row r)) (sym none);
       })
@@ -166,7 +166,7 @@ module _ (item : List ℕ → Type 0) (kind : IsKeyKind item) {V : Type 0} (p : 
   module _ (q : Records V) (k : ℕ) (piece : IsPiece item (drop p.skipped n.label) k) (kept : nodes_of q ≡ nodes_of p) (level : q.level ≡ p.level + 1) where
     -- the row below the record, which is next afterwards
     pub record Below (value child : Bool) (under : Siblings V) : Type 0 where
-      pub next_is : next_row q ≡ under
+      pub next_is : next_siblings q ≡ under
       pub stands : IsPlan (nodes_of q) q.next (plan_at (nodes_of q) q.next)
       pub off : (b : Siblings V) (R : List Record)
           → AreRecords item p.level (node (drop p.skipped n.label) n.value children b) R
@@ -208,7 +208,7 @@ module _ (item : List ℕ → Type 0) (kind : IsKeyKind item) {V : Type 0} (p : 
         → Below false true (node (drop k (drop p.skipped n.label)) n.value children end)
     below_part short next_is more = record {
       next_is = rw (kept, next_is, more)
-          (ap (behind (p.skipped + k)) row_is ∙ behind_some (p.skipped + k) n.label n.value
+          (ap (cut_front (p.skipped + k)) row_is ∙ behind_some (p.skipped + k) n.label n.value
           children (row_at (nodes_of p) n.sibling) (λ e. omega (arith, e, piece.nonempty)) ∙ ap
           (λ l. node l n.value children end) (sym (drop-drop k p.skipped n.label)));
       stands = rw (kept, next_is) plan;
@@ -265,7 +265,7 @@ module _ (item : List ℕ → Type 0) (kind : IsKeyKind item) {V : Type 0} (p : 
 
 module _ {V : Type 0} where
   -- where there is no row, nothing is behind any of its bytes
-  behind_end : (m : ℕ) (r : Siblings V) → r ≡ end → behind m r ≡ end
+  behind_end : (m : ℕ) (r : Siblings V) → r ≡ end → cut_front m r ≡ end
   behind_end zero r e = e
   behind_end (suc m) end e = refl
   behind_end (suc m) (node l v c s) e = absurd (cc)
@@ -280,7 +280,7 @@ err_from x (Err f) e d is same again = (let found : f ≡ d = cc in is ∙ ap Er
 module _ (item : List ℕ → Type 0) (kind : IsKeyKind item) {V : Type 0} (p : Records V)
     (next : p.next ≡ None) where
   -- no row is next
-  nothing : next_row p ≡ end
+  nothing : next_siblings p ≡ end
   nothing = behind_end p.skipped (row_at (nodes_of p) p.next) (ap (row_at (nodes_of p)) next ∙ row_none (nodes_of p))
 
   -- so the records left are those of the rows that wait
@@ -312,7 +312,7 @@ module _ (item : List ℕ → Type 0) (kind : IsKeyKind item) {V : Type 0} (p : 
     -- and they weigh the same
     back_weight : weight_left q ≡ weight_left p
     back_weight =
-        let here : next_row q ≡ row_at (nodes_of p) at = rw (kept, next_is, skipped) refl in
+        let here : next_siblings q ≡ row_at (nodes_of p) at = rw (kept, next_is, skipped) refl in
         omega (
           arith,
           ap weight nothing,

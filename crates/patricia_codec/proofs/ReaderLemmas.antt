@@ -16,7 +16,7 @@ use Rattle.patricia_wire.proofs.Spellings.{length-high_first}
 use Rattle.patricia_wire.proofs.ReadingsFaults.{faulty, faultless}
 use Rattle.patricia_wire.proofs.ReadingsFirst.{first_in_record, first_cut_short, first_trailing, first_too_many}
 use Rattle.patricia_codec.specs.declared.reader.Reader.{Reader}
-use Rattle.patricia_codec.specs.Internal.Steps.{Fronts, sibling_then_child, NamesFirst, IsAccepted, IsReading, Ends}
+use Rattle.patricia_codec.specs.Internal.Steps.{Fronts, sibling_then_child, NamesFirst, IsAccepted, IsReading, ReachesEnd}
 
 module _ (item : List ℕ → Type 0) (w : ℕ) (p : Reader) (n : ℕ) where
   -- where bytes are left behind the tree, they are refused
@@ -83,7 +83,7 @@ spelled_length w r b s = omega (
 module _ (item : List ℕ → Type 0) (w : ℕ) where
   -- where nothing is on the stack, nothing is due
   pub ended : (p q : Reader) → q.bytes.now ≡ p.bytes.now → q.offset ≡ p.offset → p.due.items ≡ []
-      → q.due.items ≡ [] → Ends item w p q
+      → q.due.items ≡ [] → ReachesEnd item w p q
   ended p q bytes offset none also n before due reading =
       let over : due ≡ [] = sym reading.due_is ∙ ap reverse none in (
         over,

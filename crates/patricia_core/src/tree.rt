@@ -65,7 +65,7 @@ impl<K: Bytes, V> Model for Tree<K, V> {
 }
 
 impl<K: Bytes, V: Drop> Tree<K, V> {
-    ghost use Rattle.patricia_core.specs.Internal.Loans.{lends_entry};
+    ghost use Rattle.patricia_core.specs.Internal.Loans.{tree_lends_entry};
 
     /// Makes an empty tree. Does not allocate.
     pub fn new(alloc: Global) -> Self
@@ -182,7 +182,7 @@ impl<K: Bytes, V: Drop> Tree<K, V> {
 
     /// Lends the value at a key, or returns `None` where there is none.
     pub fn get_mut<Q: BorrowedBytes<Owned = K>>(&mut self, key: Q) -> Option<&mut V>
-        ensures* writes { sem 𝓛 (lends_entry K.row V.row K.Bytes self.entry (Q.key key) result) }
+        ensures* writes { sem 𝓛 (tree_lends_entry K.row V.row K.Bytes self.entry (Q.key key) result) }
         ensures value { option_copied_mut result ≡ map.get self.old (Q.key key) }
     {
         if key.is_empty() {

@@ -4,7 +4,7 @@ use Rattle.std.specs.Prelude.{Result, Ok, Err, OnErr}
 use Rattle.std.proofs.lemmas.List.{append_assoc, append-nil, take-take, take-append-le, take_all, take_at, length-take}
 use Rattle.patricia_keys.specs.Keys.{IsValid}
 use Rattle.patricia_model.specs.Siblings.{Siblings, end, node, prefixed, own, entries, IsCanonical}
-use Rattle.patricia_model.specs.Internal.WalkStates.{WalkState, waiting, left, steps_in, steps_waiting, IsWithinAll, WaitsWithin, IsWalkState, IsStep}
+use Rattle.patricia_model.specs.Internal.WalkStates.{WalkState, waiting, entries_left, steps_in, steps_waiting, IsWithinAll, WaitsWithin, IsWalkState, IsStep}
 use Rattle.patricia_keys.proofs.KeyLemmas.{IsValid-append}
 use Rattle.patricia_model.proofs.RowLemmas.{prefixed-prefixed, prefixed-append}
 
@@ -16,7 +16,7 @@ module _ {V : Type 0} where
 
   -- at its start a walk has the empty key's entry and those of the row left
   pub left_start : (s : WalkState V) → s.path ≡ [] → s.stack ≡ []
-      → left s ≡ own s.pending ++ entries s.row
+      → entries_left s ≡ own s.pending ++ entries s.row
   left_start s path stack =
       let es = own s.pending ++ entries s.row in
       ap (λ (p : List ℕ × List (ℕ × Siblings V)). prefixed p.0 es ++ waiting p.0 p.1) (both path stack) ∙ append-nil (prefixed [] es) ∙ prefixed-nil es
@@ -211,7 +211,7 @@ module _ (item : List ℕ → Type 0) {V : Type 0} where
 
   -- where a node is next, an entry is left
   pub left_filled : (s : WalkState V) (l : List ℕ) (v : Option V) (c r : Siblings V)
-      → IsWalkState item s → s.row ≡ node l v c r → left s ≢ []
+      → IsWalkState item s → s.row ≡ node l v c r → entries_left s ≢ []
   left_filled s l v c r w row =
       subst (λ q. prefixed s.path (own s.pending ++ entries q) ++ waiting s.path s.stack ≢ []) (sym row)
       (by s.pending (entries (node l v c r)) (entries_filled l v c r (subst (IsCanonical item) row w.canonical)))

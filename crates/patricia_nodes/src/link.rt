@@ -43,13 +43,13 @@ impl Model for Link {
 
     ghost Value = { Option ℕ };
 
-    ghost use Rattle.patricia_nodes.specs.Internal.Links.{seen, kept, kept-seen};
+    ghost use Rattle.patricia_nodes.specs.Internal.Links.{link_view, kept, kept-link-view};
 
-    ghost view = { seen };
+    ghost view = { link_view };
 
     ghost inverse = { kept };
 
-    ghost inverse_ok = { λ a h. kept-seen a };
+    ghost inverse_ok = { λ a h. kept-link-view a };
 }
 
 impl Link {

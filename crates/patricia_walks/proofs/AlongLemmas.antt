@@ -23,7 +23,7 @@ use Rattle.patricia_nodes.proofs.SeekLemmas.{opened, whole_plan}
 use Rattle.patricia_walks.specs.Internal.Positions.{row_at}
 use Rattle.patricia_walks.proofs.PositionLemmas.{row_none}
 use Rattle.patricia_walks.specs.declared.along.Descent.{Descent}
-use Rattle.patricia_walks.specs.Internal.Descents.{IsDescent, Moves, siblings_left, left, left_from}
+use Rattle.patricia_walks.specs.Internal.Descents.{IsDescent, Moves, siblings_left, along_left, left_from}
 
 -- a front of a list, and what is left, where some of it follows
 module _ (k l t : List ℕ) (n : ℕ) (within : n ≤ length k) (rest : l ++ t ≡ drop n k) where
@@ -87,7 +87,7 @@ module _ (item : List ℕ → Type 0) (kind : IsKeyKind item) {V : Type 0} (k : 
   node_row = subst (IsCanonical item) opens.is w.canonical
 
   -- before the step, the entries along the key of that node and of what follows are left
-  before : left k d ≡ prefixed (take d.len k)
+  before : along_left k d ≡ prefixed (take d.len k)
       (along (drop d.len k) (entries (node n.label n.value child_row sibling_row)))
   before = ap (λ v. left_from k d.len (option_copied v) (siblings_left d)) taken ∙ ap (λ r. prefixed (take d.len k) (along (drop d.len k) (entries r))) opens.is
 

@@ -15,7 +15,7 @@ use Rattle.patricia_nodes.proofs.SeekLemmas.{whole_plan}
 use Rattle.patricia_walks.specs.Internal.Positions.{row_at}
 use Rattle.patricia_walks.specs.declared.cursor_state.ValueSlot.{ValueSlot}
 use Rattle.patricia_walks.specs.declared.cursor_state.ValueSlot.TheVariants.{OfEmptyKey, OfNode}
-use Rattle.patricia_walks.specs.Internal.Holders.{numbered_slots, holders, held, uses, Reads}
+use Rattle.patricia_walks.specs.Internal.Holders.{numbered_slots, holders, held, uses, ReadsHeld}
 use Rattle.patricia_walks.proofs.NumberLemmas.{mark, marks, head-marks, length-marks, numbered_slots-length, own-uses, plan_at-marks, reads-append, reads-marks, reads-own, canonical-marks, sound-marks, uses-append, uses-marks, uses-top}
 
 module _ {V : Type 0} where
@@ -116,7 +116,7 @@ module _ {V : Type 0} (s : NodeArena V) (whole : IsWellFormed s) where
 
   -- each holder holds the value of its key
   pub holders_read : (v : Option V)
-      → Reads (held v s.nodes.items) (holders v s) (own v ++ entries_of s)
+      → ReadsHeld (held v s.nodes.items) (holders v s) (own v ++ entries_of s)
   holders_read v =
       let h = held v s.nodes.items in
       rw plan_marked

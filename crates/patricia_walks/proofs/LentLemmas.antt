@@ -11,15 +11,15 @@ use Rattle.patricia_model.specs.Trees.{IsTree, map_of}
 use Rattle.patricia_model.proofs.TreeLemmas.{from_sorted-put, tree_sorted}
 use Rattle.patricia_nodes.specs.declared.arena.Node.{Node}
 use Rattle.patricia_nodes.specs.Internal.Plans.{IsWellFormed, siblings_of, entries_of}
-use Rattle.patricia_model.specs.Internal.WalkStates.{left}
+use Rattle.patricia_model.specs.Internal.WalkStates.{entries_left}
 use Rattle.patricia_walks.specs.Internal.Positions.{IsPosition, state_of}
 use Rattle.patricia_nodes.specs.Internal.Loans.{value_in, with_value, with_valued}
 use Rattle.patricia_walks.specs.declared.cursor_state.ValueSlot.{ValueSlot}
 use Rattle.patricia_walks.specs.declared.cursor_state.ValueSlot.TheVariants.{OfEmptyKey, OfNode}
 use Rattle.patricia_walks.specs.declared.cursor_state.Start.{Start}
 use Rattle.patricia_walks.specs.declared.cursor_state.CursorState.{CursorState}
-use Rattle.patricia_walks.specs.Internal.Holders.{holders, held, is_same, key_at, Reads}
-use Rattle.patricia_walks.specs.Internal.Trails.{seen, key_of, last_key, standing, with_held, held_last, IsHeld, IsTrail, IsPrefixCursor}
+use Rattle.patricia_walks.specs.Internal.Holders.{holders, held, is_same, key_at, ReadsHeld}
+use Rattle.patricia_walks.specs.Internal.Trails.{position_of, key_of, last_key, standing, with_held, held_last, IsHeld, IsTrail, IsPrefixCursor}
 use Rattle.patricia_walks.proofs.HolderLemmas.{holders_read, holders_once}
 use Rattle.patricia_walks.proofs.HolderWriteLemmas.{write_numbered, write_holders, write_whole, write_tree, write_held, write_kept}
 use Rattle.patricia_walks.proofs.ReadLemmas.{find_read, key_value, put_read}
@@ -57,7 +57,7 @@ pub record Wrote (item : List ℕ → Type 0) {V : Type 0} (t u : CursorState V)
 module _ (item : List ℕ → Type 0) (kind : IsKeyKind item) {V : Type 0} (t u : CursorState V)
     (prefix : List ℕ) (w : IsTrail item t prefix) (h : ValueSlot) (lent : t.last ≡ Some h)
     (last : u.last ≡ t.last) (x : V)
-    (same : holders u.value u.arena ≡ holders t.value t.arena) (place : seen u ≡ seen t)
+    (same : holders u.value u.arena ≡ holders t.value t.arena) (place : position_of u ≡ position_of t)
     (whole : IsWellFormed u.arena) (tree : IsTree item (siblings_of u.arena) u.count)
     (here : held u.value u.arena.nodes.items h ≡ Some x)
     (others : (g : ValueSlot) → is_same g h ≡ false → held u.value u.arena.nodes.items g ≡ held
@@ -69,7 +69,7 @@ module _ (item : List ℕ → Type 0) (kind : IsKeyKind item) {V : Type 0} (t u 
   key_is (Some k) e =
       let rows = own t.value ++ entries_of t.arena in
       let sorted = tree_sorted item kind t.value (siblings_of t.arena) w.held.tree.canonical in
-      let reads = subst (λ es. Reads (held u.value u.arena.nodes.items) es (own u.value ++ entries_of u.arena)) same (holders_read u.arena whole u.value) in
+      let reads = subst (λ es. ReadsHeld (held u.value u.arena.nodes.items) es (own u.value ++ entries_of u.arena)) same (holders_read u.arena whole u.value) in
       let put_in = put_read (held t.value t.arena.nodes.items) (held u.value u.arena.nodes.items) h
       x here others k (holders t.value t.arena) rows _
       (holders_read t.arena w.held.whole t.value) reads
@@ -84,7 +84,7 @@ module _ (item : List ℕ → Type 0) (kind : IsKeyKind item) {V : Type 0} (t u 
     state = record {
       held = record { whole = whole; tree = tree; known = rw same (λ g is. w.held.known g (sym last ∙ is)) };
       position = subst (IsPosition item) (sym place) w.position;
-      left_is = ap (λ p. left (state_of p)) place ∙ w.left_is ∙ rw (same, last) refl;
+      left_is = ap (λ p. entries_left (state_of p)) place ∙ w.left_is ∙ rw (same, last) refl;
     };
     stands = subst
         (λ o. standing u prefix ≡ written_at (standing t prefix)

@@ -10,7 +10,7 @@ use Rattle.patricia_nodes.proofs.PlanLemmas.{plan_is}
 use Rattle.patricia_walks.specs.declared.cursor_state.ValueSlot.{ValueSlot}
 use Rattle.patricia_walks.specs.declared.cursor_state.ValueSlot.TheVariants.{OfEmptyKey, OfNode}
 use Rattle.patricia_nodes.specs.Internal.Loans.{value_in}
-use Rattle.patricia_walks.specs.Internal.Holders.{numbered_slots, held, uses, Reads}
+use Rattle.patricia_walks.specs.Internal.Holders.{numbered_slots, held, uses, ReadsHeld}
 
 module _ {W : Type 0} where
   -- entries behind a label have the label before each of their keys
@@ -181,7 +181,7 @@ module _ {V : Type 0} where
   -- where each of two lists reads its rows, both together read theirs
   pub reads-append :
       (h : ValueSlot → Option V) (es fs : List (List ℕ × ValueSlot)) (rs ss : List (List ℕ × V))
-      → Reads h es rs → Reads h fs ss → Reads h (es ++ fs) (rs ++ ss)
+      → ReadsHeld h es rs → ReadsHeld h fs ss → ReadsHeld h (es ++ fs) (rs ++ ss)
   reads-append h [] fs [] ss a b = b
   reads-append h [] fs (r ∷ rs) ss a b = absurd a
   reads-append h (e ∷ es) fs [] ss a b = absurd a
@@ -189,7 +189,7 @@ module _ {V : Type 0} where
 
   -- a label before the keys of both lists leaves them the same rows
   reads-prefixed : (h : ValueSlot → Option V) (l : List ℕ) (es : List (List ℕ × ValueSlot))
-      (rs : List (List ℕ × V)) → Reads h es rs → Reads h (prefixed l es) (prefixed l rs)
+      (rs : List (List ℕ × V)) → ReadsHeld h es rs → ReadsHeld h (prefixed l es) (prefixed l rs)
   reads-prefixed h l [] [] a = tt
   reads-prefixed h l [] (r ∷ rs) a = absurd a
   reads-prefixed h l (e ∷ es) [] a = absurd a
@@ -197,13 +197,13 @@ module _ {V : Type 0} where
 
   -- an own value is read as what is held there
   pub reads-own : (h : ValueSlot → Option V) (x : ValueSlot) (v : Option V) → h x ≡ v
-      → Reads h (own (option_map (λ _. x) v)) (own v)
+      → ReadsHeld h (own (option_map (λ _. x) v)) (own v)
   reads-own h x None e = tt
   reads-own h x (Some y) e = (refl, e, tt)
 
   -- each mark is read as the value in its place
   pub reads-marks : (value : Option V) (nodes : List (Node V)) (p : Plan V) → LaidOut nodes p
-      → Reads (held value nodes) (entries (row (marks p))) (entries (row p))
+      → ReadsHeld (held value nodes) (entries (row (marks p))) (entries (row p))
   reads-marks value nodes Nil s = tt
   reads-marks value nodes (Cell id l v c d) s =
       let h = held value nodes in

@@ -3,7 +3,7 @@ use Rattle.std.proofs.Common.{◌≡◌, ◌≢◌, ℕ, ◌+◌, ◌<◌, List,
 use Rattle.std.proofs.lemmas.List.{map-append, append-nil}
 use Rattle.patricia_keys.proofs.KeyLemmas.{IsValid-nil, IsValid-append}
 use Rattle.patricia_model.specs.Siblings.{node, end, IsCanonical}
-use Rattle.patricia_model.specs.Internal.WalkStates.{left}
+use Rattle.patricia_model.specs.Internal.WalkStates.{entries_left}
 use Rattle.patricia_model.proofs.WalkLemmas.{step_down, step_back, left_filled}
 use Rattle.patricia_nodes.specs.declared.arena.Node.{Node}
 use Rattle.patricia_nodes.specs.declared.arena.NodeArena.{NodeArena}
@@ -145,10 +145,10 @@ module _ (item : List ℕ → Type 0) {V : Type 0} where
 
   -- where a node is next, an entry is left
   pub position_filled : (p : Position V) (id : ℕ) → IsPosition item p → p.next ≡ Some id
-      → left (state_of p) ≢ []
+      → entries_left (state_of p) ≢ []
   position_filled p id w next = by (plan_at p.nodes p.next) refl w.stand.next_plan.at_is
     where
-      by : (r : Plan V) → plan_at p.nodes p.next ≡ r → p.next ≡ head r → left (state_of p) ≢ []
+      by : (r : Plan V) → plan_at p.nodes p.next ≡ r → p.next ≡ head r → entries_left (state_of p) ≢ []
       by Nil is at = absurd (cc)
       by (Cell i l v c d) is at = left_filled item (state_of p) l v (row c) (row d) w.state (ap row is)
 
@@ -216,5 +216,5 @@ module _ (item : List ℕ → Type 0) {V : Type 0} (arena : NodeArena V) (front 
   -- all rows below the node are left then
   pub left_top : (p : Position V) → p.nodes ≡ arena.nodes.items → p.path ≡ front ++ n.label
       → p.pending ≡ n.value → p.next ≡ n.child → p.stack ≡ []
-      → left (state_of p) ≡ rows_below front (row_at arena.nodes.items (Some top))
+      → entries_left (state_of p) ≡ rows_below front (row_at arena.nodes.items (Some top))
   left_top p nodes path pending next stack = rw (nodes, path, pending, next, stack, top_row) (append-nil _)

@@ -15,7 +15,7 @@ use Rattle.patricia_model.proofs.TestLemmas.{first_part, second_part, less_so}
 use Rattle.patricia_model.proofs.ListLemmas.{key_cmp-turned}
 use Rattle.patricia_walks.specs.declared.cursor_state.ValueSlot.{ValueSlot}
 use Rattle.patricia_walks.specs.declared.cursor_state.ValueSlot.TheVariants.{OfEmptyKey, OfNode}
-use Rattle.patricia_walks.specs.Internal.Holders.{is_same, key_at, uses, Reads}
+use Rattle.patricia_walks.specs.Internal.Holders.{is_same, key_at, uses, ReadsHeld}
 
 -- two entries with the same key and the same value are one
 same_row : {V : Type 0} (x y : List ℕ × V) → x.0 ≡ y.0 → x.1 ≡ y.1 → x ≡ y
@@ -67,17 +67,17 @@ module _ (h : ValueSlot) where
 module _ {V : Type 0} (held : ValueSlot → Option V) where
   -- the rows whose keys pass a test are read where all are
   reads_filter : (f : List ℕ → Bool) (es : List (List ℕ × ValueSlot)) (rs : List (List ℕ × V))
-      → Reads held es rs → Reads held (filter (λ e. f e.0) es) (filter (λ e. f e.0) rs)
+      → ReadsHeld held es rs → ReadsHeld held (filter (λ e. f e.0) es) (filter (λ e. f e.0) rs)
   reads_filter f [] [] r = tt
   reads_filter f [] (x ∷ rs) r = absurd r
   reads_filter f (e ∷ es) [] r = absurd r
   reads_filter f (e ∷ es) (x ∷ rs) r = subst
-      (λ k. Reads held (filter (λ e. f e.0) (e ∷ es))
+      (λ k. ReadsHeld held (filter (λ e. f e.0) (e ∷ es))
       (cond (f k) (x ∷ filter (λ e. f e.0) rs) (filter (λ e. f e.0) rs))) r.0
       (by (f e.0) (reads_filter f es rs r.2))
     where
-      by : (b : Bool) → Reads held (filter (λ e. f e.0) es) (filter (λ e. f e.0) rs)
-          → Reads held (cond b (e ∷ filter (λ e. f e.0) es) (filter (λ e. f e.0) es))
+      by : (b : Bool) → ReadsHeld held (filter (λ e. f e.0) es) (filter (λ e. f e.0) rs)
+          → ReadsHeld held (cond b (e ∷ filter (λ e. f e.0) es) (filter (λ e. f e.0) es))
           (cond b (x ∷ filter (λ e. f e.0) rs) (filter (λ e. f e.0) rs))
       by true rest = (r.0, r.1, rest)
       by false rest = rest
@@ -85,25 +85,25 @@ module _ {V : Type 0} (held : ValueSlot → Option V) where
   -- so do those behind a key
   pub reads_after :
       (o : Option (List ℕ)) (p : List ℕ) (es : List (List ℕ × ValueSlot)) (rs : List (List ℕ × V))
-      → Reads held es rs → Reads held (after o (under p es)) (after o (under p rs))
+      → ReadsHeld held es rs → ReadsHeld held (after o (under p es)) (after o (under p rs))
   reads_after None p es rs r = reads_filter (λ k. begins p k) es rs r
   reads_after (Some q) p es rs r = reads_filter (λ k. is_lt (key_cmp q k)) _ _ (reads_filter (λ k. begins p k) es rs r)
 
   -- where no holder is, no row is read
-  pub reads_none : (rs : List (List ℕ × V)) → Reads held [] rs → rs ≡ []
+  pub reads_none : (rs : List (List ℕ × V)) → ReadsHeld held [] rs → rs ≡ []
   reads_none [] r = refl
   reads_none (x ∷ rs) r = absurd r
 
   -- the first of them reads the first entry
   pub reads_first :
       (e : List ℕ × ValueSlot) (es : List (List ℕ × ValueSlot)) (rs : List (List ℕ × V))
-      → Reads held (e ∷ es) rs → (v : V) × (slice_get rs 0 ≡ Some (e.0, v)) × (held e.1 ≡ Some v)
+      → ReadsHeld held (e ∷ es) rs → (v : V) × (slice_get rs 0 ≡ Some (e.0, v)) × (held e.1 ≡ Some v)
   reads_first e es [] r = absurd r
   reads_first e es (x ∷ rs) r = (x.1, ap (λ k. Some (k, x.1)) (sym r.0), r.1)
 
   -- a key that is below all rows is below that of a holder
   key_below : (q : List ℕ) (h : ValueSlot) (k : List ℕ) (es : List (List ℕ × ValueSlot))
-      (rs : List (List ℕ × V)) → Reads held es rs → T (below_all key_cmp q rs)
+      (rs : List (List ℕ × V)) → ReadsHeld held es rs → T (below_all key_cmp q rs)
       → key_at es h ≡ Some k → key_cmp q k ≡ Less
   key_below q h k [] rs r below at = absurd (cc)
   key_below q h k (e ∷ es) [] r below at = absurd r
@@ -116,7 +116,7 @@ module _ {V : Type 0} (held : ValueSlot → Option V) where
 
   -- a holder that stands in the rows holds a value
   pub key_value : (h : ValueSlot) (es : List (List ℕ × ValueSlot)) (rs : List (List ℕ × V))
-      → Reads held es rs → key_at es h ≢ None → (v : V) × (held h ≡ Some v)
+      → ReadsHeld held es rs → key_at es h ≢ None → (v : V) × (held h ≡ Some v)
   key_value h [] rs r some = absurd (some refl)
   key_value h (e ∷ es) [] r some = absurd r
   key_value h (e ∷ es) (x ∷ rs) r some = by (is_same e.1 h) refl some (key_value h es rs r.2)
@@ -129,7 +129,7 @@ module _ {V : Type 0} (held : ValueSlot → Option V) where
   -- the value at the key of a holder is the one that it holds
   pub find_read :
       (h : ValueSlot) (k : List ℕ) (es : List (List ℕ × ValueSlot)) (rs : List (List ℕ × V))
-      → Reads held es rs → T (is_sorted key_cmp rs) → key_at es h ≡ Some k
+      → ReadsHeld held es rs → T (is_sorted key_cmp rs) → key_at es h ≡ Some k
       → find key_cmp k rs ≡ held h
   find_read h k [] rs r sorted at = absurd (cc)
   find_read h k (e ∷ es) [] r sorted at = absurd r
@@ -149,8 +149,8 @@ module _ {V : Type 0} (held : ValueSlot → Option V) where
 module _ {V : Type 0} (old new : ValueSlot → Option V) (h : ValueSlot) (w : V)
     (here : new h ≡ Some w) (others : (x : ValueSlot) → is_same x h ≡ false → new x ≡ old x) where
   -- where the holder does not stand, no row changes
-  put_unused : (es : List (List ℕ × ValueSlot)) (rs ts : List (List ℕ × V)) → Reads old es rs
-      → Reads new es ts → uses es h ≡ 0 → ts ≡ rs
+  put_unused : (es : List (List ℕ × ValueSlot)) (rs ts : List (List ℕ × V)) → ReadsHeld old es rs
+      → ReadsHeld new es ts → uses es h ≡ 0 → ts ≡ rs
   put_unused [] rs ts r t none = reads_none new ts t ∙ sym (reads_none old rs r)
   put_unused (e ∷ es) [] ts r t none = absurd r
   put_unused (e ∷ es) (x ∷ rs) [] r t none = absurd t
@@ -166,7 +166,7 @@ module _ {V : Type 0} (old new : ValueSlot → Option V) (h : ValueSlot) (w : V)
 
   -- a write to what a holder holds puts the value in at its key
   pub put_read : (k : List ℕ) (es : List (List ℕ × ValueSlot)) (rs ts : List (List ℕ × V))
-      → Reads old es rs → Reads new es ts → uses es h ≤ 1 → T (is_sorted key_cmp rs)
+      → ReadsHeld old es rs → ReadsHeld new es ts → uses es h ≤ 1 → T (is_sorted key_cmp rs)
       → key_at es h ≡ Some k → ts ≡ put key_cmp k w rs
   put_read k [] rs ts r t once sorted at = absurd (cc)
   put_read k (e ∷ es) [] ts r t once sorted at = absurd r

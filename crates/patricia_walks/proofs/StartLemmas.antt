@@ -14,7 +14,7 @@ use Rattle.patricia_nodes.specs.Internal.Places.{Placed, node_under}
 use Rattle.patricia_walks.specs.Internal.Positions.{Position, IsPosition, IsTop, row_at, rows_below, state_of}
 use Rattle.patricia_walks.proofs.PositionLemmas.{position_top, left_top, position_end, position_start, row_none}
 use Rattle.patricia_model.proofs.WalkLemmas.{left_start}
-use Rattle.patricia_model.specs.Internal.WalkStates.{left}
+use Rattle.patricia_model.specs.Internal.WalkStates.{entries_left}
 use Rattle.patricia_walks.proofs.UnderLemmas.{place_top, place_rows, place_nothing, top_filled}
 use Rattle.patricia_walks.specs.declared.cursor_state.ValueSlot.{ValueSlot}
 use Rattle.patricia_walks.specs.declared.cursor_state.ValueSlot.TheVariants.{OfEmptyKey, OfNode}
@@ -93,7 +93,7 @@ module _ (item : List ℕ → Type 0) {V : Type 0} (s : NodeArena V) (m : NodeAr
 
   -- all rows below the topmost node are left
   pub start_left : p.pending ≡ option_map (λ _. OfNode top) n.value
-      → left (state_of p) ≡ rows_below front (row_at (numbered_slots 0 s.nodes.items) (Some top))
+      → entries_left (state_of p) ≡ rows_below front (row_at (numbered_slots 0 s.nodes.items) (Some top))
   start_left pending = rw (← is.nodes) (left_top item m front top (marked_node top n) m_top m_reads p (nodes ∙ sym is.nodes) path pending next stack)
 
 -- where a walk can begin, a row is left
@@ -116,7 +116,7 @@ module _ {V : Type 0} (nodes : List (Node V)) (next : Option ℕ) where
   ended_position item p none is = rw is (position_end item (fresh None) refl none refl)
 
   -- at the end nothing is left
-  pub ended_left : (p : Position ValueSlot) → next ≡ None → p ≡ fresh None → left (state_of p) ≡ []
+  pub ended_left : (p : Position ValueSlot) → next ≡ None → p ≡ fresh None → entries_left (state_of p) ≡ []
   ended_left p none is = rw (is, none, row_none (numbered_slots 0 nodes)) refl
 
 module _ (item : List ℕ → Type 0) {V : Type 0} (s : NodeArena V) (whole : IsWellFormed s)
@@ -132,5 +132,5 @@ module _ (item : List ℕ → Type 0) {V : Type 0} (s : NodeArena V) (whole : Is
 
   -- at first all holders are left
   pub first_left : (value : Option V) → pending ≡ option_map (λ _. OfEmptyKey) value
-      → left (state_of p) ≡ holders value s
+      → entries_left (state_of p) ≡ holders value s
   first_left value due_is = rw (is, due_is) (left_start (state_of (fresh s.nodes.items s.root (option_map (λ _. OfEmptyKey) value))) refl refl)

@@ -21,8 +21,8 @@ use Rattle.patricia_walks.specs.declared.cursor_state.Start.{Start}
 use Rattle.patricia_walks.proofs.UnderLemmas.{under_filled}
 use Rattle.patricia_walks.specs.declared.cursor_state.CursorState.{CursorState}
 use Rattle.patricia_walks.specs.declared.cursor_state.TreeParts.{TreeParts}
-use Rattle.patricia_walks.specs.Internal.Holders.{numbered_slots, holders, held, key_at, Reads}
-use Rattle.patricia_walks.specs.Internal.Trails.{seen, left_of, last_key, standing, Advances, StepIsRefused, IsMadeOf, IsSameTree, AreEntriesLeft, IsHeld, IsTrail, IsAhead, IsPrefixCursor, StartsUnder}
+use Rattle.patricia_walks.specs.Internal.Holders.{numbered_slots, holders, held, key_at, ReadsHeld}
+use Rattle.patricia_walks.specs.Internal.Trails.{position_of, left_of, last_key, standing, Advances, StepIsRefused, IsMadeOf, IsSameTree, AreEntriesLeft, IsHeld, IsTrail, IsAhead, IsPrefixCursor, StartsUnder}
 use Rattle.patricia_walks.proofs.HolderLemmas.{marked, holders_read, holders_once, holders_sorted}
 use Rattle.patricia_walks.proofs.StartLemmas.{start_filled}
 use Rattle.patricia_walks.proofs.ReadLemmas.{key_of_once, reads_after, reads_first, reads_none}
@@ -31,7 +31,7 @@ module _ (item : List ℕ → Type 0) (kind : IsKeyKind item) {V : Type 0} (t : 
     (prefix : List ℕ) (w : IsHeld item t) where
   -- the rows that are left are those that the cursor has still to lend
   read_left : (rows : List (List ℕ × ValueSlot)) → AreEntriesLeft t prefix rows
-      → Reads (held t.value t.arena.nodes.items) rows (remaining_rows (standing t prefix))
+      → ReadsHeld (held t.value t.arena.nodes.items) rows (remaining_rows (standing t prefix))
   read_left rows is =
       rw (is, entries_map item kind t.value (siblings_of t.arena) w.tree.canonical)
       (reads_after (held t.value t.arena.nodes.items) (last_key t) prefix (holders t.value t.arena)
@@ -95,7 +95,7 @@ pub record Kept (item : List ℕ → Type 0) {V : Type 0} (t u : CursorState V) 
 
 module _ (item : List ℕ → Type 0) (kind : IsKeyKind item) {V : Type 0} (t u : CursorState V)
     (prefix : List ℕ) (w : IsTrail item t prefix) (s : IsSameTree t u)
-    (position : IsPosition item (seen u)) where
+    (position : IsPosition item (position_of u)) where
   -- with the last holder the whole stays
   same_standing : u.last ≡ t.last → standing u prefix ≡ standing t prefix
   same_standing last = rw (s.value, s.arena, last) refl
@@ -154,7 +154,7 @@ module _ (item : List ℕ → Type 0) (kind : IsKeyKind item) {V : Type 0} (t u 
 
 module _ (item : List ℕ → Type 0) (kind : IsKeyKind item) {V : Type 0} (t u : CursorState V)
     (prefix : List ℕ) (w : IsTrail item t prefix) (s : IsSameTree t u)
-    (position : IsPosition item (seen u)) where
+    (position : IsPosition item (position_of u)) where
   -- a step by its answer: the trail stays one, whatever came of it
   pub step_trail : {A E : Type 0} (r : Result A E)
       → ((a : A) → r ≡ Ok a → (key : Option (List ℕ)) × Advances t key u)
@@ -222,7 +222,7 @@ module _ (item : List ℕ → Type 0) {V : Type 0} (p : TreeParts V) (t : Cursor
   below nonempty = under_filled prefix nonempty (option_map (λ _. OfEmptyKey) p.value) (entries (row_at (numbered_slots 0 p.arena.nodes.items) p.arena.root))
 
   -- a new trail is one, and nothing is lent yet
-  pub made_trail : IsPosition item (seen t) → left_of t ≡ under prefix (holders p.value p.arena)
+  pub made_trail : IsPosition item (position_of t) → left_of t ≡ under prefix (holders p.value p.arena)
       → IsTrail item t prefix
   made_trail position left = record { held = made_held; position = position; left_is = made_left (left_of t) left }
 
@@ -232,7 +232,7 @@ module _ (item : List ℕ → Type 0) {V : Type 0} (p : TreeParts V) (t : Cursor
   made_stands = rw (last, ← made.value, ← made.arena) refl
 
   -- and so is one that begins below a node, or is over where there is none
-  pub made_under : prefix ≢ [] → IsPosition item (seen t) → left_of t ≡ [] → t.stack.items ≡ []
+  pub made_under : prefix ≢ [] → IsPosition item (position_of t) → left_of t ≡ [] → t.stack.items ≡ []
       → (o : Option Start) → IfSome o (StartsUnder item p.arena prefix)
       → IfNone o (under prefix (holders None p.arena) ≡ []) → IsPrefixCursor item t prefix o
   made_under nonempty position over stack None some none = made_trail position (over ∙ sym none ∙ sym (below nonempty))

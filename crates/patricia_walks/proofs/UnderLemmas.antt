@@ -20,7 +20,7 @@ use Rattle.patricia_nodes.proofs.PlanLemmas.{plan_is, below_le}
 use Rattle.patricia_nodes.proofs.FillLemmas.{plan_within, row-within, count-fill}
 use Rattle.patricia_nodes.proofs.SeekLemmas.{whole_plan}
 use Rattle.patricia_walks.specs.Internal.Positions.{IsTop, row_at, rows_below}
-use Rattle.patricia_walks.specs.declared.under.Start.{Start}
+use Rattle.patricia_walks.specs.declared.under.UnderStart.{UnderStart}
 use Rattle.patricia_walks.specs.Internal.Starts.{IsStartUnder, IsUnderWalk, rows_from, rows_left}
 use Rattle.patricia_walks.proofs.PlaceLemmas.{Passed, passed-fill}
 
@@ -168,14 +168,14 @@ module _ (item : List ℕ → Type 0) (kind : IsKeyKind item) {V : Type 0} (s : 
 
 module _ (item : List ℕ → Type 0) (kind : IsKeyKind item) {Q V : Type 0} (key_of : Q → List ℕ) where
   -- the rows of a walk that begins at the node, or is over where there is none
-  pub left_at : (start : Option (Start Q V)) (walk rows : List (List ℕ × V))
+  pub left_at : (start : Option (UnderStart Q V)) (walk rows : List (List ℕ × V))
       → IfSome start (λ s. IsStartUnder item key_of s × (rows_from key_of s ≡ rows))
       → IfNone start (rows ≡ []) → walk ≡ [] → rows_left key_of start walk ≡ rows
   left_at None walk rows some none over = over ∙ sym none
   left_at (Some s) walk rows some none over = some.1
 
   -- before a walk has begun, rows are left, and once it is refused, none
-  pub not_begun : (start : Option (Start Q V)) (walk : List (List ℕ × V)) (s : Start Q V)
+  pub not_begun : (start : Option (UnderStart Q V)) (walk : List (List ℕ × V)) (s : UnderStart Q V)
       → start ≡ Some s → IsUnderWalk item key_of start walk
       → (rows_left key_of start walk ≢ []) × (walk ≡ [])
   not_begun None walk s e h = absurd (cc)

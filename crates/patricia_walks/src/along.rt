@@ -6,7 +6,7 @@ ghost use Rattle.patricia_model.specs.Prefixes.{along};
 ghost use Rattle.patricia_model.specs.Siblings.{own, IsCanonical};
 ghost use Rattle.patricia_model.specs.Walks.{values_of};
 ghost use Rattle.patricia_nodes.specs.Internal.Plans.{IsWellFormed, siblings_of, entries_of};
-ghost use Rattle.patricia_walks.specs.Internal.Descents.{IsDescent, Moves, left};
+ghost use Rattle.patricia_walks.specs.Internal.Descents.{IsDescent, Moves, along_left};
 
 use patricia_keys::{BorrowedBytes, Bytes};
 use patricia_nodes::arena::NodeArena;
@@ -32,7 +32,7 @@ impl<'a, V> Descent<'a, V> {
         requires whole { IsWellFormed arena.now }
         requires row { IsCanonical K.item (siblings_of arena.now) }
         ensures descent { IsDescent K.item key.now result }
-        ensures left { left key.now result
+        ensures left { along_left key.now result
             ≡ along key.now (own (option_copied pending.entry) ++ entries_of arena.now) }
     {
         Descent {
@@ -70,7 +70,7 @@ impl<'a, V> Descent<'a, V> {
         requires { IsDescent K.item key.now self.old }
         ensures descent { IsDescent K.item key.now self.new }
         ensures taken { TakesFirst (λ v. (take self.new.len key.now, v.now))
-            (left key.now self.old) result (left key.now self.new) }
+            (along_left key.now self.old) result (along_left key.now self.new) }
     {
         loop {
             if let Some(value) = self.pending.take() {
@@ -96,9 +96,9 @@ impl<'a, Q: BorrowedBytes, V> Model for Along<'a, Q, V> {
 
     ghost Value = { List (List ℕ × V) };
 
-    ghost use Rattle.patricia_walks.specs.Internal.Descents.{IsDescent, left};
+    ghost use Rattle.patricia_walks.specs.Internal.Descents.{IsDescent, along_left};
 
-    ghost view = { λ a. left (Q.key a.key) a.place };
+    ghost view = { λ a. along_left (Q.key a.key) a.place };
 
     ghost invariant = { λ a. IsDescent Q.Owned.item (Q.key a.key) a.place };
 }
@@ -146,9 +146,9 @@ impl<'a, K: Bytes, V> Model for AlongOwned<'a, K, V> {
     ghost Value = { List V };
 
     ghost use Rattle.patricia_model.specs.Walks.{values_of};
-    ghost use Rattle.patricia_walks.specs.Internal.Descents.{IsDescent, left};
+    ghost use Rattle.patricia_walks.specs.Internal.Descents.{IsDescent, along_left};
 
-    ghost view = { λ a. values_of (left (K.key a.key) a.place) };
+    ghost view = { λ a. values_of (along_left (K.key a.key) a.place) };
 
     ghost invariant = { λ a. IsDescent K.item (K.key a.key) a.place };
 }

@@ -37,7 +37,7 @@ impl<K: Bytes, V> Model for Cursor<K, V> {
 }
 
 impl<K: Bytes, V: Drop> Cursor<K, V> {
-    ghost use Rattle.patricia_walks.specs.Internal.Lends.{lends_last};
+    ghost use Rattle.patricia_walks.specs.Internal.Lends.{cursor_lends_last};
 
     /// Makes a cursor over a tree. Does not allocate.
     pub fn new(parts: TreeParts<V>) -> Self
@@ -88,7 +88,7 @@ impl<K: Bytes, V: Drop> Cursor<K, V> {
 
     /// Lends the value that it advanced to last, or returns `None` where it has not advanced yet.
     pub fn value(&mut self) -> Option<&mut V>
-        ensures* writes { sem 𝓛 (lends_last K.row V.row K.Bytes self.entry result) }
+        ensures* writes { sem 𝓛 (cursor_lends_last K.row V.row K.Bytes self.entry result) }
         ensures value { option_copied_mut result ≡ last_value self.old }
     {
         self.state.value::<K>()

@@ -4,12 +4,12 @@ ghost use Rattle.std.specs.Borrow.{sem};
 ghost use Rattle.std.specs.Option.{option_copied_mut, option_map};
 ghost use Rattle.patricia_model.specs.Prefixes.{under};
 ghost use Rattle.patricia_model.specs.Siblings.{IsCanonical};
-ghost use Rattle.patricia_model.specs.Internal.WalkStates.{left};
+ghost use Rattle.patricia_model.specs.Internal.WalkStates.{entries_left};
 ghost use Rattle.patricia_nodes.specs.Internal.Plans.{IsWellFormed, siblings_of};
 ghost use Rattle.patricia_walks.specs.Internal.Positions.{IsPosition, AdvancesTo, state_of, row_at, rows_below};
 ghost use Rattle.patricia_walks.specs.declared.cursor_state.ValueSlot.TheVariants.{OfEmptyKey, OfNode};
 ghost use Rattle.patricia_walks.specs.Internal.Holders.{numbered_slots, holders};
-ghost use Rattle.patricia_walks.specs.Internal.Trails.{seen, left_of, Advances, StepIsRefused, IsMadeOf, IsSameTree, IsAtStart, StartsUnder, IsHeld, held_last};
+ghost use Rattle.patricia_walks.specs.Internal.Trails.{position_of, left_of, Advances, StepIsRefused, IsMadeOf, IsSameTree, IsAtStart, StartsUnder, IsHeld, held_last};
 
 use patricia_keys::{BorrowedBytes, Bytes};
 use patricia_nodes::arena::{Node, NodeArena};
@@ -99,7 +99,7 @@ impl<V> CursorState<V> {
     // A trail that has not gone on to a value.
     fn from(parts: TreeParts<V>, pending: Option<ValueSlot>, next: Link) -> CursorState<V>
         ensures tree { IsMadeOf parts result }
-        ensures seen { seen result ≡ record {
+        ensures position_of { position_of result ≡ record {
           nodes = numbered_slots 0 parts.arena.nodes.items;
           path = [];
           pending = pending;
@@ -125,7 +125,7 @@ impl<V> CursorState<V> {
         requires whole { IsWellFormed parts.arena }
         requires row { IsCanonical K.item (siblings_of parts.arena) }
         ensures tree { IsMadeOf parts result }
-        ensures position { IsPosition K.item (seen result) }
+        ensures position { IsPosition K.item (position_of result) }
         ensures left { left_of result ≡ holders parts.value parts.arena }
         ensures last { result.last ≡ None }
     {
@@ -152,7 +152,7 @@ impl<V> CursorState<V> {
     /// A trail that is over.
     pub fn ended<K: Bytes>(parts: TreeParts<V>) -> CursorState<V>
         ensures tree { IsMadeOf parts result }
-        ensures position { IsPosition K.item (seen result) }
+        ensures position { IsPosition K.item (position_of result) }
         ensures left { left_of result ≡ [] }
         ensures stack { result.stack.items ≡ [] }
         ensures last { result.last ≡ None }
@@ -174,11 +174,11 @@ impl<V> CursorState<V> {
 
     // Advances to the node's value and its children.
     fn descend<K: Bytes>(&mut self, id: NodeId) -> Result<(), AllocError>
-        requires position { IsPosition K.item (seen self.old) }
+        requires position { IsPosition K.item (position_of self.old) }
         requires taken { self.old.pending ≡ None }
         requires next { self.old.next ≡ Some id }
-        ensures goes { OnOk result (AdvancesTo K.item (seen self.old) (seen self.new)) }
-        ensures refused { OnErr result (seen self.new ≡ seen self.old) }
+        ensures goes { OnOk result (AdvancesTo K.item (position_of self.old) (position_of self.new)) }
+        ensures refused { OnErr result (position_of self.new ≡ position_of self.old) }
         ensures tree { IsSameTree self.old self.new }
         ensures last { self.new.last ≡ self.old.last }
     {
@@ -196,12 +196,12 @@ impl<V> CursorState<V> {
 
     // Goes back to the row that waits last, if there is one.
     fn back<K: Bytes>(&mut self) -> bool
-        requires position { IsPosition K.item (seen self.old) }
+        requires position { IsPosition K.item (position_of self.old) }
         requires taken { self.old.pending ≡ None }
         requires over { self.old.next ≡ None }
-        ensures step { IsTrue result → AdvancesTo K.item (seen self.old) (seen self.new) }
-        ensures over { result ≡ false → left (state_of (seen self.old)) ≡ [] }
-        ensures same { result ≡ false → seen self.new ≡ seen self.old }
+        ensures step { IsTrue result → AdvancesTo K.item (position_of self.old) (position_of self.new) }
+        ensures over { result ≡ false → entries_left (state_of (position_of self.old)) ≡ [] }
+        ensures same { result ≡ false → position_of self.new ≡ position_of self.old }
         ensures tree { IsSameTree self.old self.new }
         ensures last { self.new.last ≡ self.old.last }
     {
@@ -216,8 +216,8 @@ impl<V> CursorState<V> {
     // Advances to the next value, whose key is then the path, and who holds it is due. The answer
     // is false where there is none.
     fn seek<K: Bytes>(&mut self) -> Result<bool, AllocError>
-        requires { IsPosition K.item (seen self.old) }
-        ensures position { IsPosition K.item (seen self.new) }
+        requires { IsPosition K.item (position_of self.old) }
+        ensures position { IsPosition K.item (position_of self.new) }
         ensures left { left_of self.new ≡ left_of self.old }
         ensures found { IfOk result (λ found. IsTrue found → self.new.pending ≢ None) }
         ensures over { IfOk result (λ found. found ≡ false → left_of self.old ≡ []) }
@@ -242,9 +242,9 @@ impl<V> CursorState<V> {
 
     // Takes the value that is due for lent.
     fn mark_lent<K: Bytes>(&mut self)
-        requires position { IsPosition K.item (seen self.old) }
+        requires position { IsPosition K.item (position_of self.old) }
         requires pending { self.old.pending ≢ None }
-        ensures position { IsPosition K.item (seen self.new) }
+        ensures position { IsPosition K.item (position_of self.new) }
         ensures goes { Advances self.old (Some self.old.path.items) self.new }
         ensures tree { IsSameTree self.old self.new }
     {
@@ -253,8 +253,8 @@ impl<V> CursorState<V> {
 
     /// Advances to the next value, and returns its key.
     pub fn advance<K: Bytes>(&mut self, alloc: Global) -> Result<Option<K>, AllocError>
-        requires { IsPosition K.item (seen self.old) }
-        ensures position { IsPosition K.item (seen self.new) }
+        requires { IsPosition K.item (position_of self.old) }
+        ensures position { IsPosition K.item (position_of self.new) }
         ensures goes { IfOk result (λ key. Advances self.old (option_map K.key key) self.new) }
         ensures refused { OnErr result (StepIsRefused self.old self.new) }
         ensures tree { IsSameTree self.old self.new }
@@ -269,8 +269,8 @@ impl<V> CursorState<V> {
 
     /// The same without its key.
     pub fn advance_without_key<K: Bytes>(&mut self) -> Result<bool, AllocError>
-        requires { IsPosition K.item (seen self.old) }
-        ensures position { IsPosition K.item (seen self.new) }
+        requires { IsPosition K.item (position_of self.old) }
+        ensures position { IsPosition K.item (position_of self.new) }
         ensures goes { IfOk result (λ found. (key : Option (List ℕ))
             × (found ≡ is_some key) × Advances self.old key self.new) }
         ensures refused { OnErr result (StepIsRefused self.old self.new) }
@@ -293,7 +293,7 @@ impl<V> CursorState<V> {
         requires whole { IsWellFormed self.old.arena }
         requires start { IsAtStart K.item (numbered_slots 0 self.old.arena.nodes.items) front.now top }
         requires stack { self.old.stack.items ≡ [] }
-        ensures position { OnOk result (IsPosition K.item (seen self.new)) }
+        ensures position { OnOk result (IsPosition K.item (position_of self.new)) }
         ensures left { OnOk result (left_of self.new ≡ rows_below front.now
             (row_at (numbered_slots 0 self.old.arena.nodes.items) (Some top))) }
         ensures unchanged { OnErr result (self.new ≡ self.old) }

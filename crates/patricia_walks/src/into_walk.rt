@@ -3,7 +3,7 @@
 //! The nodes stay in the vector. They are dropped with the walk, or at an error.
 ghost use Rattle.std.specs.Prelude.{◌≡◌, ◌≢◌, ◌++◌, [], Some, None, false, IfOk, OnOk, OnErr, IsTrue};
 ghost use Rattle.patricia_model.specs.Siblings.{own, IsCanonical};
-ghost use Rattle.patricia_model.specs.Internal.WalkStates.{left, TakesEntry};
+ghost use Rattle.patricia_model.specs.Internal.WalkStates.{entries_left, TakesEntry};
 ghost use Rattle.patricia_model.specs.Walks.{YieldsOrErr};
 ghost use Rattle.patricia_nodes.specs.Internal.Plans.{IsWellFormed, siblings_of, entries_of};
 ghost use Rattle.patricia_walks.specs.Internal.Positions.{IsPosition, AdvancesTo, state_of, owned};
@@ -31,7 +31,7 @@ struct OwnedTraversal<V> {
 impl<V: Drop> OwnedTraversal<V> {
     // Ends the walk, and drops what is left.
     fn finish<K: Bytes>(&mut self)
-        ensures left { left (state_of (owned self.new)) ≡ [] }
+        ensures left { entries_left (state_of (owned self.new)) ≡ [] }
         ensures position { IsPosition K.item (owned self.new) }
     {
         self.arena.clear();
@@ -63,7 +63,7 @@ impl<V: Drop> OwnedTraversal<V> {
         requires taken { self.old.pending ≡ None }
         requires over { self.old.next ≡ None }
         ensures step { IsTrue result → AdvancesTo K.item (owned self.old) (owned self.new) }
-        ensures over { result ≡ false → left (state_of (owned self.old)) ≡ [] }
+        ensures over { result ≡ false → entries_left (state_of (owned self.old)) ≡ [] }
         ensures stays { result ≡ false → owned self.new ≡ owned self.old }
     {
         let Some((front, row)) = self.stack.pop() else {
@@ -80,7 +80,7 @@ impl<V: Drop> OwnedTraversal<V> {
         ensures position { OnOk result (IsPosition K.item (owned self.new)) }
         ensures ok { IfOk result (λ found.
             TakesEntry (state_of (owned self.old)) found (state_of (owned self.new))) }
-        ensures err { OnErr result (left (state_of (owned self.old)) ≢ []) }
+        ensures err { OnErr result (entries_left (state_of (owned self.old)) ≢ []) }
     {
         loop {
             if let Some(value) = self.pending.take() {
@@ -111,10 +111,10 @@ impl<K: Bytes, V> Model for IntoWalk<K, V> {
 
     ghost Value = { List (List ℕ × V) };
 
-    ghost use Rattle.patricia_model.specs.Internal.WalkStates.{left};
+    ghost use Rattle.patricia_model.specs.Internal.WalkStates.{entries_left};
     ghost use Rattle.patricia_walks.specs.Internal.Positions.{IsPosition, state_of, owned};
 
-    ghost view = { λ w. left (state_of (owned w.place)) };
+    ghost view = { λ w. entries_left (state_of (owned w.place)) };
 
     ghost invariant = { λ w. IsPosition K.item (owned w.place) };
 }

@@ -16,7 +16,7 @@ use std::marker::Model;
 
 // Where a walk begins: at a node, whose label comes behind the first bytes of the prefix.
 #[derive(Clone, Copy)]
-struct Start<'a, Q, V> {
+struct UnderStart<'a, Q, V> {
     arena: &'a NodeArena<V>,
     prefix: Q,
     front: usize,
@@ -27,7 +27,7 @@ struct Start<'a, Q, V> {
 fn find_start<'a, Q: BorrowedBytes, V>(
     arena: &'a NodeArena<V>,
     prefix: Q,
-) -> Option<Start<'a, Q, V>>
+) -> Option<UnderStart<'a, Q, V>>
     requires whole { IsWellFormed arena.now }
     requires row { IsCanonical Q.Owned.item (siblings_of arena.now) }
     requires nonempty { Q.key prefix ≢ [] }
@@ -38,7 +38,7 @@ fn find_start<'a, Q: BorrowedBytes, V>(
     let place = arena.seek(prefix);
     let front = prefix.as_bytes().len() - place.rest.as_bytes().len();
     let top = place.under()?;
-    Some(Start {
+    Some(UnderStart {
         arena,
         prefix,
         front,
@@ -51,7 +51,7 @@ fn find_start<'a, Q: BorrowedBytes, V>(
 pub struct Under<'a, Q: BorrowedBytes, V> {
     alloc: Global,
     // where the walk begins, until it has begun
-    start: Option<Start<'a, Q, V>>,
+    start: Option<UnderStart<'a, Q, V>>,
     walk: Walk<'a, Q::Owned, V>,
 }
 

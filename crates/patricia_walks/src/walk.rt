@@ -2,7 +2,7 @@
 ghost use Rattle.std.specs.Prelude.{◌≡◌, ◌≢◌, ◌++◌, [], Some, None, false, IfOk, OnOk, OnErr, IsTrue};
 ghost use Rattle.std.specs.Option.{option_copied};
 ghost use Rattle.patricia_model.specs.Siblings.{own, keys_of, IsCanonical};
-ghost use Rattle.patricia_model.specs.Internal.WalkStates.{left, TakesEntry};
+ghost use Rattle.patricia_model.specs.Internal.WalkStates.{entries_left, TakesEntry};
 ghost use Rattle.patricia_model.specs.Walks.{YieldsOrErr, values_of};
 ghost use Rattle.patricia_nodes.specs.Internal.Plans.{IsWellFormed, siblings_of, entries_of};
 ghost use Rattle.patricia_walks.specs.Internal.Positions.{IsPosition, IsTop, AdvancesTo, state_of, lent, row_at, rows_below};
@@ -30,7 +30,7 @@ struct Traversal<'a, V> {
 impl<'a, V> Traversal<'a, V> {
     // Ends the walk.
     fn finish<K: Bytes>(&mut self)
-        ensures left { left (state_of (lent self.new)) ≡ [] }
+        ensures left { entries_left (state_of (lent self.new)) ≡ [] }
         ensures position { IsPosition K.item (lent self.new) }
     {
         self.path.clear();
@@ -61,7 +61,7 @@ impl<'a, V> Traversal<'a, V> {
         requires taken { self.old.pending ≡ None }
         requires over { self.old.next ≡ None }
         ensures step { IsTrue result → AdvancesTo K.item (lent self.old) (lent self.new) }
-        ensures over { result ≡ false → left (state_of (lent self.old)) ≡ [] }
+        ensures over { result ≡ false → entries_left (state_of (lent self.old)) ≡ [] }
         ensures stays { result ≡ false → lent self.new ≡ lent self.old }
     {
         let Some((front, row)) = self.stack.pop() else {
@@ -78,7 +78,7 @@ impl<'a, V> Traversal<'a, V> {
         ensures position { OnOk result (IsPosition K.item (lent self.new)) }
         ensures ok { IfOk result (λ found. TakesEntry (state_of (lent self.old))
             (option_copied found) (state_of (lent self.new))) }
-        ensures err { OnErr result (left (state_of (lent self.old)) ≢ []) }
+        ensures err { OnErr result (entries_left (state_of (lent self.old)) ≢ []) }
     {
         loop {
             if let Some(value) = self.pending.take() {
@@ -109,10 +109,10 @@ impl<'a, K: Bytes, V> Model for Walk<'a, K, V> {
 
     ghost Value = { List (List ℕ × V) };
 
-    ghost use Rattle.patricia_model.specs.Internal.WalkStates.{left};
+    ghost use Rattle.patricia_model.specs.Internal.WalkStates.{entries_left};
     ghost use Rattle.patricia_walks.specs.Internal.Positions.{IsPosition, state_of, lent};
 
-    ghost view = { λ w. left (state_of (lent w.place)) };
+    ghost view = { λ w. entries_left (state_of (lent w.place)) };
 
     ghost invariant = { λ w. IsPosition K.item (lent w.place) };
 }

@@ -12,7 +12,7 @@ use Rattle.patricia_wire.specs.Records.{Record, Encodes, EncodeAll, bit_if}
 use Rattle.patricia_wire.specs.Forests.{Root}
 use Rattle.patricia_wire.specs.Writings.{Means}
 use Rattle.patricia_wire.specs.WireLaws.{TellsValid, MeansOrHasFirstFault, NeverLacksBoth}
-use Rattle.patricia_wire.specs.Internal.Readings.{Rule, level, root_label, root_sibling, empty_label, invalid_label, sibling_order, no_value_no_child, too_few_values, number, error_at, Due, due_where, child_due, sibling_due, due_behind, IsRead, nothing, one_more, IsAfter, Breaks, BreaksNone, BreaksNoneBelow, BreaksFirst}
+use Rattle.patricia_wire.specs.Internal.Readings.{Rule, level, root_label, root_sibling, empty_label, invalid_label, sibling_order, no_value_no_child, too_few_values, rule_number, error_at, Due, due_where, child_due, sibling_due, due_behind, IsRead, nothing, one_more, IsAfter, BreaksRule, BreaksNone, BreaksNoneBelow, BreaksFirst}
 use Rattle.patricia_wire.specs.Faults.{value_marks, Reads, IsFirst}
 use Rattle.patricia_wire.specs.declared.error.DecodeError.{DecodeError}
 use Rattle.patricia_wire.specs.declared.error.DecodeError.TheVariants.{Truncated, TrailingBytes, TooManyValues}
@@ -81,7 +81,7 @@ module _ (item : List ℕ → Type 0) (kind : IsKeyKind item) (due : Due) (left 
           → (due.level ≡ 0) ⊎ (due.level ≢ 0) → G
       marked below makes root = go root (set_or_clear r.value) (set_or_clear r.child) (same_or_not left 0)
         where
-          last : BreaksNoneBelow item due left r 10 → (Breaks item due left r too_few_values → ⊥)
+          last : BreaksNoneBelow item due left r 10 → (BreaksRule item due left r too_few_values → ⊥)
               → (due.level ≢ 0 → (r.value ≡ true) ⊎ (r.child ≡ true)) → G
           last under enough marks = kept (kept_all item due left r (kept_next item due left r too_few_values under enough)) (makes marks)
 

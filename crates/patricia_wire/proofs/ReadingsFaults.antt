@@ -5,7 +5,7 @@ use Rattle.std.proofs.lemmas.List.Sums.{sum_by-append}
 use Rattle.std.specs.declared.cmp.Ordering.TheVariants.{Less}
 use Rattle.patricia_keys.specs.Keys.{ComparesFirst}
 use Rattle.patricia_wire.specs.Records.{Record, bit_if}
-use Rattle.patricia_wire.specs.Internal.Readings.{Rule, level, root_label, root_sibling, empty_label, invalid_label, sibling_order, no_value_no_child, too_few_values, number, error_at, Due, IsRead, Breaks, BreaksNone, BreaksNoneBelow, BreaksFirst, IsFaultless}
+use Rattle.patricia_wire.specs.Internal.Readings.{Rule, level, root_label, root_sibling, empty_label, invalid_label, sibling_order, no_value_no_child, too_few_values, rule_number, error_at, Due, IsRead, BreaksRule, BreaksNone, BreaksNoneBelow, BreaksFirst, IsFaultless}
 use Rattle.patricia_wire.specs.Faults as faults
 use Rattle.patricia_wire.specs.Faults.{value_marks, IsLastUpTo, IsDue, other_level, labelled_root, root_of_siblings, no_label, not_valid, falling, bare, no_value}
 use Rattle.patricia_wire.specs.declared.error.DecodeError.{DecodeError}
@@ -43,8 +43,8 @@ module _ (item : List ℕ → Type 0) (n : ℕ) (before : List Record) (r : Reco
   -- the record breaks the rule behind these records, and none before it
   abbrev pub IsFirstBroken : Rule → Type 0
   IsFirstBroken rule = record {
-    broken : (at : ℕ) → faults.Breaks item before r n at (number rule) (error_at at rule);
-    first : (at k : ℕ) (e : DecodeError) → k < number rule → faults.Breaks item before r n at k e
+    broken : (at : ℕ) → faults.Breaks item before r n at (rule_number rule) (error_at at rule);
+    first : (at k : ℕ) (e : DecodeError) → k < rule_number rule → faults.Breaks item before r n at k e
         → ⊥;
   }
 
@@ -52,8 +52,8 @@ module _ (item : List ℕ → Type 0) (n left : ℕ) (before : List Record) (due
     (waiting : List Due) (r : Record) where
   -- at the level that is due the rules are those of the records before
   breaks_behind : IsRead item n before (due ∷ waiting) → left + value_marks before ≡ n
-      → r.level ≡ due.level → (at : ℕ) (rule : Rule) → Breaks item due left r rule
-      → faults.Breaks item before r n at (number rule) (error_at at rule)
+      → r.level ≡ due.level → (at : ℕ) (rule : Rule) → BreaksRule item due left r rule
+      → faults.Breaks item before r n at (rule_number rule) (error_at at rule)
   breaks_behind read count same at level b = absurd (b same)
   breaks_behind read count same at root_label b = labelled_root (root_due item n before due waiting read b.0) b.1
   breaks_behind read count same at root_sibling b = root_of_siblings (root_due item n before due waiting read b.0) b.1
@@ -70,7 +70,7 @@ module _ (item : List ℕ → Type 0) (n left : ℕ) (before : List Record) (due
   -- and the other way round
   breaks_due : IsRead item n before (due ∷ waiting) → left + value_marks before ≡ n
       → r.level ≡ due.level → (at k : ℕ) (e : DecodeError) → faults.Breaks item before r n at k e
-      → (rule : Rule) × (k ≡ number rule) × Breaks item due left r rule
+      → (rule : Rule) × (k ≡ rule_number rule) × BreaksRule item due left r rule
   breaks_due read count same at k e (other_level h) = absurd (h (subst (IsDue before) (sym same) (is_due item n before due waiting read)))
   breaks_due read count same at k e (labelled_root none some) = (
     root_label,
@@ -96,7 +96,7 @@ module _ (item : List ℕ → Type 0) (n left : ℕ) (before : List Record) (due
 
   -- where the level is not the one that is due, its rule is the first that is broken
   at_other_level : IsRead item n before (due ∷ waiting) → r.level ≢ due.level → (rule : Rule)
-      → BreaksNoneBelow item due left r (number rule) → IsFirstBroken item n before r rule
+      → BreaksNoneBelow item due left r (rule_number rule) → IsFirstBroken item n before r rule
   at_other_level read other level lower = record {
     broken = λ at. other_level (λ given. other (one_due before r.level due.level given (is_due item n before due waiting read)));
     first = λ at k e less h. omega (arith, less, least_broken item before r n at k e h);

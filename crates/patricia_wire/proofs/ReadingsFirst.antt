@@ -3,7 +3,7 @@ use Rattle.std.proofs.Common.{◌≡◌, ℕ, ◌+◌, ◌<◌, ◌≤◌, ◌�
 use Rattle.std.proofs.lemmas.Bool.{cases_lt}
 use Rattle.patricia_wire.specs.Records.{Record, Encodes, EncodeAll}
 use Rattle.patricia_wire.specs.Forests.{Root}
-use Rattle.patricia_wire.specs.Internal.Readings.{Rule, number, error_at, Due, IsRead, nothing, one_more}
+use Rattle.patricia_wire.specs.Internal.Readings.{Rule, rule_number, error_at, Due, IsRead, nothing, one_more}
 use Rattle.patricia_wire.specs.Faults.{value_marks, Breaks, IsUnfinished, Reads, IsCutShort, Stands, cut_short, in_record, trailing, too_many, IsFirst}
 use Rattle.patricia_wire.specs.declared.error.DecodeError.{DecodeError}
 use Rattle.patricia_wire.specs.declared.error.DecodeError.TheVariants.{Truncated, TrailingBytes, TooManyValues}
@@ -150,18 +150,18 @@ module _ (item : List ℕ → Type 0) (n : ℕ) where
         → Reads w b before offset (bytes ++ rest) → Encodes w r bytes
         → IsFirstBroken item n before r rule → IsFirst item w b n (error_at offset rule)
     first_in_record before due waiting offset r bytes rest rule read reads spells broken =
-        first_of before (due ∷ waiting) offset (bytes ++ rest) read reads (number rule)
+        first_of before (due ∷ waiting) offset (bytes ++ rest) read reads (rule_number rule)
         (error_at offset rule)
         (in_record before r bytes rest reads begun spells (broken.broken offset)) least
       where
         begun : IsUnfinished item before
         begun = unfinished item n before due waiting read
 
-        least : (j : ℕ) → IsNext before (bytes ++ rest) j → number rule ≤ j
+        least : (j : ℕ) → IsNext before (bytes ++ rest) j → rule_number rule ≤ j
         least j (short e unread cut) = absurd (enough w r bytes rest spells cut)
         least j (bad s first more at f unread e spelled other) =
             let both = record_same w r s bytes first rest more spells spelled e in
-            elim (cases_lt j (number rule)) [
+            elim (cases_lt j (rule_number rule)) [
               | inl less ↦ absurd (broken.first at j f less (subst (λ (z : Record). Breaks item before z n at j f) (sym both.0) other))
               | inr more ↦ more
             ]

@@ -2,10 +2,10 @@
 use Rattle.std.proofs.Common.{◌≡◌, ℕ, ◌+◌, ◌<◌, ◌≤◌, inl, inr, List, [], ◌∷◌, get_or, refl, sym, ap, subst, ◌∙◌, arith}
 use Rattle.std.proofs.lemmas.Bool.{cases_lt}
 use Rattle.patricia_wire.specs.Records.{Record}
-use Rattle.patricia_wire.specs.Internal.Readings.{Rule, level, root_label, root_sibling, empty_label, invalid_label, sibling_order, no_value_no_child, too_few_values, number, Due, Breaks, BreaksNone, BreaksNoneBelow}
+use Rattle.patricia_wire.specs.Internal.Readings.{Rule, level, root_label, root_sibling, empty_label, invalid_label, sibling_order, no_value_no_child, too_few_values, rule_number, Due, BreaksRule, BreaksNone, BreaksNoneBelow}
 
 -- no rule has a number below 3
-pub least_rule : (rule : Rule) → 3 ≤ number rule
+pub least_rule : (rule : Rule) → 3 ≤ rule_number rule
 least_rule level = omega arith
 least_rule root_label = omega arith
 least_rule root_sibling = omega arith
@@ -16,7 +16,7 @@ least_rule no_value_no_child = omega arith
 least_rule too_few_values = omega arith
 
 -- no rule has a number past 10
-pub last_rule : (rule : Rule) → number rule < 11
+pub last_rule : (rule : Rule) → rule_number rule < 11
 last_rule level = omega arith
 last_rule root_label = omega arith
 last_rule root_sibling = omega arith
@@ -33,7 +33,7 @@ numbered k = get_or
     sibling_order ∷ no_value_no_child ∷ too_few_values ∷ []) k level
 
 -- each rule is the one of its number
-numbered-number : (rule : Rule) → numbered (number rule) ≡ rule
+numbered-number : (rule : Rule) → numbered (rule_number rule) ≡ rule
 numbered-number level = refl
 numbered-number root_label = refl
 numbered-number root_sibling = refl
@@ -44,7 +44,7 @@ numbered-number no_value_no_child = refl
 numbered-number too_few_values = refl
 
 -- rules with one number are one rule
-number_same : (f g : Rule) → number f ≡ number g → f ≡ g
+number_same : (f g : Rule) → rule_number f ≡ rule_number g → f ≡ g
 number_same f g e = sym (numbered-number f) ∙ ap numbered e ∙ numbered-number g
 
 module _ (item : List ℕ → Type 0) (due : Due) (left : ℕ) (r : Record) where
@@ -53,11 +53,11 @@ module _ (item : List ℕ → Type 0) (due : Due) (left : ℕ) (r : Record) wher
   below_level rule less b = omega (arith, less, least_rule rule)
 
   -- where the rules below one are kept, and it is, so are those up to it
-  pub kept_next : (rule : Rule) → BreaksNoneBelow item due left r (number rule)
-      → (Breaks item due left r rule → ⊥) → BreaksNoneBelow item due left r (number rule + 1)
-  kept_next rule below kept g less b = elim (cases_lt (number g) (number rule)) [
+  pub kept_next : (rule : Rule) → BreaksNoneBelow item due left r (rule_number rule)
+      → (BreaksRule item due left r rule → ⊥) → BreaksNoneBelow item due left r (rule_number rule + 1)
+  kept_next rule below kept g less b = elim (cases_lt (rule_number g) (rule_number rule)) [
     | inl fewer ↦ below g fewer b
-    | inr least ↦ kept (subst (Breaks item due left r) (number_same g rule (omega (arith, less, least))) b)
+    | inr least ↦ kept (subst (BreaksRule item due left r) (number_same g rule (omega (arith, less, least))) b)
   ]
 
   -- where the rules below number 11 are kept, all are

@@ -11,7 +11,7 @@ use Rattle.patricia_keys.proofs.KeyLemmas.{IsValid-nil}
 use Rattle.patricia_model.specs.Siblings.{IsBefore}
 use Rattle.patricia_model.proofs.MeetingLemmas.{before_by_first_byte}
 use Rattle.patricia_wire.specs.Records.{Record, Encodes, canonical_bytes, canonical_bytes_of}
-use Rattle.patricia_wire.specs.Internal.Readings.{Rule, level, root_label, root_sibling, empty_label, invalid_label, sibling_order, no_value_no_child, too_few_values, number, error_at, Due, due_behind, IsRead, nothing, one_more, Breaks}
+use Rattle.patricia_wire.specs.Internal.Readings.{Rule, level, root_label, root_sibling, empty_label, invalid_label, sibling_order, no_value_no_child, too_few_values, rule_number, error_at, Due, due_behind, IsRead, nothing, one_more, BreaksRule}
 use Rattle.patricia_wire.specs.Faults.{value_marks, Reads, IsFirst}
 use Rattle.patricia_wire.proofs.Orders.{before_compares}
 use Rattle.patricia_wire.proofs.ReadingsFaults.{faulty, faultless}
@@ -98,7 +98,7 @@ module _ (item : List ℕ → Type 0) (tests : LabelTests item) where
 
   -- a rule that is kept is not broken
   kept : (due : Due) (left : ℕ) (r : Record) (rule : Rule) → keeps due left r rule ≡ true
-      → Breaks item due left r rule → ⊥
+      → BreaksRule item due left r rule → ⊥
   kept due left r level test b = b (eqb-true r.level due.level test)
   kept due left r root_label test b = elim (either (nat_lt 0 due.level) (is_nil r.label) test) [
     | inl inner ↦ (let more = ltb-true 0 due.level inner in omega (arith, more, b.0))
@@ -141,23 +141,23 @@ module _ (item : List ℕ → Type 0) (tests : LabelTests item) where
 
   -- the rules before it are kept
   abbrev pub keeps_before : Due → ℕ → Record → Rule → Bool
-  keeps_before due left r rule = each_passes (λ g. not (nat_lt (number g) (number rule)) || keeps due left r g)
+  keeps_before due left r rule = each_passes (λ g. not (nat_lt (rule_number g) (rule_number rule)) || keeps due left r g)
 
   -- the first rule that a record breaks is the first fault
   pub first_broken : (w : ℕ) (b : List ℕ) (n left : ℕ) (before : List Record) (due : Due)
       (waiting : List Due) (offset : ℕ) (r : Record) (bytes rest : List ℕ) (rule : Rule)
       → IsRead item n before (due ∷ waiting) → left + value_marks before ≡ n
-      → Reads w b before offset (bytes ++ rest) → Encodes w r bytes → Breaks item due left r rule
+      → Reads w b before offset (bytes ++ rest) → Encodes w r bytes → BreaksRule item due left r rule
       → keeps_before due left r rule ≡ true → IsFirst item w b n (error_at offset rule)
   first_broken w b n left before due waiting offset r bytes rest rule read count reads spells broken test =
       first_in_record item n w b before due waiting offset r bytes rest rule read reads spells
       (faulty item n left before due waiting r read count rule (broken, lower))
     where
-      lower : (g : Rule) → number g < number rule → Breaks item due left r g → ⊥
+      lower : (g : Rule) → rule_number g < rule_number rule → BreaksRule item due left r g → ⊥
       lower g less h = elim
-          (either (not (nat_lt (number g) (number rule))) (keeps due left r g)
-          (passes (λ g. not (nat_lt (number g) (number rule)) || keeps due left r g) test g)) [
-            | inl past ↦ clear_is (nat_lt (number g) (number rule)) past (lt-ltb (number g) (number rule) less)
+          (either (not (nat_lt (rule_number g) (rule_number rule))) (keeps due left r g)
+          (passes (λ g. not (nat_lt (rule_number g) (rule_number rule)) || keeps due left r g) test g)) [
+            | inl past ↦ clear_is (nat_lt (rule_number g) (rule_number rule)) past (lt-ltb (rule_number g) (rule_number rule) less)
             | inr held ↦ kept due left r g held h
           ]
 
@@ -207,7 +207,7 @@ reads_clean w R rest test = record { read = canonical_bytes_of w R; spelled = cl
 pub first_of_bytes : (w n left : ℕ) (before : List Record) (due : Due) (waiting : List Due)
     (r : Record) (rest : List ℕ) (rule : Rule) → IsRead IsByteItem n before (due ∷ waiting)
     → left + value_marks before ≡ n → list_all (has_room w) before ≡ true → has_room w r ≡ true
-    → Breaks IsByteItem due left r rule → keeps_before IsByteItem byte_tests due left r rule ≡ true
+    → BreaksRule IsByteItem due left r rule → keeps_before IsByteItem byte_tests due left r rule ≡ true
     → IsFirst IsByteItem w (canonical_bytes_of w before ++ (canonical_bytes w r ++ rest)) n (error_at (length (canonical_bytes_of w before)) rule)
 first_of_bytes w n left before due waiting r rest rule read count rooms room broken test =
     first_broken IsByteItem byte_tests w
@@ -233,7 +233,7 @@ opened_read item n = read_one item (no_tests item) n n [] the_root [] opened not
 
 -- the first fault of a record of byte keys behind such a root
 pub first_below : (n : ℕ) (r : Record) (rest : List ℕ) (rule : Rule) → has_room 2 r ≡ true
-    → Breaks IsByteItem first_child n r rule
+    → BreaksRule IsByteItem first_child n r rule
     → keeps_before IsByteItem byte_tests first_child n r rule ≡ true
     → IsFirst IsByteItem 2 (canonical_bytes_of 2 (opened ∷ []) ++ (canonical_bytes 2 r ++ rest)) n (error_at 4 rule)
 first_below n r rest rule room broken test = first_of_bytes 2 n n (opened ∷ []) first_child [] r

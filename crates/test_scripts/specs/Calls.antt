@@ -35,5 +35,5 @@ abbrev pub IsNumber : List ℕ → Type 0
 IsNumber text = IsNumeral 10 (without_leading_plus text) × (digits_value 10 (without_leading_plus text) < 2 ^ 64)
 
 -- the number that digits write, or digits behind a plus
-abbrev pub number_of : List ℕ → ℕ
-number_of text = digits_value 10 (without_leading_plus text)
+abbrev pub value_of : List ℕ → ℕ
+value_of text = digits_value 10 (without_leading_plus text)

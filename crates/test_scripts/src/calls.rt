@@ -6,7 +6,7 @@
 ghost use Rattle.std.specs.Prelude.{◌≡◌, ◌++◌, ◌==◌, map, IfOk, OnOk};
 ghost use Rattle.std.specs.List.{slice_split};
 ghost use Rattle.std.specs.Str.Lines.{lines};
-ghost use Rattle.test_scripts.specs.Calls.{told, told_by, call_of, calls_of, IsNumber, number_of};
+ghost use Rattle.test_scripts.specs.Calls.{told, told_by, call_of, calls_of, IsNumber, value_of};
 
 use patricia_tree::BorrowedBytes;
 use std::alloc::{AllocError, Global};
@@ -141,7 +141,7 @@ pub fn calls<'t>(alloc: Global, text: &'t str) -> Result<Vec<Call<'t>>, AllocErr
 
 /// The number that some digits write, or 0.
 pub fn number(digits: &[u8]) -> usize
-    ensures written { IsNumber digits.now → result ≡ number_of digits.now }
+    ensures written { IsNumber digits.now → result ≡ value_of digits.now }
     ensures other { ¬ (IsNumber digits.now) → result ≡ 0 }
 {
     let Ok(text) = str::from_utf8(digits) else {

@@ -7,7 +7,7 @@ use Rattle.patricia_nodes.specs.Internal.Plans.{plan_at, siblings_of, IsPlan}
 use Rattle.patricia_walks.specs.Internal.Positions.{row_at}
 use Rattle.patricia_wire.specs.Records.{Record}
 use Rattle.patricia_codec.specs.declared.records.Records.{Records}
-use Rattle.patricia_codec.specs.Internal.Pieces.{AreRecords, behind, weight}
+use Rattle.patricia_codec.specs.Internal.Pieces.{AreRecords, cut_front, weight}
 
 -- one of the records lies deeper than w bytes can tell
 abbrev pub HasDeep : ℕ → List Record → Type 0
@@ -18,8 +18,8 @@ module _ {V : Type 0} where
   nodes_of p = p.arena.now.nodes.items
 
   -- the row that is next
-  abbrev pub next_row : Records V → Siblings V
-  next_row p = behind p.skipped (row_at (nodes_of p) p.next)
+  abbrev pub next_siblings : Records V → Siblings V
+  next_siblings p = cut_front p.skipped (row_at (nodes_of p) p.next)
 
   -- the weight of the rows that wait, and of all that is left
   abbrev pub weight_waiting : List (Node V) → List (ℕ × Option ℕ) → ℕ
@@ -27,7 +27,7 @@ module _ {V : Type 0} where
   weight_waiting nodes (f ∷ fs) = weight (row_at nodes f.1) + weight_waiting nodes fs
 
   abbrev pub weight_left : Records V → ℕ
-  weight_left p = weight (next_row p) + weight_waiting (nodes_of p) p.stack.items
+  weight_left p = weight (next_siblings p) + weight_waiting (nodes_of p) p.stack.items
 
   -- nothing is taken: the first row is next, and no row waits
   pub record IsEncoderStart (p : Records V) : Type 0 where
@@ -52,7 +52,7 @@ module _ (item : List ℕ → Type 0) {V : Type 0} where
     pub plan : IsPlan (nodes_of p) p.next (plan_at (nodes_of p) p.next)
     pub here : List Record
     pub waiting : List Record
-    pub are_here : AreRecords item p.level (next_row p) here
+    pub are_here : AreRecords item p.level (next_siblings p) here
     pub are_waiting : AllWait (nodes_of p) p.stack.items waiting
     pub is : R ≡ here ++ waiting
 

@@ -24,10 +24,10 @@ module _ (item : List ℕ → Type 0) where
 
 module _ {V : Type 0} where
   -- a row behind the first n bytes of its first label, alone where there are any
-  abbrev pub behind : ℕ → Siblings V → Siblings V
-  behind zero row = row
-  behind (suc n) end = end
-  behind (suc n) (node label value child sibling) = node (drop (suc n) label) value child end
+  abbrev pub cut_front : ℕ → Siblings V → Siblings V
+  cut_front zero row = row
+  cut_front (suc n) end = end
+  cut_front (suc n) (node label value child sibling) = node (drop (suc n) label) value child end
 
   -- the bytes and the nodes of a row
   abbrev pub weight : Siblings V → ℕ

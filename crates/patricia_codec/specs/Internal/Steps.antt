@@ -83,14 +83,14 @@ module _ (item : List ℕ → Type 0) (w : ℕ) where
         × IsReading n new (before ++ (r ∷ [])) (due_behind r ++ waiting)
 
   -- nothing is due, whatever was read
-  abbrev pub Ends : Reader → Reader → Type 0
-  Ends old new =
+  abbrev pub ReachesEnd : Reader → Reader → Type 0
+  ReachesEnd old new =
       (n : ℕ) (before : List Record) (due : List Due) → IsReading n old before due
       → (due ≡ []) × IsReading n new before []
 
   -- a record is read, or nothing is due
   abbrev pub ReadsOn : ℕ → Reader → Option Record → Reader → Type 0
-  ReadsOn left old None new = Ends old new
+  ReadsOn left old None new = ReachesEnd old new
   ReadsOn left old (Some r) new = ReadsRecord left old r new
 
   -- the bytes are refused, whatever was read

@@ -18,13 +18,13 @@ module _ {V : Type 0} where
   waiting path (f ∷ fs) = waiting path fs ++ prefixed (take f.0 path) (entries f.1)
 
   -- the entries that are left
-  abbrev pub left : WalkState V → List (List ℕ × V)
-  left s = prefixed s.path (own s.pending ++ entries s.row) ++ waiting s.path s.stack
+  abbrev pub entries_left : WalkState V → List (List ℕ × V)
+  entries_left s = prefixed s.path (own s.pending ++ entries s.row) ++ waiting s.path s.stack
 
   -- the next value was taken, and its key is the new path; or there was none
   abbrev pub TakesEntry : WalkState V → Option V → WalkState V → Type 0
-  TakesEntry s None t = (left s ≡ []) × (left t ≡ [])
-  TakesEntry s (Some v) t = left s ≡ (t.path, v) ∷ left t
+  TakesEntry s None t = (entries_left s ≡ []) × (entries_left t ≡ [])
+  TakesEntry s (Some v) t = entries_left s ≡ (t.path, v) ∷ entries_left t
 
   -- how many steps a walk over a row takes at most
   abbrev pub steps_in : Siblings V → ℕ
@@ -64,5 +64,5 @@ module _ (item : List ℕ → Type 0) where
   -- a step of the walk: what is left stays, and fewer steps are left
   pub record IsStep {V : Type 0} (s t : WalkState V) : Type 0 where
     pub state : IsWalkState t
-    pub same : left t ≡ left s
+    pub same : entries_left t ≡ entries_left s
     pub less : steps_left t < steps_left s

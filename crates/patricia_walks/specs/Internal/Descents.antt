@@ -20,8 +20,8 @@ module _ {V : Type 0} where
   abbrev pub siblings_left : Descent V → Siblings V
   siblings_left d = row_at d.arena.now.nodes.items d.next
 
-  abbrev pub left : List ℕ → Descent V → List (List ℕ × V)
-  left key d = left_from key d.len (option_copied d.pending) (siblings_left d)
+  abbrev pub along_left : List ℕ → Descent V → List (List ℕ × V)
+  along_left key d = left_from key d.len (option_copied d.pending) (siblings_left d)
 
 module _ (item : List ℕ → Type 0) {V : Type 0} where
   -- what is passed is a valid key, and the row keeps the invariant
@@ -34,5 +34,5 @@ module _ (item : List ℕ → Type 0) {V : Type 0} where
   -- a step: what is left stays, and fewer nodes are ahead
   pub record Moves (key : List ℕ) (d e : Descent V) : Type 0 where
     pub descent : IsDescent key e
-    pub same : left key e ≡ left key d
+    pub same : along_left key e ≡ along_left key d
     pub less : steps_in (siblings_left e) < steps_in (siblings_left d)

@@ -47,9 +47,9 @@ uses [] h = 0
 uses (e ∷ es) h = (if is_same e.1 h then 1 else 0) + uses es h
 
 -- the rows have the same keys, and each value is the one that is held there
-abbrev pub Reads : {V : Type 0} → (ValueSlot → Option V) → List (List ℕ × ValueSlot)
+abbrev pub ReadsHeld : {V : Type 0} → (ValueSlot → Option V) → List (List ℕ × ValueSlot)
     → List (List ℕ × V) → Type 0
-Reads held [] [] = Unit {0}
-Reads held [] (r ∷ rs) = ⊥
-Reads held (e ∷ es) [] = ⊥
-Reads held (e ∷ es) (r ∷ rs) = (e.0 ≡ r.0) × (held e.1 ≡ Some r.1) × Reads held es rs
+ReadsHeld held [] [] = Unit {0}
+ReadsHeld held [] (r ∷ rs) = ⊥
+ReadsHeld held (e ∷ es) [] = ⊥
+ReadsHeld held (e ∷ es) (r ∷ rs) = (e.0 ≡ r.0) × (held e.1 ≡ Some r.1) × ReadsHeld held es rs

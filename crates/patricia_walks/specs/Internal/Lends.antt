@@ -16,9 +16,9 @@ abbrev pub lends_held : (V : RattleType) → MutBor (CursorState V.Denot) → Op
 lends_held V t r = LendsIf (the_row V) V t r (with_held t.now t.now.last) t.now
 
 -- and so does a cursor
-abbrev pub lends_last : (K V : RattleType) → Ghosts K.Denot → MutBor (CursorView V.Denot)
+abbrev pub cursor_lends_last : (K V : RattleType) → Ghosts K.Denot → MutBor (CursorView V.Denot)
     → Option (MutBor V.Denot) → Fml
-lends_last K V bytes s r = LendsIf (cursor_row K V bytes) V s r (written s.now) s.now
+cursor_lends_last K V bytes s r = LendsIf (cursor_row K V bytes) V s r (written s.now) s.now
 
 -- or one under a prefix
 abbrev pub lends_last_under : (Q V O : RattleType) → Borrowed Q.Denot O.Denot → Ghosts O.Denot

@@ -1,26 +1,26 @@
 -- Where a walk over the rows under a prefix begins.
 use Rattle.std.specs.Prelude.{◌≡◌, ℕ, ◌≤◌, List, [], length, take, Option, Some, None}
 use Rattle.patricia_walks.specs.Internal.Positions.{IsTop, row_at, rows_below}
-use Rattle.patricia_walks.specs.declared.under.Start.{Start}
+use Rattle.patricia_walks.specs.declared.under.UnderStart.{UnderStart}
 
 module _ {Q V : Type 0} (key_of : Q → List ℕ) where
   -- the rows from there on
-  abbrev pub rows_from : Start Q V → List (List ℕ × V)
+  abbrev pub rows_from : UnderStart Q V → List (List ℕ × V)
   rows_from s =
       rows_below (take s.front (key_of s.prefix)) (row_at s.arena.now.nodes.items (Some s.top))
 
   -- what is left: these rows until the walk has begun
-  abbrev pub rows_left : Option (Start Q V) → List (List ℕ × V) → List (List ℕ × V)
+  abbrev pub rows_left : Option (UnderStart Q V) → List (List ℕ × V) → List (List ℕ × V)
   rows_left None walk = walk
   rows_left (Some s) walk = rows_from s
 
 module _ (item : List ℕ → Type 0) {Q V : Type 0} (key_of : Q → List ℕ) where
   -- a walk can begin there, behind the first bytes of the prefix
-  pub record IsStartUnder (s : Start Q V) : Type 0 where
+  pub record IsStartUnder (s : UnderStart Q V) : Type 0 where
     pub within : s.front ≤ length (key_of s.prefix)
     pub top : IsTop item s.arena.now (take s.front (key_of s.prefix)) s.top
 
   -- where it has not begun, the walk is at its end
-  abbrev pub IsUnderWalk : Option (Start Q V) → List (List ℕ × V) → Type 0
+  abbrev pub IsUnderWalk : Option (UnderStart Q V) → List (List ℕ × V) → Type 0
   IsUnderWalk None walk = Unit {0}
   IsUnderWalk (Some s) walk = IsStartUnder s × (walk ≡ [])

@@ -5,7 +5,7 @@ use Rattle.patricia_model.specs.Cursors.{CursorView, after}
 use Rattle.patricia_model.specs.Prefixes.{under}
 use Rattle.patricia_model.specs.Siblings.{IsCanonical}
 use Rattle.patricia_model.specs.Trees.{map_of, IsTree}
-use Rattle.patricia_model.specs.Internal.WalkStates.{left}
+use Rattle.patricia_model.specs.Internal.WalkStates.{entries_left}
 use Rattle.patricia_nodes.specs.declared.arena.Node.{Node}
 use Rattle.patricia_nodes.specs.declared.arena.NodeArena.{NodeArena}
 use Rattle.patricia_nodes.specs.Internal.Plans.{IsWellFormed, IsPlan, siblings_of, plan_at, count}
@@ -25,8 +25,8 @@ key_of rows (Some h) = key_at rows h
 
 module _ {V : Type 0} where
   -- its place in the walk over the holders
-  abbrev pub seen : CursorState V → Position ValueSlot
-  seen t = record {
+  abbrev pub position_of : CursorState V → Position ValueSlot
+  position_of t = record {
     nodes = numbered_slots 0 t.arena.nodes.items;
     path = t.path.items;
     pending = t.pending;
@@ -36,7 +36,7 @@ module _ {V : Type 0} where
 
   -- the keys that are left, with who holds their values
   abbrev pub left_of : CursorState V → List (List ℕ × ValueSlot)
-  left_of t = left (state_of (seen t))
+  left_of t = entries_left (state_of (position_of t))
 
   -- the tree is the same
   pub record IsSameTree (t u : CursorState V) : Type 0 where
@@ -114,7 +114,7 @@ module _ (item : List ℕ → Type 0) {V : Type 0} where
   -- the walk has left what the cursor has still to lend
   pub record IsTrail (t : CursorState V) (prefix : List ℕ) : Type 0 where
     pub held : IsHeld t
-    pub position : IsPosition item (seen t)
+    pub position : IsPosition item (position_of t)
     pub left_is : AreEntriesLeft t prefix (left_of t)
 
   -- the walk has not begun, and what is left is below this node, behind these bytes of the prefix

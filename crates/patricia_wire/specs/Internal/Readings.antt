@@ -18,15 +18,15 @@ pub data Rule : Type 0 where
   no_value_no_child : Rule
   too_few_values : Rule
 
-abbrev pub number : Rule → ℕ
-number level = 3
-number root_label = 4
-number root_sibling = 5
-number empty_label = 6
-number invalid_label = 7
-number sibling_order = 8
-number no_value_no_child = 9
-number too_few_values = 10
+abbrev pub rule_number : Rule → ℕ
+rule_number level = 3
+rule_number root_label = 4
+rule_number root_sibling = 5
+rule_number empty_label = 6
+rule_number invalid_label = 7
+rule_number sibling_order = 8
+rule_number no_value_no_child = 9
+rule_number too_few_values = 10
 
 -- the error that names the rule, where the record begins at the offset
 abbrev pub error_at : ℕ → Rule → DecodeError
@@ -79,25 +79,25 @@ module _ (item : List ℕ → Type 0) where
 
   -- the record breaks the rule, by what is due, where so many values are left; the record that is due
   -- at level 0 is the root
-  abbrev pub Breaks : Due → ℕ → Record → Rule → Type 0
-  Breaks due left r level = r.level ≢ due.level
-  Breaks due left r root_label = (due.level ≡ 0) × (r.label ≢ [])
-  Breaks due left r root_sibling = (due.level ≡ 0) × (r.sibling ≡ true)
-  Breaks due left r empty_label = (due.level ≢ 0) × (r.label ≡ [])
-  Breaks due left r invalid_label = IsValid item r.label → ⊥
-  Breaks due left r sibling_order =
+  abbrev pub BreaksRule : Due → ℕ → Record → Rule → Type 0
+  BreaksRule due left r level = r.level ≢ due.level
+  BreaksRule due left r root_label = (due.level ≡ 0) × (r.label ≢ [])
+  BreaksRule due left r root_sibling = (due.level ≡ 0) × (r.sibling ≡ true)
+  BreaksRule due left r empty_label = (due.level ≢ 0) × (r.label ≡ [])
+  BreaksRule due left r invalid_label = IsValid item r.label → ⊥
+  BreaksRule due left r sibling_order =
       (l : List ℕ) × (due.after ≡ Some l) × (ComparesFirst item l r.label Less → ⊥)
-  Breaks due left r no_value_no_child =
+  BreaksRule due left r no_value_no_child =
       (due.level ≢ 0) × (r.value ≡ false) × (r.child ≡ false)
-  Breaks due left r too_few_values = (r.value ≡ true) × (left ≡ 0)
+  BreaksRule due left r too_few_values = (r.value ≡ true) × (left ≡ 0)
 
   -- the record breaks no rule, and none whose number is below another
   abbrev pub BreaksNone : Due → ℕ → Record → Type 0
-  BreaksNone due left r = (rule : Rule) → Breaks due left r rule → ⊥
+  BreaksNone due left r = (rule : Rule) → BreaksRule due left r rule → ⊥
 
   abbrev pub BreaksNoneBelow : Due → ℕ → Record → ℕ → Type 0
-  BreaksNoneBelow due left r k = (rule : Rule) → number rule < k → Breaks due left r rule → ⊥
+  BreaksNoneBelow due left r k = (rule : Rule) → rule_number rule < k → BreaksRule due left r rule → ⊥
 
   -- the record breaks the rule, and none before it
   abbrev pub BreaksFirst : Due → ℕ → Record → Rule → Type 0
-  BreaksFirst due left r rule = Breaks due left r rule × BreaksNoneBelow due left r (number rule)
+  BreaksFirst due left r rule = BreaksRule due left r rule × BreaksNoneBelow due left r (rule_number rule)

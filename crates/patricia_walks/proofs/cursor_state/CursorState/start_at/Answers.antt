@@ -1,5 +1,5 @@
 use Rattle.std.proofs.Common.{refl, ap, arith, ◌++◌, ◌∙◌}
-use Rattle.patricia_walks.specs.Internal.Trails.{seen}
+use Rattle.patricia_walks.specs.Internal.Trails.{position_of}
 use Rattle.patricia_walks.proofs.HolderLemmas.{marked}
 use Rattle.patricia_walks.proofs.StartLemmas.{start_within, start_position, start_left}
 use Rattle.patricia_walks.proofs.cursor_state.CursorState.start_at.Goals as goal
@@ -33,7 +33,7 @@ returns-clause-left g c =
     c.in_ok-path.ensures.items) ∙ ap (λ l. c.args.front.now ++ l) c.as_slice-label.ensures
     in
     start_left g.K.Bytes.item c.args.self.now.arena _ (marked _ c.requires.whole).1 c.args.front.now c.args.top c.index-node.result.now c.requires.start reads
-    (seen (record {
+    (position_of (record {
       value = c.args.self.now.value;
       arena = c.args.self.now.arena;
       count =

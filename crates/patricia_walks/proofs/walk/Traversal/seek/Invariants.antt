@@ -1,12 +1,12 @@
 use Rattle.std.proofs.Common.{◌≡◌}
-use Rattle.patricia_model.specs.Internal.WalkStates.{left, steps_left}
+use Rattle.patricia_model.specs.Internal.WalkStates.{entries_left, steps_left}
 use Rattle.patricia_walks.specs.Internal.Positions.{IsPosition, state_of, lent}
 use Rattle.patricia_walks.proofs.walk.Traversal.seek.Given as goal
 
 abbrev pub invariant-loop-value : goal.invariant-loop-value
 invariant-loop-value g l = record {
   position : IsPosition g.K.Bytes.item (lent l.self);
-  same : left (state_of (lent l.self)) ≡ left (state_of (lent l.initial.self));
+  same : entries_left (state_of (lent l.self)) ≡ entries_left (state_of (lent l.initial.self));
 }
 
 abbrev pub decreases-loop-value : goal.decreases-loop-value
