@@ -1,5 +1,8 @@
 -- A record that is added to what is built.
-use Rattle.std.proofs.Common.{◌≡◌, ◌≢◌, ℕ, ◌+◌, ◌<◌, ◌≤◌, Bool, true, false, List, [], ◌∷◌, ◌++◌, length, Option, Some, None, slice_get, get_or, set, refl, sym, ap, subst, ◌∙◌, arith, append-nil, append_assoc, length-append, length-set}
+use Rattle.std.proofs.Common.{◌≡◌, ◌≢◌, ℕ, ◌+◌, ◌<◌, ◌≤◌, Bool, true, false, List, [], ◌∷◌, ◌++◌}
+use Rattle.std.proofs.Common.{length, Option, Some, None, slice_get, get_or, set, refl, sym, ap}
+use Rattle.std.proofs.Common.{subst, ◌∙◌, arith, append-nil, append_assoc, length-append}
+use Rattle.std.proofs.Common.{length-set}
 use Rattle.std.specs.Prelude.{is_some, reverse, Result, Ok, Err, OnOk}
 use Rattle.std.specs.Option.{option_to_list}
 use Rattle.std.proofs.lemmas.Option.{slice_get-get_or}
@@ -16,8 +19,12 @@ use Rattle.patricia_codec.specs.declared.builder.Builder.{Builder}
 use Rattle.patricia_codec.specs.declared.builder.Next.{Next}
 use Rattle.patricia_codec.specs.declared.builder.Next.TheVariants.{Root, Below, Within, Beside}
 use Rattle.patricia_codec.specs.Internal.Growing.{Gap, Unlaid, IsOpenBeside, IsOpenAt, IsOpenWithin}
-use Rattle.patricia_codec.specs.Internal.Builds.{link_if, number_if, gap_if, ids, dues, Fall, count_of, Lays, HasLinked, Opens, ClosesAs, Prepares, Suits, Wait, IsBuiltAs, IsBuilt, AddsRecord}
-use Rattle.patricia_codec.proofs.GrowingLemmas.{AreWithin, not_at, laid_node, opened, joined_in, laid_above, laid_alone, linked_beside}
+use Rattle.patricia_codec.specs.Internal.Builds.{link_if, number_if, gap_if, ids, dues, Fall}
+use Rattle.patricia_codec.specs.Internal.Builds.{count_of, Lays, HasLinked, Opens, ClosesAs}
+use Rattle.patricia_codec.specs.Internal.Builds.{Prepares, Suits, Wait, IsBuiltAs, IsBuilt}
+use Rattle.patricia_codec.specs.Internal.Builds.{AddsRecord}
+use Rattle.patricia_codec.proofs.GrowingLemmas.{AreWithin, not_at, laid_node, opened, joined_in}
+use Rattle.patricia_codec.proofs.GrowingLemmas.{laid_above, laid_alone, linked_beside}
 
 -- what follows of an answer that is no error
 pub on_ok : {T E P Q : Type 0} (r : Result T E) → (P → Q) → OnOk r P → OnOk r Q

@@ -1,5 +1,8 @@
 -- The rules of a record, tried in the order of their numbers.
-use Rattle.std.proofs.Common.{◌≡◌, ◌≢◌, inl, inr, ℕ, zero, suc, ◌+◌, ◌<◌, ◌≤◌, true, false, List, [], ◌∷◌, ◌++◌, length, take, drop, length-take, length-append, take-append-drop, take_all, refl, sym, ap, subst, ◌∙◌, arith, append-nil}
+use Rattle.std.proofs.Common.{◌≡◌, ◌≢◌, inl, inr, ℕ, zero, suc, ◌+◌, ◌<◌, ◌≤◌, true, false, List}
+use Rattle.std.proofs.Common.{[], ◌∷◌, ◌++◌, length, take, drop, length-take, length-append}
+use Rattle.std.proofs.Common.{take-append-drop, take_all, refl, sym, ap, subst, ◌∙◌, arith}
+use Rattle.std.proofs.Common.{append-nil}
 use Rattle.std.specs.Prelude.{◌↔◌, Result, Ok, Err, IfErr, IsErrAnd, Bool, ◌&&◌, not, eqb, ◌==◌}
 use Rattle.std.proofs.lemmas.Bool.{cases_lt}
 use Rattle.std.proofs.lemmas.Bool.Decides.{nat_tests}
@@ -7,10 +10,14 @@ use Rattle.std.proofs.lemmas.List.{nil_from_length}
 use Rattle.std.specs.declared.cmp.Ordering.TheVariants.{Less, Equal, Greater}
 use Rattle.std.specs.declared.cmp.Ordering.{Ordering}
 use Rattle.std.proofs.Common.{is_lt}
-use Rattle.patricia_keys.specs.Keys.{IsKeyKind, IsValid, IsFirstItem, ComparesFirst, Begins, key_cmp}
+use Rattle.patricia_keys.specs.Keys.{IsKeyKind, IsValid, IsFirstItem, ComparesFirst, Begins}
+use Rattle.patricia_keys.specs.Keys.{key_cmp}
 use Rattle.patricia_keys.proofs.KeyLemmas.{begins_same, first_of, IsValid-item}
 use Rattle.patricia_wire.specs.Records.{Record}
-use Rattle.patricia_wire.specs.Internal.Readings.{Rule, level, root_label, root_sibling, empty_label, invalid_label, sibling_order, no_value_no_child, too_few_values, Due, BreaksRule, BreaksNone, BreaksNoneBelow}
+use Rattle.patricia_wire.specs.Internal.Readings.{Rule, level, root_label, root_sibling}
+use Rattle.patricia_wire.specs.Internal.Readings.{empty_label, invalid_label, sibling_order}
+use Rattle.patricia_wire.specs.Internal.Readings.{no_value_no_child, too_few_values, Due}
+use Rattle.patricia_wire.specs.Internal.Readings.{BreaksRule, BreaksNone, BreaksNoneBelow}
 use Rattle.patricia_wire.specs.declared.error.DecodeError.{DecodeError}
 use Rattle.patricia_wire.proofs.Orders.{before_compares}
 use Rattle.patricia_wire.proofs.Rules.{below_level, kept_next, kept_all}

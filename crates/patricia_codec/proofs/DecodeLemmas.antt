@@ -1,5 +1,7 @@
 -- Reading and building, step by step.
-use Rattle.std.proofs.Common.{◌≡◌, ◌≢◌, ◌⊎◌, inl, inr, ℕ, zero, suc, ◌+◌, ◌<◌, ◌≤◌, Bool, true, false, List, [], ◌∷◌, ◌++◌, length, Option, Some, None, refl, sym, ap, subst, ◌∙◌, arith, append-nil, append_assoc, length-append}
+use Rattle.std.proofs.Common.{◌≡◌, ◌≢◌, ◌⊎◌, inl, inr, ℕ, zero, suc, ◌+◌, ◌<◌, ◌≤◌, Bool, true}
+use Rattle.std.proofs.Common.{false, List, [], ◌∷◌, ◌++◌, length, Option, Some, None, refl, sym, ap}
+use Rattle.std.proofs.Common.{subst, ◌∙◌, arith, append-nil, append_assoc, length-append}
 use Rattle.std.specs.Prelude.{is_some, reverse, IsSome}
 use Rattle.std.specs.Option.{option_to_list}
 use Rattle.std.proofs.lemmas.List.{reverse-append, reverse-reverse, nil_from_length}
@@ -10,13 +12,15 @@ use Rattle.patricia_nodes.specs.Internal.Plans.{below}
 use Rattle.patricia_wire.specs.Records.{Record, bit_if}
 use Rattle.patricia_wire.specs.Forests.{Root}
 use Rattle.patricia_wire.specs.Faults.{value_marks}
-use Rattle.patricia_wire.specs.Internal.Readings.{level, root_label, root_sibling, empty_label, no_value_no_child, Due, IsRead, nothing, IsAfter}
+use Rattle.patricia_wire.specs.Internal.Readings.{level, root_label, root_sibling, empty_label}
+use Rattle.patricia_wire.specs.Internal.Readings.{no_value_no_child, Due, IsRead, nothing, IsAfter}
 use Rattle.patricia_wire.proofs.Readings.{same_number, root_due, first_due}
 use Rattle.patricia_wire.proofs.ReadingsFaults.{marks_more}
 use Rattle.patricia_codec.specs.declared.builder.Builder.{Builder}
 use Rattle.patricia_codec.specs.declared.reader.Reader.{Reader}
 use Rattle.patricia_codec.specs.Internal.Growing.{Gap, IsGrown}
-use Rattle.patricia_codec.specs.Internal.Builds.{ids, dues, Fall, IsNew, CanAdd, CanLink, Suits, IsBuiltAs, IsBuilt}
+use Rattle.patricia_codec.specs.Internal.Builds.{ids, dues, Fall, IsNew, CanAdd, CanLink, Suits}
+use Rattle.patricia_codec.specs.Internal.Builds.{IsBuiltAs, IsBuilt}
 use Rattle.patricia_codec.specs.Internal.Steps.{IsReaderStart, IsAccepted, IsReading, ReachesEnd}
 use Rattle.patricia_codec.proofs.EndLemmas.{grown, grown_tree, IsDone, done}
 use Rattle.patricia_codec.proofs.ReaderLemmas.{spelled_all}

@@ -1,9 +1,11 @@
 -- What is written, and what is left, make the encoding.
-use Rattle.std.proofs.Common.{◌≡◌, ℕ, ◌<◌, ◌≤◌, inl, inr, false, List, [], ◌∷◌, ◌++◌, Option, Some, None, refl, sym, ap, subst, ◌∙◌, arith, append_assoc, append-nil}
+use Rattle.std.proofs.Common.{◌≡◌, ℕ, ◌<◌, ◌≤◌, inl, inr, false, List, [], ◌∷◌, ◌++◌, Option, Some}
+use Rattle.std.proofs.Common.{None, refl, sym, ap, subst, ◌∙◌, arith, append_assoc, append-nil}
 use Rattle.std.specs.Prelude.{◌^◌, All, Any, is_some}
 use Rattle.std.proofs.lemmas.List.Elements.{All-nil, All-cons, All-append}
 use Rattle.patricia_keys.specs.Keys.{IsKeyKind}
-use Rattle.patricia_model.specs.Siblings.{Siblings, end, node, own, prefixed, entries, keys_of, IsCanonical, IsCanonicalWithin}
+use Rattle.patricia_model.specs.Siblings.{Siblings, end, node, own, prefixed, entries, keys_of}
+use Rattle.patricia_model.specs.Siblings.{IsCanonical, IsCanonicalWithin}
 use Rattle.patricia_model.proofs.UniqueLemmas.{has_entry}
 use Rattle.patricia_nodes.specs.declared.arena.NodeArena.{NodeArena}
 use Rattle.patricia_nodes.specs.Internal.Plans.{siblings_of, IsWellFormed}
@@ -20,7 +22,8 @@ use Rattle.patricia_wire.proofs.TightRows.{within_writable, within_apart}
 use Rattle.patricia_wire.proofs.WrittenOrDeep.{any_there, any_right, tree_room_or_deep}
 use Rattle.patricia_codec.specs.declared.records.Records.{Records}
 use Rattle.patricia_codec.specs.Internal.Pieces.{AreRecords}
-use Rattle.patricia_codec.specs.Internal.Lefts.{nodes_of, IsEncoderStart, SomeLeft, HasDeep, IsDeep, AreDeep, IsOver, IsAt, AllWait, TakesRecord}
+use Rattle.patricia_codec.specs.Internal.Lefts.{nodes_of, IsEncoderStart, SomeLeft, HasDeep, IsDeep}
+use Rattle.patricia_codec.specs.Internal.Lefts.{AreDeep, IsOver, IsAt, AllWait, TakesRecord}
 use Rattle.patricia_codec.proofs.LeftLemmas.{has_link}
 use Rattle.patricia_codec.proofs.PieceLemmas.{some_records}
 

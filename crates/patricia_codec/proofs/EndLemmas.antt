@@ -1,5 +1,6 @@
 -- Where building begins, and what stands at its end.
-use Rattle.std.proofs.Common.{◌≡◌, ℕ, ◌+◌, Bool, true, false, List, [], ◌∷◌, ◌++◌, length, Option, Some, None, refl, sym, ap, subst, ◌∙◌, arith, append-nil}
+use Rattle.std.proofs.Common.{◌≡◌, ℕ, ◌+◌, Bool, true, false, List, [], ◌∷◌, ◌++◌, length, Option}
+use Rattle.std.proofs.Common.{Some, None, refl, sym, ap, subst, ◌∙◌, arith, append-nil}
 use Rattle.std.specs.Prelude.{is_some, reverse}
 use Rattle.std.specs.Option.{option_to_list}
 use Rattle.std.proofs.lemmas.Bool.Decides.{nat_tests}
@@ -8,7 +9,8 @@ use Rattle.patricia_model.specs.Siblings.{Siblings, end, own, entries, keys_of, 
 use Rattle.patricia_model.specs.Walks.{values_of}
 use Rattle.patricia_nodes.specs.declared.arena.Node.{Node}
 use Rattle.patricia_nodes.specs.declared.arena.NodeArena.{NodeArena}
-use Rattle.patricia_nodes.specs.Internal.Plans.{Plan, Nil, row, size, count, below, siblings_of, entries_of, IsPlan, IsWellFormed}
+use Rattle.patricia_nodes.specs.Internal.Plans.{Plan, Nil, row, size, count, below, siblings_of}
+use Rattle.patricia_nodes.specs.Internal.Plans.{entries_of, IsPlan, IsWellFormed}
 use Rattle.patricia_nodes.proofs.PlanLemmas.{plan_is}
 use Rattle.patricia_wire.specs.Records.{Record, EncodeAll}
 use Rattle.patricia_wire.specs.Forests.{Root}
@@ -20,8 +22,10 @@ use Rattle.patricia_wire.proofs.RowTrees.{tree_of}
 use Rattle.patricia_codec.specs.declared.builder.Builder.{Builder}
 use Rattle.patricia_codec.specs.declared.builder.Next.{Next}
 use Rattle.patricia_codec.specs.declared.builder.Next.TheVariants as next
-use Rattle.patricia_codec.specs.Internal.Growing.{Gap, Hangs, AreBeside, IsGrown, IsOpenBeside, IsOpenAt}
-use Rattle.patricia_codec.specs.Internal.Builds.{dues, gap_if, count_of, AddsRoot, IsBuiltAs, IsBuilt, AddsRecord}
+use Rattle.patricia_codec.specs.Internal.Growing.{Gap, Hangs, AreBeside, IsGrown, IsOpenBeside}
+use Rattle.patricia_codec.specs.Internal.Growing.{IsOpenAt}
+use Rattle.patricia_codec.specs.Internal.Builds.{dues, gap_if, count_of, AddsRoot, IsBuiltAs}
+use Rattle.patricia_codec.specs.Internal.Builds.{IsBuilt, AddsRecord}
 use Rattle.patricia_codec.proofs.GrowingLemmas.{values_inside}
 use Rattle.patricia_codec.proofs.BuildLemmas.{some_snoc, due_next}
 

@@ -1,20 +1,28 @@
 -- How a tree grows: a record is opened, joined to the one before it, laid as a node, or linked.
-use Rattle.std.proofs.Common.{◌≡◌, ◌≢◌, ◌⊎◌, inl, inr, ℕ, zero, suc, ◌+◌, ◌<◌, Bool, true, false, List, [], ◌∷◌, ◌++◌, length, Option, Some, None, slice_get, set, refl, sym, ap, subst, ◌∙◌, arith, append-nil, append_assoc, length-set, length-append}
+use Rattle.std.proofs.Common.{◌≡◌, ◌≢◌, ◌⊎◌, inl, inr, ℕ, zero, suc, ◌+◌, ◌<◌, Bool, true, false}
+use Rattle.std.proofs.Common.{List, [], ◌∷◌, ◌++◌, length, Option, Some, None, slice_get, set, refl}
+use Rattle.std.proofs.Common.{sym, ap, subst, ◌∙◌, arith, append-nil, append_assoc, length-set}
+use Rattle.std.proofs.Common.{length-append}
 use Rattle.std.specs.Prelude.{is_some, All}
 use Rattle.std.specs.Option.{option_to_list}
 use Rattle.std.proofs.lemmas.Bool.Decides.{nat_tests}
 use Rattle.std.proofs.lemmas.Option.{slice_get_within}
 use Rattle.std.proofs.lemmas.List.Elements.{All-nil, All-cons, All-head, All-tail}
-use Rattle.patricia_model.specs.Siblings.{Siblings, end, node, prefixed, own, entries, IsBeforeSiblings}
+use Rattle.patricia_model.specs.Siblings.{Siblings, end, node, prefixed, own, entries}
+use Rattle.patricia_model.specs.Siblings.{IsBeforeSiblings}
 use Rattle.patricia_model.specs.Walks.{values_of}
 use Rattle.patricia_nodes.specs.declared.arena.Node.{Node}
-use Rattle.patricia_nodes.specs.Internal.Plans.{Plan, Nil, Cell, row, head, size, count, below, one, linked, LaidOut}
-use Rattle.patricia_nodes.proofs.WriteLemmas.{get-set_same, get-set_other, get-push_same, get-push_other}
+use Rattle.patricia_nodes.specs.Internal.Plans.{Plan, Nil, Cell, row, head, size, count, below, one}
+use Rattle.patricia_nodes.specs.Internal.Plans.{linked, LaidOut}
+use Rattle.patricia_nodes.proofs.WriteLemmas.{get-set_same, get-set_other, get-push_same}
+use Rattle.patricia_nodes.proofs.WriteLemmas.{get-push_other}
 use Rattle.patricia_wire.specs.Records.{Record}
 use Rattle.patricia_wire.specs.Forests.{IsInner}
-use Rattle.patricia_wire.specs.Internal.WrittenRows.{has_node, record_of, records_of, over, joined, IsWritable}
+use Rattle.patricia_wire.specs.Internal.WrittenRows.{has_node, record_of, records_of, over, joined}
+use Rattle.patricia_wire.specs.Internal.WrittenRows.{IsWritable}
 use Rattle.patricia_codec.specs.Internal.Builds.{link_if, gap_if}
-use Rattle.patricia_codec.specs.Internal.Growing.{Gap, IsLater, Hangs, Unlaid, AreBeside, IsGrown, IsOpenBeside, IsOpenAt, IsOpenWithin}
+use Rattle.patricia_codec.specs.Internal.Growing.{Gap, IsLater, Hangs, Unlaid, AreBeside, IsGrown}
+use Rattle.patricia_codec.specs.Internal.Growing.{IsOpenBeside, IsOpenAt, IsOpenWithin}
 
 -- two numbers are equal, or they differ
 same_or : (i k : ℕ) → (i ≡ k) ⊎ (i ≢ k)

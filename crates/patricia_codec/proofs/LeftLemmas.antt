@@ -1,5 +1,8 @@
 -- How taking a record changes what is left.
-use Rattle.std.proofs.Common.{◌≡◌, ◌≢◌, ℕ, zero, suc, ◌+◌, ◌<◌, ◌≤◌, true, false, List, [], ◌∷◌, ◌++◌, length, take, drop, get_or, Option, Some, None, refl, sym, ap, subst, ◌∙◌, arith, take_all, drop-drop, length-take, length-drop, append-nil, append_assoc}
+use Rattle.std.proofs.Common.{◌≡◌, ◌≢◌, ℕ, zero, suc, ◌+◌, ◌<◌, ◌≤◌, true, false, List, [], ◌∷◌}
+use Rattle.std.proofs.Common.{◌++◌, length, take, drop, get_or, Option, Some, None, refl, sym, ap}
+use Rattle.std.proofs.Common.{subst, ◌∙◌, arith, take_all, drop-drop, length-take, length-drop}
+use Rattle.std.proofs.Common.{append-nil, append_assoc}
 use Rattle.std.specs.Prelude.{◌^◌, Bool, is_some, Result, Ok, Err, IsErrAnd, vec_len}
 use Rattle.patricia_keys.specs.Keys.{IsKeyKind, IsValid}
 use Rattle.patricia_model.specs.Siblings.{Siblings, end, node}
@@ -14,7 +17,9 @@ use Rattle.patricia_wire.specs.Internal.WrittenRows.{has_node}
 use Rattle.patricia_wire.proofs.WrittenOrDeep.{any_here, any_left}
 use Rattle.patricia_codec.specs.declared.records.Records.{Records}
 use Rattle.patricia_codec.specs.Internal.Pieces.{IsPiece, AreRecords, cut_front, weight}
-use Rattle.patricia_codec.specs.Internal.Lefts.{nodes_of, next_siblings, weight_waiting, weight_left, WaitsToWrite, AllWait, AreRecordsLeft, SomeLeft, HasDeep, IsDeep, GoesBack, TakesRecord}
+use Rattle.patricia_codec.specs.Internal.Lefts.{nodes_of, next_siblings, weight_waiting}
+use Rattle.patricia_codec.specs.Internal.Lefts.{weight_left, WaitsToWrite, AllWait, AreRecordsLeft}
+use Rattle.patricia_codec.specs.Internal.Lefts.{SomeLeft, HasDeep, IsDeep, GoesBack, TakesRecord}
 use Rattle.patricia_codec.proofs.PieceLemmas.{Off, off_whole, off_part, first_record, no_records}
 
 module _ {V : Type 0} where

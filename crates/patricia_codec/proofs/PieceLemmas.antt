@@ -1,9 +1,14 @@
 -- How the first piece of a row is taken off.
-use Rattle.std.proofs.Common.{◌≡◌, ◌≢◌, ℕ, ◌+◌, ◌<◌, ◌≤◌, inl, inr, true, false, List, [], ◌∷◌, ◌++◌, length, take, drop, Option, Some, None, refl, sym, ap, subst, ◌∙◌, arith, take_all, take_at, take-take, append_assoc, take-append-drop, length-append, length-take, length-drop, append-nil}
+use Rattle.std.proofs.Common.{◌≡◌, ◌≢◌, ℕ, ◌+◌, ◌<◌, ◌≤◌, inl, inr, true, false, List, [], ◌∷◌}
+use Rattle.std.proofs.Common.{◌++◌, length, take, drop, Option, Some, None, refl, sym, ap, subst}
+use Rattle.std.proofs.Common.{◌∙◌, arith, take_all, take_at, take-take, append_assoc}
+use Rattle.std.proofs.Common.{take-append-drop, length-append, length-take, length-drop, append-nil}
 use Rattle.std.proofs.lemmas.Bool.{cases_lt}
 use Rattle.patricia_keys.specs.Keys.{Begins, IsKeyKind, IsValid, IsFloor}
-use Rattle.patricia_keys.proofs.KeyLemmas.{Begins-trans, first_of, IsValid-nil, IsValid-append, IsValid-item, valid_rest}
-use Rattle.patricia_model.specs.Siblings.{Siblings, end, node, prefixed, own, entries, IsCanonical, IsCanonicalWithin, EarnsWithin}
+use Rattle.patricia_keys.proofs.KeyLemmas.{Begins-trans, first_of, IsValid-nil, IsValid-append}
+use Rattle.patricia_keys.proofs.KeyLemmas.{IsValid-item, valid_rest}
+use Rattle.patricia_model.specs.Siblings.{Siblings, end, node, prefixed, own, entries, IsCanonical}
+use Rattle.patricia_model.specs.Siblings.{IsCanonicalWithin, EarnsWithin}
 use Rattle.patricia_model.proofs.RowLemmas.{prefixed-prefixed}
 use Rattle.patricia_model.proofs.UniqueLemmas.{has_entry, same_row}
 use Rattle.patricia_model.specs.Internal.Removals.{width}

@@ -1,5 +1,7 @@
 -- Records that are read one after the other, and what is refused.
-use Rattle.std.proofs.Common.{inr, ◌≡◌, ◌≢◌, ℕ, ◌+◌, ◌-◌, ◌<◌, ◌≤◌, Bool, true, false, List, [], ◌∷◌, ◌++◌, length, take, drop, Some, None, refl, sym, ap, subst, ◌∙◌, arith, append-nil, append_assoc, length-append, length-drop, take_all}
+use Rattle.std.proofs.Common.{inr, ◌≡◌, ◌≢◌, ℕ, ◌+◌, ◌-◌, ◌<◌, ◌≤◌, Bool, true, false, List, []}
+use Rattle.std.proofs.Common.{◌∷◌, ◌++◌, length, take, drop, Some, None, refl, sym, ap, subst, ◌∙◌}
+use Rattle.std.proofs.Common.{arith, append-nil, append_assoc, length-append, length-drop, take_all}
 use Rattle.std.specs.Prelude.{reverse, All}
 use Rattle.std.specs.Int.{bytes_high_first}
 use Rattle.std.proofs.lemmas.List.{reverse-append, nil_from_length}
@@ -8,15 +10,20 @@ use Rattle.patricia_keys.specs.Keys.{IsValid}
 use Rattle.patricia_wire.specs.Records.{Record, Encodes, EncodeAll}
 use Rattle.patricia_wire.specs.Forests.{Root}
 use Rattle.patricia_wire.specs.Faults.{value_marks, IsFirst, IsRefusal, IsCutShort, Reads}
-use Rattle.patricia_wire.specs.Internal.Readings.{level, root_sibling, empty_label, Due, due_where, child_due, sibling_due, due_behind, IsRead, one_more, IsAfter}
+use Rattle.patricia_wire.specs.Internal.Readings.{level, root_sibling, empty_label, Due, due_where}
+use Rattle.patricia_wire.specs.Internal.Readings.{child_due, sibling_due, due_behind, IsRead}
+use Rattle.patricia_wire.specs.Internal.Readings.{one_more, IsAfter}
 use Rattle.patricia_wire.specs.declared.error.DecodeError.{DecodeError}
-use Rattle.patricia_wire.specs.declared.error.DecodeError.TheVariants.{Truncated, TrailingBytes, TooManyValues}
+use Rattle.patricia_wire.specs.declared.error.DecodeError.TheVariants.{Truncated, TrailingBytes}
+use Rattle.patricia_wire.specs.declared.error.DecodeError.TheVariants.{TooManyValues}
 use Rattle.patricia_wire.proofs.Readings.{same_number}
 use Rattle.patricia_wire.proofs.Spellings.{length-high_first}
 use Rattle.patricia_wire.proofs.ReadingsFaults.{faulty, faultless}
-use Rattle.patricia_wire.proofs.ReadingsFirst.{first_in_record, first_cut_short, first_trailing, first_too_many}
+use Rattle.patricia_wire.proofs.ReadingsFirst.{first_in_record, first_cut_short, first_trailing}
+use Rattle.patricia_wire.proofs.ReadingsFirst.{first_too_many}
 use Rattle.patricia_codec.specs.declared.reader.Reader.{Reader}
-use Rattle.patricia_codec.specs.Internal.Steps.{Fronts, sibling_then_child, NamesFirst, IsAccepted, IsReading, ReachesEnd}
+use Rattle.patricia_codec.specs.Internal.Steps.{Fronts, sibling_then_child, NamesFirst, IsAccepted}
+use Rattle.patricia_codec.specs.Internal.Steps.{IsReading, ReachesEnd}
 
 module _ (item : List ℕ → Type 0) (w : ℕ) (p : Reader) (n : ℕ) where
   -- where bytes are left behind the tree, they are refused

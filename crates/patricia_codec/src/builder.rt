@@ -1,6 +1,8 @@
 //! Nodes, laid one after the other while records are read.
 ghost use Rattle.std.specs.Prelude.{◌≡◌, ◌++◌, ◌∷◌, ◌≤◌, ◌<◌, [], None, OnOk, is_some, length};
-ghost use Rattle.patricia_codec.specs.Internal.Builds.{IsNew, Lays, CanLink, HasLinked, Opens, ClosesAs, CanAdd, Prepares, AddsRoot, AddsRecord};
+ghost use Rattle.patricia_codec.specs.Internal.Builds.{IsNew, Lays, CanLink, HasLinked, Opens};
+ghost use Rattle.patricia_codec.specs.Internal.Builds.{ClosesAs, CanAdd, Prepares, AddsRoot};
+ghost use Rattle.patricia_codec.specs.Internal.Builds.{AddsRecord};
 
 use crate::record::Record;
 use patricia_keys::Bytes;

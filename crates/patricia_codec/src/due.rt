@@ -1,9 +1,11 @@
 //! What is due while records are read, and the rules that the next record must keep.
-ghost use Rattle.std.specs.Prelude.{ℕ, false, ◌≡◌, ◌≢◌, ◌≤◌, [], IfSome, None, Some, IfErr, OnOk, IsTrue, ◌↔◌};
+ghost use Rattle.std.specs.Prelude.{ℕ, false, ◌≡◌, ◌≢◌, ◌≤◌, [], IfSome, None, Some, IfErr, OnOk};
+ghost use Rattle.std.specs.Prelude.{IsTrue, ◌↔◌};
 ghost use Rattle.std.specs.declared.cmp.Ordering.TheVariants.{Less};
 ghost use Rattle.patricia_keys.specs.Keys.{IsValid, IsFirstItem, ComparesFirst};
 ghost use Rattle.patricia_wire.specs.Internal.Readings.{IsAfter, BreaksNoneBelow};
-ghost use Rattle.patricia_codec.specs.Internal.Steps.{IsInOrder, IsOutOfOrder, KeepsLabel, BreaksLabel, IsAccepted, NamesFirst};
+ghost use Rattle.patricia_codec.specs.Internal.Steps.{IsInOrder, IsOutOfOrder, KeepsLabel};
+ghost use Rattle.patricia_codec.specs.Internal.Steps.{BreaksLabel, IsAccepted, NamesFirst};
 
 use crate::record::Record;
 use patricia_keys::Bytes;

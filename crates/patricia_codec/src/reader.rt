@@ -1,9 +1,12 @@
 //! Records, read one after the other until one breaks a rule.
-ghost use Rattle.std.specs.Prelude.{◌≡◌, ◌++◌, ◌+◌, ◌<◌, ◌≤◌, ℕ, List, [], drop, length, IfOk, IfErr, OnOk};
+ghost use Rattle.std.specs.Prelude.{◌≡◌, ◌++◌, ◌+◌, ◌<◌, ◌≤◌, ℕ, List, [], drop, length, IfOk};
+ghost use Rattle.std.specs.Prelude.{IfErr, OnOk};
 ghost use Rattle.patricia_wire.specs.Records.{Record};
 ghost use Rattle.patricia_wire.specs.Faults.{IsRefusal, value_marks};
 ghost use Rattle.patricia_wire.specs.Internal.Readings.{Due};
-ghost use Rattle.patricia_codec.specs.Internal.Steps.{IsReading, IsReaderStart, HasRead, ReadsOn, ReadIsRefused, IsRefusedAfter, sibling_then_child};
+ghost use Rattle.patricia_codec.specs.Internal.Steps.{IsReading, IsReaderStart, HasRead, ReadsOn};
+ghost use Rattle.patricia_codec.specs.Internal.Steps.{ReadIsRefused, IsRefusedAfter};
+ghost use Rattle.patricia_codec.specs.Internal.Steps.{sibling_then_child};
 
 use crate::due::Due;
 use crate::record::Record;

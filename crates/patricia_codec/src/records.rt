@@ -1,8 +1,10 @@
 //! The records of a tree, one after the other.
-ghost use Rattle.std.specs.Prelude.{◌≡◌, ◌≢◌, ◌<◌, ◌≤◌, ◌^◌, [], length, drop, Some, None, false, IfOk, IsTrue};
+ghost use Rattle.std.specs.Prelude.{◌≡◌, ◌≢◌, ◌<◌, ◌≤◌, ◌^◌, [], length, drop, Some, None, false};
+ghost use Rattle.std.specs.Prelude.{IfOk, IsTrue};
 ghost use Rattle.patricia_keys.specs.Keys.{IsValid};
 ghost use Rattle.patricia_codec.specs.Internal.Pieces.{IsPiece};
-ghost use Rattle.patricia_codec.specs.Internal.Lefts.{SomeLeft, TakesRecord, GivesRecord, GoesBack, IsDeep, IsOver, IsEncoderStart};
+ghost use Rattle.patricia_codec.specs.Internal.Lefts.{SomeLeft, TakesRecord, GivesRecord, GoesBack};
+ghost use Rattle.patricia_codec.specs.Internal.Lefts.{IsDeep, IsOver, IsEncoderStart};
 
 use crate::encoder::EncodeError;
 use crate::record::{LONGEST, Record};

@@ -1,5 +1,6 @@
 -- Bytes mean at most one row for each two of them.
-use Rattle.std.proofs.Common.{ℕ, ◌+◌, ◌*◌, ◌≤◌, ◌≡◌, List, [], ◌∷◌, ◌++◌, Option, Some, None, length, is_some, cond, ap, sym, ◌∙◌, arith, length-append}
+use Rattle.std.proofs.Common.{ℕ, ◌+◌, ◌*◌, ◌≤◌, ◌≡◌, List, [], ◌∷◌, ◌++◌, Option, Some, None}
+use Rattle.std.proofs.Common.{length, is_some, cond, ap, sym, ◌∙◌, arith, length-append}
 use Rattle.std.proofs.lemmas.List.{length-map}
 use Rattle.patricia_model.specs.Siblings.{Siblings, end, node, prefixed, own, entries}
 use Rattle.patricia_wire.specs.Records.{Record, EncodeAll}

@@ -1,5 +1,6 @@
 -- Each point of the keys has a node.
-use Rattle.std.proofs.Common.{◌≡◌, ℕ, ◌≤◌, List, ◌++◌, length, map, Option, refl, arith, length-append}
+use Rattle.std.proofs.Common.{◌≡◌, ℕ, ◌≤◌, List, ◌++◌, length, map, Option, refl, arith}
+use Rattle.std.proofs.Common.{length-append}
 use Rattle.std.proofs.lemmas.List.{length-map}
 use Rattle.std.specs.FinMap as map
 use Rattle.patricia_keys.specs.Keys.{IsKeyKind}
@@ -9,7 +10,8 @@ use Rattle.patricia_model.specs.Points.{IsPoint}
 use Rattle.patricia_model.proofs.PointLemmas.{paths_apart}
 use Rattle.patricia_model.proofs.TreeLemmas.{tree_points}
 use Rattle.patricia_nodes.specs.declared.arena.NodeArena.{NodeArena}
-use Rattle.patricia_nodes.specs.Internal.Plans.{Plan, Nil, Cell, row, size, plan_at, siblings_of, IsWellFormed}
+use Rattle.patricia_nodes.specs.Internal.Plans.{Plan, Nil, Cell, row, size, plan_at, siblings_of}
+use Rattle.patricia_nodes.specs.Internal.Plans.{IsWellFormed}
 use Rattle.patricia_nodes.proofs.SeekLemmas.{whole_plan}
 use Rattle.patricia_wire.specs.Counts.{IsCount}
 

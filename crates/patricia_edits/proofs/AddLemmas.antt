@@ -1,18 +1,25 @@
 -- A new node in a place.
-use Rattle.std.proofs.Common.{◌≡◌, ◌≢◌, inl, inr, ℕ, suc, ◌+◌, ◌<◌, List, [], ◌∷◌, length, set, take, Option, Some, None, slice_get, get_or, refl, sym, ap, ◌∙◌, arith, length-set}
+use Rattle.std.proofs.Common.{◌≡◌, ◌≢◌, inl, inr, ℕ, suc, ◌+◌, ◌<◌, List, [], ◌∷◌, length, set}
+use Rattle.std.proofs.Common.{take, Option, Some, None, slice_get, get_or, refl, sym, ap, ◌∙◌}
+use Rattle.std.proofs.Common.{arith, length-set}
 use Rattle.std.specs.Prelude.{vec_capacity}
 use Rattle.std.proofs.lemmas.Option.{slice_get_within}
 use Rattle.patricia_nodes.specs.declared.arena.Node.{Node}
 use Rattle.patricia_nodes.specs.declared.arena.NodeArena.{NodeArena}
 use Rattle.patricia_nodes.specs.declared.arena.seek.LinkRef.{LinkRef}
 use Rattle.patricia_nodes.specs.declared.arena.seek.LinkRef.TheVariants.{Root, Child}
-use Rattle.patricia_nodes.specs.Internal.Plans.{Plan, Nil, Cell, linked, head, size, count, one, below, times, LaidOut, IsChain, IsSound, Holds}
-use Rattle.patricia_nodes.specs.Internal.Places.{Frame, InChild, InSibling, fill, count_frames, link_ref_of}
+use Rattle.patricia_nodes.specs.Internal.Plans.{Plan, Nil, Cell, linked, head, size, count, one}
+use Rattle.patricia_nodes.specs.Internal.Plans.{below, times, LaidOut, IsChain, IsSound, Holds}
+use Rattle.patricia_nodes.specs.Internal.Places.{Frame, InChild, InSibling, fill, count_frames}
+use Rattle.patricia_nodes.specs.Internal.Places.{link_ref_of}
 use Rattle.patricia_nodes.specs.Internal.Writes.{RoomFor, HasRoomFor, Relinks}
-use Rattle.patricia_edits.specs.Internal.Inserts.{Makes, MakesNode, IsBelowOrBeside, AddsNode, HasCell, SplitsNode}
+use Rattle.patricia_edits.specs.Internal.Inserts.{Makes, MakesNode, IsBelowOrBeside, AddsNode}
+use Rattle.patricia_edits.specs.Internal.Inserts.{HasCell, SplitsNode}
 use Rattle.patricia_nodes.proofs.PlanLemmas.{one-same, below_le}
 use Rattle.patricia_nodes.proofs.FillLemmas.{stands-within, size-fill, count-fill}
-use Rattle.patricia_nodes.proofs.WriteLemmas.{get-set_same, get-set_other, stands-keep, chain-keep, stands-refill, head-refill, sound-swap, one_chain, read_at, holds_write}
+use Rattle.patricia_nodes.proofs.WriteLemmas.{get-set_same, get-set_other, stands-keep, chain-keep}
+use Rattle.patricia_nodes.proofs.WriteLemmas.{stands-refill, head-refill, sound-swap, one_chain}
+use Rattle.patricia_nodes.proofs.WriteLemmas.{read_at, holds_write}
 
 module _ {V : Type 0} where
   -- a plan that is taken below or beside a node keeps its numbers

@@ -1,5 +1,7 @@
 -- A node in a free slot, or behind the last.
-use Rattle.std.proofs.Common.{◌≡◌, ℕ, suc, ◌+◌, ◌<◌, ◌≤◌, List, [], ◌∷◌, ◌++◌, length, set, Some, None, slice_get, get_or, refl, sym, ap, ◌∙◌, arith, length-set, length-append}
+use Rattle.std.proofs.Common.{◌≡◌, ℕ, suc, ◌+◌, ◌<◌, ◌≤◌, List, [], ◌∷◌, ◌++◌, length, set, Some}
+use Rattle.std.proofs.Common.{None, slice_get, get_or, refl, sym, ap, ◌∙◌, arith, length-set}
+use Rattle.std.proofs.Common.{length-append}
 use Rattle.std.specs.Prelude.{vec_capacity}
 use Rattle.std.proofs.lemmas.Bool.Decides.{nat_tests}
 use Rattle.std.proofs.lemmas.Option.{slice_get_within}
@@ -9,7 +11,8 @@ use Rattle.patricia_nodes.specs.Internal.Plans.{first, IsChain}
 use Rattle.patricia_nodes.specs.Internal.Writes.{IsFree, HasRoomFor}
 use Rattle.patricia_edits.specs.Internal.Inserts.{Makes}
 use Rattle.patricia_nodes.proofs.PlanLemmas.{node_is}
-use Rattle.patricia_nodes.proofs.WriteLemmas.{get-set_same, get-set_other, get-push_same, get-push_other}
+use Rattle.patricia_nodes.proofs.WriteLemmas.{get-set_same, get-set_other, get-push_same}
+use Rattle.patricia_nodes.proofs.WriteLemmas.{get-push_other}
 
 -- where no node is free, room is behind the last
 pub room_behind : {V : Type 0} (s : NodeArena V) (n : ℕ) → HasRoomFor s n → s.free ≡ None

@@ -1,14 +1,17 @@
 -- What is below a node moves out of its vector.
-use Rattle.std.proofs.Common.{◌≡◌, ◌≢◌, ℕ, ◌+◌, List, [], ◌∷◌, length, set, Option, None, slice_get, refl, ap, ◌∙◌, arith, length-set}
+use Rattle.std.proofs.Common.{◌≡◌, ◌≢◌, ℕ, ◌+◌, List, [], ◌∷◌, length, set, Option, None, slice_get}
+use Rattle.std.proofs.Common.{refl, ap, ◌∙◌, arith, length-set}
 use Rattle.patricia_nodes.specs.declared.arena.Node.{Node}
 use Rattle.patricia_nodes.specs.declared.arena.NodeArena.{NodeArena}
-use Rattle.patricia_nodes.specs.Internal.Plans.{Plan, Nil, Cell, linked, head, count, one, below, times, Holds}
+use Rattle.patricia_nodes.specs.Internal.Plans.{Plan, Nil, Cell, linked, head, count, one, below}
+use Rattle.patricia_nodes.specs.Internal.Plans.{times, Holds}
 use Rattle.patricia_nodes.specs.Internal.Places.{Frame, fill, count_frames}
 use Rattle.patricia_nodes.specs.Internal.Growth.{IsLaid, TakesBelow}
 use Rattle.patricia_nodes.specs.Internal.Writes.{IsFree}
 use Rattle.patricia_nodes.proofs.PlanLemmas.{one-same, below_le}
 use Rattle.patricia_nodes.proofs.FillLemmas.{stands-within, count-fill}
-use Rattle.patricia_nodes.proofs.WriteLemmas.{get-set_same, get-set_other, stands-keep, chain-keep, stands-refill, head-refill, sound-swap}
+use Rattle.patricia_nodes.proofs.WriteLemmas.{get-set_same, get-set_other, stands-keep, chain-keep}
+use Rattle.patricia_nodes.proofs.WriteLemmas.{stands-refill, head-refill, sound-swap}
 use Rattle.patricia_edits.proofs.NodeLemmas.{node_within}
 
 module _ {V : Type 0} (s : NodeArena V) (id : ℕ) (fs : List (Frame V)) (l : List ℕ) (v : Option V)

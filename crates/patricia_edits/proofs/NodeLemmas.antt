@@ -1,5 +1,6 @@
 -- A node that stands, and what is below it.
-use Rattle.std.proofs.Common.{◌≡◌, ℕ, suc, ◌+◌, ◌<◌, ◌≤◌, List, ◌++◌, length, Option, Some, get_or, slice_get, ap, arith, length-append}
+use Rattle.std.proofs.Common.{◌≡◌, ℕ, suc, ◌+◌, ◌<◌, ◌≤◌, List, ◌++◌, length, Option, Some, get_or}
+use Rattle.std.proofs.Common.{slice_get, ap, arith, length-append}
 use Rattle.std.proofs.lemmas.Option.{slice_get_within}
 use Rattle.patricia_model.specs.Siblings.{own, entries}
 use Rattle.patricia_nodes.specs.declared.arena.Node.{Node}

@@ -1,5 +1,6 @@
 -- A value that is inserted at the place of a key.
-use Rattle.std.proofs.Common.{◌≡◌, ◌≢◌, inr, ℕ, suc, ◌<◌, List, [], ◌∷◌, length, take, drop, Option, Some, None, get_or, refl, sym, ap, subst, ◌∙◌}
+use Rattle.std.proofs.Common.{◌≡◌, ◌≢◌, inr, ℕ, suc, ◌<◌, List, [], ◌∷◌, length, take, drop, Option}
+use Rattle.std.proofs.Common.{Some, None, get_or, refl, sym, ap, subst, ◌∙◌}
 use Rattle.std.specs.FinMap.{put}
 use Rattle.std.specs.Prelude.{Result, Ok, Err, OnOk, OnErr}
 use Rattle.std.specs.declared.cmp.Ordering.{Ordering}
@@ -13,7 +14,8 @@ use Rattle.patricia_nodes.specs.declared.arena.seek.Match.TheVariants.{Absent, I
 use Rattle.patricia_keys.specs.Keys.{IsKeyKind, IsValid, ComparesFirst, key_cmp}
 use Rattle.patricia_model.specs.Siblings.{node, entries, IsCanonical}
 use Rattle.patricia_model.specs.Internal.LabelCmp.{EndsWithin}
-use Rattle.patricia_nodes.specs.Internal.Plans.{Plan, Nil, Cell, linked, head, row, Holds, IsWellFormed, siblings_of}
+use Rattle.patricia_nodes.specs.Internal.Plans.{Plan, Nil, Cell, linked, head, row, Holds}
+use Rattle.patricia_nodes.specs.Internal.Plans.{IsWellFormed, siblings_of}
 use Rattle.patricia_nodes.specs.Internal.Places.{Frame, InChild, InSibling, fill, Matches}
 use Rattle.patricia_nodes.specs.Internal.Writes.{HasRoomFor, HasLinkRef}
 use Rattle.patricia_nodes.specs.Internal.Writes.{Puts}
@@ -22,7 +24,9 @@ use Rattle.patricia_nodes.proofs.SeekLemmas.{Sought, Opened, opened, head_within
 use Rattle.patricia_nodes.proofs.ValueLemmas.{place_holds, focus_ok, puts}
 use Rattle.patricia_model.proofs.GetLemmas.{compared_less}
 use Rattle.patricia_model.proofs.InsertLemmas.{single, put_before}
-use Rattle.patricia_model.proofs.DivideLemmas.{Divides, divides_label, ends_at_cut, put_at_cut, row_before_cut, put_before_cut, row_after_cut, put_after_cut, past_cut}
+use Rattle.patricia_model.proofs.DivideLemmas.{Divides, divides_label, ends_at_cut, put_at_cut}
+use Rattle.patricia_model.proofs.DivideLemmas.{row_before_cut, put_before_cut, row_after_cut}
+use Rattle.patricia_model.proofs.DivideLemmas.{put_after_cut, past_cut}
 
 module _ (item : List ℕ → Type 0) (kind : IsKeyKind item) {V : Type 0} (x : V) where
   -- a new leaf before a row that comes after its label leaves the invariant

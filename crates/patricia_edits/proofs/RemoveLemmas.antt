@@ -1,5 +1,6 @@
 -- What a removal leaves at the place of its key.
-use Rattle.std.proofs.Common.{◌≡◌, ℕ, ◌+◌, ◌<◌, ◌≤◌, List, [], ◌++◌, length, set, Option, Some, None, get_or, slice_get, refl, sym, ap, subst, ◌∙◌, arith}
+use Rattle.std.proofs.Common.{◌≡◌, ℕ, ◌+◌, ◌<◌, ◌≤◌, List, [], ◌++◌, length, set, Option, Some}
+use Rattle.std.proofs.Common.{None, get_or, slice_get, refl, sym, ap, subst, ◌∙◌, arith}
 use Rattle.std.proofs.lemmas.List.{append-nil}
 use Rattle.std.proofs.lemmas.Option.{slice_get_within, get_or_from_slice_get}
 use Rattle.std.specs.Prelude.{Result, Ok, Err, OnOk, OnErr}
@@ -13,19 +14,26 @@ use Rattle.patricia_model.specs.Siblings.{Siblings, end, node, entries, keys_of,
 use Rattle.patricia_model.specs.Points.{Joins}
 use Rattle.patricia_model.specs.Internal.LabelCmp.{Passes}
 use Rattle.patricia_model.specs.Internal.Removals.{others, width, without_first, IsLoneParent}
-use Rattle.patricia_nodes.specs.Internal.Plans.{Plan, Nil, Cell, linked, head, row, LaidOut, IsPlan, Holds, IsWellFormed, plan_at, siblings_of, entries_of}
+use Rattle.patricia_nodes.specs.Internal.Plans.{Plan, Nil, Cell, linked, head, row, LaidOut, IsPlan}
+use Rattle.patricia_nodes.specs.Internal.Plans.{Holds, IsWellFormed, plan_at, siblings_of}
+use Rattle.patricia_nodes.specs.Internal.Plans.{entries_of}
 use Rattle.patricia_nodes.specs.Internal.Places.{fill, node_of, Matches}
-use Rattle.patricia_nodes.specs.Internal.Merges.{Unlinks, Absorbs, HasLeafAt, HasLone, Spares, LeavesOther, LeftAlone, StandsAt, HasNodeAt, IsJoined}
+use Rattle.patricia_nodes.specs.Internal.Merges.{Unlinks, Absorbs, HasLeafAt, HasLone, Spares}
+use Rattle.patricia_nodes.specs.Internal.Merges.{LeavesOther, LeftAlone, StandsAt, HasNodeAt}
+use Rattle.patricia_nodes.specs.Internal.Merges.{IsJoined}
 use Rattle.patricia_edits.specs.Internal.Removes.{IsLeaf, IsValued, HasValue, Removes}
 use Rattle.patricia_nodes.proofs.AloneLemmas.{plan_end, plan_more}
 use Rattle.patricia_nodes.proofs.PlanLemmas.{plan_is, node_is}
 use Rattle.patricia_nodes.proofs.FillLemmas.{row-within, stands-within}
 use Rattle.patricia_nodes.proofs.WriteLemmas.{holds_write}
-use Rattle.patricia_nodes.proofs.SeekLemmas.{Sought, Opened, opened, head_within, place_row, focus_plan_at, stop_at, here_passes}
+use Rattle.patricia_nodes.proofs.SeekLemmas.{Sought, Opened, opened, head_within, place_row}
+use Rattle.patricia_nodes.proofs.SeekLemmas.{focus_plan_at, stop_at, here_passes}
 use Rattle.patricia_edits.proofs.TakeLemmas.{Gone, gone-fill, spared-fill, joins-fill}
-use Rattle.patricia_edits.proofs.OtherLemmas.{Inside, inside, whole_ok, upper_ok, left_plan, labels_are, other_gone}
+use Rattle.patricia_edits.proofs.OtherLemmas.{Inside, inside, whole_ok, upper_ok, left_plan}
+use Rattle.patricia_edits.proofs.OtherLemmas.{labels_are, other_gone}
 use Rattle.patricia_model.proofs.LeavingLemmas.{others_leave}
-use Rattle.patricia_model.proofs.RemovalLemmas.{others_before, others_within, row_first_removed, entries_first_removed}
+use Rattle.patricia_model.proofs.RemovalLemmas.{others_before, others_within, row_first_removed}
+use Rattle.patricia_model.proofs.RemovalLemmas.{entries_first_removed}
 use Rattle.patricia_model.proofs.JoinLemmas.{joins_lone, joins_alone}
 
 -- the label of the first node is the key

@@ -1,5 +1,7 @@
 -- What a split leaves, and what it removes.
-use Rattle.std.proofs.Common.{◌≡◌, ◌≢◌, ℕ, ◌<◌, ◌≤◌, List, [], ◌∷◌, ◌++◌, length, take, drop, Option, Some, None, slice_get, refl, sym, ap, subst, ◌∙◌, arith, length-append}
+use Rattle.std.proofs.Common.{◌≡◌, ◌≢◌, ℕ, ◌<◌, ◌≤◌, List, [], ◌∷◌, ◌++◌, length, take, drop}
+use Rattle.std.proofs.Common.{Option, Some, None, slice_get, refl, sym, ap, subst, ◌∙◌, arith}
+use Rattle.std.proofs.Common.{length-append}
 use Rattle.std.proofs.lemmas.List.{append-nil, append_assoc, take_all}
 use Rattle.std.proofs.lemmas.Option.{slice_get_within}
 use Rattle.patricia_keys.specs.Keys.{Begins, IsKeyKind, IsValid}
@@ -18,17 +20,20 @@ use Rattle.patricia_nodes.specs.declared.arena.NodeArena.{NodeArena}
 use Rattle.patricia_nodes.specs.declared.arena.seek.LinkRef.{LinkRef}
 use Rattle.patricia_nodes.specs.declared.arena.seek.Match.{Match}
 use Rattle.patricia_nodes.specs.declared.arena.seek.Match.TheVariants.{Absent, InsideLabel, Exact}
-use Rattle.patricia_nodes.specs.Internal.Plans.{Plan, Nil, Cell, row, Holds, IsWellFormed, plan_at, siblings_of, entries_of}
+use Rattle.patricia_nodes.specs.Internal.Plans.{Plan, Nil, Cell, row, Holds, IsWellFormed, plan_at}
+use Rattle.patricia_nodes.specs.Internal.Plans.{siblings_of, entries_of}
 use Rattle.patricia_nodes.specs.Internal.Places.{Frame, fill, Leads, Matches, node_under}
 use Rattle.patricia_nodes.proofs.FillLemmas.{row-within, stands-within}
 use Rattle.patricia_nodes.proofs.SeekLemmas.{Sought}
 use Rattle.patricia_nodes.proofs.PlanLemmas.{plan_is}
 use Rattle.patricia_walks.proofs.PlaceLemmas.{Passed, passed-fill}
 use Rattle.patricia_walks.proofs.UnderLemmas.{within_node, stop_some}
-use Rattle.patricia_nodes.specs.Internal.Merges.{StandsAt, HasNodeAt, LeftAlone, LeavesOther, HasLone, IsJoined, Absorbs}
+use Rattle.patricia_nodes.specs.Internal.Merges.{StandsAt, HasNodeAt, LeftAlone, LeavesOther}
+use Rattle.patricia_nodes.specs.Internal.Merges.{HasLone, IsJoined, Absorbs}
 use Rattle.patricia_edits.proofs.OtherLemmas.{left_plan, labels_are, other_gone}
 use Rattle.patricia_edits.proofs.TakeLemmas.{Gone, spared-fill}
-use Rattle.patricia_edits.specs.Internal.Splits.{HasSplitNode, HasTreeAt, CountsTree, IsTopLabel, SplitsOff}
+use Rattle.patricia_edits.specs.Internal.Splits.{HasSplitNode, HasTreeAt, CountsTree, IsTopLabel}
+use Rattle.patricia_edits.specs.Internal.Splits.{SplitsOff}
 use Rattle.patricia_edits.proofs.MeasureLemmas.{length-prefixed}
 
 -- the bytes of two lists without as many as the first has are those of the second

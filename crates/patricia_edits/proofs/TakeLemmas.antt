@@ -1,7 +1,9 @@
 -- Rows that are removed from their place: the row of a key, or those under a prefix.
-use Rattle.std.proofs.Common.{◌≡◌, ◌≢◌, ℕ, ◌≤◌, List, [], ◌∷◌, ◌++◌, Option, None, sym, ap, subst, ◌∙◌, arith}
+use Rattle.std.proofs.Common.{◌≡◌, ◌≢◌, ℕ, ◌≤◌, List, [], ◌∷◌, ◌++◌, Option, None, sym, ap, subst}
+use Rattle.std.proofs.Common.{◌∙◌, arith}
 use Rattle.patricia_keys.specs.Keys.{IsKeyKind}
-use Rattle.patricia_model.specs.Siblings.{Siblings, end, node, prefixed, own, entries, keys_of, IsBefore, IsCanonical}
+use Rattle.patricia_model.specs.Siblings.{Siblings, end, node, prefixed, own, entries, keys_of}
+use Rattle.patricia_model.specs.Siblings.{IsBefore, IsCanonical}
 use Rattle.patricia_model.specs.Points.{Joins}
 use Rattle.patricia_model.specs.Internal.LabelCmp.{Passes}
 use Rattle.patricia_model.specs.Internal.Removals.{width}
@@ -9,7 +11,8 @@ use Rattle.patricia_nodes.specs.Internal.Plans.{Plan, Cell, row}
 use Rattle.patricia_nodes.specs.Internal.Places.{Frame, InChild, InSibling, fill, Leads}
 use Rattle.patricia_nodes.specs.Internal.Merges.{Spares}
 use Rattle.patricia_nodes.proofs.FillLemmas.{row-within}
-use Rattle.patricia_model.proofs.RemovalLemmas.{earns_by_width, width_of_earned, taken_in_row, taken_in_entries}
+use Rattle.patricia_model.proofs.RemovalLemmas.{earns_by_width, width_of_earned, taken_in_row}
+use Rattle.patricia_model.proofs.RemovalLemmas.{taken_in_entries}
 use Rattle.patricia_model.proofs.LeavingLemmas.{Leaves, row_past_left, entries_past_left}
 use Rattle.patricia_model.proofs.JoinLemmas.{joins_past, joins_deeper}
 

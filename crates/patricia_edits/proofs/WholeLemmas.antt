@@ -3,7 +3,8 @@ use Rattle.std.proofs.Common.{◌≡◌, ℕ, List, [], ◌++◌, length, None, 
 use Rattle.patricia_model.specs.Siblings.{end}
 use Rattle.patricia_nodes.specs.declared.arena.Node.{Node}
 use Rattle.patricia_nodes.specs.declared.arena.NodeArena.{NodeArena}
-use Rattle.patricia_nodes.specs.Internal.Plans.{Plan, Nil, Cell, head, row, siblings_of, size, plan_at, IsWellFormed}
+use Rattle.patricia_nodes.specs.Internal.Plans.{Plan, Nil, Cell, head, row, siblings_of, size}
+use Rattle.patricia_nodes.specs.Internal.Plans.{plan_at, IsWellFormed}
 use Rattle.patricia_nodes.specs.Internal.Growth.{laid, IsTopRow, IsLaid}
 use Rattle.patricia_nodes.proofs.LayLemmas.{Readable, readable, laid_apart}
 

@@ -2,10 +2,13 @@
 //!
 //! Rows are laid there as growth lays them: siblings side by side, and the rows level by level. The
 //! new vector is the queue of the rows that wait, and it is reserved once.
-ghost use Rattle.std.specs.Prelude.{◌≡◌, ◌≢◌, ◌+◌, ◌≤◌, ◌++◌, [], None, IfSome, IfOk, OnOk, OnErr, length, vec_len, vec_capacity};
+ghost use Rattle.std.specs.Prelude.{◌≡◌, ◌≢◌, ◌+◌, ◌≤◌, ◌++◌, [], None, IfSome, IfOk, OnOk, OnErr};
+ghost use Rattle.std.specs.Prelude.{length, vec_len, vec_capacity};
 ghost use Rattle.patricia_model.specs.Siblings.{end};
-ghost use Rattle.patricia_nodes.specs.Internal.Plans.{Plan, linked, head, row, siblings_of, size, plan_at, IsSound, IsWellFormed};
-ghost use Rattle.patricia_nodes.specs.Internal.Growth.{IsLaid, IsTopRow, tops, laid, numbered_siblings};
+ghost use Rattle.patricia_nodes.specs.Internal.Plans.{Plan, linked, head, row, siblings_of, size};
+ghost use Rattle.patricia_nodes.specs.Internal.Plans.{plan_at, IsSound, IsWellFormed};
+ghost use Rattle.patricia_nodes.specs.Internal.Growth.{IsLaid, IsTopRow, tops, laid};
+ghost use Rattle.patricia_nodes.specs.Internal.Growth.{numbered_siblings};
 ghost use Rattle.patricia_model.specs.Clones.{CloneIsSame};
 ghost use Rattle.patricia_edits.specs.Internal.Copies.{RowKept, EntriesKept};
 

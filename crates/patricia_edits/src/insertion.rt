@@ -1,5 +1,6 @@
 //! Putting a value in at a key.
-ghost use Rattle.std.specs.Prelude.{◌≡◌, ◌≢◌, ◌≤◌, ◌<◌, [], Some, None, drop, length, IfOk, OnOk, IfErr, OnErr, vec_len, vec_capacity};
+ghost use Rattle.std.specs.Prelude.{◌≡◌, ◌≢◌, ◌≤◌, ◌<◌, [], Some, None, drop, length, IfOk, OnOk};
+ghost use Rattle.std.specs.Prelude.{IfErr, OnErr, vec_len, vec_capacity};
 ghost use Rattle.std.specs.FinMap.{find};
 ghost use Rattle.patricia_keys.specs.Keys.{key_cmp};
 ghost use Rattle.patricia_model.specs.Siblings.{IsCanonical};
@@ -7,8 +8,10 @@ ghost use Rattle.patricia_nodes.specs.declared.arena.seek.LinkRef.TheVariants.{C
 ghost use Rattle.patricia_nodes.specs.declared.arena.seek.Match.TheVariants.{Absent, InsideLabel};
 ghost use Rattle.patricia_nodes.specs.Internal.Plans.{IsWellFormed, siblings_of, entries_of};
 ghost use Rattle.patricia_nodes.specs.Internal.Places.{node_of};
-ghost use Rattle.patricia_nodes.specs.Internal.Writes.{HasRoomFor, Reuses, HasLinkRef, Ready, IsPut};
-ghost use Rattle.patricia_edits.specs.Internal.Inserts.{MakesNode, AddsNode, AddsLeaf, HasCell, SplitsNode, FindsAt, PutsAt};
+ghost use Rattle.patricia_nodes.specs.Internal.Writes.{HasRoomFor, Reuses, HasLinkRef, Ready};
+ghost use Rattle.patricia_nodes.specs.Internal.Writes.{IsPut};
+ghost use Rattle.patricia_edits.specs.Internal.Inserts.{MakesNode, AddsNode, AddsLeaf, HasCell};
+ghost use Rattle.patricia_edits.specs.Internal.Inserts.{SplitsNode, FindsAt, PutsAt};
 
 use patricia_keys::{BorrowedBytes, Bytes};
 use patricia_nodes::arena::seek::{LinkRef, Match, SeekResult};

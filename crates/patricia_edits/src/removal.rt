@@ -8,7 +8,8 @@ ghost use Rattle.patricia_model.specs.Siblings.{IsCanonical, keys_of};
 ghost use Rattle.patricia_nodes.specs.declared.arena.seek.Match.TheVariants.{Exact};
 ghost use Rattle.patricia_nodes.specs.Internal.Plans.{IsWellFormed, siblings_of, entries_of};
 ghost use Rattle.patricia_nodes.specs.Internal.Writes.{Ready};
-ghost use Rattle.patricia_edits.specs.Internal.Removes.{IsLeaf, IsValued, HasValue, RemovesAt, JoinsAt};
+ghost use Rattle.patricia_edits.specs.Internal.Removes.{IsLeaf, IsValued, HasValue, RemovesAt};
+ghost use Rattle.patricia_edits.specs.Internal.Removes.{JoinsAt};
 
 use patricia_keys::{BorrowedBytes, Bytes};
 use patricia_nodes::arena::NodeArena;

@@ -1,11 +1,14 @@
 //! Taking out the nodes under a prefix.
-ghost use Rattle.std.specs.Prelude.{◌≡◌, ◌≢◌, ◌<◌, ◌≤◌, [], Some, IfOk, OnOk, OnErr, length, slice_get, vec_len, vec_capacity};
+ghost use Rattle.std.specs.Prelude.{◌≡◌, ◌≢◌, ◌<◌, ◌≤◌, [], Some, IfOk, OnOk, OnErr, length};
+ghost use Rattle.std.specs.Prelude.{slice_get, vec_len, vec_capacity};
 ghost use Rattle.patricia_model.specs.Prefixes.{under};
 ghost use Rattle.patricia_model.specs.Siblings.{own, IsCanonical};
-ghost use Rattle.patricia_nodes.specs.Internal.Plans.{Plan, IsPlan, IsWellFormed, siblings_of, entries_of, size};
+ghost use Rattle.patricia_nodes.specs.Internal.Plans.{Plan, IsPlan, IsWellFormed, siblings_of};
+ghost use Rattle.patricia_nodes.specs.Internal.Plans.{entries_of, size};
 ghost use Rattle.patricia_nodes.specs.Internal.Places.{IsSeekResult, node_under};
 ghost use Rattle.patricia_nodes.specs.declared.arena.Node.{Node as NodeOf};
-ghost use Rattle.patricia_edits.specs.Internal.Splits.{values, HasSplitNode, HasTreeAt, CountsTree, MovesOut, IsTopLabel, SplitsOff};
+ghost use Rattle.patricia_edits.specs.Internal.Splits.{values, HasSplitNode, HasTreeAt, CountsTree};
+ghost use Rattle.patricia_edits.specs.Internal.Splits.{MovesOut, IsTopLabel, SplitsOff};
 
 use patricia_keys::{BorrowedBytes, Bytes};
 use patricia_nodes::arena::seek::{LinkRef, SeekResult};

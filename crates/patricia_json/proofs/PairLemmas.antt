@@ -1,6 +1,7 @@
 -- Laws of the array of the bytes and the values, of floating-point numbers in values, and of an
 -- array of two.
-use Rattle.std.proofs.Common.{◌≡◌, ℕ, ◌≤◌, ◌<◌, suc, List, [], ◌∷◌, length, zero, subst, refl, sym, ap, ◌∙◌, arith, map, false, Bool, drop, get_or, rules}
+use Rattle.std.proofs.Common.{◌≡◌, ℕ, ◌≤◌, ◌<◌, suc, List, [], ◌∷◌, length, zero, subst, refl, sym}
+use Rattle.std.proofs.Common.{ap, ◌∙◌, arith, map, false, Bool, drop, get_or, rules}
 use Rattle.std.specs.Prelude.{◌||◌}
 use Rattle.serde_json.specs.Data.{Data, number, unsigned, Items, item, no_items, depth, items_depth}
 use Rattle.serde_json.specs.View.{items_of, items_view, members_of, number_view, view}

@@ -1,5 +1,6 @@
 -- The byte kind: each byte list is valid, and the common length is the number of shared bytes.
-use Rattle.std.proofs.Common.{◌≡◌, ℕ, suc, ◌<◌, ◌==◌, inl, inr, true, false, List, [], ◌∷◌, length, take, get_or, refl, ap, subst, arith}
+use Rattle.std.proofs.Common.{◌≡◌, ℕ, suc, ◌<◌, ◌==◌, inl, inr, true, false, List, [], ◌∷◌, length}
+use Rattle.std.proofs.Common.{take, get_or, refl, ap, subst, arith}
 use Rattle.std.specs.List.{AllByRecursion, concat}
 use Rattle.std.proofs.lemmas.List.{get_or-take, length-take}
 use Rattle.std.proofs.lemmas.Bool.Decides.{nat_tests}

@@ -1,14 +1,19 @@
 -- What follows from the definitions of `Keys`, for any item test.
-use Rattle.std.proofs.Common.{◌≡◌, ℕ, ◌-◌, ◌<◌, ◌≤◌, ◌≢◌, ◌⊎◌, inl, inr, List, [], ◌∷◌, ◌++◌, length, take, drop, get_or, refl, sym, ap, subst, ◌∙◌, arith, length-append}
+use Rattle.std.proofs.Common.{◌≡◌, ℕ, ◌-◌, ◌<◌, ◌≤◌, ◌≢◌, ◌⊎◌, inl, inr, List, [], ◌∷◌, ◌++◌}
+use Rattle.std.proofs.Common.{length, take, drop, get_or, refl, sym, ap, subst, ◌∙◌, arith}
+use Rattle.std.proofs.Common.{length-append}
 use Rattle.std.specs.List.{All, AllByRecursion, concat}
 use Rattle.std.proofs.lemmas.List.Elements.{All-nil, All-append}
 use Rattle.std.specs.declared.cmp.Ordering.TheVariants.{Less, Equal}
 use Rattle.std.specs.Cmp.{nat_cmp_is, tied_itself}
 use Rattle.std.specs.Ordering.{ordering_then}
 use Rattle.std.specs.Cmp.Lexicographic.{nat_list_cmp_total}
-use Rattle.std.proofs.lemmas.List.{append_assoc, append-nil, append_cancel_left, length-drop, length-take, take-take, take-append-drop, get_or-take, get_or_append_left}
+use Rattle.std.proofs.lemmas.List.{append_assoc, append-nil, append_cancel_left, length-drop}
+use Rattle.std.proofs.lemmas.List.{length-take, take-take, take-append-drop, get_or-take}
+use Rattle.std.proofs.lemmas.List.{get_or_append_left}
 use Rattle.std.proofs.lemmas.Bool.{cases_lt}
-use Rattle.patricia_keys.specs.Keys.{Begins, IsKeyKind, IsValid, IsCommon, DropsCommon, IsFloor, IsSharedLen, key_cmp}
+use Rattle.patricia_keys.specs.Keys.{Begins, IsKeyKind, IsValid, IsCommon, DropsCommon, IsFloor}
+use Rattle.patricia_keys.specs.Keys.{IsSharedLen, key_cmp}
 
 -- of two lists with a common extension one begins the other
 pub begins_either : (a b x y : List ℕ) → a ++ x ≡ b ++ y → Begins a b ⊎ Begins b a

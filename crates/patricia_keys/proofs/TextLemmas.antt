@@ -1,15 +1,19 @@
 -- The text kind: the valid keys are the texts, cut between characters, and a first byte tells the length of its character.
-use Rattle.std.proofs.Common.{◌≡◌, ℕ, ◌+◌, ◌/◌, ◌<◌, ◌≤◌, Bool, true, false, cond, ltb, List, [], ◌∷◌, ◌++◌, length, get_or, take, drop, inl, inr, refl, sym, ap, subst, ◌∙◌, arith, length-append}
+use Rattle.std.proofs.Common.{◌≡◌, ℕ, ◌+◌, ◌/◌, ◌<◌, ◌≤◌, Bool, true, false, cond, ltb, List, []}
+use Rattle.std.proofs.Common.{◌∷◌, ◌++◌, length, get_or, take, drop, inl, inr, refl, sym, ap, subst}
+use Rattle.std.proofs.Common.{◌∙◌, arith, length-append}
 use Rattle.std.specs.Char.{IsScalar, len_utf8}
 use Rattle.std.specs.List.{AllByRecursion, concat}
 use Rattle.std.specs.Str.{IsCharBoundary, IsUtf8, IsValidUpTo}
 use Rattle.std.specs.Prelude.{Result, Ok, Err, MatchResult, IsTrue, is_ok}
-use Rattle.std.proofs.lemmas.List.{take_all, take-take, take-append-drop, take_at, length-take-le, get_or_append_left}
+use Rattle.std.proofs.lemmas.List.{take_all, take-take, take-append-drop, take_at, length-take-le}
+use Rattle.std.proofs.lemmas.List.{get_or_append_left}
 use Rattle.std.proofs.lemmas.Bool.{cases_lt}
 use Rattle.std.proofs.lemmas.Bool.Decides.{nat_tests}
 use Rattle.std.proofs.Math.Utf8.{encode, encodes, next, scalar, scalars}
 use Rattle.std.specs.Cmp.{first_so, second_so}
-use Rattle.std.proofs.lemmas.Str.{IsCharBoundary-from_take, IsUtf8-append, IsUtf8-encode, IsUtf8-nil, IsUtf8-take, len_utf8_bounds, length-encode}
+use Rattle.std.proofs.lemmas.Str.{IsCharBoundary-from_take, IsUtf8-append, IsUtf8-encode}
+use Rattle.std.proofs.lemmas.Str.{IsUtf8-nil, IsUtf8-take, len_utf8_bounds, length-encode}
 use Rattle.patricia_keys.specs.Keys.{Begins, IsValid, IsFloor, IsFirstItem}
 use Rattle.patricia_keys.specs.TextKind.{IsTextItem, one_char}
 use Rattle.patricia_keys.proofs.KeyLemmas.{first_of}

@@ -3,7 +3,8 @@
 //! A key is a list of items: single bytes in byte strings, characters in texts. Labels and
 //! prefixes are cut between items only. Each length is a number of bytes.
 ghost use Rattle.std.specs.Prelude.{◌≡◌, ℕ, ◌≤◌, List, [], length, take, drop, IsTrue, ◌↔◌, IfOk};
-ghost use Rattle.patricia_keys.specs.Keys.{IsKeyKind, IsValid, IsCommon, DropsCommon, IsFloor, ComparesFirst};
+ghost use Rattle.patricia_keys.specs.Keys.{IsKeyKind, IsValid, IsCommon, DropsCommon, IsFloor};
+ghost use Rattle.patricia_keys.specs.Keys.{ComparesFirst};
 
 mod byte;
 mod text;

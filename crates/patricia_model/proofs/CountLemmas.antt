@@ -1,5 +1,6 @@
 -- What a look-up adds to its steps at a node, by how the key meets the label.
-use Rattle.std.proofs.Common.{◌≡◌, ℕ, ◌+◌, ◌<◌, ◌≤◌, ◌≢◌, List, [], ◌∷◌, ◌++◌, Option, length, map, get_or, refl, sym, ap, subst, ◌∙◌, arith}
+use Rattle.std.proofs.Common.{◌≡◌, ℕ, ◌+◌, ◌<◌, ◌≤◌, ◌≢◌, List, [], ◌∷◌, ◌++◌, Option, length, map}
+use Rattle.std.proofs.Common.{get_or, refl, sym, ap, subst, ◌∙◌, arith}
 use Rattle.std.specs.Ordering.{nat_cmp, ordering_then}
 use Rattle.std.specs.FinMap.{keys, entries-from_sorted}
 use Rattle.std.specs.declared.cmp.Ordering.{Ordering}
@@ -8,7 +9,8 @@ use Rattle.std.proofs.lemmas.List.{append_cancel_left, length-append, length-map
 use Rattle.std.proofs.lemmas.Bool.Decides.{nat_tests}
 use Rattle.patricia_keys.specs.Keys.{AreSingle, Begins, IsKeyKind, IsValid, key_cmp}
 use Rattle.patricia_model.specs.Internal.LabelCmp.{SharesItem, EndsWithin, Passes}
-use Rattle.patricia_model.specs.Siblings.{Siblings, end, node, own, entries, keys_of, IsBefore, IsBeforeSiblings, IsCanonical}
+use Rattle.patricia_model.specs.Siblings.{Siblings, end, node, own, entries, keys_of, IsBefore}
+use Rattle.patricia_model.specs.Siblings.{IsBeforeSiblings, IsCanonical}
 use Rattle.patricia_model.specs.Points.{IsVisitCount}
 use Rattle.patricia_model.specs.Trees.{map_of}
 use Rattle.patricia_model.specs.Internal.Counts.{AreVisits, first_byte, IsCounted}
@@ -16,7 +18,9 @@ use Rattle.patricia_keys.proofs.KeyLemmas.{Begins-trans, begins_same, first_of, 
 use Rattle.patricia_model.proofs.GetLemmas.{common_whole}
 use Rattle.patricia_model.proofs.PointLemmas.{splits, own_within, within_own}
 use Rattle.patricia_model.proofs.TreeLemmas.{tree_sorted}
-use Rattle.patricia_model.proofs.VisitLemmas.{Matches, less_once, no_visits, empty_visits, AreVisits-same, visits_stop, visits_past, visits_through}
+use Rattle.patricia_model.proofs.VisitLemmas.{Matches, less_once, no_visits, empty_visits}
+use Rattle.patricia_model.proofs.VisitLemmas.{AreVisits-same, visits_stop, visits_past}
+use Rattle.patricia_model.proofs.VisitLemmas.{visits_through}
 
 -- bytes in order are numbers in order
 less_byte : (x y : ℕ) → key_cmp (x ∷ []) (y ∷ []) ≡ Less → x < y

@@ -1,16 +1,20 @@
 -- A write of a key that ends within a label, or leaves it there.
-use Rattle.std.proofs.Common.{◌≡◌, ℕ, ◌+◌, ◌≢◌, List, [], ◌++◌, Option, Some, None, length, take, drop, refl, sym, ap, subst, ◌∙◌, arith}
+use Rattle.std.proofs.Common.{◌≡◌, ℕ, ◌+◌, ◌≢◌, List, [], ◌++◌, Option, Some, None, length, take}
+use Rattle.std.proofs.Common.{drop, refl, sym, ap, subst, ◌∙◌, arith}
 use Rattle.std.specs.FinMap.{put}
-use Rattle.std.proofs.lemmas.List.{append_assoc, append-nil, take-append-drop, length-take-le, length-append, length-drop, take_at}
+use Rattle.std.proofs.lemmas.List.{append_assoc, append-nil, take-append-drop, length-take-le}
+use Rattle.std.proofs.lemmas.List.{length-append, length-drop, take_at}
 use Rattle.patricia_keys.specs.Keys.{Begins, IsKeyKind, IsValid, IsCommon, ComparesFirst, key_cmp}
 use Rattle.patricia_model.specs.Internal.LabelCmp.{SharesItem, EndsWithin}
-use Rattle.patricia_model.specs.Siblings.{Siblings, end, node, prefixed, own, entries, IsBefore, IsBeforeSiblings, IsCanonical}
+use Rattle.patricia_model.specs.Siblings.{Siblings, end, node, prefixed, own, entries, IsBefore}
+use Rattle.patricia_model.specs.Siblings.{IsBeforeSiblings, IsCanonical}
 use Rattle.patricia_keys.proofs.KeyLemmas.{valid_rest, IsValid-append, IsValid-item}
 use Rattle.std.specs.declared.cmp.Ordering.{Ordering}
 use Rattle.std.specs.declared.cmp.Ordering.TheVariants.{Less, Equal, Greater}
 use Rattle.patricia_model.proofs.RowLemmas.{prefixed-prefixed}
 use Rattle.patricia_model.proofs.GetLemmas.{compared_greater, compared_equal}
-use Rattle.patricia_model.proofs.InsertLemmas.{IsBefore-shorter_left, single, put_own, put_before, put_past, put_front, earns_elsewhere}
+use Rattle.patricia_model.proofs.InsertLemmas.{IsBefore-shorter_left, single, put_own, put_before}
+use Rattle.patricia_model.proofs.InsertLemmas.{put_past, put_front, earns_elsewhere}
 
 -- a key and a label fall into a common front and two rests with different first items
 pub record Divides (item : List ℕ → Type 0) (q l p t d : List ℕ) : Type 0 where

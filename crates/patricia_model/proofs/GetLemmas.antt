@@ -1,16 +1,21 @@
 -- What a look-up finds at a node, by how the key compares with its label.
-use Rattle.std.proofs.Common.{◌≡◌, ℕ, ◌≤◌, ◌≢◌, inl, inr, List, [], ◌∷◌, ◌++◌, Option, Some, None, length, take, drop, refl, sym, ap, subst, ◌∙◌, arith}
+use Rattle.std.proofs.Common.{◌≡◌, ℕ, ◌≤◌, ◌≢◌, inl, inr, List, [], ◌∷◌, ◌++◌, Option, Some, None}
+use Rattle.std.proofs.Common.{length, take, drop, refl, sym, ap, subst, ◌∙◌, arith}
 use Rattle.std.specs.declared.cmp.Ordering.TheVariants.{Less, Equal, Greater}
 use Rattle.std.specs.Ordering.{ordering_reverse}
 use Rattle.std.specs.Cmp.Lexicographic.{nat_list_cmp_total}
 use Rattle.std.specs.FinMap.{find}
-use Rattle.std.proofs.lemmas.List.{append-nil, take-append-drop, length-take-le, length-append, take_at, nil_from_length}
+use Rattle.std.proofs.lemmas.List.{append-nil, take-append-drop, length-take-le, length-append}
+use Rattle.std.proofs.lemmas.List.{take_at, nil_from_length}
 use Rattle.patricia_keys.specs.Keys.{Begins, IsKeyKind, IsValid, IsCommon, ComparesFirst, key_cmp}
 use Rattle.patricia_model.specs.Internal.LabelCmp.{SharesItem, EndsWithin, Passes}
-use Rattle.patricia_model.specs.Siblings.{Siblings, node, prefixed, own, entries, IsBefore, IsCanonical}
+use Rattle.patricia_model.specs.Siblings.{Siblings, node, prefixed, own, entries, IsBefore}
+use Rattle.patricia_model.specs.Siblings.{IsCanonical}
 use Rattle.patricia_keys.proofs.KeyLemmas.{key_cmp-irreflexive}
-use Rattle.patricia_model.proofs.RowLemmas.{AllKeys, AllKeys-append, AllKeys-prefixed, empty_lacks, lacks_item, lacks_empty}
-use Rattle.patricia_model.proofs.ListLemmas.{IsBelow, key_cmp-equal, find_absent, find-append_left, find-append_right, find-prefixed}
+use Rattle.patricia_model.proofs.RowLemmas.{AllKeys, AllKeys-append, AllKeys-prefixed, empty_lacks}
+use Rattle.patricia_model.proofs.RowLemmas.{lacks_item, lacks_empty}
+use Rattle.patricia_model.proofs.ListLemmas.{IsBelow, key_cmp-equal, find_absent, find-append_left}
+use Rattle.patricia_model.proofs.ListLemmas.{find-append_right, find-prefixed}
 use Rattle.patricia_model.proofs.OrderLemmas.{IsBefore-less, below_row}
 
 -- a key that is below each key is none of them

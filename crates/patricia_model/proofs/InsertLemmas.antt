@@ -1,14 +1,18 @@
 -- What a write leaves at a node, by how the key compares with its label.
-use Rattle.std.proofs.Common.{◌≡◌, ℕ, ◌≢◌, List, [], ◌∷◌, ◌++◌, Option, Some, None, refl, sym, ap, subst, ◌∙◌}
+use Rattle.std.proofs.Common.{◌≡◌, ℕ, ◌≢◌, List, [], ◌∷◌, ◌++◌, Option, Some, None, refl, sym, ap}
+use Rattle.std.proofs.Common.{subst, ◌∙◌}
 use Rattle.std.specs.declared.cmp.Ordering.TheVariants.{Less}
 use Rattle.std.specs.FinMap.{put}
 use Rattle.std.proofs.lemmas.List.{append-nil}
 use Rattle.patricia_keys.specs.Keys.{Begins, IsKeyKind, IsValid, key_cmp}
 use Rattle.patricia_model.specs.Internal.LabelCmp.{Passes}
-use Rattle.patricia_model.specs.Siblings.{Siblings, end, node, prefixed, own, entries, IsBefore, IsBeforeSiblings, EarnsWithin, IsCanonical}
+use Rattle.patricia_model.specs.Siblings.{Siblings, end, node, prefixed, own, entries, IsBefore}
+use Rattle.patricia_model.specs.Siblings.{IsBeforeSiblings, EarnsWithin, IsCanonical}
 use Rattle.patricia_keys.proofs.KeyLemmas.{Begins-trans, begins_same, first_of}
 use Rattle.patricia_model.proofs.RowLemmas.{AllKeys, AllKeys-append, AllKeys-prefixed, rises_on}
-use Rattle.patricia_model.proofs.ListLemmas.{IsBelow, IsAbove, put_below, put-append_left, put-append_right, put-prefixed, AllKeys-put, put-AllKeys}
+use Rattle.patricia_model.proofs.ListLemmas.{IsBelow, IsAbove, put_below, put-append_left}
+use Rattle.patricia_model.proofs.ListLemmas.{put-append_right, put-prefixed, AllKeys-put}
+use Rattle.patricia_model.proofs.ListLemmas.{put-AllKeys}
 use Rattle.patricia_model.proofs.OrderLemmas.{IsBefore-less, below_row, below_own}
 use Rattle.patricia_model.proofs.UniqueLemmas.{branches, has_entry}
 

@@ -1,5 +1,6 @@
 -- Where a removal joins labels, a point of the keys goes though keys that it begins stay.
-use Rattle.std.proofs.Common.{◌≡◌, ℕ, ◌≢◌, inl, inr, cond, not, List, [], ◌∷◌, ◌++◌, Option, Some, None, length, refl, sym, ap, subst, ◌∙◌, arith}
+use Rattle.std.proofs.Common.{◌≡◌, ℕ, ◌≢◌, inl, inr, cond, not, List, [], ◌∷◌, ◌++◌, Option, Some}
+use Rattle.std.proofs.Common.{None, length, refl, sym, ap, subst, ◌∙◌, arith}
 use Rattle.std.specs.declared.cmp.Ordering.{Ordering}
 use Rattle.std.specs.declared.cmp.Ordering.TheVariants.{Less, Equal, Greater}
 use Rattle.std.specs.Ordering.{is_eq}
@@ -7,13 +8,16 @@ use Rattle.std.proofs.lemmas.List.{append_assoc, append-nil, append_cancel_left}
 use Rattle.patricia_keys.specs.Keys.{Begins, IsKeyKind, IsValid, key_cmp}
 use Rattle.patricia_model.specs.Internal.LabelCmp.{Passes}
 use Rattle.patricia_model.specs.Points.{Has, without, Follows, Branches, IsPoint, Joins}
-use Rattle.patricia_model.specs.Siblings.{Siblings, end, node, prefixed, own, entries, EarnsWithin, IsCanonical, keys_of}
+use Rattle.patricia_model.specs.Siblings.{Siblings, end, node, prefixed, own, entries, EarnsWithin}
+use Rattle.patricia_model.specs.Siblings.{IsCanonical, keys_of}
 use Rattle.patricia_model.specs.Internal.Removals.{others, IsLoneParent, LeavesAlone}
-use Rattle.patricia_keys.proofs.KeyLemmas.{Begins-trans, key_cmp-irreflexive, key_cmp-same, begins_same, first_of, IsValid-append}
+use Rattle.patricia_keys.proofs.KeyLemmas.{Begins-trans, key_cmp-irreflexive, key_cmp-same}
+use Rattle.patricia_keys.proofs.KeyLemmas.{begins_same, first_of, IsValid-append}
 use Rattle.patricia_model.proofs.RowLemmas.{AllKeys, lacks_item, lacks_empty}
 use Rattle.patricia_model.proofs.ListLemmas.{key_cmp-equal}
 use Rattle.patricia_model.proofs.RemovalLemmas.{survivor}
-use Rattle.patricia_model.proofs.PointLemmas.{nil_first, nil_second, has_prefixed, has_after, has_one, within_own}
+use Rattle.patricia_model.proofs.PointLemmas.{nil_first, nil_second, has_prefixed, has_after}
+use Rattle.patricia_model.proofs.PointLemmas.{has_one, within_own}
 use Rattle.patricia_model.proofs.UniqueLemmas.{has_entry}
 
 -- a key other than q is among the keys without q

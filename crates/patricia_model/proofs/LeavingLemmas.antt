@@ -4,7 +4,8 @@ use Rattle.patricia_keys.specs.Keys.{IsKeyKind}
 use Rattle.patricia_model.specs.Prefixes.{outside}
 use Rattle.patricia_model.specs.Internal.LabelCmp.{Passes}
 use Rattle.patricia_model.specs.Internal.Removals.{others}
-use Rattle.patricia_model.specs.Siblings.{Siblings, node, prefixed, own, entries, IsBefore, IsCanonical}
+use Rattle.patricia_model.specs.Siblings.{Siblings, node, prefixed, own, entries, IsBefore}
+use Rattle.patricia_model.specs.Siblings.{IsCanonical}
 use Rattle.patricia_model.proofs.RowLemmas.{AllKeys}
 use Rattle.patricia_model.proofs.InsertLemmas.{keys_rise, rises_by_keys}
 use Rattle.patricia_model.proofs.OutsideLemmas.{AllKeys-outside, outside_past, outside_deeper}

@@ -1,5 +1,6 @@
 -- What the first bytes and the common bytes of a key and a label tell of their first items.
-use Rattle.std.proofs.Common.{ℕ, ◌<◌, ◌≤◌, ◌≢◌, List, [], length, take, drop, get_or, ap, arith, length-append}
+use Rattle.std.proofs.Common.{ℕ, ◌<◌, ◌≤◌, ◌≢◌, List, [], length, take, drop, get_or, ap, arith}
+use Rattle.std.proofs.Common.{length-append}
 use Rattle.std.proofs.lemmas.List.{length-take-le, take-append-drop}
 use Rattle.patricia_keys.specs.Keys.{IsKeyKind, IsValid, IsCommon}
 use Rattle.patricia_model.specs.Internal.LabelCmp.{SharesItem}

@@ -1,14 +1,18 @@
 -- The entries of a row strictly rise.
-use Rattle.std.proofs.Common.{◌≡◌, ℕ, inl, inr, T, List, [], ◌∷◌, ◌++◌, Option, Some, None, refl, sym, ap, ◌∙◌}
+use Rattle.std.proofs.Common.{◌≡◌, ℕ, inl, inr, T, List, [], ◌∷◌, ◌++◌, Option, Some, None, refl}
+use Rattle.std.proofs.Common.{sym, ap, ◌∙◌}
 use Rattle.std.specs.declared.cmp.Ordering.TheVariants.{Less}
 use Rattle.std.specs.FinMap.{is_sorted}
 use Rattle.std.specs.FinMap.Entries.{below_all}
 use Rattle.std.proofs.lemmas.List.{append_assoc, append-nil}
 use Rattle.patricia_keys.specs.Keys.{IsKeyKind, key_cmp}
-use Rattle.patricia_model.specs.Siblings.{Siblings, end, node, prefixed, own, entries, IsBefore, IsBeforeSiblings, IsCanonical}
+use Rattle.patricia_model.specs.Siblings.{Siblings, end, node, prefixed, own, entries, IsBefore}
+use Rattle.patricia_model.specs.Siblings.{IsBeforeSiblings, IsCanonical}
 use Rattle.patricia_keys.proofs.KeyLemmas.{key_cmp-irreflexive}
-use Rattle.patricia_model.proofs.RowLemmas.{AllKeys, AllKeys-append, AllKeys-prefixed, rises_on, lacks_empty}
-use Rattle.patricia_model.proofs.ListLemmas.{IsBelow, key_cmp-extends, key_cmp-front, below_all-from, both}
+use Rattle.patricia_model.proofs.RowLemmas.{AllKeys, AllKeys-append, AllKeys-prefixed, rises_on}
+use Rattle.patricia_model.proofs.RowLemmas.{lacks_empty}
+use Rattle.patricia_model.proofs.ListLemmas.{IsBelow, key_cmp-extends, key_cmp-front}
+use Rattle.patricia_model.proofs.ListLemmas.{below_all-from, both}
 use Rattle.patricia_model.proofs.TestLemmas.{first_part, second_part}
 
 -- the empty key comes before each other key

@@ -1,15 +1,18 @@
 -- Rows outside a prefix, where the rows are made of others.
-use Rattle.std.proofs.Common.{◌≡◌, ◌≢◌, ℕ, ◌+◌, ◌⊎◌, inl, inr, Bool, true, false, not, cond, List, [], ◌∷◌, ◌++◌, length, Option, refl, sym, ap, ◌∙◌, arith}
+use Rattle.std.proofs.Common.{◌≡◌, ◌≢◌, ℕ, ◌+◌, ◌⊎◌, inl, inr, Bool, true, false, not, cond, List}
+use Rattle.std.proofs.Common.{[], ◌∷◌, ◌++◌, length, Option, refl, sym, ap, ◌∙◌, arith}
 use Rattle.std.specs.Prelude.{◌↔◌}
 use Rattle.std.proofs.lemmas.List.Elements.{filter-append}
 use Rattle.patricia_keys.specs.Keys.{Begins, IsKeyKind}
 use Rattle.patricia_model.specs.Points.{Has}
 use Rattle.patricia_model.specs.Prefixes.{begins, under, outside}
 use Rattle.patricia_model.specs.Internal.LabelCmp.{SharesItem, Passes}
-use Rattle.patricia_model.specs.Siblings.{Siblings, node, prefixed, own, entries, IsBefore, IsCanonical}
+use Rattle.patricia_model.specs.Siblings.{Siblings, node, prefixed, own, entries, IsBefore}
+use Rattle.patricia_model.specs.Siblings.{IsCanonical}
 use Rattle.patricia_model.proofs.RowLemmas.{AllKeys, AllKeys-prefixed, all_begin}
 use Rattle.patricia_keys.proofs.KeyLemmas.{Begins-trans}
-use Rattle.patricia_model.proofs.PrefixLemmas.{begins-front, begins_from, filter-prefixed, under_own, first_none, past_none}
+use Rattle.patricia_model.proofs.PrefixLemmas.{begins-front, begins_from, filter-prefixed}
+use Rattle.patricia_model.proofs.PrefixLemmas.{under_own, first_none, past_none}
 use Rattle.patricia_model.proofs.FilterLemmas.{has_filter, filter_has}
 
 module _ {V : Type 0} where

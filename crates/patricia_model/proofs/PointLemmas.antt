@@ -1,15 +1,21 @@
 -- The points of a set of keys: where they are when the keys behind one label are set apart, and that they are the paths of a row's nodes.
-use Rattle.std.proofs.Common.{◌≡◌, ℕ, ◌≤◌, ◌≢◌, ◌⊎◌, inl, inr, List, [], ◌∷◌, ◌++◌, Option, Some, None, length, map, refl, sym, ap, subst, ◌∙◌, arith}
+use Rattle.std.proofs.Common.{◌≡◌, ℕ, ◌≤◌, ◌≢◌, ◌⊎◌, inl, inr, List, [], ◌∷◌, ◌++◌, Option, Some}
+use Rattle.std.proofs.Common.{None, length, map, refl, sym, ap, subst, ◌∙◌, arith}
 use Rattle.std.specs.Prelude.{◌↔◌}
 use Rattle.std.specs.declared.cmp.Ordering.TheVariants.{Less}
 use Rattle.std.proofs.lemmas.List.{append_assoc, append-nil, append_cancel_left, length-append}
 use Rattle.patricia_keys.specs.Keys.{Begins, IsKeyKind, IsValid, key_cmp}
-use Rattle.patricia_model.specs.Siblings.{Siblings, end, node, prefixed, own, entries, keys_of, paths, IsBefore, IsBeforeSiblings, IsCanonical}
-use Rattle.patricia_model.specs.Points.{Has, AreApart, BeginsProperly, Follows, Branches, IsPoint, IsParent}
-use Rattle.patricia_keys.proofs.KeyLemmas.{Begins-trans, begins_either, begins_same, first_of, item-nonempty, key_cmp-irreflexive, valid_rest, IsValid-append}
+use Rattle.patricia_model.specs.Siblings.{Siblings, end, node, prefixed, own, entries, keys_of}
+use Rattle.patricia_model.specs.Siblings.{paths, IsBefore, IsBeforeSiblings, IsCanonical}
+use Rattle.patricia_model.specs.Points.{Has, AreApart, BeginsProperly, Follows, Branches, IsPoint}
+use Rattle.patricia_model.specs.Points.{IsParent}
+use Rattle.patricia_keys.proofs.KeyLemmas.{Begins-trans, begins_either, begins_same, first_of}
+use Rattle.patricia_keys.proofs.KeyLemmas.{item-nonempty, key_cmp-irreflexive, valid_rest}
+use Rattle.patricia_keys.proofs.KeyLemmas.{IsValid-append}
 use Rattle.patricia_model.proofs.RowLemmas.{rises_on}
 use Rattle.patricia_model.proofs.UniqueLemmas.{has_entry}
-use Rattle.patricia_model.proofs.MemberLemmas.{Has-left, Has-right, Has-either, AreApart-append, Has-behind, Has-behind_of, AreApart-behind}
+use Rattle.patricia_model.proofs.MemberLemmas.{Has-left, Has-right, Has-either, AreApart-append}
+use Rattle.patricia_model.proofs.MemberLemmas.{Has-behind, Has-behind_of, AreApart-behind}
 
 -- parts of an empty list are empty
 pub nil_first : (a b : List ℕ) → a ++ b ≡ [] → a ≡ []

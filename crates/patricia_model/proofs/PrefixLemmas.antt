@@ -1,5 +1,6 @@
 -- Rows under a prefix and along a key, where the rows are made of others.
-use Rattle.std.proofs.Common.{◌≡◌, ◌≢◌, ℕ, inl, inr, Bool, true, false, ◌&&◌, cond, List, [], ◌∷◌, ◌++◌, Option, None, Some, refl, sym, ap, subst, ◌∙◌}
+use Rattle.std.proofs.Common.{◌≡◌, ◌≢◌, ℕ, inl, inr, Bool, true, false, ◌&&◌, cond, List, [], ◌∷◌}
+use Rattle.std.proofs.Common.{◌++◌, Option, None, Some, refl, sym, ap, subst, ◌∙◌}
 use Rattle.std.specs.Prelude.{filter, nat_eq, IfSome}
 use Rattle.std.specs.Option.{option_map}
 use Rattle.std.specs.declared.cmp.Ordering.TheVariants.{Less}
@@ -11,9 +12,11 @@ use Rattle.std.proofs.lemmas.List.Elements.{filter-append}
 use Rattle.patricia_keys.specs.Keys.{Begins, IsKeyKind, key_cmp}
 use Rattle.patricia_model.specs.Prefixes.{begins, under, along, longest}
 use Rattle.patricia_model.specs.Internal.LabelCmp.{SharesItem, Passes}
-use Rattle.patricia_model.specs.Siblings.{Siblings, node, prefixed, own, entries, IsBefore, IsBeforeSiblings, IsCanonical}
+use Rattle.patricia_model.specs.Siblings.{Siblings, node, prefixed, own, entries, IsBefore}
+use Rattle.patricia_model.specs.Siblings.{IsBeforeSiblings, IsCanonical}
 use Rattle.patricia_keys.proofs.KeyLemmas.{Begins-trans, begins_either, key_cmp-irreflexive}
-use Rattle.patricia_model.proofs.RowLemmas.{AllKeys, AllKeys-append, AllKeys-prefixed, all_begin, lacks_item}
+use Rattle.patricia_model.proofs.RowLemmas.{AllKeys, AllKeys-append, AllKeys-prefixed, all_begin}
+use Rattle.patricia_model.proofs.RowLemmas.{lacks_item}
 use Rattle.patricia_model.proofs.ListLemmas.{IsBelow, key_cmp-extends, key_cmp-front}
 use Rattle.patricia_model.proofs.OrderLemmas.{IsBefore-less, below_row}
 

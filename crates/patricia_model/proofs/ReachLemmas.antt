@@ -1,14 +1,19 @@
 -- How far the keys of a row go with a key.
-use Rattle.std.proofs.Common.{◌≡◌, ℕ, ◌+◌, ◌-◌, ◌≤◌, ◌⊎◌, inl, inr, List, [], ◌∷◌, ◌++◌, Option, None, Some, length, take, drop, refl, sym, ap, ◌∙◌, arith}
-use Rattle.std.proofs.lemmas.List.{append-nil, take-append-drop, length-take-le, length-append, append_cancel_left, append_assoc}
+use Rattle.std.proofs.Common.{◌≡◌, ℕ, ◌+◌, ◌-◌, ◌≤◌, ◌⊎◌, inl, inr, List, [], ◌∷◌, ◌++◌, Option}
+use Rattle.std.proofs.Common.{None, Some, length, take, drop, refl, sym, ap, ◌∙◌, arith}
+use Rattle.std.proofs.lemmas.List.{append-nil, take-append-drop, length-take-le, length-append}
+use Rattle.std.proofs.lemmas.List.{append_cancel_left, append_assoc}
 use Rattle.std.proofs.Math.Seq.{take-append-add}
 use Rattle.std.proofs.lemmas.Bool.{cases_lt}
 use Rattle.patricia_keys.specs.Keys.{Begins, IsKeyKind, IsValid, IsCommon}
-use Rattle.patricia_keys.proofs.KeyLemmas.{Begins-trans, begins_either, begins_same, key_cmp-irreflexive, IsValid-nil, IsValid-append, valid_rest}
+use Rattle.patricia_keys.proofs.KeyLemmas.{Begins-trans, begins_either, begins_same}
+use Rattle.patricia_keys.proofs.KeyLemmas.{key_cmp-irreflexive, IsValid-nil, IsValid-append}
+use Rattle.patricia_keys.proofs.KeyLemmas.{valid_rest}
 use Rattle.patricia_model.specs.Points.{Has}
 use Rattle.patricia_model.specs.Prefixes.{IsReach}
 use Rattle.patricia_model.specs.Internal.LabelCmp.{SharesItem, EndsWithin, Passes}
-use Rattle.patricia_model.specs.Siblings.{Siblings, node, prefixed, own, entries, keys_of, IsBefore, IsCanonical}
+use Rattle.patricia_model.specs.Siblings.{Siblings, node, prefixed, own, entries, keys_of, IsBefore}
+use Rattle.patricia_model.specs.Siblings.{IsCanonical}
 use Rattle.patricia_model.proofs.RowLemmas.{lacks_item}
 use Rattle.patricia_model.proofs.GetLemmas.{common_whole}
 use Rattle.patricia_model.proofs.PointLemmas.{has_prefixed, has_after, has_one}

@@ -1,5 +1,6 @@
 -- What a removal leaves of a row, by how the key compares with the first label.
-use Rattle.std.proofs.Common.{◌≡◌, ℕ, ◌≤◌, ◌≢◌, inl, inr, cond, not, List, [], ◌∷◌, ◌++◌, Option, Some, None, refl, sym, ap, subst, ◌∙◌, arith}
+use Rattle.std.proofs.Common.{◌≡◌, ℕ, ◌≤◌, ◌≢◌, inl, inr, cond, not, List, [], ◌∷◌, ◌++◌, Option}
+use Rattle.std.proofs.Common.{Some, None, refl, sym, ap, subst, ◌∙◌, arith}
 use Rattle.std.specs.declared.cmp.Ordering.{Ordering}
 use Rattle.std.specs.declared.cmp.Ordering.TheVariants.{Less, Equal, Greater}
 use Rattle.std.specs.Ordering.{is_eq}
@@ -7,7 +8,8 @@ use Rattle.std.proofs.lemmas.List.{append-nil}
 use Rattle.std.proofs.lemmas.List.Elements.{filter-append}
 use Rattle.patricia_keys.specs.Keys.{Begins, IsKeyKind, IsValid, key_cmp}
 use Rattle.patricia_model.specs.Internal.LabelCmp.{EndsWithin, Passes}
-use Rattle.patricia_model.specs.Siblings.{Siblings, end, node, prefixed, own, entries, IsBefore, IsBeforeSiblings, EarnsWithin, IsCanonical}
+use Rattle.patricia_model.specs.Siblings.{Siblings, end, node, prefixed, own, entries, IsBefore}
+use Rattle.patricia_model.specs.Siblings.{IsBeforeSiblings, EarnsWithin, IsCanonical}
 use Rattle.patricia_model.specs.Internal.Removals.{others, width, without_first, LeavesAlone}
 use Rattle.patricia_keys.proofs.KeyLemmas.{first_of, IsValid-append}
 use Rattle.patricia_model.proofs.RowLemmas.{AllKeys, prefixed-prefixed, empty_lacks, lacks_empty}

@@ -3,7 +3,8 @@ use Rattle.std.proofs.Common.{◌≡◌, ℕ, List, [], ◌∷◌, ◌++◌, Opt
 use Rattle.std.specs.Cmp.Lexicographic.{nat_list_cmp_total}
 use Rattle.std.proofs.lemmas.List.{append_assoc}
 use Rattle.patricia_keys.specs.Keys.{Begins, IsKeyKind}
-use Rattle.patricia_model.specs.Siblings.{Siblings, end, node, prefixed, own, entries, IsBefore, IsBeforeSiblings, IsCanonicalWithin}
+use Rattle.patricia_model.specs.Siblings.{Siblings, end, node, prefixed, own, entries, IsBefore}
+use Rattle.patricia_model.specs.Siblings.{IsBeforeSiblings, IsCanonicalWithin}
 use Rattle.patricia_keys.proofs.KeyLemmas.{Begins-trans, key_cmp-irreflexive, begins_same}
 
 module _ {V : Type 0} where

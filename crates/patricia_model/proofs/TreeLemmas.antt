@@ -1,10 +1,16 @@
 -- A tree's entries as a finite map.
-use Rattle.std.proofs.Common.{◌≡◌, ◌↔◌, ℕ, ◌+◌, ◌≢◌, true, false, T, cond, not, List, [], ◌++◌, Option, Some, None, length, refl, sym, ap, subst, ◌∙◌, arith, length-append}
+use Rattle.std.proofs.Common.{◌≡◌, ◌↔◌, ℕ, ◌+◌, ◌≢◌, true, false, T, cond, not, List, [], ◌++◌}
+use Rattle.std.proofs.Common.{Option, Some, None, length, refl, sym, ap, subst, ◌∙◌, arith}
+use Rattle.std.proofs.Common.{length-append}
 use Rattle.std.specs.Option.{is_some, option_map}
-use Rattle.std.specs.FinMap.{find, put, is_sorted, from_sorted, insert, remove, get, len, empty, entries-from_sorted, get-from_sorted, get-remove, entries-insert, same_entries_map, same_map, slice_cmp-IsAntisymmetric, nat_cmp-IsAntisymmetric, len-entries, len-empty}
+use Rattle.std.specs.FinMap.{find, put, is_sorted, from_sorted, insert, remove, get, len, empty}
+use Rattle.std.specs.FinMap.{entries-from_sorted, get-from_sorted, get-remove, entries-insert}
+use Rattle.std.specs.FinMap.{same_entries_map, same_map, slice_cmp-IsAntisymmetric}
+use Rattle.std.specs.FinMap.{nat_cmp-IsAntisymmetric, len-entries, len-empty}
 use Rattle.std.proofs.lemmas.List.{nil_from_length}
 use Rattle.std.specs.FinMap as map
-use Rattle.std.specs.FinMap.Entries.{is_sorted-put, length-put, is_sorted-where_key, find-where_key, length_without}
+use Rattle.std.specs.FinMap.Entries.{is_sorted-put, length-put, is_sorted-where_key, find-where_key}
+use Rattle.std.specs.FinMap.Entries.{length_without}
 use Rattle.std.specs.declared.cmp.Ordering.TheVariants.{Less, Equal, Greater}
 use Rattle.std.specs.Ordering.{eq_by_cmp, is_eq, ordering_reverse}
 use Rattle.patricia_model.specs.Internal.Removals.{others}
@@ -12,7 +18,8 @@ use Rattle.patricia_model.proofs.ListLemmas.{key_cmp-equal}
 use Rattle.patricia_model.proofs.RemovalLemmas.{others_own, others_below}
 use Rattle.std.specs.Cmp.Lexicographic.{nat_list_cmp_total}
 use Rattle.patricia_keys.specs.Keys.{IsKeyKind, key_cmp}
-use Rattle.patricia_model.specs.Siblings.{Siblings, end, node, own, entries, paths, IsCanonical, keys_of}
+use Rattle.patricia_model.specs.Siblings.{Siblings, end, node, own, entries, paths, IsCanonical}
+use Rattle.patricia_model.specs.Siblings.{keys_of}
 use Rattle.patricia_model.specs.Points.{Has, IsPoint}
 use Rattle.patricia_model.proofs.PointLemmas.{IsPoint-within, own_within, within_own, paths_points}
 use Rattle.patricia_model.proofs.UniqueLemmas.{has_entry, insides, same_row}

@@ -1,10 +1,14 @@
 -- Two rows under one limit with the same entries are the same row.
-use Rattle.std.proofs.Common.{◌≡◌, ℕ, ◌≤◌, inl, inr, List, [], ◌∷◌, ◌++◌, Option, Some, None, length, refl, sym, ap, subst, ◌∙◌, arith, length-append}
+use Rattle.std.proofs.Common.{◌≡◌, ℕ, ◌≤◌, inl, inr, List, [], ◌∷◌, ◌++◌, Option, Some, None}
+use Rattle.std.proofs.Common.{length, refl, sym, ap, subst, ◌∙◌, arith, length-append}
 use Rattle.std.proofs.lemmas.List.{append-nil, append_cancel_left}
 use Rattle.patricia_keys.specs.Keys.{Begins, IsKeyKind, IsValid}
-use Rattle.patricia_model.specs.Siblings.{Siblings, end, node, prefixed, own, entries, Fits, IsCanonicalWithin}
-use Rattle.patricia_keys.proofs.KeyLemmas.{Begins-trans, begins_either, key_cmp-irreflexive, begins_same, first_of, item-nonempty, valid_rest}
-use Rattle.patricia_model.proofs.RowLemmas.{AllKeys, AllKeys-left, AllKeys-right, AllKeys-prefixed, prefixed-prefixed, lacks_item, lacks_empty}
+use Rattle.patricia_model.specs.Siblings.{Siblings, end, node, prefixed, own, entries, Fits}
+use Rattle.patricia_model.specs.Siblings.{IsCanonicalWithin}
+use Rattle.patricia_keys.proofs.KeyLemmas.{Begins-trans, begins_either, key_cmp-irreflexive}
+use Rattle.patricia_keys.proofs.KeyLemmas.{begins_same, first_of, item-nonempty, valid_rest}
+use Rattle.patricia_model.proofs.RowLemmas.{AllKeys, AllKeys-left, AllKeys-right, AllKeys-prefixed}
+use Rattle.patricia_model.proofs.RowLemmas.{prefixed-prefixed, lacks_item, lacks_empty}
 
 module _ {V : Type 0} where
   -- where a fact holds of the first entries alone, they end at one place

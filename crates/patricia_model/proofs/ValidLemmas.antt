@@ -5,7 +5,8 @@ use Rattle.std.specs.FinMap.{keys}
 use Rattle.std.proofs.lemmas.List.Elements.{All-nil, All-cons}
 use Rattle.patricia_keys.specs.Keys.{IsKeyKind, IsValid}
 use Rattle.patricia_keys.proofs.KeyLemmas.{IsValid-nil, IsValid-append, valid_bytes}
-use Rattle.patricia_model.specs.Siblings.{Siblings, end, node, prefixed, own, entries, keys_of, IsCanonical}
+use Rattle.patricia_model.specs.Siblings.{Siblings, end, node, prefixed, own, entries, keys_of}
+use Rattle.patricia_model.specs.Siblings.{IsCanonical}
 use Rattle.patricia_model.specs.Trees.{map_of}
 use Rattle.patricia_model.proofs.RowLemmas.{AllKeys, AllKeys-append}
 use Rattle.patricia_model.proofs.TreeLemmas.{keys_map}

@@ -1,16 +1,23 @@
 -- The points that a look-up visits, when the keys behind one label are set apart.
-use Rattle.std.proofs.Common.{◌≡◌, ℕ, ◌≤◌, ◌≢◌, ◌⊎◌, inl, inr, List, [], ◌∷◌, ◌++◌, length, map, refl, sym, ap, subst, ◌∙◌, arith}
+use Rattle.std.proofs.Common.{◌≡◌, ℕ, ◌≤◌, ◌≢◌, ◌⊎◌, inl, inr, List, [], ◌∷◌, ◌++◌, length, map}
+use Rattle.std.proofs.Common.{refl, sym, ap, subst, ◌∙◌, arith}
 use Rattle.std.specs.declared.cmp.Ordering.TheVariants.{Less}
 use Rattle.std.proofs.lemmas.List.{append_assoc, append-nil, append_cancel_left, length-append}
 use Rattle.patricia_keys.specs.Keys.{Begins, IsKeyKind, key_cmp}
 use Rattle.patricia_model.specs.Siblings.{IsBefore}
 use Rattle.patricia_model.specs.Points.{Has, BeginsProperly, IsPoint, IsParent, IsCutOff, IsVisited}
 use Rattle.patricia_model.specs.Internal.Counts.{AreVisits}
-use Rattle.patricia_keys.proofs.KeyLemmas.{Begins-trans, begins_either, begins_same, key_cmp-irreflexive}
+use Rattle.patricia_keys.proofs.KeyLemmas.{Begins-trans, begins_either, begins_same}
+use Rattle.patricia_keys.proofs.KeyLemmas.{key_cmp-irreflexive}
 use Rattle.patricia_model.proofs.ListLemmas.{key_cmp-turned, key_cmp-front}
 use Rattle.patricia_model.proofs.OrderLemmas.{IsBefore-less}
 use Rattle.patricia_model.proofs.MemberLemmas.{Has-behind, Has-behind_of, AreApart-behind}
-use Rattle.patricia_model.proofs.PointLemmas.{nil_first, nil_second, Within, Begins-behind, Begins-behind_of, BeginsProperly-behind, BeginsProperly-behind_of, one_parent, IsPoint-within, IsParent-same, Splits, beside_apart, point_rises, point_label, point_below, none_within, point_beside, point_beside_of, point_cases, reaches}
+use Rattle.patricia_model.proofs.PointLemmas.{nil_first, nil_second, Within, Begins-behind}
+use Rattle.patricia_model.proofs.PointLemmas.{Begins-behind_of, BeginsProperly-behind}
+use Rattle.patricia_model.proofs.PointLemmas.{BeginsProperly-behind_of, one_parent, IsPoint-within}
+use Rattle.patricia_model.proofs.PointLemmas.{IsParent-same, Splits, beside_apart, point_rises}
+use Rattle.patricia_model.proofs.PointLemmas.{point_label, point_below, none_within, point_beside}
+use Rattle.patricia_model.proofs.PointLemmas.{point_beside_of, point_cases, reaches}
 
 -- the first item of the label isn't less than that of the key
 pub record Matches (item : List ℕ → Type 0) (l k : List ℕ) : Type 0 where

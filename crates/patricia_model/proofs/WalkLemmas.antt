@@ -1,10 +1,14 @@
 -- The rows that a walk has left, and how its steps change them.
-use Rattle.std.proofs.Common.{◌≡◌, ℕ, ◌+◌, ◌≤◌, ◌≢◌, List, [], ◌∷◌, ◌++◌, Option, Some, None, length, take, map, refl, sym, ap, subst, ◌∙◌, arith, length-append}
+use Rattle.std.proofs.Common.{◌≡◌, ℕ, ◌+◌, ◌≤◌, ◌≢◌, List, [], ◌∷◌, ◌++◌, Option, Some, None}
+use Rattle.std.proofs.Common.{length, take, map, refl, sym, ap, subst, ◌∙◌, arith, length-append}
 use Rattle.std.specs.Prelude.{Result, Ok, Err, OnErr}
-use Rattle.std.proofs.lemmas.List.{append_assoc, append-nil, take-take, take-append-le, take_all, take_at, length-take}
+use Rattle.std.proofs.lemmas.List.{append_assoc, append-nil, take-take, take-append-le, take_all}
+use Rattle.std.proofs.lemmas.List.{take_at, length-take}
 use Rattle.patricia_keys.specs.Keys.{IsValid}
 use Rattle.patricia_model.specs.Siblings.{Siblings, end, node, prefixed, own, entries, IsCanonical}
-use Rattle.patricia_model.specs.Internal.WalkStates.{WalkState, waiting, entries_left, steps_in, steps_waiting, IsWithinAll, WaitsWithin, IsWalkState, IsStep}
+use Rattle.patricia_model.specs.Internal.WalkStates.{WalkState, waiting, entries_left, steps_in}
+use Rattle.patricia_model.specs.Internal.WalkStates.{steps_waiting, IsWithinAll, WaitsWithin}
+use Rattle.patricia_model.specs.Internal.WalkStates.{IsWalkState, IsStep}
 use Rattle.patricia_keys.proofs.KeyLemmas.{IsValid-append}
 use Rattle.patricia_model.proofs.RowLemmas.{prefixed-prefixed, prefixed-append}
 

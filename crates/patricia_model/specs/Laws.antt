@@ -4,7 +4,8 @@ use Rattle.std.specs.FinMap as map
 use Rattle.patricia_keys.specs.Keys.{Begins, IsCommon, IsFloor, IsSharedLen, key_cmp}
 use Rattle.patricia_model.specs.Points.{Has, AreApart, IsPoint, IsParent, IsVisitCount}
 use Rattle.patricia_model.specs.Prefixes.{begins, under, outside, along, longest, IsReach}
-use Rattle.patricia_model.specs.Siblings.{Siblings, entries, keys_of, paths, IsCanonical, IsCanonicalWithin}
+use Rattle.patricia_model.specs.Siblings.{Siblings, entries, keys_of, paths, IsCanonical}
+use Rattle.patricia_model.specs.Siblings.{IsCanonicalWithin}
 use Rattle.patricia_model.specs.Trees.{map_of, IsTree}
 
 -- the test says whether the one byte list begins the other

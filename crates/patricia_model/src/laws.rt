@@ -1,9 +1,12 @@
 //! Laws that hold for every key kind, as contracts of functions that do nothing.
 ghost use Rattle.std.specs.Prelude.{[]};
 ghost use Rattle.patricia_keys.specs.ByteKind.{IsByteItem};
-ghost use Rattle.patricia_model.specs.Laws.{TestsBeginnings, UnderIsFiltered, AlongIsFiltered, LastIsLongest, HasOneReach};
+ghost use Rattle.patricia_model.specs.Laws.{TestsBeginnings, UnderIsFiltered, AlongIsFiltered};
+ghost use Rattle.patricia_model.specs.Laws.{LastIsLongest, HasOneReach};
 ghost use Rattle.patricia_model.specs.Laws.{HoldTogether, HaveNoKeyInCommon};
-ghost use Rattle.patricia_model.specs.Laws.{CommonIsFloor, HasOneParent, HasOneVisitCount, HasOneTree, TreeStandsAtPoints, HasOneShape, RowStandsAtPoints};
+ghost use Rattle.patricia_model.specs.Laws.{CommonIsFloor, HasOneParent, HasOneVisitCount};
+ghost use Rattle.patricia_model.specs.Laws.{HasOneTree, TreeStandsAtPoints, HasOneShape};
+ghost use Rattle.patricia_model.specs.Laws.{RowStandsAtPoints};
 ghost use Rattle.patricia_model.specs.Points.{IsVisitCount};
 ghost use Rattle.patricia_model.specs.Internal.ThreeKeys.{three_keys, baz, foo, aaa};
 

@@ -1,5 +1,6 @@
 -- The other of two children, and what is above a place.
-use Rattle.std.proofs.Common.{◌≡◌, inl, inr, ℕ, suc, ◌+◌, ◌<◌, ◌≤◌, true, List, [], ◌∷◌, ◌++◌, length, Option, Some, None, get_or, refl, sym, ap, subst, ◌∙◌, arith}
+use Rattle.std.proofs.Common.{◌≡◌, inl, inr, ℕ, suc, ◌+◌, ◌<◌, ◌≤◌, true, List, [], ◌∷◌, ◌++◌}
+use Rattle.std.proofs.Common.{length, Option, Some, None, get_or, refl, sym, ap, subst, ◌∙◌, arith}
 use Rattle.std.specs.Prelude.{is_some}
 use mathlib.Core.Bool.{false≢true}
 use Rattle.std.proofs.lemmas.Bool.{cases_lt}
@@ -9,8 +10,10 @@ use Rattle.patricia_nodes.specs.declared.arena.seek.LinkRef.{LinkRef}
 use Rattle.patricia_keys.specs.Keys.{IsKeyKind}
 use Rattle.patricia_model.specs.Siblings.{node, IsCanonical}
 use Rattle.patricia_model.specs.Internal.Removals.{width}
-use Rattle.patricia_nodes.specs.Internal.Plans.{Plan, Nil, Cell, linked, head, row, count, one, IsPlan, Holds}
-use Rattle.patricia_nodes.specs.Internal.Places.{Frame, InChild, InSibling, fill, above_of, node_above}
+use Rattle.patricia_nodes.specs.Internal.Plans.{Plan, Nil, Cell, linked, head, row, count, one}
+use Rattle.patricia_nodes.specs.Internal.Plans.{IsPlan, Holds}
+use Rattle.patricia_nodes.specs.Internal.Places.{Frame, InChild, InSibling, fill, above_of}
+use Rattle.patricia_nodes.specs.Internal.Places.{node_above}
 use Rattle.patricia_nodes.specs.Internal.Merges.{IsPair, Spares, LeavesOther, StandsAt}
 use Rattle.patricia_nodes.proofs.PlanLemmas.{one-same, below_le, node_is}
 use Rattle.patricia_nodes.proofs.FillLemmas.{count-fill, plan_within, row-within}

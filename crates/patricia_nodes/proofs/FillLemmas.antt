@@ -1,5 +1,6 @@
 -- A plan put together from frames and what is in their place.
-use Rattle.std.proofs.Common.{◌≡◌, ◌≢◌, ℕ, suc, ◌+◌, List, [], ◌∷◌, length, Option, sym, ap, subst, ◌∙◌, arith}
+use Rattle.std.proofs.Common.{◌≡◌, ◌≢◌, ℕ, suc, ◌+◌, List, [], ◌∷◌, length, Option, sym, ap, subst}
+use Rattle.std.proofs.Common.{◌∙◌, arith}
 use Rattle.std.specs.FinMap.{find, put}
 use Rattle.patricia_nodes.specs.declared.arena.Node.{Node}
 use Rattle.patricia_keys.specs.Keys.{IsKeyKind, key_cmp}
@@ -7,9 +8,11 @@ use Rattle.patricia_model.specs.Siblings.{entries, IsCanonical}
 use Rattle.patricia_model.specs.Internal.LabelCmp.{Passes}
 use Rattle.patricia_model.specs.Internal.Counts.{IsCounted}
 use Rattle.patricia_nodes.specs.Internal.Plans.{Plan, Cell, head, row, size, count, LaidOut, IsPlan}
-use Rattle.patricia_nodes.specs.Internal.Places.{Frame, InChild, InSibling, fill, count_frames, size_frames, Leads}
+use Rattle.patricia_nodes.specs.Internal.Places.{Frame, InChild, InSibling, fill, count_frames}
+use Rattle.patricia_nodes.specs.Internal.Places.{size_frames, Leads}
 use Rattle.patricia_model.proofs.GetLemmas.{find_past, find_deeper}
-use Rattle.patricia_model.proofs.InsertLemmas.{put_past, put_through, put_child, row_past, row_child}
+use Rattle.patricia_model.proofs.InsertLemmas.{put_past, put_through, put_child, row_past}
+use Rattle.patricia_model.proofs.InsertLemmas.{row_child}
 use Rattle.patricia_model.proofs.CountLemmas.{counted_past, counted_through}
 
 module _ {V : Type 0} where

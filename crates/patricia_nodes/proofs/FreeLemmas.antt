@@ -1,17 +1,21 @@
 -- A node that is freed: what was around it stands.
-use Rattle.std.proofs.Common.{◌≡◌, ◌≢◌, ℕ, ◌+◌, ◌<◌, ◌≤◌, List, [], ◌∷◌, length, set, Option, Some, None, slice_get, get_or, refl, sym, ap, subst, ◌∙◌, arith, length-set}
+use Rattle.std.proofs.Common.{◌≡◌, ◌≢◌, ℕ, ◌+◌, ◌<◌, ◌≤◌, List, [], ◌∷◌, length, set, Option, Some}
+use Rattle.std.proofs.Common.{None, slice_get, get_or, refl, sym, ap, subst, ◌∙◌, arith, length-set}
 use Rattle.std.proofs.lemmas.Option.{slice_get_within}
 use Rattle.patricia_nodes.specs.declared.arena.Node.{Node}
 use Rattle.patricia_nodes.specs.declared.arena.NodeArena.{NodeArena}
 use Rattle.patricia_nodes.specs.declared.arena.seek.LinkRef.{LinkRef}
-use Rattle.patricia_nodes.specs.Internal.Plans.{Plan, Nil, Cell, linked, head, count, one, below, times, first, LaidOut, IsChain, IsSound, Holds}
-use Rattle.patricia_nodes.specs.Internal.Places.{Frame, InChild, InSibling, fill, count_frames, link_ref_of}
+use Rattle.patricia_nodes.specs.Internal.Plans.{Plan, Nil, Cell, linked, head, count, one, below}
+use Rattle.patricia_nodes.specs.Internal.Plans.{times, first, LaidOut, IsChain, IsSound, Holds}
+use Rattle.patricia_nodes.specs.Internal.Places.{Frame, InChild, InSibling, fill, count_frames}
+use Rattle.patricia_nodes.specs.Internal.Places.{link_ref_of}
 use Rattle.patricia_nodes.specs.Internal.Writes.{Frees, Relinks, LinkRefWithin}
 use Rattle.patricia_nodes.specs.Internal.Merges.{HasLeafAt, Unlinks, HasLone}
 use Rattle.patricia_nodes.proofs.PlanLemmas.{one-same, below_le, node_is}
 use Rattle.patricia_nodes.proofs.FillLemmas.{stands-within, count-fill}
 use Rattle.patricia_nodes.proofs.LinkRefLemmas.{has_spot_within}
-use Rattle.patricia_nodes.proofs.WriteLemmas.{get-set_same, get-set_other, stands-keep, chain-keep, stands-refill, head-refill, sound-swap}
+use Rattle.patricia_nodes.proofs.WriteLemmas.{get-set_same, get-set_other, stands-keep, chain-keep}
+use Rattle.patricia_nodes.proofs.WriteLemmas.{stands-refill, head-refill, sound-swap}
 
 module _ {V : Type 0} (old freed : NodeArena V) (id : ℕ) (n : Node V) (f : Frees old freed id n)
     (spare : List ℕ) where

@@ -1,11 +1,13 @@
 -- Nodes that are relocated.
-use Rattle.std.proofs.Common.{◌≡◌, ◌≢◌, ℕ, suc, ◌+◌, ◌<◌, List, [], ◌∷◌, ◌++◌, length, Option, Some, None, slice_get, refl, sym, ap, ◌∙◌, arith, length-append, length-set}
+use Rattle.std.proofs.Common.{◌≡◌, ◌≢◌, ℕ, suc, ◌+◌, ◌<◌, List, [], ◌∷◌, ◌++◌, length, Option, Some}
+use Rattle.std.proofs.Common.{None, slice_get, refl, sym, ap, ◌∙◌, arith, length-append, length-set}
 use Rattle.std.proofs.lemmas.List.{append_assoc, append-nil}
 use Rattle.std.proofs.lemmas.Option.{slice_get_within}
 use Rattle.patricia_nodes.specs.declared.arena.Node.{Node}
 use Rattle.patricia_nodes.specs.declared.arena.NodeArena.{NodeArena}
 use Rattle.patricia_nodes.specs.Internal.Plans.{Plan, Nil, Cell, linked, head, one, times}
-use Rattle.patricia_nodes.specs.Internal.Growth.{tops, numbered_siblings, laid, RowStands, IsTopRow, TakesNodes, TakesRow}
+use Rattle.patricia_nodes.specs.Internal.Growth.{tops, numbered_siblings, laid, RowStands, IsTopRow}
+use Rattle.patricia_nodes.specs.Internal.Growth.{TakesNodes, TakesRow}
 use Rattle.patricia_nodes.specs.Internal.Writes.{Frees}
 use Rattle.patricia_nodes.proofs.PlanLemmas.{one-same}
 use Rattle.patricia_nodes.proofs.WriteLemmas.{get-set_same, get-set_other, chain-keep}

@@ -1,15 +1,27 @@
 -- All nodes are relocated, row by row.
-use Rattle.std.proofs.Common.{◌≡◌, inl, inr, ℕ, zero, suc, ◌+◌, ◌<◌, ◌≤◌, List, [], ◌∷◌, ◌++◌, length, set, get_or, Option, Some, None, slice_get, refl, sym, ap, subst, ◌∙◌, arith, length-append, length-set}
+use Rattle.std.proofs.Common.{◌≡◌, inl, inr, ℕ, zero, suc, ◌+◌, ◌<◌, ◌≤◌, List, [], ◌∷◌, ◌++◌}
+use Rattle.std.proofs.Common.{length, set, get_or, Option, Some, None, slice_get, refl, sym, ap}
+use Rattle.std.proofs.Common.{subst, ◌∙◌, arith, length-append, length-set}
 use Rattle.std.proofs.lemmas.Bool.{cases_lt}
 use Rattle.std.proofs.lemmas.Bool.Decides.{nat_tests}
 use Rattle.patricia_nodes.specs.declared.arena.Node.{Node}
 use Rattle.patricia_nodes.specs.declared.arena.NodeArena.{NodeArena}
-use Rattle.patricia_nodes.specs.Internal.Plans.{Plan, linked, head, row, size, count, times, below, LaidOut, IsSound, plan_at}
-use Rattle.patricia_nodes.specs.Internal.Growth.{tops, numbered_siblings, laid, IsTopRow, IsLaid, TakesNodes, TakesRow, TakesBelow, count_below, size_below}
+use Rattle.patricia_nodes.specs.Internal.Plans.{Plan, linked, head, row, size, count, times, below}
+use Rattle.patricia_nodes.specs.Internal.Plans.{LaidOut, IsSound, plan_at}
+use Rattle.patricia_nodes.specs.Internal.Growth.{tops, numbered_siblings, laid, IsTopRow, IsLaid}
+use Rattle.patricia_nodes.specs.Internal.Growth.{TakesNodes, TakesRow, TakesBelow, count_below}
+use Rattle.patricia_nodes.specs.Internal.Growth.{size_below}
 use Rattle.patricia_nodes.proofs.PlanLemmas.{below_le, below_in, plan_is, node_is}
 use Rattle.patricia_nodes.proofs.WriteLemmas.{get-set_same, get-set_other}
 use Rattle.patricia_nodes.proofs.GrowthLemmas.{takes_none, takes_same, takes_more}
-use Rattle.patricia_nodes.proofs.RelayLemmas.{Mix, flat, first_of, flat_first, Lies, IsUpTo, news, olds, waits, OpenAt, opened, step, row-opened, size-opened, first-opened, olds-below, waits-opened, waits-below, count-parts, below-keep, news-opened, up_to-opened, row-step, size-step, first-step, step-moves, open_exists, opens_at, open_within, top_row, tops_within, up_to-step, lies-opened, length-laid, lies-step, lies_done}
+use Rattle.patricia_nodes.proofs.RelayLemmas.{Mix, flat, first_of, flat_first, Lies, IsUpTo, news}
+use Rattle.patricia_nodes.proofs.RelayLemmas.{olds, waits, OpenAt, opened, step, row-opened}
+use Rattle.patricia_nodes.proofs.RelayLemmas.{size-opened, first-opened, olds-below, waits-opened}
+use Rattle.patricia_nodes.proofs.RelayLemmas.{waits-below, count-parts, below-keep, news-opened}
+use Rattle.patricia_nodes.proofs.RelayLemmas.{up_to-opened, row-step, size-step, first-step}
+use Rattle.patricia_nodes.proofs.RelayLemmas.{step-moves, open_exists, opens_at, open_within}
+use Rattle.patricia_nodes.proofs.RelayLemmas.{top_row, tops_within, up_to-step, lies-opened}
+use Rattle.patricia_nodes.proofs.RelayLemmas.{length-laid, lies-step, lies_done}
 
 -- a number that is not below a length counts as none below it
 below_out : (n at : ℕ) → n ≤ at → below n at ≡ 0

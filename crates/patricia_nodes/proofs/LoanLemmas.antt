@@ -1,5 +1,6 @@
 -- A loan of the value of one node.
-use Rattle.std.proofs.Common.{◌≡◌, ℕ, ◌<◌, List, length, set, Option, Some, None, get_or, slice_get, refl, sym, ap, subst, ◌∙◌}
+use Rattle.std.proofs.Common.{◌≡◌, ℕ, ◌<◌, List, length, set, Option, Some, None, get_or, slice_get}
+use Rattle.std.proofs.Common.{refl, sym, ap, subst, ◌∙◌}
 use native.Mathlib.Nat.{ℕ_set}
 use Rattle.std.specs.Global.{Vec}
 use Rattle.std.specs.Prelude.{true, false, is_some, vec_len}

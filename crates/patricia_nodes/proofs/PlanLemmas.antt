@@ -1,11 +1,13 @@
 -- What nodes that stand for a plan give.
-use Rattle.std.proofs.Common.{◌≡◌, ℕ, zero, suc, ◌<◌, ◌≤◌, List, [], length, Option, Some, None, get_or, slice_get, refl, ◌∙◌, arith}
+use Rattle.std.proofs.Common.{◌≡◌, ℕ, zero, suc, ◌<◌, ◌≤◌, List, [], length, Option, Some, None}
+use Rattle.std.proofs.Common.{get_or, slice_get, refl, ◌∙◌, arith}
 use Rattle.std.specs.Prelude.{false, is_some}
 use mathlib.Core.Bool.{false≢true}
 use Rattle.std.proofs.lemmas.Option.{get_or_from_slice_get}
 use Rattle.std.proofs.lemmas.Bool.Decides.{nat_tests}
 use Rattle.patricia_nodes.specs.declared.arena.Node.{Node}
-use Rattle.patricia_nodes.specs.Internal.Plans.{Plan, Nil, Cell, head, size, LaidOut, IsPlan, IsSound, read, plan_at, one, below}
+use Rattle.patricia_nodes.specs.Internal.Plans.{Plan, Nil, Cell, head, size, LaidOut, IsPlan}
+use Rattle.patricia_nodes.specs.Internal.Plans.{IsSound, read, plan_at, one, below}
 
 -- a number stands once in itself, and in no other
 pub one-same : (id : ℕ) → one id id ≡ 1

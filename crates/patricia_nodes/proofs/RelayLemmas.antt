@@ -1,13 +1,17 @@
 -- Nodes of two vectors, while they are relocated.
-use Rattle.std.proofs.Common.{◌≡◌, ◌≢◌, ◌⊎◌, inl, inr, ℕ, suc, ◌+◌, ◌<◌, ◌≤◌, Bool, true, false, nat_eq, if◌then◌else◌, List, [], ◌∷◌, ◌++◌, length, Option, Some, None, slice_get, refl, sym, ap, subst, ◌∙◌, arith, length-append}
+use Rattle.std.proofs.Common.{◌≡◌, ◌≢◌, ◌⊎◌, inl, inr, ℕ, suc, ◌+◌, ◌<◌, ◌≤◌, Bool, true, false}
+use Rattle.std.proofs.Common.{nat_eq, if◌then◌else◌, List, [], ◌∷◌, ◌++◌, length, Option, Some}
+use Rattle.std.proofs.Common.{None, slice_get, refl, sym, ap, subst, ◌∙◌, arith, length-append}
 use Rattle.std.proofs.lemmas.List.{append_assoc}
 use Rattle.std.proofs.lemmas.Bool.{cases_eq, cases_lt}
 use Rattle.std.proofs.lemmas.Bool.Decides.{nat_tests}
 use Rattle.std.proofs.lemmas.Option.{slice_get_within}
 use Rattle.patricia_model.specs.Siblings.{node}
 use Rattle.patricia_nodes.specs.declared.arena.Node.{Node}
-use Rattle.patricia_nodes.specs.Internal.Plans.{Plan, Nil, Cell, linked, head, row, size, count, one, below, times, LaidOut}
-use Rattle.patricia_nodes.specs.Internal.Growth.{tops, numbered_siblings, laid, RowStands, IsTopRow, count_below, size_below, BelowStands}
+use Rattle.patricia_nodes.specs.Internal.Plans.{Plan, Nil, Cell, linked, head, row, size, count}
+use Rattle.patricia_nodes.specs.Internal.Plans.{one, below, times, LaidOut}
+use Rattle.patricia_nodes.specs.Internal.Growth.{tops, numbered_siblings, laid, RowStands, IsTopRow}
+use Rattle.patricia_nodes.specs.Internal.Growth.{count_below, size_below, BelowStands}
 use Rattle.patricia_nodes.proofs.PlanLemmas.{one-same}
 use Rattle.patricia_nodes.proofs.WriteLemmas.{stands-keep}
 

@@ -1,5 +1,6 @@
 -- The steps of a walk to the place of a key.
-use Rattle.std.proofs.Common.{◌≡◌, ◌≢◌, ℕ, suc, ◌+◌, ◌<◌, List, [], ◌∷◌, length, get_or, Option, Some, None, refl, sym, ap, subst, ◌∙◌, arith}
+use Rattle.std.proofs.Common.{◌≡◌, ◌≢◌, ℕ, suc, ◌+◌, ◌<◌, List, [], ◌∷◌, length, get_or, Option}
+use Rattle.std.proofs.Common.{Some, None, refl, sym, ap, subst, ◌∙◌, arith}
 use Rattle.std.proofs.lemmas.Option.{slice_get_within}
 use Rattle.std.specs.FinMap.{find}
 use Rattle.patricia_nodes.specs.declared.arena.Node.{Node}
@@ -13,13 +14,17 @@ use Rattle.patricia_keys.specs.Keys.{IsKeyKind, key_cmp}
 use Rattle.patricia_model.specs.Siblings.{end, node, entries, IsBefore, IsCanonical}
 use Rattle.patricia_model.specs.Internal.LabelCmp.{Passes}
 use Rattle.patricia_model.specs.Internal.Counts.{IsCounted}
-use Rattle.patricia_nodes.specs.Internal.Plans.{Plan, Nil, Cell, head, row, size, IsPlan, IsWellFormed, plan_at, siblings_of}
-use Rattle.patricia_nodes.specs.Internal.Places.{Frame, InChild, InSibling, fill, above_of, link_ref_of, node_above, node_of, Leads, Matches, MatchesAt, Placed, IsSeekResult}
+use Rattle.patricia_nodes.specs.Internal.Plans.{Plan, Nil, Cell, head, row, size, IsPlan}
+use Rattle.patricia_nodes.specs.Internal.Plans.{IsWellFormed, plan_at, siblings_of}
+use Rattle.patricia_nodes.specs.Internal.Places.{Frame, InChild, InSibling, fill, above_of}
+use Rattle.patricia_nodes.specs.Internal.Places.{link_ref_of, node_above, node_of, Leads, Matches}
+use Rattle.patricia_nodes.specs.Internal.Places.{MatchesAt, Placed, IsSeekResult}
 use Rattle.patricia_nodes.specs.Internal.Writes.{Ready}
 use Rattle.patricia_nodes.proofs.PlanLemmas.{plan_is, plan_read, node_is}
 use Rattle.patricia_nodes.proofs.FillLemmas.{plan_within, row-within, find-fill, counted-fill}
 use Rattle.patricia_model.proofs.GetLemmas.{find_before, find_within, find_here}
-use Rattle.patricia_model.proofs.CountLemmas.{counted_end, counted_before, counted_within, counted_here}
+use Rattle.patricia_model.proofs.CountLemmas.{counted_end, counted_before, counted_within}
+use Rattle.patricia_model.proofs.CountLemmas.{counted_here}
 
 -- the walk has come so far, with a step for each frame
 pub record Walks (item : List ℕ → Type 0) {V : Type 0} (s : NodeArena V) (key : List ℕ)

@@ -12,7 +12,8 @@ use Rattle.patricia_nodes.specs.Internal.Places.{fill, node_of, Matches}
 use Rattle.patricia_nodes.specs.Internal.Writes.{Puts}
 use Rattle.patricia_nodes.proofs.PlanLemmas.{plan_is}
 use Rattle.patricia_nodes.proofs.FillLemmas.{put-fill, row-within}
-use Rattle.patricia_nodes.proofs.SeekLemmas.{Sought, Opened, opened, place_row, focus_plan_at, stop_at, here_passes}
+use Rattle.patricia_nodes.proofs.SeekLemmas.{Sought, Opened, opened, place_row, focus_plan_at}
+use Rattle.patricia_nodes.proofs.SeekLemmas.{stop_at, here_passes}
 use Rattle.patricia_nodes.proofs.WriteLemmas.{holds_write}
 use Rattle.patricia_model.proofs.InsertLemmas.{put_own, put_through, row_valued}
 

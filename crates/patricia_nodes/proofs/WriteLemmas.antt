@@ -1,9 +1,12 @@
 -- What a write leaves of nodes that are a plan.
-use Rattle.std.proofs.Common.{◌≡◌, ◌≢◌, ℕ, zero, suc, ◌+◌, ◌<◌, List, [], ◌∷◌, ◌++◌, length, set, Option, Some, slice_get, get_or, refl, sym, ap, ◌∙◌, arith, length-set}
+use Rattle.std.proofs.Common.{◌≡◌, ◌≢◌, ℕ, zero, suc, ◌+◌, ◌<◌, List, [], ◌∷◌, ◌++◌, length, set}
+use Rattle.std.proofs.Common.{Option, Some, slice_get, get_or, refl, sym, ap, ◌∙◌, arith}
+use Rattle.std.proofs.Common.{length-set}
 use Rattle.std.proofs.lemmas.Option.{slice_get_within}
 use Rattle.patricia_nodes.specs.declared.arena.Node.{Node}
 use Rattle.patricia_nodes.specs.declared.arena.NodeArena.{NodeArena}
-use Rattle.patricia_nodes.specs.Internal.Plans.{Plan, Nil, Cell, linked, head, size, count, below, times, first, LaidOut, IsChain, IsSound, Holds}
+use Rattle.patricia_nodes.specs.Internal.Plans.{Plan, Nil, Cell, linked, head, size, count, below}
+use Rattle.patricia_nodes.specs.Internal.Plans.{times, first, LaidOut, IsChain, IsSound, Holds}
 use Rattle.patricia_nodes.specs.Internal.Places.{Frame, InChild, InSibling, fill, count_frames}
 use Rattle.patricia_nodes.proofs.PlanLemmas.{one-same, below_le, node_is}
 use Rattle.patricia_nodes.proofs.FillLemmas.{stands-within, size-fill, count-fill}

@@ -1,5 +1,7 @@
 -- Laws of texts cut at a byte, and of lines.
-use Rattle.std.proofs.Common.{◌≡◌, ◌≢◌, ℕ, zero, suc, ◌+◌, ◌-◌, ◌<◌, ◌==◌, Bool, true, false, List, [], ◌∷◌, length, get_or, take, drop, Option, Some, None, IfNone, Bor, refl, ap, sym, subst, ◌∙◌, inl, inr, arith}
+use Rattle.std.proofs.Common.{◌≡◌, ◌≢◌, ℕ, zero, suc, ◌+◌, ◌-◌, ◌<◌, ◌==◌, Bool, true, false, List}
+use Rattle.std.proofs.Common.{[], ◌∷◌, length, get_or, take, drop, Option, Some, None, IfNone, Bor}
+use Rattle.std.proofs.Common.{refl, ap, sym, subst, ◌∙◌, inl, inr, arith}
 use Rattle.std.specs.Iterator.{MakesProgress, item_count}
 use Rattle.std.specs.List.{slice_split, onto_first}
 use Rattle.std.specs.Option.{option_map_or, unwrap_or}

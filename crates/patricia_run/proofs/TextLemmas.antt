@@ -4,7 +4,8 @@ use Rattle.std.specs.Prelude.{Some, None, Err}
 use Rattle.std.specs.Option.{option_map_or}
 use Rattle.patricia_run.specs.declared.reading.Fault.TheVariants as Faults
 use Rattle.patricia_run.specs.KeyFormats.{KeyFormat}
-use Rattle.patricia_run.specs.Text.{Shape, alone, keyed, valued, shape_of, parse_command, parse_fields}
+use Rattle.patricia_run.specs.Text.{Shape, alone, keyed, valued, shape_of, parse_command}
+use Rattle.patricia_run.specs.Text.{parse_fields}
 
 module _ (s : KeyFormat) (a b c d : List ℕ) (more : List (List ℕ)) where
   -- three fields after the word are too many for any command, whatever the third and later hold

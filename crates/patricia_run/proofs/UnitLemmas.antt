@@ -1,8 +1,11 @@
 -- The unit kind: the valid keys are the byte lists of even length.
-use Rattle.std.proofs.Common.{◌≡◌, ℕ, suc, ◌-◌, ◌%◌, ◌<◌, ◌≤◌, inr, List, [], ◌∷◌, ◌++◌, length, take, drop, get_or, refl, sym, ap, subst, ◌∙◌, arith, length-append, flat_map}
+use Rattle.std.proofs.Common.{◌≡◌, ℕ, suc, ◌-◌, ◌%◌, ◌<◌, ◌≤◌, inr, List, [], ◌∷◌, ◌++◌, length}
+use Rattle.std.proofs.Common.{take, drop, get_or, refl, sym, ap, subst, ◌∙◌, arith, length-append}
+use Rattle.std.proofs.Common.{flat_map}
 use Rattle.std.specs.Int.{w16, to_be_bytes}
 use Rattle.std.specs.List.{AllByRecursion, concat}
-use Rattle.std.proofs.lemmas.List.{append_assoc, get_or-take, length-drop, length-take-le, take-append-drop, take-take}
+use Rattle.std.proofs.lemmas.List.{append_assoc, get_or-take, length-drop, length-take-le}
+use Rattle.std.proofs.lemmas.List.{take-append-drop, take-take}
 use Rattle.patricia_tree.specs.ByteKind.{IsByteItem, one_byte}
 use Rattle.patricia_tree.specs.Keys.{IsValid, IsCommon, IsFirstItem, IsFloor}
 use Rattle.patricia_run.specs.UnitKind.{IsUnitItem, one_unit}

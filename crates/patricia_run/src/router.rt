@@ -1,5 +1,6 @@
 //! A router: a table of routes, and for each key the route of its longest prefix in the table.
-ghost use Rattle.std.specs.Prelude.{◌≡◌, ◌≢◌, ◌↔◌, [], length, None, IsTrue, IfSome, IfOk, OnOk, IfErr, OnErr, map as list_map};
+ghost use Rattle.std.specs.Prelude.{◌≡◌, ◌≢◌, ◌↔◌, [], length, None, IsTrue, IfSome, IfOk, OnOk};
+ghost use Rattle.std.specs.Prelude.{IfErr, OnErr, map as list_map};
 ghost use Rattle.std.specs.Option.{option_map};
 ghost use Rattle.std.specs.FinMap as map;
 ghost use Rattle.patricia_tree.specs.Keys.{Begins};

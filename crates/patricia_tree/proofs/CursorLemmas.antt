@@ -1,11 +1,13 @@
 -- The entry that a cursor lends next, found at its key.
-use Rattle.std.proofs.Common.{◌≡◌, ◌≢◌, ℕ, List, [], ◌∷◌, Option, Some, None, slice_get, inl, refl, sym, ap, subst, ◌∙◌}
+use Rattle.std.proofs.Common.{◌≡◌, ◌≢◌, ℕ, List, [], ◌∷◌, Option, Some, None, slice_get, inl, refl}
+use Rattle.std.proofs.Common.{sym, ap, subst, ◌∙◌}
 use Rattle.std.specs.Prelude.{IsSome, MatchOption}
 use Rattle.std.specs.Option.{option_map}
 use Rattle.std.specs.Ordering.{is_lt}
 use Rattle.std.specs.FinMap as map
 use Rattle.std.specs.FinMap.{entries_sorted, get-entries}
-use Rattle.patricia_model.specs.Cursors.{CursorView, after, remaining_rows, next_row, next_key, stepped, last_value, written}
+use Rattle.patricia_model.specs.Cursors.{CursorView, after, remaining_rows, next_row, next_key}
+use Rattle.patricia_model.specs.Cursors.{stepped, last_value, written}
 use Rattle.patricia_model.specs.Internal.CursorSteps.{lent_at}
 use Rattle.patricia_tree.specs.Internal.Nexts.{IsNext, IsNextValue}
 use Rattle.patricia_keys.specs.Keys.{key_cmp}

@@ -1,5 +1,6 @@
 -- A step of a cursor takes one off what it has still to lend, and a write nothing.
-use Rattle.std.proofs.Common.{◌≡◌, ◌≢◌, ℕ, ◌+◌, Bool, true, false, cond, List, [], ◌∷◌, length, Option, Some, None, slice_get, refl, sym, ap, subst, ◌∙◌, arith}
+use Rattle.std.proofs.Common.{◌≡◌, ◌≢◌, ℕ, ◌+◌, Bool, true, false, cond, List, [], ◌∷◌, length}
+use Rattle.std.proofs.Common.{Option, Some, None, slice_get, refl, sym, ap, subst, ◌∙◌, arith}
 use Rattle.std.specs.Prelude.{◌↔◌, MatchOption, IfOk, OnOk, IsTrue, Result, Ok, Err}
 use Rattle.std.specs.declared.cmp.Ordering.{Ordering}
 use Rattle.std.specs.declared.cmp.Ordering.TheVariants.{Less, Equal, Greater}
@@ -11,7 +12,8 @@ use Rattle.std.specs.FinMap.Entries.{is_sorted-where_key}
 use Rattle.std.specs.Cmp.Lexicographic.{nat_list_cmp_total}
 use Rattle.patricia_keys.specs.Keys.{key_cmp}
 use Rattle.patricia_keys.proofs.KeyLemmas.{key_cmp-irreflexive}
-use Rattle.patricia_model.specs.Cursors.{CursorView, after, remaining_rows, next_row, next_key, next_value, stepped, written}
+use Rattle.patricia_model.specs.Cursors.{CursorView, after, remaining_rows, next_row, next_key}
+use Rattle.patricia_model.specs.Cursors.{next_value, stepped, written}
 use Rattle.patricia_model.specs.Internal.CursorSteps.{lent_at, written_at}
 use Rattle.patricia_model.specs.Prefixes.{begins, under}
 use Rattle.patricia_model.proofs.CursorLemmas.{after_first}

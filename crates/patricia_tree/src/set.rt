@@ -1,5 +1,6 @@
 //! A set whose elements, byte strings or texts, share their common prefixes.
-ghost use Rattle.std.specs.Prelude.{◌≡◌, ◌≢◌, ◌↔◌, [], length, None, false, not, IsTrue, IfSome, IfOk, OnOk, IfErr, OnErr};
+ghost use Rattle.std.specs.Prelude.{◌≡◌, ◌≢◌, ◌↔◌, [], length, None, false, not, IsTrue, IfSome};
+ghost use Rattle.std.specs.Prelude.{IfOk, OnOk, IfErr, OnErr};
 ghost use Rattle.std.specs.Option.{option_map};
 ghost use Rattle.patricia_tree.specs.Keys.{Begins};
 ghost use Rattle.patricia_tree.specs.Points.{Joins};

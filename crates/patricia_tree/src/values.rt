@@ -1,8 +1,10 @@
 //! A cursor over the values of a map.
-ghost use Rattle.std.specs.Prelude.{◌≡◌, ◌≢◌, ◌+◌, ◌↔◌, None, Some, false, IfOk, OnOk, OnErr, IsSome, IsTrue, MatchOption};
+ghost use Rattle.std.specs.Prelude.{◌≡◌, ◌≢◌, ◌+◌, ◌↔◌, None, Some, false, IfOk, OnOk, OnErr};
+ghost use Rattle.std.specs.Prelude.{IsSome, IsTrue, MatchOption};
 ghost use Rattle.std.specs.Borrow.{sem};
 ghost use Rattle.std.specs.Option.{option_copied_mut, option_map};
-ghost use Rattle.patricia_model.specs.Cursors.{last_value, next_key, next_row, next_value, stepped, written};
+ghost use Rattle.patricia_model.specs.Cursors.{last_value, next_key, next_row, next_value, stepped};
+ghost use Rattle.patricia_model.specs.Cursors.{written};
 
 use crate::guard::{CursorGuard, IntoMap};
 use patricia_keys::Bytes;

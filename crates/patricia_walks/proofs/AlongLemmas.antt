@@ -1,11 +1,13 @@
 -- The steps of a walk along a key.
-use Rattle.std.proofs.Common.{◌≡◌, ℕ, ◌+◌, ◌-◌, ◌≤◌, true, false, List, ◌++◌, length, get_or, take, drop, Option, Some, None, refl, sym, ap, subst, ◌∙◌, arith}
+use Rattle.std.proofs.Common.{◌≡◌, ℕ, ◌+◌, ◌-◌, ◌≤◌, true, false, List, ◌++◌, length, get_or, take}
+use Rattle.std.proofs.Common.{drop, Option, Some, None, refl, sym, ap, subst, ◌∙◌, arith}
 use Rattle.std.specs.Option.{option_copied}
 use Rattle.std.specs.Prelude.{nat_eq}
 use Rattle.std.specs.Ordering.{ordering_index}
 use Rattle.std.specs.declared.cmp.Ordering.{Ordering}
 use Rattle.std.specs.declared.cmp.Ordering.TheVariants.{Less, Equal, Greater}
-use Rattle.std.proofs.lemmas.List.{take-append-drop, length-take-le, length-append, length-drop, take_at, take_all}
+use Rattle.std.proofs.lemmas.List.{take-append-drop, length-take-le, length-append, length-drop}
+use Rattle.std.proofs.lemmas.List.{take_at, take_all}
 use Rattle.std.proofs.Math.Seq.{take-append-add, drop-append-add, drop-append_seam}
 use Rattle.patricia_keys.specs.Keys.{IsKeyKind, key_cmp}
 use Rattle.patricia_keys.proofs.KeyLemmas.{IsValid-nil, IsValid-append}
@@ -14,16 +16,19 @@ use Rattle.patricia_model.specs.Internal.WalkStates.{steps_in}
 use Rattle.patricia_model.specs.Siblings.{Siblings, end, node, prefixed, own, entries, IsCanonical}
 use Rattle.patricia_model.proofs.RowLemmas.{prefixed-prefixed}
 use Rattle.patricia_model.proofs.WalkLemmas.{prefixed-nil}
-use Rattle.patricia_model.proofs.PrefixLemmas.{begins_is, begins_other, along-append, along_own, along_down, along_past, along_stop}
+use Rattle.patricia_model.proofs.PrefixLemmas.{begins_is, begins_other, along-append, along_own}
+use Rattle.patricia_model.proofs.PrefixLemmas.{along_down, along_past, along_stop}
 use Rattle.patricia_nodes.specs.declared.arena.Node.{Node}
 use Rattle.patricia_nodes.specs.declared.arena.NodeArena.{NodeArena}
-use Rattle.patricia_nodes.specs.Internal.Plans.{Nil, row, plan_at, IsPlan, IsWellFormed, siblings_of as slots_row}
+use Rattle.patricia_nodes.specs.Internal.Plans.{Nil, row, plan_at, IsPlan, IsWellFormed}
+use Rattle.patricia_nodes.specs.Internal.Plans.{siblings_of as slots_row}
 use Rattle.patricia_nodes.proofs.PlanLemmas.{plan_is}
 use Rattle.patricia_nodes.proofs.SeekLemmas.{opened, whole_plan}
 use Rattle.patricia_walks.specs.Internal.Positions.{row_at}
 use Rattle.patricia_walks.proofs.PositionLemmas.{row_none}
 use Rattle.patricia_walks.specs.declared.along.Descent.{Descent}
-use Rattle.patricia_walks.specs.Internal.Descents.{IsDescent, Moves, siblings_left, along_left, left_from}
+use Rattle.patricia_walks.specs.Internal.Descents.{IsDescent, Moves, siblings_left, along_left}
+use Rattle.patricia_walks.specs.Internal.Descents.{left_from}
 
 -- a front of a list, and what is left, where some of it follows
 module _ (k l t : List ℕ) (n : ℕ) (within : n ≤ length k) (rest : l ++ t ≡ drop n k) where

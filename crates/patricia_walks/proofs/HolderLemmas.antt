@@ -1,5 +1,6 @@
 -- The holders of the values of a tree.
-use Rattle.std.proofs.Common.{◌≡◌, ◌↔◌, ℕ, ◌≤◌, T, List, [], ◌∷◌, ◌++◌, length, Option, refl, sym, ap, ◌∙◌, arith}
+use Rattle.std.proofs.Common.{◌≡◌, ◌↔◌, ℕ, ◌≤◌, T, List, [], ◌∷◌, ◌++◌, length, Option, refl, sym}
+use Rattle.std.proofs.Common.{ap, ◌∙◌, arith}
 use Rattle.std.specs.Option.{option_map}
 use Rattle.std.specs.FinMap.{is_sorted}
 use Rattle.patricia_keys.specs.Keys.{IsKeyKind, key_cmp}
@@ -8,15 +9,21 @@ use Rattle.patricia_model.proofs.TreeLemmas.{tree_sorted}
 use Rattle.patricia_nodes.specs.declared.arena.NodeArena.{NodeArena}
 use Rattle.patricia_nodes.specs.declared.arena.seek.LinkRef.{LinkRef}
 use Rattle.patricia_nodes.specs.declared.arena.seek.Match.{Match}
-use Rattle.patricia_nodes.specs.Internal.Plans.{Plan, Nil, Cell, count, siblings_of, entries_of, plan_at, IsWellFormed}
-use Rattle.patricia_nodes.specs.Internal.Places.{Frame, InChild, InSibling, fill, link_ref_of, above_of, Leads, Matches, Placed}
+use Rattle.patricia_nodes.specs.Internal.Plans.{Plan, Nil, Cell, count, siblings_of, entries_of}
+use Rattle.patricia_nodes.specs.Internal.Plans.{plan_at, IsWellFormed}
+use Rattle.patricia_nodes.specs.Internal.Places.{Frame, InChild, InSibling, fill, link_ref_of}
+use Rattle.patricia_nodes.specs.Internal.Places.{above_of, Leads, Matches, Placed}
 use Rattle.patricia_nodes.proofs.PlanLemmas.{plan_is, below_le}
 use Rattle.patricia_nodes.proofs.SeekLemmas.{whole_plan}
 use Rattle.patricia_walks.specs.Internal.Positions.{row_at}
 use Rattle.patricia_walks.specs.declared.cursor_state.ValueSlot.{ValueSlot}
 use Rattle.patricia_walks.specs.declared.cursor_state.ValueSlot.TheVariants.{OfEmptyKey, OfNode}
 use Rattle.patricia_walks.specs.Internal.Holders.{numbered_slots, holders, held, uses, ReadsHeld}
-use Rattle.patricia_walks.proofs.NumberLemmas.{mark, marks, head-marks, length-marks, numbered_slots-length, own-uses, plan_at-marks, reads-append, reads-marks, reads-own, canonical-marks, sound-marks, uses-append, uses-marks, uses-top}
+use Rattle.patricia_walks.proofs.NumberLemmas.{mark, marks, head-marks, length-marks}
+use Rattle.patricia_walks.proofs.NumberLemmas.{numbered_slots-length, own-uses, plan_at-marks}
+use Rattle.patricia_walks.proofs.NumberLemmas.{reads-append, reads-marks, reads-own}
+use Rattle.patricia_walks.proofs.NumberLemmas.{canonical-marks, sound-marks, uses-append}
+use Rattle.patricia_walks.proofs.NumberLemmas.{uses-marks, uses-top}
 
 module _ {V : Type 0} where
   -- the frames with who holds each value

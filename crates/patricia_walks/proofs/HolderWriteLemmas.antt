@@ -1,18 +1,21 @@
 -- A write to a value leaves who holds each value.
-use Rattle.std.proofs.Common.{◌≡◌, ◌≢◌, ℕ, zero, suc, false, List, [], ◌∷◌, set, Option, Some, None, slice_get, refl, sym, ap, ◌∙◌, arith}
+use Rattle.std.proofs.Common.{◌≡◌, ◌≢◌, ℕ, zero, suc, false, List, [], ◌∷◌, set, Option, Some, None}
+use Rattle.std.proofs.Common.{slice_get, refl, sym, ap, ◌∙◌, arith}
 use Rattle.std.specs.Option.{option_map}
 use Rattle.std.proofs.lemmas.Bool.Decides.{nat_tests}
 use Rattle.std.proofs.lemmas.Option.{slice_get_within}
 use Rattle.patricia_model.specs.Trees.{IsTree}
 use Rattle.patricia_nodes.specs.declared.arena.Node.{Node}
 use Rattle.patricia_nodes.specs.declared.arena.NodeArena.{NodeArena}
-use Rattle.patricia_nodes.specs.Internal.Plans.{Plan, Nil, Cell, linked, head, size, count, LaidOut, IsChain, IsSound, siblings_of, IsWellFormed}
+use Rattle.patricia_nodes.specs.Internal.Plans.{Plan, Nil, Cell, linked, head, size, count, LaidOut}
+use Rattle.patricia_nodes.specs.Internal.Plans.{IsChain, IsSound, siblings_of, IsWellFormed}
 use Rattle.patricia_nodes.proofs.WriteLemmas.{get-set_same, get-set_other}
 use Rattle.patricia_walks.specs.declared.cursor_state.ValueSlot.{ValueSlot}
 use Rattle.patricia_walks.specs.declared.cursor_state.ValueSlot.TheVariants.{OfEmptyKey, OfNode}
 use Rattle.patricia_nodes.specs.Internal.Loans.{value_in}
 use Rattle.patricia_walks.specs.Internal.Holders.{numbered_slots, holders, held, is_same}
-use Rattle.patricia_walks.proofs.NumberLemmas.{mark, marked_node, marks, numbered_slots-get, numbered_slots-length, sound-marks}
+use Rattle.patricia_walks.proofs.NumberLemmas.{mark, marked_node, marks, numbered_slots-get}
+use Rattle.patricia_walks.proofs.NumberLemmas.{numbered_slots-length, sound-marks}
 use Rattle.patricia_walks.proofs.HolderLemmas.{length_marked, row_marked}
 
 module _ {V : Type 0} (nodes : List (Node V)) where

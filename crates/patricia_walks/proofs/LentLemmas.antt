@@ -1,5 +1,6 @@
 -- What a write through a loan leaves of a trail.
-use Rattle.std.proofs.Common.{◌≡◌, ◌≢◌, ℕ, ◌<◌, false, List, ◌++◌, length, set, Option, Some, None, slice_get, refl, sym, ap, subst, ◌∙◌}
+use Rattle.std.proofs.Common.{◌≡◌, ◌≢◌, ℕ, ◌<◌, false, List, ◌++◌, length, set, Option, Some, None}
+use Rattle.std.proofs.Common.{slice_get, refl, sym, ap, subst, ◌∙◌}
 use Rattle.std.specs.FinMap as map
 use Rattle.std.specs.FinMap.{from_sorted, get-from_sorted}
 use Rattle.std.proofs.lemmas.Option.{slice_get_within}
@@ -19,9 +20,11 @@ use Rattle.patricia_walks.specs.declared.cursor_state.ValueSlot.TheVariants.{OfE
 use Rattle.patricia_walks.specs.declared.cursor_state.Start.{Start}
 use Rattle.patricia_walks.specs.declared.cursor_state.CursorState.{CursorState}
 use Rattle.patricia_walks.specs.Internal.Holders.{holders, held, is_same, key_at, ReadsHeld}
-use Rattle.patricia_walks.specs.Internal.Trails.{position_of, key_of, last_key, standing, with_held, held_last, IsHeld, IsTrail, IsPrefixCursor}
+use Rattle.patricia_walks.specs.Internal.Trails.{position_of, key_of, last_key, standing, with_held}
+use Rattle.patricia_walks.specs.Internal.Trails.{held_last, IsHeld, IsTrail, IsPrefixCursor}
 use Rattle.patricia_walks.proofs.HolderLemmas.{holders_read, holders_once}
-use Rattle.patricia_walks.proofs.HolderWriteLemmas.{write_numbered, write_holders, write_whole, write_tree, write_held, write_kept}
+use Rattle.patricia_walks.proofs.HolderWriteLemmas.{write_numbered, write_holders, write_whole}
+use Rattle.patricia_walks.proofs.HolderWriteLemmas.{write_tree, write_held, write_kept}
 use Rattle.patricia_walks.proofs.ReadLemmas.{find_read, key_value, put_read}
 
 -- a node that has a value is there

@@ -1,5 +1,6 @@
 -- What the place of a key among the nodes tells of the rows under it and of how far the keys go.
-use Rattle.std.proofs.Common.{◌≡◌, ℕ, ◌+◌, ◌-◌, ◌≤◌, List, [], ◌∷◌, ◌++◌, length, Option, sym, ap, subst, ◌∙◌, arith}
+use Rattle.std.proofs.Common.{◌≡◌, ℕ, ◌+◌, ◌-◌, ◌≤◌, List, [], ◌∷◌, ◌++◌, length, Option, sym, ap}
+use Rattle.std.proofs.Common.{subst, ◌∙◌, arith}
 use Rattle.std.proofs.lemmas.List.{append_assoc, length-append}
 use Rattle.patricia_keys.specs.Keys.{IsKeyKind, IsValid}
 use Rattle.patricia_keys.proofs.KeyLemmas.{IsValid-nil, IsValid-append}
@@ -8,13 +9,16 @@ use Rattle.patricia_model.specs.Siblings.{Siblings, prefixed, own, entries, keys
 use Rattle.patricia_model.proofs.RowLemmas.{prefixed-prefixed}
 use Rattle.patricia_model.proofs.WalkLemmas.{prefixed-nil}
 use Rattle.patricia_model.proofs.PrefixLemmas.{under_past, under_deeper}
-use Rattle.patricia_model.proofs.ReachLemmas.{Reaches, reaches_nothing, reaches_end, reaches_own, reaches_past, reaches_before, reaches_within, reaches_through, reach_is}
+use Rattle.patricia_model.proofs.ReachLemmas.{Reaches, reaches_nothing, reaches_end, reaches_own}
+use Rattle.patricia_model.proofs.ReachLemmas.{reaches_past, reaches_before, reaches_within}
+use Rattle.patricia_model.proofs.ReachLemmas.{reaches_through, reach_is}
 use Rattle.patricia_nodes.specs.declared.arena.NodeArena.{NodeArena}
 use Rattle.patricia_nodes.specs.declared.arena.seek.LinkRef.{LinkRef}
 use Rattle.patricia_nodes.specs.declared.arena.seek.Match.{Match}
 use Rattle.patricia_nodes.specs.declared.arena.seek.Match.TheVariants.{Absent, InsideLabel, Exact}
 use Rattle.patricia_nodes.specs.Internal.Plans.{Plan, Nil, Cell, row, siblings_of, entries_of}
-use Rattle.patricia_nodes.specs.Internal.Places.{Frame, InChild, InSibling, fill, Leads, Matches, Placed}
+use Rattle.patricia_nodes.specs.Internal.Places.{Frame, InChild, InSibling, fill, Leads, Matches}
+use Rattle.patricia_nodes.specs.Internal.Places.{Placed}
 use Rattle.patricia_nodes.proofs.FillLemmas.{row-within}
 
 -- how many bytes of what is left are common with the node at which a look-up ends

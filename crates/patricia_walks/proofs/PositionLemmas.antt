@@ -1,5 +1,6 @@
 -- How the steps of a walk change what it has left of nodes in one vector.
-use Rattle.std.proofs.Common.{◌≡◌, ◌≢◌, ℕ, ◌+◌, ◌<◌, List, [], ◌∷◌, ◌++◌, length, get_or, take, Option, Some, None, slice_get, refl, sym, ap, subst, ◌∙◌, arith}
+use Rattle.std.proofs.Common.{◌≡◌, ◌≢◌, ℕ, ◌+◌, ◌<◌, List, [], ◌∷◌, ◌++◌, length, get_or, take}
+use Rattle.std.proofs.Common.{Option, Some, None, slice_get, refl, sym, ap, subst, ◌∙◌, arith}
 use Rattle.std.proofs.lemmas.List.{map-append, append-nil}
 use Rattle.patricia_keys.proofs.KeyLemmas.{IsValid-nil, IsValid-append}
 use Rattle.patricia_model.specs.Siblings.{node, end, IsCanonical}
@@ -7,8 +8,11 @@ use Rattle.patricia_model.specs.Internal.WalkStates.{entries_left}
 use Rattle.patricia_model.proofs.WalkLemmas.{step_down, step_back, left_filled}
 use Rattle.patricia_nodes.specs.declared.arena.Node.{Node}
 use Rattle.patricia_nodes.specs.declared.arena.NodeArena.{NodeArena}
-use Rattle.patricia_nodes.specs.Internal.Plans.{Plan, Nil, Cell, head, row, count, plan_at, siblings_of, IsPlan, IsWellFormed}
-use Rattle.patricia_walks.specs.Internal.Positions.{Position, row_at, rows_at, state_of, AllPlans, count_all, Stand, IsPosition, IsTop, rows_below, AdvancesTo}
+use Rattle.patricia_nodes.specs.Internal.Plans.{Plan, Nil, Cell, head, row, count, plan_at}
+use Rattle.patricia_nodes.specs.Internal.Plans.{siblings_of, IsPlan, IsWellFormed}
+use Rattle.patricia_walks.specs.Internal.Positions.{Position, row_at, rows_at, state_of, AllPlans}
+use Rattle.patricia_walks.specs.Internal.Positions.{count_all, Stand, IsPosition, IsTop, rows_below}
+use Rattle.patricia_walks.specs.Internal.Positions.{AdvancesTo}
 use Rattle.patricia_nodes.proofs.PlanLemmas.{one-same, below_le, plan_is}
 use Rattle.patricia_nodes.proofs.SeekLemmas.{Opened, head_within, opened, whole_plan}
 use Rattle.patricia_nodes.proofs.WriteLemmas.{stands-keep}

@@ -1,5 +1,6 @@
 -- Where a walk under a prefix begins, among the numbered nodes.
-use Rattle.std.proofs.Common.{◌≡◌, ◌≢◌, ℕ, ◌<◌, ◌-◌, List, [], ◌++◌, length, take, Option, Some, None, get_or, refl, sym, ◌∙◌, arith}
+use Rattle.std.proofs.Common.{◌≡◌, ◌≢◌, ℕ, ◌<◌, ◌-◌, List, [], ◌++◌, length, take, Option, Some}
+use Rattle.std.proofs.Common.{None, get_or, refl, sym, ◌∙◌, arith}
 use Rattle.std.specs.Option.{option_map}
 use Rattle.patricia_keys.specs.Keys.{IsKeyKind, IsValid}
 use Rattle.patricia_model.specs.Prefixes.{under}
@@ -11,8 +12,10 @@ use Rattle.patricia_nodes.specs.declared.arena.seek.Match.{Match}
 use Rattle.patricia_nodes.specs.Internal.Plans.{IsWellFormed, siblings_of, plan_at}
 use Rattle.patricia_nodes.proofs.SeekLemmas.{head_within}
 use Rattle.patricia_nodes.specs.Internal.Places.{Placed, node_under}
-use Rattle.patricia_walks.specs.Internal.Positions.{Position, IsPosition, IsTop, row_at, rows_below, state_of}
-use Rattle.patricia_walks.proofs.PositionLemmas.{position_top, left_top, position_end, position_start, row_none}
+use Rattle.patricia_walks.specs.Internal.Positions.{Position, IsPosition, IsTop, row_at, rows_below}
+use Rattle.patricia_walks.specs.Internal.Positions.{state_of}
+use Rattle.patricia_walks.proofs.PositionLemmas.{position_top, left_top, position_end}
+use Rattle.patricia_walks.proofs.PositionLemmas.{position_start, row_none}
 use Rattle.patricia_model.proofs.WalkLemmas.{left_start}
 use Rattle.patricia_model.specs.Internal.WalkStates.{entries_left}
 use Rattle.patricia_walks.proofs.UnderLemmas.{place_top, place_rows, place_nothing, top_filled}
@@ -21,7 +24,8 @@ use Rattle.patricia_walks.specs.declared.cursor_state.ValueSlot.TheVariants.{OfE
 use Rattle.patricia_walks.specs.Internal.Holders.{numbered_slots, holders}
 use Rattle.patricia_walks.specs.Internal.Trails.{IsAtStart, StartsUnder}
 use Rattle.patricia_walks.proofs.HolderLemmas.{Marked, marked, place_marked, row_marked}
-use Rattle.patricia_walks.proofs.NumberLemmas.{marked_node, numbered_slots-length, numbered_slots-read}
+use Rattle.patricia_walks.proofs.NumberLemmas.{marked_node, numbered_slots-length}
+use Rattle.patricia_walks.proofs.NumberLemmas.{numbered_slots-read}
 
 -- a walk that can begin in slots can begin in nodes that are the same
 starts_at : (item : List ℕ → Type 0) (m : NodeArena ValueSlot) (nodes : List (Node ValueSlot))

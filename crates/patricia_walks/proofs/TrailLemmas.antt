@@ -1,5 +1,6 @@
 -- What a trail has left, and where its cursor stands, from step to step.
-use Rattle.std.proofs.Common.{◌≡◌, ◌≢◌, ◌↔◌, ℕ, T, Bool, List, [], ◌∷◌, ◌++◌, take, Option, Some, None, slice_get, inl, refl, sym, ap, subst, ◌∙◌}
+use Rattle.std.proofs.Common.{◌≡◌, ◌≢◌, ◌↔◌, ℕ, T, Bool, List, [], ◌∷◌, ◌++◌, take, Option, Some}
+use Rattle.std.proofs.Common.{None, slice_get, inl, refl, sym, ap, subst, ◌∙◌}
 use Rattle.std.specs.Prelude.{Result, Ok, Err, IfOk, OnOk, OnErr, IfSome, IfNone, IsTrue}
 use Rattle.std.specs.Option.{option_map, is_some}
 use Rattle.std.specs.FinMap.{is_sorted}
@@ -22,7 +23,10 @@ use Rattle.patricia_walks.proofs.UnderLemmas.{under_filled}
 use Rattle.patricia_walks.specs.declared.cursor_state.CursorState.{CursorState}
 use Rattle.patricia_walks.specs.declared.cursor_state.TreeParts.{TreeParts}
 use Rattle.patricia_walks.specs.Internal.Holders.{numbered_slots, holders, held, key_at, ReadsHeld}
-use Rattle.patricia_walks.specs.Internal.Trails.{position_of, left_of, last_key, standing, Advances, StepIsRefused, IsMadeOf, IsSameTree, AreEntriesLeft, IsHeld, IsTrail, IsAhead, IsPrefixCursor, StartsUnder}
+use Rattle.patricia_walks.specs.Internal.Trails.{position_of, left_of, last_key, standing, Advances}
+use Rattle.patricia_walks.specs.Internal.Trails.{StepIsRefused, IsMadeOf, IsSameTree}
+use Rattle.patricia_walks.specs.Internal.Trails.{AreEntriesLeft, IsHeld, IsTrail, IsAhead}
+use Rattle.patricia_walks.specs.Internal.Trails.{IsPrefixCursor, StartsUnder}
 use Rattle.patricia_walks.proofs.HolderLemmas.{marked, holders_read, holders_once, holders_sorted}
 use Rattle.patricia_walks.proofs.StartLemmas.{start_filled}
 use Rattle.patricia_walks.proofs.ReadLemmas.{key_of_once, reads_after, reads_first, reads_none}

@@ -1,5 +1,6 @@
 -- The node under which the rows of a prefix stand.
-use Rattle.std.proofs.Common.{◌≡◌, ◌≢◌, ℕ, ◌+◌, ◌-◌, Bool, true, false, List, [], ◌++◌, length, take, Option, Some, None, refl, sym, ap, subst, ◌∙◌, arith}
+use Rattle.std.proofs.Common.{◌≡◌, ◌≢◌, ℕ, ◌+◌, ◌-◌, Bool, true, false, List, [], ◌++◌, length}
+use Rattle.std.proofs.Common.{take, Option, Some, None, refl, sym, ap, subst, ◌∙◌, arith}
 use Rattle.std.specs.Prelude.{nat_eq, IfSome, IfNone}
 use Rattle.std.proofs.lemmas.Bool.{eq-eqb, eqb-true}
 use Rattle.std.proofs.lemmas.List.{take_all, take_at, length-append}
@@ -9,12 +10,14 @@ use Rattle.patricia_model.specs.Siblings.{Siblings, end, node, prefixed, own, en
 use Rattle.patricia_model.proofs.RowLemmas.{prefixed-prefixed}
 use Rattle.patricia_model.proofs.GetLemmas.{common_whole}
 use Rattle.patricia_model.proofs.UniqueLemmas.{has_entry}
-use Rattle.patricia_model.proofs.PrefixLemmas.{under-append, under_own, under_before, under_here, under_within, under_beside}
+use Rattle.patricia_model.proofs.PrefixLemmas.{under-append, under_own, under_before, under_here}
+use Rattle.patricia_model.proofs.PrefixLemmas.{under_within, under_beside}
 use Rattle.patricia_nodes.specs.declared.arena.NodeArena.{NodeArena}
 use Rattle.patricia_nodes.specs.declared.arena.seek.LinkRef.{LinkRef}
 use Rattle.patricia_nodes.specs.declared.arena.seek.Match.{Match}
 use Rattle.patricia_nodes.specs.declared.arena.seek.Match.TheVariants.{Absent, InsideLabel, Exact}
-use Rattle.patricia_nodes.specs.Internal.Plans.{Plan, Nil, Cell, head, row, count, plan_at, siblings_of, entries_of, IsPlan, IsWellFormed}
+use Rattle.patricia_nodes.specs.Internal.Plans.{Plan, Nil, Cell, head, row, count, plan_at}
+use Rattle.patricia_nodes.specs.Internal.Plans.{siblings_of, entries_of, IsPlan, IsWellFormed}
 use Rattle.patricia_nodes.specs.Internal.Places.{Matches, Placed, fill, node_under}
 use Rattle.patricia_nodes.proofs.PlanLemmas.{plan_is, below_le}
 use Rattle.patricia_nodes.proofs.FillLemmas.{plan_within, row-within, count-fill}

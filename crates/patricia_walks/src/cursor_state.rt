@@ -1,15 +1,21 @@
 //! How far a cursor has come over a tree that it owns.
-ghost use Rattle.std.specs.Prelude.{◌≡◌, ◌≢◌, ◌↔◌, MatchOption, ℕ, List, Option, Some, None, is_some, true, false, [], IfOk, IfSome, IfNone, OnOk, OnErr, IsTrue};
+ghost use Rattle.std.specs.Prelude.{◌≡◌, ◌≢◌, ◌↔◌, MatchOption, ℕ, List, Option, Some, None};
+ghost use Rattle.std.specs.Prelude.{is_some, true, false, [], IfOk, IfSome, IfNone, OnOk, OnErr};
+ghost use Rattle.std.specs.Prelude.{IsTrue};
 ghost use Rattle.std.specs.Borrow.{sem};
 ghost use Rattle.std.specs.Option.{option_copied_mut, option_map};
 ghost use Rattle.patricia_model.specs.Prefixes.{under};
 ghost use Rattle.patricia_model.specs.Siblings.{IsCanonical};
 ghost use Rattle.patricia_model.specs.Internal.WalkStates.{entries_left};
 ghost use Rattle.patricia_nodes.specs.Internal.Plans.{IsWellFormed, siblings_of};
-ghost use Rattle.patricia_walks.specs.Internal.Positions.{IsPosition, AdvancesTo, state_of, row_at, rows_below};
-ghost use Rattle.patricia_walks.specs.declared.cursor_state.ValueSlot.TheVariants.{OfEmptyKey, OfNode};
+ghost use Rattle.patricia_walks.specs.Internal.Positions.{IsPosition, AdvancesTo, state_of, row_at};
+ghost use Rattle.patricia_walks.specs.Internal.Positions.{rows_below};
+ghost use Rattle.patricia_walks.specs.declared.cursor_state.ValueSlot.TheVariants.{OfEmptyKey};
+ghost use Rattle.patricia_walks.specs.declared.cursor_state.ValueSlot.TheVariants.{OfNode};
 ghost use Rattle.patricia_walks.specs.Internal.Holders.{numbered_slots, holders};
-ghost use Rattle.patricia_walks.specs.Internal.Trails.{position_of, left_of, Advances, StepIsRefused, IsMadeOf, IsSameTree, IsAtStart, StartsUnder, IsHeld, held_last};
+ghost use Rattle.patricia_walks.specs.Internal.Trails.{position_of, left_of, Advances};
+ghost use Rattle.patricia_walks.specs.Internal.Trails.{StepIsRefused, IsMadeOf, IsSameTree};
+ghost use Rattle.patricia_walks.specs.Internal.Trails.{IsAtStart, StartsUnder, IsHeld, held_last};
 
 use patricia_keys::{BorrowedBytes, Bytes};
 use patricia_nodes::arena::{Node, NodeArena};

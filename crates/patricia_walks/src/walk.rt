@@ -1,11 +1,13 @@
 //! Walks over nodes in one vector, in key order.
-ghost use Rattle.std.specs.Prelude.{◌≡◌, ◌≢◌, ◌++◌, [], Some, None, false, IfOk, OnOk, OnErr, IsTrue};
+ghost use Rattle.std.specs.Prelude.{◌≡◌, ◌≢◌, ◌++◌, [], Some, None, false, IfOk, OnOk, OnErr};
+ghost use Rattle.std.specs.Prelude.{IsTrue};
 ghost use Rattle.std.specs.Option.{option_copied};
 ghost use Rattle.patricia_model.specs.Siblings.{own, keys_of, IsCanonical};
 ghost use Rattle.patricia_model.specs.Internal.WalkStates.{entries_left, TakesEntry};
 ghost use Rattle.patricia_model.specs.Walks.{YieldsOrErr, values_of};
 ghost use Rattle.patricia_nodes.specs.Internal.Plans.{IsWellFormed, siblings_of, entries_of};
-ghost use Rattle.patricia_walks.specs.Internal.Positions.{IsPosition, IsTop, AdvancesTo, state_of, lent, row_at, rows_below};
+ghost use Rattle.patricia_walks.specs.Internal.Positions.{IsPosition, IsTop, AdvancesTo, state_of};
+ghost use Rattle.patricia_walks.specs.Internal.Positions.{lent, row_at, rows_below};
 
 use patricia_keys::Bytes;
 use patricia_nodes::arena::NodeArena;

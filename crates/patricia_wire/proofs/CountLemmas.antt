@@ -1,13 +1,17 @@
 -- The points of the keys of a tight tree, counted by its records.
-use Rattle.std.proofs.Common.{◌≡◌, ◌∷◌, ℕ, suc, ◌+◌, ◌≤◌, List, [], ◌++◌, Option, Some, None, length, map, inl, refl, sym, ap, subst, ◌∙◌, arith, length-append, ◌≢◌, ◌*◌}
+use Rattle.std.proofs.Common.{◌≡◌, ◌∷◌, ℕ, suc, ◌+◌, ◌≤◌, List, [], ◌++◌, Option, Some, None}
+use Rattle.std.proofs.Common.{length, map, inl, refl, sym, ap, subst, ◌∙◌, arith, length-append}
+use Rattle.std.proofs.Common.{◌≢◌, ◌*◌}
 use Rattle.std.proofs.lemmas.List.{length-map}
 use Rattle.patricia_keys.specs.Keys.{IsKeyKind}
-use Rattle.patricia_model.specs.Siblings.{Siblings, end, node, own, entries, keys_of, paths, EarnsWithin, IsCanonicalWithin, IsCanonical, prefixed}
+use Rattle.patricia_model.specs.Siblings.{Siblings, end, node, own, entries, keys_of, paths}
+use Rattle.patricia_model.specs.Siblings.{EarnsWithin, IsCanonicalWithin, IsCanonical, prefixed}
 use Rattle.patricia_model.specs.Internal.Removals.{width}
 use Rattle.patricia_model.specs.Points.{Has, IsPoint}
 use Rattle.patricia_keys.proofs.KeyLemmas.{first_of}
 use Rattle.patricia_model.proofs.UniqueLemmas.{has_entry}
-use Rattle.patricia_model.proofs.PointLemmas.{IsPoint-within, has_prefixed, has_after, own_within, within_own, paths_points, paths_apart}
+use Rattle.patricia_model.proofs.PointLemmas.{IsPoint-within, has_prefixed, has_after, own_within}
+use Rattle.patricia_model.proofs.PointLemmas.{within_own, paths_points, paths_apart}
 use Rattle.patricia_wire.specs.Records.{Record}
 use Rattle.patricia_wire.specs.Forests.{Root}
 use Rattle.patricia_wire.specs.Internal.WrittenRows.{records_of}

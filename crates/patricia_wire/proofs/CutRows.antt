@@ -1,12 +1,16 @@
 -- Each row in memory has a row on the wire, with its long labels cut.
-use Rattle.std.proofs.Common.{◌≡◌, ℕ, suc, zero, ◌≤◌, ◌≢◌, inl, inr, List, [], ◌∷◌, ◌++◌, Option, Some, None, length, refl, sym, ap, subst, ◌∙◌, arith, length-append}
+use Rattle.std.proofs.Common.{◌≡◌, ℕ, suc, zero, ◌≤◌, ◌≢◌, inl, inr, List, [], ◌∷◌, ◌++◌, Option}
+use Rattle.std.proofs.Common.{Some, None, length, refl, sym, ap, subst, ◌∙◌, arith, length-append}
 use Rattle.std.specs.List.{AllByRecursion, concat}
 use Rattle.std.proofs.lemmas.Bool.{cases_lt}
 use Rattle.std.proofs.lemmas.List.{append_assoc, append-nil}
 use Rattle.patricia_keys.specs.Keys.{Begins, IsKeyKind, IsValid}
-use Rattle.patricia_model.specs.Siblings.{Siblings, end, node, prefixed, own, entries, IsBefore, IsBeforeSiblings, IsCanonicalWithin, EarnsWithin, IsCanonical}
+use Rattle.patricia_model.specs.Siblings.{Siblings, end, node, prefixed, own, entries, IsBefore}
+use Rattle.patricia_model.specs.Siblings.{IsBeforeSiblings, IsCanonicalWithin, EarnsWithin}
+use Rattle.patricia_model.specs.Siblings.{IsCanonical}
 use Rattle.patricia_model.specs.Internal.Removals.{width}
-use Rattle.patricia_keys.proofs.KeyLemmas.{Begins-trans, begins_same, first_of, item-nonempty, IsValid-append, IsValid-item}
+use Rattle.patricia_keys.proofs.KeyLemmas.{Begins-trans, begins_same, first_of, item-nonempty}
+use Rattle.patricia_keys.proofs.KeyLemmas.{IsValid-append, IsValid-item}
 use Rattle.patricia_model.proofs.InsertLemmas.{IsBefore-shorter_left}
 use Rattle.patricia_model.proofs.RowLemmas.{prefixed-prefixed}
 

@@ -1,9 +1,16 @@
 -- There is one first fault.
 use Rattle.std.proofs.Common.{◌≡◌, ℕ, inl, inr, List, [], ◌∷◌, get_or, refl, sym, ap, ◌∙◌, arith}
 use Rattle.patricia_wire.specs.Records.{Record}
-use Rattle.patricia_wire.specs.Faults.{Breaks, other_level, labelled_root, root_of_siblings, no_label, not_valid, falling, bare, no_value, Stands, cut_short, in_record, trailing, too_many, IsFirst}
+use Rattle.patricia_wire.specs.Faults.{Breaks, other_level, labelled_root, root_of_siblings}
+use Rattle.patricia_wire.specs.Faults.{no_label, not_valid, falling, bare, no_value, Stands}
+use Rattle.patricia_wire.specs.Faults.{cut_short, in_record, trailing, too_many, IsFirst}
 use Rattle.patricia_wire.specs.declared.error.DecodeError.{DecodeError}
-use Rattle.patricia_wire.specs.declared.error.DecodeError.TheVariants.{Memory, Truncated, Level, RootLabel, RootSibling, EmptyLabel, InvalidLabel, SiblingOrder, NoValueNoChild, TooFewValues, TrailingBytes, TooManyValues}
+use Rattle.patricia_wire.specs.declared.error.DecodeError.TheVariants.{Memory, Truncated, Level}
+use Rattle.patricia_wire.specs.declared.error.DecodeError.TheVariants.{RootLabel, RootSibling}
+use Rattle.patricia_wire.specs.declared.error.DecodeError.TheVariants.{EmptyLabel, InvalidLabel}
+use Rattle.patricia_wire.specs.declared.error.DecodeError.TheVariants.{SiblingOrder, NoValueNoChild}
+use Rattle.patricia_wire.specs.declared.error.DecodeError.TheVariants.{TooFewValues, TrailingBytes}
+use Rattle.patricia_wire.specs.declared.error.DecodeError.TheVariants.{TooManyValues}
 
 -- the error of a number at an offset
 abbrev named : ℕ → ℕ → DecodeError

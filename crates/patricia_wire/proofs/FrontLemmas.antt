@@ -1,17 +1,22 @@
 -- The fronts of the keys of a tight tree of byte keys, counted by its labels.
-use Rattle.std.proofs.Common.{◌≡◌, ℕ, suc, ◌+◌, ◌≢◌, ◌⊎◌, inl, inr, List, [], ◌∷◌, ◌++◌, Option, Some, length, map, refl, sym, ap, subst, ◌∙◌, arith, length-append}
+use Rattle.std.proofs.Common.{◌≡◌, ℕ, suc, ◌+◌, ◌≢◌, ◌⊎◌, inl, inr, List, [], ◌∷◌, ◌++◌, Option}
+use Rattle.std.proofs.Common.{Some, length, map, refl, sym, ap, subst, ◌∙◌, arith, length-append}
 use Rattle.std.specs.Prelude.{sum_by}
 use Rattle.std.proofs.lemmas.List.{length-map, append-nil}
 use Rattle.std.proofs.lemmas.List.Sums.{sum_by-cons, sum_by-append}
 use Rattle.patricia_keys.specs.Keys.{Begins, IsKeyKind}
 use Rattle.patricia_keys.specs.Keys.{AreSingle}
-use Rattle.patricia_model.specs.Siblings.{Siblings, end, node, own, entries, keys_of, IsCanonicalWithin}
+use Rattle.patricia_model.specs.Siblings.{Siblings, end, node, own, entries, keys_of}
+use Rattle.patricia_model.specs.Siblings.{IsCanonicalWithin}
 use Rattle.patricia_model.specs.Points.{Has, AreApart}
 use Rattle.patricia_keys.proofs.KeyLemmas.{begins_either, Begins-trans, first_of}
 use Rattle.patricia_model.proofs.RowLemmas.{AllKeys, lacks_item}
 use Rattle.patricia_model.proofs.UniqueLemmas.{has_entry}
-use Rattle.patricia_model.proofs.MemberLemmas.{Has-left, Has-right, Has-either, AreApart-append, Has-behind, Has-behind_of, AreApart-behind}
-use Rattle.patricia_model.proofs.PointLemmas.{nil_first, Begins-behind, Begins-behind_of, Within, has_prefixed, has_after, has_one, own_within, within_own}
+use Rattle.patricia_model.proofs.MemberLemmas.{Has-left, Has-right, Has-either, AreApart-append}
+use Rattle.patricia_model.proofs.MemberLemmas.{Has-behind, Has-behind_of, AreApart-behind}
+use Rattle.patricia_model.proofs.PointLemmas.{nil_first, Begins-behind, Begins-behind_of, Within}
+use Rattle.patricia_model.proofs.PointLemmas.{has_prefixed, has_after, has_one, own_within}
+use Rattle.patricia_model.proofs.PointLemmas.{within_own}
 use Rattle.patricia_wire.specs.Records.{Record}
 use Rattle.patricia_wire.specs.Forests.{Root}
 use Rattle.patricia_wire.specs.Internal.WrittenRows.{record_of, records_of}

@@ -1,9 +1,11 @@
 -- A writable row has the entries of a row in memory, with its lone children taken in.
-use Rattle.std.proofs.Common.{◌≡◌, ℕ, ◌⊎◌, inl, inr, true, List, ◌++◌, Option, Some, None, refl, ◌∙◌}
+use Rattle.std.proofs.Common.{◌≡◌, ℕ, ◌⊎◌, inl, inr, true, List, ◌++◌, Option, Some, None, refl}
+use Rattle.std.proofs.Common.{◌∙◌}
 use Rattle.std.specs.Prelude.{is_some}
 use Rattle.patricia_keys.specs.Keys.{IsKeyKind}
 use Rattle.patricia_keys.proofs.KeyLemmas.{Begins-trans}
-use Rattle.patricia_model.specs.Siblings.{Siblings, end, node, prefixed, own, entries, IsBefore, IsBeforeSiblings, EarnsWithin, IsCanonical}
+use Rattle.patricia_model.specs.Siblings.{Siblings, end, node, prefixed, own, entries, IsBefore}
+use Rattle.patricia_model.specs.Siblings.{IsBeforeSiblings, EarnsWithin, IsCanonical}
 use Rattle.patricia_model.proofs.RemovalLemmas.{taken_in_row, taken_in_entries}
 use Rattle.patricia_wire.specs.Internal.WrittenRows.{has_node, over, joined, IsWritable}
 

@@ -1,5 +1,7 @@
 -- Bytes and values mean rows, or a fault is their first.
-use Rattle.std.proofs.Common.{◌≡◌, ◌≢◌, ◌⊎◌, inl, inr, ℕ, zero, suc, ◌+◌, ◌<◌, ◌≤◌, Bool, true, false, List, [], ◌∷◌, ◌++◌, length, Option, Some, None, refl, sym, ap, subst, ◌∙◌, arith, append_assoc, append-nil}
+use Rattle.std.proofs.Common.{◌≡◌, ◌≢◌, ◌⊎◌, inl, inr, ℕ, zero, suc, ◌+◌, ◌<◌, ◌≤◌, Bool, true}
+use Rattle.std.proofs.Common.{false, List, [], ◌∷◌, ◌++◌, length, Option, Some, None, refl, sym, ap}
+use Rattle.std.proofs.Common.{subst, ◌∙◌, arith, append_assoc, append-nil}
 use Rattle.std.specs.Prelude.{All}
 use Rattle.std.specs.declared.cmp.Ordering.TheVariants.{Less}
 use Rattle.std.proofs.lemmas.Bool.{cases_lt}
@@ -12,14 +14,22 @@ use Rattle.patricia_wire.specs.Records.{Record, Encodes, EncodeAll, bit_if}
 use Rattle.patricia_wire.specs.Forests.{Root}
 use Rattle.patricia_wire.specs.Writings.{Means}
 use Rattle.patricia_wire.specs.WireLaws.{TellsValid, MeansOrHasFirstFault, NeverLacksBoth}
-use Rattle.patricia_wire.specs.Internal.Readings.{Rule, level, root_label, root_sibling, empty_label, invalid_label, sibling_order, no_value_no_child, too_few_values, rule_number, error_at, Due, due_where, child_due, sibling_due, due_behind, IsRead, nothing, one_more, IsAfter, BreaksRule, BreaksNone, BreaksNoneBelow, BreaksFirst}
+use Rattle.patricia_wire.specs.Internal.Readings.{Rule, level, root_label, root_sibling}
+use Rattle.patricia_wire.specs.Internal.Readings.{empty_label, invalid_label, sibling_order}
+use Rattle.patricia_wire.specs.Internal.Readings.{no_value_no_child, too_few_values, rule_number}
+use Rattle.patricia_wire.specs.Internal.Readings.{error_at, Due, due_where, child_due, sibling_due}
+use Rattle.patricia_wire.specs.Internal.Readings.{due_behind, IsRead, nothing, one_more, IsAfter}
+use Rattle.patricia_wire.specs.Internal.Readings.{BreaksRule, BreaksNone, BreaksNoneBelow}
+use Rattle.patricia_wire.specs.Internal.Readings.{BreaksFirst}
 use Rattle.patricia_wire.specs.Faults.{value_marks, Reads, IsFirst}
 use Rattle.patricia_wire.specs.declared.error.DecodeError.{DecodeError}
-use Rattle.patricia_wire.specs.declared.error.DecodeError.TheVariants.{Truncated, TrailingBytes, TooManyValues}
+use Rattle.patricia_wire.specs.declared.error.DecodeError.TheVariants.{Truncated, TrailingBytes}
+use Rattle.patricia_wire.specs.declared.error.DecodeError.TheVariants.{TooManyValues}
 use Rattle.patricia_wire.proofs.NoFault.{marks}
 use Rattle.patricia_wire.proofs.Orders.{before_compares, before_or_not}
 use Rattle.patricia_wire.proofs.ReadingsFaults.{marks_more, faulty, faultless}
-use Rattle.patricia_wire.proofs.ReadingsFirst.{first_in_record, first_cut_short, first_trailing, first_too_many}
+use Rattle.patricia_wire.proofs.ReadingsFirst.{first_in_record, first_cut_short, first_trailing}
+use Rattle.patricia_wire.proofs.ReadingsFirst.{first_too_many}
 use Rattle.patricia_wire.proofs.Rules.{below_level, kept_next, kept_all}
 use Rattle.patricia_wire.proofs.RecordFronts.{Fronts, cut_or_fronts}
 use Rattle.patricia_wire.proofs.WholeTrees.{Closes, nothing_closes, closed, KeepsRules, closes_more}

@@ -1,17 +1,24 @@
 -- No fault stands in bytes that mean something.
-use Rattle.std.proofs.Common.{◌≡◌, ℕ, ◌+◌, ◌≢◌, ◌⊎◌, inl, inr, true, false, List, [], ◌∷◌, ◌++◌, Option, Some, None, length, refl, sym, ap, subst, ◌∙◌, arith, length-append}
+use Rattle.std.proofs.Common.{◌≡◌, ℕ, ◌+◌, ◌≢◌, ◌⊎◌, inl, inr, true, false, List, [], ◌∷◌, ◌++◌}
+use Rattle.std.proofs.Common.{Option, Some, None, length, refl, sym, ap, subst, ◌∙◌, arith}
+use Rattle.std.proofs.Common.{length-append}
 use Rattle.std.specs.Prelude.{is_some, slice_index}
 use Rattle.std.specs.Int.{bytes_high_first}
 use Rattle.std.proofs.lemmas.List.{append_assoc, append-nil, length-map}
 use Rattle.std.proofs.lemmas.List.Sums.{sum_by-cons, sum_by-append}
 use Rattle.patricia_keys.specs.Keys.{IsValid}
-use Rattle.patricia_model.specs.Siblings.{Siblings, end, node, prefixed, own, entries, keys_of, IsBefore}
+use Rattle.patricia_model.specs.Siblings.{Siblings, end, node, prefixed, own, entries, keys_of}
+use Rattle.patricia_model.specs.Siblings.{IsBefore}
 use Rattle.patricia_keys.proofs.KeyLemmas.{IsValid-nil}
 use Rattle.patricia_wire.specs.Records.{Record, Encodes, EncodeAll, bit_if, after_flags}
 use Rattle.patricia_wire.specs.Forests.{Root}
-use Rattle.patricia_wire.specs.Internal.WrittenRows.{record_of, records_of, tree_records, IsWritable}
+use Rattle.patricia_wire.specs.Internal.WrittenRows.{record_of, records_of, tree_records}
+use Rattle.patricia_wire.specs.Internal.WrittenRows.{IsWritable}
 use Rattle.patricia_wire.specs.Writings.{Means}
-use Rattle.patricia_wire.specs.Faults.{value_marks, IsLastUpTo, Breaks, other_level, labelled_root, root_of_siblings, no_label, not_valid, falling, bare, no_value, IsCutShort, Stands, cut_short, in_record, trailing, too_many}
+use Rattle.patricia_wire.specs.Faults.{value_marks, IsLastUpTo, Breaks, other_level, labelled_root}
+use Rattle.patricia_wire.specs.Faults.{root_of_siblings, no_label, not_valid, falling, bare}
+use Rattle.patricia_wire.specs.Faults.{no_value, IsCutShort, Stands, cut_short, in_record, trailing}
+use Rattle.patricia_wire.specs.Faults.{too_many}
 use Rattle.patricia_wire.specs.declared.error.DecodeError.{DecodeError}
 use Rattle.patricia_wire.proofs.CountLemmas.{length-prefixed}
 use Rattle.patricia_wire.proofs.Orders.{before_compares}

@@ -1,13 +1,16 @@
 -- What stands at each place of a row's records: the level that is due, and siblings that rise.
-use Rattle.std.proofs.Common.{◌≡◌, ℕ, ◌+◌, ◌<◌, ◌≤◌, ◌≢◌, ◌⊎◌, inl, inr, true, false, List, [], ◌∷◌, ◌++◌, Option, refl, sym, ap, subst, ◌∙◌, arith}
+use Rattle.std.proofs.Common.{◌≡◌, ℕ, ◌+◌, ◌<◌, ◌≤◌, ◌≢◌, ◌⊎◌, inl, inr, true, false, List, [], ◌∷◌}
+use Rattle.std.proofs.Common.{◌++◌, Option, refl, sym, ap, subst, ◌∙◌, arith}
 use Rattle.std.specs.Prelude.{All}
 use Rattle.std.proofs.lemmas.List.{append_assoc, append-nil}
 use Rattle.std.proofs.lemmas.List.Elements.{All-nil, All-cons, All-head, All-tail, All-append}
 use Rattle.patricia_keys.specs.Keys.{IsValid}
 use Rattle.patricia_model.specs.Siblings.{Siblings, end, node, IsBefore, IsBeforeSiblings}
 use Rattle.patricia_wire.specs.Records.{Record}
-use Rattle.patricia_wire.specs.Internal.WrittenRows.{has_node, record_of, records_of, tree_records, IsWritable}
-use Rattle.patricia_wire.specs.Faults.{IsLastUpTo, Waits, IsLastWaiting, IsDue, at_first, below, beside}
+use Rattle.patricia_wire.specs.Internal.WrittenRows.{has_node, record_of, records_of, tree_records}
+use Rattle.patricia_wire.specs.Internal.WrittenRows.{IsWritable}
+use Rattle.patricia_wire.specs.Faults.{IsLastUpTo, Waits, IsLastWaiting, IsDue, at_first, below}
+use Rattle.patricia_wire.specs.Faults.{beside}
 use Rattle.patricia_wire.proofs.RowTrees.{Nothing}
 use Rattle.patricia_wire.proofs.TightRows.{EndsLow, ends_low}
 

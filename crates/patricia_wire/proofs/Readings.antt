@@ -1,14 +1,18 @@
 -- While records are read one after the other, what is due is what the records before ask for.
-use Rattle.std.proofs.Common.{◌≡◌, ℕ, ◌+◌, ◌<◌, ◌≢◌, ◌⊎◌, inl, inr, Bool, true, false, List, [], ◌∷◌, ◌++◌, Option, Some, None, refl, sym, ap, subst, ◌∙◌, arith, append_assoc}
+use Rattle.std.proofs.Common.{◌≡◌, ℕ, ◌+◌, ◌<◌, ◌≢◌, ◌⊎◌, inl, inr, Bool, true, false, List, []}
+use Rattle.std.proofs.Common.{◌∷◌, ◌++◌, Option, Some, None, refl, sym, ap, subst, ◌∙◌, arith}
+use Rattle.std.proofs.Common.{append_assoc}
 use Rattle.std.proofs.lemmas.Bool.{cases_lt}
 use Rattle.std.specs.Prelude.{All}
 use Rattle.std.proofs.lemmas.List.Elements.{All-nil, All-cons, All-head, All-tail}
 use Rattle.patricia_model.specs.Siblings.{Siblings, end}
 use Rattle.patricia_wire.specs.Records.{Record}
 use Rattle.patricia_wire.specs.Forests.{Root}
-use Rattle.patricia_wire.specs.Internal.Readings.{Due, due_where, due_behind, IsRead, nothing, one_more}
+use Rattle.patricia_wire.specs.Internal.Readings.{Due, due_where, due_behind, IsRead, nothing}
+use Rattle.patricia_wire.specs.Internal.Readings.{one_more}
 use Rattle.patricia_wire.specs.Internal.WrittenRows.{record_of, records_of, tree_records}
-use Rattle.patricia_wire.specs.Faults.{IsLastUpTo, Waits, IsLastWaiting, IsDue, at_first, below, beside, IsUnfinished, other_level, root_of_siblings}
+use Rattle.patricia_wire.specs.Faults.{IsLastUpTo, Waits, IsLastWaiting, IsDue, at_first, below}
+use Rattle.patricia_wire.specs.Faults.{beside, IsUnfinished, other_level, root_of_siblings}
 use Rattle.patricia_wire.proofs.Places.{All-left, All-middle, nil_split, low_head, waited}
 use Rattle.patricia_wire.proofs.RowTrees.{Nothing, stands_tree}
 use Rattle.patricia_wire.proofs.TightRows.{EndsLow}

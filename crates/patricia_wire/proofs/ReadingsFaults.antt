@@ -1,15 +1,23 @@
 -- Where records are read, the fault of the next one is told by what is due.
-use Rattle.std.proofs.Common.{◌≡◌, ℕ, ◌+◌, ◌<◌, ◌≤◌, ◌≢◌, inl, inr, Bool, true, false, List, [], ◌∷◌, ◌++◌, refl, sym, subst, ◌∙◌, arith}
+use Rattle.std.proofs.Common.{◌≡◌, ℕ, ◌+◌, ◌<◌, ◌≤◌, ◌≢◌, inl, inr, Bool, true, false, List, []}
+use Rattle.std.proofs.Common.{◌∷◌, ◌++◌, refl, sym, subst, ◌∙◌, arith}
 use Rattle.std.proofs.lemmas.Bool.{cases_lt}
 use Rattle.std.proofs.lemmas.List.Sums.{sum_by-append}
 use Rattle.std.specs.declared.cmp.Ordering.TheVariants.{Less}
 use Rattle.patricia_keys.specs.Keys.{ComparesFirst}
 use Rattle.patricia_wire.specs.Records.{Record, bit_if}
-use Rattle.patricia_wire.specs.Internal.Readings.{Rule, level, root_label, root_sibling, empty_label, invalid_label, sibling_order, no_value_no_child, too_few_values, rule_number, error_at, Due, IsRead, BreaksRule, BreaksNone, BreaksNoneBelow, BreaksFirst, IsFaultless}
+use Rattle.patricia_wire.specs.Internal.Readings.{Rule, level, root_label, root_sibling}
+use Rattle.patricia_wire.specs.Internal.Readings.{empty_label, invalid_label, sibling_order}
+use Rattle.patricia_wire.specs.Internal.Readings.{no_value_no_child, too_few_values, rule_number}
+use Rattle.patricia_wire.specs.Internal.Readings.{error_at, Due, IsRead, BreaksRule, BreaksNone}
+use Rattle.patricia_wire.specs.Internal.Readings.{BreaksNoneBelow, BreaksFirst, IsFaultless}
 use Rattle.patricia_wire.specs.Faults as faults
-use Rattle.patricia_wire.specs.Faults.{value_marks, IsLastUpTo, IsDue, other_level, labelled_root, root_of_siblings, no_label, not_valid, falling, bare, no_value}
+use Rattle.patricia_wire.specs.Faults.{value_marks, IsLastUpTo, IsDue, other_level, labelled_root}
+use Rattle.patricia_wire.specs.Faults.{root_of_siblings, no_label, not_valid, falling, bare}
+use Rattle.patricia_wire.specs.Faults.{no_value}
 use Rattle.patricia_wire.specs.declared.error.DecodeError.{DecodeError}
-use Rattle.patricia_wire.proofs.Readings.{same_number, one_due, is_due, root_due, first_due, after_given, after_is}
+use Rattle.patricia_wire.proofs.Readings.{same_number, one_due, is_due, root_due, first_due}
+use Rattle.patricia_wire.proofs.Readings.{after_given, after_is}
 
 -- one record more adds its value mark, where it is set
 pub marks_more : (before : List Record) (r : Record)

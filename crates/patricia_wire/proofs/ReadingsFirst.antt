@@ -1,12 +1,17 @@
 -- Where records were read without a fault, the fault behind them is the first of the input.
-use Rattle.std.proofs.Common.{◌≡◌, ℕ, ◌+◌, ◌<◌, ◌≤◌, ◌≢◌, ◌⊎◌, inl, inr, List, [], ◌∷◌, ◌++◌, length, refl, sym, ap, subst, ◌∙◌, arith, length-append, append_assoc, append-nil}
+use Rattle.std.proofs.Common.{◌≡◌, ℕ, ◌+◌, ◌<◌, ◌≤◌, ◌≢◌, ◌⊎◌, inl, inr, List, [], ◌∷◌, ◌++◌}
+use Rattle.std.proofs.Common.{length, refl, sym, ap, subst, ◌∙◌, arith, length-append, append_assoc}
+use Rattle.std.proofs.Common.{append-nil}
 use Rattle.std.proofs.lemmas.Bool.{cases_lt}
 use Rattle.patricia_wire.specs.Records.{Record, Encodes, EncodeAll}
 use Rattle.patricia_wire.specs.Forests.{Root}
-use Rattle.patricia_wire.specs.Internal.Readings.{Rule, rule_number, error_at, Due, IsRead, nothing, one_more}
-use Rattle.patricia_wire.specs.Faults.{value_marks, Breaks, IsUnfinished, Reads, IsCutShort, Stands, cut_short, in_record, trailing, too_many, IsFirst}
+use Rattle.patricia_wire.specs.Internal.Readings.{Rule, rule_number, error_at, Due, IsRead, nothing}
+use Rattle.patricia_wire.specs.Internal.Readings.{one_more}
+use Rattle.patricia_wire.specs.Faults.{value_marks, Breaks, IsUnfinished, Reads, IsCutShort, Stands}
+use Rattle.patricia_wire.specs.Faults.{cut_short, in_record, trailing, too_many, IsFirst}
 use Rattle.patricia_wire.specs.declared.error.DecodeError.{DecodeError}
-use Rattle.patricia_wire.specs.declared.error.DecodeError.TheVariants.{Truncated, TrailingBytes, TooManyValues}
+use Rattle.patricia_wire.specs.declared.error.DecodeError.TheVariants.{Truncated, TrailingBytes}
+use Rattle.patricia_wire.specs.declared.error.DecodeError.TheVariants.{TooManyValues}
 use Rattle.patricia_wire.proofs.NoFault.{not_empty, enough}
 use Rattle.patricia_wire.proofs.Places.{nil_split}
 use Rattle.patricia_wire.proofs.Readings.{back_split, unfinished}

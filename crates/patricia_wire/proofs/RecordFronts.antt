@@ -1,5 +1,7 @@
 -- Bytes begin with the spelling of a record, or are too few for one.
-use Rattle.std.proofs.Common.{◌≡◌, ◌≢◌, ◌⊎◌, inl, inr, ℕ, zero, suc, ◌+◌, ◌*◌, ◌<◌, ◌≤◌, ◌/◌, ◌%◌, List, [], ◌∷◌, ◌++◌, length, take, drop, refl, sym, ap, subst, ◌∙◌, arith, append_assoc, take-append-drop, length-take, length-drop}
+use Rattle.std.proofs.Common.{◌≡◌, ◌≢◌, ◌⊎◌, inl, inr, ℕ, zero, suc, ◌+◌, ◌*◌, ◌<◌, ◌≤◌, ◌/◌, ◌%◌}
+use Rattle.std.proofs.Common.{List, [], ◌∷◌, ◌++◌, length, take, drop, refl, sym, ap, subst, ◌∙◌}
+use Rattle.std.proofs.Common.{arith, append_assoc, take-append-drop, length-take, length-drop}
 use Rattle.std.specs.Prelude.{◌^◌, ◌↔◌, not, nat_eq, bit_and, IsTrue, All}
 use Rattle.std.specs.Int.{bytes_high_first, byte_at}
 use Rattle.std.proofs.Math.Nat.{pow-suc}

@@ -1,10 +1,14 @@
 -- A tree is the records of one writable row.
-use Rattle.std.proofs.Common.{◌≡◌, ℕ, ◌+◌, inl, inr, Bool, true, false, List, [], ◌∷◌, ◌++◌, Option, Some, None, refl, sym, ap, subst, ◌∙◌}
+use Rattle.std.proofs.Common.{◌≡◌, ℕ, ◌+◌, inl, inr, Bool, true, false, List, [], ◌∷◌, ◌++◌, Option}
+use Rattle.std.proofs.Common.{Some, None, refl, sym, ap, subst, ◌∙◌}
 use Rattle.std.specs.Prelude.{is_some}
-use Rattle.patricia_model.specs.Siblings.{Siblings, end, node, prefixed, own, entries, IsBeforeSiblings, keys_of}
+use Rattle.patricia_model.specs.Siblings.{Siblings, end, node, prefixed, own, entries}
+use Rattle.patricia_model.specs.Siblings.{IsBeforeSiblings, keys_of}
 use Rattle.patricia_wire.specs.Records.{Record}
-use Rattle.patricia_wire.specs.Forests.{behind, own_key, IsBeforeFirst, IsInner, Forest, ForestIf, forest, absent, present, Root}
-use Rattle.patricia_wire.specs.Internal.WrittenRows.{has_node, record_of, records_of, tree_records, IsWritable}
+use Rattle.patricia_wire.specs.Forests.{behind, own_key, IsBeforeFirst, IsInner, Forest, ForestIf}
+use Rattle.patricia_wire.specs.Forests.{forest, absent, present, Root}
+use Rattle.patricia_wire.specs.Internal.WrittenRows.{has_node, record_of, records_of, tree_records}
+use Rattle.patricia_wire.specs.Internal.WrittenRows.{IsWritable}
 
 -- a key set has no values
 abbrev pub Nothing : Type 0

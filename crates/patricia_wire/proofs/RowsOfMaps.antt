@@ -1,5 +1,6 @@
 -- Each finite map with valid keys is the map of a tree in memory: rows take in one key after the other.
-use Rattle.std.proofs.Common.{◌≡◌, ◌≢◌, ℕ, ◌⊎◌, inl, inr, true, false, Bool, T, ◌&&◌, List, [], ◌∷◌, ◌++◌, Option, Some, None, refl, sym, ap, subst, ◌∙◌}
+use Rattle.std.proofs.Common.{◌≡◌, ◌≢◌, ℕ, ◌⊎◌, inl, inr, true, false, Bool, T, ◌&&◌, List, [], ◌∷◌}
+use Rattle.std.proofs.Common.{◌++◌, Option, Some, None, refl, sym, ap, subst, ◌∙◌}
 use Rattle.std.specs.declared.cmp.Ordering.{Ordering}
 use Rattle.std.specs.declared.cmp.Ordering.TheVariants.{Less, Equal, Greater}
 use Rattle.std.specs.Cmp.Lexicographic.{nat_list_cmp_total}
@@ -11,12 +12,16 @@ use Rattle.std.specs.Ordering.{is_lt, ordering_reverse}
 use Rattle.std.proofs.lemmas.List.{append_assoc, append-nil}
 use Rattle.std.proofs.lemmas.List.Elements.{All-head, All-tail}
 use Rattle.patricia_keys.specs.Keys.{Begins, IsKeyKind, IsValid, key_cmp}
-use Rattle.patricia_keys.proofs.KeyLemmas.{IsValid-nil, IsValid-item, IsValid-append, first_of, begins_same, item-nonempty, key_cmp-same}
+use Rattle.patricia_keys.proofs.KeyLemmas.{IsValid-nil, IsValid-item, IsValid-append, first_of}
+use Rattle.patricia_keys.proofs.KeyLemmas.{begins_same, item-nonempty, key_cmp-same}
 use Rattle.patricia_model.specs.Internal.LabelCmp.{SharesItem}
-use Rattle.patricia_model.specs.Siblings.{Siblings, end, node, own, entries, IsBefore, IsCanonical, keys_of}
+use Rattle.patricia_model.specs.Siblings.{Siblings, end, node, own, entries, IsBefore, IsCanonical}
+use Rattle.patricia_model.specs.Siblings.{keys_of}
 use Rattle.patricia_model.specs.Trees.{map_of}
-use Rattle.patricia_model.proofs.DivideLemmas.{Divides, ends_at_cut, put_at_cut, row_before_cut, put_before_cut, row_after_cut, put_after_cut}
-use Rattle.patricia_model.proofs.InsertLemmas.{single, put_own, put_child, put_front, put_before, put_past, row_past, row_valued, row_child}
+use Rattle.patricia_model.proofs.DivideLemmas.{Divides, ends_at_cut, put_at_cut, row_before_cut}
+use Rattle.patricia_model.proofs.DivideLemmas.{put_before_cut, row_after_cut, put_after_cut}
+use Rattle.patricia_model.proofs.InsertLemmas.{single, put_own, put_child, put_front, put_before}
+use Rattle.patricia_model.proofs.InsertLemmas.{put_past, row_past, row_valued, row_child}
 use Rattle.patricia_model.proofs.ListLemmas.{IsBelow, key_cmp-equal, put_below}
 use Rattle.patricia_model.proofs.TestLemmas.{first_part, second_part, less_so}
 use Rattle.patricia_model.proofs.TreeLemmas.{entries_map}

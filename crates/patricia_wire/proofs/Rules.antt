@@ -1,8 +1,12 @@
 -- The rules of a record by their numbers.
-use Rattle.std.proofs.Common.{◌≡◌, ℕ, ◌+◌, ◌<◌, ◌≤◌, inl, inr, List, [], ◌∷◌, get_or, refl, sym, ap, subst, ◌∙◌, arith}
+use Rattle.std.proofs.Common.{◌≡◌, ℕ, ◌+◌, ◌<◌, ◌≤◌, inl, inr, List, [], ◌∷◌, get_or, refl, sym, ap}
+use Rattle.std.proofs.Common.{subst, ◌∙◌, arith}
 use Rattle.std.proofs.lemmas.Bool.{cases_lt}
 use Rattle.patricia_wire.specs.Records.{Record}
-use Rattle.patricia_wire.specs.Internal.Readings.{Rule, level, root_label, root_sibling, empty_label, invalid_label, sibling_order, no_value_no_child, too_few_values, rule_number, Due, BreaksRule, BreaksNone, BreaksNoneBelow}
+use Rattle.patricia_wire.specs.Internal.Readings.{Rule, level, root_label, root_sibling}
+use Rattle.patricia_wire.specs.Internal.Readings.{empty_label, invalid_label, sibling_order}
+use Rattle.patricia_wire.specs.Internal.Readings.{no_value_no_child, too_few_values, rule_number}
+use Rattle.patricia_wire.specs.Internal.Readings.{Due, BreaksRule, BreaksNone, BreaksNoneBelow}
 
 -- no rule has a number below 3
 pub least_rule : (rule : Rule) → 3 ≤ rule_number rule

@@ -1,12 +1,15 @@
 -- Bytes spell one list of records.
-use Rattle.std.proofs.Common.{◌≡◌, ℕ, suc, zero, ◌+◌, ◌*◌, ◌/◌, ◌%◌, ◌<◌, Bool, true, false, List, [], ◌∷◌, ◌++◌, length, refl, sym, ap, subst, ◌∙◌, arith}
+use Rattle.std.proofs.Common.{◌≡◌, ℕ, suc, zero, ◌+◌, ◌*◌, ◌/◌, ◌%◌, ◌<◌, Bool, true, false, List}
+use Rattle.std.proofs.Common.{[], ◌∷◌, ◌++◌, length, refl, sym, ap, subst, ◌∙◌, arith}
 use Rattle.std.specs.Prelude.{◌^◌, ◌↔◌, IsTrue, ◌≢◌, All}
 use Rattle.std.specs.Int.{bytes_high_first}
 use Rattle.std.proofs.Math.Nat.{pow-succ', mod-eq_of_lt}
 use Rattle.std.proofs.Math.Arith.{mod-mul}
 use Rattle.std.proofs.lemmas.List.{append_assoc}
 use Rattle.std.proofs.lemmas.List.Elements.{All-head, All-tail}
-use Rattle.patricia_wire.specs.Records.{Record, AreFlags, HasRoom, Encodes, EncodeAll, canonical_flags, canonical_bytes, canonical_bytes_of, after_flags}
+use Rattle.patricia_wire.specs.Records.{Record, AreFlags, HasRoom, Encodes, EncodeAll}
+use Rattle.patricia_wire.specs.Records.{canonical_flags, canonical_bytes, canonical_bytes_of}
+use Rattle.patricia_wire.specs.Records.{after_flags}
 
 -- two marks that are set where the same fact holds are the same
 same_mark : (a b : Bool) (P : Type 0) → IsTrue a ↔ P → IsTrue b ↔ P → a ≡ b

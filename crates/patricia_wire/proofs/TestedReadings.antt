@@ -1,5 +1,7 @@
 -- Tests of records that are read, which compute, and what they tell.
-use Rattle.std.proofs.Common.{◌≡◌, ℕ, ◌+◌, ◌<◌, ◌≢◌, ◌&&◌, Bool, true, false, List, [], ◌∷◌, ◌++◌, Option, Some, None, inl, inr, length, get_or, refl, sym, subst, ◌∙◌, arith}
+use Rattle.std.proofs.Common.{◌≡◌, ℕ, ◌+◌, ◌<◌, ◌≢◌, ◌&&◌, Bool, true, false, List, [], ◌∷◌, ◌++◌}
+use Rattle.std.proofs.Common.{Option, Some, None, inl, inr, length, get_or, refl, sym, subst, ◌∙◌}
+use Rattle.std.proofs.Common.{arith}
 use Rattle.std.specs.Prelude.{◌||◌, not, nat_eq, nat_lt}
 use Rattle.std.specs.List.{list_all}
 use Rattle.std.specs.Cmp.{first_so, second_so}
@@ -11,12 +13,17 @@ use Rattle.patricia_keys.proofs.KeyLemmas.{IsValid-nil}
 use Rattle.patricia_model.specs.Siblings.{IsBefore}
 use Rattle.patricia_model.proofs.MeetingLemmas.{before_by_first_byte}
 use Rattle.patricia_wire.specs.Records.{Record, Encodes, canonical_bytes, canonical_bytes_of}
-use Rattle.patricia_wire.specs.Internal.Readings.{Rule, level, root_label, root_sibling, empty_label, invalid_label, sibling_order, no_value_no_child, too_few_values, rule_number, error_at, Due, due_behind, IsRead, nothing, one_more, BreaksRule}
+use Rattle.patricia_wire.specs.Internal.Readings.{Rule, level, root_label, root_sibling}
+use Rattle.patricia_wire.specs.Internal.Readings.{empty_label, invalid_label, sibling_order}
+use Rattle.patricia_wire.specs.Internal.Readings.{no_value_no_child, too_few_values, rule_number}
+use Rattle.patricia_wire.specs.Internal.Readings.{error_at, Due, due_behind, IsRead, nothing}
+use Rattle.patricia_wire.specs.Internal.Readings.{one_more, BreaksRule}
 use Rattle.patricia_wire.specs.Faults.{value_marks, Reads, IsFirst}
 use Rattle.patricia_wire.proofs.Orders.{before_compares}
 use Rattle.patricia_wire.proofs.ReadingsFaults.{faulty, faultless}
 use Rattle.patricia_wire.proofs.ReadingsFirst.{first_in_record}
-use Rattle.patricia_wire.proofs.TestedRows.{are_bytes, byte_valid, either, filled_of, has_room, byte_room, byte_rooms}
+use Rattle.patricia_wire.proofs.TestedRows.{are_bytes, byte_valid, either, filled_of, has_room}
+use Rattle.patricia_wire.proofs.TestedRows.{byte_room, byte_rooms}
 use Rattle.patricia_wire.proofs.Spellings.{clean_spells, clean_spell_all}
 
 -- each rule passes the test

@@ -1,5 +1,7 @@
 -- Tests of worked rows, which compute, and what they tell.
-use Rattle.std.proofs.Common.{◌≡◌, ℕ, suc, zero, ◌<◌, ◌≤◌, ◌&&◌, Bool, true, false, List, [], ◌∷◌, ◌++◌, Option, inl, inr, length, length-append, get_or, refl, ap, arith}
+use Rattle.std.proofs.Common.{◌≡◌, ℕ, suc, zero, ◌<◌, ◌≤◌, ◌&&◌, Bool, true, false, List, [], ◌∷◌}
+use Rattle.std.proofs.Common.{◌++◌, Option, inl, inr, length, length-append, get_or, refl, ap}
+use Rattle.std.proofs.Common.{arith}
 use Rattle.std.specs.Prelude.{◌^◌, ◌||◌, ◌⊎◌, ◌≢◌, not, nat_lt, is_some, All, Any}
 use Rattle.std.specs.Cmp.{first_so, second_so}
 use Rattle.std.specs.List.{list_all}
@@ -8,7 +10,8 @@ use Rattle.std.proofs.lemmas.List.Elements.{All-nil, All-cons}
 use Rattle.patricia_keys.specs.Keys.{IsKeyKind, IsValid}
 use Rattle.patricia_keys.specs.ByteKind.{IsByteItem, one_byte}
 use Rattle.patricia_keys.specs.Internal.ByteLaw.{byte_lawful}
-use Rattle.patricia_model.specs.Siblings.{Siblings, end, node, own, entries, keys_of, IsBeforeSiblings}
+use Rattle.patricia_model.specs.Siblings.{Siblings, end, node, own, entries, keys_of}
+use Rattle.patricia_model.specs.Siblings.{IsBeforeSiblings}
 use Rattle.patricia_model.proofs.MeetingLemmas.{before_by_first_byte}
 use Rattle.patricia_wire.specs.Records.{Record, HasRoom, canonical_bytes_of}
 use Rattle.patricia_wire.specs.Writings.{Canon, StaysApart, StayApart}

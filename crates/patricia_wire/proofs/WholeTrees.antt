@@ -1,10 +1,14 @@
 -- Records that are read are a whole tree where nothing is due behind them.
-use Rattle.std.proofs.Common.{◌≡◌, ◌≢◌, ◌⊎◌, inl, inr, ℕ, ◌+◌, ◌≤◌, Bool, true, false, List, [], ◌∷◌, ◌++◌, length, Some, None, refl, sym, ap, subst, ◌∙◌, arith, append_assoc, append-nil}
+use Rattle.std.proofs.Common.{◌≡◌, ◌≢◌, ◌⊎◌, inl, inr, ℕ, ◌+◌, ◌≤◌, Bool, true, false, List, []}
+use Rattle.std.proofs.Common.{◌∷◌, ◌++◌, length, Some, None, refl, sym, ap, subst, ◌∙◌, arith}
+use Rattle.std.proofs.Common.{append_assoc, append-nil}
 use Rattle.patricia_keys.specs.Keys.{IsValid}
 use Rattle.patricia_model.specs.Siblings.{IsBefore}
 use Rattle.patricia_wire.specs.Records.{Record}
-use Rattle.patricia_wire.specs.Forests.{Root, Forest, forest, ForestIf, absent, present, IsBeforeFirst, own_key}
-use Rattle.patricia_wire.specs.Internal.Readings.{Due, due_where, child_due, sibling_due, due_behind}
+use Rattle.patricia_wire.specs.Forests.{Root, Forest, forest, ForestIf, absent, present}
+use Rattle.patricia_wire.specs.Forests.{IsBeforeFirst, own_key}
+use Rattle.patricia_wire.specs.Internal.Readings.{Due, due_where, child_due, sibling_due}
+use Rattle.patricia_wire.specs.Internal.Readings.{due_behind}
 
 module _ (item : List ℕ → Type 0) where
   -- these records are what is due: the whole tree, or a forest at its level that comes behind the

@@ -1,13 +1,16 @@
 -- A tight tree has an encoding, or a record too deep for one.
-use Rattle.std.proofs.Common.{ℕ, suc, zero, ◌+◌, ◌<◌, ◌≤◌, ◌⊎◌, inl, inr, List, [], ◌∷◌, ◌++◌, Option, Some, refl, sym, ap, subst, ◌∙◌, arith}
+use Rattle.std.proofs.Common.{ℕ, suc, zero, ◌+◌, ◌<◌, ◌≤◌, ◌⊎◌, inl, inr, List, [], ◌∷◌, ◌++◌}
+use Rattle.std.proofs.Common.{Option, Some, refl, sym, ap, subst, ◌∙◌, arith}
 use Rattle.std.specs.Prelude.{◌^◌, All, Any}
 use Rattle.std.proofs.lemmas.Bool.{cases_lt}
 use Rattle.std.proofs.lemmas.List.Elements.{All-nil, All-cons, All-append}
 use Rattle.patricia_keys.specs.Keys.{IsKeyKind, IsValid, key_cmp}
 use Rattle.patricia_keys.proofs.KeyLemmas.{valid_bytes}
-use Rattle.patricia_model.specs.Siblings.{Siblings, end, node, own, entries, keys_of, IsCanonical, IsCanonicalWithin}
+use Rattle.patricia_model.specs.Siblings.{Siblings, end, node, own, entries, keys_of, IsCanonical}
+use Rattle.patricia_model.specs.Siblings.{IsCanonicalWithin}
 use Rattle.patricia_wire.specs.Records.{Record, HasRoom, canonical_bytes_of}
-use Rattle.patricia_wire.specs.Internal.WrittenRows.{record_of, records_of, tree_records, IsWritable}
+use Rattle.patricia_wire.specs.Internal.WrittenRows.{record_of, records_of, tree_records}
+use Rattle.patricia_wire.specs.Internal.WrittenRows.{IsWritable}
 use Rattle.patricia_wire.specs.Writings.{Canon, TooDeep}
 use Rattle.patricia_wire.proofs.CutRows.{cut_row}
 use Rattle.patricia_wire.proofs.OneTree.{one_tree}

@@ -1,12 +1,18 @@
 -- What may be wrong with an input, as conditions on the records that it begins with, and the error
 -- that names it.
-use Rattle.std.specs.Prelude.{◌≡◌, ◌≢◌, ◌⊎◌, ℕ, ◌+◌, ◌<◌, ◌≤◌, true, false, List, [], ◌∷◌, ◌++◌, length, All, sum_by, slice_index}
+use Rattle.std.specs.Prelude.{◌≡◌, ◌≢◌, ◌⊎◌, ℕ, ◌+◌, ◌<◌, ◌≤◌, true, false, List, [], ◌∷◌, ◌++◌}
+use Rattle.std.specs.Prelude.{length, All, sum_by, slice_index}
 use Rattle.std.specs.declared.cmp.Ordering.TheVariants.{Less}
 use Rattle.patricia_keys.specs.Keys.{IsValid, ComparesFirst}
 use Rattle.patricia_wire.specs.Records.{Record, Encodes, EncodeAll, bit_if}
 use Rattle.patricia_wire.specs.Forests.{Root}
 use Rattle.patricia_wire.specs.declared.error.DecodeError.{DecodeError}
-use Rattle.patricia_wire.specs.declared.error.DecodeError.TheVariants.{Memory, Truncated, Level, RootLabel, RootSibling, EmptyLabel, InvalidLabel, SiblingOrder, NoValueNoChild, TooFewValues, TrailingBytes, TooManyValues}
+use Rattle.patricia_wire.specs.declared.error.DecodeError.TheVariants.{Memory, Truncated, Level}
+use Rattle.patricia_wire.specs.declared.error.DecodeError.TheVariants.{RootLabel, RootSibling}
+use Rattle.patricia_wire.specs.declared.error.DecodeError.TheVariants.{EmptyLabel, InvalidLabel}
+use Rattle.patricia_wire.specs.declared.error.DecodeError.TheVariants.{SiblingOrder, NoValueNoChild}
+use Rattle.patricia_wire.specs.declared.error.DecodeError.TheVariants.{TooFewValues, TrailingBytes}
+use Rattle.patricia_wire.specs.declared.error.DecodeError.TheVariants.{TooManyValues}
 
 -- how many of the records have a value mark
 abbrev pub value_marks : List Record → ℕ

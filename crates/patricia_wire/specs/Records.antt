@@ -1,5 +1,6 @@
 -- Records of the wire form, and the bytes that spell them.
-use Rattle.std.specs.Prelude.{◌≡◌, ℕ, ◌+◌, ◌<◌, ◌≤◌, ◌^◌, Bool, true, false, List, [], ◌∷◌, ◌++◌, length, All, IsTrue, IsBitSet, ◌↔◌}
+use Rattle.std.specs.Prelude.{◌≡◌, ℕ, ◌+◌, ◌<◌, ◌≤◌, ◌^◌, Bool, true, false, List, [], ◌∷◌, ◌++◌}
+use Rattle.std.specs.Prelude.{length, All, IsTrue, IsBitSet, ◌↔◌}
 use Rattle.std.specs.Int.{bytes_high_first}
 
 -- a node as it is written: how many levels it lies below the root, its label, and three marks:

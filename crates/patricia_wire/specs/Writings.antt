@@ -1,5 +1,6 @@
 -- What bytes mean, and the one tight encoding of a set of keys, which is given as a list in order.
-use Rattle.std.specs.Prelude.{◌≡◌, ℕ, ◌<◌, ◌≤◌, ◌^◌, true, false, List, [], ◌∷◌, ◌++◌, length, All, Any}
+use Rattle.std.specs.Prelude.{◌≡◌, ℕ, ◌<◌, ◌≤◌, ◌^◌, true, false, List, [], ◌∷◌, ◌++◌, length, All}
+use Rattle.std.specs.Prelude.{Any}
 use Rattle.patricia_keys.specs.Keys.{Begins}
 use Rattle.patricia_model.specs.Siblings.{keys_of}
 use Rattle.patricia_model.specs.Walks.{values_of}

@@ -8,11 +8,29 @@ ghost use Rattle.patricia_model.specs.Points.{IsPoint};
 ghost use Rattle.patricia_wire.specs.Counts.{IsCount, IsFront};
 ghost use Rattle.patricia_wire.specs.Writings.{Canon, Means};
 ghost use Rattle.patricia_wire.specs.Faults.{IsFirst, Stands};
-ghost use Rattle.patricia_wire.specs.declared.error.DecodeError.TheVariants.{Truncated, Level, RootLabel, RootSibling, EmptyLabel, InvalidLabel, SiblingOrder, NoValueNoChild, TooFewValues, TrailingBytes, TooManyValues};
-ghost use Rattle.patricia_wire.specs.Internal.Examples.{nothing_written, three_keys_written, three_keys_written_wide, empty_key_and_a, empty_key_and_a_written, lone_key, lone_key_written};
-ghost use Rattle.patricia_wire.specs.Internal.Examples.{long_text_and_b, long_text_and_b_written, long_text_and_b_written_as_bytes};
-ghost use Rattle.patricia_wire.specs.Internal.Examples.{two_texts, two_texts_written, two_texts_written_as_bytes, long_key, long_key_written, ab, ab_in_two, ab_written, a_in_other_bits, a_written, falling_siblings};
-ghost use Rattle.patricia_wire.specs.Internal.Examples.{behind_root, half_written, hollow_then_deep};
+ghost use Rattle.patricia_wire.specs.declared.error.DecodeError.TheVariants.{Truncated, Level};
+ghost use Rattle.patricia_wire.specs.declared.error.DecodeError.TheVariants.{RootLabel};
+ghost use Rattle.patricia_wire.specs.declared.error.DecodeError.TheVariants.{RootSibling};
+ghost use Rattle.patricia_wire.specs.declared.error.DecodeError.TheVariants.{EmptyLabel};
+ghost use Rattle.patricia_wire.specs.declared.error.DecodeError.TheVariants.{InvalidLabel};
+ghost use Rattle.patricia_wire.specs.declared.error.DecodeError.TheVariants.{SiblingOrder};
+ghost use Rattle.patricia_wire.specs.declared.error.DecodeError.TheVariants.{NoValueNoChild};
+ghost use Rattle.patricia_wire.specs.declared.error.DecodeError.TheVariants.{TooFewValues};
+ghost use Rattle.patricia_wire.specs.declared.error.DecodeError.TheVariants.{TrailingBytes};
+ghost use Rattle.patricia_wire.specs.declared.error.DecodeError.TheVariants.{TooManyValues};
+ghost use Rattle.patricia_wire.specs.Internal.Examples.{nothing_written, three_keys_written};
+ghost use Rattle.patricia_wire.specs.Internal.Examples.{three_keys_written_wide, empty_key_and_a};
+ghost use Rattle.patricia_wire.specs.Internal.Examples.{empty_key_and_a_written, lone_key};
+ghost use Rattle.patricia_wire.specs.Internal.Examples.{lone_key_written};
+ghost use Rattle.patricia_wire.specs.Internal.Examples.{long_text_and_b, long_text_and_b_written};
+ghost use Rattle.patricia_wire.specs.Internal.Examples.{long_text_and_b_written_as_bytes};
+ghost use Rattle.patricia_wire.specs.Internal.Examples.{two_texts, two_texts_written};
+ghost use Rattle.patricia_wire.specs.Internal.Examples.{two_texts_written_as_bytes, long_key};
+ghost use Rattle.patricia_wire.specs.Internal.Examples.{long_key_written, ab, ab_in_two};
+ghost use Rattle.patricia_wire.specs.Internal.Examples.{ab_written, a_in_other_bits, a_written};
+ghost use Rattle.patricia_wire.specs.Internal.Examples.{falling_siblings};
+ghost use Rattle.patricia_wire.specs.Internal.Examples.{behind_root, half_written};
+ghost use Rattle.patricia_wire.specs.Internal.Examples.{hollow_then_deep};
 
 /// No keys are written as a root alone.
 pub fn no_keys()

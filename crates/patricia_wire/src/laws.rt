@@ -2,9 +2,13 @@
 //! functions that do nothing.
 ghost use Rattle.patricia_keys.specs.ByteKind.{IsByteItem};
 ghost use Rattle.patricia_keys.specs.TextKind.{IsTextItem};
-ghost use Rattle.patricia_wire.specs.WireLaws.{HasOneWriting, HasOneKeySet, HasOneMeaning, MeansMap, WritingMeansRows, IsWrittenOrTooDeep, IsNeverBoth};
-ghost use Rattle.patricia_wire.specs.WireLaws.{CountsFronts, CountsPoints, HasFewRecords, HasOneTightTree, HasOneKeyList, HoldsKeysOfMap};
-ghost use Rattle.patricia_wire.specs.WireLaws.{HasOneFirstFault, HasNoFaultWhereMeant, HasNoFirstFaultWhereMeant, RefusesNothingMeant};
+ghost use Rattle.patricia_wire.specs.WireLaws.{HasOneWriting, HasOneKeySet, HasOneMeaning};
+ghost use Rattle.patricia_wire.specs.WireLaws.{MeansMap, WritingMeansRows, IsWrittenOrTooDeep};
+ghost use Rattle.patricia_wire.specs.WireLaws.{IsNeverBoth};
+ghost use Rattle.patricia_wire.specs.WireLaws.{CountsFronts, CountsPoints, HasFewRecords};
+ghost use Rattle.patricia_wire.specs.WireLaws.{HasOneTightTree, HasOneKeyList, HoldsKeysOfMap};
+ghost use Rattle.patricia_wire.specs.WireLaws.{HasOneFirstFault, HasNoFaultWhereMeant};
+ghost use Rattle.patricia_wire.specs.WireLaws.{HasNoFirstFaultWhereMeant, RefusesNothingMeant};
 ghost use Rattle.patricia_wire.specs.WireLaws.{TellsValid, MeansOrHasFirstFault, NeverLacksBoth};
 ghost use Rattle.patricia_wire.specs.WireLaws.{ReadsBack, TellsKeySets, DependsOnKeysAlone};
 

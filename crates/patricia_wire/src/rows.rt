@@ -1,6 +1,7 @@
 //! How trees of records and rows of nodes go together, for the proofs of the encoder and the
 //! decoder, as contracts of functions that do nothing.
-ghost use Rattle.patricia_wire.specs.Internal.RowLaws.{HasTreeOfMap, HasRecords, HasWritableRow, IsTightWithin, HasCutRow, HasJoinedRow};
+ghost use Rattle.patricia_wire.specs.Internal.RowLaws.{HasTreeOfMap, HasRecords, HasWritableRow};
+ghost use Rattle.patricia_wire.specs.Internal.RowLaws.{IsTightWithin, HasCutRow, HasJoinedRow};
 
 use patricia_keys::Bytes;
 

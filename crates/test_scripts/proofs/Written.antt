@@ -1,5 +1,6 @@
 -- A number that is written is text.
-use Rattle.std.proofs.Common.{◌≡◌, ◌==◌, ℕ, Bool, true, false, cond, List, [], ◌∷◌, drop, refl, sym, subst, lit<, zero, suc}
+use Rattle.std.proofs.Common.{◌≡◌, ◌==◌, ℕ, Bool, true, false, cond, List, [], ◌∷◌, drop, refl, sym}
+use Rattle.std.proofs.Common.{subst, lit<, zero, suc}
 use Rattle.std.specs.Str.{IsAscii, IsUtf8}
 use Rattle.std.specs.Str.Parse.{AllDigits, without_leading_plus}
 use Rattle.std.proofs.lemmas.Bool.{eqb-true}

@@ -1,6 +1,7 @@
 -- The keys of maps that three keys are put into.
 use Rattle.std.proofs.Common.{◌≡◌, ℕ, List, [], map, sym, ap, ◌∙◌}
-use Rattle.std.specs.FinMap.{FinMap, put, insert, entries, keys, empty, entries-insert, len-entries, len-empty}
+use Rattle.std.specs.FinMap.{FinMap, put, insert, entries, keys, empty, entries-insert, len-entries}
+use Rattle.std.specs.FinMap.{len-empty}
 use Rattle.std.specs.Cmp.Lexicographic.{nat_list_cmp_total}
 use Rattle.std.proofs.lemmas.List.{nil_from_length}
 use Rattle.patricia_core.specs.Keys.{key_cmp}

@@ -1,6 +1,9 @@
 -- The keys of maps that a few calls made.
-use Rattle.std.proofs.Common.{◌≡◌, ℕ, Bool, true, false, cond, List, [], ◌∷◌, map, Some, None, refl, sym, ap, ◌∙◌}
-use Rattle.std.specs.FinMap.{FinMap, empty, insert, remove, get, keys, entries, len-entries, len-empty, get-empty, get-insert, get-remove, get_tied, entries-insert, same_map, put, nat_cmp-IsAntisymmetric, slice_cmp-IsAntisymmetric}
+use Rattle.std.proofs.Common.{◌≡◌, ℕ, Bool, true, false, cond, List, [], ◌∷◌, map, Some, None, refl}
+use Rattle.std.proofs.Common.{sym, ap, ◌∙◌}
+use Rattle.std.specs.FinMap.{FinMap, empty, insert, remove, get, keys, entries, len-entries}
+use Rattle.std.specs.FinMap.{len-empty, get-empty, get-insert, get-remove, get_tied, entries-insert}
+use Rattle.std.specs.FinMap.{same_map, put, nat_cmp-IsAntisymmetric, slice_cmp-IsAntisymmetric}
 use Rattle.std.specs.Cmp.Lexicographic.{nat_list_cmp_total}
 use Rattle.std.specs.declared.cmp.Ordering.{Ordering}
 use Rattle.std.specs.declared.cmp.Ordering.TheVariants.{Less, Equal, Greater}

@@ -1,5 +1,6 @@
 //! What a map is after loans through a cursor, known from the contracts alone.
-ghost use Rattle.std.specs.Prelude.{◌≡◌, ℕ, List, [], None, Some, false, IfOk, OnErr, IsTrue, MatchOption};
+ghost use Rattle.std.specs.Prelude.{◌≡◌, ℕ, List, [], None, Some, false, IfOk, OnErr, IsTrue};
+ghost use Rattle.std.specs.Prelude.{MatchOption};
 ghost use Rattle.std.specs.FinMap as map;
 ghost use Rattle.patricia_tree.specs.Cursors.{next_row};
 

@@ -1,5 +1,6 @@
 -- What the steps of the builder say.
-use Rattle.std.specs.Prelude.{◌≡◌, ◌≢◌, ℕ, ◌+◌, ◌<◌, Bool, true, false, List, [], ◌∷◌, ◌++◌, length, map, reverse, Option, Some, None, is_some, slice_get, slice_set}
+use Rattle.std.specs.Prelude.{◌≡◌, ◌≢◌, ℕ, ◌+◌, ◌<◌, Bool, true, false, List, [], ◌∷◌, ◌++◌, length}
+use Rattle.std.specs.Prelude.{map, reverse, Option, Some, None, is_some, slice_get, slice_set}
 use Rattle.std.specs.Option.{option_to_list}
 use Rattle.patricia_model.specs.Siblings.{IsBefore}
 use Rattle.patricia_nodes.specs.declared.arena.Node.{Node}

@@ -1,11 +1,14 @@
 -- Trees that grow node by node: what is open in them is filled later.
-use Rattle.std.specs.Prelude.{◌≡◌, ◌≢◌, ℕ, ◌+◌, Bool, true, List, [], ◌∷◌, ◌++◌, length, Option, Some, All, slice_get}
+use Rattle.std.specs.Prelude.{◌≡◌, ◌≢◌, ℕ, ◌+◌, Bool, true, List, [], ◌∷◌, ◌++◌, length, Option}
+use Rattle.std.specs.Prelude.{Some, All, slice_get}
 use Rattle.patricia_model.specs.Siblings.{Siblings, own, entries, IsBeforeSiblings}
 use Rattle.patricia_model.specs.Walks.{values_of}
 use Rattle.patricia_nodes.specs.declared.arena.Node.{Node}
-use Rattle.patricia_nodes.specs.Internal.Plans.{Plan, row, head, size, count, below, linked, LaidOut}
+use Rattle.patricia_nodes.specs.Internal.Plans.{Plan, row, head, size, count, below, linked}
+use Rattle.patricia_nodes.specs.Internal.Plans.{LaidOut}
 use Rattle.patricia_wire.specs.Records.{Record}
-use Rattle.patricia_wire.specs.Internal.WrittenRows.{has_node, records_of, tree_records, over, joined, IsWritable}
+use Rattle.patricia_wire.specs.Internal.WrittenRows.{has_node, records_of, tree_records, over}
+use Rattle.patricia_wire.specs.Internal.WrittenRows.{joined, IsWritable}
 
 -- the node with this number waits for its sibling, whose record has this level; its record's label
 -- comes before that of the sibling

@@ -1,7 +1,8 @@
 -- Pieces of labels, and the records of rows whose labels are cut.
 use Rattle.std.specs.Prelude.{◌≡◌, ℕ, zero, suc, ◌+◌, ◌<◌, ◌≤◌, List, length, take, drop, Some}
 use Rattle.patricia_keys.specs.Keys.{Begins, IsValid}
-use Rattle.patricia_model.specs.Siblings.{Siblings, end, node, entries, IsCanonical, IsCanonicalWithin}
+use Rattle.patricia_model.specs.Siblings.{Siblings, end, node, entries, IsCanonical}
+use Rattle.patricia_model.specs.Siblings.{IsCanonicalWithin}
 use Rattle.patricia_wire.specs.Records.{Record}
 use Rattle.patricia_wire.specs.Internal.WrittenRows.{records_of}
 

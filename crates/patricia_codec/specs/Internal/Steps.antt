@@ -1,12 +1,15 @@
 -- What the steps of the reader say.
-use Rattle.std.specs.Prelude.{◌≡◌, ◌≢◌, ◌⊎◌, ℕ, ◌+◌, ◌<◌, ◌≤◌, List, [], ◌∷◌, ◌++◌, length, drop, reverse, All, Option, Some, None}
+use Rattle.std.specs.Prelude.{◌≡◌, ◌≢◌, ◌⊎◌, ℕ, ◌+◌, ◌<◌, ◌≤◌, List, [], ◌∷◌, ◌++◌, length, drop}
+use Rattle.std.specs.Prelude.{reverse, All, Option, Some, None}
 use Rattle.std.specs.declared.cmp.Ordering.TheVariants.{Less}
 use Rattle.patricia_keys.specs.Keys.{IsValid, ComparesFirst}
 use Rattle.patricia_model.specs.Siblings.{IsBefore}
 use Rattle.patricia_wire.specs.Records.{Record, Encodes}
 use Rattle.patricia_wire.specs.Forests.{Root}
 use Rattle.patricia_wire.specs.Faults.{value_marks, Reads, IsRefusal}
-use Rattle.patricia_wire.specs.Internal.Readings.{Rule, error_at, Due, child_due, sibling_due, due_behind, IsRead, IsAfter, BreaksNone, BreaksFirst}
+use Rattle.patricia_wire.specs.Internal.Readings.{Rule, error_at, Due, child_due, sibling_due}
+use Rattle.patricia_wire.specs.Internal.Readings.{due_behind, IsRead, IsAfter, BreaksNone}
+use Rattle.patricia_wire.specs.Internal.Readings.{BreaksFirst}
 use Rattle.patricia_wire.specs.declared.error.DecodeError.{DecodeError}
 use Rattle.patricia_wire.specs.declared.error.DecodeError.TheVariants.{InvalidLabel, SiblingOrder}
 use Rattle.patricia_codec.specs.declared.reader.Reader.{Reader}

@@ -1,5 +1,6 @@
 -- What is left of nodes in one vector where a value is inserted.
-use Rattle.std.specs.Prelude.{◌≡◌, ◌≢◌, ◌⊎◌, ℕ, ◌+◌, suc, List, length, take, Option, Some, None, slice_get}
+use Rattle.std.specs.Prelude.{◌≡◌, ◌≢◌, ◌⊎◌, ℕ, ◌+◌, suc, List, length, take, Option, Some, None}
+use Rattle.std.specs.Prelude.{slice_get}
 use Rattle.std.specs.FinMap.{find}
 use Rattle.std.specs.declared.cmp.Ordering.{Ordering}
 use Rattle.std.specs.declared.cmp.Ordering.TheVariants.{Less}
@@ -9,7 +10,8 @@ use Rattle.patricia_nodes.specs.declared.arena.seek.SeekResult.{SeekResult}
 use Rattle.patricia_nodes.specs.declared.arena.seek.LinkRef.{LinkRef}
 use Rattle.patricia_nodes.specs.declared.arena.seek.LinkRef.TheVariants.{Child, Sibling}
 use Rattle.patricia_keys.specs.Keys.{key_cmp}
-use Rattle.patricia_nodes.specs.Internal.Plans.{Plan, Nil, Cell, linked, one, below, times, first, head, IsChain, Holds, entries_of}
+use Rattle.patricia_nodes.specs.Internal.Plans.{Plan, Nil, Cell, linked, one, below, times, first}
+use Rattle.patricia_nodes.specs.Internal.Plans.{head, IsChain, Holds, entries_of}
 use Rattle.patricia_nodes.specs.Internal.Places.{Frame, fill, link_ref_of, IsSeekResult}
 use Rattle.patricia_nodes.specs.Internal.Writes.{IsFree, HasRoomFor, Puts}
 

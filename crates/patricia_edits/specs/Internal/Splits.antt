@@ -3,7 +3,8 @@ use Rattle.std.specs.Prelude.{◌≡◌, ℕ, ◌≤◌, suc, List, ◌++◌, le
 use Rattle.patricia_nodes.specs.declared.arena.Node.{Node}
 use Rattle.patricia_nodes.specs.declared.arena.NodeArena.{NodeArena}
 use Rattle.patricia_nodes.specs.declared.arena.seek.LinkRef.{LinkRef}
-use Rattle.patricia_nodes.specs.Internal.Plans.{Plan, Cell, row, size, Holds, IsWellFormed, siblings_of, entries_of}
+use Rattle.patricia_nodes.specs.Internal.Plans.{Plan, Cell, row, size, Holds, IsWellFormed}
+use Rattle.patricia_nodes.specs.Internal.Plans.{siblings_of, entries_of}
 use Rattle.patricia_nodes.specs.Internal.Places.{Frame, fill, link_ref_of}
 use Rattle.patricia_model.specs.Prefixes.{outside, under}
 use Rattle.patricia_model.specs.Siblings.{node, end, own, entries, IsCanonical}

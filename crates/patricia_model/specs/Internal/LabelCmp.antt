@@ -1,7 +1,8 @@
 -- How a key meets a label.
 use Rattle.std.specs.Prelude.{◌≡◌, ℕ, ◌<◌, List, ◌++◌, length}
 use Rattle.patricia_model.specs.declared.label_cmp.LabelCmp.{LabelCmp}
-use Rattle.patricia_model.specs.declared.label_cmp.LabelCmp.TheVariants.{Before, After, Partial, Full}
+use Rattle.patricia_model.specs.declared.label_cmp.LabelCmp.TheVariants.{Before, After, Partial}
+use Rattle.patricia_model.specs.declared.label_cmp.LabelCmp.TheVariants.{Full}
 use Rattle.patricia_keys.specs.Keys.{Begins, IsCommon}
 use Rattle.patricia_model.specs.Siblings.{IsBefore}
 

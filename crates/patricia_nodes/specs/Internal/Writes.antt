@@ -1,5 +1,6 @@
 -- What writes leave of nodes in one vector.
-use Rattle.std.specs.Prelude.{◌≡◌, ℕ, ◌+◌, ◌<◌, ◌≤◌, List, [], length, Option, Some, None, slice_get, slice_set, vec_len, vec_capacity}
+use Rattle.std.specs.Prelude.{◌≡◌, ℕ, ◌+◌, ◌<◌, ◌≤◌, List, [], length, Option, Some, None}
+use Rattle.std.specs.Prelude.{slice_get, slice_set, vec_len, vec_capacity}
 use Rattle.std.specs.FinMap.{put}
 use Rattle.patricia_keys.specs.Keys.{key_cmp}
 use Rattle.patricia_nodes.specs.declared.arena.Node.{Node}
@@ -8,7 +9,8 @@ use Rattle.patricia_nodes.specs.declared.arena.seek.SeekResult.{SeekResult}
 use Rattle.patricia_nodes.specs.declared.arena.seek.LinkRef.{LinkRef}
 use Rattle.patricia_nodes.specs.declared.arena.seek.LinkRef.TheVariants.{Root, Child, Sibling}
 use Rattle.patricia_model.specs.Siblings.{IsCanonical}
-use Rattle.patricia_nodes.specs.Internal.Plans.{Plan, linked, first, IsChain, Holds, IsWellFormed, siblings_of, entries_of}
+use Rattle.patricia_nodes.specs.Internal.Plans.{Plan, linked, first, IsChain, Holds, IsWellFormed}
+use Rattle.patricia_nodes.specs.Internal.Plans.{siblings_of, entries_of}
 use Rattle.patricia_nodes.specs.Internal.Places.{Frame, fill, link_ref_of, IsSeekResult}
 
 -- the node of the spot is in the vector

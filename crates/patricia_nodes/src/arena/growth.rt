@@ -2,9 +2,12 @@
 //!
 //! The siblings of a row lie side by side, and the rows level by level. The new vector is the
 //! queue of the rows that wait, so nothing else is asked for.
-ghost use Rattle.std.specs.Prelude.{◌≡◌, ◌+◌, ◌≤◌, ◌++◌, [], None, IfOk, OnOk, OnErr, length, vec_len, vec_capacity};
-ghost use Rattle.patricia_nodes.specs.Internal.Plans.{Plan, head, row, siblings_of, size, IsSound, IsWellFormed};
-ghost use Rattle.patricia_nodes.specs.Internal.Growth.{IsLaid, IsTopRow, TakesBelow, TakesRow, tops, laid, numbered_siblings};
+ghost use Rattle.std.specs.Prelude.{◌≡◌, ◌+◌, ◌≤◌, ◌++◌, [], None, IfOk, OnOk, OnErr, length};
+ghost use Rattle.std.specs.Prelude.{vec_len, vec_capacity};
+ghost use Rattle.patricia_nodes.specs.Internal.Plans.{Plan, head, row, siblings_of, size, IsSound};
+ghost use Rattle.patricia_nodes.specs.Internal.Plans.{IsWellFormed};
+ghost use Rattle.patricia_nodes.specs.Internal.Growth.{IsLaid, IsTopRow, TakesBelow, TakesRow};
+ghost use Rattle.patricia_nodes.specs.Internal.Growth.{tops, laid, numbered_siblings};
 
 use crate::arena::{Node, NodeArena};
 use crate::link::{Link, NodeId};

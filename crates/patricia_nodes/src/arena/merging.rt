@@ -2,7 +2,8 @@
 ghost use Rattle.std.specs.Prelude.{◌≡◌, ◌<◌, IfOk, MatchOption, vec_len};
 ghost use Rattle.patricia_model.specs.Internal.Removals.{width};
 ghost use Rattle.patricia_nodes.specs.Internal.Plans.{Plan, IsPlan, row};
-ghost use Rattle.patricia_nodes.specs.Internal.Merges.{HasLeafAt, Unlinks, HasLone, Absorbs, IsJoined, IsPair, HasNodeAt, LeftAlone};
+ghost use Rattle.patricia_nodes.specs.Internal.Merges.{HasLeafAt, Unlinks, HasLone, Absorbs};
+ghost use Rattle.patricia_nodes.specs.Internal.Merges.{IsJoined, IsPair, HasNodeAt, LeftAlone};
 
 use crate::arena::seek::LinkRef;
 use crate::arena::{Node, NodeArena};

@@ -6,7 +6,8 @@ ghost use Rattle.patricia_keys.specs.Keys.{key_cmp};
 ghost use Rattle.patricia_model.specs.Siblings.{IsCanonical};
 ghost use Rattle.patricia_model.specs.Internal.Counts.{IsCounted};
 ghost use Rattle.patricia_nodes.specs.Internal.Plans.{IsWellFormed, siblings_of, entries_of};
-ghost use Rattle.patricia_nodes.specs.Internal.Places.{IsSeekResult, node_of, node_under, node_above};
+ghost use Rattle.patricia_nodes.specs.Internal.Places.{IsSeekResult, node_of, node_under};
+ghost use Rattle.patricia_nodes.specs.Internal.Places.{node_above};
 
 use crate::arena::NodeArena;
 use crate::link::{Link, NodeId};

@@ -9,7 +9,8 @@ use Rattle.patricia_model.specs.Internal.WalkStates.{entries_left}
 use Rattle.patricia_nodes.specs.declared.arena.Node.{Node}
 use Rattle.patricia_nodes.specs.declared.arena.NodeArena.{NodeArena}
 use Rattle.patricia_nodes.specs.Internal.Plans.{IsWellFormed, IsPlan, siblings_of, plan_at, count}
-use Rattle.patricia_walks.specs.Internal.Positions.{Position, IsPosition, state_of, row_at, rows_below}
+use Rattle.patricia_walks.specs.Internal.Positions.{Position, IsPosition, state_of, row_at}
+use Rattle.patricia_walks.specs.Internal.Positions.{rows_below}
 use Rattle.patricia_walks.specs.declared.cursor_state.ValueSlot.{ValueSlot}
 use Rattle.patricia_walks.specs.declared.cursor_state.ValueSlot.TheVariants.{OfEmptyKey, OfNode}
 use Rattle.patricia_nodes.specs.Internal.Loans.{with_value}

@@ -1,11 +1,15 @@
 -- What is due while records are read one after the other.
-use Rattle.std.specs.Prelude.{◌≡◌, ◌≢◌, ℕ, ◌+◌, ◌<◌, Bool, true, false, List, [], ◌∷◌, ◌++◌, Option, Some, None}
+use Rattle.std.specs.Prelude.{◌≡◌, ◌≢◌, ℕ, ◌+◌, ◌<◌, Bool, true, false, List, [], ◌∷◌, ◌++◌, Option}
+use Rattle.std.specs.Prelude.{Some, None}
 use Rattle.std.specs.declared.cmp.Ordering.TheVariants.{Less}
 use Rattle.patricia_keys.specs.Keys.{IsValid, ComparesFirst}
 use Rattle.patricia_wire.specs.Records.{Record}
 use Rattle.patricia_wire.specs.Faults as faults
 use Rattle.patricia_wire.specs.declared.error.DecodeError.{DecodeError}
-use Rattle.patricia_wire.specs.declared.error.DecodeError.TheVariants.{Level, RootLabel, RootSibling, EmptyLabel, InvalidLabel, SiblingOrder, NoValueNoChild, TooFewValues}
+use Rattle.patricia_wire.specs.declared.error.DecodeError.TheVariants.{Level, RootLabel}
+use Rattle.patricia_wire.specs.declared.error.DecodeError.TheVariants.{RootSibling, EmptyLabel}
+use Rattle.patricia_wire.specs.declared.error.DecodeError.TheVariants.{InvalidLabel, SiblingOrder}
+use Rattle.patricia_wire.specs.declared.error.DecodeError.TheVariants.{NoValueNoChild, TooFewValues}
 
 -- the rules of a record, in the order in which they are tried
 pub data Rule : Type 0 where

@@ -2,7 +2,8 @@
 use Rattle.std.specs.Prelude.{◌≡◌, ◌↔◌, ℕ, List, Option, Some, ◌++◌, All}
 use Rattle.std.specs.FinMap as map
 use Rattle.patricia_keys.specs.Keys.{IsValid, key_cmp}
-use Rattle.patricia_model.specs.Siblings.{Siblings, own, entries, keys_of, IsCanonical, IsCanonicalWithin}
+use Rattle.patricia_model.specs.Siblings.{Siblings, own, entries, keys_of, IsCanonical}
+use Rattle.patricia_model.specs.Siblings.{IsCanonicalWithin}
 use Rattle.patricia_model.specs.Trees.{map_of}
 use Rattle.patricia_wire.specs.Records.{Record}
 use Rattle.patricia_wire.specs.Forests.{Root}

@@ -1,5 +1,6 @@
 -- The records of a row of nodes.
-use Rattle.std.specs.Prelude.{◌≡◌, ℕ, ◌+◌, ◌≤◌, ◌≢◌, ◌⊎◌, Bool, true, false, List, [], ◌∷◌, ◌++◌, length, Option, Some, None, is_some}
+use Rattle.std.specs.Prelude.{◌≡◌, ℕ, ◌+◌, ◌≤◌, ◌≢◌, ◌⊎◌, Bool, true, false, List, [], ◌∷◌, ◌++◌}
+use Rattle.std.specs.Prelude.{length, Option, Some, None, is_some}
 use Rattle.patricia_keys.specs.Keys.{IsValid}
 use Rattle.patricia_model.specs.Siblings.{Siblings, end, node, IsBeforeSiblings}
 use Rattle.patricia_wire.specs.Records.{Record}

@@ -7,7 +7,9 @@ use Rattle.patricia_wire.specs.Internal.Readings.{too_few_values, due_behind, Is
 use Rattle.patricia_codec.specs.Internal.Builds.{IsBuilt}
 use Rattle.patricia_wire.specs.Faults.{IsRefusal}
 use Rattle.patricia_codec.proofs.CheckLemmas.{handed_on}
-use Rattle.patricia_codec.proofs.DecodeLemmas.{read_all, tree_of_all, decoded, Takes, takes_some, takes_none, some_left, started, new_built, can_add, suited, counted, split_on, marks_on, left_on}
+use Rattle.patricia_codec.proofs.DecodeLemmas.{read_all, tree_of_all, decoded, Takes, takes_some}
+use Rattle.patricia_codec.proofs.DecodeLemmas.{takes_none, some_left, started, new_built, can_add}
+use Rattle.patricia_codec.proofs.DecodeLemmas.{suited, counted, split_on, marks_on, left_on}
 use Rattle.patricia_codec.proofs.decoder.decode.Goals as goal
 use Rattle.patricia_codec.proofs.decoder.decode.Goals.{then-record, else-record}
 

@@ -3,7 +3,8 @@ use Rattle.std.proofs.lemmas.List.Elements.{All-nil}
 use Rattle.std.specs.Prelude.{◌^◌, is_some, false}
 use Rattle.patricia_wire.specs.Records.{Record, canonical_bytes, canonical_bytes_of}
 use Rattle.patricia_wire.proofs.Spellings.{positive}
-use Rattle.patricia_codec.proofs.EncodeLemmas.{at_start, some_left, at_next, deep_left, all_written, too_deep, shallow-snoc, spellings-snoc}
+use Rattle.patricia_codec.proofs.EncodeLemmas.{at_start, some_left, at_next, deep_left, all_written}
+use Rattle.patricia_codec.proofs.EncodeLemmas.{too_deep, shallow-snoc, spellings-snoc}
 use Rattle.patricia_codec.proofs.LeftLemmas.{err_from}
 use Rattle.patricia_codec.proofs.encoder.encode.Goals as goal
 

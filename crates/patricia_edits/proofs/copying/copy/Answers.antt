@@ -6,7 +6,8 @@ use Rattle.patricia_nodes.specs.Internal.Plans.{head, plan_at}
 use Rattle.patricia_nodes.proofs.LayLemmas.{same_row}
 use Rattle.patricia_nodes.proofs.RelayLemmas.{tops_within}
 use Rattle.patricia_edits.proofs.KeptLemmas.{row_kept}
-use Rattle.patricia_edits.proofs.WholeLemmas.{none_used, none_first, none_laid, top_there, top_copied}
+use Rattle.patricia_edits.proofs.WholeLemmas.{none_used, none_first, none_laid, top_there}
+use Rattle.patricia_edits.proofs.WholeLemmas.{top_copied}
 use Rattle.patricia_edits.proofs.copying.copy.Goals as goal
 
 pub returns-in_err-nodes-clause-nonempty : goal.returns-in_err-nodes-clause-nonempty

@@ -1,5 +1,6 @@
 use Rattle.std.proofs.Common.{◌<◌, length, refl, ap, ◌∙◌, arith, add-one}
-use Rattle.patricia_nodes.proofs.LayLemmas.{laying_start, laying_row, next_top, laying_next, laying_done}
+use Rattle.patricia_nodes.proofs.LayLemmas.{laying_start, laying_row, next_top, laying_next}
+use Rattle.patricia_nodes.proofs.LayLemmas.{laying_done}
 use Rattle.patricia_edits.proofs.CopyLemmas.{not_fewer}
 use Rattle.patricia_edits.proofs.KeptLemmas.{next_row_kept}
 use Rattle.patricia_edits.proofs.copying.copy_below.Goals as goal

@@ -1,6 +1,7 @@
 use Rattle.std.proofs.Common.{suc, Some, length, sym, ap, ◌∙◌, arith}
 use Rattle.patricia_nodes.proofs.GrowthLemmas.{number_none, number_some}
-use Rattle.patricia_edits.proofs.CopyLemmas.{copying_within, copying_room, copying_kept, copying_next, copying_done}
+use Rattle.patricia_edits.proofs.CopyLemmas.{copying_within, copying_room, copying_kept}
+use Rattle.patricia_edits.proofs.CopyLemmas.{copying_next, copying_done}
 use Rattle.patricia_edits.proofs.copying.copy_row.Goals as goal
 use Rattle.patricia_edits.proofs.copying.copy_row.Goals.{in-None, in-Some-get}
 

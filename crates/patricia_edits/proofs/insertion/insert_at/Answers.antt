@@ -1,6 +1,7 @@
 use Rattle.std.proofs.Common.{refl, sym, ap, ◌∙◌, arith}
 use Rattle.patricia_nodes.specs.Internal.Places.{node_of}
-use Rattle.patricia_nodes.proofs.SeekLemmas.{ready_at, ready_here, find_none, find_some, here_within}
+use Rattle.patricia_nodes.proofs.SeekLemmas.{ready_at, ready_here, find_none, find_some}
+use Rattle.patricia_nodes.proofs.SeekLemmas.{here_within}
 use Rattle.patricia_nodes.proofs.ValueLemmas.{puts_here}
 use Rattle.patricia_edits.proofs.insertion.insert_at.Goals as goal
 use Rattle.patricia_edits.proofs.insertion.insert_at.Goals.{in-Absent, in-InsideLabel}

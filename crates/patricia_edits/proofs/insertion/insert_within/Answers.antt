@@ -1,7 +1,8 @@
 use Rattle.std.proofs.Common.{◌≡◌, ◌≢◌, ℕ, List, [], drop, refl, sym, ap, ◌∙◌, arith}
 use mathlib.Core.Bool.{false≢true}
 use Rattle.patricia_nodes.proofs.SeekLemmas.{ready_at, ready_here}
-use Rattle.patricia_edits.proofs.PutLemmas.{within_nodes, there_cell, ends_short, div, puts_cut, cut_room, link_ref_before, link_ref_after, puts_leaf}
+use Rattle.patricia_edits.proofs.PutLemmas.{within_nodes, there_cell, ends_short, div, puts_cut}
+use Rattle.patricia_edits.proofs.PutLemmas.{cut_room, link_ref_before, link_ref_after, puts_leaf}
 use Rattle.patricia_edits.proofs.insertion.insert_within.Goals as goal
 
 -- the bytes of a node's label behind so many, as they are read

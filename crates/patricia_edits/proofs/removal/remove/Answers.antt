@@ -1,7 +1,8 @@
 use Rattle.std.proofs.Common.{sym, ◌∙◌}
 use Rattle.std.proofs.lemmas.Result.{IfOk-weaker, on_ok_weaker}
 use Rattle.patricia_nodes.proofs.SeekLemmas.{sought_at, find_none, find_some}
-use Rattle.patricia_edits.proofs.RemoveLemmas.{node_here, here_is, others_none, removed_or_same, here_stop}
+use Rattle.patricia_edits.proofs.RemoveLemmas.{node_here, here_is, others_none, removed_or_same}
+use Rattle.patricia_edits.proofs.RemoveLemmas.{here_stop}
 use Rattle.patricia_edits.proofs.removal.remove.Goals as goal
 
 pub returns-in-Some-clause-whole : goal.returns-in-Some-clause-whole

@@ -6,7 +6,10 @@ use Rattle.patricia_nodes.proofs.SeekLemmas.{ready_at, ready_here, here_within}
 use Rattle.patricia_nodes.proofs.PlanLemmas.{not_some}
 use Rattle.patricia_nodes.proofs.AloneLemmas.{some_not_none}
 use Rattle.patricia_nodes.proofs.LoanLemmas.{some_of}
-use Rattle.patricia_edits.proofs.RemoveLemmas.{here_is, child_there, lone_value, read_is, child_within, two_children, lone_child, removes_none, removes_value, has_lone, removes_lone, joins_here, on_err_from}
+use Rattle.patricia_edits.proofs.RemoveLemmas.{here_is, child_there, lone_value, read_is}
+use Rattle.patricia_edits.proofs.RemoveLemmas.{child_within, two_children, lone_child, removes_none}
+use Rattle.patricia_edits.proofs.RemoveLemmas.{removes_value, has_lone, removes_lone, joins_here}
+use Rattle.patricia_edits.proofs.RemoveLemmas.{on_err_from}
 use Rattle.patricia_edits.proofs.removal.remove_at.Goals as goal
 
 -- a link, as it is read and tested

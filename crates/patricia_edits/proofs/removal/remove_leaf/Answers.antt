@@ -1,6 +1,8 @@
 use Rattle.std.proofs.Common.{arith}
 use Rattle.patricia_nodes.proofs.SeekLemmas.{ready_at, ready_here}
-use Rattle.patricia_edits.proofs.RemoveLemmas.{leaf_stands, leaf_at, leaf_value, leaf_spared, both_within, leaf_joins, leaf_lone, leaf_left, on_err_from}
+use Rattle.patricia_edits.proofs.RemoveLemmas.{leaf_stands, leaf_at, leaf_value, leaf_spared}
+use Rattle.patricia_edits.proofs.RemoveLemmas.{both_within, leaf_joins, leaf_lone, leaf_left}
+use Rattle.patricia_edits.proofs.RemoveLemmas.{on_err_from}
 use Rattle.patricia_edits.proofs.removal.remove_leaf.Goals as goal
 
 pub would_merge-requires : goal.would_merge-requires

@@ -1,5 +1,7 @@
 use Rattle.std.proofs.Common.{◌+◌, refl, sym, ◌∙◌, ap, arith}
-use Rattle.patricia_edits.proofs.MeasureLemmas.{measuring_start, next_within, not_all, not_full, measuring_down, less_down, measuring_back, less_back, measuring_done}
+use Rattle.patricia_edits.proofs.MeasureLemmas.{measuring_start, next_within, not_all, not_full}
+use Rattle.patricia_edits.proofs.MeasureLemmas.{measuring_down, less_down, measuring_back}
+use Rattle.patricia_edits.proofs.MeasureLemmas.{less_back, measuring_done}
 use Rattle.patricia_edits.proofs.splitting.measure.Goals as goal
 
 pub loop-id-init : goal.loop-id-init

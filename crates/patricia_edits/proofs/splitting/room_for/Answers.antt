@@ -1,5 +1,6 @@
 use Rattle.std.proofs.Common.{◌+◌, ap, arith}
-use Rattle.patricia_edits.proofs.NodeLemmas.{own_as, node_within, tree_fits, values_fit, node_read, child_plan, tree_counted}
+use Rattle.patricia_edits.proofs.NodeLemmas.{own_as, node_within, tree_fits, values_fit, node_read}
+use Rattle.patricia_edits.proofs.NodeLemmas.{child_plan, tree_counted}
 use Rattle.patricia_edits.proofs.splitting.room_for.Goals as goal
 
 pub index-node-requires : goal.index-node-requires

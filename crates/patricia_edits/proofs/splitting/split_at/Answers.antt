@@ -1,7 +1,9 @@
 use Rattle.std.proofs.Common.{length, ap, arith}
 use Rattle.patricia_nodes.proofs.SeekLemmas.{sought_at}
 use Rattle.patricia_edits.proofs.RemoveLemmas.{on_err_from}
-use Rattle.patricia_edits.proofs.SplitLemmas.{found, has_node, has_node_at, has_tree_at, some_under, label_long, node_short, splits_spared, splits_other, other, both_short, other_lone, other_absorbed}
+use Rattle.patricia_edits.proofs.SplitLemmas.{found, has_node, has_node_at, has_tree_at, some_under}
+use Rattle.patricia_edits.proofs.SplitLemmas.{label_long, node_short, splits_spared, splits_other}
+use Rattle.patricia_edits.proofs.SplitLemmas.{other, both_short, other_lone, other_absorbed}
 use Rattle.patricia_edits.proofs.splitting.split_at.Goals as goal
 
 pub room_for-requires : goal.room_for-requires

@@ -8,7 +8,8 @@ use Rattle.patricia_model.specs.Points.{IsVisitCount}
 use Rattle.patricia_model.specs.Internal.ThreeKeys.{baz, foo, aaa, three_keys}
 use Rattle.patricia_model.specs.Internal.Counts.{IsCounted}
 use Rattle.patricia_model.proofs.VisitLemmas.{empty_visits}
-use Rattle.patricia_model.proofs.CountLemmas.{counted_before, counted_here, counted_past, counted_through}
+use Rattle.patricia_model.proofs.CountLemmas.{counted_before, counted_here, counted_past}
+use Rattle.patricia_model.proofs.CountLemmas.{counted_through}
 use Rattle.patricia_model.proofs.laws.three_keys_visits.Goals as goal
 
 -- keys by their first bytes

@@ -4,7 +4,8 @@ use Rattle.std.specs.List.{list_all}
 use Rattle.std.proofs.lemmas.List.{at_drop_all}
 use Rattle.std.specs.Char.{digit_value, is_ascii_digit}
 use Rattle.std.proofs.lemmas.Bool.{eqb-false}
-use Rattle.patricia_run.proofs.Numbers.{number_big, number_some, after_drop, digits_value_after-ge, digit_is}
+use Rattle.patricia_run.proofs.Numbers.{number_big, number_some, after_drop, digits_value_after-ge}
+use Rattle.patricia_run.proofs.Numbers.{digit_is}
 use Rattle.patricia_run.proofs.reading.number.Goals as goal
 
 pub returns-in_err-checked_mul : goal.returns-in_err-checked_mul

@@ -9,7 +9,8 @@ use Rattle.patricia_wire.proofs.Places.{low_head}
 use Rattle.patricia_wire.proofs.Readings.{back_split, one_due, unfinished}
 use Rattle.patricia_wire.proofs.RowTrees.{stands_tree}
 use Rattle.patricia_wire.proofs.Spellings.{clean_spells}
-use Rattle.patricia_wire.proofs.TestedReadings.{opened, opened_read, first_child, reads_clean, first_below}
+use Rattle.patricia_wire.proofs.TestedReadings.{opened, opened_read, first_child, reads_clean}
+use Rattle.patricia_wire.proofs.TestedReadings.{first_below}
 use Rattle.patricia_wire.proofs.TestedRows.{byte_room}
 use Rattle.patricia_wire.proofs.TightRows.{EndsLow}
 use Rattle.patricia_wire.proofs.examples.later_fault.Goals as goal

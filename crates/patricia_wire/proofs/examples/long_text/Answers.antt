@@ -1,4 +1,5 @@
-use Rattle.std.proofs.Common.{◌<◌, ℕ, suc, zero, List, [], ◌∷◌, ◌++◌, Some, None, inl, inr, length, refl, ap, arith}
+use Rattle.std.proofs.Common.{◌<◌, ℕ, suc, zero, List, [], ◌∷◌, ◌++◌, Some, None, inl, inr, length}
+use Rattle.std.proofs.Common.{refl, ap, arith}
 use Rattle.std.specs.Prelude.{replicate}
 use Rattle.std.proofs.Math.Utf8.{encode}
 use Rattle.patricia_keys.specs.Keys.{IsValid, Begins}

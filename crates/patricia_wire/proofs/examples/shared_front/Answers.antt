@@ -1,4 +1,5 @@
-use Rattle.std.proofs.Common.{◌≡◌, List, [], ◌∷◌, Some, None, inl, inr, length, refl, ap, subst, arith}
+use Rattle.std.proofs.Common.{◌≡◌, List, [], ◌∷◌, Some, None, inl, inr, length, refl, ap, subst}
+use Rattle.std.proofs.Common.{arith}
 use Rattle.patricia_keys.specs.Keys.{AreSingle}
 use Rattle.patricia_keys.specs.ByteKind.{IsByteItem, one_byte}
 use Rattle.patricia_keys.specs.Internal.ByteLaw.{byte_lawful}

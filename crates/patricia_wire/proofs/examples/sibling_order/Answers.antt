@@ -7,7 +7,8 @@ use Rattle.patricia_keys.proofs.KeyLemmas.{begins_same}
 use Rattle.patricia_model.proofs.GetLemmas.{compared_less}
 use Rattle.patricia_wire.specs.Records.{Record}
 use Rattle.patricia_wire.specs.Internal.Readings.{Rule, Due, IsRead}
-use Rattle.patricia_wire.proofs.TestedReadings.{opened, opened_read, first_child, byte_tests, read_one, first_of_bytes}
+use Rattle.patricia_wire.proofs.TestedReadings.{opened, opened_read, first_child, byte_tests}
+use Rattle.patricia_wire.proofs.TestedReadings.{read_one, first_of_bytes}
 use Rattle.patricia_wire.proofs.examples.sibling_order.Goals as goal
 
 abbrev b : Record

@@ -1,9 +1,11 @@
 use Rattle.std.proofs.Common.{refl, arith, ap, subst, sym, ◌∙◌}
 use Rattle.std.specs.Option.{option_copied}
 use Rattle.patricia_wire.specs.Records.{Record}
-use Rattle.patricia_wire.specs.Internal.Readings.{empty_label, no_value_no_child, too_few_values, Due, BreaksNoneBelow}
+use Rattle.patricia_wire.specs.Internal.Readings.{empty_label, no_value_no_child, too_few_values}
+use Rattle.patricia_wire.specs.Internal.Readings.{Due, BreaksNoneBelow}
 use Rattle.patricia_codec.specs.Internal.Steps.{NamesFirst, BreaksLabel, KeepsLabel}
-use Rattle.patricia_codec.proofs.CheckLemmas.{handed_on, broken_label, kept_label, breaks_marks, kept_marks, kept_rules, breaks_values}
+use Rattle.patricia_codec.proofs.CheckLemmas.{handed_on, broken_label, kept_label, breaks_marks}
+use Rattle.patricia_codec.proofs.CheckLemmas.{kept_marks, kept_rules, breaks_values}
 use Rattle.patricia_codec.proofs.due.Due.check.Goals as goal
 
 pub check_label-requires-clause-nonempty : goal.check_label-requires-clause-nonempty

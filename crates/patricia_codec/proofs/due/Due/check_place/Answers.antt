@@ -3,7 +3,9 @@ use Rattle.std.specs.Option.{option_copied}
 use Rattle.patricia_wire.specs.Records.{Record}
 use Rattle.patricia_wire.specs.Internal.Readings.{level, root_label, root_sibling, empty_label, Due}
 use Rattle.patricia_wire.proofs.Rules.{below_level}
-use Rattle.patricia_codec.proofs.CheckLemmas.{kept_level, kept_root_label, kept_root_sibling, breaks_root_label, breaks_root_sibling, breaks_empty_label}
+use Rattle.patricia_codec.proofs.CheckLemmas.{kept_level, kept_root_label, kept_root_sibling}
+use Rattle.patricia_codec.proofs.CheckLemmas.{breaks_root_label, breaks_root_sibling}
+use Rattle.patricia_codec.proofs.CheckLemmas.{breaks_empty_label}
 use Rattle.patricia_codec.proofs.due.Due.check_place.Goals as goal
 
 pub returns-then-record-self-clause-broken : goal.returns-then-record-self-clause-broken

@@ -3,7 +3,8 @@ use Rattle.std.proofs.lemmas.List.{nil_from_length}
 use Rattle.patricia_wire.specs.Records.{Record}
 use Rattle.patricia_codec.specs.Internal.Steps.{ReadIsRefused}
 use Rattle.patricia_codec.proofs.CheckLemmas.{handed_on}
-use Rattle.patricia_codec.proofs.ReaderLemmas.{ended, after_next, refused_cut, refused_record, went_on}
+use Rattle.patricia_codec.proofs.ReaderLemmas.{ended, after_next, refused_cut, refused_record}
+use Rattle.patricia_codec.proofs.ReaderLemmas.{went_on}
 use Rattle.patricia_codec.proofs.reader.Reader.next.Goals as goal
 
 pub returns-in_default-clause-ok : goal.returns-in_default-clause-ok

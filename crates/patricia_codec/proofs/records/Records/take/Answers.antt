@@ -1,4 +1,5 @@
-use Rattle.std.proofs.Common.{◌≡◌, ◌<◌, ◌++◌, ◌∷◌, [], sym, ap, subst, ◌∙◌, arith, take, drop, length, length-drop, rules}
+use Rattle.std.proofs.Common.{◌≡◌, ◌<◌, ◌++◌, ◌∷◌, [], sym, ap, subst, ◌∙◌, arith, take, drop}
+use Rattle.std.proofs.Common.{length, length-drop, rules}
 use Rattle.std.specs.Prelude.{◌^◌, is_some, is_ok, true}
 use Rattle.patricia_model.specs.Siblings.{end, node}
 use Rattle.patricia_walks.specs.Internal.Positions.{row_at}
@@ -7,9 +8,11 @@ use Rattle.patricia_keys.specs.Keys.{IsValid}
 use Rattle.patricia_nodes.proofs.SeekLemmas.{head_within}
 use Rattle.patricia_codec.specs.Internal.Pieces.{IsPiece}
 use Rattle.patricia_codec.specs.Internal.Lefts.{nodes_of}
-use Rattle.patricia_codec.proofs.LeftLemmas.{label_left, first_deep, Beside, beside_first, beside_later, below_whole, below_part, taken}
+use Rattle.patricia_codec.proofs.LeftLemmas.{label_left, first_deep, Beside, beside_first}
+use Rattle.patricia_codec.proofs.LeftLemmas.{beside_later, below_whole, below_part, taken}
 use Rattle.patricia_codec.proofs.records.Records.take.Goals as goal
-use Rattle.patricia_codec.proofs.records.Records.take.Goals.{then-self-eq0, else-self-eq0, then-n-left, else-n-left}
+use Rattle.patricia_codec.proofs.records.Records.take.Goals.{then-self-eq0, else-self-eq0}
+use Rattle.patricia_codec.proofs.records.Records.take.Goals.{then-n-left, else-n-left}
 
 pub index-node-requires : goal.index-node-requires
 index-node-requires g c =

@@ -6,7 +6,8 @@ use Rattle.std.specs.FinMap as map
 use Rattle.patricia_nodes.specs.Internal.Plans.{siblings_of}
 use Rattle.patricia_nodes.specs.Internal.Loans.{value_of, with_value}
 use Rattle.patricia_model.specs.Trees.{map_of}
-use Rattle.patricia_model.proofs.TreeLemmas.{get_empty, get_filled, insert_empty, insert_filled, length_old}
+use Rattle.patricia_model.proofs.TreeLemmas.{get_empty, get_filled, insert_empty, insert_filled}
+use Rattle.patricia_model.proofs.TreeLemmas.{length_old}
 use Rattle.patricia_nodes.proofs.LoanLemmas.{node_found}
 use Rattle.patricia_core.proofs.tree.Tree.get_mut.Goals as goal
 

@@ -1,9 +1,12 @@
 use Rattle.std.proofs.Common.{sym, ◌∙◌, refl, arith}
 use mathlib.Core.Bool.{false≢true}
 use Rattle.patricia_nodes.specs.Internal.Plans.{siblings_of}
-use Rattle.patricia_model.proofs.TreeLemmas.{get_empty, get_filled, insert_empty, insert_filled, length_new, length_old, option_map_none, option_map_not_none}
+use Rattle.patricia_model.proofs.TreeLemmas.{get_empty, get_filled, insert_empty, insert_filled}
+use Rattle.patricia_model.proofs.TreeLemmas.{length_new, length_old, option_map_none}
+use Rattle.patricia_model.proofs.TreeLemmas.{option_map_not_none}
 use Rattle.patricia_core.proofs.tree.Tree.insert.Goals as goal
-use Rattle.patricia_core.proofs.tree.Tree.insert.Goals.{else-self-via-then-self+else-is_none, else-self-via-else-self}
+use Rattle.patricia_core.proofs.tree.Tree.insert.Goals.{else-self-via-then-self+else-is_none}
+use Rattle.patricia_core.proofs.tree.Tree.insert.Goals.{else-self-via-else-self}
 
 pub returns-then-is_empty-clause-old : goal.returns-then-is_empty-clause-old
 returns-then-is_empty-clause-old g c = rw (← c.self.view_is, c.if-is_empty.ensures.0 refl)

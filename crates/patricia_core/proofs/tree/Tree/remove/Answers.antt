@@ -4,7 +4,8 @@ use Rattle.patricia_nodes.specs.Internal.Plans.{siblings_of}
 use Rattle.patricia_model.specs.Points.{Joins}
 use Rattle.patricia_model.specs.Siblings.{entries}
 use Rattle.patricia_model.proofs.JoinLemmas.{joins_root}
-use Rattle.patricia_model.proofs.TreeLemmas.{get_empty, get_filled, remove_empty, remove_filled, remove_absent, remove_present, keys_map}
+use Rattle.patricia_model.proofs.TreeLemmas.{get_empty, get_filled, remove_empty, remove_filled}
+use Rattle.patricia_model.proofs.TreeLemmas.{remove_absent, remove_present, keys_map}
 use Rattle.patricia_core.proofs.tree.Tree.remove.Goals as goal
 
 pub returns-then-is_empty-clause-old : goal.returns-then-is_empty-clause-old

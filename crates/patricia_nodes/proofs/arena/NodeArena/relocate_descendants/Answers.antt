@@ -1,6 +1,7 @@
 use Rattle.std.proofs.Common.{◌<◌, length, refl, ◌∙◌, arith, ap, length-append}
 use Rattle.patricia_nodes.specs.Internal.Growth.{laid}
-use Rattle.patricia_nodes.proofs.LayLemmas.{filling_start, filling_next, filling_done, laying_row, next_top}
+use Rattle.patricia_nodes.proofs.LayLemmas.{filling_start, filling_next, filling_done, laying_row}
+use Rattle.patricia_nodes.proofs.LayLemmas.{next_top}
 use Rattle.patricia_nodes.proofs.arena.NodeArena.relocate_descendants.Goals as goal
 
 pub loop-i-init : goal.loop-i-init

@@ -1,5 +1,6 @@
 use Rattle.std.proofs.Common.{suc, Some, length, refl, sym, ap, ◌∙◌, arith, rules}
-use Rattle.patricia_nodes.proofs.GrowthLemmas.{moving_none, next_within, moving_next, moving_done, number_none, number_some}
+use Rattle.patricia_nodes.proofs.GrowthLemmas.{moving_none, next_within, moving_next, moving_done}
+use Rattle.patricia_nodes.proofs.GrowthLemmas.{number_none, number_some}
 use Rattle.patricia_nodes.proofs.arena.NodeArena.relocate_siblings.Goals as goal
 use Rattle.patricia_nodes.proofs.arena.NodeArena.relocate_siblings.Goals.{in-None, in-Some-get}
 

@@ -1,9 +1,13 @@
 use Rattle.std.proofs.Common.{refl, sym, ◌∙◌, arith}
 use mathlib.Core.Bool.{false≢true}
 use Rattle.patricia_nodes.specs.declared.arena.seek.Match.TheVariants.{Absent, InsideLabel, Exact}
-use Rattle.patricia_nodes.proofs.SeekLemmas.{walks_root, in_nodes, opens_row, stops_placed, stops_counted, walks_next, walks_down, less_next, less_down, ends_placed, ends_counted}
+use Rattle.patricia_nodes.proofs.SeekLemmas.{walks_root, in_nodes, opens_row, stops_placed}
+use Rattle.patricia_nodes.proofs.SeekLemmas.{stops_counted, walks_next, walks_down, less_next}
+use Rattle.patricia_nodes.proofs.SeekLemmas.{less_down, ends_placed, ends_counted}
 use Rattle.patricia_nodes.proofs.arena.NodeArena.seek_counted.Goals as goal
-use Rattle.patricia_nodes.proofs.arena.NodeArena.seek_counted.Goals.{in_default, in-Some+in-Before, in-Some+in-Partial, in-Some+in-Full+then-is_empty}
+use Rattle.patricia_nodes.proofs.arena.NodeArena.seek_counted.Goals.{in_default, in-Some+in-Before}
+use Rattle.patricia_nodes.proofs.arena.NodeArena.seek_counted.Goals.{in-Some+in-Partial}
+use Rattle.patricia_nodes.proofs.arena.NodeArena.seek_counted.Goals.{in-Some+in-Full+then-is_empty}
 
 pub loop-id-init : goal.loop-id-init
 loop-id-init g c = walks_root g.met.Q.Owned.Bytes.lawful c.requires.whole c.requires.row _ c.requires.nonempty

@@ -1,6 +1,8 @@
 use Rattle.std.proofs.Common.{sym, ◌∙◌, arith}
 use Rattle.patricia_nodes.proofs.PlanLemmas.{not_some}
-use Rattle.patricia_nodes.proofs.AloneLemmas.{some_not_none, alone_top, upper_within, inside, inside_plan, alone_valued, alone_more, alone_first, alone_second}
+use Rattle.patricia_nodes.proofs.AloneLemmas.{some_not_none, alone_top, upper_within, inside}
+use Rattle.patricia_nodes.proofs.AloneLemmas.{inside_plan, alone_valued, alone_more, alone_first}
+use Rattle.patricia_nodes.proofs.AloneLemmas.{alone_second}
 use Rattle.patricia_nodes.proofs.arena.NodeArena.would_merge.Goals as goal
 
 pub returns-in_default : goal.returns-in_default

@@ -1,7 +1,8 @@
 use Rattle.std.proofs.Common.{◌≡◌, ℕ, List, [], Option}
 use Rattle.std.specs.Option.{is_some}
 use Rattle.patricia_walks.specs.Internal.Trails.{Advances}
-use Rattle.patricia_walks.proofs.TrailLemmas.{goes_so, step_found, step_kept, step_left, step_stands, step_trail}
+use Rattle.patricia_walks.proofs.TrailLemmas.{goes_so, step_found, step_kept, step_left}
+use Rattle.patricia_walks.proofs.TrailLemmas.{step_stands, step_trail}
 use Rattle.patricia_walks.proofs.cursor.Cursor.advance_without_key.Goals as goal
 
 pub invariant_of-self : goal.invariant_of-self

@@ -1,7 +1,8 @@
 use Rattle.std.proofs.Common.{◌∙◌}
 use Rattle.std.specs.Option.{option_map}
 use Rattle.patricia_walks.specs.Internal.Trails.{Advances}
-use Rattle.patricia_walks.proofs.TrailLemmas.{goes_so, step_key, step_kept, step_left, step_stands, step_trail}
+use Rattle.patricia_walks.proofs.TrailLemmas.{goes_so, step_key, step_kept, step_left, step_stands}
+use Rattle.patricia_walks.proofs.TrailLemmas.{step_trail}
 use Rattle.patricia_walks.proofs.cursor.PrefixCursor.advance.Goals as goal
 
 pub invariant_of-self-2 : goal.invariant_of-self-2

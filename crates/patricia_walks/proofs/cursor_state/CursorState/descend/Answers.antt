@@ -1,6 +1,7 @@
 use Rattle.std.proofs.Common.{refl, arith, ◌∙◌}
 use Rattle.patricia_walks.proofs.PositionLemmas.{goes_down, position_within}
-use Rattle.patricia_walks.proofs.NumberLemmas.{marked_node, numbered_slots-length, numbered_slots-read}
+use Rattle.patricia_walks.proofs.NumberLemmas.{marked_node, numbered_slots-length}
+use Rattle.patricia_walks.proofs.NumberLemmas.{numbered_slots-read}
 use Rattle.patricia_walks.proofs.cursor_state.CursorState.descend.Goals as goal
 
 pub index-node-requires : goal.index-node-requires
