@@ -2,8 +2,8 @@
 //!
 //! The input has a key a line. The keys of every other line are inserted, the rest are only asked
 //! for. With the word `times` each line of the output has nanoseconds a call or an entry, or bytes
-//! a key; `tree_size` has the tree bytes of 1,000 entries, and `share` the thousandths of the entries
-//! that `split_by_prefix` removes.
+//! a key; `tree_size` has the tree bytes of 1,000 entries, and `share` the thousandths of the
+//! entries that `split_by_prefix` removes.
 #![tactic(auto)]
 
 mod calls;

@@ -45,7 +45,8 @@ impl<'a> Reader<'a> {
 
     // What is due behind a record: its sibling, and before that its child.
     fn expect(&mut self, record: &Record<'a>) -> Result<(), AllocError>
-        ensures due { OnOk result (self.new.due.items ≡ self.old.due.items ++ sibling_then_child record.now) }
+        ensures due { OnOk result (
+            self.new.due.items ≡ self.old.due.items ++ sibling_then_child record.now) }
         ensures bytes { self.new.bytes ≡ self.old.bytes }
         ensures offset { self.new.offset ≡ self.old.offset }
     {

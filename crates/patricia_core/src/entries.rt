@@ -87,7 +87,8 @@ impl<'a, K: Bytes, V> Iterator for Keys<'a, K, V> {
 
 impl<'a, K: Bytes, V> FusedIterator for Keys<'a, K, V> {}
 
-/// The values of a map, in the order of their keys. An error is out of memory, and ends the iterator.
+/// The values of a map, in the order of their keys. An error is out of memory, and ends the
+/// iterator.
 #[derive(Drop)]
 pub struct Values<'a, K: Bytes, V> {
     walk: Walk<'a, K, V>,

@@ -183,7 +183,8 @@ impl<K: Bytes, V: Drop> Tree<K, V> {
 
     /// Lends the value at a key, or returns `None` where there is none.
     pub fn get_mut<Q: BorrowedBytes<Owned = K>>(&mut self, key: Q) -> Option<&mut V>
-        ensures* writes { sem 𝓛 (tree_lends_entry K.row V.row K.Bytes self.entry (Q.key key) result) }
+        ensures* writes { sem 𝓛
+            (tree_lends_entry K.row V.row K.Bytes self.entry (Q.key key) result) }
         ensures value { option_copied_mut result ≡ map.get self.old (Q.key key) }
     {
         if key.is_empty() {
@@ -243,7 +244,8 @@ impl<K: Bytes, V: Drop> Tree<K, V> {
             map.entries self.new ≡ outside (Q.key prefix) (map.entries self.old)) }
         ensures unchanged { OnErr result (self.new ≡ self.old) }
         ensures err_only_nonempty { OnErr result (Q.key prefix ≢ []) }
-        ensures err_only_if_matched { OnErr result (under (Q.key prefix) (map.entries self.old) ≢ []) }
+        ensures err_only_if_matched { OnErr result
+            (under (Q.key prefix) (map.entries self.old) ≢ []) }
     {
         if prefix.is_empty() {
             let empty = Tree::new(self.alloc);
@@ -314,8 +316,8 @@ impl<K: Bytes, V: Drop> Tree<K, V> {
         Under::new(self.alloc, self.value.as_ref(), &self.arena, prefix)
     }
 
-    /// Returns the encoding of the keys, with levels of this width. The values are no part of it. The
-    /// error is out of memory, or that a record would lie deeper than such a level can tell.
+    /// Returns the encoding of the keys, with levels of this width. The values are no part of it.
+    /// The error is out of memory, or that a record would lie deeper than such a level can tell.
     pub fn tree_bytes<W: Width>(&self) -> Result<Vec<u8>, EncodeError>
         ensures ok { IfOk result (λ b. AreTreeBytes K.item W.width b.items (map.entries self.now)) }
         ensures too_deep { result ≡ Err EncodeError.TooDeep
@@ -324,8 +326,8 @@ impl<K: Bytes, V: Drop> Tree<K, V> {
         encode::<K, W, V>(self.alloc, &self.value, &self.arena)
     }
 
-    /// The tree of the rows that the bytes mean with the values, which are in key order, where levels
-    /// have this width. Where it is refused the values are dropped.
+    /// The tree of the rows that the bytes mean with the values, which are in key order, where
+    /// levels have this width. Where it is refused the values are dropped.
     pub fn from_wire<W: Width>(
         alloc: Global,
         bytes: &[u8],

@@ -45,7 +45,8 @@ module _ {V : Type 0} (old made new : NodeArena V) (c d q : Plan V) (takes : IsB
   abbrev cell : Plan V
   cell = Cell id n.label n.value c d
 
-  -- what is written at a node that is not the new one, and is not in the plan, leaves the new one with the plan
+  -- what is written at a node that is not the new one, and is not in the plan, leaves the new one
+  -- with the plan
   stands_cell : (nodes : List (Node V)) → slice_get nodes id ≡ slice_get made.nodes.items id
       → ((i : ℕ) → count q i ≢ 0 → slice_get nodes i ≡ slice_get old.nodes.items i)
       → LaidOut old.nodes.items q → LaidOut nodes cell

@@ -13,7 +13,8 @@ use Rattle.patricia_nodes.specs.Internal.Merges.{LeavesOther}
 use Rattle.patricia_nodes.proofs.FillLemmas.{row-within, stands-within}
 use Rattle.patricia_edits.proofs.TakeLemmas.{Gone, gone_past, gone_joined, gone-fill}
 
--- the node of this number, label, value and children stands in the place, and what is left of its row without it
+-- the node of this number, label, value and children stands in the place, and what is left of its
+-- row without it
 module _ (item : List ℕ → Type 0) (kind : IsKeyKind item) {V : Type 0}
     (left : List ℕ → List (List ℕ × V) → List (List ℕ × V)) (leaves : Leaves item left)
     (id : ℕ) (l : List ℕ) (x : Option V) (c : Plan V) (key rest : List ℕ)

@@ -1,4 +1,5 @@
--- The text kind: the valid keys are the texts, cut between characters, and a first byte tells the length of its character.
+-- The text kind: the valid keys are the texts, cut between characters, and a first byte tells the
+-- length of its character.
 use Rattle.std.proofs.Common.{◌≡◌, ℕ, ◌+◌, ◌/◌, ◌<◌, ◌≤◌, Bool, true, false, cond, ltb, List, []}
 use Rattle.std.proofs.Common.{◌∷◌, ◌++◌, length, get_or, take, drop, inl, inr, refl, sym, ap, subst}
 use Rattle.std.proofs.Common.{◌∙◌, arith, length-append}

@@ -124,7 +124,8 @@ module _ (item : List ℕ → Type 0) (kind : IsKeyKind item) {V : Type 0} where
 
 module _ (item : List ℕ → Type 0) (kind : IsKeyKind item) {V : Type 0} (l : List ℕ) (v : Option V)
     (c s : Siblings V) (ok : IsCanonical item (node l v c s)) where
-  -- the key is not among the entries of a node before it, of a row behind it, of a row whose first label it ends within, and of the nodes past a label that begins it
+  -- the key is not among the entries of a node before it, of a row behind it, of a row whose first
+  -- label it ends within, and of the nodes past a label that begins it
   pub lacks_past : (q : List ℕ) → IsBefore item l q
       → AllKeys (λ k. q ≡ k → ⊥) (prefixed l (own v ++ entries c))
   lacks_past q before = AllKeys-prefixed _ l

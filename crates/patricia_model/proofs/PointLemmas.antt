@@ -1,4 +1,5 @@
--- The points of a set of keys: where they are when the keys behind one label are set apart, and that they are the paths of a row's nodes.
+-- The points of a set of keys: where they are when the keys behind one label are set apart, and
+-- that they are the paths of a row's nodes.
 use Rattle.std.proofs.Common.{◌≡◌, ℕ, ◌≤◌, ◌≢◌, ◌⊎◌, inl, inr, List, [], ◌∷◌, ◌++◌, Option, Some}
 use Rattle.std.proofs.Common.{None, length, map, refl, sym, ap, subst, ◌∙◌, arith}
 use Rattle.std.specs.Prelude.{◌↔◌}
@@ -119,7 +120,8 @@ module _ (item : List ℕ → Type 0) where
       longest = λ r pt b. a.longest r (IsPoint-within T S w' r pt) b;
     }
 
--- the keys of S are those of G behind the label l, where l is a point, and those of T, whose first items come after that of l
+-- the keys of S are those of G behind the label l, where l is a point, and those of T, whose first
+-- items come after that of l
 pub record Splits (item : List ℕ → Type 0) (S G T : List (List ℕ)) (l : List ℕ) : Type 0 where
   pub valid : IsValid item l
   pub nonempty : l ≢ []

@@ -47,7 +47,8 @@ module _ (p : ℕ → Bool) where
         | inr later ↦ (x ∷ rest.0, rest.1, cond-false (p x) _ _ later ∙ ap (onto_first x) rest.2)
       ]
 
-  -- the first piece, and those of the text after the byte that was found, which stands before the end
+  -- the first piece, and those of the text after the byte that was found, which stands before the
+  -- end
   pub split_found : (xs : List ℕ) (k : ℕ) → k < length xs
       → ((i : ℕ) → i < k → ¬ (p (get_or xs i 0) ≡ true)) → p (get_or xs k 0) ≡ true
       → slice_split p xs ≡ take k xs ∷ slice_split p (take (length xs - (k + 1)) (drop (k + 1) xs))

@@ -105,7 +105,8 @@ impl<K: Bytes, V: Drop> Router<K, V> {
             map.entries self.new ≡ outside (Q.key prefix) (map.entries self.old)) }
         ensures unchanged { OnErr result (self.new ≡ self.old) }
         ensures err_only_nonempty { OnErr result (Q.key prefix ≢ []) }
-        ensures err_only_if_matched { OnErr result (under (Q.key prefix) (map.entries self.old) ≢ []) }
+        ensures err_only_if_matched { OnErr result
+            (under (Q.key prefix) (map.entries self.old) ≢ []) }
     {
         let dropped = self.routes.split_by_prefix(prefix)?;
         Ok(dropped.len())

@@ -16,7 +16,8 @@ lends_entry K V bytes s key r = LendsIf (the_row K V bytes) V s r (map.insert s.
 -- `call` says of a closure when it may be called at a key and a loan of a value, and what it may
 -- then answer and leave there; `bytes` what the bytes of a key are
 module _ {F Q V R : Type 0}
-    (call : Once F (Q × (MutBor V × Unit {0})) (R × (MutBor V × Unit {0}))) (bytes : Q → List ℕ) where
+    (call : Once F (Q × (MutBor V × Unit {0})) (R × (MutBor V × Unit {0})))
+    (bytes : Q → List ℕ) where
   -- f may be called at the entry of the longest key of the map that begins this key
   abbrev pub TakesLongest : F → map.FinMap key_cmp V → List ℕ → Type 0
   TakesLongest f m key =

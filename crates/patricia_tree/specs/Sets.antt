@@ -1,4 +1,5 @@
--- A finite set of keys: std's, which is a finite map with `()` at each key, and has the words of maps.
+-- A finite set of keys: std's, which is a finite map with `()` at each key, and has the words of
+-- maps.
 use Rattle.std.specs.Prelude.{ℕ, List, Option, option_map}
 use Rattle.std.specs.FinSet.{FinSet}
 use Rattle.patricia_tree.specs.Bulk as bulk

@@ -8,11 +8,13 @@ use Rattle.patricia_model.specs.Cursors.{CursorView, next_row, next_value, stepp
 -- `call` says of a closure when it may be called at a key and a loan of a value, and what it may
 -- then answer and leave there; `bytes` what the bytes of a key are
 module _ {F K V R : Type 0}
-    (call : Once F (K × (MutBor V × Unit {0})) (R × (MutBor V × Unit {0}))) (bytes : K → List ℕ) where
+    (call : Once F (K × (MutBor V × Unit {0})) (R × (MutBor V × Unit {0})))
+    (bytes : K → List ℕ) where
   -- f may be called at the entry that the cursor lends next
   abbrev pub TakesNext : F → CursorView V → Type 0
   TakesNext f s =
-      (key : K) (shown : MutBor V) → next_row s ≡ Some (bytes key, shown.now) → call.pre f (key, (shown, tt))
+      (key : K) (shown : MutBor V) → next_row s ≡ Some (bytes key, shown.now)
+      → call.pre f (key, (shown, tt))
 
   -- f was called at that entry and answered r; the cursor advanced to it, and what f left is there:
   -- the map is as it was but for the value at this key

@@ -65,7 +65,8 @@ where
     /// assert_eq!(rt; cursor.value(), Some(&mut 2));
     /// ```
     pub fn value(&mut self) -> Option<&mut V>
-        ensures* writes { sem 𝓛 (lends_last M.row (the_row K.row V.row K.Bytes) V.row written self.entry result) }
+        ensures* writes { sem 𝓛
+            (lends_last M.row (the_row K.row V.row K.Bytes) V.row written self.entry result) }
         ensures value { option_copied_mut result ≡ last_value self.old.at }
     {
         self.at.value()
@@ -89,7 +90,8 @@ where
     // Lends the value of the entry that it advanced to last.
     fn there(&mut self) -> &mut V
         requires { IsSome (last_value self.old.at) }
-        ensures* writes { sem 𝓛 (lends_next M.row (the_row K.row V.row K.Bytes) V.row written self.entry result) }
+        ensures* writes { sem 𝓛
+            (lends_next M.row (the_row K.row V.row K.Bytes) V.row written self.entry result) }
         ensures value { last_value self.old.at ≡ Some result.now }
     {
         match self.value() {
@@ -123,7 +125,8 @@ where
     /// assert_eq!(rt; map.get("bar"), Some(&5));
     /// ```
     pub fn next(&mut self) -> Result<Option<(K, &mut V)>, AllocError>
-        ensures row { IfOk result (λ e. option_map (λ e. (K.key e.0, e.1.now)) e ≡ next_row self.old.at) }
+        ensures row { IfOk result (λ e.
+            option_map (λ e. (K.key e.0, e.1.now)) e ≡ next_row self.old.at) }
         ensures err_only_if_left { OnErr result (next_row self.old.at ≢ None) }
     {
         match self.go_on()? {

@@ -335,7 +335,8 @@ impl<K: Bytes, V: Drop> GenericPatriciaMap<K, V> {
             map.entries self.new ≡ outside (Q.key prefix) (map.entries self.old)) }
         ensures unchanged { OnErr result (self.new ≡ self.old) }
         ensures err_only_nonempty { OnErr result (Q.key prefix ≢ []) }
-        ensures err_only_if_matched { OnErr result (under (Q.key prefix) (map.entries self.old) ≢ []) }
+        ensures err_only_if_matched { OnErr result
+            (under (Q.key prefix) (map.entries self.old) ≢ []) }
     {
         Ok(GenericPatriciaMap {
             tree: self.tree.split(prefix)?,
@@ -376,9 +377,9 @@ impl<K: Bytes, V: Drop> GenericPatriciaMap<K, V> {
         }
     }
 
-    /// Returns the wide tree bytes, in which each level takes four bytes. All else is as in those of
-    /// `tree_bytes`, which are read by `from_wire` and written anew by this call where they are to
-    /// be made wide.
+    /// Returns the wide tree bytes, in which each level takes four bytes. All else is as in those
+    /// of `tree_bytes`, which are read by `from_wire` and written anew by this call where they are
+    /// to be made wide.
     ///
     /// Takes time in proportion to the bytes.
     ///

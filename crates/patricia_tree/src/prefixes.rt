@@ -49,7 +49,9 @@ where
     ///
     /// Takes constant time.
     pub fn value(&mut self) -> Option<&mut V>
-        ensures* writes { sem 𝓛 (lends_last M.row (the_row Q.row V.row K.row Q.BorrowedBytes K.Bytes) V.row written self.entry result) }
+        ensures* writes { sem 𝓛
+            (lends_last M.row (the_row Q.row V.row K.row Q.BorrowedBytes K.Bytes)
+                V.row written self.entry result) }
         ensures value { option_copied_mut result ≡ last_value self.old.at }
     {
         self.at.value()
@@ -73,7 +75,9 @@ where
     // Lends the value of the entry that it advanced to last.
     fn there(&mut self) -> &mut V
         requires { IsSome (last_value self.old.at) }
-        ensures* writes { sem 𝓛 (lends_next M.row (the_row Q.row V.row K.row Q.BorrowedBytes K.Bytes) V.row written self.entry result) }
+        ensures* writes { sem 𝓛
+            (lends_next M.row (the_row Q.row V.row K.row Q.BorrowedBytes K.Bytes)
+                V.row written self.entry result) }
         ensures value { last_value self.old.at ≡ Some result.now }
     {
         match self.value() {
@@ -94,7 +98,8 @@ where
     /// The contract says no more than what is read: what the map is after an error, at the end or
     /// after the loan, those of `next_with`, and of `advance` and `value`, say.
     pub fn next(&mut self) -> Result<Option<(K, &mut V)>, AllocError>
-        ensures row { IfOk result (λ e. option_map (λ e. (K.key e.0, e.1.now)) e ≡ next_row self.old.at) }
+        ensures row { IfOk result (λ e.
+            option_map (λ e. (K.key e.0, e.1.now)) e ≡ next_row self.old.at) }
         ensures err_only_if_left { OnErr result (next_row self.old.at ≢ None) }
     {
         match self.go_on()? {

@@ -281,7 +281,8 @@ impl<T: Bytes> GenericPatriciaSet<T> {
             map.entries self.new ≡ outside (Q.key prefix) (map.entries self.old)) }
         ensures unchanged { OnErr result (self.new ≡ self.old) }
         ensures err_only_nonempty { OnErr result (Q.key prefix ≢ []) }
-        ensures err_only_if_matched { OnErr result (under (Q.key prefix) (map.entries self.old) ≢ []) }
+        ensures err_only_if_matched { OnErr result
+            (under (Q.key prefix) (map.entries self.old) ≢ []) }
     {
         Ok(GenericPatriciaSet {
             map: self.map.split_by_prefix(prefix)?,
@@ -345,8 +346,8 @@ impl<T: Bytes> GenericPatriciaSet<T> {
     /// Makes a set of tree bytes, with a `()` for each element.
     ///
     /// Any encoding of a whole tree is read, whether of `tree_bytes` or of the Rust crate, and the
-    /// set has the one shape of its elements, as with `from_wire` of a map. Takes time in proportion
-    /// to the bytes.
+    /// set has the one shape of its elements, as with `from_wire` of a map. Takes time in
+    /// proportion to the bytes.
     ///
     /// # Errors
     ///

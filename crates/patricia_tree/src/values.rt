@@ -60,7 +60,9 @@ impl<K: Bytes, V: Drop> ValueCursor<K, V> {
 
     // Lends the value that it advanced to last.
     fn value(&mut self) -> Option<&mut V>
-        ensures* writes { sem 𝓛 (LendsIf (the_row K.row V.row K.Bytes) V.row self.entry result (written self.entry.now) self.entry.now) }
+        ensures* writes { sem 𝓛
+            (LendsIf (the_row K.row V.row K.Bytes) V.row self.entry result
+                (written self.entry.now) self.entry.now) }
         ensures value { option_copied_mut result ≡ last_value self.old }
     {
         self.cursor.value()
@@ -89,7 +91,8 @@ where
         ensures owner { self.new.owner.ghost_name ≡ self.old.owner.ghost_name }
         ensures found { IfOk result (λ found. IsTrue found ↔ (next_row self.old.at ≢ None)) }
         ensures stepped { OnOk result (self.new.at ≡ stepped self.old.at) }
-        ensures left { IfOk result (λ found. IsTrue found → left self.old.at ≡ left self.new.at + 1) }
+        ensures left { IfOk result (λ found.
+            IsTrue found → left self.old.at ≡ left self.new.at + 1) }
         ensures none_left { IfOk result (λ found. found ≡ false → left self.old.at ≡ 0) }
         ensures unchanged { OnErr result (self.new.at ≡ self.old.at) }
         ensures err_only_if_left { OnErr result (next_row self.old.at ≢ None) }
@@ -101,7 +104,8 @@ where
     ///
     /// Takes constant time.
     pub fn value(&mut self) -> Option<&mut V>
-        ensures* writes { sem 𝓛 (lends_last M.row (the_row K.row V.row K.Bytes) V.row written self.entry result) }
+        ensures* writes { sem 𝓛
+            (lends_last M.row (the_row K.row V.row K.Bytes) V.row written self.entry result) }
         ensures value { option_copied_mut result ≡ last_value self.old.at }
     {
         self.at.value()
@@ -122,7 +126,8 @@ where
     // Lends the value that it advanced to last.
     fn there(&mut self) -> &mut V
         requires { IsSome (last_value self.old.at) }
-        ensures* writes { sem 𝓛 (lends_next M.row (the_row K.row V.row K.Bytes) V.row written self.entry result) }
+        ensures* writes { sem 𝓛
+            (lends_next M.row (the_row K.row V.row K.Bytes) V.row written self.entry result) }
         ensures value { last_value self.old.at ≡ Some result.now }
     {
         match self.value() {

@@ -27,7 +27,8 @@ use Rattle.patricia_walks.specs.declared.under.UnderStart.{UnderStart}
 use Rattle.patricia_walks.specs.Internal.Starts.{IsStartUnder, IsUnderWalk, rows_from, rows_left}
 use Rattle.patricia_walks.proofs.PlaceLemmas.{Passed, passed-fill}
 
--- the node under a key that ends within a label is that of the label, and the whole rest of the key is common
+-- the node under a key that ends within a label is that of the label, and the whole rest of the key
+-- is common
 pub within_node : (i id n : ℕ) (rest : List ℕ) → node_under rest (InsideLabel i n) ≡ Some id
     → (i ≡ id) × (n ≡ length rest)
 within_node i id n rest e = by (nat_eq n (length rest)) refl

@@ -183,7 +183,8 @@ impl<V> CursorState<V> {
         requires position { IsPosition K.item (position_of self.old) }
         requires taken { self.old.pending ≡ None }
         requires next { self.old.next ≡ Some id }
-        ensures goes { OnOk result (AdvancesTo K.item (position_of self.old) (position_of self.new)) }
+        ensures goes { OnOk result
+            (AdvancesTo K.item (position_of self.old) (position_of self.new)) }
         ensures refused { OnErr result (position_of self.new ≡ position_of self.old) }
         ensures tree { IsSameTree self.old self.new }
         ensures last { self.new.last ≡ self.old.last }
@@ -205,7 +206,8 @@ impl<V> CursorState<V> {
         requires position { IsPosition K.item (position_of self.old) }
         requires taken { self.old.pending ≡ None }
         requires over { self.old.next ≡ None }
-        ensures step { IsTrue result → AdvancesTo K.item (position_of self.old) (position_of self.new) }
+        ensures step { IsTrue result →
+            AdvancesTo K.item (position_of self.old) (position_of self.new) }
         ensures over { result ≡ false → entries_left (state_of (position_of self.old)) ≡ [] }
         ensures same { result ≡ false → position_of self.new ≡ position_of self.old }
         ensures tree { IsSameTree self.old self.new }
@@ -297,7 +299,8 @@ impl<V> CursorState<V> {
         top: NodeId,
     ) -> Result<(), AllocError>
         requires whole { IsWellFormed self.old.arena }
-        requires start { IsAtStart K.item (numbered_slots 0 self.old.arena.nodes.items) front.now top }
+        requires start { IsAtStart K.item
+            (numbered_slots 0 self.old.arena.nodes.items) front.now top }
         requires stack { self.old.stack.items ≡ [] }
         ensures position { OnOk result (IsPosition K.item (position_of self.new)) }
         ensures left { OnOk result (left_of self.new ≡ rows_below front.now

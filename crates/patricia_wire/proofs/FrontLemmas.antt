@@ -173,7 +173,8 @@ module _ (item : List ℕ → Type 0) (kind : IsKeyKind item) {V : Type 0} where
           (subst (Has (map (λ x. l ++ x) (fronts c))) e
           (Has-behind l (fronts c) (y ∷ q) found)))
 
-  -- where items are bytes, what begins a label, or what the label begins, is no front of the rest of its row
+  -- where items are bytes, what begins a label, or what the label begins, is no front of the rest
+  -- of its row
   apart_beside : AreSingle item → (l : List ℕ) (v : Option V) (c s : Siblings V)
       → IsCanonicalWithin item (Some 255) (node l v c s) → (p : List ℕ) → p ≢ []
       → (Begins p l ⊎ Begins l p) → Has (fronts s) p → ⊥

@@ -135,7 +135,10 @@ module _ (item : List ℕ → Type 0) (kind : IsKeyKind item) (due : Due) (left 
           elim (before_or_not item kind l r.label before.0 valid before.1 nonempty) [
             | inl less ↦
                 marked (kept_next item due left r sibling_order below
-                (λ b. (let one : b.0 ≡ l = (let both : Some b.0 ≡ Some l = sym b.1 ∙ is in cc) in b.2 (subst (λ k. ComparesFirst item k r.label Less) (sym one) (before_compares item l r.label less)))))
+                (λ b.
+                  (let one : b.0 ≡ l = (let both : Some b.0 ≡ Some l = sym b.1 ∙ is in cc) in
+                  b.2 (subst (λ k. ComparesFirst item k r.label Less)
+                    (sym one) (before_compares item l r.label less)))))
                 (λ marks.
                 record {
                   level = same;

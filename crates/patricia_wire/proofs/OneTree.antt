@@ -1,4 +1,5 @@
--- Two tight trees with the same keys are one list of records, and their clean spellings one byte list.
+-- Two tight trees with the same keys are one list of records, and their clean spellings one byte
+-- list.
 use Rattle.std.proofs.Common.{◌≡◌, ℕ, List, [], ◌∷◌, Some, sym, ap, subst, ◌∙◌, refl}
 use Rattle.patricia_keys.specs.Keys.{IsKeyKind}
 use Rattle.patricia_model.specs.Siblings.{keys_of, IsCanonicalWithin}

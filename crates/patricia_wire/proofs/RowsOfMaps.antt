@@ -1,4 +1,5 @@
--- Each finite map with valid keys is the map of a tree in memory: rows take in one key after the other.
+-- Each finite map with valid keys is the map of a tree in memory: rows take in one key after the
+-- other.
 use Rattle.std.proofs.Common.{◌≡◌, ◌≢◌, ℕ, ◌⊎◌, inl, inr, true, false, Bool, T, ◌&&◌, List, [], ◌∷◌}
 use Rattle.std.proofs.Common.{◌++◌, Option, Some, None, refl, sym, ap, subst, ◌∙◌}
 use Rattle.std.specs.declared.cmp.Ordering.{Ordering}

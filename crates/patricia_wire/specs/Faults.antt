@@ -63,9 +63,10 @@ abbrev pub IsCutShort : ℕ → List ℕ → Type 0
 IsCutShort w rest = (length rest < 2 + w) ⊎ (length rest < 2 + w + slice_index rest 1)
 
 module _ (item : List ℕ → Type 0) where
-  -- the record r, behind these records and with n values, breaks a rule. Each rule has a number, and
-  -- an error that names it with the offset at which the record begins. Siblings fall where the first
-  -- item of the label before is not less than that of r's label; no item is less than any item
+  -- the record r, behind these records and with n values, breaks a rule. Each rule has a number,
+  -- and an error that names it with the offset at which the record begins. Siblings fall where the
+  -- first item of the label before is not less than that of r's label; no item is less than any
+  -- item
   pub data Breaks (before : List Record) (r : Record) (n at : ℕ) : ℕ → DecodeError → Type 0 where
     other_level : (IsDue before r.level → ⊥) → Breaks before r n at 3 (Level at)
     labelled_root : before ≡ [] → r.label ≢ [] → Breaks before r n at 4 (RootLabel at)

@@ -8,7 +8,8 @@ use Rattle.patricia_wire.specs.Counts.{LabelsAreFronts, RecordsArePoints, AreFew
 
 module _ (item : List ℕ → Type 0) where
   -- b is the encoding of the rows' keys, and with the rows' values it means the rows
-  pub record AreTreeBytes {V : Type 0} (w : ℕ) (b : List ℕ) (rows : List (List ℕ × V)) : Type 0 where
+  pub record AreTreeBytes {V : Type 0} (w : ℕ) (b : List ℕ)
+      (rows : List (List ℕ × V)) : Type 0 where
     -- the bytes and the values, in key order, mean these rows
     pub means : Means item w b (values_of rows) rows
     -- no other bytes are the encoding of the keys

@@ -1,5 +1,5 @@
-//! Worked encodings and first faults, as contracts of functions that do nothing. Levels are written in two bytes, but
-//! for one in four.
+//! Worked encodings and first faults, as contracts of functions that do nothing. Levels are written
+//! in two bytes, but for one in four.
 ghost use Rattle.std.specs.Prelude.{◌≡◌, ℕ, List, [], ◌∷◌};
 ghost use Rattle.patricia_keys.specs.ByteKind.{IsByteItem};
 ghost use Rattle.patricia_keys.specs.TextKind.{IsTextItem};
@@ -38,8 +38,8 @@ pub fn no_keys()
 {}
 
 /// The keys bar, baz and foo, with levels in two bytes and in four. They have seven fronts: b, ba,
-/// bar, baz, f, fo and foo, and the labels have seven bytes. They have four points: ba, bar, baz and
-/// foo, and the tree has five records.
+/// bar, baz, f, fo and foo, and the labels have seven bytes. They have four points: ba, bar, baz
+/// and foo, and the tree has five records.
 pub fn shared_front()
     ensures narrow { Canon IsByteItem 2 three_keys_written three_keys }
     ensures wide { Canon IsByteItem 4 three_keys_written_wide three_keys }
@@ -103,7 +103,8 @@ pub fn short_inputs()
 /// Behind a root with a child the input ends at once, or within a label.
 pub fn cut_inputs()
     ensures at_once { IsFirst IsByteItem 2 (behind_root []) 0 (Truncated 4) }
-    ensures in_label { IsFirst IsByteItem 2 (behind_root (3 ∷ 2 ∷ 0 ∷ 1 ∷ 97 ∷ [])) 1 (Truncated 4) }
+    ensures in_label {
+        IsFirst IsByteItem 2 (behind_root (3 ∷ 2 ∷ 0 ∷ 1 ∷ 97 ∷ [])) 1 (Truncated 4) }
 {}
 
 /// A child lies one level below its parent.
@@ -137,8 +138,8 @@ pub fn missing_value()
     ensures { IsFirst IsByteItem 2 (behind_root (3 ∷ 1 ∷ 0 ∷ 1 ∷ 97 ∷ [])) 0 (TooFewValues 4) }
 {}
 
-/// Of two faults at one place the lower number comes first: a wrong level before an empty label, the
-/// root's label before its sibling, and bytes left before values left.
+/// Of two faults at one place the lower number comes first: a wrong level before an empty label,
+/// the root's label before its sibling, and bytes left before values left.
 pub fn two_faults()
     ensures level { IsFirst IsByteItem 2 (behind_root (0 ∷ 0 ∷ 0 ∷ 2 ∷ [])) 0 (Level 4) }
     ensures label { IsFirst IsByteItem 2 (32 ∷ 1 ∷ 0 ∷ 0 ∷ 97 ∷ []) 0 (RootLabel 0) }

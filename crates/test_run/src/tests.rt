@@ -1,4 +1,5 @@
-//! Tests of what no contract says: values from outside, statuses, failing streams and refused memory.
+//! Tests of what no contract says: values from outside, statuses, failing streams and refused
+//! memory.
 
 mod answers;
 mod bench;

@@ -18,5 +18,7 @@ utf8-written [] digits = IsUtf8-from_ascii [] (IsAscii-from_digits [] digits)
 utf8-written (c ∷ cs) digits = IsUtf8-from_ascii (c ∷ cs) (by (c == 43) refl)
   where
     by : (b : Bool) → (c == 43) ≡ b → IsAscii (c ∷ cs)
-    by true e = IsAscii-append (c ∷ []) cs (subst (λ x. IsAscii (x ∷ [])) (sym (eqb-true c 43 e)) plus_is_ascii) (IsAscii-from_digits cs (subst (λ b. AllDigits 10 (drop (cond b 1 0) (c ∷ cs))) e digits))
+    by true e =
+        IsAscii-append (c ∷ []) cs (subst (λ x. IsAscii (x ∷ [])) (sym (eqb-true c 43 e)) plus_is_ascii)
+        (IsAscii-from_digits cs (subst (λ b. AllDigits 10 (drop (cond b 1 0) (c ∷ cs))) e digits))
     by false e = IsAscii-from_digits (c ∷ cs) (subst (λ b. AllDigits 10 (drop (cond b 1 0) (c ∷ cs))) e digits)

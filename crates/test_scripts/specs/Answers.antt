@@ -9,7 +9,9 @@ hexadecimal n = if nat_lt n 10 then 48 + n else 55 + n
 
 -- a letter or a digit stands for itself, and any other byte is `%` and two hexadecimal digits
 abbrev pub escaped : ℕ → List ℕ
-escaped b = if is_ascii_alphanumeric b then b ∷ [] else 37 ∷ hexadecimal (b / 16) ∷ hexadecimal (b % 16) ∷ []
+escaped b =
+    if is_ascii_alphanumeric b then b ∷ []
+    else 37 ∷ hexadecimal (b / 16) ∷ hexadecimal (b % 16) ∷ []
 
 -- a key behind a space
 abbrev pub key_text : List ℕ → List ℕ

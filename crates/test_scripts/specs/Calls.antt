@@ -32,7 +32,9 @@ NoneOf kind calls = All (λ call. call.kind.now ≢ kind) calls
 
 -- a number below 2^64 in decimal digits, or in digits behind a plus
 abbrev pub IsNumber : List ℕ → Type 0
-IsNumber text = IsNumeral 10 (without_leading_plus text) × (digits_value 10 (without_leading_plus text) < 2 ^ 64)
+IsNumber text =
+    IsNumeral 10 (without_leading_plus text)
+    × (digits_value 10 (without_leading_plus text) < 2 ^ 64)
 
 -- the number that digits write, or digits behind a plus
 abbrev pub value_of : List ℕ → ℕ

@@ -38,7 +38,10 @@ module _ {V : Type 0} where
 
   -- a new key that is inserted and removed again leaves no trace
   remove_new : (m : FinMap key_cmp V) (k : List ℕ) (v : V) → get m k ≡ None → remove (insert m k v) k ≡ m
-  remove_new m k v lacks = same_map nat_list_cmp_total (slice_cmp-IsAntisymmetric nat_cmp-IsAntisymmetric) (remove (insert m k v) k) m (λ q. get-remove nat_list_cmp_total (insert m k v) k q ∙ at q (eq_by_cmp key_cmp q k) refl)
+  remove_new m k v lacks =
+      same_map nat_list_cmp_total (slice_cmp-IsAntisymmetric nat_cmp-IsAntisymmetric)
+        (remove (insert m k v) k) m
+        (λ q. get-remove nat_list_cmp_total (insert m k v) k q ∙ at q (eq_by_cmp key_cmp q k) refl)
     where
       at : (q : List ℕ) (t : Bool) → eq_by_cmp key_cmp q k ≡ t → cond t None (get (insert m k v) q) ≡ get m q
       at q true e = sym lacks ∙ get_tied nat_list_cmp_total m q k (is_equal (key_cmp q k) e)
@@ -66,11 +69,14 @@ module _ {V : Type 0} where
 
   -- a map of a and b alone has no value at ab
   lacks_ab : (m n o : FinMap key_cmp V) (v x : V) → m ≡ empty → n ≡ insert m b v → o ≡ insert n a x → get o ab ≡ None
-  lacks_ab m n o v x none first second = ap (λ q. get q ab) second ∙ get-insert nat_list_cmp_total n a x ab ∙ ap (λ q. get q ab) first ∙ get-insert nat_list_cmp_total m b v ab ∙ ap (λ q. get q ab) none ∙ get-empty key_cmp ab
+  lacks_ab m n o v x none first second =
+      ap (λ q. get q ab) second ∙ get-insert nat_list_cmp_total n a x ab ∙ ap (λ q. get q ab) first ∙ get-insert nat_list_cmp_total m b v ab ∙ ap (λ q. get q ab) none ∙ get-empty key_cmp ab
 
   -- with ab inserted there and removed again, the keys are a and b
   pub keys_after_removal : (m n o p q : FinMap key_cmp V) (v x y : V) → m ≡ empty → n ≡ insert m b v → o ≡ insert n a x → p ≡ insert o ab y → q ≡ remove p ab → keys q ≡ a ∷ b ∷ []
-  keys_after_removal m n o p q v x y none first second third fourth = ap keys (fourth ∙ ap (λ r. remove r ab) third ∙ remove_new o ab y (lacks_ab m n o v x none first second)) ∙ keys_turned m n o v x none first second
+  keys_after_removal m n o p q v x y none first second third fourth =
+      ap keys (fourth ∙ ap (λ r. remove r ab) third ∙ remove_new o ab y (lacks_ab m n o v x none first second)) ∙
+        keys_turned m n o v x none first second
 
 -- the list of both keys is not that of a alone
 pub two_are_not_one : a ∷ b ∷ [] ≡ a ∷ [] → ⊥

@@ -1,4 +1,5 @@
-//! Callers of the calls that lend values of a map: what a map is afterwards, known from its contracts.
+//! Callers of the calls that lend values of a map: what a map is afterwards, known from its
+//! contracts.
 #![tactic(auto)]
 
 pub mod cursors;

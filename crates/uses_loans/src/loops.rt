@@ -1,5 +1,5 @@
-//! Loops over cursors. It is proved that they are safe, and that they end, since each step takes one
-//! off what is left to lend. No clause says what the values are afterwards.
+//! Loops over cursors. It is proved that they are safe, and that they end, since each step takes
+//! one off what is left to lend. No clause says what the values are afterwards.
 use patricia_tree::{BorrowedBytes, GenericPatriciaMap, PatriciaMap};
 use std::alloc::AllocError;
 

@@ -57,10 +57,12 @@ module _ {V : Type 0} where
     pub value : new.value ≡ old.value
 
   -- a node is laid, with the label so far
-  pub record Lays (old : Builder V) (value : Option V) (child : Bool) (new : Builder V) : Type 0 where
+  pub record Lays (old : Builder V) (value : Option V) (child : Bool)
+      (new : Builder V) : Type 0 where
     pub nodes :
         new.nodes.items
-        ≡ old.nodes.items ++ linked old.label.items value (link_if child (count_of old + 1)) None ∷ []
+        ≡ old.nodes.items
+            ++ linked old.label.items value (link_if child (count_of old + 1)) None ∷ []
     pub label : new.label.items ≡ []
     pub waiting : new.waiting.items ≡ old.waiting.items
     pub keeps : KeepsNodes old new
@@ -78,7 +80,8 @@ module _ {V : Type 0} where
     pub waiting : old.waiting.items ≡ new.waiting.items ++ id ∷ []
     pub nodes :
         (n : Node V) → slice_get old.nodes.items id ≡ Some n
-        → new.nodes.items ≡ slice_set old.nodes.items id (linked n.label n.value n.child (Some (count_of old)))
+        → new.nodes.items ≡ slice_set old.nodes.items id
+            (linked n.label n.value n.child (Some (count_of old)))
     pub label : new.label ≡ old.label
     pub keeps : KeepsNodes old new
 
@@ -108,7 +111,8 @@ module _ {V : Type 0} where
   Prepares Root old sibling new = new ≡ old
 
   -- the root has this value, and its first child is the first node
-  pub record AddsRoot (old : Builder V) (value : Option V) (child : Bool) (new : Builder V) : Type 0 where
+  pub record AddsRoot (old : Builder V) (value : Option V) (child : Bool)
+      (new : Builder V) : Type 0 where
     pub value_is : new.value ≡ value
     pub root : child ≡ true → new.root ≡ Some 0
     pub no_root : child ≡ false → new.root ≡ old.root
@@ -124,7 +128,8 @@ module _ {V : Type 0} where
     pub fall : Fall below others
 
 -- a record that keeps all rules, where this one is due
-pub record Suits (item : List ℕ → Type 0) (before : List Record) (due : Due) (r : Record) : Type 0 where
+pub record Suits (item : List ℕ → Type 0) (before : List Record)
+    (due : Due) (r : Record) : Type 0 where
   pub root : before ≡ [] → (r.level ≡ 0) × (r.label ≡ []) × (r.sibling ≡ false)
   pub inner : before ≢ [] → IsInner item due.level r
   pub order : (l : List ℕ) → due.after ≡ Some l → IsBefore item l r.label
@@ -159,8 +164,11 @@ module _ (item : List ℕ → Type 0) {V : Type 0} where
     label : node.label ≡ b.label.items;
     value : node.value ≡ None;
     child : node.child ≡ true;
-    wait : Wait b (count_of b) (gap_if node.sibling node.level node.own_label (count_of b) ++ gaps) gaps;
-    due_is : due ≡ (record { level = node.below; after = None }) ∷ dues (gap_if node.sibling node.level node.own_label (count_of b) ++ gaps);
+    wait : Wait b (count_of b)
+        (gap_if node.sibling node.level node.own_label (count_of b) ++ gaps)
+        gaps;
+    due_is : due ≡ (record { level = node.below; after = None }) ∷
+        dues (gap_if node.sibling node.level node.own_label (count_of b) ++ gaps);
     some : R ≢ [];
   }
 

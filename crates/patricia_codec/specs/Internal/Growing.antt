@@ -26,14 +26,15 @@ module _ {V : Type 0} where
       × (All (λ g. g.id ≢ i) gaps → sibling ≡ n.sibling)
 
   -- the nodes from a number on, which stand for a row of records with its lone children taken in
-  pub record Hangs (item : List ℕ → Type 0) (nodes : List (Node V)) (at : Option ℕ) (plan : Plan V) (written : Siblings V) : Type 0 where
+  pub record Hangs (item : List ℕ → Type 0) (nodes : List (Node V))
+      (at : Option ℕ) (plan : Plan V) (written : Siblings V) : Type 0 where
     pub stands : LaidOut nodes plan
     pub at_is : at ≡ head plan
     pub same : row plan ≡ joined written
     pub writable : IsWritable item written
 
--- a node that is not laid, the next one: its label so far, its value, whether it has a child and a sibling,
--- the levels of these, and the label that comes before its sibling's
+-- a node that is not laid, the next one: its label so far, its value, whether it has a child and a
+-- sibling, the levels of these, and the label that comes before its sibling's
 pub record Unlaid (V : Type 0) : Type 0 where
   pub label : List ℕ
   pub value : Option V
@@ -45,7 +46,8 @@ pub record Unlaid (V : Type 0) : Type 0 where
 
 module _ (item : List ℕ → Type 0) {V : Type 0} where
   -- a row stands beside the node that waits
-  pub record IsBeside (nodes : List (Node V)) (g : Gap) (plan : Plan V) (written : Siblings V) : Type 0 where
+  pub record IsBeside (nodes : List (Node V)) (g : Gap) (plan : Plan V)
+      (written : Siblings V) : Type 0 where
     pub waiting : Node V
     pub at : slice_get nodes g.id ≡ Some waiting
     pub hangs : Hangs item nodes waiting.sibling plan written
@@ -73,7 +75,8 @@ module _ (item : List ℕ → Type 0) {V : Type 0} where
   }
 
   -- the nodes stand for a tree with these records and values, and with these numbers
-  pub record IsGrown (nodes : List (Node V)) (root : Option ℕ) (value : Option V) (R : List Record) (vs : List V) (ids : ℕ → ℕ) (n : ℕ) : Type 0 where
+  pub record IsGrown (nodes : List (Node V)) (root : Option ℕ) (value : Option V)
+      (R : List Record) (vs : List V) (ids : ℕ → ℕ) (n : ℕ) : Type 0 where
     pub plan : Plan V
     pub written : Siblings V
     pub hangs : Hangs item nodes root plan written
@@ -83,26 +86,43 @@ module _ (item : List ℕ → Type 0) {V : Type 0} where
     pub sizes : size plan ≡ n
 
   -- nothing is open but what is beside the nodes that wait
-  abbrev pub IsOpenBeside : List (Node V) → Option ℕ → Option V → List Gap → List Record → List V → Type 0
+  abbrev pub IsOpenBeside : List (Node V) → Option ℕ → Option V → List Gap
+      → List Record → List V → Type 0
   IsOpenBeside nodes root value gaps R vs =
       (later : List (Node V)) → IsLater nodes gaps later
       → (R2 : List Record) (vs2 : List V) (ids : ℕ → ℕ) (n : ℕ) → AreBeside later gaps R2 vs2 ids n
-      → IsGrown later root value (R ++ R2) (vs ++ vs2) (λ at. below (length nodes) at + ids at) (length nodes + n)
+      → IsGrown later root value (R ++ R2) (vs ++ vs2)
+          (λ at. below (length nodes) at + ids at) (length nodes + n)
 
-  -- besides, a row is open whose first node is the next one; it is at this level, and one that is allowed
-  abbrev pub IsOpenAt : List (Node V) → Option ℕ → Option V → (Siblings V → Type 0) → ℕ → List Gap → List Record → List V → Type 0
+  -- besides, a row is open whose first node is the next one; it is at this level, and one that is
+  -- allowed
+  abbrev pub IsOpenAt : List (Node V) → Option ℕ → Option V → (Siblings V → Type 0)
+      → ℕ → List Gap → List Record → List V → Type 0
   IsOpenAt nodes root value Allowed level gaps R vs =
       (later : List (Node V)) → IsLater nodes gaps later
-      → (plan : Plan V) (written : Siblings V) → Hangs item later (Some (length nodes)) plan written → has_node written ≡ true → Allowed written
+      → (plan : Plan V) (written : Siblings V)
+      → Hangs item later (Some (length nodes)) plan written
+      → has_node written ≡ true → Allowed written
       → (R2 : List Record) (vs2 : List V) (ids : ℕ → ℕ) (n : ℕ) → AreBeside later gaps R2 vs2 ids n
-      → IsGrown later root value (R ++ (records_of level written ++ R2)) (vs ++ (values_of (entries written) ++ vs2)) (λ at. below (length nodes) at + (count plan at + ids at)) (length nodes + (size plan + n))
+      → IsGrown later root value (R ++ (records_of level written ++ R2))
+          (vs ++ (values_of (entries written) ++ vs2))
+          (λ at. below (length nodes) at + (count plan at + ids at))
+          (length nodes + (size plan + n))
 
   -- besides, such a node is open
-  abbrev pub IsOpenWithin : List (Node V) → Option ℕ → Option V → Unlaid V → List Gap → List Record → List V → Type 0
+  abbrev pub IsOpenWithin : List (Node V) → Option ℕ → Option V → Unlaid V → List Gap
+      → List Record → List V → Type 0
   IsOpenWithin nodes root value u gaps R vs =
       (later : List (Node V)) → IsLater nodes gaps later
       → (plan : Plan V) (c s : Siblings V)
-      → LaidOut later plan → head plan ≡ Some (length nodes) → row plan ≡ over u.label u.value (joined c) (joined s)
-      → IsWritable item c → IsWritable item s → has_node c ≡ u.child → has_node s ≡ u.sibling → IsBeforeSiblings item u.own_label s
+      → LaidOut later plan → head plan ≡ Some (length nodes)
+      → row plan ≡ over u.label u.value (joined c) (joined s)
+      → IsWritable item c → IsWritable item s
+      → has_node c ≡ u.child → has_node s ≡ u.sibling
+      → IsBeforeSiblings item u.own_label s
       → (R2 : List Record) (vs2 : List V) (ids : ℕ → ℕ) (n : ℕ) → AreBeside later gaps R2 vs2 ids n
-      → IsGrown later root value (R ++ ((records_of u.below c ++ records_of u.level s) ++ R2)) (vs ++ ((values_of (entries c) ++ values_of (entries s)) ++ vs2)) (λ at. below (length nodes) at + (count plan at + ids at)) (length nodes + (size plan + n))
+      → IsGrown later root value
+          (R ++ ((records_of u.below c ++ records_of u.level s) ++ R2)
+          ) (vs ++ ((values_of (entries c) ++ values_of (entries s)) ++ vs2)
+          ) (λ at. below (length nodes) at + (count plan at + ids at))
+          (length nodes + (size plan + n))

@@ -40,13 +40,15 @@ module _ {V : Type 0} where
 module _ (item : List ℕ → Type 0) {V : Type 0} where
   -- these are the records of a row that waits
   abbrev pub WaitsToWrite : List (Node V) → ℕ × Option ℕ → List Record → Type 0
-  WaitsToWrite nodes f R = IsPlan nodes f.1 (plan_at nodes f.1) × AreRecords item f.0 (row_at nodes f.1) R
+  WaitsToWrite nodes f R =
+      IsPlan nodes f.1 (plan_at nodes f.1) × AreRecords item f.0 (row_at nodes f.1) R
 
   -- and of all rows that wait, the last of which comes first
   abbrev pub AllWait : List (Node V) → List (ℕ × Option ℕ) → List Record → Type 0
   AllWait nodes [] R = R ≡ []
   AllWait nodes (f ∷ fs) R =
-      (first last : List Record) × AllWait nodes fs first × WaitsToWrite nodes f last × (R ≡ first ++ last)
+      (first last : List Record)
+      × AllWait nodes fs first × WaitsToWrite nodes f last × (R ≡ first ++ last)
 
   -- these records are left
   pub record AreRecordsLeft (p : Records V) (R : List Record) : Type 0 where

@@ -41,7 +41,8 @@ module _ (item : List ℕ → Type 0) where
   IsInOrder due label = (l : List ℕ) → due.after ≡ Some l → IsBefore item l label
 
   -- the error names the first rule that the record breaks
-  pub record NamesFirst (due : Due) (left : ℕ) (r : Record) (offset : ℕ) (e : DecodeError) : Type 0 where
+  pub record NamesFirst (due : Due) (left : ℕ)
+      (r : Record) (offset : ℕ) (e : DecodeError) : Type 0 where
     pub rule : Rule
     pub names : e ≡ error_at offset rule
     pub broken : BreaksFirst item due left r rule
@@ -81,7 +82,8 @@ module _ (item : List ℕ → Type 0) (w : ℕ) where
     pub further : old.offset < new.offset
     pub fits : length r.label ≤ 255
     pub reading :
-        (n : ℕ) (before : List Record) (due : List Due) → IsReading n old before due → left + value_marks before ≡ n
+        (n : ℕ) (before : List Record) (due : List Due) → IsReading n old before due
+        → left + value_marks before ≡ n
         → (next : Due) × (waiting : List Due) × (due ≡ next ∷ waiting) × IsAccepted item next left r
         × IsReading n new (before ++ (r ∷ [])) (due_behind r ++ waiting)
 
@@ -99,11 +101,13 @@ module _ (item : List ℕ → Type 0) (w : ℕ) where
   -- the bytes are refused, whatever was read
   abbrev pub ReadIsRefused : ℕ → Reader → DecodeError → Type 0
   ReadIsRefused left p e =
-      (n : ℕ) (before : List Record) (due : List Due) → IsReading n p before due → left + value_marks before ≡ n
+      (n : ℕ) (before : List Record) (due : List Due) → IsReading n p before due
+        → left + value_marks before ≡ n
       → IsRefusal item w p.bytes.now n e
 
   -- the bytes behind a whole tree, or the values that are left, are refused
   abbrev pub IsRefusedAfter : ℕ → Reader → DecodeError → Type 0
   IsRefusedAfter left p e =
-      (n : ℕ) (R : List Record) (E : List (List ℕ)) → IsReading n p R [] → left + value_marks R ≡ n → Root item R E
+      (n : ℕ) (R : List Record) (E : List (List ℕ)) → IsReading n p R []
+        → left + value_marks R ≡ n → Root item R E
       → IsRefusal item w p.bytes.now n e

@@ -7,5 +7,7 @@ use Rattle.patricia_keys.specs.declared.keys.Bytes.{Ghosts}
 use Rattle.patricia_core.specs.contracts.tree.Tree.{the_row}
 
 -- the tree ends with the value at the key as the loan leaves it, or as it was where nothing is lent
-abbrev pub tree_lends_entry : (K V : RattleType) → Ghosts K.Denot → MutBor (map.FinMap key_cmp V.Denot) → List ℕ → Option (MutBor V.Denot) → Fml
+abbrev pub tree_lends_entry : (K V : RattleType) → Ghosts K.Denot
+    → MutBor (map.FinMap key_cmp V.Denot) → List ℕ
+    → Option (MutBor V.Denot) → Fml
 tree_lends_entry K V bytes s key r = LendsIf (the_row K V bytes) V s r (map.insert s.now key) s.now

@@ -110,7 +110,8 @@ impl<V> NodeArena<V> {
         requires row { IsCanonical Q.Owned.item (siblings_of self.now) }
         requires nonempty { Q.key key ≢ [] }
         ensures place { IsSeekResult Q.Owned.item Q.key self.now (Q.key key) result }
-        ensures counted { IsCounted Q.Owned.item (siblings_of self.now) (Q.key key) steps.old steps.new }
+        ensures counted { IsCounted Q.Owned.item
+            (siblings_of self.now) (Q.key key) steps.old steps.new }
     {
         let mut link_ref = LinkRef::Root;
         let mut at = self.root;
@@ -175,7 +176,8 @@ impl<V> NodeArena<V> {
         requires row { IsCanonical Q.Owned.item (siblings_of self.now) }
         requires nonempty { Q.key key ≢ [] }
         ensures value { option_copied result ≡ find key_cmp (Q.key key) (entries_of self.now) }
-        ensures counted { IsCounted Q.Owned.item (siblings_of self.now) (Q.key key) steps.old steps.new }
+        ensures counted { IsCounted Q.Owned.item
+            (siblings_of self.now) (Q.key key) steps.old steps.new }
     {
         let place = self.seek_counted(key, steps);
         match place.here() {

@@ -14,5 +14,7 @@ pub record IsLongest {V : Type 0} (m : map.FinMap key_cmp V) (key part : List �
   pub is_longest : (v : V) → map.get m part ≡ Some v → longest key (map.entries m) ≡ Some (part, v)
 
 -- the map ends with the value at the key as the loan leaves it
-abbrev pub lends_longest : (K V : RattleType) → Ghosts K.Denot → MutBor (map.FinMap key_cmp V.Denot) → List ℕ → MutBor V.Denot → Fml
+abbrev pub lends_longest : (K V : RattleType) → Ghosts K.Denot
+    → MutBor (map.FinMap key_cmp V.Denot) → List ℕ
+    → MutBor V.Denot → Fml
 lends_longest K V bytes s key r = Lends (the_row K V bytes) V s r (map.insert s.now key)

@@ -17,6 +17,8 @@ pub record IsNextValue {V : Type 0} (s : CursorView V) : Type 0 where
   pub is_next : (v : V) → last_value (stepped s) ≡ Some v → next_value s ≡ Some v
 
 -- the cursor C of a map M ends with the value as the loan leaves it, as written says
-abbrev pub lends_next : (M C V : RattleType) → (C.Denot → V.Denot → C.Denot) → MutBor (CursorGuard M.Denot C.Denot) → MutBor V.Denot → Fml
+abbrev pub lends_next : (M C V : RattleType) → (C.Denot → V.Denot → C.Denot)
+    → MutBor (CursorGuard M.Denot C.Denot) → MutBor V.Denot → Fml
 lends_next M C V written s r =
-    Lends (the_row (record { mir = named 1; lft = [] }) M C) V s r (λ value. record s.now { at = written s.now.at value })
+    Lends (the_row (record { mir = named 1; lft = [] }) M C) V s r
+        (λ value. record s.now { at = written s.now.at value })

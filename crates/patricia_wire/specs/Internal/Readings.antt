@@ -81,8 +81,8 @@ module _ (item : List ℕ → Type 0) where
   abbrev pub IsAfter : Due → Type 0
   IsAfter due = (l : List ℕ) → due.after ≡ Some l → IsValid item l × (l ≢ []) × (due.level ≢ 0)
 
-  -- the record breaks the rule, by what is due, where so many values are left; the record that is due
-  -- at level 0 is the root
+  -- the record breaks the rule, by what is due, where so many values are left; the record that is
+  -- due at level 0 is the root
   abbrev pub BreaksRule : Due → ℕ → Record → Rule → Type 0
   BreaksRule due left r level = r.level ≢ due.level
   BreaksRule due left r root_label = (due.level ≡ 0) × (r.label ≢ [])
@@ -100,8 +100,10 @@ module _ (item : List ℕ → Type 0) where
   BreaksNone due left r = (rule : Rule) → BreaksRule due left r rule → ⊥
 
   abbrev pub BreaksNoneBelow : Due → ℕ → Record → ℕ → Type 0
-  BreaksNoneBelow due left r k = (rule : Rule) → rule_number rule < k → BreaksRule due left r rule → ⊥
+  BreaksNoneBelow due left r k =
+      (rule : Rule) → rule_number rule < k → BreaksRule due left r rule → ⊥
 
   -- the record breaks the rule, and none before it
   abbrev pub BreaksFirst : Due → ℕ → Record → Rule → Type 0
-  BreaksFirst due left r rule = BreaksRule due left r rule × BreaksNoneBelow due left r (rule_number rule)
+  BreaksFirst due left r rule =
+      BreaksRule due left r rule × BreaksNoneBelow due left r (rule_number rule)

@@ -45,4 +45,5 @@ module _ (item : List ℕ → Type 0) where
   -- a writable row has the entries of a row in memory
   abbrev pub HasJoinedRow : Type 0 → Type 0
   HasJoinedRow V =
-      (r : Siblings V) → IsWritable item r → (s : Siblings V) × IsCanonical item s × (entries s ≡ entries r)
+      (r : Siblings V) → IsWritable item r
+      → (s : Siblings V) × IsCanonical item s × (entries s ≡ entries r)

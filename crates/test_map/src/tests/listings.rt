@@ -71,7 +71,8 @@ fn listed_along<Q: BorrowedBytes, V: Copy + Drop>(
     tree: &GenericPatriciaMap<Q::Owned, V>,
     key: Q,
 ) -> Result<Vec<(Q, V)>, AllocError>
-    ensures { IfOk result (λ list. each (λ e. (Q.key e.0, e.1)) list.items ≡ along (Q.key key) (map.entries tree.now)) }
+    ensures { IfOk result (λ list.
+        each (λ e. (Q.key e.0, e.1)) list.items ≡ along (Q.key key) (map.entries tree.now)) }
 {
     let mut list = Vec::new(alloc);
     for item in tree.common_prefixes(key) {
@@ -97,7 +98,9 @@ fn listed_under<Q: BorrowedBytes, V: Copy + Drop>(
     tree: &GenericPatriciaMap<Q::Owned, V>,
     prefix: Q,
 ) -> Result<Vec<(Q::Owned, V)>, AllocError>
-    ensures { IfOk result (λ list. each (λ e. (Q.Owned.key e.0, e.1)) list.items ≡ under (Q.key prefix) (map.entries tree.now)) }
+    ensures { IfOk result (λ list.
+        each (λ e. (Q.Owned.key e.0, e.1)) list.items
+            ≡ under (Q.key prefix) (map.entries tree.now)) }
 {
     let mut list = Vec::new(alloc);
     for item in tree.iter_prefix(prefix) {

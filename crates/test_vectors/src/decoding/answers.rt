@@ -164,8 +164,8 @@ fn add_set_read<K: Bytes>(
     }
 }
 
-/// Adds what a map and a set have that are read from bytes, with the values for the map, and as many
-/// times nothing for the set.
+/// Adds what a map and a set have that are read from bytes, with the values for the map, and as
+/// many times nothing for the set.
 pub(super) fn add<K: Bytes>(
     alloc: Global,
     levels: Levels,
