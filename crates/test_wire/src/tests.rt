@@ -7,4 +7,5 @@ mod decimals;
 mod helpers;
 mod hostile;
 mod json;
+mod levels;
 mod reader;

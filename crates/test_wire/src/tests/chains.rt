@@ -1,5 +1,6 @@
 //! Trees as deep as can be written. `.ci/run` runs these tests under a call stack of 512 KiB, too.
 use super::helpers::{chain, numbers};
+use super::levels::Levels;
 use super::reader::{end_of, records_of};
 use patricia_tree::{
     BorrowedBytes, Bytes, DecodeError, GenericPatriciaMap, PatriciaMap, WireError,
@@ -41,7 +42,7 @@ fn written<K: Bytes>(
     map: &GenericPatriciaMap<K, u64>,
 ) -> Result<(usize, usize), WireError> {
     let tree = map.tree_bytes()?;
-    let records = records_of(alloc, &tree)?;
+    let records = records_of(alloc, Levels::Narrow, &tree)?;
     Ok((records.len(), end_of(&records)))
 }
 

@@ -1,5 +1,6 @@
 //! Inputs that claim much and hold little. `.ci/run` asks that no request of this test is large.
-use patricia_tree::{DecodeError, PatriciaSet};
+use super::levels::Levels;
+use patricia_tree::DecodeError;
 use std::alloc::{AllocError, Global};
 use std::process::Abort;
 use std::test::Fail;
@@ -22,14 +23,32 @@ const CLAIMS: [(&[u8], DecodeError); 4] = [
     (&[15, 0, 0, 0, 3, 1, 0, 1, 97], DecodeError::TooManyValues),
 ];
 
+// The same with wide levels.
+const WIDE_CLAIMS: [(&[u8], DecodeError); 4] = [
+    (
+        &[12, 0, 0, 0, 0, 0, 63, 255, 255, 255, 255, 255],
+        DecodeError::Truncated(6),
+    ),
+    (
+        &[12, 0, 0, 0, 0, 0, 63, 1, 0, 0, 0, 1, 97],
+        DecodeError::Truncated(13),
+    ),
+    (&[3, 0, 0, 0, 0, 0], DecodeError::TooManyValues),
+    (
+        &[15, 0, 0, 0, 0, 0, 3, 1, 0, 0, 0, 1, 97],
+        DecodeError::TooManyValues,
+    ),
+];
+
 // Asserts how a set is refused that is read with a million values.
 fn check_claim(
     rt: &impl Abort,
     alloc: Global,
+    levels: Levels,
     tree: &[u8],
     fault: DecodeError,
 ) -> Result<(), AllocError> {
-    let read = PatriciaSet::from_wire(alloc, tree, nothings(alloc)?);
+    let read = levels.read_set::<Vec<u8>>(alloc, tree, nothings(alloc)?);
     assert_eq!(rt; read.err(), Some(fault));
     Ok(())
 }
@@ -37,7 +56,10 @@ fn check_claim(
 #[test]
 fn little_is_asked_for(rt: HostRuntime) -> Result<(), Fail> {
     for (tree, fault) in &CLAIMS {
-        check_claim(&rt, rt.alloc(), tree, *fault)?;
+        check_claim(&rt, rt.alloc(), Levels::Narrow, tree, *fault)?;
+    }
+    for (tree, fault) in &WIDE_CLAIMS {
+        check_claim(&rt, rt.alloc(), Levels::Wide, tree, *fault)?;
     }
     Ok(())
 }

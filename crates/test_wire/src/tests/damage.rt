@@ -1,5 +1,7 @@
-//! Three encodings of which each byte is each other byte in turn, and of which each proper prefix
-//! is read. What is read is compared with what the plain reader of these tests reads.
+//! Three encodings, with levels of each width, of which each byte is each other byte in turn, and of
+//! which each proper prefix is read. What is read is compared with what the plain reader of these
+//! tests reads.
+use super::levels::Levels;
 use super::reader::{Kind, Row, read};
 use patricia_tree::{DecodeError, GenericPatriciaMap, PatriciaMap};
 use std::alloc::{AllocError, Global};
@@ -11,20 +13,32 @@ const THREE: [u8; 27] = [
     12, 0, 0, 0, 60, 2, 0, 1, 98, 97, 51, 1, 0, 2, 114, 3, 1, 0, 2, 122, 3, 3, 0, 1, 102, 111, 111,
 ];
 
+// The same with wide levels.
+const WIDE_THREE: [u8; 37] = [
+    12, 0, 0, 0, 0, 0, 60, 2, 0, 0, 0, 1, 98, 97, 51, 1, 0, 0, 0, 2, 114, 3, 1, 0, 0, 0, 2, 122, 3,
+    3, 0, 0, 0, 1, 102, 111, 111,
+];
+
 const THREE_VALUES: [u64; 3] = [2, 3, 1];
 
 // The empty key, and a.
 const EMPTY_AND_A: [u8; 9] = [15, 0, 0, 0, 3, 1, 0, 1, 97];
 
+// The same with wide levels.
+const WIDE_EMPTY_AND_A: [u8; 13] = [15, 0, 0, 0, 0, 0, 3, 1, 0, 0, 0, 1, 97];
+
 const TWO_VALUES: [u64; 2] = [1, 2];
 
 // The keys b and 254 times a with あの behind it. A label of 255 bytes would end inside of あ.
-fn long_text(alloc: Global) -> Result<Vec<u8>, AllocError> {
+fn long_text(alloc: Global, levels: Levels) -> Result<Vec<u8>, AllocError> {
     let mut tree = Vec::new(alloc);
-    tree.extend_from_slice(&[12, 0, 0, 0, 60, 254, 0, 1])?;
+    levels.push_head(&mut tree, 12, 0, 0)?;
+    levels.push_head(&mut tree, 60, 254, 1)?;
     tree.extend_from_slice(&[b'a'; 254])?;
-    tree.extend_from_slice(&[3, 6, 0, 2, 227, 129, 130, 227, 129, 174])?;
-    tree.extend_from_slice(&[3, 1, 0, 1, b'b'])?;
+    levels.push_head(&mut tree, 3, 6, 2)?;
+    tree.extend_from_slice("あの".as_bytes())?;
+    levels.push_head(&mut tree, 3, 1, 1)?;
+    tree.push(b'b')?;
     Ok(tree)
 }
 
@@ -38,7 +52,7 @@ fn has_rows<K: Kind>(map: &GenericPatriciaMap<K, u64>, rows: &[Row]) -> bool {
     map.len() == rows.len()
 }
 
-// Whether what `from_wire` returned is what the plain reader did. Out of memory is wrong for both.
+// Whether what a map was read as is what the plain reader did. Out of memory is wrong for both.
 fn is_same<K: Kind>(
     found: Result<GenericPatriciaMap<K, u64>, DecodeError>,
     wanted: Result<Vec<Row>, DecodeError>,
@@ -50,10 +64,15 @@ fn is_same<K: Kind>(
     }
 }
 
-fn agrees<K: Kind>(alloc: Global, tree: &[u8], values: &[u64]) -> Result<bool, AllocError> {
+fn agrees<K: Kind>(
+    alloc: Global,
+    levels: Levels,
+    tree: &[u8],
+    values: &[u64],
+) -> Result<bool, AllocError> {
     let owned = Vec::from_slice(alloc, values)?;
-    let found = GenericPatriciaMap::<K, u64>::from_wire(alloc, tree, owned);
-    Ok(is_same(found, read::<K>(alloc, tree, values)))
+    let found = levels.read_map::<K>(alloc, tree, owned);
+    Ok(is_same(found, read::<K>(alloc, levels, tree, values)))
 }
 
 // The bytes with another one at this place.
@@ -68,25 +87,27 @@ fn changed(alloc: Global, tree: &[u8], at: usize, byte: u8) -> Result<Vec<u8>, A
 // Whether a change of one byte is read alike.
 fn is_change_right<K: Kind>(
     alloc: Global,
+    levels: Levels,
     tree: &[u8],
     values: &[u64],
     at: usize,
     byte: u8,
 ) -> Result<bool, AllocError> {
-    agrees::<K>(alloc, &changed(alloc, tree, at, byte)?, values)
+    agrees::<K>(alloc, levels, &changed(alloc, tree, at, byte)?, values)
 }
 
 // Each byte is each other byte in turn, and itself once.
 fn check_changes<K: Kind>(
     rt: &impl Abort,
     alloc: Global,
+    levels: Levels,
     tree: &[u8],
     values: &[u64],
 ) -> Result<(), AllocError> {
     for at in 0..tree.len() {
         for byte in 0..=u8::MAX {
             assert!(rt;
-                is_change_right::<K>(alloc, tree, values, at, byte)?,
+                is_change_right::<K>(alloc, levels, tree, values, at, byte)?,
                 "{byte} at {at}"
             );
         }
@@ -113,17 +134,19 @@ fn greatest_up_to(starts: &[usize], most: usize) -> usize {
 // What is wrong with some bytes.
 fn fault_of<K: Kind>(
     alloc: Global,
+    levels: Levels,
     tree: &[u8],
     values: &[u64],
 ) -> Result<Option<DecodeError>, AllocError> {
     let owned = Vec::from_slice(alloc, values)?;
-    Ok(GenericPatriciaMap::<K, u64>::from_wire(alloc, tree, owned).err())
+    Ok(levels.read_map::<K>(alloc, tree, owned).err())
 }
 
 // Each proper prefix is cut short at the record that it ends in, or behind which it ends.
 fn check_cuts<K: Kind>(
     rt: &impl Abort,
     alloc: Global,
+    levels: Levels,
     tree: &[u8],
     values: &[u64],
     starts: &[usize],
@@ -131,8 +154,8 @@ fn check_cuts<K: Kind>(
     for len in 0..tree.len() {
         let cut = front(tree, len);
         let wanted = DecodeError::Truncated(greatest_up_to(starts, len));
-        assert_eq!(rt; fault_of::<K>(alloc, cut, values)?, Some(wanted));
-        assert!(rt; agrees::<K>(alloc, cut, values)?, "cut to {len}");
+        assert_eq!(rt; fault_of::<K>(alloc, levels, cut, values)?, Some(wanted));
+        assert!(rt; agrees::<K>(alloc, levels, cut, values)?, "cut to {len}");
     }
     Ok(())
 }
@@ -141,12 +164,13 @@ fn check_cuts<K: Kind>(
 fn check_damage<K: Kind>(
     rt: &impl Abort,
     alloc: Global,
+    levels: Levels,
     tree: &[u8],
     values: &[u64],
     starts: &[usize],
 ) -> Result<(), AllocError> {
-    check_changes::<K>(rt, alloc, tree, values)?;
-    check_cuts::<K>(rt, alloc, tree, values, starts)
+    check_changes::<K>(rt, alloc, levels, tree, values)?;
+    check_cuts::<K>(rt, alloc, levels, tree, values, starts)
 }
 
 // Asserts that a map has these keys alone, each with its value.
@@ -166,30 +190,57 @@ fn check_keys<K: Kind>(
 fn check_whole<K: Kind>(
     rt: &impl Abort,
     alloc: Global,
+    levels: Levels,
     tree: &[u8],
     keys: &[&[u8]],
     values: &[u64],
 ) -> Result<(), DecodeError> {
     let owned = Vec::from_slice(alloc, values)?;
-    let map = GenericPatriciaMap::<K, u64>::from_wire(alloc, tree, owned)?;
+    let map = levels.read_map::<K>(alloc, tree, owned)?;
     check_keys(rt, &map, keys, values);
+    Ok(())
+}
+
+// Asserts what the keys bar, baz and foo are read as, and with damage. The records begin at these
+// places.
+fn check_three(
+    rt: &impl Abort,
+    alloc: Global,
+    levels: Levels,
+    tree: &[u8],
+    starts: &[usize],
+) -> Result<(), DecodeError> {
+    let keys: [&[u8]; 3] = [b"bar", b"baz", b"foo"];
+    check_whole::<Vec<u8>>(rt, alloc, levels, tree, &keys, &THREE_VALUES)?;
+    check_damage::<Vec<u8>>(rt, alloc, levels, tree, &THREE_VALUES, starts)?;
     Ok(())
 }
 
 #[test]
 fn three_keys(rt: HostRuntime) -> Result<(), Fail> {
-    let keys: [&[u8]; 3] = [b"bar", b"baz", b"foo"];
-    check_whole::<Vec<u8>>(&rt, rt.alloc(), &THREE, &keys, &THREE_VALUES)?;
-    let starts = [0, 4, 10, 15, 20];
-    check_damage::<Vec<u8>>(&rt, rt.alloc(), &THREE, &THREE_VALUES, &starts)?;
+    check_three(&rt, rt.alloc(), Levels::Narrow, &THREE, &[0, 4, 10, 15, 20])?;
+    check_three(&rt, rt.alloc(), Levels::Wide, &WIDE_THREE, &[0, 6, 14, 21, 28])?;
+    Ok(())
+}
+
+// The same of the empty key and a.
+fn check_two(
+    rt: &impl Abort,
+    alloc: Global,
+    levels: Levels,
+    tree: &[u8],
+) -> Result<(), DecodeError> {
+    let keys: [&[u8]; 2] = [b"", b"a"];
+    check_whole::<Vec<u8>>(rt, alloc, levels, tree, &keys, &TWO_VALUES)?;
+    let starts = [0, levels.head()];
+    check_damage::<Vec<u8>>(rt, alloc, levels, tree, &TWO_VALUES, &starts)?;
     Ok(())
 }
 
 #[test]
 fn an_empty_key(rt: HostRuntime) -> Result<(), Fail> {
-    let keys: [&[u8]; 2] = [b"", b"a"];
-    check_whole::<Vec<u8>>(&rt, rt.alloc(), &EMPTY_AND_A, &keys, &TWO_VALUES)?;
-    check_damage::<Vec<u8>>(&rt, rt.alloc(), &EMPTY_AND_A, &TWO_VALUES, &[0, 4])?;
+    check_two(&rt, rt.alloc(), Levels::Narrow, &EMPTY_AND_A)?;
+    check_two(&rt, rt.alloc(), Levels::Wide, &WIDE_EMPTY_AND_A)?;
     Ok(())
 }
 
@@ -200,13 +251,25 @@ fn long_key(alloc: Global) -> Result<Vec<u8>, AllocError> {
     Ok(key)
 }
 
+// The same of the third encoding.
+fn check_long(
+    rt: &impl Abort,
+    alloc: Global,
+    levels: Levels,
+    starts: &[usize],
+) -> Result<(), DecodeError> {
+    let tree = long_text(alloc, levels)?;
+    let long = long_key(alloc)?;
+    let keys: [&[u8]; 2] = [&long, b"b"];
+    check_whole::<String>(rt, alloc, levels, &tree, &keys, &TWO_VALUES)?;
+    check_damage::<String>(rt, alloc, levels, &tree, &TWO_VALUES, starts)?;
+    Ok(())
+}
+
 #[test]
 fn a_long_text(rt: HostRuntime) -> Result<(), Fail> {
-    let tree = long_text(rt.alloc())?;
-    let long = long_key(rt.alloc())?;
-    let keys: [&[u8]; 2] = [&long, b"b"];
-    check_whole::<String>(&rt, rt.alloc(), &tree, &keys, &TWO_VALUES)?;
-    check_damage::<String>(&rt, rt.alloc(), &tree, &TWO_VALUES, &[0, 4, 262, 272])?;
+    check_long(&rt, rt.alloc(), Levels::Narrow, &[0, 4, 262, 272])?;
+    check_long(&rt, rt.alloc(), Levels::Wide, &[0, 6, 266, 278])?;
     Ok(())
 }
 
@@ -224,26 +287,58 @@ const CHANGES: [(usize, u8, Option<DecodeError>); 10] = [
     (21, 2, Some(DecodeError::TrailingBytes(26))),
 ];
 
+// The same with wide levels, each byte of which has a part in the level.
+const WIDE_CHANGES: [(usize, u8, Option<DecodeError>); 14] = [
+    (0, 8, None),
+    (0, 4, Some(DecodeError::TrailingBytes(6))),
+    (2, 1, Some(DecodeError::Level(0))),
+    (6, 28, Some(DecodeError::TrailingBytes(28))),
+    (8, 1, Some(DecodeError::Level(6))),
+    (9, 1, Some(DecodeError::Level(6))),
+    (10, 1, Some(DecodeError::Level(6))),
+    (12, 103, Some(DecodeError::SiblingOrder(28))),
+    (14, 3, Some(DecodeError::Level(21))),
+    (14, 48, Some(DecodeError::NoValueNoChild(14))),
+    (19, 1, Some(DecodeError::Level(14))),
+    (28, 1, Some(DecodeError::NoValueNoChild(28))),
+    (29, 4, Some(DecodeError::Truncated(28))),
+    (29, 2, Some(DecodeError::TrailingBytes(36))),
+];
+
 // Asserts what is wrong with a change, or that it is a map of the same three keys.
 fn check_change(
     rt: &impl Abort,
     alloc: Global,
+    levels: Levels,
     tree: &[u8],
     wanted: Option<DecodeError>,
 ) -> Result<(), DecodeError> {
-    assert_eq!(rt; fault_of::<Vec<u8>>(alloc, tree, &THREE_VALUES)?, wanted);
+    assert_eq!(rt; fault_of::<Vec<u8>>(alloc, levels, tree, &THREE_VALUES)?, wanted);
     if wanted.is_none() {
         let keys: [&[u8]; 3] = [b"bar", b"baz", b"foo"];
-        check_whole::<Vec<u8>>(rt, alloc, tree, &keys, &THREE_VALUES)?;
+        check_whole::<Vec<u8>>(rt, alloc, levels, tree, &keys, &THREE_VALUES)?;
+    }
+    Ok(())
+}
+
+// Asserts what is wrong with each of some changes.
+fn check_each(
+    rt: &impl Abort,
+    alloc: Global,
+    levels: Levels,
+    tree: &[u8],
+    changes: &[(usize, u8, Option<DecodeError>)],
+) -> Result<(), DecodeError> {
+    for (at, byte, wanted) in changes {
+        let tree = changed(alloc, tree, *at, *byte)?;
+        check_change(rt, alloc, levels, &tree, *wanted)?;
     }
     Ok(())
 }
 
 #[test]
 fn one_byte(rt: HostRuntime) -> Result<(), Fail> {
-    for (at, byte, wanted) in &CHANGES {
-        let tree = changed(rt.alloc(), &THREE, *at, *byte)?;
-        check_change(&rt, rt.alloc(), &tree, *wanted)?;
-    }
+    check_each(&rt, rt.alloc(), Levels::Narrow, &THREE, &CHANGES)?;
+    check_each(&rt, rt.alloc(), Levels::Wide, &WIDE_THREE, &WIDE_CHANGES)?;
     Ok(())
 }

@@ -1,13 +1,14 @@
 //! Damaged encodings by the thousand, from fixed seeds. `tests/hostile/claims.py` runs this test
-//! under a shim that counts what each call of `from_wire` asks for.
+//! under a shim that counts what each call of `from_wire` and `from_wide_wire` asks for.
 
 mod chance;
 mod damage;
 mod trees;
 
 use super::helpers::numbers;
+use super::levels::Levels;
 use chance::Chance;
-use patricia_tree::{Bytes, DecodeError, GenericPatriciaMap, GenericPatriciaSet};
+use patricia_tree::{Bytes, DecodeError};
 use std::alloc::{AllocError, Global};
 use std::process::Abort;
 use std::test::Fail;
@@ -49,13 +50,14 @@ fn unit_values(alloc: Global, count: u64) -> Result<Vec<()>, AllocError> {
 fn read_map<K: Bytes>(
     rt: &impl Abort,
     calls: Calls,
+    levels: Levels,
     tree: &[u8],
     count: u64,
 ) -> Result<bool, AllocError> {
     let values = numbers(calls.alloc, count)?;
     let given = values.len().saturating_mul(8).saturating_add(tree.len());
     tell(rt, calls, BEGINS.saturating_add(given));
-    let read = GenericPatriciaMap::<K, u64>::from_wire(calls.alloc, tree, values);
+    let read = levels.read_map::<K>(calls.alloc, tree, values);
     tell(rt, calls, ENDS);
     let fault = read.err();
     assert!(rt; fault != Some(DecodeError::Memory));
@@ -66,12 +68,13 @@ fn read_map<K: Bytes>(
 fn read_set<K: Bytes>(
     rt: &impl Abort,
     calls: Calls,
+    levels: Levels,
     tree: &[u8],
     count: u64,
 ) -> Result<bool, AllocError> {
     let values = unit_values(calls.alloc, count)?;
     tell(rt, calls, BEGINS.saturating_add(tree.len()));
-    let read = GenericPatriciaSet::<K>::from_wire(calls.alloc, tree, values);
+    let read = levels.read_set::<K>(calls.alloc, tree, values);
     tell(rt, calls, ENDS);
     let fault = read.err();
     assert!(rt; fault != Some(DecodeError::Memory));
@@ -83,28 +86,33 @@ fn read(
     rt: &impl Abort,
     calls: Calls,
     chance: &mut Chance,
+    levels: Levels,
     tree: &[u8],
     count: u64,
 ) -> Result<bool, AllocError> {
     match chance.below(4) {
-        0 => read_map::<Vec<u8>>(rt, calls, tree, count),
-        1 => read_map::<String>(rt, calls, tree, count),
-        2 => read_set::<Vec<u8>>(rt, calls, tree, count),
-        _ => read_set::<String>(rt, calls, tree, count),
+        0 => read_map::<Vec<u8>>(rt, calls, levels, tree, count),
+        1 => read_map::<String>(rt, calls, levels, tree, count),
+        2 => read_set::<Vec<u8>>(rt, calls, levels, tree, count),
+        _ => read_set::<String>(rt, calls, levels, tree, count),
     }
 }
 
 // Reads an encoding that is damaged in some places, or in none.
 fn read_damaged(rt: &impl Abort, calls: Calls, chance: &mut Chance) -> Result<bool, AllocError> {
-    let (mut tree, keys) = trees::any(calls.alloc, chance)?;
+    let levels = match chance.below(2) {
+        0 => Levels::Narrow,
+        _ => Levels::Wide,
+    };
+    let (mut tree, keys) = trees::any(calls.alloc, chance, levels)?;
     for _ in 0..chance.below(4) {
-        tree = damage::any(calls.alloc, chance, &tree)?;
+        tree = damage::any(calls.alloc, chance, levels, &tree)?;
     }
     let count = match chance.below(4) {
         0 => chance.below(keys.saturating_add(2)),
         _ => keys,
     };
-    read(rt, calls, chance, &tree, count)
+    read(rt, calls, chance, levels, &tree, count)
 }
 
 // How many encodings of so many are those of a map or of a set.

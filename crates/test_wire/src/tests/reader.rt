@@ -15,6 +15,7 @@
 //! The first record that breaks a rule decides, since where the next one begins, and what is due
 //! there, is told by those before it. So bytes that are left are looked at behind the last record
 //! that is due, and values that are left once no byte is.
+use super::levels::Levels;
 use patricia_tree::{Bytes, DecodeError, GenericPatriciaMap};
 use std::alloc::{AllocError, Global};
 use std::str;
@@ -77,8 +78,10 @@ impl Kind for String {
 #[derive(Clone, Copy)]
 pub(super) struct Record<'a> {
     at: usize,
+    // how many bytes stand before the label
+    head: usize,
     flags: u8,
-    level: u16,
+    level: u32,
     label: &'a [u8],
 }
 
@@ -89,29 +92,47 @@ impl Record<'_> {
 
     // Where the next record begins.
     fn end(&self) -> usize {
-        self.at.saturating_add(4).saturating_add(self.label.len())
+        self.at.saturating_add(self.head).saturating_add(self.label.len())
+    }
+}
+
+// The level that stands at the front of some bytes.
+fn level_at(levels: Levels, bytes: &[u8]) -> Option<u32> {
+    match (levels, bytes) {
+        (Levels::Narrow, [high, low, ..]) => Some(u32::from(u16::from_be_bytes([*high, *low]))),
+        (Levels::Wide, [first, second, third, last, ..]) => {
+            Some(u32::from_be_bytes([*first, *second, *third, *last]))
+        }
+        _ => None,
     }
 }
 
 // The record that begins here, or `None` where it is cut short.
-fn record_at(bytes: &[u8], at: usize) -> Option<Record<'_>> {
-    match bytes.get(at..)? {
-        [flags, len, high, low, rest @ ..] => Some(Record {
+fn record_at(levels: Levels, bytes: &[u8], at: usize) -> Option<Record<'_>> {
+    let bytes = bytes.get(at..)?;
+    let label = bytes.get(levels.head()..)?;
+    match bytes {
+        [flags, len, rest @ ..] => Some(Record {
             at,
+            head: levels.head(),
             flags: *flags,
-            level: u16::from_be_bytes([*high, *low]),
-            label: rest.get(..usize::from(*len))?,
+            level: level_at(levels, rest)?,
+            label: label.get(..usize::from(*len))?,
         }),
         _ => None,
     }
 }
 
 /// The whole records at the front of some bytes.
-pub(super) fn records_of(alloc: Global, bytes: &[u8]) -> Result<Vec<Record<'_>>, AllocError> {
+pub(super) fn records_of(
+    alloc: Global,
+    levels: Levels,
+    bytes: &[u8],
+) -> Result<Vec<Record<'_>>, AllocError> {
     let mut records = Vec::new(alloc);
     let mut end = 0;
     for _ in 0..bytes.len() {
-        let Some(record) = record_at(bytes, end) else {
+        let Some(record) = record_at(levels, bytes, end) else {
             break;
         };
         end = record.end();
@@ -132,7 +153,7 @@ pub(super) fn end_of(records: &[Record<'_>]) -> usize {
 // sibling before it, which is empty where there is none.
 #[derive(Clone, Copy)]
 struct Due<'a> {
-    level: u32,
+    level: u64,
     key_len: usize,
     before: &'a [u8],
 }
@@ -151,7 +172,7 @@ impl Due<'_> {
     fn label_fault<K: Kind>(&self, record: &Record<'_>) -> Option<DecodeError> {
         let is_root = self.level == 0;
         let at = record.at;
-        if u32::from(record.level) != self.level {
+        if u64::from(record.level) != self.level {
             Some(DecodeError::Level(at))
         } else if is_root && !record.label.is_empty() {
             Some(DecodeError::RootLabel(at))
@@ -227,7 +248,7 @@ impl<'a> Reader<'a> {
         }
         if record.has(CHILD) {
             self.due.push(Due {
-                level: u32::from(record.level) + 1,
+                level: u64::from(record.level) + 1,
                 key_len: self.key.len(),
                 before: &[],
             })?;
@@ -288,10 +309,11 @@ fn read_all<'a, K: Kind>(
 /// What bytes and values mean, in key order, or what is first wrong.
 pub(super) fn read<K: Kind>(
     alloc: Global,
+    levels: Levels,
     bytes: &[u8],
     values: &[u64],
 ) -> Result<Vec<Row>, DecodeError> {
-    let records = records_of(alloc, bytes)?;
+    let records = records_of(alloc, levels, bytes)?;
     let mut reader = Reader::new(alloc)?;
     read_all::<K>(&mut reader, &records, values)?;
     match reader.last_fault(end_of(&records), bytes.len(), values.len()) {

@@ -1,5 +1,6 @@
 //! Damage to encodings.
 
+use super::super::levels::Levels;
 use super::chance::Chance;
 use std::alloc::{AllocError, Global};
 
@@ -31,8 +32,31 @@ fn claim(chance: &mut Chance) -> &'static [u8] {
     }
 }
 
+// The same with a wide level.
+fn wide_claim(chance: &mut Chance) -> &'static [u8] {
+    match chance.below(5) {
+        0 => b"\x3f\xff\xff\xff\xff\xffa",
+        1 => b"\x0f\xff\0\0\0\x01a",
+        2 => b"\x3f\x01\xff\xff\xff\xffa",
+        3 => b"\x3c\x01\0\0\0\x02a",
+        _ => b"\x0c\0\0\0\0\0\x3f",
+    }
+}
+
+fn claim_of(chance: &mut Chance, levels: Levels) -> &'static [u8] {
+    match levels {
+        Levels::Narrow => claim(chance),
+        Levels::Wide => wide_claim(chance),
+    }
+}
+
 /// An encoding with damage in one place.
-pub(super) fn any(alloc: Global, chance: &mut Chance, tree: &[u8]) -> Result<Vec<u8>, AllocError> {
+pub(super) fn any(
+    alloc: Global,
+    chance: &mut Chance,
+    levels: Levels,
+    tree: &[u8],
+) -> Result<Vec<u8>, AllocError> {
     let at = chance.place(tree);
     let behind = at.saturating_add(1);
     match chance.below(7) {
@@ -41,6 +65,6 @@ pub(super) fn any(alloc: Global, chance: &mut Chance, tree: &[u8]) -> Result<Vec
         3 => joined(alloc, tree, at, &[], tree.len()),
         4 => joined(alloc, tree, at, &[], behind),
         5 => joined(alloc, tree, tree.len(), &[], at),
-        _ => joined(alloc, tree, at, claim(chance), at),
+        _ => joined(alloc, tree, at, claim_of(chance, levels), at),
     }
 }
