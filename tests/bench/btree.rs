@@ -190,6 +190,29 @@ fn time_copies(times: bool, map: &Map, prefix: &[u8]) {
     println!("share {}", part.len() * 1000 / map.len().max(1));
 }
 
+// Takes half of the keys out and puts them in again, and then the other half.
+fn churn(times: bool, present: &[&[u8]], absent: &[&[u8]]) {
+    let mut map = Map::new();
+    put(&mut map, present);
+    let (front, back) = present.split_at(present.len() / 2);
+    let rounds = [
+        ("churn_remove", "churn_insert", front),
+        ("churn_remove_again", "churn_insert_again", back),
+    ];
+    for (remove, insert, keys) in rounds {
+        let start = Instant::now();
+        report(times, remove, start, keys.len(), taken(&mut map, keys));
+        let start = Instant::now();
+        report(times, insert, start, keys.len(), put(&mut map, keys));
+    }
+    let start = Instant::now();
+    report(times, "churned_get", start, present.len(), found(&map, present));
+    let start = Instant::now();
+    report(times, "churned_get_absent", start, absent.len(), found(&map, absent));
+    let start = Instant::now();
+    report(times, "churned_walk", start, map.len(), walked(&map));
+}
+
 fn measure(times: bool, present: &mut [&[u8]], absent: &[&[u8]], prefix: &[u8]) {
     let before = memory("VmRSS:");
     let mut map = Map::new();
@@ -219,6 +242,7 @@ fn measure(times: bool, present: &mut [&[u8]], absent: &[&[u8]], prefix: &[u8]) 
     time_copies(times, &map, prefix);
     let start = Instant::now();
     report(times, "remove", start, present.len(), taken(&mut map, present));
+    churn(times, present, absent);
 
     present.sort_unstable();
     let mut map = Map::new();

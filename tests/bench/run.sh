@@ -1,9 +1,11 @@
 #!/bin/bash
-# Times the map and std's ordered map in turn, three times each: run.sh [KEYS].
-# Prints a table for each kind of keys, with the best of the three figures and their ratio.
+# Times the map, std's ordered map and, where Debian's libjudy-dev is installed, a JudySL array in
+# turn, three processes each: run.sh [KEYS ...]. Without a number of keys it runs with 820,000 and
+# with 1,000,000. Prints a table for each kind of keys, with the least of the three figures of each
+# and the ratio to std's map.
 set -euo pipefail
 cd "$(dirname "$0")/../.."
-count=${1:-1000000}
+if [ $# -eq 0 ]; then set -- 820000 1000000; fi
 room=$(mktemp -d)
 trap 'rm -rf "$room"' EXIT
 
@@ -13,33 +15,50 @@ if ! (cd crates/bench_tree && rt run) < /dev/null > "$room/log" 2>&1; then
 fi
 cp crates/bench_tree/out/bench_tree "$room/map"
 rustc -O --edition 2021 tests/bench/btree.rs -o "$room/btree"
+programs=(map btree)
+if cc -O2 -o "$room/judy" tests/bench/judy.c -lJudy 2> "$room/log"; then programs+=(judy); fi
 
-for kind in titles domains hex; do
+# The lines of the counts that two programs print with the same names are the same.
+same_answers() { # other
+    awk 'NR == FNR { answer[$1] = $2; next } ($1 in answer) && answer[$1] != $2 { print; bad = 1 } END { exit bad }' \
+        "$room/map.answers" "$room/$1.answers"
+}
+
+measure() { # kind, number of keys
+    local program
     # as many again are only asked for
-    python3 tests/bench/keys.py "$kind" $((2 * count)) 1 > "$room/keys"
-    "$room/map" < "$room/keys" > "$room/map.answers"
-    "$room/btree" < "$room/keys" > "$room/btree.answers"
+    python3 tests/bench/keys.py "$1" $((2 * $2)) 1 > "$room/keys"
+    for program in "${programs[@]}"; do "$room/$program" < "$room/keys" > "$room/$program.answers"; done
     cmp "$room/map.answers" "$room/btree.answers"
+    for program in "${programs[@]}"; do same_answers "$program"; done
     rm -f "$room/figures"
     for _ in 1 2 3; do
-        for program in map btree; do
+        for program in "${programs[@]}"; do
             "$room/$program" times < "$room/keys" | sed "s/^/$program /" >> "$room/figures"
         done
     done
-    echo "| $count $kind | the map | std's ordered map | ratio |"
-    echo "|---|---|---|---|"
-    awk '
+}
+
+table() { # kind, number of keys
+    awk -v count="$2" -v kind="$1" '
         # a million bytes or entries a second: so many for 1,000 entries, over the nanoseconds of one
         function rate(count, program, name) { return count / (best[program, name] > 0 ? best[program, name] : 1) }
+        function over(program, name) { return best[program, name] / (best["btree", name] > 0 ? best["btree", name] : 1) }
+        $1 == "judy" { judy = 1 }
         $2 == "keys" { next }
         $2 == "share" { share = $3; next }
         $2 == "tree_size" { size[$1] = $3; next }
         !(($1, $2) in best) { if ($1 == "map") names[++n] = $2; best[$1, $2] = $3 }
         $3 < best[$1, $2] { best[$1, $2] = $3 }
         END {
+            printf "| %d %s | the map | std\047s ordered map | ratio |%s\n", count, kind, judy ? " JudySL | ratio |" : ""
+            printf "|---|---|---|---|%s\n", judy ? "---|---|" : ""
             for (i = 1; i <= n; i++) {
-                map = best["map", names[i]]; btree = best["btree", names[i]]
-                printf "| %s | %d | %d | %.2f |\n", names[i], map, btree, map / (btree > 0 ? btree : 1)
+                name = names[i]
+                printf "| %s | %d | %d | %.2f |", name, best["map", name], best["btree", name], over("map", name)
+                if (judy && ("judy", name) in best) printf " %d | %.2f |", best["judy", name], over("judy", name)
+                else if (judy) printf " - | - |"
+                printf "\n"
             }
             printf "\nsplit_by_prefix takes out %d of 1,000 entries.\n", share
             printf "tree_bytes writes %d bytes for 1,000 entries, %d million a second; the copy %d, %d million a second.\n",
@@ -48,4 +67,11 @@ for kind in titles domains hex; do
                 rate(size["map"], "map", "from_wire"), rate(1000, "map", "from_wire"), rate(1000, "map", "insert_sorted")
         }' "$room/figures"
     echo
+}
+
+for count in "$@"; do
+    for kind in titles domains hex; do
+        measure "$kind" "$count"
+        table "$kind" "$count"
+    done
 done

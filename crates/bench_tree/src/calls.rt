@@ -260,3 +260,13 @@ pub(super) fn forget<K: Bytes>(maps: &mut Maps<K>) {
     maps.part = GenericPatriciaMap::new(maps.alloc);
     maps.tree = Vec::new(maps.alloc);
 }
+
+/// Makes the map anew, and inserts some keys in their order.
+pub(super) fn refill<Q: BorrowedBytes>(
+    maps: &mut Maps<Q::Owned>,
+    keys: &[Q],
+) -> Result<(), AllocError> {
+    maps.map = GenericPatriciaMap::new(maps.alloc);
+    call_each(&mut maps.map, Each::Put, keys)?;
+    Ok(())
+}

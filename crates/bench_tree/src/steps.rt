@@ -1,5 +1,5 @@
 //! The steps of a measurement, one after the other.
-use crate::calls::{Each, Maps, Whole, call_each, call_whole, collect, forget};
+use crate::calls::{Each, Maps, Whole, call_each, call_whole, collect, forget, refill};
 use crate::keys::Lists;
 use crate::lines::{Sheet, report, report_share};
 use patricia_tree::{BorrowedBytes, Bytes, GenericPatriciaMap};
@@ -15,6 +15,9 @@ enum Part {
     // as many absent ones as there are halves
     Few,
     Halves,
+    // of the present ones those in the first half of their order, and the others
+    Front,
+    Back,
 }
 
 // What is done between calls, outside their times. Two of these have a line, and so a name.
@@ -22,6 +25,7 @@ enum Part {
 enum Between {
     Collect,
     Forget,
+    Refill,
     Share,
     Size,
 }
@@ -34,7 +38,7 @@ enum Step {
     Between(Between),
 }
 
-const STEPS: [(&str, Step); 17] = [
+const STEPS: [(&str, Step); 25] = [
     ("get", Step::Each(Each::Get, Part::Present)),
     ("get_absent", Step::Each(Each::Get, Part::Absent)),
     ("walk", Step::Whole(Whole::Walk)),
@@ -52,15 +56,26 @@ const STEPS: [(&str, Step); 17] = [
     ("share", Step::Between(Between::Share)),
     ("", Step::Between(Between::Forget)),
     ("remove", Step::Each(Each::Take, Part::Present)),
+    ("", Step::Between(Between::Refill)),
+    ("churn_remove", Step::Each(Each::Take, Part::Front)),
+    ("churn_insert", Step::Each(Each::Put, Part::Front)),
+    ("churn_remove_again", Step::Each(Each::Take, Part::Back)),
+    ("churn_insert_again", Step::Each(Each::Put, Part::Back)),
+    ("churned_get", Step::Each(Each::Get, Part::Present)),
+    ("churned_get_absent", Step::Each(Each::Get, Part::Absent)),
+    ("churned_walk", Step::Whole(Whole::Walk)),
 ];
 
 fn part_of<Q>(lists: &Lists<Q>, part: Part) -> &[Q] {
     let absent = lists.absent.as_slice();
+    let middle = lists.present.len() / 2;
     match part {
         Part::Present => &lists.present,
         Part::Absent => absent,
         Part::Few => absent.get(..lists.halves.len()).unwrap_or(absent),
         Part::Halves => &lists.halves,
+        Part::Front => &lists.present[..middle],
+        Part::Back => &lists.present[middle..],
     }
 }
 
@@ -121,15 +136,17 @@ fn report_size<R: Print, K: Bytes>(
 }
 
 // Does what is done between calls.
-fn pass<R: Print, K: Bytes>(
+fn pass<R: Print, Q: BorrowedBytes>(
     sheet: &Sheet<'_, R>,
     name: &str,
-    maps: &mut Maps<K>,
+    maps: &mut Maps<Q::Owned>,
     between: Between,
+    lists: &Lists<Q>,
 ) -> io::Result<()> {
     match between {
         Between::Collect => collect(maps)?,
         Between::Forget => forget(maps),
+        Between::Refill => refill(maps, &lists.present)?,
         Between::Share => report_part(sheet, name, maps)?,
         Between::Size => report_size(sheet, name, maps)?,
     }
@@ -149,7 +166,7 @@ fn time_step<R: Clock + Print, Q: BorrowedBytes>(
             time_each(sheet, name, &mut maps.map, call, part_of(lists, part))
         }
         Step::Whole(call) => time_whole(sheet, name, maps, call, lists.prefix),
-        Step::Between(between) => pass(sheet, name, maps, between),
+        Step::Between(between) => pass(sheet, name, maps, between, lists),
     }
 }
 
