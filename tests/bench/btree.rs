@@ -211,6 +211,8 @@ fn churn(times: bool, present: &[&[u8]], absent: &[&[u8]]) {
     report(times, "churned_get_absent", start, absent.len(), found(&map, absent));
     let start = Instant::now();
     report(times, "churned_walk", start, map.len(), walked(&map));
+    let start = Instant::now();
+    report(times, "churned_lend", start, map.len(), walked(&map));
 }
 
 fn measure(times: bool, present: &mut [&[u8]], absent: &[&[u8]], prefix: &[u8]) {
@@ -229,6 +231,8 @@ fn measure(times: bool, present: &mut [&[u8]], absent: &[&[u8]], prefix: &[u8]) 
     report(times, "get_absent", start, absent.len(), found(&map, absent));
     let start = Instant::now();
     report(times, "walk", start, map.len(), walked(&map));
+    let start = Instant::now();
+    report(times, "lend", start, map.len(), walked(&map));
     let start = Instant::now();
     report(times, "values", start, map.len(), summed(&map));
     let some = &absent[..absent.len().min(100_000)];

@@ -94,6 +94,7 @@ pub(super) fn call_each<Q: BorrowedBytes>(
 #[derive(Clone, Copy)]
 pub(super) enum Whole {
     Walk,
+    Lend,
     Values,
     Raise,
     Write,
@@ -135,6 +136,18 @@ fn walked<K: Bytes>(map: &GenericPatriciaMap<K, u64>) -> Result<u64, AllocError>
     let mut bytes: u64 = 0;
     for entry in map.iter() {
         bytes = bytes.wrapping_add(key_len(entry)?);
+    }
+    Ok(bytes)
+}
+
+// Adds the lengths of all keys, which a cursor lends.
+fn lent<K: Bytes>(map: &GenericPatriciaMap<K, u64>) -> Result<u64, AllocError> {
+    let mut bytes: u64 = 0;
+    let mut cursor = map.cursor();
+    while cursor.advance()? {
+        if let Some(key) = cursor.key() {
+            bytes = bytes.wrapping_add(key.len() as u64);
+        }
     }
     Ok(bytes)
 }
@@ -226,6 +239,7 @@ pub(super) fn call_whole<Q: BorrowedBytes>(
 ) -> Result<u64, AllocError> {
     match call {
         Whole::Walk => walked(&maps.map),
+        Whole::Lend => lent(&maps.map),
         Whole::Values => summed(&maps.map),
         Whole::Raise => raised(&mut maps.map),
         Whole::Write => written(&maps.map, &mut maps.tree),

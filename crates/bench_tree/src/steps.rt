@@ -38,10 +38,11 @@ enum Step {
     Between(Between),
 }
 
-const STEPS: [(&str, Step); 25] = [
+const STEPS: [(&str, Step); 27] = [
     ("get", Step::Each(Each::Get, Part::Present)),
     ("get_absent", Step::Each(Each::Get, Part::Absent)),
     ("walk", Step::Whole(Whole::Walk)),
+    ("lend", Step::Whole(Whole::Lend)),
     ("values", Step::Whole(Whole::Values)),
     ("under", Step::Each(Each::Under, Part::Halves)),
     ("longest", Step::Each(Each::Longest, Part::Few)),
@@ -64,6 +65,7 @@ const STEPS: [(&str, Step); 25] = [
     ("churned_get", Step::Each(Each::Get, Part::Present)),
     ("churned_get_absent", Step::Each(Each::Get, Part::Absent)),
     ("churned_walk", Step::Whole(Whole::Walk)),
+    ("churned_lend", Step::Whole(Whole::Lend)),
 ];
 
 fn part_of<Q>(lists: &Lists<Q>, part: Part) -> &[Q] {

@@ -9,6 +9,7 @@ ghost use Rattle.patricia_keys.specs.Keys.{AreSingle, Begins, IsValid};
 ghost use Rattle.patricia_model.specs.Clones.{ClonesAreSame};
 ghost use Rattle.patricia_model.specs.Points.{CountsVisits, IsPoint, Joins};
 ghost use Rattle.patricia_model.specs.Prefixes.{along, longest, outside, under, IsReach};
+ghost use Rattle.patricia_model.specs.Cursors.{before_rows};
 ghost use Rattle.patricia_model.specs.Walks.{values_of};
 ghost use Rattle.patricia_wire.specs.Counts.{IsCount};
 ghost use Rattle.patricia_wire.specs.TreeBytes.{AreTreeBytes};
@@ -27,8 +28,8 @@ pub use patricia_nodes::arena::Refused;
 use patricia_walks::along::{Along, AlongOwned};
 use patricia_walks::into_walk::IntoWalk;
 use patricia_walks::reach::reach;
-use patricia_walks::under::Under;
-use patricia_walks::walk::Walk;
+use patricia_walks::under::{PrefixReadCursor, Under};
+use patricia_walks::walk::{ReadCursor, Walk};
 use std::alloc::{AllocError, Global};
 use std::marker::{Brand, Model, PhantomData};
 use std::mem;
@@ -355,6 +356,23 @@ impl<K: Bytes, V: Drop> Tree<K, V> {
         ensures { result ≡ map.entries self.now }
     {
         Walk::new(self.alloc, self.value.as_ref(), &self.arena)
+    }
+
+    /// A cursor that reads the entries in key order. Making it does not allocate.
+    pub fn cursor(&self) -> ReadCursor<'_, K, V>
+        ensures { result ≡ before_rows (map.entries self.now) }
+    {
+        ReadCursor::new(self.walk())
+    }
+
+    /// The same of the entries whose key begins with a prefix. Making it does not allocate.
+    pub fn cursor_under<Q: BorrowedBytes<Owned = K>>(
+        &self,
+        prefix: Q,
+    ) -> PrefixReadCursor<'_, Q, V>
+        ensures { result ≡ before_rows (under (Q.key prefix) (map.entries self.now)) }
+    {
+        PrefixReadCursor::new(self.under(prefix))
     }
 
     /// A walk that moves the entries out, in key order. Making it does not allocate.

@@ -1,5 +1,5 @@
 -- Where a cursor stands, and what it has still to lend.
-use Rattle.std.specs.Prelude.{ℕ, List, Option, Some, None, filter, slice_get}
+use Rattle.std.specs.Prelude.{ℕ, List, Option, Some, None, filter, slice_get, drop}
 use Rattle.std.specs.FinMap as map
 use Rattle.std.specs.Option.{option_map, option_or, option_and_then, option_map_or}
 use Rattle.std.specs.Ordering.{is_lt}
@@ -11,6 +11,20 @@ pub record CursorView (V : Type 0) : Type 0 where
   pub map : map.FinMap key_cmp V
   pub prefix : List ℕ
   pub last : Option (List ℕ)
+
+-- a cursor that only reads: the row at which it stands, if it stands at one, and those behind it
+pub record ReadCursorView (V : Type 0) : Type 0 where
+  pub at : Option (List ℕ × V)
+  pub left : List (List ℕ × V)
+
+module _ {V : Type 0} where
+  -- it stands at no row yet, and all of these are left
+  abbrev pub before_rows : List (List ℕ × V) → ReadCursorView V
+  before_rows rows = record { at = None; left = rows }
+
+  -- one row on: at the first of the rows that were left, or at none where there was none
+  abbrev pub advanced : ReadCursorView V → ReadCursorView V
+  advanced c = record { at = slice_get c.left 0; left = drop 1 c.left }
 
 module _ {V : Type 0} where
   -- the rows whose key comes after that one; all rows where there is none yet

@@ -2,6 +2,7 @@
 ghost use Rattle.std.specs.Prelude.{◌≡◌, ◌≢◌, ◌↔◌, [], length, None, false, not, IsTrue, IfSome};
 ghost use Rattle.std.specs.Prelude.{IfOk, OnOk, IfErr, OnErr};
 ghost use Rattle.std.specs.Option.{option_map};
+ghost use Rattle.patricia_tree.specs.Cursors.{before_rows};
 ghost use Rattle.patricia_tree.specs.Keys.{Begins};
 ghost use Rattle.patricia_tree.specs.Points.{Joins};
 ghost use Rattle.patricia_tree.specs.Prefixes.{IsReach, longest, under, outside};
@@ -15,6 +16,7 @@ mod bulk;
 mod debug;
 
 use crate::map::GenericPatriciaMap;
+pub use crate::map::{PrefixReadCursor, ReadCursor};
 pub use patricia_core::elements::{IntoIter, Iter, IterPrefix};
 use patricia_core::keys::{BorrowedBytes, Bytes};
 use patricia_core::tree::{DecodeError, WireError};
@@ -432,6 +434,45 @@ impl<T: Bytes> GenericPatriciaSet<T> {
         ensures { result ≡ keys_of (under (Q.key prefix) (map.entries self.now)) }
     {
         IterPrefix::new(self.map.iter_prefix(prefix))
+    }
+
+    /// Returns a cursor before the first element, which lends each element in turn as a key and
+    /// copies none. Does not allocate; `advance` may, for the path that it is on.
+    ///
+    /// # Examples
+    ///
+    /// ```
+    /// let set = StringPatriciaSet::from_iter(rt.alloc(), ["foo", "bar"])?;
+    /// let mut cursor = set.cursor();
+    /// assert!(rt; cursor.advance()?);
+    /// assert_eq!(rt; cursor.text(), Some("bar"));
+    /// ```
+    pub fn cursor(&self) -> ReadCursor<'_, T, ()>
+        ensures { result ≡ before_rows (map.entries self.now) }
+    {
+        self.map.cursor()
+    }
+
+    /// Returns a cursor before the first element that begins with the prefix, which lends these
+    /// elements as keys and copies none. Does not allocate; `advance` may, for the path that it is
+    /// on.
+    ///
+    /// # Examples
+    ///
+    /// ```
+    /// let set = StringPatriciaSet::from_iter(rt.alloc(), ["foo", "bar", "baz"])?;
+    /// let mut cursor = set.cursor_under("f");
+    /// assert!(rt; cursor.advance()?);
+    /// assert_eq!(rt; cursor.text(), Some("foo"));
+    /// assert!(rt; !cursor.advance()?);
+    /// ```
+    pub fn cursor_under<Q: BorrowedBytes<Owned = T>>(
+        &self,
+        prefix: Q,
+    ) -> PrefixReadCursor<'_, Q, ()>
+        ensures { result ≡ before_rows (under (Q.key prefix) (map.entries self.now)) }
+    {
+        self.map.cursor_under(prefix)
     }
 }
 

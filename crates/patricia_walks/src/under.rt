@@ -7,6 +7,10 @@ ghost use Rattle.patricia_model.specs.Walks.{YieldsOrErr};
 ghost use Rattle.patricia_nodes.specs.Internal.Plans.{IsWellFormed, siblings_of, entries_of};
 ghost use Rattle.patricia_walks.specs.Internal.Starts.{IsStartUnder, rows_from};
 
+mod reading;
+
+pub use reading::PrefixReadCursor;
+
 use crate::walk::Walk;
 use patricia_keys::{BorrowedBytes, Bytes};
 use patricia_nodes::arena::NodeArena;

@@ -9,6 +9,10 @@ ghost use Rattle.patricia_nodes.specs.Internal.Plans.{IsWellFormed, siblings_of,
 ghost use Rattle.patricia_walks.specs.Internal.Positions.{IsPosition, IsTop, AdvancesTo, state_of};
 ghost use Rattle.patricia_walks.specs.Internal.Positions.{lent, row_at, rows_below};
 
+mod reading;
+
+pub use reading::ReadCursor;
+
 use patricia_keys::Bytes;
 use patricia_nodes::arena::NodeArena;
 use patricia_nodes::link::{Link, NodeId};

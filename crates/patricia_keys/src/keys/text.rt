@@ -21,8 +21,8 @@ fn text_len(bytes: &[u8]) -> usize
     }
 }
 
-// The text of a list of bytes that is one.
-fn text_of(bytes: &[u8]) -> &str
+/// The text of a list of bytes that is one.
+pub fn text_of(bytes: &[u8]) -> &str
     requires { IsValid IsTextItem bytes.now }
     ensures { result.now ≡ bytes.now }
 {

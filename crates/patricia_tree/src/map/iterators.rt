@@ -1,12 +1,15 @@
 //! Iterators over a map, in key order.
 ghost use Rattle.std.specs.Prelude.{◌≡◌};
 ghost use Rattle.std.specs.FinMap as map;
+ghost use Rattle.patricia_core.specs.Cursors.{before_rows};
 ghost use Rattle.patricia_core.specs.Prefixes.{under};
 
 use super::GenericPatriciaMap;
 use patricia_core::entries::{IntoIter, Iter, Keys, Values};
 use patricia_core::keys::{BorrowedBytes, Bytes};
 use patricia_core::prefixes::IterPrefix;
+use patricia_core::under::PrefixReadCursor;
+use patricia_core::walk::ReadCursor;
 use std::alloc::AllocError;
 use std::iter::IntoIterator;
 
@@ -83,6 +86,46 @@ impl<K: Bytes, V: Drop> GenericPatriciaMap<K, V> {
         ensures { result ≡ map.values self.now }
     {
         Values::new(self.tree.walk())
+    }
+
+    /// Returns a cursor before the first entry, which lends each key and value in turn and copies
+    /// none. Does not allocate; `advance` may, for the path that it is on.
+    ///
+    /// # Examples
+    ///
+    /// ```
+    /// let map = StringPatriciaMap::from_iter(rt.alloc(), [("foo", 1), ("bar", 2)])?;
+    /// let mut cursor = map.cursor();
+    /// assert!(rt; cursor.advance()?);
+    /// assert_eq!(rt; (cursor.text(), cursor.value()), (Some("bar"), Some(&2)));
+    /// ```
+    pub fn cursor(&self) -> ReadCursor<'_, K, V>
+        ensures { result ≡ before_rows (map.entries self.now) }
+    {
+        self.tree.cursor()
+    }
+
+    /// Returns a cursor before the first entry whose key begins with the prefix, which lends these
+    /// entries and copies no key. Does not allocate; `advance` may, for the path that it is on.
+    ///
+    /// # Examples
+    ///
+    /// ```
+    /// let map = StringPatriciaMap::from_iter(rt.alloc(), [("foo", 1), ("bar", 2), ("baz", 3)])?;
+    /// let mut cursor = map.cursor_under("ba");
+    /// let mut keys = 0;
+    /// while cursor.advance()? {
+    ///     keys += 1;
+    /// }
+    /// assert_eq!(rt; keys, 2);
+    /// ```
+    pub fn cursor_under<Q: BorrowedBytes<Owned = K>>(
+        &self,
+        prefix: Q,
+    ) -> PrefixReadCursor<'_, Q, V>
+        ensures { result ≡ before_rows (under (Q.key prefix) (map.entries self.now)) }
+    {
+        self.tree.cursor_under(prefix)
     }
 }
 

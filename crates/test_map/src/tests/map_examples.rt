@@ -345,3 +345,28 @@ fn values(rt: HostRuntime) -> anyhow::Result<()> {
     // end
     Ok(())
 }
+
+#[test]
+fn cursor(rt: HostRuntime) -> anyhow::Result<()> {
+    // example: map cursor
+    let map = StringPatriciaMap::from_iter(rt.alloc(), [("foo", 1), ("bar", 2)])?;
+    let mut cursor = map.cursor();
+    assert!(rt; cursor.advance()?);
+    assert_eq!(rt; (cursor.text(), cursor.value()), (Some("bar"), Some(&2)));
+    // end
+    Ok(())
+}
+
+#[test]
+fn cursor_under(rt: HostRuntime) -> anyhow::Result<()> {
+    // example: map cursor_under
+    let map = StringPatriciaMap::from_iter(rt.alloc(), [("foo", 1), ("bar", 2), ("baz", 3)])?;
+    let mut cursor = map.cursor_under("ba");
+    let mut keys = 0;
+    while cursor.advance()? {
+        keys += 1;
+    }
+    assert_eq!(rt; keys, 2);
+    // end
+    Ok(())
+}

@@ -211,3 +211,26 @@ fn iter_prefix(rt: HostRuntime) -> Result<(), AllocError> {
     // end
     Ok(())
 }
+
+#[test]
+fn cursor(rt: HostRuntime) -> Result<(), AllocError> {
+    // example: set cursor
+    let set = StringPatriciaSet::from_iter(rt.alloc(), ["foo", "bar"])?;
+    let mut cursor = set.cursor();
+    assert!(rt; cursor.advance()?);
+    assert_eq!(rt; cursor.text(), Some("bar"));
+    // end
+    Ok(())
+}
+
+#[test]
+fn cursor_under(rt: HostRuntime) -> Result<(), AllocError> {
+    // example: set cursor_under
+    let set = StringPatriciaSet::from_iter(rt.alloc(), ["foo", "bar", "baz"])?;
+    let mut cursor = set.cursor_under("f");
+    assert!(rt; cursor.advance()?);
+    assert_eq!(rt; cursor.text(), Some("foo"));
+    assert!(rt; !cursor.advance()?);
+    // end
+    Ok(())
+}

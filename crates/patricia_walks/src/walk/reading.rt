@@ -1,0 +1,118 @@
+//! A cursor that lends the entries of a walk, and copies no key.
+ghost use Rattle.std.specs.Prelude.{◌≡◌, ◌≢◌, ◌↔◌, [], IfOk, IfSome, OnOk, OnErr, IsTrue};
+ghost use Rattle.std.specs.Option.{option_copied, option_map};
+ghost use Rattle.patricia_keys.specs.Keys.{IsValid};
+ghost use Rattle.patricia_model.specs.Cursors.{advanced, before_rows};
+
+use super::{Traversal, Walk};
+use patricia_keys::Bytes;
+use patricia_keys::keys::text_of;
+use std::alloc::AllocError;
+use std::marker::{Model, PhantomData};
+
+/// A cursor that reads the entries of a map in key order, and lends each key and value.
+#[derive(Drop)]
+pub struct ReadCursor<'a, K: Bytes, V> {
+    place: Traversal<'a, V>,
+    // the value at the path, where the cursor stands at an entry
+    value: Option<&'a V>,
+    kind: PhantomData<K>,
+}
+
+impl<'a, K: Bytes, V> Model for ReadCursor<'a, K, V> {
+    ghost use Rattle.std.specs.Option.{option_map};
+    ghost use Rattle.patricia_model.specs.Cursors.{ReadCursorView};
+    ghost use Rattle.patricia_model.specs.Internal.Codes.{read_cursor_view_code};
+    ghost use Rattle.patricia_model.specs.Internal.WalkStates.{entries_left};
+    ghost use Rattle.patricia_walks.specs.Internal.Positions.{IsPosition, state_of, lent};
+
+    ghost Value = { ReadCursorView V };
+
+    ghost coded = { read_cursor_view_code V.code };
+
+    ghost view = { λ c. record {
+      at = option_map (λ v. (c.place.path.items, v.now)) c.value;
+      left = entries_left (state_of (lent c.place));
+    } };
+
+    ghost invariant = { λ c. IsPosition K.item (lent c.place) };
+}
+
+impl<'a, K: Bytes, V> ReadCursor<'a, K, V> {
+    /// Makes a cursor before the first entry of a walk. Does not allocate.
+    pub fn new(walk: Walk<'a, K, V>) -> Self
+        ensures { result ≡ before_rows walk.entry }
+    {
+        let Walk { place, .. } = walk;
+        ReadCursor {
+            place,
+            value: None,
+            kind: PhantomData,
+        }
+    }
+
+    /// Advances to the next entry, and returns whether there is one. `key` and `value` lend it.
+    ///
+    /// Takes time in proportion to the nodes that it passes, and to the bytes of their labels.
+    ///
+    /// # Errors
+    ///
+    /// Out of memory: the cursor is at its end then.
+    pub fn advance(&mut self) -> Result<bool, AllocError>
+        ensures found { IfOk result (λ found. IsTrue found ↔ (self.old.left ≢ [])) }
+        ensures advanced { OnOk result (self.new ≡ advanced self.old) }
+        ensures ended { OnErr result (self.new ≡ before_rows []) }
+        ensures err_only_if_left { OnErr result (self.old.left ≢ []) }
+    {
+        match self.place.seek::<K>() {
+            Ok(value) => {
+                self.value = value;
+                Ok(value.is_some())
+            }
+            Err(error) => {
+                self.value = None;
+                self.place.finish::<K>();
+                Err(error)
+            }
+        }
+    }
+
+    /// Returns the bytes of the key at which the cursor stands, or `None` before the first entry
+    /// and behind the last one. They are those of a key of its kind.
+    ///
+    /// Takes constant time.
+    pub fn key(&self) -> Option<&[u8]>
+        ensures key { option_map (λ k. k.now) result ≡ option_map (λ e. e.0) self.now.at }
+        ensures valid { IfSome result (λ k. IsValid K.item k.now) }
+    {
+        match self.value {
+            Some(_) => Some(self.place.path.as_slice()),
+            None => None,
+        }
+    }
+
+    /// Returns the value at which the cursor stands, or `None` before the first entry and behind
+    /// the last one.
+    ///
+    /// Takes constant time.
+    pub fn value(&self) -> Option<&'a V>
+        ensures { option_copied result ≡ option_map (λ e. e.1) self.now.at }
+    {
+        self.value
+    }
+}
+
+impl<'a, V> ReadCursor<'a, String, V> {
+    /// Returns the text of the key at which the cursor stands, or `None` before the first entry and
+    /// behind the last one.
+    ///
+    /// Takes time in proportion to the key, whose bytes are checked.
+    pub fn text(&self) -> Option<&str>
+        ensures { option_map (λ k. k.now) result ≡ option_map (λ e. e.0) self.now.at }
+    {
+        match self.key() {
+            Some(bytes) => Some(text_of(bytes)),
+            None => None,
+        }
+    }
+}
