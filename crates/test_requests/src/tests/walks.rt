@@ -1,6 +1,6 @@
 // Walks to the end, and calls of `next` past it, over labels of at most 30 bytes and of more.
 use super::helpers::map_of;
-use patricia_tree::map::{IntoIter, Iter, Keys, Values};
+use patricia_tree::map::{IntoIter, Iter, Keys, ReadCursor, Values};
 use patricia_tree::{BorrowedBytes, Bytes, GenericPatriciaMap};
 use std::alloc::{AllocError, Global};
 
@@ -28,6 +28,12 @@ impl<'a, K: Bytes> Walk for Values<'a, K, u64> {
     }
 }
 
+impl<'a, K: Bytes> Walk for ReadCursor<'a, K, u64> {
+    fn gives(&mut self) -> bool {
+        self.advance().unwrap_or(false)
+    }
+}
+
 impl<K: Bytes> Walk for IntoIter<K, u64> {
     fn gives(&mut self) -> bool {
         self.next().is_some()
@@ -49,6 +55,7 @@ fn gives_borrowed<K: Bytes>(map: &GenericPatriciaMap<K, u64>, past: bool) -> boo
     gives_all(map.iter(), len, past)
         && gives_all(map.keys(), len, past)
         && gives_all(map.values(), len, past)
+        && gives_all(map.cursor(), len, past)
 }
 
 // Whether each walk over a map of some keys does.

@@ -106,6 +106,38 @@ impl<'a, Q: BorrowedBytes> Walk<(Q, u64)> for map::Values<'a, Q::Owned, u64> {
     }
 }
 
+// The same of an entry that a cursor lends.
+fn is_lent<Q: BorrowedBytes>(
+    due: Option<(Q, u64)>,
+    key: Option<&[u8]>,
+    value: Option<&u64>,
+) -> Outcome {
+    match (key, value) {
+        (Some(key), Some(value)) => is_entry(due, key, *value),
+        _ => Outcome::Wrong,
+    }
+}
+
+impl<'a, Q: BorrowedBytes> Walk<(Q, u64)> for map::ReadCursor<'a, Q::Owned, u64> {
+    fn step(&mut self, due: Option<(Q, u64)>) -> Outcome {
+        match self.advance() {
+            Ok(true) => is_lent(due, self.key(), self.value()),
+            Ok(false) => judged(due.is_none() && self.key().is_none()),
+            Err(_) => Outcome::Refused,
+        }
+    }
+}
+
+impl<'a, Q: BorrowedBytes> Walk<(Q, u64)> for map::PrefixReadCursor<'a, Q, u64> {
+    fn step(&mut self, due: Option<(Q, u64)>) -> Outcome {
+        match self.advance() {
+            Ok(true) => is_lent(due, self.key(), self.value()),
+            Ok(false) => judged(due.is_none() && self.key().is_none()),
+            Err(_) => Outcome::Refused,
+        }
+    }
+}
+
 impl<'a, Q: BorrowedBytes> Walk<Q> for set::Iter<'a, Q::Owned> {
     fn step(&mut self, due: Option<Q>) -> Outcome {
         match self.next() {

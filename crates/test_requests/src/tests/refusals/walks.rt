@@ -11,9 +11,18 @@ enum Over {
     Keys,
     Values,
     Prefix,
+    Lent,
+    LentPrefix,
 }
 
-const WALKS: [Over; 4] = [Over::Entries, Over::Keys, Over::Values, Over::Prefix];
+const WALKS: [Over; 6] = [
+    Over::Entries,
+    Over::Keys,
+    Over::Values,
+    Over::Prefix,
+    Over::Lent,
+    Over::LentPrefix,
+];
 
 fn walk<Q: BorrowedBytes>(
     map: &GenericPatriciaMap<Q::Owned, u64>,
@@ -27,6 +36,8 @@ fn walk<Q: BorrowedBytes>(
         Over::Keys => read(map.keys(), rows),
         Over::Values => read(map.values(), rows),
         Over::Prefix => read(map.iter_prefix(prefix), under),
+        Over::Lent => read(map.cursor(), rows),
+        Over::LentPrefix => read(map.cursor_under(prefix), under),
     }
 }
 
