@@ -144,7 +144,8 @@ fn walked<K: Bytes>(map: &GenericPatriciaMap<K, u64>) -> Result<u64, AllocError>
 fn lent<K: Bytes>(map: &GenericPatriciaMap<K, u64>) -> Result<u64, AllocError> {
     let mut bytes: u64 = 0;
     let mut cursor = map.cursor();
-    while cursor.advance()? {
+    for _ in 0..map.len() {
+        cursor.advance()?;
         if let Some(key) = cursor.key() {
             bytes = bytes.wrapping_add(key.len() as u64);
         }

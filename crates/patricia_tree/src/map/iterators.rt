@@ -113,11 +113,11 @@ impl<K: Bytes, V: Drop> GenericPatriciaMap<K, V> {
     /// ```
     /// let map = StringPatriciaMap::from_iter(rt.alloc(), [("foo", 1), ("bar", 2), ("baz", 3)])?;
     /// let mut cursor = map.cursor_under("ba");
-    /// let mut keys = 0;
-    /// while cursor.advance()? {
-    ///     keys += 1;
-    /// }
-    /// assert_eq!(rt; keys, 2);
+    /// assert!(rt; cursor.advance()?);
+    /// assert_eq!(rt; cursor.text(), Some("bar"));
+    /// assert!(rt; cursor.advance()?);
+    /// assert_eq!(rt; cursor.text(), Some("baz"));
+    /// assert!(rt; !cursor.advance()?);
     /// ```
     pub fn cursor_under<Q: BorrowedBytes<Owned = K>>(
         &self,

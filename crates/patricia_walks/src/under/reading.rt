@@ -1,5 +1,6 @@
 //! A cursor that lends the entries under a prefix, and copies no key.
-ghost use Rattle.std.specs.Prelude.{◌≡◌, ◌≢◌, ◌↔◌, [], IfOk, IfSome, OnOk, OnErr, IsTrue};
+ghost use Rattle.std.specs.Prelude.{◌≡◌, ◌≢◌, ◌↔◌, ◌+◌, [], length, IfOk, IfSome, OnOk, OnErr};
+ghost use Rattle.std.specs.Prelude.{IsTrue};
 ghost use Rattle.std.specs.Option.{option_copied, option_map};
 ghost use Rattle.patricia_keys.specs.Keys.{IsValid};
 ghost use Rattle.patricia_model.specs.Cursors.{advanced, before_rows};
@@ -60,6 +61,8 @@ impl<'a, Q: BorrowedBytes, V> PrefixReadCursor<'a, Q, V> {
     pub fn advance(&mut self) -> Result<bool, AllocError>
         ensures found { IfOk result (λ found. IsTrue found ↔ (self.old.left ≢ [])) }
         ensures advanced { OnOk result (self.new ≡ advanced self.old) }
+        ensures fewer { IfOk result (λ found.
+            IsTrue found → length self.old.left ≡ length self.new.left + 1) }
         ensures ended { OnErr result (self.new ≡ before_rows []) }
         ensures err_only_if_left { OnErr result (self.old.left ≢ []) }
     {

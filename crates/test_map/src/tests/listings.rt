@@ -110,6 +110,24 @@ fn listed_under<Q: BorrowedBytes, V: Copy + Drop>(
     Ok(list)
 }
 
+// Every entry of a map, which a cursor lends.
+fn lent<K: Bytes, V: Copy + Drop>(
+    alloc: Global,
+    tree: &GenericPatriciaMap<K, V>,
+) -> Result<Vec<(Vec<u8>, V)>, AllocError>
+    ensures { IfOk result (λ list. each (λ e. (e.0.items, e.1)) list.items ≡ map.entries tree.now) }
+{
+    let mut list = Vec::new(alloc);
+    let mut cursor = tree.cursor();
+    'rows: while cursor.advance()? {
+        if let (Some(key), Some(value)) = (cursor.key(), cursor.value()) {
+            let key = Vec::from_slice(alloc, key)?;
+            list.push((key, *value))?;
+        }
+    }
+    Ok(list)
+}
+
 // Asserts how many there are of what was listed.
 fn check_len<T: Drop>(
     rt: &impl Abort,
@@ -138,7 +156,8 @@ fn check_all<K: Bytes>(
 ) -> Result<(), AllocError> {
     check_values(rt, listed_values(alloc, tree), &[9, 8, 2, 1])?;
     check_len(rt, listed_keys(alloc, tree), 4)?;
-    check_len(rt, listed(alloc, tree), 4)
+    check_len(rt, listed(alloc, tree), 4)?;
+    check_len(rt, lent(alloc, tree), 4)
 }
 
 // Asserts what is listed along a key and under a prefix.
