@@ -105,7 +105,7 @@ impl<V> CursorState<V> {
     // A trail that has not gone on to a value.
     fn from(parts: TreeParts<V>, pending: Option<ValueSlot>, next: Link) -> CursorState<V>
         ensures tree { IsMadeOf parts result }
-        ensures position_of { position_of result ≡ record {
+        ensures seen { position_of result ≡ record {
           nodes = numbered_slots 0 parts.arena.nodes.items;
           path = [];
           pending = pending;

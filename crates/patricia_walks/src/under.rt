@@ -9,12 +9,11 @@ ghost use Rattle.patricia_walks.specs.Internal.Starts.{IsStartUnder, rows_from};
 
 mod reading;
 
-pub use reading::PrefixReadCursor;
-
 use crate::walk::Walk;
 use patricia_keys::{BorrowedBytes, Bytes};
 use patricia_nodes::arena::NodeArena;
 use patricia_nodes::link::NodeId;
+pub use reading::PrefixReadCursor;
 use std::alloc::{AllocError, Global};
 use std::marker::Model;
 

@@ -11,11 +11,10 @@ ghost use Rattle.patricia_walks.specs.Internal.Positions.{lent, row_at, rows_bel
 
 mod reading;
 
-pub use reading::ReadCursor;
-
 use patricia_keys::Bytes;
 use patricia_nodes::arena::NodeArena;
 use patricia_nodes::link::{Link, NodeId};
+pub use reading::ReadCursor;
 use std::alloc::{AllocError, Global};
 use std::marker::{Model, PhantomData};
 
