@@ -219,7 +219,13 @@ fn check_three(
 #[test]
 fn three_keys(rt: HostRuntime) -> Result<(), Fail> {
     check_three(&rt, rt.alloc(), Levels::Narrow, &THREE, &[0, 4, 10, 15, 20])?;
-    check_three(&rt, rt.alloc(), Levels::Wide, &WIDE_THREE, &[0, 6, 14, 21, 28])?;
+    check_three(
+        &rt,
+        rt.alloc(),
+        Levels::Wide,
+        &WIDE_THREE,
+        &[0, 6, 14, 21, 28],
+    )?;
     Ok(())
 }
 
@@ -313,7 +319,10 @@ fn check_change(
     tree: &[u8],
     wanted: Option<DecodeError>,
 ) -> Result<(), DecodeError> {
-    assert_eq!(rt; fault_of::<Vec<u8>>(alloc, levels, tree, &THREE_VALUES)?, wanted);
+    assert_eq!(rt;
+        fault_of::<Vec<u8>>(alloc, levels, tree, &THREE_VALUES)?,
+        wanted
+    );
     if wanted.is_none() {
         let keys: [&[u8]; 3] = [b"bar", b"baz", b"foo"];
         check_whole::<Vec<u8>>(rt, alloc, levels, tree, &keys, &THREE_VALUES)?;

@@ -92,7 +92,9 @@ impl Record<'_> {
 
     // Where the next record begins.
     fn end(&self) -> usize {
-        self.at.saturating_add(self.head).saturating_add(self.label.len())
+        self.at
+            .saturating_add(self.head)
+            .saturating_add(self.label.len())
     }
 }
 

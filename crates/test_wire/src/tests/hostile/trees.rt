@@ -22,7 +22,8 @@ impl Writer {
     // Adds a record whose label has one byte.
     fn push(&mut self, flags: u8, level: u16, label: u8) -> Result<(), AllocError> {
         self.levels.push_head(&mut self.tree, flags, 1, level)?;
-        self.tree.push(label)
+        self.tree.push(label)?;
+        Ok(())
     }
 
     // Adds a record whose label is so many times `a`.
