@@ -2,14 +2,15 @@
 ghost use Rattle.std.specs.Prelude.{◌≡◌, length};
 ghost use Rattle.std.specs.Iterator.{at_most};
 ghost use Rattle.patricia_model.specs.Siblings.{keys_of};
-ghost use Rattle.patricia_model.specs.Walks.{YieldsOrErr, values_of};
+ghost use Rattle.patricia_model.specs.Walks.{YieldsOrErr};
 
 use patricia_keys::keys::Bytes;
 use patricia_walks::into_walk::IntoWalk;
+use patricia_walks::value_walk::ValueWalk;
 use patricia_walks::walk::Walk;
 use std::alloc::AllocError;
 use std::iter::FusedIterator;
-use std::marker::Model;
+use std::marker::{Model, PhantomData};
 
 /// The entries of a map, each with an owned key. An error is out of memory, and ends the iterator.
 #[derive(Drop)]
@@ -91,7 +92,8 @@ impl<'a, K: Bytes, V> FusedIterator for Keys<'a, K, V> {}
 /// iterator.
 #[derive(Drop)]
 pub struct Values<'a, K: Bytes, V> {
-    walk: Walk<'a, K, V>,
+    walk: ValueWalk<'a, V>,
+    kind: PhantomData<K>,
 }
 
 impl<'a, K: Bytes, V> Model for Values<'a, K, V> {
@@ -99,17 +101,18 @@ impl<'a, K: Bytes, V> Model for Values<'a, K, V> {
 
     ghost Value = { List V };
 
-    ghost use Rattle.patricia_model.specs.Walks.{values_of};
-
-    ghost view = { λ i. values_of i.walk };
+    ghost view = { λ i. i.walk };
 }
 
 impl<'a, K: Bytes, V> Values<'a, K, V> {
-    /// Returns the values of the entries that a walk comes to.
-    pub fn new(walk: Walk<'a, K, V>) -> Self
-        ensures { result ≡ values_of walk.entry }
+    /// Returns the values that a walk comes to.
+    pub fn new(walk: ValueWalk<'a, V>) -> Self
+        ensures { result ≡ walk.entry }
     {
-        Values { walk }
+        Values {
+            walk,
+            kind: PhantomData,
+        }
     }
 }
 

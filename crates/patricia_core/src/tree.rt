@@ -29,6 +29,7 @@ use patricia_walks::along::{Along, AlongOwned};
 use patricia_walks::into_walk::IntoWalk;
 use patricia_walks::reach::reach;
 use patricia_walks::under::{PrefixReadCursor, Under};
+use patricia_walks::value_walk::ValueWalk;
 use patricia_walks::walk::{ReadCursor, Walk};
 use std::alloc::{AllocError, Global};
 use std::marker::{Brand, Model, PhantomData};
@@ -366,13 +367,17 @@ impl<K: Bytes, V: Drop> Tree<K, V> {
     }
 
     /// The same of the entries whose key begins with a prefix. Making it does not allocate.
-    pub fn cursor_under<Q: BorrowedBytes<Owned = K>>(
-        &self,
-        prefix: Q,
-    ) -> PrefixReadCursor<'_, Q, V>
+    pub fn cursor_under<Q: BorrowedBytes<Owned = K>>(&self, prefix: Q) -> PrefixReadCursor<'_, Q, V>
         ensures { result ≡ before_rows (under (Q.key prefix) (map.entries self.now)) }
     {
         PrefixReadCursor::new(self.under(prefix))
+    }
+
+    /// A walk over the values in the order of their keys. Making it does not allocate.
+    pub fn value_walk(&self) -> ValueWalk<'_, V>
+        ensures { result ≡ map.values self.now }
+    {
+        ValueWalk::new::<K>(self.alloc, self.value.as_ref(), &self.arena)
     }
 
     /// A walk that moves the entries out, in key order. Making it does not allocate.

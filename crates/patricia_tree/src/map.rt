@@ -30,9 +30,9 @@ pub use patricia_core::prefixes::{
     CommonPrefixValues, CommonPrefixValuesOwned, CommonPrefixesIter, IterPrefix,
 };
 pub use patricia_core::tree::Refused;
+use patricia_core::tree::{DecodeError, EncodeError, Narrow, Tree, Wide, WireError};
 pub use patricia_core::under::PrefixReadCursor;
 pub use patricia_core::walk::ReadCursor;
-use patricia_core::tree::{DecodeError, EncodeError, Narrow, Tree, Wide, WireError};
 use std::alloc::{AllocError, Global};
 use std::marker::Model;
 use std::sync::ledger::Ledger;

@@ -51,7 +51,7 @@ where
     pub fn value(&mut self) -> Option<&mut V>
         ensures* writes { sem 𝓛
             (lends_last M.row (the_row Q.row V.row K.row Q.BorrowedBytes K.Bytes)
-                V.row written self.entry result) }
+            V.row written self.entry result) }
         ensures value { option_copied_mut result ≡ last_value self.old.at }
     {
         self.at.value()
@@ -77,7 +77,7 @@ where
         requires { IsSome (last_value self.old.at) }
         ensures* writes { sem 𝓛
             (lends_next M.row (the_row Q.row V.row K.row Q.BorrowedBytes K.Bytes)
-                V.row written self.entry result) }
+            V.row written self.entry result) }
         ensures value { last_value self.old.at ≡ Some result.now }
     {
         match self.value() {

@@ -62,7 +62,7 @@ impl<K: Bytes, V: Drop> ValueCursor<K, V> {
     fn value(&mut self) -> Option<&mut V>
         ensures* writes { sem 𝓛
             (LendsIf (the_row K.row V.row K.Bytes) V.row self.entry result
-                (written self.entry.now) self.entry.now) }
+            (written self.entry.now) self.entry.now) }
         ensures value { option_copied_mut result ≡ last_value self.old }
     {
         self.cursor.value()

@@ -9,3 +9,5 @@ pub mod ReadLemmas
 pub mod StartLemmas
 pub mod TrailLemmas
 pub mod UnderLemmas
+pub mod ValuePositionLemmas
+pub mod WaitingLemmas

@@ -12,10 +12,11 @@ use Rattle.patricia_nodes.specs.Internal.Plans.{Plan, Nil, Cell, head, row, coun
 use Rattle.patricia_nodes.specs.Internal.Plans.{siblings_of, IsPlan, IsWellFormed}
 use Rattle.patricia_walks.specs.Internal.Positions.{Position, row_at, rows_at, state_of, AllPlans}
 use Rattle.patricia_walks.specs.Internal.Positions.{count_all, Stand, IsPosition, IsTop, rows_below}
-use Rattle.patricia_walks.specs.Internal.Positions.{AdvancesTo}
+use Rattle.patricia_walks.specs.Internal.Positions.{AdvancesTo, with_row}
 use Rattle.patricia_nodes.proofs.PlanLemmas.{one-same, below_le, plan_is}
 use Rattle.patricia_nodes.proofs.SeekLemmas.{Opened, head_within, opened, whole_plan}
 use Rattle.patricia_nodes.proofs.WriteLemmas.{stands-keep}
+use Rattle.patricia_walks.proofs.WaitingLemmas.{step_without}
 
 module _ {V : Type 0} (nodes : List (Node V)) where
   -- where the rows that wait stand in the nodes, they do with one more that does
@@ -116,20 +117,58 @@ module _ {V : Type 0} (p q : Position V) (id : ℕ) (n : Node V) (stands : Stand
       }
 
 module _ (item : List ℕ → Type 0) {V : Type 0} where
-  -- the step to a node's value and its children, where only that node is written to
-  pub goes_down : (p q : Position V) (id : ℕ) (n : Node V) (l : List ℕ) (front : ℕ)
+  -- the step to a node's value and its children, where its siblings wait even if there are none
+  goes_waiting : (p q : Position V) (id : ℕ) (n : Node V) (l : List ℕ) (front : ℕ)
       → IsPosition item p → p.pending ≡ None → p.next ≡ Some id → n ≡ get_or p.nodes id n
       → length q.nodes ≡ length p.nodes
       → ((i : ℕ) → i ≢ id → slice_get q.nodes i ≡ slice_get p.nodes i) → l ≡ n.label
       → front ≡ length p.path → q.path ≡ p.path ++ l → q.pending ≡ n.value → q.next ≡ n.child
       → q.stack ≡ p.stack ++ (front, n.sibling) ∷ [] → AdvancesTo item p q
-  goes_down p q id n l front w pending next reads long others label_is front_is path pending' child stack =
+  goes_waiting p q id n l front w pending next reads long others label_is front_is path pending' child stack =
       let d = down p q id n w.stand next reads long others (length p.path) child (rw (sym front_is) stack) in
       record {
         stand = d.stand;
         step = step_down item (state_of p) (state_of q) n.label n.value _ _ w.state pending
             d.row_is (rw (sym label_is) path) pending' refl d.stack_is;
       }
+
+  -- a row without nodes need not wait
+  without_none : (p q r : Position V) (front : ℕ) → AdvancesTo item p q
+      → q.stack ≡ r.stack ++ (front, None) ∷ [] → r.nodes ≡ q.nodes → r.path ≡ q.path
+      → r.pending ≡ q.pending → r.next ≡ q.next → AdvancesTo item p r
+  without_none p q r front w stack nodes path pending next =
+      let last = all_plans-last q.nodes r.stack front None (subst (AllPlans q.nodes) stack w.stand.plans) in
+      let rows : rows_at q.nodes q.stack ≡ rows_at r.nodes r.stack ++ (front, end) ∷ [] = rw nodes
+      (ap (rows_at q.nodes) stack
+      ∙ map-append (λ (f : ℕ × Option ℕ). (f.0, row_at q.nodes f.1)) r.stack ((front, None) ∷ [])
+      ∙ ap (λ e. rows_at q.nodes r.stack ++ (front, e) ∷ []) (row_none q.nodes)) in
+      record {
+        stand = record {
+          next_plan = rw (nodes, next) w.stand.next_plan;
+          plans = rw nodes last.1;
+          once = λ i. rw (nodes, next) (omega (arith, w.stand.once i, ap (λ f. count_all q.nodes f i) stack, count_all-snoc q.nodes r.stack front None i));
+        };
+        step = step_without item (state_of p) (state_of q) (state_of r) front w.step rows path pending (rw (nodes, next) refl);
+      }
+
+  -- the step to a node's value and its children, where only that node is written to and its
+  -- siblings wait if there are any
+  pub goes_down : (p q : Position V) (id : ℕ) (n : Node V) (l : List ℕ) (front : ℕ)
+      → IsPosition item p → p.pending ≡ None → p.next ≡ Some id → n ≡ get_or p.nodes id n
+      → length q.nodes ≡ length p.nodes
+      → ((i : ℕ) → i ≢ id → slice_get q.nodes i ≡ slice_get p.nodes i) → l ≡ n.label
+      → front ≡ length p.path → q.path ≡ p.path ++ l → q.pending ≡ n.value → q.next ≡ n.child
+      → q.stack ≡ with_row p.stack front n.sibling → AdvancesTo item p q
+  goes_down p q id n l front w pending next reads long others label_is front_is path pending' child = by n.sibling refl
+    where
+      by : (at : Option ℕ) → n.sibling ≡ at → q.stack ≡ with_row p.stack front at
+          → AdvancesTo item p q
+      by (Some i) is stack = goes_waiting p q id n l front w pending next reads long others label_is front_is path pending' child (rw is stack)
+      by None is stack =
+          let more : Position V = record q { stack = p.stack ++ (front, n.sibling) ∷ [] } in
+          without_none p more q front
+          (goes_waiting p more id n l front w pending next reads long others label_is front_is path pending' child refl)
+          (rw (is, stack) refl) refl refl refl refl
 
   -- the step back to the row that waits last
   pub goes_back : (p q : Position V) (n : ℕ) (at : Option ℕ) → IsPosition item p → p.pending ≡ None

@@ -5,3 +5,4 @@ pub mod Lends
 pub mod Positions
 pub mod Starts
 pub mod Trails
+pub mod ValuePositions

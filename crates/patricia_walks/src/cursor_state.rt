@@ -17,6 +17,7 @@ ghost use Rattle.patricia_walks.specs.Internal.Trails.{position_of, left_of, Adv
 ghost use Rattle.patricia_walks.specs.Internal.Trails.{StepIsRefused, IsMadeOf, IsSameTree};
 ghost use Rattle.patricia_walks.specs.Internal.Trails.{IsAtStart, StartsUnder, IsHeld, held_last};
 
+use crate::waiting::push_row;
 use patricia_keys::{BorrowedBytes, Bytes};
 use patricia_nodes::arena::{Node, NodeArena};
 use patricia_nodes::link::{Link, NodeId};
@@ -192,7 +193,7 @@ impl<V> CursorState<V> {
         let node = &self.arena.nodes[id.index()];
         let front = self.path.len();
         self.path.extend_from_slice(node.label.as_slice())?;
-        let Ok(()) = self.stack.push((front, node.sibling)) else {
+        let Ok(()) = push_row(&mut self.stack, front, node.sibling) else {
             self.path.truncate(front);
             return Err(AllocError);
         };

@@ -9,6 +9,7 @@ ghost use Rattle.patricia_model.specs.Walks.{YieldsOrErr};
 ghost use Rattle.patricia_nodes.specs.Internal.Plans.{IsWellFormed, siblings_of, entries_of};
 ghost use Rattle.patricia_walks.specs.Internal.Positions.{IsPosition, AdvancesTo, state_of, owned};
 
+use crate::waiting::push_row;
 use patricia_keys::Bytes;
 use patricia_nodes::arena::NodeArena;
 use patricia_nodes::link::{Link, NodeId};
@@ -51,7 +52,7 @@ impl<V: Drop> OwnedTraversal<V> {
     {
         let node = &mut self.arena.nodes[id.index()];
         let front = self.path.len();
-        self.stack.push((front, node.sibling))?;
+        push_row(&mut self.stack, front, node.sibling)?;
         self.path.extend_from_slice(node.label.as_slice())?;
         self.pending = node.value.take();
         self.next = node.child;

@@ -10,6 +10,8 @@ mod cursor_state;
 pub mod into_walk;
 pub mod reach;
 pub mod under;
+pub mod value_walk;
+mod waiting;
 pub mod walk;
 
 pub use cursor_state::TreeParts;

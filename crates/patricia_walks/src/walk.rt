@@ -4,13 +4,14 @@ ghost use Rattle.std.specs.Prelude.{IsTrue};
 ghost use Rattle.std.specs.Option.{option_copied};
 ghost use Rattle.patricia_model.specs.Siblings.{own, keys_of, IsCanonical};
 ghost use Rattle.patricia_model.specs.Internal.WalkStates.{entries_left, TakesEntry};
-ghost use Rattle.patricia_model.specs.Walks.{YieldsOrErr, values_of};
+ghost use Rattle.patricia_model.specs.Walks.{YieldsOrErr};
 ghost use Rattle.patricia_nodes.specs.Internal.Plans.{IsWellFormed, siblings_of, entries_of};
 ghost use Rattle.patricia_walks.specs.Internal.Positions.{IsPosition, IsTop, AdvancesTo, state_of};
 ghost use Rattle.patricia_walks.specs.Internal.Positions.{lent, row_at, rows_below};
 
 mod reading;
 
+use crate::waiting::push_row;
 use patricia_keys::Bytes;
 use patricia_nodes::arena::NodeArena;
 use patricia_nodes::link::{Link, NodeId};
@@ -53,7 +54,7 @@ impl<'a, V> Traversal<'a, V> {
     {
         let node = &self.arena.nodes[id.index()];
         let front = self.path.len();
-        self.stack.push((front, node.sibling))?;
+        push_row(&mut self.stack, front, node.sibling)?;
         self.path.extend_from_slice(node.label.as_slice())?;
         self.pending = node.value.as_ref();
         self.next = node.child;
@@ -215,20 +216,6 @@ impl<'a, K: Bytes, V> Walk<'a, K, V> {
         match self.next_entry()? {
             Ok((key, _)) => Some(Ok(key)),
             Err(error) => Some(Err(error)),
-        }
-    }
-
-    /// The value of the next entry. No key is built.
-    pub fn next_value(&mut self) -> Option<Result<&'a V, AllocError>>
-        ensures { YieldsOrErr (λ v. v.now) (values_of self.old) result (values_of self.new) }
-    {
-        match self.place.seek::<K>() {
-            Ok(Some(value)) => Some(Ok(value)),
-            Ok(None) => None,
-            Err(error) => {
-                self.place.finish::<K>();
-                Some(Err(error))
-            }
         }
     }
 }

@@ -21,4 +21,4 @@ abbrev pub lends_next : (M C V : RattleType) → (C.Denot → V.Denot → C.Deno
     → MutBor (CursorGuard M.Denot C.Denot) → MutBor V.Denot → Fml
 lends_next M C V written s r =
     Lends (the_row (record { mir = named 1; lft = [] }) M C) V s r
-        (λ value. record s.now { at = written s.now.at value })
+    (λ value. record s.now { at = written s.now.at value })

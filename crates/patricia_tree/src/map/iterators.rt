@@ -85,7 +85,7 @@ impl<K: Bytes, V: Drop> GenericPatriciaMap<K, V> {
     pub fn values(&self) -> Values<'_, K, V>
         ensures { result ≡ map.values self.now }
     {
-        Values::new(self.tree.walk())
+        Values::new(self.tree.value_walk())
     }
 
     /// Returns a cursor before the first entry, which lends each key and value in turn and copies
@@ -119,10 +119,7 @@ impl<K: Bytes, V: Drop> GenericPatriciaMap<K, V> {
     /// assert_eq!(rt; cursor.text(), Some("baz"));
     /// assert!(rt; !cursor.advance()?);
     /// ```
-    pub fn cursor_under<Q: BorrowedBytes<Owned = K>>(
-        &self,
-        prefix: Q,
-    ) -> PrefixReadCursor<'_, Q, V>
+    pub fn cursor_under<Q: BorrowedBytes<Owned = K>>(&self, prefix: Q) -> PrefixReadCursor<'_, Q, V>
         ensures { result ≡ before_rows (under (Q.key prefix) (map.entries self.now)) }
     {
         self.tree.cursor_under(prefix)

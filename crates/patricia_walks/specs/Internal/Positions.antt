@@ -1,5 +1,5 @@
 -- How far a walk over nodes in one vector has come.
-use Rattle.std.specs.Prelude.{ℕ, ◌+◌, ◌≤◌, List, [], ◌∷◌, ◌++◌, Option, Some, map}
+use Rattle.std.specs.Prelude.{ℕ, ◌+◌, ◌≤◌, List, [], ◌∷◌, ◌++◌, Option, Some, None, map}
 use Rattle.std.specs.Option.{option_copied}
 use Rattle.patricia_keys.specs.Keys.{IsValid}
 use Rattle.patricia_model.specs.Siblings.{Siblings, end, node, prefixed, own, entries, IsCanonical}
@@ -9,6 +9,11 @@ use Rattle.patricia_nodes.specs.declared.arena.NodeArena.{NodeArena}
 use Rattle.patricia_walks.specs.declared.walk.Traversal.{Traversal}
 use Rattle.patricia_walks.specs.declared.into_walk.OwnedTraversal.{OwnedTraversal}
 use Rattle.patricia_nodes.specs.Internal.Plans.{row, count, plan_at, IsPlan}
+
+-- the rows that wait, and one more behind so many of the bytes, where there is one
+abbrev pub with_row : List (ℕ × Option ℕ) → ℕ → Option ℕ → List (ℕ × Option ℕ)
+with_row rows front None = rows
+with_row rows front (Some id) = rows ++ (front, Some id) ∷ []
 
 -- a place in a walk: the nodes, the bytes that are passed, the value that is due there, the number
 -- of the row behind them, and those of the rows that wait, each behind so many of the bytes

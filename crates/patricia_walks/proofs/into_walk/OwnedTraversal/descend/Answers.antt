@@ -15,4 +15,4 @@ returns g c =
     c.requires.taken (rw id_is c.requires.next) c.index_mut-node.ensures.value
     (length-set _ _ _) (λ i k. get-set_other _ c.index.result i _ k) c.as_slice.ensures
     (c.len-front.ensures ∙ c.args.self.now.path.ok.0) c.in_ok-extend_from_slice.ensures.items
-    c.take.ensures.value refl c.in_ok-push.ensures.items
+    c.take.ensures.value refl c.in_ok-push_row.ensures.items

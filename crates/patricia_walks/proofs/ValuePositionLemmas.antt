@@ -1,0 +1,267 @@
+-- How the steps of a walk over values change what it has left of nodes in one vector.
+use Rattle.std.proofs.Common.{◌≡◌, ◌≢◌, ℕ, ◌+◌, ◌<◌, List, [], ◌∷◌, ◌++◌, length, get_or, Option}
+use Rattle.std.proofs.Common.{Some, None, refl, sym, ap, subst, ◌∙◌, arith}
+use Rattle.std.proofs.lemmas.List.{map-append, append_assoc, append-nil}
+use Rattle.patricia_model.specs.Siblings.{Siblings, end, node, prefixed, own, entries, IsCanonical}
+use Rattle.patricia_model.specs.Walks.{values_of}
+use Rattle.patricia_model.specs.Internal.WalkStates.{steps_in}
+use Rattle.patricia_nodes.specs.declared.arena.Node.{Node}
+use Rattle.patricia_nodes.specs.declared.arena.NodeArena.{NodeArena}
+use Rattle.patricia_nodes.specs.Internal.Plans.{Plan, Nil, Cell, head, row, plan_at, siblings_of}
+use Rattle.patricia_nodes.specs.Internal.Plans.{entries_of, IsPlan, IsWellFormed}
+use Rattle.patricia_nodes.proofs.PlanLemmas.{plan_is}
+use Rattle.patricia_nodes.proofs.SeekLemmas.{head_within, opened, whole_plan}
+use Rattle.patricia_walks.specs.Internal.Positions.{row_at}
+use Rattle.patricia_walks.specs.Internal.ValuePositions.{ValuePosition, values_in, values_waiting}
+use Rattle.patricia_walks.specs.Internal.ValuePositions.{values_left, value_steps_waiting}
+use Rattle.patricia_walks.specs.Internal.ValuePositions.{value_steps_left, HasValues, IsValueRow}
+use Rattle.patricia_walks.specs.Internal.ValuePositions.{AreValueRows, IsValuePosition, GoesTo}
+use Rattle.patricia_walks.proofs.PositionLemmas.{row_none}
+
+module _ {A : Type 0} where
+  -- two lists are empty only where the first is
+  first_filled : (xs ys : List A) → xs ≢ [] → xs ++ ys ≢ []
+  first_filled [] ys some = λ e. some refl
+  first_filled (x ∷ xs) ys some = λ e. absurd (cc)
+
+  -- and only where the second is
+  second_filled : (xs ys : List A) → ys ≢ [] → xs ++ ys ≢ []
+  second_filled [] ys some = some
+  second_filled (x ∷ xs) ys some = λ e. absurd (cc)
+
+module _ {V : Type 0} where
+  -- bytes before the keys leave the values
+  values_of-prefixed : (p : List ℕ) (es : List (List ℕ × V))
+      → values_of (prefixed p es) ≡ values_of es
+  values_of-prefixed p [] = refl
+  values_of-prefixed p (e ∷ es) = ap (λ r. e.1 ∷ r) (values_of-prefixed p es)
+
+  -- the values of two lists of entries are those of the first and then those of the second
+  values_of-append : (xs ys : List (List ℕ × V))
+      → values_of (xs ++ ys) ≡ values_of xs ++ values_of ys
+  values_of-append xs ys = map-append (λ (e : List ℕ × V). e.1) xs ys
+
+  -- the values of a row are those of its first node with what is below it, and those beside it
+  values_in-first : (l : List ℕ) (v : Option V) (c s : Siblings V)
+      → values_in (node l v c s) ≡ values_of (own v ++ entries c) ++ values_in s
+  values_in-first l v c s =
+      values_of-append (prefixed l (own v ++ entries c)) (entries s)
+      ∙ ap (λ r. r ++ values_in s) (values_of-prefixed l (own v ++ entries c))
+
+  -- where each node has a value or one below it, a row that has a node has a value
+  values_in-filled : (l : List ℕ) (v : Option V) (c s : Siblings V) → HasValues (node l v c s)
+      → values_in (node l v c s) ≢ []
+  values_in-filled l v c s has none =
+      first_filled (values_of (own v ++ entries c)) (values_in s) has.0
+      (sym (values_in-first l v c s) ∙ none)
+
+  -- the row that waits last is walked first
+  values_waiting-snoc : (nodes : List (Node V)) (ats : List (Option ℕ)) (at : Option ℕ)
+      → values_waiting nodes (ats ++ at ∷ []) ≡ values_in (row_at nodes at) ++ values_waiting nodes ats
+  values_waiting-snoc nodes [] at = sym (append-nil (values_in (row_at nodes at)))
+  values_waiting-snoc nodes (a ∷ ats) at =
+      ap (λ l. l ++ values_in (row_at nodes a)) (values_waiting-snoc nodes ats at)
+      ∙ append_assoc (values_in (row_at nodes at)) (values_waiting nodes ats) (values_in (row_at nodes a))
+
+  -- one more row that waits adds its steps
+  value_steps_waiting-snoc : (nodes : List (Node V)) (ats : List (Option ℕ)) (at : Option ℕ)
+      → value_steps_waiting nodes (ats ++ at ∷ [])
+      ≡ steps_in (row_at nodes at) + value_steps_waiting nodes ats
+  value_steps_waiting-snoc nodes [] at = omega arith
+  value_steps_waiting-snoc nodes (a ∷ ats) at = omega (arith, value_steps_waiting-snoc nodes ats at)
+
+  -- one more row may wait
+  value_rows-snoc : (nodes : List (Node V)) (ats : List (Option ℕ)) (at : Option ℕ)
+      → AreValueRows nodes ats → IsValueRow nodes at → AreValueRows nodes (ats ++ at ∷ [])
+  value_rows-snoc nodes [] at all one = (one, tt)
+  value_rows-snoc nodes (a ∷ ats) at all one = (all.0, value_rows-snoc nodes ats at all.1 one)
+
+  -- where all rows wait so, the last does, and those before it
+  value_rows-last : (nodes : List (Node V)) (ats : List (Option ℕ)) (at : Option ℕ)
+      → AreValueRows nodes (ats ++ at ∷ []) → IsValueRow nodes at × AreValueRows nodes ats
+  value_rows-last nodes [] at all = (all.0, tt)
+  value_rows-last nodes (a ∷ ats) at all =
+      let later = value_rows-last nodes ats at all.1 in (later.0, (all.0, later.1))
+
+  -- where there is no number, there is no row
+  no_row : (nodes : List (Node V)) → IsValueRow nodes None
+  no_row nodes =
+      let plan : IsPlan nodes None Nil = record { stands = tt; at_is = refl; fits = omega arith } in
+      record {
+        plan = rw (plan_is nodes None Nil plan) plan;
+        has_values = subst HasValues (sym (row_none nodes)) tt;
+      }
+
+module _ (item : List ℕ → Type 0) {V : Type 0} where
+  -- a node earns its place by its own value or by what is below it
+  earned : (l : List ℕ) (v : Option V) (c s : Siblings V) → IsCanonical item (node l v c s)
+      → HasValues c → values_of (own v ++ entries c) ≢ []
+  earned l (Some x) c s ok below = λ e. absurd (cc)
+  earned l None end s ok below = absurd (ok.earns)
+  earned l None (node m v c t) s ok below = values_in-filled m v c t below
+
+  -- so each node of a tree has a value or one below it
+  canonical_values : (r : Siblings V) → IsCanonical item r → HasValues r
+  canonical_values end ok = tt
+  canonical_values (node l v c s) ok =
+      let below = canonical_values c ok.child in
+      (earned l v c s ok below, below, canonical_values s ok.sibling)
+
+module _ {V : Type 0} (nodes : List (Node V)) (at : Option ℕ) (id : ℕ) (n : Node V)
+    (w : IsValueRow nodes at) (is : at ≡ Some id) (reads : n ≡ get_or nodes id n) where
+  -- a row by its first node, as it is read
+  record First : Type 0 where
+    row_is : row_at nodes at
+        ≡ node n.label n.value (row_at nodes n.child) (row_at nodes n.sibling)
+    child : IsValueRow nodes n.child
+    sibling : IsValueRow nodes n.sibling
+
+  -- each row is its first node with the rows of its two links
+  first_of_row : First
+  first_of_row =
+      let o = opened nodes at (plan_at nodes at) id n w.plan is reads in
+      let c_is = plan_is nodes n.child o.child o.child_plan in
+      let s_is = plan_is nodes n.sibling o.sibling o.sibling_plan in
+      let row_is : row_at nodes at ≡ node n.label n.value (row_at nodes n.child) (row_at nodes n.sibling) = rw (c_is, s_is) (ap row o.is) in
+      let has = subst HasValues row_is w.has_values in
+      record {
+        row_is = row_is;
+        child = record { plan = rw c_is o.child_plan; has_values = has.1 };
+        sibling = record { plan = rw s_is o.sibling_plan; has_values = has.2 };
+      }
+
+module _ {V : Type 0} (p q : ValuePosition V) (id : ℕ) (n : Node V) (w : IsValuePosition p)
+    (taken : p.pending ≡ None) (next : p.next ≡ Some id) (reads : n ≡ get_or p.nodes id n)
+    (nodes : q.nodes ≡ p.nodes) (pending : q.pending ≡ n.value) where
+  -- the row that is next, by its first node
+  next_first : First p.nodes p.next id n w.next_row next reads
+  next_first = first_of_row p.nodes p.next id n w.next_row next reads
+
+  -- what is left is the node's value, the values below it, those beside it, and those that wait
+  left_first : values_left p
+      ≡ values_of (own n.value) ++ (values_in (row_at p.nodes n.child)
+      ++ (values_in (row_at p.nodes n.sibling) ++ values_waiting p.nodes p.stack))
+  left_first =
+      let v = values_of (own n.value) in
+      let c = row_at p.nodes n.child in
+      let s = row_at p.nodes n.sibling in
+      let rest = values_waiting p.nodes p.stack in
+      ap (λ d. values_of (own d) ++ (values_in (row_at p.nodes p.next) ++ rest)) taken
+      ∙ ap (λ r. values_in r ++ rest) next_first.row_is
+      ∙ ap (λ l. l ++ rest) (values_in-first n.label n.value c s)
+      ∙ append_assoc (values_of (own n.value ++ entries c)) (values_in s) rest
+      ∙ ap (λ l. l ++ (values_in s ++ rest)) (values_of-append (own n.value) (entries c))
+      ∙ append_assoc v (values_in c) (values_in s ++ rest)
+
+  -- the step to the siblings of a node without children
+  pub goes_beside : n.child ≡ None → q.next ≡ n.sibling → q.stack ≡ p.stack → GoesTo p q
+  goes_beside alone next' stack = record {
+    position = record { next_row = rw (nodes, next') next_first.sibling; rows = rw (nodes, stack) w.rows };
+    same = rw (nodes, pending, next', stack)
+        (sym (left_first ∙ ap
+        (λ r. values_of (own n.value) ++ (values_in r
+        ++ (values_in (row_at p.nodes n.sibling) ++ values_waiting p.nodes p.stack)))
+        (ap (row_at p.nodes) alone ∙ row_none p.nodes)));
+    less = rw (nodes, next', stack) (omega (arith, ap steps_in next_first.row_is));
+  }
+
+  -- the step to the children of a node without siblings
+  pub goes_below : n.sibling ≡ None → q.next ≡ n.child → q.stack ≡ p.stack → GoesTo p q
+  goes_below alone next' stack = record {
+    position = record { next_row = rw (nodes, next') next_first.child; rows = rw (nodes, stack) w.rows };
+    same = rw (nodes, pending, next', stack)
+        (sym (left_first ∙ ap
+        (λ r. values_of (own n.value) ++ (values_in (row_at p.nodes n.child)
+        ++ (values_in r ++ values_waiting p.nodes p.stack)))
+        (ap (row_at p.nodes) alone ∙ row_none p.nodes)));
+    less = rw (nodes, next', stack) (omega (arith, ap steps_in next_first.row_is));
+  }
+
+  -- the step to the children of a node whose siblings wait
+  pub goes_down : q.next ≡ n.child → q.stack ≡ p.stack ++ n.sibling ∷ [] → GoesTo p q
+  goes_down next' stack = record {
+    position = record {
+      next_row = rw (nodes, next') next_first.child;
+      rows = rw (nodes, stack) (value_rows-snoc p.nodes p.stack n.sibling w.rows next_first.sibling);
+    };
+    same = rw (nodes, pending, next', stack)
+        (ap (λ l. values_of (own n.value) ++ (values_in (row_at p.nodes n.child) ++ l))
+        (values_waiting-snoc p.nodes p.stack n.sibling) ∙ sym left_first);
+    less = rw (nodes, next', stack)
+        (omega (
+          arith,
+          ap steps_in next_first.row_is,
+          value_steps_waiting-snoc p.nodes p.stack
+              n.sibling,
+        ));
+  }
+
+module _ {V : Type 0} where
+  -- the step back to the row that waits last
+  pub goes_back : (p q : ValuePosition V) (at : Option ℕ) → IsValuePosition p → p.pending ≡ None
+      → p.next ≡ None → p.stack ≡ q.stack ++ at ∷ [] → q.nodes ≡ p.nodes → q.pending ≡ p.pending
+      → q.next ≡ at → GoesTo p q
+  goes_back p q at w taken next stack nodes pending next' =
+      let last = value_rows-last p.nodes q.stack at (subst (AreValueRows p.nodes) stack w.rows) in
+      let over = ap (row_at p.nodes) next ∙ row_none p.nodes in
+      let rest = values_waiting p.nodes p.stack in
+      record {
+        position = record { next_row = rw (nodes, next') last.0; rows = rw nodes last.1 };
+        same = rw (nodes, pending, taken, next')
+            (sym (ap (λ r. values_in r ++ rest) over ∙ ap (values_waiting p.nodes) stack
+            ∙ values_waiting-snoc p.nodes q.stack at));
+        less = rw (nodes, next')
+            (omega (
+              arith,
+              ap steps_in over,
+              ap (value_steps_waiting p.nodes) stack,
+              value_steps_waiting-snoc p.nodes q.stack at,
+            ));
+      }
+
+  -- where no row is next and none waits, no value is left
+  pub nothing_left : (p : ValuePosition V) → p.pending ≡ None → p.next ≡ None → p.stack ≡ []
+      → values_left p ≡ []
+  nothing_left p taken next stack =
+      rw (taken, next, stack) (ap (λ r. values_in r ++ []) (row_none p.nodes))
+
+  -- and the walk stands at its end
+  pub stands_at_end : (p : ValuePosition V) → p.next ≡ None → p.stack ≡ [] → IsValuePosition p
+  stands_at_end p next stack = record { next_row = rw next (no_row p.nodes); rows = rw stack tt }
+
+  -- a number that is next is that of a node
+  pub value_within : (p : ValuePosition V) (id : ℕ) → IsValuePosition p → p.next ≡ Some id
+      → id < length p.nodes
+  value_within p id w next =
+      head_within p.nodes p.next (plan_at p.nodes p.next) id w.next_row.plan next
+
+  -- where a node is next, a value is left
+  pub value_filled : (p : ValuePosition V) (id : ℕ) → IsValuePosition p → p.next ≡ Some id
+      → values_left p ≢ []
+  value_filled p id w next = by (plan_at p.nodes p.next) refl w.next_row.plan.at_is
+    where
+      by : (r : Plan V) → plan_at p.nodes p.next ≡ r → p.next ≡ head r → values_left p ≢ []
+      by Nil is at = absurd (cc)
+      by (Cell i l v c d) is at =
+          let has = subst HasValues (ap row is) w.next_row.has_values in
+          let some = subst (λ (r : Siblings V). values_in r ≢ []) (sym (ap row is)) (values_in-filled l v (row c) (row d) has) in
+          second_filled (values_of (own p.pending)) _
+          (first_filled (values_in (row_at p.nodes p.next)) (values_waiting p.nodes p.stack) some)
+
+  -- at its start a walk stands at the first row
+  pub stands_at_start : (item : List ℕ → Type 0) (s : NodeArena V) (p : ValuePosition V)
+      → IsWellFormed s → IsCanonical item (siblings_of s) → p.nodes ≡ s.nodes.items
+      → p.next ≡ s.root → p.stack ≡ [] → IsValuePosition p
+  stands_at_start item s p whole ok nodes next stack = record {
+    next_row = rw (nodes, next) (record { plan = whole_plan s whole; has_values = canonical_values item (siblings_of s) ok });
+    rows = rw stack tt;
+  }
+
+  -- and all values are left
+  pub left_at_start : (s : NodeArena V) (p : ValuePosition V) → p.nodes ≡ s.nodes.items
+      → p.next ≡ s.root → p.stack ≡ []
+      → values_left p ≡ values_of (own p.pending ++ entries_of s)
+  left_at_start s p nodes next stack =
+      rw (nodes, next, stack)
+      (ap (λ l. values_of (own p.pending) ++ l) (append-nil (values_in (siblings_of s)))
+      ∙ sym (values_of-append (own p.pending) (entries_of s)))
