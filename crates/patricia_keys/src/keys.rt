@@ -9,10 +9,9 @@ ghost use Rattle.patricia_keys.specs.Keys.{ComparesFirst};
 mod byte;
 mod text;
 
-pub use text::text_of;
-
 use std::alloc::{AllocError, Global};
 use std::cmp::Ordering;
+pub use text::text_of;
 
 /// An owned key.
 ///

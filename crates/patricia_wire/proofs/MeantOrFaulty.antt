@@ -16,7 +16,7 @@ use Rattle.patricia_wire.specs.Writings.{Means}
 use Rattle.patricia_wire.specs.WireLaws.{TellsValid, MeansOrHasFirstFault, NeverLacksBoth}
 use Rattle.patricia_wire.specs.Internal.Readings.{Rule, level, root_label, root_sibling}
 use Rattle.patricia_wire.specs.Internal.Readings.{empty_label, invalid_label, sibling_order}
-use Rattle.patricia_wire.specs.Internal.Readings.{no_value_no_child, too_few_values, rule_number}
+use Rattle.patricia_wire.specs.Internal.Readings.{no_value_no_child, too_few_values}
 use Rattle.patricia_wire.specs.Internal.Readings.{error_at, Due, due_where, child_due, sibling_due}
 use Rattle.patricia_wire.specs.Internal.Readings.{due_behind, IsRead, nothing, one_more, IsAfter}
 use Rattle.patricia_wire.specs.Internal.Readings.{BreaksRule, BreaksNone, BreaksNoneBelow}
@@ -136,9 +136,9 @@ module _ (item : List ℕ → Type 0) (kind : IsKeyKind item) (due : Due) (left 
             | inl less ↦
                 marked (kept_next item due left r sibling_order below
                 (λ b.
-                  (let one : b.0 ≡ l = (let both : Some b.0 ≡ Some l = sym b.1 ∙ is in cc) in
-                  b.2 (subst (λ k. ComparesFirst item k r.label Less)
-                    (sym one) (before_compares item l r.label less)))))
+                (let one : b.0 ≡ l = (let both : Some b.0 ≡ Some l = sym b.1 ∙ is in cc) in
+                b.2 (subst (λ k. ComparesFirst item k r.label Less)
+                (sym one) (before_compares item l r.label less)))))
                 (λ marks.
                 record {
                   level = same;

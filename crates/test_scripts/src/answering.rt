@@ -27,10 +27,8 @@ pub trait Listed: Drop {
 
     /// Adds the entries. A refused step ends the walk.
     fn add_walked(&self, out: &mut String) -> Result<(), AllocError>
-        ensures listed {
-            OnOk result (string_bytes out.new ≡ string_bytes out.old ++ listing self.now) }
-        ensures bare {
-            IsEmpty self.now → IsOk result × (string_bytes out.new ≡ string_bytes out.old) };
+        ensures listed { OnOk result (string_bytes out.new ≡ string_bytes out.old ++ listing self.now) }
+        ensures bare { IsEmpty self.now → IsOk result × (string_bytes out.new ≡ string_bytes out.old) };
 }
 
 /// One that answers calls on its keys.
@@ -51,8 +49,7 @@ pub trait Answering<'a, Q: Readable<'a>>: Listed {
 /// Adds the entries, and once more behind `refused` where a step is refused.
 pub fn add_entries<A: Listed>(asked: &A, out: &mut String) -> Result<(), AllocError>
     ensures listed { OnOk result (Ends (A.listing asked.now) (string_bytes out.new)) }
-    ensures bare {
-        A.IsEmpty asked.now → IsOk result × (string_bytes out.new ≡ string_bytes out.old) }
+    ensures bare { A.IsEmpty asked.now → IsOk result × (string_bytes out.new ≡ string_bytes out.old) }
 {
     if asked.add_walked(out).is_ok() {
         return Ok(());
@@ -63,8 +60,7 @@ pub fn add_entries<A: Listed>(asked: &A, out: &mut String) -> Result<(), AllocEr
 
 /// Adds what a refused call left.
 pub fn add_refusal<A: Listed>(asked: &A, out: &mut String) -> Result<(), AllocError>
-    ensures listed {
-        OnOk result (Ends (A.listing asked.now ++ codes " again") (string_bytes out.new)) }
+    ensures listed { OnOk result (Ends (A.listing asked.now ++ codes " again") (string_bytes out.new)) }
     ensures bare { A.IsEmpty asked.now → OnOk result (string_bytes out.new
         ≡ string_bytes out.old ++ codes " refused" ++ codes " again") }
 {
@@ -168,8 +164,7 @@ pub fn write_answers<'a, Q: Readable<'a>, A: Answering<'a, Q>>(
     calls: &'a [Call<'_>],
     out: &mut String,
 ) -> io::Result<()>
-    ensures none {
-        NoneOf kind.now calls.now → IsOk result × (string_bytes out.new ≡ string_bytes out.old) }
+    ensures none { NoneOf kind.now calls.now → IsOk result × (string_bytes out.new ≡ string_bytes out.old) }
     ensures some { OnOk result (NoneOf kind.now calls.now ⊎ (0 < length (string_bytes out.new))) }
 {
     let mut asked = A::empty(alloc);

@@ -40,8 +40,8 @@ module _ {V : Type 0} where
   remove_new : (m : FinMap key_cmp V) (k : List ℕ) (v : V) → get m k ≡ None → remove (insert m k v) k ≡ m
   remove_new m k v lacks =
       same_map nat_list_cmp_total (slice_cmp-IsAntisymmetric nat_cmp-IsAntisymmetric)
-        (remove (insert m k v) k) m
-        (λ q. get-remove nat_list_cmp_total (insert m k v) k q ∙ at q (eq_by_cmp key_cmp q k) refl)
+      (remove (insert m k v) k) m
+      (λ q. get-remove nat_list_cmp_total (insert m k v) k q ∙ at q (eq_by_cmp key_cmp q k) refl)
     where
       at : (q : List ℕ) (t : Bool) → eq_by_cmp key_cmp q k ≡ t → cond t None (get (insert m k v) q) ≡ get m q
       at q true e = sym lacks ∙ get_tied nat_list_cmp_total m q k (is_equal (key_cmp q k) e)
@@ -76,7 +76,7 @@ module _ {V : Type 0} where
   pub keys_after_removal : (m n o p q : FinMap key_cmp V) (v x y : V) → m ≡ empty → n ≡ insert m b v → o ≡ insert n a x → p ≡ insert o ab y → q ≡ remove p ab → keys q ≡ a ∷ b ∷ []
   keys_after_removal m n o p q v x y none first second third fourth =
       ap keys (fourth ∙ ap (λ r. remove r ab) third ∙ remove_new o ab y (lacks_ab m n o v x none first second)) ∙
-        keys_turned m n o v x none first second
+      keys_turned m n o v x none first second
 
 -- the list of both keys is not that of a alone
 pub two_are_not_one : a ∷ b ∷ [] ≡ a ∷ [] → ⊥

@@ -62,7 +62,7 @@ module _ {V : Type 0} where
     pub nodes :
         new.nodes.items
         ≡ old.nodes.items
-            ++ linked old.label.items value (link_if child (count_of old + 1)) None ∷ []
+        ++ linked old.label.items value (link_if child (count_of old + 1)) None ∷ []
     pub label : new.label.items ≡ []
     pub waiting : new.waiting.items ≡ old.waiting.items
     pub keeps : KeepsNodes old new
@@ -81,7 +81,7 @@ module _ {V : Type 0} where
     pub nodes :
         (n : Node V) → slice_get old.nodes.items id ≡ Some n
         → new.nodes.items ≡ slice_set old.nodes.items id
-            (linked n.label n.value n.child (Some (count_of old)))
+        (linked n.label n.value n.child (Some (count_of old)))
     pub label : new.label ≡ old.label
     pub keeps : KeepsNodes old new
 

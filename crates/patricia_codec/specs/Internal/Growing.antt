@@ -92,7 +92,7 @@ module _ (item : List ℕ → Type 0) {V : Type 0} where
       (later : List (Node V)) → IsLater nodes gaps later
       → (R2 : List Record) (vs2 : List V) (ids : ℕ → ℕ) (n : ℕ) → AreBeside later gaps R2 vs2 ids n
       → IsGrown later root value (R ++ R2) (vs ++ vs2)
-          (λ at. below (length nodes) at + ids at) (length nodes + n)
+      (λ at. below (length nodes) at + ids at) (length nodes + n)
 
   -- besides, a row is open whose first node is the next one; it is at this level, and one that is
   -- allowed
@@ -105,9 +105,9 @@ module _ (item : List ℕ → Type 0) {V : Type 0} where
       → has_node written ≡ true → Allowed written
       → (R2 : List Record) (vs2 : List V) (ids : ℕ → ℕ) (n : ℕ) → AreBeside later gaps R2 vs2 ids n
       → IsGrown later root value (R ++ (records_of level written ++ R2))
-          (vs ++ (values_of (entries written) ++ vs2))
-          (λ at. below (length nodes) at + (count plan at + ids at))
-          (length nodes + (size plan + n))
+      (vs ++ (values_of (entries written) ++ vs2))
+      (λ at. below (length nodes) at + (count plan at + ids at))
+      (length nodes + (size plan + n))
 
   -- besides, such a node is open
   abbrev pub IsOpenWithin : List (Node V) → Option ℕ → Option V → Unlaid V → List Gap
@@ -122,7 +122,7 @@ module _ (item : List ℕ → Type 0) {V : Type 0} where
       → IsBeforeSiblings item u.own_label s
       → (R2 : List Record) (vs2 : List V) (ids : ℕ → ℕ) (n : ℕ) → AreBeside later gaps R2 vs2 ids n
       → IsGrown later root value
-          (R ++ ((records_of u.below c ++ records_of u.level s) ++ R2)
-          ) (vs ++ ((values_of (entries c) ++ values_of (entries s)) ++ vs2)
-          ) (λ at. below (length nodes) at + (count plan at + ids at))
-          (length nodes + (size plan + n))
+      (R ++ ((records_of u.below c ++ records_of u.level s) ++ R2)
+      ) (vs ++ ((values_of (entries c) ++ values_of (entries s)) ++ vs2)
+      ) (λ at. below (length nodes) at + (count plan at + ids at))
+      (length nodes + (size plan + n))

@@ -102,12 +102,12 @@ module _ (item : List ℕ → Type 0) (w : ℕ) where
   abbrev pub ReadIsRefused : ℕ → Reader → DecodeError → Type 0
   ReadIsRefused left p e =
       (n : ℕ) (before : List Record) (due : List Due) → IsReading n p before due
-        → left + value_marks before ≡ n
+      → left + value_marks before ≡ n
       → IsRefusal item w p.bytes.now n e
 
   -- the bytes behind a whole tree, or the values that are left, are refused
   abbrev pub IsRefusedAfter : ℕ → Reader → DecodeError → Type 0
   IsRefusedAfter left p e =
       (n : ℕ) (R : List Record) (E : List (List ℕ)) → IsReading n p R []
-        → left + value_marks R ≡ n → Root item R E
+      → left + value_marks R ≡ n → Root item R E
       → IsRefusal item w p.bytes.now n e

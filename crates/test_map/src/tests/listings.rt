@@ -100,7 +100,7 @@ fn listed_under<Q: BorrowedBytes, V: Copy + Drop>(
 ) -> Result<Vec<(Q::Owned, V)>, AllocError>
     ensures { IfOk result (λ list.
         each (λ e. (Q.Owned.key e.0, e.1)) list.items
-            ≡ under (Q.key prefix) (map.entries tree.now)) }
+        ≡ under (Q.key prefix) (map.entries tree.now)) }
 {
     let mut list = Vec::new(alloc);
     for item in tree.iter_prefix(prefix) {

@@ -9,8 +9,10 @@ use Rattle.test_scripts.proofs.answering.write_answers.Goals as goal
 pub loop-call-preserved : goal.loop-call-preserved
 loop-call-preserved g c = elim c.if-eq.branch [
   | then-eq+in_ok-write_answer w ↦ ((λ none. search rules), search rules)
-  | else-eq w ↦ ((λ none. search rules),
-      rw w.out-is (NoneOf-more c.args.kind.now c.args.calls.now c.loop-call.call-index c.call-item.result _ c.loop-call-test.true (λ e. search rules) c.loop-call.invariant.1))
+  | else-eq w ↦ (
+    (λ none. search rules),
+    rw w.out-is (NoneOf-more c.args.kind.now c.args.calls.now c.loop-call.call-index c.call-item.result _ c.loop-call-test.true (λ e. search rules) c.loop-call.invariant.1),
+  )
 ]
 
 pub returns-clause-some : goal.returns-clause-some

@@ -7,4 +7,4 @@ use Rattle.test_scripts.proofs.calls.calls.Goals as goal
 pub returns : goal.returns
 returns c =
     c.loop-line.invariant ∙ ap (flat_map call_of) (ap (map (λ line. line.now))
-        (take_all c.loop-line.line-index c.deref-line-items.result.now c.loop-line-test.false ∙ c.deref-line-items.ensures.value) ∙ c.in_ok-lines.ensures)
+    (take_all c.loop-line.line-index c.deref-line-items.result.now c.loop-line-test.false ∙ c.deref-line-items.ensures.value) ∙ c.in_ok-lines.ensures)

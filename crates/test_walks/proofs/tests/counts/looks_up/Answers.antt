@@ -8,7 +8,7 @@ use Rattle.test_walks.proofs.tests.counts.looks_up.Goals as goal
 count :
     (S : List (List ℕ)) (k q : List ℕ) (n m : ℕ)
     → ((S : List (List ℕ)) (k : List ℕ) (n m : ℕ)
-      → IsVisitCount IsByteItem S k n → IsVisitCount IsByteItem S k m → n ≡ m)
+    → IsVisitCount IsByteItem S k n → IsVisitCount IsByteItem S k m → n ≡ m)
     → S ≡ three_keys → k ≡ q
     → IsVisitCount IsByteItem S k n → IsVisitCount IsByteItem three_keys q m → n ≡ m
 count S k q n m one e f a b =
@@ -18,8 +18,12 @@ count S k q n m one e f a b =
 pub returns-clause-through : goal.returns-clause-through
 returns-clause-through g c same =
     let n = c.get_counted.ensures.counted in
-    omega (arith, n.2, count _ _ baz n.0 4 c.one_visit_count.ensures c.requires.keys same n.1
-      c.three_keys_visits.ensures.through)
+    omega (
+      arith,
+      n.2,
+      count _ _ baz n.0 4 c.one_visit_count.ensures c.requires.keys same n.1
+          c.three_keys_visits.ensures.through,
+    )
 
 pub returns-clause-beside : goal.returns-clause-beside
 returns-clause-beside g c same = let n = c.get_counted.ensures.counted in omega (arith, n.2, count _ _ foo n.0 3 c.one_visit_count.ensures c.requires.keys same n.1 c.three_keys_visits.ensures.beside)
