@@ -1,6 +1,6 @@
 -- Which keys of a map begin a key, and which of them is the longest.
 use Rattle.std.proofs.Common.{◌≡◌, ℕ, ◌≤◌, ◌⊎◌, inl, inr, Bool, true, false, T, ◌&&◌, cond, List, [], ◌∷◌, ◌++◌, length, Option, None, Some, refl, sym, ap, subst, ◌∙◌, arith}
-use Rattle.std.specs.Prelude.{filter, nat_eq, is_some}
+use Rattle.std.specs.Prelude.{filter, nat_eq, is_some, option_map}
 use Rattle.std.specs.List.{last_or}
 use Rattle.std.specs.Ordering.{ordering_then, is_lt, is_eq, eq_by_cmp}
 use Rattle.std.specs.Cmp.{tied_itself, nat_cmp_total}
@@ -115,7 +115,7 @@ tied_from a b e = subst (λ c. eq_by_cmp key_cmp a c ≡ true) e (ap is_eq (tied
 
 module _ {V : Type 0} where
   -- what the look-up finds stands in the list
-  found_has : (q : List ℕ) (es : List (List ℕ × V)) → is_some (find key_cmp q es) ≡ true
+  pub found_has : (q : List ℕ) (es : List (List ℕ × V)) → is_some (find key_cmp q es) ≡ true
       → (v : V) × Has es (q, v)
   found_has q [] h = absurd (cc)
   found_has q (e ∷ es) h = by (eq_by_cmp key_cmp q e.0) refl (found_has q es)
@@ -129,7 +129,7 @@ module _ {V : Type 0} where
           (later.0, inr later.1)
 
   -- the look-up finds what stands in the list
-  has_found : (q : List ℕ) (v : V) (es : List (List ℕ × V)) → Has es (q, v)
+  pub has_found : (q : List ℕ) (v : V) (es : List (List ℕ × V)) → Has es (q, v)
       → is_some (find key_cmp q es) ≡ true
   has_found q v [] h = absurd h
   has_found q v (e ∷ es) (inl same) =
@@ -250,3 +250,25 @@ longest_key m k r e =
 pub no_key : {V : Type 0} (m : map.FinMap key_cmp V) (k : List ℕ) → longest k (map.entries m) ≡ None
     → (q : List ℕ) → map.contains_key m q ≡ true → Begins q k → ⊥
 no_key m k none q h b = let has = contained m q h in none_begins k (map.entries m) none (q, has.0) has.1 b
+
+module _ {V : Type 0} (m : map.FinMap key_cmp V) (k : List ℕ) where
+  -- the key of the longest row along a key is the longest key that begins it
+  pub longest_part : (part : List ℕ)
+      → Some part ≡ option_map (λ e. e.0) (longest k (map.entries m)) → IsLongestKey m k part
+  longest_part part e = by (longest k (map.entries m)) refl e
+    where
+      by : (o : Option (List ℕ × V)) → longest k (map.entries m) ≡ o
+          → Some part ≡ option_map (λ e. e.0) o → IsLongestKey m k part
+      by None f g = absurd (cc)
+      by (Some r) f g = let is : r.0 ≡ part = cc in subst (λ p. IsLongestKey m k p) is (longest_key m k r f)
+
+  -- where it has no key, no key of the map begins it
+  pub no_part : None ≡ option_map (λ e. e.0) (longest k (map.entries m))
+      → (q : List ℕ) → map.contains_key m q ≡ true → Begins q k → ⊥
+  no_part e = by (longest k (map.entries m)) refl e
+    where
+      by : (o : Option (List ℕ × V)) → longest k (map.entries m) ≡ o
+          → None ≡ option_map (λ e. e.0) o
+          → (q : List ℕ) → map.contains_key m q ≡ true → Begins q k → ⊥
+      by None f g = no_key m k f
+      by (Some r) f g = absurd (cc)

@@ -1,21 +1,18 @@
 -- Names of a block list, and the keys that it keeps them by.
-use Rattle.std.proofs.Common.{◌≡◌, ℕ, suc, ◌-◌, ◌+◌, ◌≤◌, inl, inr, Bool, true, false, ◌||◌, List, [], ◌∷◌, ◌++◌, map as list_map, length, drop, refl, sym, ap, subst, ◌∙◌, arith}
-use Rattle.std.specs.Prelude.{reverse}
-use Rattle.std.specs.List.{list_any}
+use Rattle.std.proofs.Common.{◌≡◌, ℕ, suc, ◌-◌, ◌+◌, ◌≤◌, inl, inr, Bool, true, false, cond, ◌||◌, Option, None, Some, List, [], ◌∷◌, ◌++◌, map as list_map, length, drop, refl, sym, ap, subst, ◌∙◌, arith}
+use Rattle.std.specs.Prelude.{reverse, is_some, not, Result, Ok, Err, IfOk, OnOk, OnErr}
 use Rattle.std.specs.Ordering.{eq_by_cmp}
 use Rattle.std.specs.Cmp.Lexicographic.{nat_list_cmp_total}
 use Rattle.std.specs.FinMap as map
 use Rattle.std.specs.FinMap.{slice_cmp-IsAntisymmetric, nat_cmp-IsAntisymmetric}
-use Rattle.std.specs.FinSet as set
-use Rattle.std.specs.FinSet.{contains, insert}
-use Rattle.std.proofs.lemmas.List.{append-nil, append_assoc, reverse-reverse, reverse-append, length-reverse}
+use Rattle.std.proofs.lemmas.List.{append-nil, append_assoc, reverse-reverse, reverse-append, length-reverse, length-append}
 use Rattle.std.proofs.lemmas.List.Prefix.{end_rest}
 use Rattle.patricia_tree.specs.Keys.{Begins, key_cmp}
 use Rattle.patricia_tree.specs.Points.{Has}
 use Rattle.patricia_tree.specs.Sets.{KeySet}
 use Rattle.prefixes_core.specs.Blocks.{Covers, Blocks, Passes}
 use Rattle.prefixes_core.specs.Internal.Reversed.{key_of, name_of, names_of, AreKeysOfNames}
-use Rattle.prefixes_core.proofs.LongestLemmas.{IsLongestKey, tied_is, tied_from}
+use Rattle.prefixes_core.proofs.LongestLemmas.{IsLongestKey, found_has, has_found, tied_is, tied_from}
 
 -- the name of the key of a name is that name
 name_of-key_of : (name : List ℕ) → name_of (key_of name) ≡ name
@@ -31,76 +28,86 @@ same_test true b f g = sym (f refl)
 same_test false true f g = g refl
 same_test false false f g = refl
 
--- a test that holds, or another one
-or_second : (a b : Bool) → b ≡ true → (a || b) ≡ true
-or_second true b e = refl
-or_second false b e = e
+-- something that is there or not, where there is one value, is told by a test
+one_value : (x y : Option (Unit {0})) → is_some x ≡ is_some y → x ≡ y
+one_value None None e = refl
+one_value None (Some u) e = absurd (cc)
+one_value (Some u) None e = absurd (cc)
+one_value (Some u) (Some w) e = refl
 
--- a list with a member that ties with a key has that key
-any_has : (q : List ℕ) (ks : List (List ℕ)) → list_any (eq_by_cmp key_cmp q) ks ≡ true → Has ks q
-any_has q [] h = absurd (cc)
-any_has q (k ∷ ks) h = by (eq_by_cmp key_cmp q k) refl (any_has q ks)
-  where
-    by : (b : Bool) → eq_by_cmp key_cmp q k ≡ b
-        → (list_any (eq_by_cmp key_cmp q) ks ≡ true → Has ks q) → Has (k ∷ ks) q
-    by true f rest = inl (sym (tied_is q k f))
-    by false f rest = inr (rest (subst (λ b. (b || list_any (eq_by_cmp key_cmp q) ks) ≡ true) f h))
+-- whether one of two is there
+some_or : (b : Bool) (x : Option (Unit {0})) → is_some (cond b (Some tt) x) ≡ (b || is_some x)
+some_or true x = refl
+some_or false x = refl
 
--- and a list that has a key has a member that ties with it
-has_any : (q : List ℕ) (ks : List (List ℕ)) → Has ks q → list_any (eq_by_cmp key_cmp q) ks ≡ true
-has_any q [] h = absurd h
-has_any q (k ∷ ks) (inl same) = ap (λ b. b || list_any (eq_by_cmp key_cmp q) ks) (tied_from q k (sym same))
-has_any q (k ∷ ks) (inr h) = or_second _ _ (has_any q ks h)
+-- a set with one more key has it and all before
+contains-insert : (keys : KeySet) (k q : List ℕ)
+    → map.contains_key (map.insert keys k tt) q ≡ (eq_by_cmp key_cmp q k || map.contains_key keys q)
+contains-insert keys k q = ap is_some (map.get-insert nat_list_cmp_total keys k tt q) ∙ some_or _ _
 
--- a name of some keys is that of one of them
-named : (n : List ℕ) (ks : List (List ℕ)) → Has (list_map name_of ks) n
-    → (k : List ℕ) × Has ks k × (name_of k ≡ n)
+-- the names of rows, each with nothing beside it
+abbrev named_rows : List (List ℕ × Unit {0}) → List (List ℕ × Unit {0})
+named_rows rows = list_map (λ row. (name_of row.0, tt)) rows
+
+-- a name of some rows is that of one of them
+named : (n : List ℕ) (rows : List (List ℕ × Unit {0})) → Has (named_rows rows) (n, tt)
+    → (k : List ℕ) × Has rows (k, tt) × (name_of k ≡ n)
 named n [] h = absurd h
-named n (k ∷ ks) (inl same) = (k, inl refl, same)
-named n (k ∷ ks) (inr h) = let more = named n ks h in (more.0, inr more.1, more.2)
+named n (row ∷ rows) (inl same) = (row.0, inl refl, ap (λ (r : List ℕ × Unit {0}). r.0) same)
+named n (row ∷ rows) (inr h) = let more = named n rows h in (more.0, inr more.1, more.2)
 
--- the name of one of some keys is a name of them
-has_name : (k : List ℕ) (ks : List (List ℕ)) → Has ks k → Has (list_map name_of ks) (name_of k)
+-- the name of one of some rows is a name of them
+has_name : (k : List ℕ) (rows : List (List ℕ × Unit {0})) → Has rows (k, tt)
+    → Has (named_rows rows) (name_of k, tt)
 has_name k [] h = absurd h
-has_name k (x ∷ ks) (inl same) = inl (ap name_of same)
-has_name k (x ∷ ks) (inr h) = inr (has_name k ks h)
+has_name k (row ∷ rows) (inl same) = inl (ap (λ (r : List ℕ × Unit {0}). (name_of r.0, tt)) same)
+has_name k (row ∷ rows) (inr h) = inr (has_name k rows h)
+
+-- what a set contains stands in its rows
+contained : (keys : KeySet) (q : List ℕ) → map.contains_key keys q ≡ true
+    → Has (map.entries keys) (q, tt)
+contained keys q h = (found_has q (map.entries keys) (ap is_some (sym (map.get-entries keys q)) ∙ h)).1
+
+-- and what stands in its rows it contains
+contains : (keys : KeySet) (q : List ℕ) → Has (map.entries keys) (q, tt)
+    → map.contains_key keys q ≡ true
+contains keys q h = ap is_some (map.get-entries keys q) ∙ has_found q tt (map.entries keys) h
 
 module _ (keys : KeySet) (named_all : AreKeysOfNames keys) where
-  -- a name is listed exactly where its key is
+  -- a name that is listed has its key in the set
+  there : (n : List ℕ) → map.contains_key (names_of keys) n ≡ true
+      → map.contains_key keys (key_of n) ≡ true
+  there n h =
+      let rows = named_rows (map.entries keys) in
+      let one = found_has n rows (ap is_some (sym (map.get-from_entries nat_list_cmp_total rows n)) ∙ h) in
+      let found = named n (map.entries keys) one.1 in
+      let in_keys = contains keys found.0 found.1 in
+      let is : found.0 ≡ key_of n = sym (named_all found.0 in_keys) ∙ ap key_of found.2 in
+      subst (λ k. map.contains_key keys k ≡ true) is in_keys
+
+  -- and a name whose key is in the set is listed
+  back : (n : List ℕ) → map.contains_key keys (key_of n) ≡ true
+      → map.contains_key (names_of keys) n ≡ true
+  back n h =
+      let rows = named_rows (map.entries keys) in
+      let one = has_name (key_of n) (map.entries keys) (contained keys (key_of n) h) in
+      let found : Has rows (n, tt) = subst (λ x. Has rows (x, tt)) (name_of-key_of n) one in
+      ap is_some (map.get-from_entries nat_list_cmp_total rows n) ∙ has_found n tt rows found
+
+  -- a name is listed exactly where its key is in the set
   pub listed_is : (n : List ℕ) → map.contains_key (names_of keys) n ≡ map.contains_key keys (key_of n)
-  unfolding contains
-  listed_is n = same_test _ _ there back
-    where
-      names : List (List ℕ)
-      names = list_map name_of (map.keys keys)
-
-      there : map.contains_key (names_of keys) n ≡ true → map.contains_key keys (key_of n) ≡ true
-      there h =
-          let one = any_has n names (sym (set.contains-from_list nat_list_cmp_total names n) ∙ h) in
-          let found = named n (map.keys keys) one in
-          let in_keys : map.contains_key keys found.0 ≡ true =
-          map.contains_key-keys keys found.0 ∙ has_any found.0 (map.keys keys) found.1 in
-          let is : found.0 ≡ key_of n = sym (named_all found.0 in_keys) ∙ ap key_of found.2 in
-          subst (λ k. map.contains_key keys k ≡ true) is in_keys
-
-      back : map.contains_key keys (key_of n) ≡ true → map.contains_key (names_of keys) n ≡ true
-      back h =
-          let one = any_has (key_of n) (map.keys keys) (sym (map.contains_key-keys keys (key_of n)) ∙ h) in
-          let found : Has names n = subst (λ x. Has names x) (name_of-key_of n) (has_name (key_of n) (map.keys keys) one) in
-          set.contains-from_list nat_list_cmp_total names n ∙ has_any n names found
+  listed_is n = same_test _ _ (there n) (back n)
 
   -- with one more name each key is still that of a name
   pub named_more : (n : List ℕ) → AreKeysOfNames (map.insert keys (key_of n) tt)
-  unfolding contains insert
-  named_more n k h =
-      by (eq_by_cmp key_cmp k (key_of n)) refl
+  named_more n k h = by (eq_by_cmp key_cmp k (key_of n)) refl
     where
-      either : (eq_by_cmp key_cmp k (key_of n) || map.contains_key keys k) ≡ true
-      either = sym (set.contains-insert nat_list_cmp_total keys (key_of n) k) ∙ h
-
       by : (b : Bool) → eq_by_cmp key_cmp k (key_of n) ≡ b → key_of (name_of k) ≡ k
-      by true f = let is = tied_is k (key_of n) f in subst (λ x. key_of (name_of x) ≡ x) (sym is) (ap key_of (name_of-key_of n))
-      by false f = named_all k (subst (λ b. (b || map.contains_key keys k) ≡ true) f either)
+      by true f =
+          let is = tied_is k (key_of n) f in
+          subst (λ x. key_of (name_of x) ≡ x) (sym is) (ap key_of (name_of-key_of n))
+      by false f =
+          named_all k (subst (λ b. (b || map.contains_key keys k) ≡ true) f (sym (contains-insert keys (key_of n) k) ∙ h))
 
 -- names tie where their keys do
 tied_keys : (q n : List ℕ) → eq_by_cmp key_cmp (key_of q) (key_of n) ≡ eq_by_cmp key_cmp q n
@@ -111,22 +118,24 @@ tied_keys q n = same_test _ _
 -- one more key is one more name
 pub names_more : (keys : KeySet) → AreKeysOfNames keys → (n : List ℕ)
     → names_of (map.insert keys (key_of n) tt) ≡ map.insert (names_of keys) n tt
-unfolding contains insert
 names_more keys named_all n =
-    set.same_set nat_list_cmp_total (slice_cmp-IsAntisymmetric nat_cmp-IsAntisymmetric) _ _
-    (λ q. listed_is (map.insert keys (key_of n) tt) (named_more keys named_all n) q
-    ∙ set.contains-insert nat_list_cmp_total keys (key_of n) (key_of q)
+    map.same_map nat_list_cmp_total (slice_cmp-IsAntisymmetric nat_cmp-IsAntisymmetric) _ _
+    (λ q. one_value _ _ (listed_is (map.insert keys (key_of n) tt) (named_more keys named_all n) q
+    ∙ contains-insert keys (key_of n) (key_of q)
     ∙ ap (λ b. b || map.contains_key keys (key_of q)) (tied_keys q n)
     ∙ ap (λ b. eq_by_cmp key_cmp q n || b) (sym (listed_is keys named_all q))
-    ∙ sym (set.contains-insert nat_list_cmp_total (names_of keys) n q))
+    ∙ sym (contains-insert (names_of keys) n q)))
 
--- no key has no name
+-- the empty set contains nothing
+pub nothing_named : AreKeysOfNames map.empty
+nothing_named k h = absurd (let none = map.get-empty {X = Unit {0}} key_cmp k in let no = ap is_some none in cc)
+
+-- and has no names
 pub no_names : names_of map.empty ≡ map.empty
-unfolding contains
 no_names =
-    set.same_set nat_list_cmp_total (slice_cmp-IsAntisymmetric nat_cmp-IsAntisymmetric) _ _
-    (λ q. listed_is map.empty (λ k h. absurd (let no = set.contains-empty key_cmp k in cc)) q
-    ∙ set.contains-empty key_cmp (key_of q) ∙ sym (set.contains-empty key_cmp q))
+    map.same_map nat_list_cmp_total (slice_cmp-IsAntisymmetric nat_cmp-IsAntisymmetric) _ _
+    (λ q. one_value _ _ (listed_is map.empty nothing_named q ∙ ap is_some (map.get-empty key_cmp (key_of q))
+    ∙ sym (ap is_some (map.get-empty key_cmp q))))
 
 -- the key of a name that covers a host begins that of the host
 covers_begins : (name host : List ℕ) → Covers name host → Begins (key_of name) (key_of host)
@@ -187,3 +196,44 @@ module _ (keys : KeySet) (named_all : AreKeysOfNames keys) (host : List ℕ) whe
   pub passes : ((q : List ℕ) → map.contains_key keys q ≡ true → Begins q (key_of host) → ⊥)
       → Passes (names_of keys) host
   passes none name listed covered = none (key_of name) (sym (listed_is keys named_all name) ∙ listed) (covers_begins name host covered)
+
+  -- so many bytes are not of a name that covers a host, which are no more than those of the host
+  pub front_short : (part : List ℕ) → IsLongestKey keys (key_of host) part
+      → (length part ≤ suc (length host)) × (suc (length host) ≤ length host + length part)
+  front_short part long =
+      let front = long.begins in
+      let size = length-append part front.0 in
+      let whole = key_of-length host in
+      let own = key_of-length (name_of part) in
+      let same = ap length (named_all part long.listed) in
+      (omega (arith, size, whole, ap length front.1), omega (arith, own, same))
+
+-- the key of a host is one byte longer
+pub host_key : (key host : List ℕ) → key ≡ key_of host → length key ≡ suc (length host)
+host_key key host e = ap length e ∙ key_of-length host
+
+-- what an insert of the key of a name leaves, whether it succeeds or not
+module _ {E : Type 0} (old new : KeySet) (k n : List ℕ) (named_all : AreKeysOfNames old)
+    (is : k ≡ key_of n) where
+  -- each key is still that of a name
+  pub named_after : (r : Result Bool E) → OnOk r (new ≡ map.insert old k tt) → OnErr r (new ≡ old)
+      → AreKeysOfNames new
+  named_after (Ok b) ok err = subst AreKeysOfNames (sym (ok ∙ ap (λ q. map.insert old q tt) is)) (named_more old named_all n)
+  named_after (Err e) ok err = subst AreKeysOfNames (sym err) named_all
+
+  -- it answers whether the name is new
+  pub name_is_new : (r : Result Bool E) → IfOk r (λ b. b ≡ not (map.contains_key old k))
+      → IfOk r (λ b. b ≡ not (map.contains_key (names_of old) n))
+  name_is_new (Ok b) new_is = new_is ∙ ap not (ap (map.contains_key old) is ∙ sym (listed_is old named_all n))
+  name_is_new (Err e) new_is = tt
+
+  -- on success the name is among the names
+  pub name_added : (r : Result Bool E) → OnOk r (new ≡ map.insert old k tt)
+      → OnOk r (names_of new ≡ map.insert (names_of old) n tt)
+  name_added (Ok b) ok = ap names_of (ok ∙ ap (λ q. map.insert old q tt) is) ∙ names_more old named_all n
+  name_added (Err e) ok = tt
+
+  -- else the names are those from before
+  pub name_refused : (r : Result Bool E) → OnErr r (new ≡ old) → OnErr r (names_of new ≡ names_of old)
+  name_refused (Ok b) err = tt
+  name_refused (Err e) err = ap names_of err

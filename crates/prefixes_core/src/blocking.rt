@@ -30,14 +30,14 @@ pub struct BlockList {
 }
 
 impl Model for BlockList {
-    ghost use Rattle.std.specs.FinMap as map;
-    ghost use Rattle.std.specs.Coded.{coded_ℕ, coded_list, coded_unit};
+    ghost use Rattle.std.specs.Coded.{coded_ℕ, coded_list};
+    ghost use Rattle.std.specs.FinSet.{code};
     ghost use Rattle.patricia_tree.specs.Sets.{KeySet};
     ghost use Rattle.prefixes_core.specs.Internal.Reversed.{names_of, AreKeysOfNames};
 
     ghost Value = { KeySet };
 
-    ghost coded = { map.code (coded_list coded_ℕ) coded_unit };
+    ghost coded = { code (coded_list coded_ℕ) };
 
     ghost view = { λ list. names_of list.keys };
 
@@ -80,6 +80,17 @@ impl BlockList {
         self.keys.insert(key.as_slice())
     }
 
+    // The name whose key is the longest that begins the key of the host, as a part of the host.
+    fn find_by_key<'a>(&self, key: &[u8], host: &'a [u8]) -> Option<&'a [u8]>
+        requires { key.now ≡ key_of host.now }
+        ensures blocked { IfSome result (λ name. Blocks self.now host.now name.now) }
+        ensures passes { IfNone result (Passes self.now host.now) }
+    {
+        let front = self.keys.get_longest_common_prefix(key)?;
+        let (_, name) = host.split_at(key.len() - front.len());
+        Some(name)
+    }
+
     /// Returns the longest name of the list that is the host or that the host is below, or `None`
     /// where there is none. The name that is returned is a part of the host.
     ///
@@ -94,9 +105,6 @@ impl BlockList {
         ensures passes { IfOk result (λ found. IfNone found (Passes self.now host.now)) }
     {
         let key = key_of(self.alloc, host)?;
-        Ok(match self.keys.get_longest_common_prefix(key.as_slice()) {
-            Some(front) => Some(&host[key.len() - front.len()..]),
-            None => None,
-        })
+        Ok(self.find_by_key(key.as_slice(), host))
     }
 }

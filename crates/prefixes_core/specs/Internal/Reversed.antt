@@ -1,8 +1,6 @@
 -- How a block list keeps its names: as the bytes of a dot and the name, from the last to the first.
-use Rattle.std.specs.Prelude.{◌≡◌, ℕ, List, [], ◌∷◌, drop, map as list_map, true}
-use Rattle.std.specs.List.{reverse}
+use Rattle.std.specs.Prelude.{◌≡◌, ℕ, List, ◌∷◌, drop, reverse, map as list_map, true}
 use Rattle.std.specs.FinMap as map
-use Rattle.std.specs.FinSet.{from_list}
 use Rattle.patricia_tree.specs.Sets.{KeySet}
 
 -- the key of a name: that of `a.bc` is `cb.a.`
@@ -15,7 +13,7 @@ name_of key = drop 1 (reverse key)
 
 -- the names of the keys of a set
 abbrev pub names_of : KeySet → KeySet
-names_of keys = from_list (list_map name_of (map.keys keys))
+names_of keys = map.from_entries (list_map (λ row. (name_of row.0, tt)) (map.entries keys))
 
 -- each key of the set is that of a name
 abbrev pub AreKeysOfNames : KeySet → Type 0
