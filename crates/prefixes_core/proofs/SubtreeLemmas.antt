@@ -7,15 +7,15 @@ use Rattle.std.specs.Str.{bytes_eq}
 use Rattle.std.specs.Cmp.{tied_itself}
 use Rattle.std.specs.Cmp.Lexicographic.{nat_list_cmp_total, texts_ties}
 use Rattle.std.specs.FinMap as map
-use Rattle.std.specs.FinMap.{find, is_sorted, entries, remove, retain_keys}
-use Rattle.std.specs.FinMap.Entries.{below_all}
+use Rattle.std.specs.FinMap.{find, is_sorted, slice_cmp-IsAntisymmetric, nat_cmp-IsAntisymmetric}
+use Rattle.std.specs.FinMap.Entries.{below_all, find-where_key, is_sorted-where_key}
 use Rattle.std.specs.declared.cmp.Ordering.{Ordering}
 use Rattle.std.specs.declared.cmp.Ordering.TheVariants.{Less, Equal, Greater}
 use Rattle.std.proofs.lemmas.List.{append_assoc}
 use Rattle.patricia_tree.specs.Keys.{Begins, key_cmp}
 use Rattle.patricia_tree.specs.Prefixes.{begins, under, outside}
 use Rattle.prefixes_core.specs.Subtrees.{is_within, subtree, elsewhere}
-use Rattle.prefixes_core.proofs.LongestLemmas.{first_part, second_part, less_so, begins_is, tied_is, tied_from, not_above}
+use Rattle.prefixes_core.proofs.LongestLemmas.{first_part, second_part, less_so, begins_is, key_cmp-equal, tied_is, tied_from, not_above}
 
 -- the name and a dot
 abbrev pub dotted : List ℕ → List ℕ
@@ -27,8 +27,8 @@ own name value = option_map_or (λ v. (name, v) ∷ []) value []
 
 -- a test that does not hold is false
 not_true : (b : Bool) → (b ≡ true → ⊥) → b ≡ false
-not_true true no = absurd (no refl)
-not_true false no = refl
+not_true true never = absurd (never refl)
+not_true false never = refl
 
 -- two tests, of which each holds where the other does, are one
 alike : (a b : Bool) → (a ≡ true → b ≡ true) → (b ≡ true → a ≡ true) → a ≡ b
@@ -76,6 +76,11 @@ taken : {A : Type 0} (b : Bool) (x y : A) → b ≡ true → cond b x y ≡ x
 taken true x y e = refl
 taken false x y e = absurd (cc)
 
+-- one of two by a test, and by its opposite
+cond-not : {A : Type 0} (b c : Bool) (x y : A) → b ≡ c → cond c x y ≡ cond (not b) y x
+cond-not true c x y e = sym (ap (λ t. cond t x y) e)
+cond-not false c x y e = sym (ap (λ t. cond t x y) e)
+
 module _ {V : Type 0} (name : List ℕ) where
   -- below a greater key all keys are greater
   below_from : (x : List ℕ) (es : List (List ℕ × V)) → key_cmp name x ≡ Less
@@ -94,8 +99,9 @@ module _ {V : Type 0} (name : List ℕ) where
   none_own : (es : List (List ℕ × V)) → T (below_all key_cmp name es) → find key_cmp name es ≡ None
   none_own [] all = refl
   none_own (e ∷ es) all =
-      let less = less_so _ (first_part _ _ all) in
-      skipped _ _ _ (ap is_eq less) ∙ none_own es (second_part _ _ all)
+      let less = less_so (key_cmp name e.0) (first_part (is_lt (key_cmp name e.0)) (below_all key_cmp name es) all) in
+      skipped (eq_by_cmp key_cmp name e.0) (Some e.1) (find key_cmp name es) (ap is_eq less)
+      ∙ none_own es (second_part (is_lt (key_cmp name e.0)) (below_all key_cmp name es) all)
 
   -- and its subtree is the rows below it
   all_below : (es : List (List ℕ × V)) → T (below_all key_cmp name es)
@@ -174,7 +180,24 @@ module _ {V : Type 0} (name : List ℕ) where
           ap (elsewhere name) (taken _ _ _ (ap not f))
           ∙ ap (λ l. cond (not (is_within name e.0)) (e ∷ l) l) rest
 
+  -- the rows of others rise as all do
+  others_sorted : (es : List (List ℕ × V)) → T (is_sorted key_cmp es)
+      → T (is_sorted key_cmp (others es))
+  others_sorted es sorted = is_sorted-where_key key_cmp (λ k. not (eq_by_cmp key_cmp name k)) es sorted
+
   -- what is left without a key is the rows of others
-  pub entries-remove : (m : map.FinMap key_cmp V) → entries (remove m name) ≡ others (entries m)
-  unfolding entries remove retain_keys
-  entries-remove m = refl
+  pub entries-remove : (m : map.FinMap key_cmp V)
+      → map.entries (map.remove m name) ≡ others (map.entries m)
+  entries-remove m =
+      let es = map.entries m in
+      let sorted = others_sorted es (map.entries_sorted m) in
+      ap map.entries (map.same_map nat_list_cmp_total (slice_cmp-IsAntisymmetric nat_cmp-IsAntisymmetric)
+      (map.remove m name) (map.from_sorted (others es))
+      (λ q. map.get-remove nat_list_cmp_total m name q
+      ∙ ap (λ v. cond (eq_by_cmp key_cmp q name) None v) (map.get-entries m q)
+      ∙ cond-not (eq_by_cmp key_cmp name q) (eq_by_cmp key_cmp q name) None (find key_cmp q es)
+      (alike _ _ (λ h. tied_from q name (sym (tied_is name q h))) (λ h. tied_from name q (sym (tied_is q name h))))
+      ∙ sym (find-where_key key_cmp (λ k. not (eq_by_cmp key_cmp name k)) q
+      (λ x tie. ap (λ k. not (eq_by_cmp key_cmp name k)) (sym (key_cmp-equal q x tie))) es)
+      ∙ sym (map.get-from_sorted key_cmp (others es) q sorted)))
+      ∙ map.entries-from_sorted key_cmp (others es) sorted
