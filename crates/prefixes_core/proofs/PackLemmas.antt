@@ -1,10 +1,16 @@
 -- Bytes behind their number, and packed lists.
-use Rattle.std.proofs.Common.{◌≡◌, ◌≢◌, ℕ, suc, ◌+◌, ◌≤◌, ◌<◌, ◌^◌, List, [], ◌∷◌, ◌++◌, map, length, take, drop, refl, sym, ap, subst, ◌∙◌, arith}
+use Rattle.std.proofs.Common.{◌≡◌, ◌≢◌, ℕ, zero, suc, ◌==◌, Bool, true, false, get_or, ◌+◌, ◌≤◌, ◌<◌, ◌^◌, List, [], ◌∷◌, ◌++◌, map, length, take, drop, refl, sym, ap, subst, ◌∙◌, arith}
 use Rattle.std.specs.Int.{w64, to_be_bytes, from_be_bytes}
 use Rattle.std.specs.List.{concat}
-use Rattle.std.proofs.lemmas.List.{append_assoc, append-nil, append_cancel_left, length-append, take_at, drop_at}
-use Rattle.std.proofs.lemmas.Nat.{from_be_bytes-to_be_bytes_8}
-use Rattle.prefixes_core.specs.Packings.{head, counted, packed}
+use Rattle.std.proofs.lemmas.List.{append_assoc, append-nil, append_cancel_left, length-append, length-take-le, take-append-drop, take_at, drop_at}
+use Rattle.std.proofs.lemmas.Bool.{eqb-false}
+use Rattle.std.proofs.lemmas.Nat.{be_bytes_8, from_be_bytes-to_be_bytes_8}
+use Rattle.std.specs.Str.{bytes_eq}
+use Rattle.std.specs.Cmp.Lexicographic.{same_text}
+use Rattle.patricia_tree.specs.TextKind.{IsTextItem}
+use Rattle.patricia_tree.specs.Walks.{values_of}
+use Rattle.patricia_tree.specs.Writings.{Means}
+use Rattle.prefixes_core.specs.Packings.{head, counted, packed, Packs}
 
 -- the number of some bytes has eight bytes
 pub number_length : (n : ℕ) → length (to_be_bytes w64 n) ≡ 8
@@ -111,3 +117,72 @@ packed_same t u vs ws small e =
     let shorter : length others < 2 ^ 64 = (let both = length-append head others in omega (arith, small)) in
     let parts = counted_same t u _ _ (front_small t _ others inner shorter) (front_small u _ others refl shorter) inner in
     (parts.0, values_same vs ws (rest_small u _ others refl shorter) parts.1)
+
+-- the first of some bytes are bytes
+pub take_bytes : (n : ℕ) (xs : List ℕ) → ((i : ℕ) → get_or xs i 0 < 256)
+    → (i : ℕ) → get_or (take n xs) i 0 < 256
+take_bytes zero xs small i = omega arith
+take_bytes (suc n) [] small i = omega arith
+take_bytes (suc n) (x ∷ xs) small zero = small zero
+take_bytes (suc n) (x ∷ xs) small (suc i) = take_bytes n xs (λ j. small (suc j)) i
+
+-- eight bytes that are a number, so many bytes and the rest are bytes behind their number
+pub counted_is : (bytes number rest field later : List ℕ) (n : ℕ)
+    → number ≡ take 8 bytes → rest ≡ drop 8 bytes → length rest + 8 ≡ length bytes
+    → ((i : ℕ) → get_or bytes i 0 < 256) → n ≡ from_be_bytes w64 number
+    → field ≡ take n rest → later ≡ drop n rest → length field ≡ n
+    → bytes ≡ counted field ++ later
+counted_is bytes number rest field later n front behind size small is first second long =
+    let eight : length number ≡ 8 = ap length front ∙ length-take-le 8 bytes (omega arith) in
+    let each = subst (λ (l : List ℕ). (i : ℕ) → get_or l i 0 < 256) (sym front) (take_bytes 8 bytes small) in
+    let spelled : to_be_bytes w64 (length field) ≡ number = ap (to_be_bytes w64) long ∙ be_bytes_8 number n eight each is in
+    sym (ap (λ l. (l ++ field) ++ later) spelled ∙ append_assoc number field later
+    ∙ ap (λ l. number ++ l) (ap (λ l. l ++ later) first ∙ ap (λ l. take n rest ++ l) second ∙ take-append-drop n rest)
+    ∙ ap (λ l. l ++ rest) front ∙ ap (λ l. take 8 bytes ++ l) behind ∙ take-append-drop 8 bytes)
+
+-- a list that is tested not to be empty is not
+pub tested_some : (l : List ℕ) (b : Bool) → b ≡ (length l == 0) → b ≡ false → l ≢ []
+tested_some l b e test none = eqb-false (length l) 0 (sym e ∙ test) (ap length none)
+
+-- what is behind some bytes and their number is shorter
+pub rest_no_longer : (a x w : List ℕ) → counted a ++ x ≡ w → length x ≤ length w
+rest_no_longer a x w e = let both = length-append (counted a) x in omega (arith, ap length e)
+
+-- bytes that begin as packed lists do are the head and the rest
+pub head_front : (bytes rest : List ℕ) → bytes_eq (take 9 bytes) head ≡ true → rest ≡ drop 9 bytes
+    → bytes ≡ head ++ rest
+head_front bytes rest same e =
+    sym (take-append-drop 9 bytes) ∙ ap (λ l. l ++ drop 9 bytes) (same_text (take 9 bytes) head (sym same))
+    ∙ ap (λ l. head ++ l) (sym e)
+
+-- bytes that do not begin so are not packed
+pub no_head : (bytes : List ℕ) (rows : List (List ℕ × List ℕ)) → bytes_eq (take 9 bytes) head ≡ false
+    → Packs bytes rows → ⊥
+no_head bytes rows other packs =
+    let no : true ≡ false = subst (λ b. bytes_eq (take 9 b) head ≡ false) packs.is other in absurd (cc)
+
+-- behind the head and the tree bytes of packed rows are their values
+pub packed_rest : (bytes tree rest : List ℕ) (rows : List (List ℕ × List ℕ))
+    → length bytes < 2 ^ 64 → bytes ≡ head ++ (counted tree ++ rest) → (packs : Packs bytes rows)
+    → (tree ≡ packs.tree) × (rest ≡ concat (map counted (values_of rows)))
+packed_rest bytes tree rest rows small e packs =
+    let mine = counted tree ++ rest in
+    let others = counted packs.tree ++ concat (map counted (values_of rows)) in
+    let inner : mine ≡ others = append_cancel_left head mine others (sym e ∙ packs.is) in
+    let shorter : length others < 2 ^ 64 = (let both = length-append head others in
+    let same = ap length packs.is in omega (arith, small)) in
+    counted_same tree packs.tree rest _ (front_small tree _ others inner shorter) (front_small packs.tree _ others refl shorter) inner
+
+-- rows that are packed to the bytes have the values that are read
+pub packed_values : (bytes tree rest : List ℕ) (values : List (List ℕ)) (rows : List (List ℕ × List ℕ))
+    → length bytes < 2 ^ 64 → bytes ≡ head ++ (counted tree ++ rest)
+    → rest ≡ concat (map counted values) → (packs : Packs bytes rows)
+    → Means IsTextItem 2 tree values rows
+packed_values bytes tree rest values rows small e f packs =
+    let parts = packed_rest bytes tree rest rows small e packs in
+    let whole = length-append head (counted tree ++ rest) in
+    let last = length-append (counted tree) rest in
+    let short : length (concat (map counted (values_of rows))) < 2 ^ 64 = omega (arith, small, ap length e, ap length parts.1) in
+    let same = values_same values (values_of rows) short (sym f ∙ parts.1) in
+    subst (λ t. Means IsTextItem 2 t values rows) (sym parts.0)
+    (subst (λ vs. Means IsTextItem 2 packs.tree vs rows) (sym same) packs.means)

@@ -1,5 +1,5 @@
 -- The bytes of a packed list.
-use Rattle.std.specs.Prelude.{◌≡◌, ℕ, List, [], ◌∷◌, ◌++◌, length, map, codes}
+use Rattle.std.specs.Prelude.{◌≡◌, ℕ, ◌<◌, ◌^◌, List, [], ◌∷◌, ◌++◌, length, map, codes}
 use Rattle.std.specs.Int.{w64, to_be_bytes}
 use Rattle.std.specs.List.{concat}
 use Rattle.patricia_tree.specs.TextKind.{IsTextItem}
@@ -30,3 +30,9 @@ pub record ArePackedBytes (bytes : List ℕ) (rows : List (List ℕ × List ℕ)
   pub tree : List ℕ
   pub is : bytes ≡ packed tree (values_of rows)
   pub tree_bytes : AreTreeBytes IsTextItem 2 tree rows
+
+-- what rows are packed to means them and no others
+abbrev pub PacksOneList : Type 0
+PacksOneList =
+    (bytes : List ℕ) (rows others : List (List ℕ × List ℕ)) → length bytes < 2 ^ 64
+    → ArePackedBytes bytes rows → Packs bytes rows × (Packs bytes others → others ≡ rows)

@@ -5,11 +5,10 @@ ghost use Rattle.std.specs.FinMap as map;
 ghost use Rattle.std.specs.List.{concat};
 ghost use Rattle.patricia_tree.specs.TextKind.{IsTextItem};
 ghost use Rattle.patricia_tree.specs.Writings.{TooDeep};
-ghost use Rattle.prefixes_core.specs.Packings.{counted, packed, Packs, ArePackedBytes};
-ghost use Rattle.prefixes_core.specs.declared.packing.PackError.TheVariants as PackErrors;
-ghost use Rattle.prefixes_core.specs.declared.packing.UnpackError.TheVariants as UnpackErrors;
+ghost use Rattle.prefixes_core.specs.Packings.{counted, packed, Packs, ArePackedBytes, PacksOneList};
 
 use crate::value::Payload;
+use patricia_tree::wire::laws::{meant_is_never_refused, one_meaning};
 use patricia_tree::{DecodeError, StringPatriciaMap, WireError};
 use std::alloc::{AllocError, AllocFailed, Global};
 use thiserror::Error;
@@ -40,7 +39,10 @@ pub enum UnpackError {
 }
 
 impl From<AllocError> for PackError {
-    ghost from_gives = { λ _ e. e ≡ PackErrors.Memory };
+    ghost use Rattle.std.specs.Prelude.{◌≡◌};
+    ghost use Rattle.prefixes_core.specs.declared.packing.PackError.TheVariants.{Memory};
+
+    ghost from_gives = { λ _ e. e ≡ Memory };
 
     fn from(_: AllocError) -> PackError {
         PackError::Memory
@@ -48,7 +50,10 @@ impl From<AllocError> for PackError {
 }
 
 impl From<AllocError> for UnpackError {
-    ghost from_gives = { λ _ e. e ≡ UnpackErrors.Memory };
+    ghost use Rattle.std.specs.Prelude.{◌≡◌};
+    ghost use Rattle.prefixes_core.specs.declared.packing.UnpackError.TheVariants.{Memory};
+
+    ghost from_gives = { λ _ e. e ≡ Memory };
 
     fn from(_: AllocError) -> UnpackError {
         UnpackError::Memory
@@ -56,7 +61,10 @@ impl From<AllocError> for UnpackError {
 }
 
 impl<T: Drop> From<AllocFailed<T>> for UnpackError {
-    ghost from_gives = { λ _ e. e ≡ UnpackErrors.Memory };
+    ghost use Rattle.std.specs.Prelude.{◌≡◌};
+    ghost use Rattle.prefixes_core.specs.declared.packing.UnpackError.TheVariants.{Memory};
+
+    ghost from_gives = { λ _ e. e ≡ Memory };
 
     fn from(_: AllocFailed<T>) -> UnpackError {
         UnpackError::Memory
@@ -111,7 +119,7 @@ fn with_values(
 /// ```
 pub fn pack(alloc: Global, list: &StringPatriciaMap<Payload>) -> Result<Vec<u8>, PackError>
     ensures ok { IfOk result (λ bytes. ArePackedBytes bytes.items (map.entries list.now)) }
-    ensures too_deep { result ≡ Err PackErrors.TooDeep
+    ensures too_deep { result ≡ Err PackError.TooDeep
         → TooDeep IsTextItem 2 (map.keys list.now) }
 {
     let tree = match list.tree_bytes() {
@@ -141,7 +149,7 @@ fn split_counted(bytes: &[u8]) -> Option<(&[u8], &[u8])>
 fn split_values(alloc: Global, bytes: &[u8], at: usize) -> Result<Vec<Payload>, UnpackError>
     requires { at + length bytes.now < 2 ^ 64 }
     ensures ok { IfOk result (λ values. bytes.now ≡ concat (list_map counted values.items)) }
-    ensures refused { IfErr result (λ e. e ≢ UnpackErrors.Memory → (values : List (List ℕ))
+    ensures refused { IfErr result (λ e. e ≢ UnpackError.Memory → (values : List (List ℕ))
         → bytes.now ≡ concat (list_map counted values) → ⊥) }
 {
     let mut values = Vec::new(alloc);
@@ -154,6 +162,16 @@ fn split_values(alloc: Global, bytes: &[u8], at: usize) -> Result<Vec<Payload>, 
         rest = later;
     }
     Ok(values)
+}
+
+// The fault of the tree bytes of a packed list.
+fn tree_fault(fault: DecodeError) -> UnpackError
+    ensures { fault ≡ DecodeError.Memory → result ≡ UnpackError.Memory }
+{
+    match fault {
+        DecodeError::Memory => UnpackError::Memory,
+        _ => UnpackError::Tree(HEAD.len() + 8, fault),
+    }
 }
 
 /// Reads a packed list.
@@ -174,7 +192,7 @@ fn split_values(alloc: Global, bytes: &[u8], at: usize) -> Result<Vec<Payload>, 
 /// ```
 pub fn unpack(alloc: Global, bytes: &[u8]) -> Result<StringPatriciaMap<Payload>, UnpackError>
     ensures ok { IfOk result (λ list. Packs bytes.now (map.entries list)) }
-    ensures refused { IfErr result (λ e. e ≢ UnpackErrors.Memory
+    ensures refused { IfErr result (λ e. e ≢ UnpackError.Memory
         → (rows : List (List ℕ × List ℕ)) → Packs bytes.now rows → ⊥) }
 {
     let Some(rest) = bytes.strip_prefix(HEAD) else {
@@ -183,10 +201,21 @@ pub fn unpack(alloc: Global, bytes: &[u8]) -> Result<StringPatriciaMap<Payload>,
     let Some((tree, rest)) = split_counted(rest) else {
         return Err(UnpackError::Truncated(HEAD.len()));
     };
-    let values = split_values(alloc, rest, bytes.len() - rest.len())?;
+    let values = match split_values(alloc, rest, bytes.len() - rest.len()) {
+        Ok(values) => values,
+        Err(error) => return Err(error),
+    };
+    meant_is_never_refused::<String, Payload>();
     match StringPatriciaMap::from_wire(alloc, tree, values) {
         Ok(list) => Ok(list),
-        Err(DecodeError::Memory) => Err(UnpackError::Memory),
-        Err(fault) => Err(UnpackError::Tree(HEAD.len() + 8, fault)),
+        Err(fault) => Err(tree_fault(fault)),
     }
+}
+
+/// What a list is packed to is read to that list and to no other one, by `unpack`, which does not
+/// refuse it. A law, which does nothing at run time.
+pub fn packed_is_one_list()
+    ensures { PacksOneList }
+{
+    one_meaning::<String, Payload>();
 }
