@@ -7,7 +7,7 @@ use std::alloc::{AllocError, Global};
 const VERSION: &str = "0.1.0";
 
 // A file that a command needs.
-fn file(alloc: Global, name: &'static str, help: &'static str) -> Arg<'static> {
+fn file<'a>(alloc: Global, name: &'a str, help: &'a str) -> Arg<'a> {
     Arg::new(alloc, name)
         .required(true)
         .action(ArgAction::Set)
@@ -16,12 +16,12 @@ fn file(alloc: Global, name: &'static str, help: &'static str) -> Arg<'static> {
 }
 
 // A command that reads a list.
-fn over_list(
+fn over_list<'a>(
     alloc: Global,
-    name: &'static str,
-    list: &'static str,
-    about: &'static str,
-) -> Result<Command<'static>, AllocError> {
+    name: &'a str,
+    list: &'a str,
+    about: &'a str,
+) -> Result<Command<'a>, AllocError> {
     Command::new(alloc, name).about(about).arg(file(
         alloc,
         list,
@@ -29,7 +29,7 @@ fn over_list(
     ))
 }
 
-fn complete(alloc: Global) -> Result<Command<'static>, AllocError> {
+fn complete<'a>(alloc: Global) -> Result<Command<'a>, AllocError> {
     let most = Arg::new(alloc, "most")
         .short('n')
         .long("most")
@@ -46,7 +46,7 @@ fn complete(alloc: Global) -> Result<Command<'static>, AllocError> {
     .arg(most)
 }
 
-fn tree(alloc: Global) -> Result<Command<'static>, AllocError> {
+fn tree<'a>(alloc: Global) -> Result<Command<'a>, AllocError> {
     let drop = Arg::new(alloc, "drop")
         .long("drop")
         .action(ArgAction::SetTrue)
@@ -60,7 +60,7 @@ fn tree(alloc: Global) -> Result<Command<'static>, AllocError> {
     .arg(drop)
 }
 
-fn pack(alloc: Global) -> Result<Command<'static>, AllocError> {
+fn pack<'a>(alloc: Global) -> Result<Command<'a>, AllocError> {
     over_list(
         alloc,
         "pack",
@@ -75,7 +75,7 @@ fn pack(alloc: Global) -> Result<Command<'static>, AllocError> {
 /// # Errors
 ///
 /// Out of memory.
-pub fn command(alloc: Global) -> Result<Command<'static>, AllocError> {
+pub fn command<'a>(alloc: Global) -> Result<Command<'a>, AllocError> {
     Command::new(alloc, "prefixes")
         .version(VERSION)
         .about("Answers questions about prefixes: one for each line of the standard input")

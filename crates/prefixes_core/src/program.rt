@@ -89,6 +89,11 @@ fn block_list(alloc: Global, list: &Listing) -> Result<BlockList, AllocError> {
     Ok(names)
 }
 
+// The path that a command has for one of its files, which are required.
+fn path<'a>(matches: &ArgMatches<'a>, id: &str) -> &'a str {
+    matches.get_str(id).unwrap_or("")
+}
+
 // What a command asks, once its list is read.
 fn question<R: Files, E: Write>(
     rt: &R,
@@ -97,23 +102,22 @@ fn question<R: Files, E: Write>(
     matches: &ArgMatches<'_>,
     progress: &mut Option<E>,
 ) -> Result<Question, Failure> {
-    let path = |id| matches.get_str(id).unwrap_or("");
     match name {
         "route" => {
-            let list = list_at(rt, alloc, path("TABLE"), Values::Needed, progress)?;
+            let list = list_at(rt, alloc, path(matches, "TABLE"), Values::Needed, progress)?;
             Ok(Question::Route(router(alloc, list)?))
         }
         "complete" => {
-            let list = list_at(rt, alloc, path("LIST"), Values::Optional, progress)?;
+            let list = list_at(rt, alloc, path(matches, "LIST"), Values::Optional, progress)?;
             let most = matches.get_one::<u32>("most").unwrap_or(10);
             Ok(Question::Complete(list, most as usize))
         }
         "block" => {
-            let list = list_at(rt, alloc, path("LIST"), Values::Optional, progress)?;
+            let list = list_at(rt, alloc, path(matches, "LIST"), Values::Optional, progress)?;
             Ok(Question::Block(block_list(alloc, &list)?))
         }
         "tree" => {
-            let list = list_at(rt, alloc, path("LIST"), Values::Optional, progress)?;
+            let list = list_at(rt, alloc, path(matches, "LIST"), Values::Optional, progress)?;
             if matches.get_flag("drop") {
                 Ok(Question::DropTree(list))
             } else {
@@ -121,7 +125,7 @@ fn question<R: Files, E: Write>(
             }
         }
         _ => {
-            let list = list_at(rt, alloc, path("DICTIONARY"), Values::Optional, progress)?;
+            let list = list_at(rt, alloc, path(matches, "DICTIONARY"), Values::Optional, progress)?;
             Ok(Question::Segment(list))
         }
     }
@@ -134,8 +138,7 @@ fn pack_file<R: Files, E: Write>(
     matches: &ArgMatches<'_>,
     progress: &mut Option<E>,
 ) -> Result<(), Failure> {
-    let from = matches.get_str("LIST").unwrap_or("");
-    let to = matches.get_str("OUT").unwrap_or("");
+    let (from, to) = (path(matches, "LIST"), path(matches, "OUT"));
     let list = list_at(rt, alloc, from, Values::Optional, progress)?;
     let bytes = match pack(alloc, &list) {
         Ok(bytes) => bytes,
@@ -160,7 +163,7 @@ fn put<W: Write>(output: &mut W, out: &mut Vec<u8>) -> Result<(), Failure> {
 }
 
 // Answers each line of the input, and writes the answers whenever no more input is at hand. It
-// answers whether something was found.
+// returns whether something was found.
 fn answer_lines<I: Read + Drop, W: Write>(
     alloc: Global,
     question: &mut Question,
@@ -198,7 +201,7 @@ fn answer_lines<I: Read + Drop, W: Write>(
     Ok(is_found)
 }
 
-// Runs the program, and answers whether something was found.
+// Runs the program, and returns whether something was found.
 fn run<R: Files, I: Read + Drop, W: Write, E: Write>(
     rt: &R,
     alloc: Global,
@@ -207,7 +210,8 @@ fn run<R: Files, I: Read + Drop, W: Write, E: Write>(
     output: &mut W,
     progress: &mut Option<E>,
 ) -> Result<bool, Failure> {
-    let matches = match options::command(alloc)?.try_get_matches_from(words) {
+    let command = options::command(alloc)?;
+    let matches = match command.try_get_matches_from(words) {
         Ok(matches) => matches,
         Err(error) => return Err(Failure::Usage(error)),
     };
