@@ -1,7 +1,9 @@
 -- Laws of rows of which the first are kept and all are counted.
-use Rattle.std.proofs.Common.{◌≡◌, ◌≢◌, ℕ, zero, suc, ◌+◌, ◌≤◌, ◌<◌, ◌⊎◌, inl, inr, List, [], ◌∷◌, ◌++◌, length, take, refl, sym, ap, subst, ◌∙◌, arith}
+use Rattle.std.proofs.Common.{◌≡◌, ◌≢◌, ℕ, zero, suc, ◌+◌, ◌≤◌, ◌<◌, ◌⊎◌, inl, inr, List, [], ◌∷◌}
+use Rattle.std.proofs.Common.{◌++◌, length, take, refl, sym, ap, subst, ◌∙◌, arith}
 use Rattle.std.specs.Prelude.{not, map as list_map}
-use Rattle.std.proofs.lemmas.List.{append_assoc, append-nil, length-append, length-map, length-take, length-take-le, take_all, take-append-le, take-take, map-append}
+use Rattle.std.proofs.lemmas.List.{append_assoc, append-nil, length-append, length-map, length-take}
+use Rattle.std.proofs.lemmas.List.{length-take-le, take_all, take-append-le, take-take, map-append}
 use Rattle.std.proofs.lemmas.Bool.{cases_lt}
 use Rattle.std.proofs.lemmas.List.Filters.{length-filter_both}
 use Rattle.patricia_tree.specs.Prefixes.{begins, under}
@@ -17,7 +19,8 @@ pub record IsCompleting {R : Type 0} (most : ℕ) (first : List R) (count : ℕ)
   pub count_is : count ≡ length seen
 
 -- what is read of the first of a list
-map-take : {A B : Type 0} (f : A → B) (n : ℕ) (xs : List A) → list_map f (take n xs) ≡ take n (list_map f xs)
+map-take : {A B : Type 0} (f : A → B) (n : ℕ) (xs : List A) → list_map f (take n xs) ≡ take n
+    (list_map f xs)
 map-take f zero xs = refl
 map-take f (suc n) [] = refl
 map-take f (suc n) (x ∷ xs) = ap (λ l. f x ∷ l) (map-take f n xs)
@@ -29,7 +32,13 @@ cases_le a b = elim (cases_lt b a) [ inl more ↦ inr more | inr less ↦ inl le
 module _ {R : Type 0} (most : ℕ) where
   -- at first no row is counted
   pub completing_first : (whole : List R) → IsCompleting most [] 0 whole whole
-  completing_first whole = record { seen = []; joined = refl; first_is = sym (take_all most [] (omega arith)); count_is = refl }
+  completing_first whole = record {
+    seen = [];
+    joined = refl;
+    first_is = sym (take_all most []
+        (omega arith));
+    count_is = refl;
+  }
 
   -- one more row is seen
   seen_more : (seen left later whole : List R) (row : R) → left ≡ row ∷ later → seen ++ left ≡ whole
@@ -94,7 +103,8 @@ module _ {R : Type 0} (most : ℕ) where
 -- where no row is left, the completion is done
 pub completing_last : {V : Type 0} (rows : List (List ℕ × V)) (prefix : List ℕ) (most : ℕ)
     (first : List (List ℕ × V)) (count : ℕ) (left : List (List ℕ × V)) → left ≡ []
-    → IsCompleting most first count left (under prefix rows) → Completes rows prefix most first count
+    → IsCompleting most first count left (under prefix rows)
+    → Completes rows prefix most first count
 completing_last rows prefix most first count left none is =
     let all = sym (append-nil is.seen) ∙ ap (λ l. is.seen ++ l) (sym none) ∙ is.joined in
     record { first_is = is.first_is ∙ ap (take most) all; count_is = is.count_is ∙ ap length all }
@@ -103,5 +113,6 @@ completing_last rows prefix most first count left none is =
 pub under_fewer : {V : Type 0} (prefix : List ℕ) (rows : List (List ℕ × V))
     → length (under prefix rows) ≤ length rows
 under_fewer prefix rows =
-    let both = length-filter_both (λ e. begins prefix e.0) (λ e. not (begins prefix e.0)) (λ _. refl) rows in
+    let both = length-filter_both (λ e. begins prefix e.0) (λ e. not (begins prefix e.0))
+    (λ _. refl) rows in
     omega arith

@@ -1,5 +1,7 @@
 -- Which keys of a map begin a key, and which of them is the longest.
-use Rattle.std.proofs.Common.{◌≡◌, ℕ, ◌≤◌, ◌⊎◌, inl, inr, Bool, true, false, T, ◌&&◌, cond, List, [], ◌∷◌, ◌++◌, length, Option, None, Some, refl, sym, ap, subst, ◌∙◌, arith}
+use Rattle.std.proofs.Common.{◌≡◌, ℕ, ◌≤◌, ◌⊎◌, inl, inr, Bool, true, false, T, ◌&&◌, cond, List}
+use Rattle.std.proofs.Common.{[], ◌∷◌, ◌++◌, length, Option, None, Some, refl, sym, ap, subst, ◌∙◌}
+use Rattle.std.proofs.Common.{arith}
 use Rattle.std.specs.Prelude.{filter, nat_eq, is_some, option_map}
 use Rattle.std.specs.List.{last_or}
 use Rattle.std.specs.Ordering.{ordering_then, is_lt, is_eq, eq_by_cmp}
@@ -111,7 +113,8 @@ tied_is a b h = key_cmp-equal a b (equal_so _ h)
 
 -- and each key is equal to itself
 pub tied_from : (a b : List ℕ) → a ≡ b → eq_by_cmp key_cmp a b ≡ true
-tied_from a b e = subst (λ c. eq_by_cmp key_cmp a c ≡ true) e (ap is_eq (tied_itself nat_list_cmp_total a))
+tied_from a b e = subst (λ c. eq_by_cmp key_cmp a c ≡ true) e (ap is_eq
+    (tied_itself nat_list_cmp_total a))
 
 module _ {V : Type 0} where
   -- what the look-up finds stands in the list
@@ -125,7 +128,8 @@ module _ {V : Type 0} where
           → (v : V) × Has (e ∷ es) (q, v)
       by true f rest = (e.1, inl (ap (λ (k : List ℕ). (k, e.1)) (sym (tied_is q e.0 f))))
       by false f rest =
-          let later = rest (subst (λ b. is_some (cond b (Some e.1) (find key_cmp q es)) ≡ true) f h) in
+          let later = rest (subst (λ b. is_some (cond b (Some e.1)
+          (find key_cmp q es)) ≡ true) f h) in
           (later.0, inr later.1)
 
   -- the look-up finds what stands in the list
@@ -181,9 +185,17 @@ module _ {V : Type 0} where
           (subst (λ b. last_or o (cond b (x ∷ along k es) (along k es)) ≡ Some r) f e) in
           let long = found.before_is x refl in
           record {
-            has = elim found.has [ inl h ↦ inl (inr h) | inr same ↦ inl (inl (let is : x ≡ r = cc in is)) ];
+            has = elim found.has [
+              | inl h ↦ inl (inr h)
+              | inr same ↦ inl (inl
+                  (let is : x ≡ r = cc in is))
+            ];
             begun = found.begun;
-            longest_is = λ y h b. elim h [ inl same ↦ subst (λ z. length z.0 ≤ length r.0) same long | inr later ↦ found.longest_is y later b ];
+            longest_is = λ y h b. elim h [
+              | inl same ↦ subst
+                  (λ z. length z.0 ≤ length r.0) same long
+              | inr later ↦ found.longest_is y later b
+            ];
             before_is = λ y g. let first = before y g in
                 let less = less_so _ (first_part _ _ first.1) in
                 let short = no_shorter y.0 x.0 k first.0 begun less in omega arith;
@@ -215,10 +227,12 @@ module _ {V : Type 0} where
     where
       by : (t : Bool) → begins x.0 k ≡ t
           → (longest k es ≡ None → (e : List ℕ × V) → Has es e → Begins e.0 k → ⊥) → ⊥
-      by true f rest = some_last x (along k es) (subst (λ t. last_or None (cond t (x ∷ along k es) (along k es)) ≡ None) f none)
+      by true f rest = some_last x (along k es) (subst (λ t. last_or None (cond t (x ∷ along k es)
+          (along k es)) ≡ None) f none)
       by false f rest = elim h [
         | inl same ↦ begins_other x.0 k f (subst (λ z. Begins z.0 k) (sym same) b)
-        | inr later ↦ rest (subst (λ t. last_or None (cond t (x ∷ along k es) (along k es)) ≡ None) f none) e later b
+        | inr later ↦ rest (subst (λ t. last_or None (cond t (x ∷ along k es)
+            (along k es)) ≡ None) f none) e later b
       ]
 
 -- a key of a map is the longest of those that begin this key
@@ -249,7 +263,8 @@ longest_key m k r e =
 -- where there is no longest row along a key, no key of the map begins it
 pub no_key : {V : Type 0} (m : map.FinMap key_cmp V) (k : List ℕ) → longest k (map.entries m) ≡ None
     → (q : List ℕ) → map.contains_key m q ≡ true → Begins q k → ⊥
-no_key m k none q h b = let has = contained m q h in none_begins k (map.entries m) none (q, has.0) has.1 b
+no_key m k none q h b = let has = contained m q h in none_begins k (map.entries m) none
+    (q, has.0) has.1 b
 
 module _ {V : Type 0} (m : map.FinMap key_cmp V) (k : List ℕ) where
   -- the key of the longest row along a key is the longest key that begins it
@@ -260,7 +275,8 @@ module _ {V : Type 0} (m : map.FinMap key_cmp V) (k : List ℕ) where
       by : (o : Option (List ℕ × V)) → longest k (map.entries m) ≡ o
           → Some part ≡ option_map (λ e. e.0) o → IsLongestKey m k part
       by None f g = absurd (cc)
-      by (Some r) f g = let is : r.0 ≡ part = cc in subst (λ p. IsLongestKey m k p) is (longest_key m k r f)
+      by (Some r) f g = let is : r.0 ≡ part = cc in subst (λ p. IsLongestKey m k p) is
+          (longest_key m k r f)
 
   -- where it has no key, no key of the map begins it
   pub no_part : None ≡ option_map (λ e. e.0) (longest k (map.entries m))

@@ -1,18 +1,22 @@
 -- Names of a block list, and the keys that it keeps them by.
-use Rattle.std.proofs.Common.{◌≡◌, ℕ, suc, ◌-◌, ◌+◌, ◌≤◌, inl, inr, Bool, true, false, cond, ◌||◌, Option, None, Some, List, [], ◌∷◌, ◌++◌, map as list_map, length, drop, refl, sym, ap, subst, ◌∙◌, arith}
+use Rattle.std.proofs.Common.{◌≡◌, ℕ, suc, ◌-◌, ◌+◌, ◌≤◌, inl, inr, Bool, true, false, cond, ◌||◌}
+use Rattle.std.proofs.Common.{Option, None, Some, List, [], ◌∷◌, ◌++◌, map as list_map, length}
+use Rattle.std.proofs.Common.{drop, refl, sym, ap, subst, ◌∙◌, arith}
 use Rattle.std.specs.Prelude.{reverse, is_some, not, Result, Ok, Err, IfOk, OnOk, OnErr}
 use Rattle.std.specs.Ordering.{eq_by_cmp}
 use Rattle.std.specs.Cmp.Lexicographic.{nat_list_cmp_total}
 use Rattle.std.specs.FinMap as map
 use Rattle.std.specs.FinMap.{slice_cmp-IsAntisymmetric, nat_cmp-IsAntisymmetric}
-use Rattle.std.proofs.lemmas.List.{append-nil, append_assoc, reverse-reverse, reverse-append, length-reverse, length-append}
+use Rattle.std.proofs.lemmas.List.{append-nil, append_assoc, reverse-reverse, reverse-append}
+use Rattle.std.proofs.lemmas.List.{length-reverse, length-append}
 use Rattle.std.proofs.lemmas.List.Prefix.{end_rest}
 use Rattle.patricia_tree.specs.Keys.{Begins, key_cmp}
 use Rattle.patricia_tree.specs.Points.{Has}
 use Rattle.patricia_tree.specs.Sets.{KeySet}
 use Rattle.prefixes_core.specs.Blocks.{Covers, Blocks, Passes}
 use Rattle.prefixes_core.specs.Internal.Reversed.{key_of, name_of, names_of, AreKeysOfNames}
-use Rattle.prefixes_core.proofs.LongestLemmas.{IsLongestKey, found_has, has_found, tied_is, tied_from}
+use Rattle.prefixes_core.proofs.LongestLemmas.{IsLongestKey, found_has, has_found, tied_is}
+use Rattle.prefixes_core.proofs.LongestLemmas.{tied_from}
 
 -- the name of the key of a name is that name
 name_of-key_of : (name : List ℕ) → name_of (key_of name) ≡ name
@@ -66,7 +70,8 @@ has_name k (row ∷ rows) (inr h) = inr (has_name k rows h)
 -- what a set contains stands in its rows
 contained : (keys : KeySet) (q : List ℕ) → map.contains_key keys q ≡ true
     → Has (map.entries keys) (q, tt)
-contained keys q h = (found_has q (map.entries keys) (ap is_some (sym (map.get-entries keys q)) ∙ h)).1
+contained keys q h = (found_has q (map.entries keys) (ap is_some (sym (map.get-entries keys q))
+    ∙ h)).1
 
 -- and what stands in its rows it contains
 contains : (keys : KeySet) (q : List ℕ) → Has (map.entries keys) (q, tt)
@@ -79,7 +84,8 @@ module _ (keys : KeySet) (named_all : AreKeysOfNames keys) where
       → map.contains_key keys (key_of n) ≡ true
   there n h =
       let rows = named_rows (map.entries keys) in
-      let one = found_has n rows (ap is_some (sym (map.get-from_entries nat_list_cmp_total rows n)) ∙ h) in
+      let one = found_has n rows (ap is_some (sym (map.get-from_entries nat_list_cmp_total rows n))
+      ∙ h) in
       let found = named n (map.entries keys) one.1 in
       let in_keys = contains keys found.0 found.1 in
       let is : found.0 ≡ key_of n = sym (named_all found.0 in_keys) ∙ ap key_of found.2 in
@@ -95,7 +101,8 @@ module _ (keys : KeySet) (named_all : AreKeysOfNames keys) where
       ap is_some (map.get-from_entries nat_list_cmp_total rows n) ∙ has_found n tt rows found
 
   -- a name is listed exactly where its key is in the set
-  pub listed_is : (n : List ℕ) → map.contains_key (names_of keys) n ≡ map.contains_key keys (key_of n)
+  pub listed_is : (n : List ℕ) → map.contains_key (names_of keys) n ≡ map.contains_key keys
+      (key_of n)
   listed_is n = same_test _ _ (there n) (back n)
 
   -- with one more name each key is still that of a name
@@ -107,12 +114,14 @@ module _ (keys : KeySet) (named_all : AreKeysOfNames keys) where
           let is = tied_is k (key_of n) f in
           subst (λ x. key_of (name_of x) ≡ x) (sym is) (ap key_of (name_of-key_of n))
       by false f =
-          named_all k (subst (λ b. (b || map.contains_key keys k) ≡ true) f (sym (contains-insert keys (key_of n) k) ∙ h))
+          named_all k (subst (λ b. (b || map.contains_key keys k) ≡ true) f (sym
+          (contains-insert keys (key_of n) k) ∙ h))
 
 -- names tie where their keys do
 tied_keys : (q n : List ℕ) → eq_by_cmp key_cmp (key_of q) (key_of n) ≡ eq_by_cmp key_cmp q n
 tied_keys q n = same_test _ _
-    (λ h. let is = tied_is (key_of q) (key_of n) h in tied_from q n (sym (name_of-key_of q) ∙ ap name_of is ∙ name_of-key_of n))
+    (λ h. let is = tied_is (key_of q) (key_of n) h in tied_from q n (sym (name_of-key_of q)
+    ∙ ap name_of is ∙ name_of-key_of n))
     (λ h. tied_from (key_of q) (key_of n) (ap key_of (tied_is q n h)))
 
 -- one more key is one more name
@@ -128,13 +137,15 @@ names_more keys named_all n =
 
 -- the empty set contains nothing
 pub nothing_named : AreKeysOfNames map.empty
-nothing_named k h = absurd (let none = map.get-empty {X = Unit {0}} key_cmp k in let no = ap is_some none in cc)
+nothing_named k h = absurd (let none = map.get-empty {X = Unit {0}} key_cmp k in let no = ap
+    is_some none in cc)
 
 -- and has no names
 pub no_names : names_of map.empty ≡ map.empty
 no_names =
     map.same_map nat_list_cmp_total (slice_cmp-IsAntisymmetric nat_cmp-IsAntisymmetric) _ _
-    (λ q. one_value _ _ (listed_is map.empty nothing_named q ∙ ap is_some (map.get-empty key_cmp (key_of q))
+    (λ q. one_value _ _ (listed_is map.empty nothing_named q
+    ∙ ap is_some (map.get-empty key_cmp (key_of q))
     ∙ sym (ap is_some (map.get-empty key_cmp q))))
 
 -- the key of a name that covers a host begins that of the host
@@ -162,7 +173,8 @@ module _ (keys : KeySet) (named_all : AreKeysOfNames keys) (host : List ℕ) whe
       → n + length part ≡ suc (length host) → Blocks (names_of keys) host (drop n host)
   blocks part n long size =
       subst (λ l. Blocks (names_of keys) host l) (sym end) (record {
-        listed = listed_is keys named_all name ∙ subst (λ k. map.contains_key keys k ≡ true) (sym is) long.listed;
+        listed = listed_is keys named_all name ∙ subst (λ k. map.contains_key keys k ≡ true)
+            (sym is) long.listed;
         covers = covers;
         longest = λ other in_names covered.
             let in_keys = sym (listed_is keys named_all other) ∙ in_names in
@@ -184,7 +196,11 @@ module _ (keys : KeySet) (named_all : AreKeysOfNames keys) (host : List ℕ) whe
 
       front_of : Covers name host → (front : List ℕ) × (host ≡ front ++ name)
       front_of (inl same) = ([], same)
-      front_of (inr below) = (below.0 ++ 46 ∷ [], sym below.1 ∙ sym (append_assoc below.0 (46 ∷ []) name))
+      front_of (inr below) = (
+        below.0 ++ 46 ∷ [],
+        sym below.1
+            ∙ sym (append_assoc below.0 (46 ∷ []) name),
+      )
 
       end : drop n host ≡ name
       end =
@@ -195,7 +211,8 @@ module _ (keys : KeySet) (named_all : AreKeysOfNames keys) (host : List ℕ) whe
   -- where no key begins that of a host, no name covers the host
   pub passes : ((q : List ℕ) → map.contains_key keys q ≡ true → Begins q (key_of host) → ⊥)
       → Passes (names_of keys) host
-  passes none name listed covered = none (key_of name) (sym (listed_is keys named_all name) ∙ listed) (covers_begins name host covered)
+  passes none name listed covered = none (key_of name) (sym (listed_is keys named_all name)
+      ∙ listed) (covers_begins name host covered)
 
   -- so many bytes are not of a name that covers a host, which are no more than those of the host
   pub front_short : (part : List ℕ) → IsLongestKey keys (key_of host) part
@@ -218,22 +235,26 @@ module _ {E : Type 0} (old new : KeySet) (k n : List ℕ) (named_all : AreKeysOf
   -- each key is still that of a name
   pub named_after : (r : Result Bool E) → OnOk r (new ≡ map.insert old k tt) → OnErr r (new ≡ old)
       → AreKeysOfNames new
-  named_after (Ok b) ok err = subst AreKeysOfNames (sym (ok ∙ ap (λ q. map.insert old q tt) is)) (named_more old named_all n)
+  named_after (Ok b) ok err = subst AreKeysOfNames (sym (ok ∙ ap (λ q. map.insert old q tt) is))
+      (named_more old named_all n)
   named_after (Err e) ok err = subst AreKeysOfNames (sym err) named_all
 
-  -- it answers whether the name is new
+  -- it returns whether the name is new
   pub name_is_new : (r : Result Bool E) → IfOk r (λ b. b ≡ not (map.contains_key old k))
       → IfOk r (λ b. b ≡ not (map.contains_key (names_of old) n))
-  name_is_new (Ok b) new_is = new_is ∙ ap not (ap (map.contains_key old) is ∙ sym (listed_is old named_all n))
+  name_is_new (Ok b) new_is = new_is ∙ ap not (ap (map.contains_key old) is
+      ∙ sym (listed_is old named_all n))
   name_is_new (Err e) new_is = tt
 
   -- on success the name is among the names
   pub name_added : (r : Result Bool E) → OnOk r (new ≡ map.insert old k tt)
       → OnOk r (names_of new ≡ map.insert (names_of old) n tt)
-  name_added (Ok b) ok = ap names_of (ok ∙ ap (λ q. map.insert old q tt) is) ∙ names_more old named_all n
+  name_added (Ok b) ok = ap names_of (ok ∙ ap (λ q. map.insert old q tt) is)
+      ∙ names_more old named_all n
   name_added (Err e) ok = tt
 
   -- else the names are those from before
-  pub name_refused : (r : Result Bool E) → OnErr r (new ≡ old) → OnErr r (names_of new ≡ names_of old)
+  pub name_refused : (r : Result Bool E) → OnErr r (new ≡ old)
+      → OnErr r (names_of new ≡ names_of old)
   name_refused (Ok b) err = tt
   name_refused (Err e) err = ap names_of err

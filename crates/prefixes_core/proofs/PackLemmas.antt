@@ -1,8 +1,11 @@
 -- Bytes behind their number, and packed lists.
-use Rattle.std.proofs.Common.{◌≡◌, ◌≢◌, ℕ, zero, suc, ◌==◌, Bool, true, false, get_or, ◌+◌, ◌≤◌, ◌<◌, ◌^◌, List, [], ◌∷◌, ◌++◌, map, length, take, drop, refl, sym, ap, subst, ◌∙◌, arith}
+use Rattle.std.proofs.Common.{◌≡◌, ◌≢◌, ℕ, zero, suc, ◌==◌, Bool, true, false, get_or, ◌+◌, ◌≤◌}
+use Rattle.std.proofs.Common.{◌<◌, ◌^◌, List, [], ◌∷◌, ◌++◌, map, length, take, drop, refl, sym, ap}
+use Rattle.std.proofs.Common.{subst, ◌∙◌, arith}
 use Rattle.std.specs.Int.{w64, to_be_bytes, from_be_bytes}
 use Rattle.std.specs.List.{concat}
-use Rattle.std.proofs.lemmas.List.{append_assoc, append-nil, append_cancel_left, length-append, length-take-le, take-append-drop, take_at, drop_at}
+use Rattle.std.proofs.lemmas.List.{append_assoc, append-nil, append_cancel_left, length-append}
+use Rattle.std.proofs.lemmas.List.{length-take-le, take-append-drop, take_at, drop_at}
 use Rattle.std.proofs.lemmas.Bool.{eqb-false}
 use Rattle.std.proofs.lemmas.Nat.{be_bytes_8, from_be_bytes-to_be_bytes_8}
 use Rattle.std.specs.Str.{bytes_eq}
@@ -17,7 +20,8 @@ pub number_length : (n : ℕ) → length (to_be_bytes w64 n) ≡ 8
 number_length n = refl
 
 -- of two lists with fronts of one length the fronts are one, and so is the rest
-pub fronts_same : {A : Type 0} (a b x y : List A) → length a ≡ length b → a ++ x ≡ b ++ y → (a ≡ b) × (x ≡ y)
+pub fronts_same : {A : Type 0} (a b x y : List A) → length a ≡ length b → a ++ x ≡ b ++ y
+    → (a ≡ b) × (x ≡ y)
 fronts_same a b x y long e = (
   sym (take_at a x (length a) refl) ∙ ap (take (length a)) e ∙ take_at b y (length a) (sym long),
   sym (drop_at a x (length a) refl) ∙ ap (drop (length a)) e ∙ drop_at b y (length a) (sym long),
@@ -63,10 +67,12 @@ left_over (v ∷ vs) [] rest small e =
     let eight = counted_length v in
     absurd (omega (arith, ap length e))
 left_over (v ∷ vs) (w ∷ ws) rest small e =
-    let whole : counted v ++ (concat (map counted vs) ++ rest) ≡ counted w ++ concat (map counted ws) =
+    let whole : counted v ++ (concat (map counted vs) ++ rest) ≡ counted w ++ concat
+    (map counted ws) =
     sym (append_assoc (counted v) (concat (map counted vs)) rest) ∙ e in
     let all = concat (map counted (w ∷ ws)) in
-    let parts = counted_same v w _ _ (front_small v _ all whole small) (front_small w _ all refl small) whole in
+    let parts = counted_same v w _ _ (front_small v _ all whole small)
+    (front_small w _ all refl small) whole in
     let more = left_over vs ws rest (rest_small w _ all refl small) parts.1 in
     (more.0, more.1, (let first = parts.0 in let later = more.2 in cc))
 
@@ -114,8 +120,10 @@ packed_same t u vs ws small e =
     let mine = counted t ++ concat (map counted vs) in
     let others = counted u ++ concat (map counted ws) in
     let inner : mine ≡ others = append_cancel_left head mine others e in
-    let shorter : length others < 2 ^ 64 = (let both = length-append head others in omega (arith, small)) in
-    let parts = counted_same t u _ _ (front_small t _ others inner shorter) (front_small u _ others refl shorter) inner in
+    let shorter : length others < 2 ^ 64 = (let both = length-append head others in omega
+    (arith, small)) in
+    let parts = counted_same t u _ _ (front_small t _ others inner shorter)
+    (front_small u _ others refl shorter) inner in
     (parts.0, values_same vs ws (rest_small u _ others refl shorter) parts.1)
 
 -- the first of some bytes are bytes
@@ -134,10 +142,13 @@ pub counted_is : (bytes number rest field later : List ℕ) (n : ℕ)
     → bytes ≡ counted field ++ later
 counted_is bytes number rest field later n front behind size small is first second long =
     let eight : length number ≡ 8 = ap length front ∙ length-take-le 8 bytes (omega arith) in
-    let each = subst (λ (l : List ℕ). (i : ℕ) → get_or l i 0 < 256) (sym front) (take_bytes 8 bytes small) in
-    let spelled : to_be_bytes w64 (length field) ≡ number = ap (to_be_bytes w64) long ∙ be_bytes_8 number n eight each is in
+    let each = subst (λ (l : List ℕ). (i : ℕ) → get_or l i 0 < 256) (sym front)
+    (take_bytes 8 bytes small) in
+    let spelled : to_be_bytes w64 (length field) ≡ number = ap (to_be_bytes w64) long
+    ∙ be_bytes_8 number n eight each is in
     sym (ap (λ l. (l ++ field) ++ later) spelled ∙ append_assoc number field later
-    ∙ ap (λ l. number ++ l) (ap (λ l. l ++ later) first ∙ ap (λ l. take n rest ++ l) second ∙ take-append-drop n rest)
+    ∙ ap (λ l. number ++ l) (ap (λ l. l ++ later) first ∙ ap (λ l. take n rest ++ l) second
+    ∙ take-append-drop n rest)
     ∙ ap (λ l. l ++ rest) front ∙ ap (λ l. take 8 bytes ++ l) behind ∙ take-append-drop 8 bytes)
 
 -- a list that is tested not to be empty is not
@@ -152,14 +163,17 @@ rest_no_longer a x w e = let both = length-append (counted a) x in omega (arith,
 pub head_front : (bytes rest : List ℕ) → bytes_eq (take 9 bytes) head ≡ true → rest ≡ drop 9 bytes
     → bytes ≡ head ++ rest
 head_front bytes rest same e =
-    sym (take-append-drop 9 bytes) ∙ ap (λ l. l ++ drop 9 bytes) (same_text (take 9 bytes) head (sym same))
+    sym (take-append-drop 9 bytes) ∙ ap (λ l. l ++ drop 9 bytes) (same_text (take 9 bytes) head
+    (sym same))
     ∙ ap (λ l. head ++ l) (sym e)
 
 -- bytes that do not begin so are not packed
-pub no_head : (bytes : List ℕ) (rows : List (List ℕ × List ℕ)) → bytes_eq (take 9 bytes) head ≡ false
+pub no_head : (bytes : List ℕ) (rows : List (List ℕ × List ℕ))
+    → bytes_eq (take 9 bytes) head ≡ false
     → Packs bytes rows → ⊥
 no_head bytes rows other packs =
-    let no : true ≡ false = subst (λ b. bytes_eq (take 9 b) head ≡ false) packs.is other in absurd (cc)
+    let no : true ≡ false = subst (λ b. bytes_eq (take 9 b) head ≡ false) packs.is other in absurd
+    (cc)
 
 -- behind the head and the tree bytes of packed rows are their values
 pub packed_rest : (bytes tree rest : List ℕ) (rows : List (List ℕ × List ℕ))
@@ -171,10 +185,12 @@ packed_rest bytes tree rest rows small e packs =
     let inner : mine ≡ others = append_cancel_left head mine others (sym e ∙ packs.is) in
     let shorter : length others < 2 ^ 64 = (let both = length-append head others in
     let same = ap length packs.is in omega (arith, small)) in
-    counted_same tree packs.tree rest _ (front_small tree _ others inner shorter) (front_small packs.tree _ others refl shorter) inner
+    counted_same tree packs.tree rest _ (front_small tree _ others inner shorter)
+    (front_small packs.tree _ others refl shorter) inner
 
 -- rows that are packed to the bytes have the values that are read
-pub packed_values : (bytes tree rest : List ℕ) (values : List (List ℕ)) (rows : List (List ℕ × List ℕ))
+pub packed_values : (bytes tree rest : List ℕ) (values : List (List ℕ)) (rows : List
+    (List ℕ × List ℕ))
     → length bytes < 2 ^ 64 → bytes ≡ head ++ (counted tree ++ rest)
     → rest ≡ concat (map counted values) → (packs : Packs bytes rows)
     → Means IsTextItem 2 tree values rows
@@ -182,7 +198,8 @@ packed_values bytes tree rest values rows small e f packs =
     let parts = packed_rest bytes tree rest rows small e packs in
     let whole = length-append head (counted tree ++ rest) in
     let last = length-append (counted tree) rest in
-    let short : length (concat (map counted (values_of rows))) < 2 ^ 64 = omega (arith, small, ap length e, ap length parts.1) in
+    let short : length (concat (map counted (values_of rows))) < 2 ^ 64 = omega
+    (arith, small, ap length e, ap length parts.1) in
     let same = values_same values (values_of rows) short (sym f ∙ parts.1) in
     subst (λ t. Means IsTextItem 2 t values rows) (sym parts.0)
     (subst (λ vs. Means IsTextItem 2 packs.tree vs rows) (sym same) packs.means)

@@ -1,5 +1,7 @@
 -- Laws of texts that are cut into words.
-use Rattle.std.proofs.Common.{◌≡◌, ◌≢◌, ℕ, ◌-◌, ◌≤◌, ◌<◌, ◌⊎◌, inl, inr, true, Option, None, Some, Bor, List, [], ◌∷◌, ◌++◌, length, take, drop, refl, sym, ap, subst, ◌∙◌, arith}
+use Rattle.std.proofs.Common.{◌≡◌, ◌≢◌, ℕ, ◌-◌, ◌≤◌, ◌<◌, ◌⊎◌, inl, inr, true, Option, None, Some}
+use Rattle.std.proofs.Common.{Bor, List, [], ◌∷◌, ◌++◌, length, take, drop, refl, sym, ap, subst}
+use Rattle.std.proofs.Common.{◌∙◌, arith}
 use Rattle.std.specs.Prelude.{IfSome}
 use Rattle.std.specs.FinMap as map
 use Rattle.std.specs.List.{concat}
@@ -7,7 +9,9 @@ use Rattle.std.specs.Cmp.{first_so}
 use Rattle.std.specs.Str.{IsCharBoundary, IsUtf8}
 use Rattle.std.proofs.Math.Utf8.{encode, scalar, scalars}
 use Rattle.std.proofs.lemmas.List.{append_assoc, append-nil, length-append, take_at, drop_at}
-use Rattle.std.proofs.lemmas.Str.{cons_from_encodes, length-encode, len_utf8_bounds, IsCharBoundary-at_seam, IsCharBoundary-from_take, IsUtf8-past_char}
+use Rattle.std.proofs.lemmas.Str.{cons_from_encodes, length-encode, len_utf8_bounds}
+use Rattle.std.proofs.lemmas.Str.{IsCharBoundary-at_seam, IsCharBoundary-from_take}
+use Rattle.std.proofs.lemmas.Str.{IsUtf8-past_char}
 use Rattle.patricia_tree.specs.Keys.{Begins, key_cmp}
 use Rattle.patricia_tree.specs.TextKind.{IsTextItem, one_char}
 use Rattle.prefixes_core.specs.Segments.{Fits, IsLongestWord, IsLoneChar, IsFirstPiece, AreSegments}
@@ -17,7 +21,8 @@ use Rattle.prefixes_core.proofs.LongestLemmas.{IsLongestKey}
 module _ {A : Type 0} where
   pub cut_push : (xs : List A) (x : A) (before after : List A) (y : A)
       → xs ++ x ∷ [] ≡ before ++ y ∷ after
-      → ((x ≡ y) × (after ≡ [])) ⊎ ((rest : List A) × (xs ≡ before ++ y ∷ rest) × (after ≡ rest ++ x ∷ []))
+      → ((x ≡ y) × (after ≡ [])) ⊎ ((rest : List A) × (xs ≡ before ++ y ∷ rest) ×
+      (after ≡ rest ++ x ∷ []))
   cut_push [] x [] after y e = inl (cc, cc)
   cut_push [] x (b ∷ []) after y e = absurd (cc)
   cut_push [] x (b ∷ c ∷ before) after y e = absurd (cc)
@@ -50,9 +55,11 @@ module _ {V : Type 0} (dictionary : map.FinMap key_cmp V) where
       none (b ∷ before) after piece e = absurd (cc)
 
   -- the pieces joined, with one more behind them
-  concat-push : (pieces : List (List ℕ)) (piece : List ℕ) → concat (pieces ++ piece ∷ []) ≡ concat pieces ++ piece
+  concat-push : (pieces : List (List ℕ)) (piece : List ℕ) → concat
+      (pieces ++ piece ∷ []) ≡ concat pieces ++ piece
   concat-push [] piece = append-nil piece
-  concat-push (p ∷ pieces) piece = ap (λ l. p ++ l) (concat-push pieces piece) ∙ sym (append_assoc p (concat pieces) piece)
+  concat-push (p ∷ pieces) piece = ap (λ l. p ++ l) (concat-push pieces piece)
+      ∙ sym (append_assoc p (concat pieces) piece)
 
   -- one more piece is cut off what is left
   pub cuts_more : (text : List ℕ) (pieces : List (List ℕ)) (rest piece later : List ℕ)
@@ -66,11 +73,13 @@ module _ {V : Type 0} (dictionary : map.FinMap key_cmp V) where
       | inl last ↦
           let here : rest ≡ concat (p ∷ after) ++ later = e ∙ ap (λ l. l ++ later)
           (last.0 ∙ sym (append-nil p) ∙ ap (λ l. p ++ concat l) (sym last.1)) in
-          subst (λ t. IsFirstPiece dictionary t p) here (subst (λ q. IsFirstPiece dictionary rest q) last.0 first)
+          subst (λ t. IsFirstPiece dictionary t p) here (subst
+          (λ q. IsFirstPiece dictionary rest q) last.0 first)
       | inr more ↦
           let inner = concat-push (p ∷ more.0) piece in
           let here : concat (p ∷ more.0) ++ rest ≡ concat (p ∷ after) ++ later =
-          ap (λ l. concat (p ∷ more.0) ++ l) e ∙ sym (append_assoc (concat (p ∷ more.0)) piece later)
+          ap (λ l. concat (p ∷ more.0) ++ l) e ∙ sym (append_assoc (concat
+          (p ∷ more.0)) piece later)
           ∙ ap (λ l. l ++ later) (sym inner ∙ ap (λ l. concat (p ∷ l)) (sym more.2)) in
           subst (λ t. IsFirstPiece dictionary t p) here (cuts.each before more.0 p more.1)
     ];
@@ -103,23 +112,27 @@ module _ {V : Type 0} (dictionary : map.FinMap key_cmp V) where
   pub none_fits : (text word : List ℕ) → word ≡ [] → IsLongestKey dictionary text word
       → (other : List ℕ) → Fits dictionary text other → ⊥
   none_fits text word none long other fits = nothing other fits.nonempty
-      (let short = long.longest other fits.listed fits.begins in omega (arith, short, ap length none))
+      (let short = long.longest other fits.listed fits.begins in omega
+      (arith, short, ap length none))
     where
       nothing : (l : List ℕ) → l ≢ [] → length l ≤ 0 → ⊥
       nothing [] some short = some refl
       nothing (x ∷ l) some short = absurd (omega arith)
 
 -- the front of a text that is the code of a character is one character
-pub char_item : (text rest : List ℕ) (c : ℕ) → IsUtf8 text → text ≡ encode c ++ rest → IsTextItem (encode c)
+pub char_item : (text rest : List ℕ) (c : ℕ) → IsUtf8 text → text ≡ encode c ++ rest
+    → IsTextItem (encode c)
 char_item text rest c u e =
     let found = cons_from_encodes u.0 rest c (u.1.1 ∙ e) in
-    one_char c (first_so (scalar c) (scalars found.0) (subst (λ cs. scalars cs ≡ true) found.1 u.1.0)) refl
+    one_char c (first_so (scalar c) (scalars found.0) (subst
+    (λ cs. scalars cs ≡ true) found.1 u.1.0)) refl
 
 -- a text may be cut behind its first character
 pub char_boundary : (text rest : List ℕ) (c n : ℕ) → IsUtf8 text → text ≡ encode c ++ rest
     → n ≡ length (encode c) → IsCharBoundary text n
 char_boundary text rest c n u e size =
-    subst (IsCharBoundary text) (sym size) (IsCharBoundary-at_seam text (encode c) rest e (IsUtf8-past_char text rest c u e))
+    subst (IsCharBoundary text) (sym size) (IsCharBoundary-at_seam text (encode c) rest e
+    (IsUtf8-past_char text rest c u e))
 
 -- so many bytes at the front are that character
 pub char_front : (text rest : List ℕ) (c n : ℕ) → text ≡ encode c ++ rest → n ≡ length (encode c)
@@ -135,10 +148,12 @@ piece_boundary text piece u v b =
     let long = length-append piece b.0 in
     let front : take (length piece) text ≡ piece =
     ap (take (length piece)) (sym b.1) ∙ take_at piece b.0 (length piece) refl in
-    IsCharBoundary-from_take text (length piece) u (omega (arith, ap length b.1)) (subst IsUtf8 (sym front) v)
+    IsCharBoundary-from_take text (length piece) u (omega (arith, ap length b.1)) (subst IsUtf8
+    (sym front) v)
 
 -- what is behind it
-pub piece_rest : (text piece : List ℕ) → Begins piece text → text ≡ piece ++ drop (length piece) text
+pub piece_rest : (text piece : List ℕ) → Begins piece text → text ≡ piece ++ drop
+    (length piece) text
 piece_rest text piece b =
     sym b.1 ∙ ap (λ l. piece ++ l) (sym (drop_at piece b.0 (length piece) refl)
     ∙ ap (drop (length piece)) b.1)
@@ -186,4 +201,13 @@ cuts_some dictionary text pieces rest piece first cuts none =
     let begun = first_begins dictionary rest piece first in
     let front = length-append piece begun.0 in
     let all = length-append (concat pieces) rest in
-    absurd (omega (arith, some, front, all, ap length begun.1, ap length cuts.joined, ap length none))
+    absurd (omega (
+      arith,
+      some,
+      front,
+      all,
+      ap length begun.1,
+      ap length cuts.joined,
+      ap length
+          none,
+    ))

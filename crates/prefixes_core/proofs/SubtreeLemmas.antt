@@ -1,5 +1,6 @@
 -- Laws of dotted names: the row of a name comes before those below it.
-use Rattle.std.proofs.Common.{◌≡◌, ℕ, Bool, true, false, T, cond, ◌&&◌, ◌||◌, List, [], ◌∷◌, ◌++◌, Option, None, Some, refl, sym, ap, subst, ◌∙◌}
+use Rattle.std.proofs.Common.{◌≡◌, ℕ, Bool, true, false, T, cond, ◌&&◌, ◌||◌, List, [], ◌∷◌, ◌++◌}
+use Rattle.std.proofs.Common.{Option, None, Some, refl, sym, ap, subst, ◌∙◌}
 use Rattle.std.specs.Prelude.{filter, not}
 use Rattle.std.specs.Ordering.{eq_by_cmp, is_lt, is_eq, ordering_reverse}
 use Rattle.std.specs.Option.{option_map_or}
@@ -15,7 +16,8 @@ use Rattle.std.proofs.lemmas.List.{append_assoc}
 use Rattle.patricia_tree.specs.Keys.{Begins, key_cmp}
 use Rattle.patricia_tree.specs.Prefixes.{begins, under, outside}
 use Rattle.prefixes_core.specs.Subtrees.{is_within, subtree, elsewhere}
-use Rattle.prefixes_core.proofs.LongestLemmas.{first_part, second_part, less_so, begins_is, key_cmp-equal, tied_is, tied_from, not_above}
+use Rattle.prefixes_core.proofs.LongestLemmas.{first_part, second_part, less_so, begins_is}
+use Rattle.prefixes_core.proofs.LongestLemmas.{key_cmp-equal, tied_is, tied_from, not_above}
 
 -- the name and a dot
 abbrev pub dotted : List ℕ → List ℕ
@@ -88,7 +90,8 @@ module _ {V : Type 0} (name : List ℕ) where
   below_from x [] less all = tt
   below_from x (e ∷ es) less all =
       let next = less_so _ (first_part _ _ all) in
-      both_hold _ _ (subst (λ o. T (is_lt o)) (sym (nat_list_cmp_total.trans name x e.0 less next)) tt)
+      both_hold _ _ (subst (λ o. T (is_lt o)) (sym
+      (nat_list_cmp_total.trans name x e.0 less next)) tt)
       (below_from x es less (second_part _ _ all))
     where
       both_hold : (a b : Bool) → T a → T b → T (a && b)
@@ -99,7 +102,8 @@ module _ {V : Type 0} (name : List ℕ) where
   none_own : (es : List (List ℕ × V)) → T (below_all key_cmp name es) → find key_cmp name es ≡ None
   none_own [] all = refl
   none_own (e ∷ es) all =
-      let less = less_so (key_cmp name e.0) (first_part (is_lt (key_cmp name e.0)) (below_all key_cmp name es) all) in
+      let less = less_so (key_cmp name e.0) (first_part (is_lt (key_cmp name e.0))
+      (below_all key_cmp name es) all) in
       skipped (eq_by_cmp key_cmp name e.0) (Some e.1) (find key_cmp name es) (ap is_eq less)
       ∙ none_own es (second_part (is_lt (key_cmp name e.0)) (below_all key_cmp name es) all)
 
@@ -110,7 +114,8 @@ module _ {V : Type 0} (name : List ℕ) where
   all_below (e ∷ es) all =
       let other = less_other name e.0 (less_so _ (first_part _ _ all)) in
       let rest = all_below es (second_part _ _ all) in
-      let test : is_within name e.0 ≡ begins (dotted name) e.0 = ap (λ b. b || begins (dotted name) e.0) other in
+      let test : is_within name e.0 ≡ begins (dotted name) e.0 = ap (λ b. b || begins
+      (dotted name) e.0) other in
       ap (λ b. cond b (e ∷ subtree name es) (subtree name es)) test
       ∙ ap (λ l. cond (begins (dotted name) e.0) (e ∷ l) l) rest
 
@@ -122,24 +127,33 @@ module _ {V : Type 0} (name : List ℕ) where
     where
       by : (o : Ordering) → key_cmp name e.0 ≡ o
           → subtree name es ≡ own name (find key_cmp name es) ++ under (dotted name) es
-          → subtree name (e ∷ es) ≡ own name (find key_cmp name (e ∷ es)) ++ under (dotted name) (e ∷ es)
+          → subtree name (e ∷ es) ≡ own name (find key_cmp name (e ∷ es)) ++ under (dotted name)
+          (e ∷ es)
       by Less f rest =
           let later = below_from e.0 es f (first_part _ _ sorted) in
-          let all : T (below_all key_cmp name (e ∷ es)) = subst (λ o. T (is_lt o && below_all key_cmp name es)) (sym f) later in
-          all_below (e ∷ es) all ∙ sym (ap (λ v. own name v ++ under (dotted name) (e ∷ es)) (none_own (e ∷ es) all))
+          let all : T (below_all key_cmp name (e ∷ es)) = subst (λ o. T
+          (is_lt o && below_all key_cmp name es)) (sym f) later in
+          all_below (e ∷ es) all ∙ sym (ap (λ v. own name v ++ under (dotted name) (e ∷ es))
+          (none_own (e ∷ es) all))
       by Equal f rest =
           let is : name ≡ e.0 = tied_is name e.0 (ap is_eq f) in
-          let all : T (below_all key_cmp name es) = subst (λ k. T (below_all key_cmp k es)) (sym is) (first_part _ _ sorted) in
-          let within : is_within name e.0 ≡ true = ap (λ b. b || begins (dotted name) e.0) (same_key name e.0 ∙ ap is_eq f) in
-          let below : begins (dotted name) e.0 ≡ false = subst (λ k. begins (dotted name) k ≡ false) is (not_below_itself name) in
+          let all : T (below_all key_cmp name es) = subst (λ k. T (below_all key_cmp k es))
+          (sym is) (first_part _ _ sorted) in
+          let within : is_within name e.0 ≡ true = ap (λ b. b || begins (dotted name) e.0)
+          (same_key name e.0 ∙ ap is_eq f) in
+          let below : begins (dotted name) e.0 ≡ false = subst (λ k. begins
+          (dotted name) k ≡ false) is (not_below_itself name) in
           taken _ _ _ within ∙ ap (λ l. e ∷ l) (all_below es all)
           ∙ ap (λ (k : List ℕ). (k, e.1) ∷ under (dotted name) es) (sym is)
           ∙ sym (ap (λ v. own name v ++ under (dotted name) (e ∷ es)) (taken _ _ _ (ap is_eq f))
           ∙ ap (λ l. (name, e.1) ∷ l) (skipped _ _ _ below))
       by Greater f rest =
-          let less : key_cmp e.0 name ≡ Less = nat_list_cmp_total.antisymm e.0 name ∙ ap ordering_reverse f in
-          let below : begins (dotted name) e.0 ≡ false = not_true _ (λ h. dotted_greater name e.0 h less) in
-          let within : is_within name e.0 ≡ false = ap (λ b. b || begins (dotted name) e.0) (same_key name e.0 ∙ ap is_eq f) ∙ below in
+          let less : key_cmp e.0 name ≡ Less = nat_list_cmp_total.antisymm e.0 name
+          ∙ ap ordering_reverse f in
+          let below : begins (dotted name) e.0 ≡ false = not_true _
+          (λ h. dotted_greater name e.0 h less) in
+          let within : is_within name e.0 ≡ false = ap (λ b. b || begins (dotted name) e.0)
+          (same_key name e.0 ∙ ap is_eq f) ∙ below in
           skipped _ _ _ within ∙ rest
           ∙ sym (ap (λ v. own name v ++ under (dotted name) (e ∷ es)) (skipped _ _ _ (ap is_eq f))
           ∙ ap (λ l. own name (find key_cmp name es) ++ l) (skipped _ _ _ below))
@@ -149,7 +163,8 @@ module _ {V : Type 0} (name : List ℕ) where
   others rows = filter (λ e. not (eq_by_cmp key_cmp name e.0)) rows
 
   -- all that is not in the subtree is neither its own row nor below it
-  pub elsewhere_is : (es : List (List ℕ × V)) → outside (dotted name) (others es) ≡ elsewhere name es
+  pub elsewhere_is : (es : List (List ℕ × V)) → outside (dotted name)
+      (others es) ≡ elsewhere name es
   elsewhere_is [] = refl
   elsewhere_is (e ∷ es) = by (eq_by_cmp key_cmp name e.0) refl (elsewhere_is es)
     where
@@ -157,10 +172,13 @@ module _ {V : Type 0} (name : List ℕ) where
           → outside (dotted name) (others es) ≡ elsewhere name es
           → outside (dotted name) (others (e ∷ es)) ≡ elsewhere name (e ∷ es)
       by true f rest =
-          let within : is_within name e.0 ≡ true = ap (λ b. b || begins (dotted name) e.0) (same_key name e.0 ∙ f) in
-          ap (outside (dotted name)) (skipped _ _ _ (ap not f)) ∙ rest ∙ sym (skipped _ _ _ (ap not within))
+          let within : is_within name e.0 ≡ true = ap (λ b. b || begins (dotted name) e.0)
+          (same_key name e.0 ∙ f) in
+          ap (outside (dotted name)) (skipped _ _ _ (ap not f)) ∙ rest
+          ∙ sym (skipped _ _ _ (ap not within))
       by false f rest =
-          let within : is_within name e.0 ≡ begins (dotted name) e.0 = ap (λ b. b || begins (dotted name) e.0) (same_key name e.0 ∙ f) in
+          let within : is_within name e.0 ≡ begins (dotted name) e.0 = ap (λ b. b || begins
+          (dotted name) e.0) (same_key name e.0 ∙ f) in
           ap (outside (dotted name)) (taken _ _ _ (ap not f))
           ∙ ap (λ l. cond (not (begins (dotted name) e.0)) (e ∷ l) l) rest
           ∙ sym (ap (λ b. cond (not b) (e ∷ elsewhere name es) (elsewhere name es)) within)
@@ -174,8 +192,10 @@ module _ {V : Type 0} (name : List ℕ) where
           → elsewhere name (others es) ≡ elsewhere name es
           → elsewhere name (others (e ∷ es)) ≡ elsewhere name (e ∷ es)
       by true f rest =
-          let within : is_within name e.0 ≡ true = ap (λ b. b || begins (dotted name) e.0) (same_key name e.0 ∙ f) in
-          ap (elsewhere name) (skipped _ _ _ (ap not f)) ∙ rest ∙ sym (skipped _ _ _ (ap not within))
+          let within : is_within name e.0 ≡ true = ap (λ b. b || begins (dotted name) e.0)
+          (same_key name e.0 ∙ f) in
+          ap (elsewhere name) (skipped _ _ _ (ap not f)) ∙ rest
+          ∙ sym (skipped _ _ _ (ap not within))
       by false f rest =
           ap (elsewhere name) (taken _ _ _ (ap not f))
           ∙ ap (λ l. cond (not (is_within name e.0)) (e ∷ l) l) rest
@@ -183,7 +203,8 @@ module _ {V : Type 0} (name : List ℕ) where
   -- the rows of others rise as all do
   others_sorted : (es : List (List ℕ × V)) → T (is_sorted key_cmp es)
       → T (is_sorted key_cmp (others es))
-  others_sorted es sorted = is_sorted-where_key key_cmp (λ k. not (eq_by_cmp key_cmp name k)) es sorted
+  others_sorted es sorted = is_sorted-where_key key_cmp (λ k. not
+      (eq_by_cmp key_cmp name k)) es sorted
 
   -- what is left without a key is the rows of others
   pub entries-remove : (m : map.FinMap key_cmp V)
@@ -191,12 +212,14 @@ module _ {V : Type 0} (name : List ℕ) where
   entries-remove m =
       let es = map.entries m in
       let sorted = others_sorted es (map.entries_sorted m) in
-      ap map.entries (map.same_map nat_list_cmp_total (slice_cmp-IsAntisymmetric nat_cmp-IsAntisymmetric)
+      ap map.entries (map.same_map nat_list_cmp_total
+      (slice_cmp-IsAntisymmetric nat_cmp-IsAntisymmetric)
       (map.remove m name) (map.from_sorted (others es))
       (λ q. map.get-remove nat_list_cmp_total m name q
       ∙ ap (λ v. cond (eq_by_cmp key_cmp q name) None v) (map.get-entries m q)
       ∙ cond-not (eq_by_cmp key_cmp name q) (eq_by_cmp key_cmp q name) None (find key_cmp q es)
-      (alike _ _ (λ h. tied_from q name (sym (tied_is name q h))) (λ h. tied_from name q (sym (tied_is q name h))))
+      (alike _ _ (λ h. tied_from q name (sym (tied_is name q h))) (λ h. tied_from name q (sym
+      (tied_is q name h))))
       ∙ sym (find-where_key key_cmp (λ k. not (eq_by_cmp key_cmp name k)) q
       (λ x tie. ap (λ k. not (eq_by_cmp key_cmp name k)) (sym (key_cmp-equal q x tie))) es)
       ∙ sym (map.get-from_sorted key_cmp (others es) q sorted)))

@@ -153,6 +153,14 @@ fn cut(alloc: Global, list: &Listing, text: &str, out: &mut Vec<u8>) -> Result<b
     Ok(!pieces.is_empty())
 }
 
+// The text that a line is.
+fn text(line: &[u8]) -> Result<&str, AnswerError> {
+    match str::from_utf8(line) {
+        Ok(text) => Ok(text),
+        Err(_) => Err(AnswerError::NotUtf8),
+    }
+}
+
 impl Question {
     /// Writes the answer to a line at the end of a text, and returns whether something was found.
     ///
@@ -165,23 +173,18 @@ impl Question {
         line: &[u8],
         out: &mut Vec<u8>,
     ) -> Result<bool, AnswerError> {
-        if let Question::Block(list) = self {
-            return Ok(block(alloc, list, line, out)?);
-        }
-        let Ok(line) = str::from_utf8(line) else {
-            return Err(AnswerError::NotUtf8);
-        };
         Ok(match self {
-            Question::Route(routes) => route(routes, line, out)?,
-            Question::Complete(list, most) => complete_all(alloc, list, line, *most, out)?,
-            Question::Block(_) => false,
-            Question::Tree(list) => tree(alloc, list, line, out)?,
+            Question::Route(routes) => route(routes, text(line)?, out)?,
+            Question::Complete(list, most) => complete_all(alloc, list, text(line)?, *most, out)?,
+            Question::Block(list) => block(alloc, list, line, out)?,
+            Question::Tree(list) => tree(alloc, list, text(line)?, out)?,
             Question::DropTree(list) => {
-                let is_found = tree(alloc, list, line, out)?;
-                drop_subtree(alloc, list, line)?;
+                let name = text(line)?;
+                let is_found = tree(alloc, list, name, out)?;
+                drop_subtree(alloc, list, name)?;
                 is_found
             }
-            Question::Segment(list) => cut(alloc, list, line, out)?,
+            Question::Segment(list) => cut(alloc, list, text(line)?, out)?,
         })
     }
 }

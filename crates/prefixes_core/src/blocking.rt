@@ -11,8 +11,8 @@ use std::marker::Model;
 
 /// A set of host names, each of which blocks the host of that name and all below it.
 ///
-/// Names are compared byte by byte: a caller that wants case or a dot at the end to have no meaning
-/// passes names in lower case and without that dot.
+/// Names are compared byte by byte: a caller that wants case or a dot at the end to have no
+/// meaning passes names in lower case and without that dot.
 ///
 /// # Examples
 ///

@@ -1,6 +1,7 @@
 //! The first entries that begin with a prefix.
 
-ghost use Rattle.std.specs.Prelude.{◌≡◌, ◌≢◌, ◌≤◌, [], ◌∷◌, ◌++◌, length, take, IfOk, OnOk, OnErr, map as list_map};
+ghost use Rattle.std.specs.Prelude.{◌≡◌, ◌≢◌, ◌≤◌, [], ◌∷◌, ◌++◌, length, take, IfOk, OnOk, OnErr};
+ghost use Rattle.std.specs.Prelude.{map as list_map};
 ghost use Rattle.std.specs.FinMap as map;
 ghost use Rattle.patricia_tree.specs.Prefixes.{under};
 ghost use Rattle.prefixes_core.specs.Completions.{Completes};

@@ -36,9 +36,9 @@ fn first_piece<'a, V: Drop>(dictionary: &StringPatriciaMap<V>, text: &'a str) ->
 
 /// Cuts a text into the longest words of a dictionary, which are the keys of a map.
 ///
-/// From the front on, each piece is the longest nonempty word that begins what is left of the text,
-/// or its first character where no word does. The pieces are parts of the text, and together they
-/// are the text. Takes a look-up for each piece.
+/// From the front on, each piece is the longest nonempty word that begins what is left of the
+/// text, or its first character where no word does. The pieces are parts of the text, and together
+/// they are the text. Takes a look-up for each piece.
 ///
 /// # Errors
 ///

@@ -1,6 +1,7 @@
 //! Dotted names: a name and those below it.
 
-ghost use Rattle.std.specs.Prelude.{◌≡◌, [], ◌∷◌, ◌++◌, IfOk, OnOk, OnErr, map as list_map, string_bytes};
+ghost use Rattle.std.specs.Prelude.{◌≡◌, [], ◌∷◌, ◌++◌, IfOk, OnOk, OnErr, map as list_map};
+ghost use Rattle.std.specs.Prelude.{string_bytes};
 ghost use Rattle.std.specs.FinMap as map;
 ghost use Rattle.prefixes_core.specs.Subtrees.{subtree, elsewhere};
 
@@ -16,8 +17,8 @@ fn with_dot(alloc: Global, name: &str) -> Result<String, AllocError>
     Ok(dotted)
 }
 
-/// Returns the entry of a name and those below it, which are the ones that the name and a dot begin,
-/// in key order.
+/// Returns the entry of a name and those below it, which are the ones that the name and a dot
+/// begin, in key order.
 ///
 /// Takes two look-ups, and time in proportion to the entries that are returned.
 ///

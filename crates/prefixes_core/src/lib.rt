@@ -1,5 +1,5 @@
-//! Questions about prefixes over lists of names: texts cut into words, completions, block lists and
-//! subtrees of dotted names; lists that are packed; and the program that asks all of it.
+//! Questions about prefixes over lists of names: texts cut into words, completions, block lists
+//! and subtrees of dotted names; lists that are packed; and the program that asks all of it.
 #![tactic(auto)]
 
 pub mod answering;

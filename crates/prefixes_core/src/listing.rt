@@ -114,9 +114,9 @@ fn read_lines<R: BufRead, W: Write>(
 
 /// Reads a list: packed, if it begins as packed lists do, and else with a line for each name.
 ///
-/// A line is a name, and behind its first byte 9 the value. Empty lines are passed over. Where there
-/// is a `progress`, it gets a line for each 100,000 that are read. Takes memory in proportion to the
-/// list and its longest line, and where it is packed to its bytes too.
+/// A line is a name, and behind its first byte 9 the value. Empty lines are passed over. Where
+/// there is a `progress`, it gets a line for each 100,000 that are read. Takes memory in
+/// proportion to the list and its longest line, and where it is packed to its bytes too.
 ///
 /// # Errors
 ///

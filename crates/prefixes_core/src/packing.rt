@@ -1,11 +1,13 @@
 //! Packed lists: a map of texts as bytes, which are read back without inserting each entry.
 
-ghost use Rattle.std.specs.Prelude.{◌≡◌, ◌≢◌, ◌+◌, ◌<◌, ◌^◌, ◌++◌, ℕ, List, length, map as list_map, IfOk, OnOk, IfErr, IfSome, IfNone, Err};
+ghost use Rattle.std.specs.Prelude.{◌≡◌, ◌≢◌, ◌+◌, ◌<◌, ◌^◌, ◌++◌, ℕ, List, length};
+ghost use Rattle.std.specs.Prelude.{map as list_map, IfOk, OnOk, IfErr, IfSome, IfNone, Err};
 ghost use Rattle.std.specs.FinMap as map;
 ghost use Rattle.std.specs.List.{concat};
 ghost use Rattle.patricia_tree.specs.TextKind.{IsTextItem};
 ghost use Rattle.patricia_tree.specs.Writings.{TooDeep};
-ghost use Rattle.prefixes_core.specs.Packings.{counted, packed, Packs, ArePackedBytes, PacksOneList};
+ghost use Rattle.prefixes_core.specs.Packings.{counted, packed, Packs, ArePackedBytes};
+ghost use Rattle.prefixes_core.specs.Packings.{PacksOneList};
 
 use crate::value::Payload;
 use patricia_tree::wire::laws::{meant_is_never_refused, one_meaning};
@@ -100,13 +102,13 @@ fn with_values(
 
 /// Packs a list: its tree bytes, and its values in the order of their names.
 ///
-/// The same names and values are packed to the same bytes, whatever was inserted and removed before.
-/// Takes time in proportion to the bytes.
+/// The same names and values are packed to the same bytes, whatever was inserted and removed
+/// before. Takes time in proportion to the bytes.
 ///
 /// # Errors
 ///
-/// `TooDeep` where the tree of the names is too deep for tree bytes, which takes names of more than
-/// 65,535 bytes; or out of memory.
+/// `TooDeep` where the tree of the names is too deep for tree bytes, which takes names of more
+/// than 65,535 bytes; or out of memory.
 ///
 /// # Examples
 ///
@@ -176,13 +178,13 @@ fn tree_fault(fault: DecodeError) -> UnpackError
 
 /// Reads a packed list.
 ///
-/// What `pack` gave is read to a map with the same names and values. Takes time in proportion to the
-/// bytes.
+/// What `pack` gave is read to a map with the same names and values. Takes time in proportion to
+/// the bytes.
 ///
 /// # Errors
 ///
-/// What is wrong with the bytes, and where; or out of memory. What `pack` gave is refused as out of
-/// memory alone.
+/// What is wrong with the bytes, and where; or out of memory. What `pack` gave is refused as out
+/// of memory alone.
 ///
 /// # Examples
 ///

@@ -125,7 +125,13 @@ fn question<R: Files, E: Write>(
             }
         }
         _ => {
-            let list = list_at(rt, alloc, path(matches, "DICTIONARY"), Values::Optional, progress)?;
+            let list = list_at(
+                rt,
+                alloc,
+                path(matches, "DICTIONARY"),
+                Values::Optional,
+                progress,
+            )?;
             Ok(Question::Segment(list))
         }
     }
@@ -226,9 +232,9 @@ fn run<R: Files, I: Read + Drop, W: Write, E: Write>(
     answer_lines(alloc, &mut question, input, output)
 }
 
-/// The program, over its words and streams. It answers the status to end with: 0 where something was
-/// found or written, 1 where nothing was found, and 2 where something went wrong, which has a line
-/// on `errors`. Where there is a `progress`, long lists tell it how far they are read.
+/// The program, over its words and streams. It returns the status to end with: 0 where something
+/// was found or written, 1 where nothing was found, and 2 where something went wrong, which has a
+/// line on `errors`. Where there is a `progress`, long lists tell it how far they are read.
 pub fn serve<R: Files, I: Read + Drop, W: Write + Drop, E: Write + Drop>(
     rt: &R,
     alloc: Global,

@@ -19,7 +19,8 @@ loop-row-init g c =
       | in-Some+in_ok-from_str+in_ok-push w ↦
           ap (λ v. list_map (λ row. (string_bytes row.0, row.1.now)) v.items) w.rows-is
           ∙ ap (list_map (λ row. (string_bytes row.0, row.1.now))) (w.in_ok-push.ensures.items
-          ∙ ap (λ l. l ++ (w.in_ok-from_str.field-0, w.in-Some.value) ∷ []) c.new-rows.ensures.items)
+          ∙ ap (λ l. l ++ (w.in_ok-from_str.field-0, w.in-Some.value) ∷ [])
+          c.new-rows.ensures.items)
           ∙ ap (λ (k : List ℕ). (k, w.in-Some.value.now) ∷ []) w.in_ok-from_str.ensures.ok
           ∙ ap (own name) (w.in-Some.ensures ∙ map.get-entries c.args.names.now name)
       | in_default w ↦
@@ -27,5 +28,6 @@ loop-row-init g c =
           ∙ ap (list_map (λ row. (string_bytes row.0, row.1.now))) c.new-rows.ensures.items
           ∙ ap (own name) (w.in_default.ensures ∙ map.get-entries c.args.names.now name)
     ] in
-    ap (λ l. l ++ c.into_iter-row-iterator.result) first ∙ ap (λ l. own name (map.find key_cmp name rows) ++ l) later
+    ap (λ l. l ++ c.into_iter-row-iterator.result) first ∙ ap (λ l. own name
+    (map.find key_cmp name rows) ++ l) later
     ∙ sym (own_first name rows (map.entries_sorted c.args.names.now))

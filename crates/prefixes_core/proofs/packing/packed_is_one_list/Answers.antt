@@ -11,6 +11,7 @@ returns c = λ bytes rows others small are. (
   record { tree = are.tree; is = are.is; means = are.tree_bytes.means },
   λ packs.
       let rest = concat (list_map counted (values_of rows)) in
-      let means = packed_values bytes are.tree rest (values_of rows) others small are.is refl packs in
+      let means = packed_values bytes are.tree rest
+      (values_of rows) others small are.is refl packs in
       c.one_meaning.ensures.one 2 are.tree (values_of rows) others rows means are.tree_bytes.means,
 )

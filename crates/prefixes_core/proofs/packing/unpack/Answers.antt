@@ -5,7 +5,8 @@ use Rattle.prefixes_core.proofs.PackLemmas.{head_front, no_head, packed_rest, pa
 use Rattle.prefixes_core.proofs.packing.unpack.Goals as goal
 
 pub returns-in_default-clause-refused : goal.returns-in_default-clause-refused
-returns-in_default-clause-refused c = λ other rows packs. no_head c.args.bytes.now rows c.in_default.ensures.cases packs
+returns-in_default-clause-refused c = λ other rows packs. no_head c.args.bytes.now rows
+    c.in_default.ensures.cases packs
 
 pub returns-in-Err-clause-refused : goal.returns-in-Err-clause-refused
 returns-in-Err-clause-refused c = λ other rows packs.
@@ -15,7 +16,8 @@ returns-in-Err-clause-refused c = λ other rows packs.
     let tree = c.in-Some-split_counted.tree.now in
     let rest = c.in-Some-split_counted.rest.now in
     let whole : bytes ≡ head ++ (counted tree ++ rest) =
-    head_front bytes c.in-Some.rest.now cases.0 cases.1 ∙ ap (λ l. head ++ l) c.in-Some-split_counted.ensures.some in
+    head_front bytes c.in-Some.rest.now cases.0 cases.1 ∙ ap
+    (λ l. head ++ l) c.in-Some-split_counted.ensures.some in
     let parts = packed_rest bytes tree rest rows small whole packs in
     c.in-Err.ensures.refused other _ parts.1
 
@@ -27,6 +29,9 @@ returns-in-Err-from_wire-clause-refused c = λ other rows packs.
     let tree = c.in-Some-split_counted.tree.now in
     let rest = c.in-Some-split_counted.rest.now in
     let whole : bytes ≡ head ++ (counted tree ++ rest) =
-    head_front bytes c.in-Some.rest.now cases.0 cases.1 ∙ ap (λ l. head ++ l) c.in-Some-split_counted.ensures.some in
-    let means = packed_values bytes tree rest c.in-Ok.values.items rows small whole c.in-Ok.ensures.ok packs in
-    other (c.tree_fault.ensures (c.meant_is_never_refused.ensures 2 tree c.in-Ok.values.items rows c.in-Err-from_wire.fault means c.in-Err-from_wire.ensures.refused))
+    head_front bytes c.in-Some.rest.now cases.0 cases.1 ∙ ap
+    (λ l. head ++ l) c.in-Some-split_counted.ensures.some in
+    let means = packed_values bytes tree rest c.in-Ok.values.items rows small whole
+    c.in-Ok.ensures.ok packs in
+    other (c.tree_fault.ensures (c.meant_is_never_refused.ensures 2 tree c.in-Ok.values.items rows
+    c.in-Err-from_wire.fault means c.in-Err-from_wire.ensures.refused))

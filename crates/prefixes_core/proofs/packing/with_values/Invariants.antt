@@ -7,4 +7,5 @@ use Rattle.prefixes_core.proofs.packing.with_values.Given as goal
 
 -- what is written, and the values that are left
 abbrev pub invariant-loop-value : goal.invariant-loop-value
-invariant-loop-value l = l.out.items ++ concat (list_map counted l.value-iterator) ≡ packed l.tree (map.values l.list)
+invariant-loop-value l = l.out.items ++ concat (list_map counted l.value-iterator) ≡ packed l.tree
+    (map.values l.list)
