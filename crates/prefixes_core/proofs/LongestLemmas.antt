@@ -2,7 +2,7 @@
 use Rattle.std.proofs.Common.{◌≡◌, ℕ, ◌≤◌, ◌⊎◌, inl, inr, Bool, true, false, T, ◌&&◌, cond, List}
 use Rattle.std.proofs.Common.{[], ◌∷◌, ◌++◌, length, Option, None, Some, refl, sym, ap, subst, ◌∙◌}
 use Rattle.std.proofs.Common.{arith}
-use Rattle.std.specs.Prelude.{filter, nat_eq, is_some, option_map}
+use Rattle.std.specs.Prelude.{nat_eq, is_some, option_map}
 use Rattle.std.specs.List.{last_or}
 use Rattle.std.specs.Ordering.{ordering_then, is_lt, is_eq, eq_by_cmp}
 use Rattle.std.specs.Cmp.{tied_itself, nat_cmp_total}

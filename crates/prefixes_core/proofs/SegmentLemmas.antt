@@ -14,7 +14,7 @@ use Rattle.std.proofs.lemmas.Str.{IsCharBoundary-at_seam, IsCharBoundary-from_ta
 use Rattle.std.proofs.lemmas.Str.{IsUtf8-past_char}
 use Rattle.patricia_tree.specs.Keys.{Begins, key_cmp}
 use Rattle.patricia_tree.specs.TextKind.{IsTextItem, one_char}
-use Rattle.prefixes_core.specs.Segments.{Fits, IsLongestWord, IsLoneChar, IsFirstPiece, AreSegments}
+use Rattle.prefixes_core.specs.Segments.{Fits, IsFirstPiece, AreSegments}
 use Rattle.prefixes_core.proofs.LongestLemmas.{IsLongestKey}
 
 -- a list with a last member, cut at a member: it is cut before the last one, or at it

@@ -57,6 +57,13 @@ fn key_of(alloc: Global, name: &[u8]) -> Result<Vec<u8>, AllocError>
 
 impl BlockList {
     /// Makes an empty list, which keeps the allocator. Does not allocate.
+    ///
+    /// # Examples
+    ///
+    /// ```
+    /// let list = BlockList::new(rt.alloc());
+    /// assert_eq!(rt; list.find(b"example.com".as_slice())?, None);
+    /// ```
     pub fn new(alloc: Global) -> BlockList
         ensures { result ≡ map.empty }
     {
@@ -68,9 +75,19 @@ impl BlockList {
 
     /// Adds a name, and returns whether it is a new one.
     ///
+    /// Takes a look-up, and time in proportion to the name.
+    ///
     /// # Errors
     ///
     /// Out of memory: the list is unchanged.
+    ///
+    /// # Examples
+    ///
+    /// ```
+    /// let mut list = BlockList::new(rt.alloc());
+    /// assert!(rt; list.add(b"tracker.net".as_slice())?);
+    /// assert!(rt; !list.add(b"tracker.net".as_slice())?);
+    /// ```
     pub fn add(&mut self, name: &[u8]) -> Result<bool, AllocError>
         ensures is_new { IfOk result (λ b. b ≡ not (map.contains_key self.old name.now)) }
         ensures ok { OnOk result (self.new ≡ map.insert self.old name.now tt) }
@@ -99,6 +116,16 @@ impl BlockList {
     /// # Errors
     ///
     /// Out of memory for a copy of the host.
+    ///
+    /// # Examples
+    ///
+    /// ```
+    /// let mut list = BlockList::new(rt.alloc());
+    /// list.add(b"net".as_slice())?;
+    /// list.add(b"tracker.net".as_slice())?;
+    /// let found = list.find(b"cdn.tracker.net".as_slice())?;
+    /// assert_eq!(rt; found, Some(b"tracker.net".as_slice()));
+    /// ```
     pub fn find<'a>(&self, host: &'a [u8]) -> Result<Option<&'a [u8]>, AllocError>
         ensures blocked { IfOk result (λ found.
             IfSome found (λ name. Blocks self.now host.now name.now)) }

@@ -23,11 +23,18 @@ impl Model for Payload {
 }
 
 impl Payload {
-    /// Makes a value of these bytes.
+    /// Makes a value of these bytes, in time in proportion to their number.
     ///
     /// # Errors
     ///
     /// Out of memory.
+    ///
+    /// # Examples
+    ///
+    /// ```
+    /// let payload = Payload::new(rt.alloc(), b"on".as_slice())?;
+    /// assert_eq!(rt; payload.as_bytes(), b"on".as_slice());
+    /// ```
     pub fn new(alloc: Global, bytes: &[u8]) -> Result<Payload, AllocError>
         ensures { IfOk result (λ payload. payload ≡ bytes.now) }
     {
@@ -36,7 +43,7 @@ impl Payload {
         })
     }
 
-    /// The bytes.
+    /// The bytes, in constant time. The example is that of `new`.
     pub fn as_bytes(&self) -> &[u8]
         ensures { result.now ≡ self.now }
     {

@@ -1,9 +1,9 @@
-use Rattle.std.proofs.Common.{◌≡◌, ◌∷◌, ◌<◌, [], map as list_map, arith, sym, ap, subst, ◌∙◌}
+use Rattle.std.proofs.Common.{arith, sym, ◌∙◌}
 use Rattle.std.specs.FinMap as map
 use Rattle.patricia_tree.specs.Prefixes.{under}
 use Rattle.prefixes_core.proofs.ResultLemmas.{on_err_from}
-use Rattle.prefixes_core.proofs.CompletionLemmas.{IsCompleting, completing_first, completing_more}
-use Rattle.prefixes_core.proofs.CompletionLemmas.{completing_last, kept_few, some_left, some_whole}
+use Rattle.prefixes_core.proofs.CompletionLemmas.{completing_first, completing_more}
+use Rattle.prefixes_core.proofs.CompletionLemmas.{kept_few, some_left, some_whole}
 use Rattle.prefixes_core.proofs.CompletionLemmas.{under_fewer}
 use Rattle.prefixes_core.proofs.completing.complete.Goals as goal
 

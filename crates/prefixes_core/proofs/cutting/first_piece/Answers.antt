@@ -1,4 +1,4 @@
-use Rattle.std.proofs.Common.{[], length, sym, ap, ◌∙◌}
+use Rattle.std.proofs.Common.{length, sym, ap, ◌∙◌}
 use Rattle.std.proofs.lemmas.Bool.{eqb-false, eqb-true}
 use Rattle.prefixes_core.proofs.LongestLemmas.{longest_key, no_key}
 use Rattle.prefixes_core.proofs.SegmentLemmas.{word_first, chars_first, none_fits, empty_list}

@@ -1,9 +1,9 @@
-use Rattle.std.proofs.Common.{◌≡◌, ◌≢◌, ◌<◌, [], ◌∷◌, ◌++◌, length, drop, map as list_map, arith}
+use Rattle.std.proofs.Common.{◌≡◌, [], ◌∷◌, ◌++◌, length, drop, map as list_map, arith}
 use Rattle.std.proofs.Common.{sym, ap, subst, ◌∙◌}
 use Rattle.std.proofs.lemmas.List.{map-append}
 use Rattle.prefixes_core.specs.Segments.{IsFirstPiece}
 use Rattle.prefixes_core.proofs.ResultLemmas.{on_err_from}
-use Rattle.prefixes_core.proofs.SegmentLemmas.{Cuts, cuts_more, cuts_some, first_begins, first_some}
+use Rattle.prefixes_core.proofs.SegmentLemmas.{cuts_more, cuts_some, first_begins, first_some}
 use Rattle.prefixes_core.proofs.SegmentLemmas.{piece_boundary, piece_rest}
 use Rattle.prefixes_core.proofs.cutting.segment.Goals as goal
 

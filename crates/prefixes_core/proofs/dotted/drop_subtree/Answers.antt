@@ -1,4 +1,4 @@
-use Rattle.std.proofs.Common.{◌≡◌, sym, ap, ◌∙◌}
+use Rattle.std.proofs.Common.{ap, ◌∙◌}
 use Rattle.std.specs.FinMap as map
 use Rattle.patricia_tree.specs.Prefixes.{outside}
 use Rattle.prefixes_core.specs.Subtrees.{elsewhere}

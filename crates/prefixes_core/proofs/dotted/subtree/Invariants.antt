@@ -1,4 +1,4 @@
-use Rattle.std.proofs.Common.{◌≡◌, ◌++◌, ◌∷◌, []}
+use Rattle.std.proofs.Common.{◌≡◌, ◌++◌}
 use Rattle.std.specs.Prelude.{map as list_map, string_bytes}
 use Rattle.std.specs.FinMap as map
 use Rattle.prefixes_core.specs.Subtrees.{subtree}

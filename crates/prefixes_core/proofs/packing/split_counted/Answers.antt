@@ -1,4 +1,4 @@
-use Rattle.std.proofs.Common.{arith, sym, ap, ◌∙◌}
+use Rattle.std.proofs.Common.{arith}
 use Rattle.prefixes_core.proofs.PackLemmas.{counted_is}
 use Rattle.prefixes_core.proofs.packing.split_counted.Goals as goal
 

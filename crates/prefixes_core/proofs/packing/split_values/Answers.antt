@@ -1,8 +1,8 @@
-use Rattle.std.proofs.Common.{◌≡◌, ◌++◌, ◌∷◌, [], length, arith, sym, ap, subst, ◌∙◌}
+use Rattle.std.proofs.Common.{◌++◌, ◌∷◌, [], arith, sym, ap, ◌∙◌}
 use Rattle.std.specs.Prelude.{map as list_map}
 use Rattle.std.specs.List.{concat}
 use Rattle.prefixes_core.specs.Packings.{counted}
-use Rattle.prefixes_core.proofs.PackLemmas.{no_values, values_more, tested_some, counted_length}
+use Rattle.prefixes_core.proofs.PackLemmas.{no_values, values_more, tested_some}
 use Rattle.prefixes_core.proofs.PackLemmas.{rest_no_longer}
 use Rattle.prefixes_core.proofs.packing.split_values.Goals as goal
 

@@ -1,5 +1,4 @@
-use Rattle.std.proofs.Common.{◌≡◌, ◌<◌, ◌^◌, ◌++◌, length, arith, sym, ap, ◌∙◌}
-use Rattle.std.specs.Prelude.{map as list_map}
+use Rattle.std.proofs.Common.{◌≡◌, ◌<◌, ◌^◌, ◌++◌, length, arith, ap, ◌∙◌}
 use Rattle.prefixes_core.specs.Packings.{head, counted}
 use Rattle.prefixes_core.proofs.PackLemmas.{head_front, no_head, packed_rest, packed_values}
 use Rattle.prefixes_core.proofs.packing.unpack.Goals as goal

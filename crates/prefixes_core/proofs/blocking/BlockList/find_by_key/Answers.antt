@@ -1,6 +1,4 @@
-use Rattle.std.proofs.Common.{◌≡◌, suc, length, arith, sym, ap, subst, ◌∙◌}
-use Rattle.prefixes_core.specs.Blocks.{Blocks, Passes}
-use Rattle.prefixes_core.specs.Internal.Reversed.{key_of, names_of}
+use Rattle.std.proofs.Common.{arith, subst}
 use Rattle.prefixes_core.proofs.LongestLemmas.{IsLongestKey, longest_part, no_part}
 use Rattle.prefixes_core.proofs.NameLemmas.{blocks, passes, front_short, host_key}
 use Rattle.prefixes_core.proofs.blocking.BlockList.find_by_key.Goals as goal

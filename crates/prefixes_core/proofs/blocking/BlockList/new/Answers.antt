@@ -1,5 +1,3 @@
-use Rattle.std.proofs.Common.{ap, ◌∙◌}
-use Rattle.prefixes_core.specs.Internal.Reversed.{names_of}
 use Rattle.prefixes_core.proofs.NameLemmas.{nothing_named, no_names}
 use Rattle.prefixes_core.proofs.blocking.BlockList.new.Goals as goal
 
