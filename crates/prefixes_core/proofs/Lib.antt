@@ -1,0 +1,7 @@
+pub mod CompletionLemmas
+pub mod LongestLemmas
+pub mod NameLemmas
+pub mod PackLemmas
+pub mod ResultLemmas
+pub mod SegmentLemmas
+pub mod SubtreeLemmas

@@ -1,0 +1,66 @@
+//! The first entries that begin with a prefix.
+
+ghost use Rattle.std.specs.Prelude.{◌≡◌, ◌≢◌, ◌≤◌, [], ◌∷◌, ◌++◌, length, take, IfOk, OnOk, OnErr};
+ghost use Rattle.std.specs.Prelude.{map as list_map};
+ghost use Rattle.std.specs.FinMap as map;
+ghost use Rattle.patricia_tree.specs.Prefixes.{under};
+ghost use Rattle.prefixes_core.specs.Completions.{Completes};
+
+use patricia_tree::{BorrowedBytes, Bytes, GenericPatriciaMap};
+use std::alloc::{AllocError, Global};
+
+/// The first entries that begin with a prefix, and how many there are in all.
+#[derive(Drop)]
+pub struct Completions<'a, K: Bytes, V> {
+    pub first: Vec<(K, &'a V)>,
+    pub count: usize,
+}
+
+// Puts a row behind the others, unless there are `most` of them.
+fn keep_first<T: Drop>(first: &mut Vec<T>, most: usize, row: T) -> Result<(), AllocError>
+    requires { length first.old.items ≤ most }
+    ensures { OnOk result (first.new.items ≡ take most (first.old.items ++ row ∷ [])) }
+{
+    if first.len() < most {
+        first.push(row)?;
+    }
+    Ok(())
+}
+
+/// Returns the first `most` entries whose key begins with the prefix, in key order, and the number
+/// of all such entries.
+///
+/// Takes a look-up, and time in proportion to all such entries.
+///
+/// # Errors
+///
+/// Out of memory, never where no key begins with the prefix.
+///
+/// # Examples
+///
+/// ```
+/// let map = StringPatriciaMap::from_iter(rt.alloc(), [("foo", 1), ("bar", 2), ("baz", 3)])?;
+/// let completions = complete(rt.alloc(), &map, "ba", 1)?;
+/// assert_eq!(rt; completions.first.len(), 1);
+/// assert_eq!(rt; completions.first[0].0.as_str(), "bar");
+/// assert_eq!(rt; completions.count, 2);
+/// ```
+pub fn complete<'a, Q: BorrowedBytes, V: Drop>(
+    alloc: Global,
+    entries: &'a GenericPatriciaMap<Q::Owned, V>,
+    prefix: Q,
+    most: usize,
+) -> Result<Completions<'a, Q::Owned, V>, AllocError>
+    ensures ok { IfOk result (λ c. Completes (map.entries entries.now) (Q.key prefix) most
+        (list_map (λ row. (Q.Owned.key row.0, row.1.now)) c.first.items) c.count) }
+    ensures err { OnErr result (under (Q.key prefix) (map.entries entries.now) ≢ []) }
+{
+    let _bound = entries.len();
+    let mut first = Vec::new(alloc);
+    let mut count: usize = 0;
+    for entry in entries.iter_prefix(prefix) {
+        keep_first(&mut first, most, entry?)?;
+        count += 1;
+    }
+    Ok(Completions { first, count })
+}

@@ -1,0 +1,141 @@
+//! Lists: files of names with their values, a line for each, or packed.
+
+use crate::packing::{HEAD, UnpackError, unpack};
+use crate::value::Payload;
+use memchr::memchr;
+use patricia_tree::{Refused, StringPatriciaMap};
+use std::alloc::{AllocError, AllocFailed, Global};
+use std::io::{self, BufRead, BufReader, Read, Write};
+use std::str;
+use thiserror::Error;
+
+/// A list: names, each with its value.
+pub type Listing = StringPatriciaMap<Payload>;
+
+/// Why a list is not read. Lines are counted from 1.
+#[derive(Debug, Drop, Error)]
+pub enum ListError {
+    #[error("{0}")]
+    Read(io::Error),
+    #[error("line {0}: not UTF-8")]
+    NotUtf8(u64),
+    #[error("line {0}: no tab between a name and its value")]
+    NoTab(u64),
+    #[error("{0}")]
+    Packed(UnpackError),
+    #[error("out of memory")]
+    Memory,
+}
+
+impl From<io::Error> for ListError {
+    fn from(error: io::Error) -> ListError {
+        ListError::Read(error)
+    }
+}
+
+impl From<AllocError> for ListError {
+    fn from(_: AllocError) -> ListError {
+        ListError::Memory
+    }
+}
+
+impl<V: Drop> From<Refused<V>> for ListError {
+    fn from(_: Refused<V>) -> ListError {
+        ListError::Memory
+    }
+}
+
+/// Whether each line has a value.
+#[derive(Clone, Copy, PartialEq, Eq)]
+pub enum Values {
+    Needed,
+    Optional,
+}
+
+/// A line without the byte 10 at its end.
+pub fn without_end(line: &[u8]) -> &[u8] {
+    match line {
+        [front @ .., b'\n'] => front,
+        _ => line,
+    }
+}
+
+// The name and the value of a line, which are separated by the first byte 9.
+fn fields(line: &[u8], number: u64, values: Values) -> Result<(&[u8], &[u8]), ListError> {
+    match memchr(b'\t', line) {
+        Some(place) => Ok((&line[..place], &line[place + 1..])),
+        None if values == Values::Needed => Err(ListError::NoTab(number)),
+        None => Ok((line, b"")),
+    }
+}
+
+// Adds the name of a line. An empty line has none.
+fn add_line(
+    alloc: Global,
+    list: &mut Listing,
+    line: &[u8],
+    number: u64,
+    values: Values,
+) -> Result<(), ListError> {
+    if line.is_empty() {
+        return Ok(());
+    }
+    let (name, value) = fields(line, number, values)?;
+    let Ok(name) = str::from_utf8(name) else {
+        return Err(ListError::NotUtf8(number));
+    };
+    list.insert(name, Payload::new(alloc, value)?)?;
+    Ok(())
+}
+
+// Reads a line for each name. Of two lines with one name the later stays.
+fn read_lines<R: BufRead, W: Write>(
+    alloc: Global,
+    reader: &mut R,
+    values: Values,
+    progress: &mut Option<W>,
+) -> Result<Listing, ListError> {
+    let mut list = Listing::new(alloc);
+    let mut line = Vec::new(alloc);
+    for number in 1..u64::MAX {
+        line.clear();
+        if reader.read_until(b'\n', &mut line)? == 0 {
+            break;
+        }
+        add_line(alloc, &mut list, without_end(&line), number, values)?;
+        if number % 100_000 == 0
+            && let Some(progress) = progress
+        {
+            let _ = writeln!(progress, "prefixes: {number} lines read");
+        }
+    }
+    Ok(list)
+}
+
+/// Reads a list: packed, if it begins as packed lists do, and else with a line for each name.
+///
+/// A line is a name, and behind its first byte 9 the value. Empty lines are passed over. Where
+/// there is a `progress`, it gets a line for each 100,000 that are read. Takes memory in
+/// proportion to the list and its longest line, and where it is packed to its bytes too.
+///
+/// # Errors
+///
+/// Which line is wrong, or what is wrong with a packed list; a failure to read; or out of memory.
+pub fn read_list<R: Read + Drop, W: Write>(
+    alloc: Global,
+    file: R,
+    values: Values,
+    progress: &mut Option<W>,
+) -> Result<Listing, ListError> {
+    let mut reader = BufReader::new(alloc, file)?;
+    if !reader.fill_buf()?.starts_with(HEAD) {
+        return read_lines(alloc, &mut reader, values, progress);
+    }
+    let mut bytes = Vec::new(alloc);
+    reader.read_to_end(&mut bytes)?;
+    match unpack(alloc, &bytes) {
+        Ok(list) => Ok(list),
+        Err(UnpackError::Memory) => Err(ListError::Memory),
+        Err(fault) => Err(ListError::Packed(fault)),
+    }
+}

@@ -1,0 +1,52 @@
+#!/usr/bin/env python3
+"""Runs the commands of docs/PREFIXES.md and tests/prefixes/borders.md on a program prefixes, in a folder with
+tests/prefixes/lists: an indented line that begins with a dollar sign is a command for bash, and the indented lines after
+it are what it writes. It prints each that writes something else, and ends with the number of both."""
+
+import os
+import shutil
+import subprocess
+import sys
+import tempfile
+
+HERE = os.path.dirname(os.path.abspath(__file__))
+PAGES = [os.path.join(HERE, '../../docs/PREFIXES.md'), os.path.join(HERE, 'borders.md')]
+
+
+def commands(page):
+    """Yields each command of a page with what it writes."""
+    command, wanted = None, []
+    with open(page, encoding='utf-8') as lines:
+        for line in [*lines, '\n']:
+            if line.startswith('    $ ') or not line.startswith('    '):
+                if command is not None:
+                    yield command, ''.join(wanted)
+                command, wanted = None, []
+            if line.startswith('    $ '):
+                command = line[6:-1]
+            elif command is not None:
+                wanted.append(line[4:])
+
+
+def main(program):
+    passed, failed = 0, 0
+    for page in PAGES:
+        with tempfile.TemporaryDirectory() as room:
+            work = os.path.join(room, 'work')
+            shutil.copytree(os.path.join(HERE, 'lists'), work)
+            os.symlink(os.path.abspath(program), os.path.join(room, 'prefixes'))
+            path = room + ':' + os.environ['PATH']
+            for command, wanted in commands(page):
+                got = subprocess.run(['bash', '-c', command], cwd=work, env={**os.environ, 'PATH': path},
+                                     stdout=subprocess.PIPE, stderr=subprocess.STDOUT, timeout=120)
+                if got.stdout.decode('utf-8', 'replace') == wanted:
+                    passed += 1
+                else:
+                    failed += 1
+                    print('%s: %s\n%s' % (os.path.basename(page), command, got.stdout.decode('utf-8', 'replace')))
+    print('%d passed, %d failed' % (passed, failed))
+    return 1 if failed or not passed else 0
+
+
+if __name__ == '__main__':
+    sys.exit(main(sys.argv[1]))
