@@ -1,0 +1,46 @@
+#!/bin/bash
+# Times a program prefixes against the same questions over std's ordered map (tests/prefixes/peer.rs), and against grep and
+# look where they answer some of them: bench.sh PROGRAM [NAMES [LINES]]. It compares what both programs write first, on some
+# lines, and prints for each command and program the best time of three processes, the user time and the greatest memory.
+set -euo pipefail
+program=$(realpath "$1")
+names=${2:-1000000}
+lines=${3:-10000000}
+here=$(cd "$(dirname "$0")" && pwd)
+room=$(mktemp -d)
+trap 'rm -rf "$room"' EXIT
+cd "$room"
+rustc -O --edition 2021 "$here/peer.rs" -o peer
+python3 -B "$here/lists.py" "$names" "$lines" .
+
+timed() { # name, file of the input, words ..
+    local name=$1 input=$2 best=
+    shift 2
+    for _ in 1 2 3; do
+        /usr/bin/time -o figures -f '%e %U %M' "$@" < "$input" > /dev/null || true
+        if [ -z "$best" ] || awk -v new="$(tail -n 1 figures)" -v old="$best" 'BEGIN { split(new, n); split(old, o); exit !(n[1] < o[1]) }'
+        then best=$(tail -n 1 figures); fi
+    done
+    # shellcheck disable=SC2086
+    printf '| %s | %.2f | %.2f | %d |\n' "$name" ${best% *} $((${best##* } / 1024))
+}
+
+for command in route complete block segment; do
+    head -n 20000 "$command.lines" > some
+    "$program" "$command" "$command.list" < some > mine
+    ./peer "$command" "$command.list" < some > other
+    cmp mine other
+done
+echo "| $names names, $lines lines | seconds | user seconds | MB |"
+echo '|---|---|---|---|'
+for command in route complete block segment; do
+    timed "$command" "$command.lines" "$program" "$command" "$command.list"
+    timed "$command, std's ordered map" "$command.lines" ./peer "$command" "$command.list"
+done
+"$program" pack block.list packed
+timed "block, packed" block.lines "$program" block packed
+timed "block: grep -F -x -f, whole names alone" block.lines grep -F -x -f block.list
+LC_ALL=C sort -o sorted complete.list
+head -n 1000 complete.lines > some
+timed "complete, 1,000 lines" some "$program" complete complete.list
+timed "complete, 1,000 lines, look for each" some bash -c 'while IFS= read -r line; do LC_ALL=C look -- "$line" sorted | head -n 10; done'
