@@ -1,4 +1,5 @@
 pub mod CompletionLemmas
+pub mod FaultLemmas
 pub mod LongestLemmas
 pub mod NameLemmas
 pub mod PackLemmas

@@ -4,3 +4,4 @@ pub mod Internal
 pub mod Packings
 pub mod Segments
 pub mod Subtrees
+pub mod UnpackFaults

@@ -1,11 +1,12 @@
 //! Packed lists: a map of texts as bytes, which are read back without inserting each entry.
 
-ghost use Rattle.std.specs.Prelude.{◌≡◌, ◌≢◌, ◌+◌, ◌<◌, ◌^◌, ◌++◌, ℕ, List, length};
+ghost use Rattle.std.specs.Prelude.{◌≡◌, ◌≢◌, ◌⊎◌, ◌+◌, ◌<◌, ◌^◌, ◌++◌, ℕ, List, length};
 ghost use Rattle.std.specs.Prelude.{map as list_map, IfOk, OnOk, IfErr, IfSome, IfNone, Err};
 ghost use Rattle.std.specs.FinMap as map;
 ghost use Rattle.std.specs.List.{concat};
 ghost use Rattle.patricia_tree.specs.TextKind.{IsTextItem};
 ghost use Rattle.patricia_tree.specs.Writings.{TooDeep};
+ghost use Rattle.prefixes_core.specs.UnpackFaults.{IsUnpackFault, IsValueFault};
 ghost use Rattle.prefixes_core.specs.Packings.{counted, packed, Packs, ArePackedBytes};
 ghost use Rattle.prefixes_core.specs.Packings.{PacksOneList};
 
@@ -153,6 +154,7 @@ fn split_values(alloc: Global, bytes: &[u8], at: usize) -> Result<Vec<Payload>, 
     ensures ok { IfOk result (λ values. bytes.now ≡ concat (list_map counted values.items)) }
     ensures refused { IfErr result (λ e. e ≢ UnpackError.Memory → (values : List (List ℕ))
         → bytes.now ≡ concat (list_map counted values) → ⊥) }
+    ensures named { IfErr result (λ e. IsValueFault bytes.now at e) }
 {
     let mut values = Vec::new(alloc);
     let mut rest = bytes;
@@ -168,7 +170,8 @@ fn split_values(alloc: Global, bytes: &[u8], at: usize) -> Result<Vec<Payload>, 
 
 // The fault of the tree bytes of a packed list.
 fn tree_fault(fault: DecodeError) -> UnpackError
-    ensures { fault ≡ DecodeError.Memory → result ≡ UnpackError.Memory }
+    ensures memory { fault ≡ DecodeError.Memory → result ≡ UnpackError.Memory }
+    ensures either { (result ≡ UnpackError.Memory) ⊎ (result ≡ UnpackError.Tree 17 fault) }
 {
     match fault {
         DecodeError::Memory => UnpackError::Memory,
@@ -196,6 +199,7 @@ pub fn unpack(alloc: Global, bytes: &[u8]) -> Result<StringPatriciaMap<Payload>,
     ensures ok { IfOk result (λ list. Packs bytes.now (map.entries list)) }
     ensures refused { IfErr result (λ e. e ≢ UnpackError.Memory
         → (rows : List (List ℕ × List ℕ)) → Packs bytes.now rows → ⊥) }
+    ensures named { IfErr result (λ e. IsUnpackFault bytes.now e) }
 {
     let Some(rest) = bytes.strip_prefix(HEAD) else {
         return Err(UnpackError::Head);

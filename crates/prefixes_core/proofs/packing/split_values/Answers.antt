@@ -2,6 +2,7 @@ use Rattle.std.proofs.Common.{◌++◌, ◌∷◌, [], arith, sym, ap, ◌∙◌
 use Rattle.std.specs.Prelude.{map as list_map}
 use Rattle.std.specs.List.{concat}
 use Rattle.prefixes_core.specs.Packings.{counted}
+use Rattle.prefixes_core.proofs.FaultLemmas.{value_cut}
 use Rattle.prefixes_core.proofs.PackLemmas.{no_values, values_more, tested_some}
 use Rattle.prefixes_core.proofs.PackLemmas.{rest_no_longer}
 use Rattle.prefixes_core.proofs.packing.split_values.Goals as goal
@@ -25,3 +26,8 @@ loop-rest-preserved c =
       short = let less = rest_no_longer value c.in-Some.later.now c.loop-rest.rest.now
           (sym c.in-Some.ensures.some) in omega (arith, less, c.loop-rest.invariant.short);
     }
+
+pub returns-in_default-clause-named : goal.returns-in_default-clause-named
+returns-in_default-clause-named c =
+    value_cut c.args.bytes.now c.args.at c.loop-rest.values.items c.loop-rest.rest.now
+    c.loop-rest.invariant.joined c.in_default.ensures.none
