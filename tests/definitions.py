@@ -6,14 +6,16 @@
 
 A definition line is a line of crates/*/specs outside specs/Internal that is no import, comment or blank line.
 The words of the library are those that the public clauses of patricia_tree, patricia_keys and patricia_json name,
-and those of the iterators of patricia_core and of `Steps`; to them the program adds the public clauses of
-patricia_run and ptree. The words of the laws are those that the clauses of the law functions (laws.rt and
-examples.rt) name and no other clause does: they follow from the others, and need no belief.
+those of the iterators of patricia_core, of the cursors that read and of `Steps`; to them the program ptree adds the
+public clauses of patricia_run, and the program prefixes those of prefixes_core. The words of the laws are those that
+the clauses of the law functions (laws.rt and examples.rt) name and no other clause does: they follow from the others,
+and need no belief.
 
 The words are found by their text: a name in a clause or in a definition that is counted reaches the definition of
 that name in the same file, or in the file that an import brings it from. A definition counts with all its lines,
 and with those of the section that it stands in. Definitions of specs/Internal are passed through and not counted,
-and those of the toolchain are not looked at. What a Model says of its storage (`coded`, `view`) is no clause.
+and those of the toolchain are not looked at. What a Model says of its storage (`coded`, `view`,
+`invariant`) is no clause.
 """
 import argparse
 import glob
@@ -25,10 +27,11 @@ ROOT = os.path.dirname(os.path.dirname(os.path.abspath(__file__)))
 CRATES = os.path.join(ROOT, 'crates')
 LIBRARY = ('patricia_tree/src/**/*.rt', 'patricia_keys/src/**/*.rt', 'patricia_json/src/**/*.rt',
            'patricia_core/src/elements.rt', 'patricia_core/src/entries.rt', 'patricia_core/src/prefixes.rt',
-           'patricia_*/src/steps.rt')
+           'patricia_walks/src/**/reading.rt', 'patricia_*/src/steps.rt')
 PROGRAM = 'patricia_run/src/**/*.rt', 'ptree/src/**/*.rt'
+PREFIXES = ('prefixes_core/src/**/*.rt',)
 LAWS = 'patricia_*/src/laws.rt', 'patricia_*/src/examples.rt'
-SPECS = 'patricia_*/specs/**/*.antt', 'ptree/specs/**/*.antt'
+SPECS = 'patricia_*/specs/**/*.antt', 'ptree/specs/**/*.antt', 'prefixes_core/specs/**/*.antt'
 
 IMPORT = re.compile(r'\b(?:ghost )?use ([^\s;{]+?)(?:\.?\{([^}]*)\}| as (\w+))?(?:;|$)', re.M)
 MODULE = re.compile(r'Rattle\.(\w+)\.specs\.(.+)$')
@@ -38,7 +41,7 @@ CONSTRUCTOR = re.compile(r'([^\s:{(→]+) :')
 FUNCTION = re.compile(r'( *)(pub )?(?:pub\([^)]*\) )?(?:const )?fn \w+')
 CLAUSE = re.compile(r' *(requires|ensures)\b')
 GHOST = re.compile(r'ghost (?!use\b)(\w+)')
-UNSAID = 'coded', 'view'
+UNSAID = 'coded', 'view', 'invariant'
 
 
 class Definition(NamedTuple):
@@ -209,6 +212,7 @@ def main():
     asked = parser.parse_args()
     library = Reached().add_clauses(LIBRARY)
     both = Reached().add_clauses(LIBRARY).add_clauses(PROGRAM)
+    all_clauses = Reached().add_clauses(LIBRARY).add_clauses(PROGRAM).add_clauses(PREFIXES)
     laws = Reached().add_clauses(LAWS)
     whole = {}
     for file in paths(SPECS):
@@ -217,8 +221,10 @@ def main():
             whole[file] = {at for at, line in enumerate(text) if is_counted(line)}
     tell('clauses of the library', library.lines(), library if asked.names else None)
     tell('clauses of the library and the program', both.lines(), both if asked.names else None)
-    tell('laws alone', without(laws.lines(), both.lines()), laws if asked.names else None)
-    tell('no public clause', without(without(whole, both.lines()), laws.lines()))
+    besides = without(all_clauses.lines(), both.lines())
+    tell('clauses of prefixes besides', besides, all_clauses if asked.names else None)
+    tell('laws alone', without(laws.lines(), all_clauses.lines()), laws if asked.names else None)
+    tell('no public clause', without(without(whole, all_clauses.lines()), laws.lines()))
     print('all: %d lines' % sum(map(len, whole.values())))
 
 
