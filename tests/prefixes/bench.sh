@@ -1,7 +1,8 @@
 #!/bin/bash
-# Times a program prefixes against the same questions over std's ordered map (tests/prefixes/peer.rs), and against grep and
-# look where they answer some of them: bench.sh PROGRAM [NAMES [LINES]]. It compares what both programs write first, on some
-# lines, and prints for each command and program the best time of three processes, the user time and the greatest memory.
+# Times a program prefixes against the same questions over std's ordered map (tests/prefixes/peer.rs), and
+# against grep and look where they answer some of them: bench.sh PROGRAM [NAMES [LINES]]. It compares what both
+# programs write first, on some lines, and prints for each command and program the best time of three processes,
+# their user time and their greatest memory.
 set -euo pipefail
 program=$(realpath "$1")
 names=${2:-1000000}
@@ -13,13 +14,15 @@ cd "$room"
 rustc -O --edition 2021 "$here/peer.rs" -o peer
 python3 -B "$here/lists.py" "$names" "$lines" .
 
+# Whether the first of two times is less.
+is_less() { awk -v new="$1" -v old="$2" 'BEGIN { split(new, n); split(old, o); exit !(n[1] < o[1]) }'; }
+
 timed() { # name, file of the input, words ..
     local name=$1 input=$2 best=
     shift 2
     for _ in 1 2 3; do
         /usr/bin/time -o figures -f '%e %U %M' "$@" < "$input" > /dev/null || true
-        if [ -z "$best" ] || awk -v new="$(tail -n 1 figures)" -v old="$best" 'BEGIN { split(new, n); split(old, o); exit !(n[1] < o[1]) }'
-        then best=$(tail -n 1 figures); fi
+        if [ -z "$best" ] || is_less "$(tail -n 1 figures)" "$best"; then best=$(tail -n 1 figures); fi
     done
     # shellcheck disable=SC2086
     printf '| %s | %.2f | %.2f | %d |\n' "$name" ${best% *} $((${best##* } / 1024))
@@ -43,4 +46,5 @@ timed "block: grep -F -x -f, whole names alone" block.lines grep -F -x -f block.
 LC_ALL=C sort -o sorted complete.list
 head -n 1000 complete.lines > some
 timed "complete, 1,000 lines" some "$program" complete complete.list
-timed "complete, 1,000 lines, look for each" some bash -c 'while IFS= read -r line; do LC_ALL=C look -- "$line" sorted | head -n 10; done'
+look_up='while IFS= read -r line; do LC_ALL=C look -- "$line" sorted | head -n 10; done'
+timed "complete, 1,000 lines, look for each" some bash -c "$look_up"

@@ -1,5 +1,5 @@
-//! peer route|complete|block|segment LIST: what `prefixes` does with a list of lines, over std's ordered map. For `complete` 10
-//! entries are shown. It stands beside `prefixes` in tests/prefixes/bench.sh, and writes the same.
+//! peer route|complete|block|segment LIST: what `prefixes` does with a list of lines, over std's ordered map. For
+//! `complete` 10 entries are shown. It stands beside `prefixes` in tests/prefixes/bench.sh, and writes the same.
 
 use std::collections::BTreeMap;
 use std::io::{self, BufRead, BufReader, BufWriter, Write};
