@@ -102,39 +102,23 @@ fn question<R: Files, E: Write>(
     matches: &ArgMatches<'_>,
     progress: &mut Option<E>,
 ) -> Result<Question, Failure> {
-    match name {
-        "route" => {
-            let list = list_at(rt, alloc, path(matches, "TABLE"), Values::Needed, progress)?;
-            Ok(Question::Route(router(alloc, list)?))
-        }
-        "complete" => {
-            let list = list_at(rt, alloc, path(matches, "LIST"), Values::Optional, progress)?;
-            let most = matches.get_one::<u32>("most").unwrap_or(10);
-            Ok(Question::Complete(list, most as usize))
-        }
-        "block" => {
-            let list = list_at(rt, alloc, path(matches, "LIST"), Values::Optional, progress)?;
-            Ok(Question::Block(block_list(alloc, &list)?))
-        }
-        "tree" => {
-            let list = list_at(rt, alloc, path(matches, "LIST"), Values::Optional, progress)?;
-            if matches.get_flag("drop") {
-                Ok(Question::DropTree(list))
-            } else {
-                Ok(Question::Tree(list))
-            }
-        }
-        _ => {
-            let list = list_at(
-                rt,
-                alloc,
-                path(matches, "DICTIONARY"),
-                Values::Optional,
-                progress,
-            )?;
-            Ok(Question::Segment(list))
-        }
-    }
+    let (id, values) = match name {
+        "route" => ("TABLE", Values::Needed),
+        "segment" => ("DICTIONARY", Values::Optional),
+        _ => ("LIST", Values::Optional),
+    };
+    let list = list_at(rt, alloc, path(matches, id), values, progress)?;
+    Ok(match name {
+        "route" => Question::Route(router(alloc, list)?),
+        "complete" => Question::Complete(
+            list,
+            matches.get_one::<u32>("most").unwrap_or(10) as usize,
+        ),
+        "block" => Question::Block(block_list(alloc, &list)?),
+        "tree" if matches.get_flag("drop") => Question::DropTree(list),
+        "tree" => Question::Tree(list),
+        _ => Question::Segment(list),
+    })
 }
 
 // Packs the list at a path into a file.
