@@ -1,9 +1,12 @@
 //! Lists: files of names with their values, a line for each, or packed.
 
+use crate::answering::folded;
+use crate::blocking::BlockList;
 use crate::packing::{HEAD, UnpackError, unpack};
 use crate::value::Payload;
 use memchr::memchr;
-use patricia_tree::{Refused, StringPatriciaMap};
+use patricia_run::router::Router;
+use patricia_tree::StringPatriciaMap;
 use std::alloc::{AllocError, AllocFailed, Global};
 use std::io::{self, BufRead, BufReader, Read, Write};
 use std::str;
@@ -39,12 +42,6 @@ impl From<AllocError> for ListError {
     }
 }
 
-impl<V: Drop> From<Refused<V>> for ListError {
-    fn from(_: Refused<V>) -> ListError {
-        ListError::Memory
-    }
-}
-
 /// Whether each line has a value.
 #[derive(Clone, Copy, PartialEq, Eq)]
 pub enum Values {
@@ -69,10 +66,59 @@ fn fields(line: &[u8], number: u64, values: Values) -> Result<(&[u8], &[u8]), Li
     }
 }
 
+/// What a list is read into.
+pub trait Rows {
+    /// Adds a name with its value. Of two values for one name the later stays.
+    ///
+    /// # Errors
+    ///
+    /// Out of memory.
+    fn add_row(&mut self, alloc: Global, name: &str, value: &[u8]) -> Result<(), AllocError>;
+
+    /// Adds the names of a list with their values.
+    ///
+    /// # Errors
+    ///
+    /// Out of memory: some of them are added.
+    fn add_list(&mut self, alloc: Global, list: Listing) -> Result<(), AllocError> {
+        for row in list {
+            let (name, value) = row?;
+            self.add_row(alloc, name.as_str(), value.as_bytes())?;
+        }
+        Ok(())
+    }
+}
+
+impl Rows for Listing {
+    fn add_row(&mut self, alloc: Global, name: &str, value: &[u8]) -> Result<(), AllocError> {
+        match self.insert(name, Payload::new(alloc, value)?) {
+            Ok(_) => Ok(()),
+            Err(_) => Err(AllocError),
+        }
+    }
+}
+
+impl Rows for Router<String, Payload> {
+    fn add_row(&mut self, alloc: Global, name: &str, value: &[u8]) -> Result<(), AllocError> {
+        match self.add(name, Payload::new(alloc, value)?) {
+            Ok(_) => Ok(()),
+            Err(_) => Err(AllocError),
+        }
+    }
+}
+
+impl Rows for BlockList {
+    fn add_row(&mut self, alloc: Global, name: &str, _value: &[u8]) -> Result<(), AllocError> {
+        let name = folded(alloc, name.as_bytes())?;
+        self.add(&name)?;
+        Ok(())
+    }
+}
+
 // Adds the name of a line. An empty line has none.
-fn add_line(
+fn add_line<S: Rows>(
     alloc: Global,
-    list: &mut Listing,
+    rows: &mut S,
     line: &[u8],
     number: u64,
     values: Values,
@@ -84,35 +130,36 @@ fn add_line(
     let Ok(name) = str::from_utf8(name) else {
         return Err(ListError::NotUtf8(number));
     };
-    list.insert(name, Payload::new(alloc, value)?)?;
+    rows.add_row(alloc, name, value)?;
     Ok(())
 }
 
 // Reads a line for each name. Of two lines with one name the later stays.
-fn read_lines<R: BufRead, W: Write>(
+fn read_lines<R: BufRead, W: Write, S: Rows>(
     alloc: Global,
     reader: &mut R,
     values: Values,
     progress: &mut Option<W>,
-) -> Result<Listing, ListError> {
-    let mut list = Listing::new(alloc);
+    rows: &mut S,
+) -> Result<(), ListError> {
     let mut line = Vec::new(alloc);
     for number in 1..u64::MAX {
         line.clear();
         if reader.read_until(b'\n', &mut line)? == 0 {
             break;
         }
-        add_line(alloc, &mut list, without_end(&line), number, values)?;
+        add_line(alloc, rows, without_end(&line), number, values)?;
         if number % 100_000 == 0
             && let Some(progress) = progress
         {
             let _ = writeln!(progress, "prefixes: {number} lines read");
         }
     }
-    Ok(list)
+    Ok(())
 }
 
-/// Reads a list: packed, if it begins as packed lists do, and else with a line for each name.
+/// Reads a list and adds its rows: packed, if it begins as packed lists do, and else with a line
+/// for each name.
 ///
 /// A line is a name, and behind its first byte 9 the value. Empty lines are passed over. Where
 /// there is a `progress`, it gets a line for each 100,000 that are read. Takes memory in
@@ -121,20 +168,21 @@ fn read_lines<R: BufRead, W: Write>(
 /// # Errors
 ///
 /// Which line is wrong, or what is wrong with a packed list; a failure to read; or out of memory.
-pub fn read_list<R: Read + Drop, W: Write>(
+pub fn read_list<R: Read + Drop, W: Write, S: Rows>(
     alloc: Global,
     file: R,
     values: Values,
     progress: &mut Option<W>,
-) -> Result<Listing, ListError> {
+    rows: &mut S,
+) -> Result<(), ListError> {
     let mut reader = BufReader::new(alloc, file)?;
     if !reader.fill_buf()?.starts_with(HEAD) {
-        return read_lines(alloc, &mut reader, values, progress);
+        return read_lines(alloc, &mut reader, values, progress, rows);
     }
     let mut bytes = Vec::new(alloc);
     reader.read_to_end(&mut bytes)?;
     match unpack(alloc, &bytes) {
-        Ok(list) => Ok(list),
+        Ok(list) => Ok(rows.add_list(alloc, list)?),
         Err(UnpackError::Memory) => Err(ListError::Memory),
         Err(fault) => Err(ListError::Packed(fault)),
     }

@@ -1,8 +1,8 @@
 //! The program over its words, its files and its streams.
 
-use crate::answering::{AnswerError, Question, folded};
+use crate::answering::{AnswerError, Question};
 use crate::blocking::BlockList;
-use crate::listing::{ListError, Listing, Values, read_list, without_end};
+use crate::listing::{ListError, Listing, Rows, Values, read_list, without_end};
 use crate::options;
 use crate::packing::{PackError, pack};
 use crate::value::Payload;
@@ -49,49 +49,75 @@ fn list_failure(alloc: Global, path: &str, error: ListError) -> Failure {
     }
 }
 
-// Reads the list at a path.
-fn list_at<R: Files, E: Write>(
+// Reads the list at a path, and adds its rows.
+fn add_list_at<R: Files, E: Write, S: Rows>(
     rt: &R,
     alloc: Global,
     path: &str,
     values: Values,
     progress: &mut Option<E>,
-) -> Result<Listing, Failure> {
+    rows: &mut S,
+) -> Result<(), Failure> {
     let file = match fs::open(rt, path) {
         Ok(file) => file,
         Err(error) => return Err(list_failure(alloc, path, ListError::Read(error))),
     };
-    match read_list(alloc, file, values, progress) {
-        Ok(list) => Ok(list),
+    match read_list(alloc, file, values, progress, rows) {
+        Ok(()) => Ok(()),
         Err(error) => Err(list_failure(alloc, path, error)),
     }
 }
 
-// The table of routes that a list is.
-fn router(alloc: Global, list: Listing) -> Result<Router<String, Payload>, AllocError> {
+// Reads the list at a path.
+fn list_at<R: Files, E: Write>(
+    rt: &R,
+    alloc: Global,
+    path: &str,
+    progress: &mut Option<E>,
+) -> Result<Listing, Failure> {
+    let mut list = Listing::new(alloc);
+    add_list_at(rt, alloc, path, Values::Optional, progress, &mut list)?;
+    Ok(list)
+}
+
+// Reads the table of routes at a path.
+fn router_at<R: Files, E: Write>(
+    rt: &R,
+    alloc: Global,
+    path: &str,
+    progress: &mut Option<E>,
+) -> Result<Router<String, Payload>, Failure> {
     let mut routes = Router::new(alloc);
-    for row in list {
-        let (prefix, target) = row?;
-        if routes.add(prefix.as_str(), target).is_err() {
-            return Err(AllocError);
-        }
-    }
+    add_list_at(rt, alloc, path, Values::Needed, progress, &mut routes)?;
     Ok(routes)
 }
 
-// The block list of the names of a list.
-fn block_list(alloc: Global, list: &Listing) -> Result<BlockList, AllocError> {
+// Reads the block list at a path.
+fn block_list_at<R: Files, E: Write>(
+    rt: &R,
+    alloc: Global,
+    path: &str,
+    progress: &mut Option<E>,
+) -> Result<BlockList, Failure> {
     let mut names = BlockList::new(alloc);
-    for name in list.keys() {
-        let name = folded(alloc, name?.as_bytes())?;
-        names.add(&name)?;
-    }
+    add_list_at(rt, alloc, path, Values::Optional, progress, &mut names)?;
     Ok(names)
 }
 
 // The path that a command has for one of its files, which are required.
 fn path<'a>(matches: &ArgMatches<'a>, id: &str) -> &'a str {
     matches.get_str(id).unwrap_or("")
+}
+
+// What `complete` and `tree` ask of a list.
+fn over_list(list: Listing, name: &str, matches: &ArgMatches<'_>) -> Question {
+    match name {
+        "complete" => {
+            Question::Complete(list, matches.get_one::<u32>("most").unwrap_or(10) as usize)
+        }
+        _ if matches.get_flag("drop") => Question::DropTree(list),
+        _ => Question::Tree(list),
+    }
 }
 
 // What a command asks, once its list is read.
@@ -102,22 +128,15 @@ fn question<R: Files, E: Write>(
     matches: &ArgMatches<'_>,
     progress: &mut Option<E>,
 ) -> Result<Question, Failure> {
-    let (id, values) = match name {
-        "route" => ("TABLE", Values::Needed),
-        "segment" => ("DICTIONARY", Values::Optional),
-        _ => ("LIST", Values::Optional),
-    };
-    let list = list_at(rt, alloc, path(matches, id), values, progress)?;
     Ok(match name {
-        "route" => Question::Route(router(alloc, list)?),
-        "complete" => Question::Complete(
-            list,
-            matches.get_one::<u32>("most").unwrap_or(10) as usize,
+        "route" => Question::Route(router_at(rt, alloc, path(matches, "TABLE"), progress)?),
+        "block" => Question::Block(block_list_at(rt, alloc, path(matches, "LIST"), progress)?),
+        "segment" => Question::Segment(list_at(rt, alloc, path(matches, "DICTIONARY"), progress)?),
+        _ => over_list(
+            list_at(rt, alloc, path(matches, "LIST"), progress)?,
+            name,
+            matches,
         ),
-        "block" => Question::Block(block_list(alloc, &list)?),
-        "tree" if matches.get_flag("drop") => Question::DropTree(list),
-        "tree" => Question::Tree(list),
-        _ => Question::Segment(list),
     })
 }
 
@@ -129,7 +148,7 @@ fn pack_file<R: Files, E: Write>(
     progress: &mut Option<E>,
 ) -> Result<(), Failure> {
     let (from, to) = (path(matches, "LIST"), path(matches, "OUT"));
-    let list = list_at(rt, alloc, from, Values::Optional, progress)?;
+    let list = list_at(rt, alloc, from, progress)?;
     let bytes = match pack(alloc, &list) {
         Ok(bytes) => bytes,
         Err(error) => return Err(Failure::Pack(String::from_str(alloc, from)?, error)),
