@@ -2,7 +2,6 @@
 ghost use Rattle.std.specs.Prelude.{◌≡◌, ◌≢◌, ◌↔◌, [], length, None, false, not, IsTrue, IfSome};
 ghost use Rattle.std.specs.Prelude.{IfOk, OnOk, IfErr, OnErr};
 ghost use Rattle.std.specs.Option.{option_map};
-ghost use Rattle.patricia_tree.specs.Cursors.{before_rows};
 ghost use Rattle.patricia_tree.specs.Keys.{Begins};
 ghost use Rattle.patricia_tree.specs.Points.{Joins};
 ghost use Rattle.patricia_tree.specs.Prefixes.{IsReach, longest, under, outside};
@@ -14,6 +13,7 @@ ghost use Rattle.patricia_tree.specs.Siblings.{keys_of};
 
 mod bulk;
 mod debug;
+mod iterators;
 
 use crate::map::GenericPatriciaMap;
 pub use crate::map::{PrefixReadCursor, ReadCursor};
@@ -21,7 +21,6 @@ pub use patricia_core::elements::{IntoIter, Iter, IterPrefix};
 use patricia_core::keys::{BorrowedBytes, Bytes};
 use patricia_core::tree::{DecodeError, WireError};
 use std::alloc::{AllocError, Global};
-use std::iter::IntoIterator;
 use std::marker::Model;
 
 /// A set of byte strings.
@@ -398,104 +397,5 @@ impl<T: Bytes> GenericPatriciaSet<T> {
         Ok(GenericPatriciaSet {
             map: GenericPatriciaMap::from_wide_wire(alloc, bytes, values)?,
         })
-    }
-
-    /// Returns the elements in order, each owned. Making the iterator does not allocate; an item
-    /// that is an error is out of memory, and ends it.
-    ///
-    /// # Examples
-    ///
-    /// ```
-    /// let set = StringPatriciaSet::from_iter(rt.alloc(), ["foo", "bar"])?;
-    /// let mut elements = set.iter();
-    /// assert_eq!(rt; elements.next().transpose()?.as_deref(), Some("bar"));
-    /// assert_eq!(rt; elements.next().transpose()?.as_deref(), Some("foo"));
-    /// assert!(rt; elements.next().is_none());
-    /// ```
-    pub fn iter(&self) -> Iter<'_, T>
-        ensures { result ≡ map.keys self.now }
-    {
-        Iter::new(self.map.keys())
-    }
-
-    /// Returns the elements that begin with the prefix, in order, each owned. Making the iterator
-    /// does not allocate; an item that is an error is out of memory, and ends it.
-    ///
-    /// # Examples
-    ///
-    /// ```
-    /// let set = StringPatriciaSet::from_iter(rt.alloc(), ["foo", "bar", "baz"])?;
-    /// let mut elements = set.iter_prefix("ba");
-    /// assert_eq!(rt; elements.next().transpose()?.as_deref(), Some("bar"));
-    /// assert_eq!(rt; elements.next().transpose()?.as_deref(), Some("baz"));
-    /// assert!(rt; elements.next().is_none());
-    /// ```
-    pub fn iter_prefix<Q: BorrowedBytes<Owned = T>>(&self, prefix: Q) -> IterPrefix<'_, Q>
-        ensures { result ≡ keys_of (under (Q.key prefix) (map.entries self.now)) }
-    {
-        IterPrefix::new(self.map.iter_prefix(prefix))
-    }
-
-    /// Returns a cursor before the first element, which lends each element in turn as a key and
-    /// copies none. Does not allocate; `advance` may, for the path that it is on.
-    ///
-    /// # Examples
-    ///
-    /// ```
-    /// let set = StringPatriciaSet::from_iter(rt.alloc(), ["foo", "bar"])?;
-    /// let mut cursor = set.cursor();
-    /// assert!(rt; cursor.advance()?);
-    /// assert_eq!(rt; cursor.text(), Some("bar"));
-    /// ```
-    pub fn cursor(&self) -> ReadCursor<'_, T, ()>
-        ensures { result ≡ before_rows (map.entries self.now) }
-    {
-        self.map.cursor()
-    }
-
-    /// Returns a cursor before the first element that begins with the prefix, which lends these
-    /// elements as keys and copies none. Does not allocate; `advance` may, for the path that it is
-    /// on.
-    ///
-    /// # Examples
-    ///
-    /// ```
-    /// let set = StringPatriciaSet::from_iter(rt.alloc(), ["foo", "bar", "baz"])?;
-    /// let mut cursor = set.cursor_under("f");
-    /// assert!(rt; cursor.advance()?);
-    /// assert_eq!(rt; cursor.text(), Some("foo"));
-    /// assert!(rt; !cursor.advance()?);
-    /// ```
-    pub fn cursor_under<Q: BorrowedBytes<Owned = T>>(
-        &self,
-        prefix: Q,
-    ) -> PrefixReadCursor<'_, Q, ()>
-        ensures { result ≡ before_rows (under (Q.key prefix) (map.entries self.now)) }
-    {
-        self.map.cursor_under(prefix)
-    }
-}
-
-impl<T: Bytes> IntoIterator for GenericPatriciaSet<T> {
-    type Item = Result<T, AllocError>;
-
-    type IntoIter = IntoIter<T>;
-
-    ghost into_iter_gives = { λ s elements. elements ≡ map.keys s };
-
-    fn into_iter(self) -> IntoIter<T> {
-        IntoIter::new(self.map.into_iter())
-    }
-}
-
-impl<'a, T: Bytes> IntoIterator for &'a GenericPatriciaSet<T> {
-    type Item = Result<T, AllocError>;
-
-    type IntoIter = Iter<'a, T>;
-
-    ghost into_iter_gives = { λ s elements. elements ≡ map.keys s.now };
-
-    fn into_iter(self) -> Iter<'a, T> {
-        self.iter()
     }
 }

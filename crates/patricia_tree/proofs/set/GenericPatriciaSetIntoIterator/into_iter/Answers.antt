@@ -1,5 +1,0 @@
-use Rattle.std.proofs.Common.{rules}
-use Rattle.patricia_tree.proofs.set.GenericPatriciaSetIntoIterator.into_iter.Goals as goal
-
-pub returns : goal.returns
-returns g c = search rules

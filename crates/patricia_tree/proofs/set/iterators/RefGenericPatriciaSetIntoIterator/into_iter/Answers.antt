@@ -1,0 +1,5 @@
+use Rattle.std.proofs.Common.{rules}
+use Rattle.patricia_tree.proofs.set.iterators.RefGenericPatriciaSetIntoIterator.into_iter.Goals as goal
+
+pub returns : goal.returns
+returns g c = search rules
