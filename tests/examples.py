@@ -19,13 +19,22 @@ EXAMPLES = [
     'test_map/src/tests/cursor_examples.rt',
     'test_walks/src/tests/set_examples.rt',
     'example_map/src/main.rt',
+    'test_prefixes/src/tests/examples.rt',
 ]
-CALLS = {'map': ['map.rt', 'map'], 'set': ['set.rt', 'set'], 'cursor': ['entries.rt']}
+TREE, PREFIXES = 'patricia_tree/src/', 'prefixes_core/src/'
+CALLS = {
+    'map': [TREE + 'map.rt', TREE + 'map'],
+    'set': [TREE + 'set.rt', TREE + 'set'],
+    'cursor': [TREE + 'entries.rt'],
+    'prefixes': [PREFIXES + '%s.rt' % name for name in ('completing', 'cutting', 'dotted', 'packing')],
+    'block_list': [PREFIXES + 'blocking.rt'],
+    'payload': [PREFIXES + 'value.rt'],
+}
 # what does nothing at run time
-HAS_NONE = 'keys_are_valid'
+HAS_NONE = 'keys_are_valid', 'packed_is_one_list'
 REGION = re.compile(r'^ *// example: (\w+ \w+)\n(.*?)^ *// end$', re.M | re.S)
-CALL = re.compile(r'^    pub fn (\w+)', re.M)
-SECTION = '    ///\n    /// # Examples\n    ///\n    /// ```\n'
+CALL = re.compile(r'^( *)pub fn (\w+)', re.M)
+SECTION = '///\n/// # Examples\n///\n/// ```\n'
 
 
 def read(path):
@@ -34,8 +43,7 @@ def read(path):
 
 
 def files(path):
-    """A file of patricia_tree, or those of a folder."""
-    path = 'patricia_tree/src/' + path
+    """A file, or those of a folder."""
     if path.endswith('.rt'):
         return [path]
     return ['%s/%s' % (path, x) for x in sorted(os.listdir(os.path.join(CRATES, path)))]
@@ -44,7 +52,7 @@ def files(path):
 def comment(code):
     """The section of a doc comment that has this code."""
     lines = textwrap.dedent(code).rstrip().split('\n')
-    return SECTION + ''.join(('    /// ' + x).rstrip() + '\n' for x in [*lines, '```'])
+    return SECTION + ''.join(('/// ' + x).rstrip() + '\n' for x in [*lines, '```'])
 
 
 def main():
@@ -54,17 +62,18 @@ def main():
     for module, paths in CALLS.items():
         for path in (file for x in paths for file in files(x)):
             text = ''
-            for part in re.split(r'(?=^    pub fn )', read(path), flags=re.M):
+            for part in re.split(r'(?=^ *pub fn )', read(path), flags=re.M):
                 # what stands before a call ends with its comment
                 call = CALL.match(part)
-                if call and call[1] != HAS_NONE:
+                if call and call[2] not in HAS_NONE:
                     calls += 1
-                    section = sections.get('%s %s' % (module, call[1]))
-                    kept, mark, _ = text.rpartition(SECTION)
-                    is_its_own = mark and re.fullmatch('(    ///.*\n)*', text[len(kept) + len(mark):])
+                    section = sections.get('%s %s' % (module, call[2]))
+                    section = section and textwrap.indent(section, call[1])
+                    kept, mark, _ = text.rpartition(textwrap.indent(SECTION, call[1]))
+                    is_its_own = mark and re.fullmatch('( *///.*\n)*', text[len(kept) + len(mark):])
                     has = text[len(kept):] if is_its_own else ''
                     if has != section:
-                        wrong.append('%s: %s has %s' % (path, call[1], 'another example' if section else 'none'))
+                        wrong.append('%s: %s has %s' % (path, call[2], 'another example' if section else 'none'))
                     if writes and section:
                         text = text[:len(text) - len(has)] + section
                 text += part

@@ -1,12 +1,13 @@
 #!/bin/bash
 # Times a program prefixes against the same questions over std's ordered map (tests/prefixes/peer.rs), and
-# against grep and look where they answer some of them: bench.sh PROGRAM [NAMES [LINES]]. It compares what both
-# programs write first, on some lines, and prints for each command and program the best time of three processes,
-# their user time and their greatest memory.
+# against grep and look where they answer some of them: bench.sh PROGRAM [NAMES [LINES [PROCESSES]]]. It compares what
+# both programs write first, on some lines, and prints for each command and program the best time of so many processes,
+# its user time and its greatest memory.
 set -euo pipefail
 program=$(realpath "$1")
 names=${2:-1000000}
 lines=${3:-10000000}
+processes=${4:-3}
 here=$(cd "$(dirname "$0")" && pwd)
 room=$(mktemp -d)
 trap 'rm -rf "$room"' EXIT
@@ -20,7 +21,7 @@ is_less() { awk -v new="$1" -v old="$2" 'BEGIN { split(new, n); split(old, o); e
 timed() { # name, file of the input, words ..
     local name=$1 input=$2 best=
     shift 2
-    for _ in 1 2 3; do
+    for ((n = 0; n < processes; n++)); do
         /usr/bin/time -o figures -f '%e %U %M' "$@" < "$input" > /dev/null || true
         if [ -z "$best" ] || is_less "$(tail -n 1 figures)" "$best"; then best=$(tail -n 1 figures); fi
     done

@@ -1,6 +1,6 @@
 #!/usr/bin/env python3
 """Runs the commands of docs/PREFIXES.md and tests/prefixes/borders.md on a program prefixes, in a folder with
-tests/prefixes/lists: an indented line that begins with a dollar sign is a command for bash, and the indented lines after
+the lists of tests/prefixes/lists and tests/prefixes/data: an indented line that begins with a dollar sign is a command for bash, and the indented lines after
 it are what it writes. It prints each that writes something else, and ends with the number of both."""
 
 import os
@@ -33,7 +33,8 @@ def main(program):
     for page in PAGES:
         with tempfile.TemporaryDirectory() as room:
             work = os.path.join(room, 'work')
-            shutil.copytree(os.path.join(HERE, 'lists'), work)
+            for lists in 'lists', 'data':
+                shutil.copytree(os.path.join(HERE, lists), work, dirs_exist_ok=True)
             os.symlink(os.path.abspath(program), os.path.join(room, 'prefixes'))
             path = room + ':' + os.environ['PATH']
             for command, wanted in commands(page):

@@ -4,7 +4,7 @@ use crate::blocking::BlockList;
 use crate::completing::complete;
 use crate::cutting::segment;
 use crate::dotted::{drop_subtree, subtree};
-use crate::listing::Listing;
+use crate::listing::{Listing, Names};
 use crate::value::Payload;
 use itoa::Buffer;
 use patricia_run::router::Router;
@@ -33,7 +33,7 @@ pub enum Question {
     /// The longest prefix that begins the line, and its target.
     Route(Router<String, Payload>),
     /// The first so many names that begin with the line, and how many there are.
-    Complete(Listing, usize),
+    Complete(Names, usize),
     /// The longest name that covers the host.
     Block(BlockList),
     /// The name and those below it.
@@ -41,7 +41,7 @@ pub enum Question {
     /// The same, which are dropped.
     DropTree(Listing),
     /// The longest words that the line is cut into.
-    Segment(Listing),
+    Segment(Names),
 }
 
 fn route(
@@ -62,12 +62,12 @@ fn route(
 
 fn complete_all(
     alloc: Global,
-    list: &Listing,
+    names: &Names,
     prefix: &str,
     most: usize,
     out: &mut Vec<u8>,
 ) -> Result<bool, AllocError> {
-    let found = complete(alloc, list, prefix, most)?;
+    let found = complete(alloc, names, prefix, most)?;
     out.extend_from_slice(prefix.as_bytes())?;
     out.push(b'\t')?;
     out.extend_from_slice(Buffer::new().format(found.count).as_bytes())?;
@@ -139,8 +139,8 @@ fn tree(alloc: Global, list: &Listing, name: &str, out: &mut Vec<u8>) -> Result<
     Ok(!rows.is_empty())
 }
 
-fn cut(alloc: Global, list: &Listing, text: &str, out: &mut Vec<u8>) -> Result<bool, AllocError> {
-    let pieces = segment(alloc, list, text)?;
+fn cut(alloc: Global, words: &Names, text: &str, out: &mut Vec<u8>) -> Result<bool, AllocError> {
+    let pieces = segment(alloc, words, text)?;
     let mut is_first = true;
     for piece in &pieces {
         if !is_first {

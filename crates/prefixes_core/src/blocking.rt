@@ -125,6 +125,7 @@ impl BlockList {
     /// list.add(b"tracker.net".as_slice())?;
     /// let found = list.find(b"cdn.tracker.net".as_slice())?;
     /// assert_eq!(rt; found, Some(b"tracker.net".as_slice()));
+    /// assert_eq!(rt; list.find(b"mytracker.org".as_slice())?, None);
     /// ```
     pub fn find<'a>(&self, host: &'a [u8]) -> Result<Option<&'a [u8]>, AllocError>
         ensures blocked { IfOk result (λ found.

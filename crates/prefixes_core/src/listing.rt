@@ -15,6 +15,9 @@ use thiserror::Error;
 /// A list: names, each with its value.
 pub type Listing = StringPatriciaMap<Payload>;
 
+/// The names of a list, without their values.
+pub type Names = StringPatriciaMap<()>;
+
 /// Why a list is not read. Lines are counted from 1.
 #[derive(Debug, Drop, Error)]
 pub enum ListError {
@@ -92,6 +95,15 @@ pub trait Rows {
 impl Rows for Listing {
     fn add_row(&mut self, alloc: Global, name: &str, value: &[u8]) -> Result<(), AllocError> {
         match self.insert(name, Payload::new(alloc, value)?) {
+            Ok(_) => Ok(()),
+            Err(_) => Err(AllocError),
+        }
+    }
+}
+
+impl Rows for Names {
+    fn add_row(&mut self, _alloc: Global, name: &str, _value: &[u8]) -> Result<(), AllocError> {
+        match self.insert(name, ()) {
             Ok(_) => Ok(()),
             Err(_) => Err(AllocError),
         }

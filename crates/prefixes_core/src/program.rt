@@ -2,7 +2,7 @@
 
 use crate::answering::{AnswerError, Question};
 use crate::blocking::BlockList;
-use crate::listing::{ListError, Listing, Rows, Values, read_list, without_end};
+use crate::listing::{ListError, Listing, Names, Rows, Values, read_list, without_end};
 use crate::options;
 use crate::packing::{PackError, pack};
 use crate::value::Payload;
@@ -80,6 +80,18 @@ fn list_at<R: Files, E: Write>(
     Ok(list)
 }
 
+// Reads the names of the list at a path.
+fn names_at<R: Files, E: Write>(
+    rt: &R,
+    alloc: Global,
+    path: &str,
+    progress: &mut Option<E>,
+) -> Result<Names, Failure> {
+    let mut names = Names::new(alloc);
+    add_list_at(rt, alloc, path, Values::Optional, progress, &mut names)?;
+    Ok(names)
+}
+
 // Reads the table of routes at a path.
 fn router_at<R: Files, E: Write>(
     rt: &R,
@@ -109,17 +121,6 @@ fn path<'a>(matches: &ArgMatches<'a>, id: &str) -> &'a str {
     matches.get_str(id).unwrap_or("")
 }
 
-// What `complete` and `tree` ask of a list.
-fn over_list(list: Listing, name: &str, matches: &ArgMatches<'_>) -> Question {
-    match name {
-        "complete" => {
-            Question::Complete(list, matches.get_one::<u32>("most").unwrap_or(10) as usize)
-        }
-        _ if matches.get_flag("drop") => Question::DropTree(list),
-        _ => Question::Tree(list),
-    }
-}
-
 // What a command asks, once its list is read.
 fn question<R: Files, E: Write>(
     rt: &R,
@@ -131,12 +132,19 @@ fn question<R: Files, E: Write>(
     Ok(match name {
         "route" => Question::Route(router_at(rt, alloc, path(matches, "TABLE"), progress)?),
         "block" => Question::Block(block_list_at(rt, alloc, path(matches, "LIST"), progress)?),
-        "segment" => Question::Segment(list_at(rt, alloc, path(matches, "DICTIONARY"), progress)?),
-        _ => over_list(
-            list_at(rt, alloc, path(matches, "LIST"), progress)?,
-            name,
-            matches,
+        "segment" => Question::Segment(names_at(rt, alloc, path(matches, "DICTIONARY"), progress)?),
+        "complete" => Question::Complete(
+            names_at(rt, alloc, path(matches, "LIST"), progress)?,
+            matches.get_one::<u32>("most").unwrap_or(10) as usize,
         ),
+        _ => {
+            let list = list_at(rt, alloc, path(matches, "LIST"), progress)?;
+            if matches.get_flag("drop") {
+                Question::DropTree(list)
+            } else {
+                Question::Tree(list)
+            }
+        }
     })
 }
 

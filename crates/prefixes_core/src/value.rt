@@ -6,7 +6,7 @@ use std::alloc::{AllocError, Global};
 use std::marker::Model;
 
 /// What stands beside a name in a list: any bytes.
-#[derive(Drop)]
+#[derive(Debug, Drop)]
 pub struct Payload {
     bytes: Vec<u8>,
 }
@@ -43,7 +43,14 @@ impl Payload {
         })
     }
 
-    /// The bytes, in constant time. The example is that of `new`.
+    /// Returns the bytes, in constant time.
+    ///
+    /// # Examples
+    ///
+    /// ```
+    /// let payload = Payload::new(rt.alloc(), b"".as_slice())?;
+    /// assert!(rt; payload.as_bytes().is_empty());
+    /// ```
     pub fn as_bytes(&self) -> &[u8]
         ensures { result.now ≡ self.now }
     {

@@ -1,0 +1,5 @@
+//! Tests of the questions about prefixes.
+#![tactic(auto)]
+
+#[cfg(test)]
+mod tests;
