@@ -7,6 +7,7 @@ ghost use Rattle.patricia_codec.specs.Internal.Builds.{AddsRecord};
 use crate::record::Record;
 use patricia_keys::Bytes;
 use patricia_nodes::arena::Node;
+use patricia_nodes::arena::node_vec::NodeVec;
 use patricia_nodes::label::Label;
 use patricia_nodes::link::{Link, NodeId};
 use std::alloc::{AllocError, Global};
@@ -32,7 +33,7 @@ pub struct Builder<V> {
     pub value: Option<V>,
     // the number of the first node
     pub root: Link,
-    pub nodes: Vec<Node<V>>,
+    pub nodes: NodeVec<V>,
     // the label so far of the node that is laid next
     pub label: Vec<u8>,
     // the nodes that wait for their siblings, the one that comes next last
@@ -49,7 +50,7 @@ impl<V: Drop> Builder<V> {
             alloc,
             value: None,
             root: Link::none(),
-            nodes: Vec::new(alloc),
+            nodes: NodeVec::new(alloc),
             label: Vec::new(alloc),
             waiting: Vec::new(alloc),
             next: Next::Root,
@@ -82,7 +83,8 @@ impl<V: Drop> Builder<V> {
         ensures { HasLinked self.old self.new }
     {
         if let Some(id) = self.waiting.pop() {
-            self.nodes[id.index()].sibling = Link::some(NodeId::new(self.nodes.len()));
+            let next = Link::some(NodeId::new(self.nodes.len()));
+            self.nodes.set_sibling(id, next);
         }
     }
 

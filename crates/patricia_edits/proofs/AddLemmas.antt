@@ -2,7 +2,8 @@
 use Rattle.std.proofs.Common.{◌≡◌, ◌≢◌, inl, inr, ℕ, suc, ◌+◌, ◌<◌, List, [], ◌∷◌, length, set}
 use Rattle.std.proofs.Common.{take, Option, Some, None, slice_get, get_or, refl, sym, ap, ◌∙◌}
 use Rattle.std.proofs.Common.{arith, length-set}
-use Rattle.std.specs.Prelude.{vec_capacity}
+use Rattle.std.specs.Prelude.{vec_len, vec_capacity}
+use Rattle.std.proofs.lemmas.List.{get_or-set_same}
 use Rattle.std.proofs.lemmas.Option.{slice_get_within}
 use Rattle.patricia_nodes.specs.declared.arena.Node.{Node}
 use Rattle.patricia_nodes.specs.declared.arena.NodeArena.{NodeArena}
@@ -234,6 +235,14 @@ module _ {V : Type 0} (s : NodeArena V) (id : ℕ) (r : Node V)
       ((spare : List ℕ) × IsSound (set s.nodes.items id (linked ul uv r.child r.sibling))
       s.root s.free (fill fs q) spare)
   spot_below ul uv h = (InChild id ul uv h.4 ∷ h.0, h.3, refl, holds_write s id r reads h.0 h.1 ul h.2 uv h.3 h.4 h.5)
+
+  -- the child of a node whose label and value are changed
+  pub written_child : (id < vec_len s.nodes) → (ul : List ℕ) (uv : Option V) (m : Node V)
+      → m ≡ get_or (set s.nodes.items id (linked ul uv r.child r.sibling)) id m
+      → m.child ≡ r.child
+  written_child within ul uv m at =
+      ap (λ (x : Node V). x.child)
+      (at ∙ get_or-set_same s.nodes.items id (linked ul uv r.child r.sibling) m (rw (← s.nodes.ok.0) within))
 
 -- a number of the plan is in the vector
 pub cell_within : {V : Type 0} (s : NodeArena V) (id : ℕ) → HasCell s id → id < length s.nodes.items

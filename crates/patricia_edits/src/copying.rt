@@ -12,6 +12,7 @@ ghost use Rattle.patricia_nodes.specs.Internal.Growth.{numbered_siblings};
 ghost use Rattle.patricia_model.specs.Clones.{CloneIsSame};
 ghost use Rattle.patricia_edits.specs.Internal.Copies.{RowKept, EntriesKept};
 
+use patricia_nodes::arena::node_vec::NodeVec;
 use patricia_nodes::arena::{Node, NodeArena};
 use patricia_nodes::label::Label;
 use patricia_nodes::link::{Link, NodeId};
@@ -63,7 +64,7 @@ fn copy_row<V: Clone>(
     alloc: Global,
     from: &[Node<V>],
     first: Link,
-    to: &mut Vec<Node<V>>,
+    to: &mut NodeVec<V>,
 ) -> Result<Link, AllocError>
     requires row { (w : Plan V) × IsTopRow from.now first w × RowKept V.is_clone (row w)
         × (vec_len to.old + length (tops w) ≤ vec_capacity to.old) }
@@ -96,7 +97,7 @@ fn copy_row<V: Clone>(
 fn copy_below<V: Clone>(
     alloc: Global,
     from: &[Node<V>],
-    to: &mut Vec<Node<V>>,
+    to: &mut NodeVec<V>,
 ) -> Result<(), AllocError>
     requires { (w : Plan V) × IsLaid from.now to.old.items w × RowKept V.is_clone (row w)
         × (size w ≤ vec_capacity to.old) }
@@ -109,7 +110,7 @@ fn copy_below<V: Clone>(
     while i < to.len() {
         let child = to[i].child;
         let first = copy_row(alloc, from, child, to)?;
-        to[i].child = first;
+        to.set_child(NodeId::new(i), first);
         i += 1;
     }
     Ok(())
@@ -125,9 +126,9 @@ pub fn copy<V: Clone>(arena: &NodeArena<V>, alloc: Global) -> Result<NodeArena<V
     ensures none_free { IfOk result (λ c. c.free ≡ None) }
     ensures nonempty { OnErr result (siblings_of arena.now ≢ end) }
 {
-    let mut nodes = Vec::with_capacity(alloc, used(arena))?;
-    let root = copy_row(alloc, &arena.nodes, arena.root, &mut nodes)?;
-    copy_below(alloc, &arena.nodes, &mut nodes)?;
+    let mut nodes = NodeVec::with_capacity(alloc, used(arena))?;
+    let root = copy_row(alloc, arena.nodes.as_slice(), arena.root, &mut nodes)?;
+    copy_below(alloc, arena.nodes.as_slice(), &mut nodes)?;
     Ok(NodeArena {
         nodes,
         root,

@@ -20,7 +20,6 @@ use patricia_nodes::label::Label;
 use patricia_nodes::link::{Link, NodeId};
 use std::alloc::Global;
 use std::cmp::Ordering;
-use std::mem;
 
 // What follows the first bytes.
 fn behind(bytes: &[u8], n: usize) -> &[u8]
@@ -46,7 +45,7 @@ fn make<V: Drop>(arena: &mut NodeArena<V>, node: Node<V>) -> NodeId
             id
         }
         Some(id) => {
-            let old = mem::replace(&mut arena.nodes[id.index()], node);
+            let old = arena.nodes.replace(id, node);
             arena.free = old.sibling;
             id
         }
@@ -80,12 +79,11 @@ fn split<V: Drop>(
     ensures reuses { Reuses arena.old arena.new }
     ensures within { result < vec_len arena.new.nodes }
 {
-    let node = &mut arena.nodes[id.index()];
-    node.label.truncate(n);
+    let value = arena.nodes.cut_label(id, n, value);
     let lower = Node {
         label: lower,
-        value: mem::replace(&mut node.value, value),
-        child: node.child,
+        value,
+        child: arena.nodes[id.index()].child,
         sibling: Link::none(),
     };
     add(arena, LinkRef::Child(id), lower)
@@ -204,8 +202,7 @@ fn insert_at<V: Drop, Q: BorrowedBytes>(
 {
     let put = match place.matched {
         Match::Exact(id) => {
-            let node = &mut arena.nodes[id.index()];
-            return Ok(node.value.replace(value));
+            return Ok(arena.nodes.replace_value(id, Some(value)));
         }
         Match::Absent => insert_first(arena, alloc, place, value),
         Match::InsideLabel(id, n) => insert_within(arena, alloc, place, id, n, value),

@@ -65,8 +65,7 @@ fn remove_at<V: Drop, Q: BorrowedBytes>(
         return remove_leaf(arena, alloc, place, id);
     };
     if arena.nodes[child.index()].sibling.get().is_some() {
-        let node = &mut arena.nodes[id.index()];
-        return Ok(node.value.take());
+        return Ok(arena.nodes.replace_value(id, None));
     }
     let label = arena.concat_labels(alloc, id, child)?;
     Ok(arena.merge_only_child(alloc, id, child, label))

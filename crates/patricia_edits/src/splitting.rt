@@ -11,12 +11,12 @@ ghost use Rattle.patricia_edits.specs.Internal.Splits.{values, HasSplitNode, Has
 ghost use Rattle.patricia_edits.specs.Internal.Splits.{MovesOut, IsTopLabel, SplitsOff};
 
 use patricia_keys::{BorrowedBytes, Bytes};
+use patricia_nodes::arena::node_vec::NodeVec;
 use patricia_nodes::arena::seek::{LinkRef, SeekResult};
 use patricia_nodes::arena::{Node, NodeArena};
 use patricia_nodes::label::Label;
 use patricia_nodes::link::{Link, NodeId};
 use std::alloc::{AllocError, Global};
-use std::mem;
 
 /// The nodes that were removed, and how many of them have a value.
 #[derive(Drop)]
@@ -76,14 +76,14 @@ fn room_for<V: Drop>(
     arena: &NodeArena<V>,
     alloc: Global,
     id: NodeId,
-) -> Result<(Vec<Node<V>>, usize), AllocError>
+) -> Result<(NodeVec<V>, usize), AllocError>
     requires { HasSplitNode arena.now id }
     ensures empty { IfOk result (λ r. r.0.items ≡ []) }
     ensures counted { IfOk result (λ r. CountsTree arena.now id (vec_capacity r.0) r.1) }
 {
     let node = &arena.nodes[id.index()];
     let below = measure(arena, alloc, node.child)?;
-    let room = Vec::with_capacity(alloc, below.nodes + 1)?;
+    let room = NodeVec::with_capacity(alloc, below.nodes + 1)?;
     Ok((room, below.values + how_many(&node.value)))
 }
 
@@ -111,16 +111,15 @@ fn move_out<V: Drop>(
     link_ref: LinkRef,
     id: NodeId,
     label: Label,
-    room: Vec<Node<V>>,
+    room: NodeVec<V>,
 ) -> NodeArena<V>
     requires empty { room.items ≡ [] }
     requires tree { HasTreeAt arena.old link_ref id (vec_capacity room) }
     ensures { MovesOut arena.old arena.new link_ref id label result }
 {
     let mut nodes = room;
-    let node = &mut arena.nodes[id.index()];
-    let value = node.value.take();
-    let child = mem::replace(&mut node.child, Link::none());
+    let child = arena.nodes[id.index()].child;
+    let value = arena.nodes.take_contents(id);
     nodes.push_reserved(Node {
         child,
         sibling: Link::none(),

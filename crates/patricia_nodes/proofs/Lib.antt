@@ -2,9 +2,11 @@ pub mod AloneLemmas
 pub mod FillLemmas
 pub mod FreeLemmas
 pub mod GrowthLemmas
+pub mod HeadLemmas
 pub mod LayLemmas
 pub mod LinkRefLemmas
 pub mod LoanLemmas
+pub mod NodeVecLemmas
 pub mod PlanLemmas
 pub mod RelayLemmas
 pub mod SeekLemmas

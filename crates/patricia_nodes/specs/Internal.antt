@@ -1,9 +1,11 @@
 -- Words of contracts that no user of the library meets: a reader need not believe them.
 pub mod Growth
+pub mod Heads
 pub mod Labels
 pub mod Links
 pub mod Loans
 pub mod Merges
+pub mod NodeVecs
 pub mod Places
 pub mod Plans
 pub mod Writes

@@ -7,14 +7,15 @@ ghost use Rattle.patricia_model.specs.Siblings.{end};
 mod growth;
 mod lending;
 mod merging;
+pub mod node_vec;
 mod room;
 pub mod seek;
 
+use crate::arena::node_vec::NodeVec;
 use crate::arena::seek::LinkRef;
 use crate::label::Label;
 use crate::link::{Link, NodeId};
 use std::alloc::Global;
-use std::mem;
 use thiserror::Error;
 
 /// Memory ran out before anything was changed. The value is handed back.
@@ -40,7 +41,7 @@ pub struct Node<V> {
 /// holds.
 #[derive(Drop)]
 pub struct NodeArena<V> {
-    pub nodes: Vec<Node<V>>,
+    pub nodes: NodeVec<V>,
     pub root: Link,
     pub free: Link,
 }
@@ -52,7 +53,7 @@ impl<V: Drop> NodeArena<V> {
         ensures row { siblings_of result ≡ end }
     {
         NodeArena {
-            nodes: Vec::new(alloc),
+            nodes: NodeVec::new(alloc),
             root: Link::none(),
             free: Link::none(),
         }
@@ -90,7 +91,7 @@ impl<V: Drop> NodeArena<V> {
             sibling: self.free,
         };
         self.free = Link::some(id);
-        mem::replace(&mut self.nodes[id.index()], hollow)
+        self.nodes.replace(id, hollow)
     }
 
     /// Writes a number at a spot. That the nodes are whole then is for the caller to prove.
@@ -103,8 +104,8 @@ impl<V: Drop> NodeArena<V> {
     {
         match link_ref {
             LinkRef::Root => self.root = to,
-            LinkRef::Child(id) => self.nodes[id.index()].child = to,
-            LinkRef::Sibling(id, _) => self.nodes[id.index()].sibling = to,
+            LinkRef::Child(id) => self.nodes.set_child(id, to),
+            LinkRef::Sibling(id, _) => self.nodes.set_sibling(id, to),
         }
     }
 }

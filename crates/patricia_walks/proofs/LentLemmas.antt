@@ -14,7 +14,8 @@ use Rattle.patricia_nodes.specs.declared.arena.Node.{Node}
 use Rattle.patricia_nodes.specs.Internal.Plans.{IsWellFormed, siblings_of, entries_of}
 use Rattle.patricia_model.specs.Internal.WalkStates.{entries_left}
 use Rattle.patricia_walks.specs.Internal.Positions.{IsPosition, state_of}
-use Rattle.patricia_nodes.specs.Internal.Loans.{value_in, with_value, with_valued}
+use Rattle.patricia_nodes.specs.Internal.Loans.{with_value}
+use Rattle.patricia_nodes.specs.Internal.NodeVecs.{value_in, with_valued}
 use Rattle.patricia_walks.specs.declared.cursor_state.ValueSlot.{ValueSlot}
 use Rattle.patricia_walks.specs.declared.cursor_state.ValueSlot.TheVariants.{OfEmptyKey, OfNode}
 use Rattle.patricia_walks.specs.declared.cursor_state.Start.{Start}

@@ -12,7 +12,7 @@ use Rattle.patricia_nodes.specs.Internal.Plans.{LaidOut, IsChain, IsPlan, IsSoun
 use Rattle.patricia_nodes.proofs.PlanLemmas.{plan_is}
 use Rattle.patricia_walks.specs.declared.cursor_state.ValueSlot.{ValueSlot}
 use Rattle.patricia_walks.specs.declared.cursor_state.ValueSlot.TheVariants.{OfEmptyKey, OfNode}
-use Rattle.patricia_nodes.specs.Internal.Loans.{value_in}
+use Rattle.patricia_nodes.specs.Internal.NodeVecs.{value_in}
 use Rattle.patricia_walks.specs.Internal.Holders.{numbered_slots, held, uses, ReadsHeld}
 
 module _ {W : Type 0} where

@@ -50,12 +50,12 @@ impl<V: Drop> OwnedTraversal<V> {
         requires next { self.old.next ≡ Some id }
         ensures { OnOk result (AdvancesTo K.item (owned self.old) (owned self.new)) }
     {
-        let node = &mut self.arena.nodes[id.index()];
+        let node = &self.arena.nodes[id.index()];
         let front = self.path.len();
         push_row(&mut self.stack, front, node.sibling)?;
         self.path.extend_from_slice(node.label.as_slice())?;
-        self.pending = node.value.take();
         self.next = node.child;
+        self.pending = self.arena.nodes.replace_value(id, None);
         Ok(())
     }
 

@@ -1,30 +1,18 @@
 -- Nodes that lend a value, and what a write through the loan leaves.
-use Rattle.std.specs.Prelude.{◌≡◌, ℕ, ◌<◌, List, Option, Some, None, slice_get, vec_len}
+use Rattle.std.specs.Prelude.{◌≡◌, ℕ, ◌<◌, List, Option, Some, slice_get, vec_len}
 use Rattle.std.specs.Borrow.{LendsIf, Fml, RattleType, MutBor}
 use Rattle.std.specs.FinMap.{find}
-use Rattle.std.specs.Vec.{with_item}
-use Rattle.std.specs.Global.{Vec}
-use Rattle.patricia_nodes.specs.declared.arena.Node.{Node}
 use Rattle.patricia_nodes.specs.declared.arena.NodeArena.{NodeArena}
 use Rattle.patricia_nodes.specs.contracts.arena.NodeArena.{the_row}
+use Rattle.patricia_nodes.specs.Internal.NodeVecs.{value_in, with_valued}
 use Rattle.patricia_nodes.specs.Internal.Plans.{entries_of}
 use Rattle.patricia_keys.specs.Keys.{key_cmp}
 use Rattle.patricia_nodes.specs.Internal.Writes.{Puts}
 
 module _ {V : Type 0} where
-  -- the value of a node, where there is one
-  abbrev pub value_in : Option (Node V) → Option V
-  value_in None = None
-  value_in (Some n) = n.value
-
   -- the value of the node with this number
   abbrev pub value_of : NodeArena V → ℕ → Option V
   value_of s id = value_in (slice_get s.nodes.items id)
-
-  -- the nodes with this one at its number, and with w for its value
-  abbrev pub with_valued : Vec (Node V) → ℕ → V → Option (Node V) → Vec (Node V)
-  with_valued nodes id w None = nodes
-  with_valued nodes id w (Some n) = with_item nodes id (record n { value = Some w })
 
   -- s with w for the value of the node with this number
   abbrev pub with_value : NodeArena V → ℕ → V → NodeArena V

@@ -9,17 +9,18 @@ ghost use Rattle.patricia_nodes.specs.Internal.Plans.{IsWellFormed};
 ghost use Rattle.patricia_nodes.specs.Internal.Growth.{IsLaid, IsTopRow, TakesBelow, TakesRow};
 ghost use Rattle.patricia_nodes.specs.Internal.Growth.{tops, laid, numbered_siblings};
 
+use crate::arena::node_vec::NodeVec;
 use crate::arena::{Node, NodeArena};
 use crate::link::{Link, NodeId};
 use std::alloc::{AllocError, Global};
 
 // A vector for half as many nodes again, and for four at the least.
-fn larger_vector<V: Drop>(alloc: Global, len: usize) -> Result<Vec<Node<V>>, AllocError>
+fn larger_vector<V: Drop>(alloc: Global, len: usize) -> Result<NodeVec<V>, AllocError>
     ensures empty { IfOk result (λ v. v.items ≡ []) }
     ensures room { IfOk result (λ v. len + 2 ≤ vec_capacity v) }
 {
     match len.checked_add(len / 2 + 4) {
-        Some(room) => Vec::with_capacity(alloc, room),
+        Some(room) => NodeVec::with_capacity(alloc, room),
         None => Err(AllocError),
     }
 }
@@ -27,7 +28,7 @@ fn larger_vector<V: Drop>(alloc: Global, len: usize) -> Result<Vec<Node<V>>, All
 impl<V: Drop> NodeArena<V> {
     // Moves a row behind the last of some new nodes, each with the old number of its first child,
     // and returns the new number of its first node. What they leave is free.
-    fn relocate_siblings(&mut self, alloc: Global, first: Link, to: &mut Vec<Node<V>>) -> Link
+    fn relocate_siblings(&mut self, alloc: Global, first: Link, to: &mut NodeVec<V>) -> Link
         requires row { (w : Plan V) × IsTopRow self.old.nodes.items first w
             × (vec_len to.old + length (tops w) ≤ vec_capacity to.old) }
         ensures taken { (w : Plan V) → IsTopRow self.old.nodes.items first w
@@ -57,7 +58,7 @@ impl<V: Drop> NodeArena<V> {
 
     /// Moves what is below the nodes of a new vector behind them, row by row. They have the numbers
     /// that their children have here. What is moved is free here.
-    pub fn relocate_descendants(&mut self, alloc: Global, to: &mut Vec<Node<V>>)
+    pub fn relocate_descendants(&mut self, alloc: Global, to: &mut NodeVec<V>)
         requires { (w : Plan V) × IsLaid self.old.nodes.items to.old.items w
             × (size w ≤ vec_capacity to.old) }
         ensures taken { (w : Plan V) → IsLaid self.old.nodes.items to.old.items w
@@ -71,7 +72,7 @@ impl<V: Drop> NodeArena<V> {
         while i < to.len() {
             let child = to[i].child;
             let first = self.relocate_siblings(alloc, child, to);
-            to[i].child = first;
+            to.set_child(NodeId::new(i), first);
             i += 1;
         }
     }

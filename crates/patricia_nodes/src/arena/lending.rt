@@ -36,6 +36,6 @@ impl<V> NodeArena<V> {
         ensures* writes { sem 𝓛 (lends_value V.row self.entry id result) }
         ensures value { option_copied_mut result ≡ value_of self.old id }
     {
-        self.nodes[id.index()].value.as_mut()
+        self.nodes.value_mut(id)
     }
 }

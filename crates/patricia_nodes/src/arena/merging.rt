@@ -11,7 +11,6 @@ use crate::label::Label;
 use crate::link::{Link, NodeId};
 use patricia_keys::Bytes;
 use std::alloc::{AllocError, Global};
-use std::mem;
 
 impl<V: Drop> NodeArena<V> {
     /// Takes a node without children out of its place, and returns its value.
@@ -36,10 +35,7 @@ impl<V: Drop> NodeArena<V> {
         ensures { Absorbs self.old self.new upper lower label result }
     {
         let Node { value, child, .. } = self.release(alloc, lower);
-        let node = &mut self.nodes[upper.index()];
-        node.label = label;
-        node.child = child;
-        mem::replace(&mut node.value, value)
+        self.nodes.replace_contents(upper, label, child, value)
     }
 
     /// The labels of two nodes as one.

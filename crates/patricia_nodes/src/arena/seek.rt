@@ -1,10 +1,12 @@
 //! The place of a key among the nodes.
-ghost use Rattle.std.specs.Prelude.{◌≡◌, ◌≢◌, ◌<◌, []};
+ghost use Rattle.std.specs.Prelude.{◌≡◌, ◌≢◌, ◌<◌, [], vec_len};
 ghost use Rattle.std.specs.Option.{option_copied};
 ghost use Rattle.std.specs.FinMap.{find};
-ghost use Rattle.patricia_keys.specs.Keys.{key_cmp};
+ghost use Rattle.patricia_keys.specs.Keys.{key_cmp, IsValid};
 ghost use Rattle.patricia_model.specs.Siblings.{IsCanonical};
 ghost use Rattle.patricia_model.specs.Internal.Counts.{IsCounted};
+ghost use Rattle.patricia_model.specs.Internal.LabelCmp.{ComparesLabel};
+ghost use Rattle.patricia_nodes.specs.Internal.NodeVecs.{ReadsNode};
 ghost use Rattle.patricia_nodes.specs.Internal.Plans.{IsWellFormed, siblings_of, entries_of};
 ghost use Rattle.patricia_nodes.specs.Internal.Places.{IsSeekResult, node_of, node_under};
 ghost use Rattle.patricia_nodes.specs.Internal.Places.{node_above};
@@ -100,6 +102,26 @@ impl<Q: BorrowedBytes> SeekResult<Q> {
 }
 
 impl<V> NodeArena<V> {
+    // How a key meets the label of a node. Where their first bytes differ, the node is not read.
+    fn compare<Q: BorrowedBytes>(&self, id: NodeId, key: Q) -> LabelCmp<Q>
+        requires within { id < vec_len self.now.nodes }
+        requires valid { ReadsNode self.now.nodes id (λ n. IsValid Q.Owned.item n.label) }
+        requires nonempty { ReadsNode self.now.nodes id (λ n. n.label ≢ []) }
+        requires key_filled { Q.key key ≢ [] }
+        ensures { ReadsNode self.now.nodes id
+            (λ n. ComparesLabel Q.Owned.item Q.key (Q.key key) n.label result) }
+    {
+        let first = key.as_bytes()[0];
+        let other = self.nodes.first_byte(id);
+        if first < other {
+            return LabelCmp::Before;
+        }
+        if other < first {
+            return LabelCmp::After;
+        }
+        compare_label(key, self.nodes[id.index()].label.as_slice())
+    }
+
     /// The place of a nonempty key. It takes a step where a label is compared with the key.
     pub fn seek_counted<Q: BorrowedBytes, L: Ledger>(
         &self,
@@ -120,13 +142,12 @@ impl<V> NodeArena<V> {
             let Some(id) = at.get() else {
                 break Match::Absent;
             };
-            let node = &self.nodes[id.index()];
             steps.tick();
-            match compare_label(rest, node.label.as_slice()) {
+            match self.compare(id, rest) {
                 LabelCmp::Before => break Match::Absent,
                 LabelCmp::After => {
                     link_ref = LinkRef::Sibling(id, link_ref.above());
-                    at = node.sibling;
+                    at = self.nodes.sibling(id);
                 }
                 LabelCmp::Partial(n) => break Match::InsideLabel(id, n),
                 LabelCmp::Full(left) => {
@@ -134,7 +155,7 @@ impl<V> NodeArena<V> {
                         break Match::Exact(id);
                     }
                     link_ref = LinkRef::Child(id);
-                    at = node.child;
+                    at = self.nodes[id.index()].child;
                     rest = left;
                 }
             }

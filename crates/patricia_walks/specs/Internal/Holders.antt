@@ -7,7 +7,7 @@ use Rattle.patricia_nodes.specs.declared.arena.Node.{Node}
 use Rattle.patricia_nodes.specs.declared.arena.NodeArena.{NodeArena}
 use Rattle.patricia_nodes.specs.Internal.Plans.{linked}
 use Rattle.patricia_walks.specs.Internal.Positions.{row_at}
-use Rattle.patricia_nodes.specs.Internal.Loans.{value_in}
+use Rattle.patricia_nodes.specs.Internal.NodeVecs.{value_in}
 use Rattle.patricia_walks.specs.declared.cursor_state.ValueSlot.{ValueSlot}
 use Rattle.patricia_walks.specs.declared.cursor_state.ValueSlot.TheVariants.{OfEmptyKey, OfNode}
 

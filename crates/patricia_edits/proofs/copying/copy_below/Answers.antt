@@ -1,4 +1,4 @@
-use Rattle.std.proofs.Common.{◌<◌, length, refl, ap, ◌∙◌, arith, add-one}
+use Rattle.std.proofs.Common.{◌<◌, length, set, refl, ap, ◌∙◌, arith, add-one}
 use Rattle.patricia_nodes.proofs.LayLemmas.{laying_start, laying_row, next_top, laying_next}
 use Rattle.patricia_nodes.proofs.LayLemmas.{laying_done}
 use Rattle.patricia_edits.proofs.CopyLemmas.{not_fewer}
@@ -22,8 +22,8 @@ copy_row-requires g c =
       );
     }
 
-pub index_mut-requires : goal.index_mut-requires
-index_mut-requires g c =
+pub set_child-requires : goal.set_child-requires
+set_child-requires g c =
     let w = c.requires.0 in
     let l = c.loop-i.invariant.laying w c.requires.1 in
     let next = laying_row w _ c.loop-i.i _ _ l (omega (arith, c.loop-i-test.true, c.len.ensures)) in
@@ -32,7 +32,7 @@ index_mut-requires g c =
 
 pub loop-i-preserved : goal.loop-i-preserved
 loop-i-preserved g c = record {
-  capacity = c.in_ok-first.ensures.capacity ∙ c.loop-i.invariant.capacity;
+  capacity = ap (λ v. v.cap) c.set_child.ensures.2 ∙ c.in_ok-first.ensures.capacity ∙ c.loop-i.invariant.capacity;
   nonempty = λ e. absurd (omega (arith, c.loop-i-test.true, c.len.ensures, ap length (c.loop-i.invariant.nonempty e)));
   laying = λ w start.
       let l = c.loop-i.invariant.laying w start in
@@ -40,11 +40,13 @@ loop-i-preserved g c = record {
       let next = laying_row w _ c.loop-i.i _ _ l short in
       let top = next_top w _ c.loop-i.i _ _ next c.index.result.now c.index.ensures in
       let copied = c.in_ok-first.ensures in
-      rw (add-one c.loop-i.i)
+      let put = c.set_child.ensures in
+      rw (put.2, add-one c.loop-i.i)
       (laying_next w c.args.from.now c.args.from.now c.loop-i.i c.loop-i.to.items _ _ l short
       next (λ at k. refl) c.copy_row.new.to.items (copied.laid next.row top)
-      c.in_ok-first.first (copied.first next.row top) c.index_mut.result.now
-      c.index_mut.ensures.value refl);
+      c.in_ok-first.first (copied.first next.row top) put.0
+      (rw c.new.ensures at put.1)
+      (ap (λ i. set c.copy_row.new.to.items i (record put.0 { child = c.in_ok-first.first })) c.new.ensures));
 }
 
 pub returns-clause-laid : goal.returns-clause-laid

@@ -1,4 +1,4 @@
-use Rattle.std.proofs.Common.{refl, sym, ap, ◌∙◌, arith}
+use Rattle.std.proofs.Common.{Some, refl, sym, ap, ◌∙◌, arith}
 use Rattle.patricia_nodes.specs.Internal.Places.{node_of}
 use Rattle.patricia_nodes.proofs.SeekLemmas.{ready_at, ready_here, find_none, find_some}
 use Rattle.patricia_nodes.proofs.SeekLemmas.{here_within}
@@ -6,26 +6,26 @@ use Rattle.patricia_nodes.proofs.ValueLemmas.{puts_here}
 use Rattle.patricia_edits.proofs.insertion.insert_at.Goals as goal
 use Rattle.patricia_edits.proofs.insertion.insert_at.Goals.{in-Absent, in-InsideLabel}
 
-pub index_mut-node-requires : goal.index_mut-node-requires
-index_mut-node-requires g c =
+pub replace_value-requires : goal.replace_value-requires
+replace_value-requires g c =
     let within = here_within (ready_here g.met.Q.Owned.Bytes.lawful c.requires.ready) c.in-Exact.id (ap node_of c.in-Exact.is) in
-    omega (arith, c.index.ensures)
+    omega (arith, c.args.arena.now.nodes.ok.0)
 
 pub returns-in-Exact-clause-old : goal.returns-in-Exact-clause-old
 returns-in-Exact-clause-old g c =
     λ key p.
-    let reads = rw c.index.ensures at c.index_mut-node.ensures.value in
-    c.replace.ensures.value ∙ sym
+    let put = c.replace_value.ensures in
+    put.3 ∙ sym
     (find_some (ready_at g.met.Q.Owned.Bytes.lawful c.requires.ready key p) c.in-Exact.id
-    (ap node_of c.in-Exact.is) c.index_mut-node.result.now reads)
+    (ap node_of c.in-Exact.is) put.0 put.1)
 
 pub returns-in-Exact-clause-ok : goal.returns-in-Exact-clause-ok
 returns-in-Exact-clause-ok g c =
     λ key p.
-    let reads = rw c.index.ensures at c.index_mut-node.ensures.value in
+    let put = c.replace_value.ensures in
     puts_here (ready_at g.met.Q.Owned.Bytes.lawful c.requires.ready key p) c.in-Exact.id
-    (ap node_of c.in-Exact.is) c.index_mut-node.result.now reads _ c.args.value
-    c.replace.new.self c.replace.ensures.after (rw c.index.ensures refl) refl refl
+    (ap node_of c.in-Exact.is) put.0 put.1 _ c.args.value
+    (Some c.args.value) refl (ap (λ v. v.items) put.2) refl refl
 
 pub returns-in-Ok-clause-old : goal.returns-in-Ok-clause-old
 returns-in-Ok-clause-old g c =

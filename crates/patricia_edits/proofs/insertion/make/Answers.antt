@@ -1,4 +1,4 @@
-use Rattle.std.proofs.Common.{refl, sym, ◌∙◌, arith}
+use Rattle.std.proofs.Common.{refl, sym, ap, ◌∙◌, arith}
 use Rattle.patricia_edits.proofs.MakeLemmas.{room_behind, free_within, makes_free, makes_push}
 use Rattle.patricia_edits.proofs.insertion.make.Goals as goal
 
@@ -15,9 +15,9 @@ returns-in-None-clause-makes g c = λ spare free.
 pub returns-in-Some-clause-makes : goal.returns-in-Some-clause-makes
 returns-in-Some-clause-makes g c = λ spare free.
     makes_free _ _ spare c.args.node c.in-Some.id free refl c.replace-old.result (sym c.get.ensures ∙ c.in-Some.is)
-    (rw (c.replace-old.ensures.value, ← c.index.ensures) c.index_mut.ensures.value) (rw (c.replace-old.ensures.after, c.index.ensures) refl) refl
+    c.replace-old.ensures.old (ap (λ v. v.items) c.replace-old.ensures.nodes) refl
 
 pub returns-in-Some-clause-within : goal.returns-in-Some-clause-within
 returns-in-Some-clause-within g c =
     let within = free_within c.args.arena.now c.args.arena.now _ c.args.node c.in-Some.id c.requires.room.1 refl (sym c.get.ensures ∙ c.in-Some.is) in
-    omega arith
+    omega (arith, within, ap (λ v. v.len) c.replace-old.ensures.nodes, c.args.arena.now.nodes.ok.0)

@@ -59,11 +59,11 @@ index-requires-3 g c =
     let within = child_within here c.requires.here reads (sym c.get.ensures ∙ c.in-Some.is) in
     omega (arith, c.index-2.ensures)
 
-pub index_mut-node-requires : goal.index_mut-node-requires
-index_mut-node-requires g c =
+pub replace_value-requires : goal.replace_value-requires
+replace_value-requires g c =
     let here = ready_here g.met.Q.Owned.Bytes.lawful c.requires.ready in
     let within = here_within here c.args.id (ap node_of c.requires.here) in
-    omega (arith, c.index-then-is_some.ensures)
+    omega (arith, c.args.arena.now.nodes.ok.0)
 
 pub returns-then-is_some-clause-ok : goal.returns-then-is_some-clause-ok
 returns-then-is_some-clause-ok g c key p =
@@ -73,14 +73,15 @@ returns-then-is_some-clause-ok g c key p =
     let more = next c.get-2.ensures c.is_some.ensures c.if-is_some.true in
     let here = ready_at g.met.Q.Owned.Bytes.lawful c.requires.ready key p in
     let two = two_children here c.requires.here reads child_is reads_child more.1 in
-    removes_value here c.requires.here reads _ c.take.new.self c.take.ensures.after two c.index_mut-node.result.now
-    (rw c.index-then-is_some.ensures at c.index_mut-node.ensures.value) (rw c.index-then-is_some.ensures refl) refl refl
+    let put = c.replace_value.ensures in
+    removes_value here c.requires.here reads _ None refl two put.0 put.1
+    (ap (λ v. v.items) put.2) refl refl
 
 pub returns-then-is_some-clause-value : goal.returns-then-is_some-clause-value
 returns-then-is_some-clause-value g c n there =
-    let reads = rw c.index-then-is_some.ensures at c.index_mut-node.ensures.value in
-    let same = read_is (ready_here g.met.Q.Owned.Bytes.lawful c.requires.ready) c.requires.here reads n there in
-    c.take.ensures.value ∙ ap (λ (m : Node g.row.V.Denot). m.value) same
+    let put = c.replace_value.ensures in
+    let same = read_is (ready_here g.met.Q.Owned.Bytes.lawful c.requires.ready) c.requires.here put.1 n there in
+    put.3 ∙ ap (λ (m : Node g.row.V.Denot). m.value) same
 
 pub concat_labels-requires-clause-upper : goal.concat_labels-requires-clause-upper
 concat_labels-requires-clause-upper g c =

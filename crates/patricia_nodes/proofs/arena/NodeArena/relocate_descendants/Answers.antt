@@ -1,4 +1,4 @@
-use Rattle.std.proofs.Common.{◌<◌, length, refl, ◌∙◌, arith, ap, length-append}
+use Rattle.std.proofs.Common.{◌<◌, set, length, refl, ◌∙◌, arith, ap, length-append}
 use Rattle.patricia_nodes.specs.Internal.Growth.{laid}
 use Rattle.patricia_nodes.proofs.LayLemmas.{filling_start, filling_next, filling_done, laying_row}
 use Rattle.patricia_nodes.proofs.LayLemmas.{next_top}
@@ -21,8 +21,8 @@ relocate_siblings-first-requires g c =
       );
     }
 
-pub index_mut-requires : goal.index_mut-requires
-index_mut-requires g c =
+pub set_child-requires : goal.set_child-requires
+set_child-requires g c =
     let w = c.requires.0 in
     let f = c.loop-i.invariant.filling w c.requires.1 in
     let next = laying_row w _ c.loop-i.i _ _ f.laying (omega (arith, c.loop-i-test.true, c.len.ensures)) in
@@ -32,24 +32,27 @@ index_mut-requires g c =
 
 pub loop-i-preserved : goal.loop-i-preserved
 loop-i-preserved g c = record {
-  capacity = c.relocate_siblings-first.ensures.capacity ∙ c.loop-i.invariant.capacity;
+  capacity = ap (λ v. v.cap) c.set_child.ensures.2 ∙ c.relocate_siblings-first.ensures.capacity ∙ c.loop-i.invariant.capacity;
   filling = λ w l.
       let f = c.loop-i.invariant.filling w l in
       let short : c.loop-i.i < length c.loop-i.to.items = omega (arith, c.loop-i-test.true, c.len.ensures) in
       let next = laying_row w _ c.loop-i.i _ _ f.laying short in
       let top = next_top w _ c.loop-i.i _ _ next c.index.result.now c.index.ensures in
       let moved = c.relocate_siblings-first in
-      filling_next c.args.self.now w c.loop-i.self moved.new.self c.loop-i.i c.loop-i.to.items _ f
+      let put = c.set_child.ensures in
+      rw put.2
+      (filling_next c.args.self.now w c.loop-i.self moved.new.self c.loop-i.i c.loop-i.to.items _ f
       short next (moved.ensures.taken next.row top) moved.new.to.items
       (moved.ensures.laid next.row top) moved.result (moved.ensures.first next.row top)
-      c.index_mut.result.now c.index_mut.ensures.value refl;
+      put.0 (rw c.new.ensures at put.1) (ap (λ i. set moved.new.to.items i (record put.0 { child = moved.result })) c.new.ensures));
 }
 
 pub loop-i-smaller : goal.loop-i-smaller
 loop-i-smaller g c =
     let f = c.loop-i.invariant.filling c.requires.0 c.requires.1 in
     let sized = f.laying.sized in
-    omega (arith, sized, c.requires.2, c.loop-i.invariant.capacity, c.loop-i-test.true, c.len.ensures, c.relocate_siblings-first.ensures.capacity)
+    let same = ap (λ v. v.cap) c.set_child.ensures.2 in
+    omega (arith, sized, same, c.requires.2, c.loop-i.invariant.capacity, c.loop-i-test.true, c.len.ensures, c.relocate_siblings-first.ensures.capacity)
 
 pub returns-clause-taken : goal.returns-clause-taken
 returns-clause-taken g c w l =

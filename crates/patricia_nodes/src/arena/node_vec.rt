@@ -1,0 +1,303 @@
+//! Nodes in a vector, and beside them two bytes for each, which are all that a look-up reads of
+//! most nodes that it passes.
+ghost use Rattle.std.specs.Prelude.{◌≡◌, ◌≢◌, ◌+◌, ◌<◌, ◌≤◌, ◌++◌, [], ◌∷◌, IfOk, IsOk, OnOk};
+ghost use Rattle.std.specs.Prelude.{take, length, slice_index_or, slice_get};
+ghost use Rattle.std.specs.Prelude.{vec_len, vec_capacity};
+ghost use Rattle.std.specs.Borrow.{sem};
+ghost use Rattle.std.specs.Option.{option_copied_mut};
+ghost use Rattle.std.specs.Vec.{with_item};
+ghost use Rattle.patricia_nodes.specs.Internal.Heads.{beside_of};
+ghost use Rattle.patricia_nodes.specs.Internal.NodeVecs.{ReadsNode, Changes, Trades, value_in};
+ghost use Rattle.patricia_nodes.specs.Internal.NodeVecs.{lends_value_at};
+
+use crate::arena::Node;
+use crate::label::Label;
+use crate::link::{Link, NodeId};
+use std::alloc::{AllocError, Global};
+use std::marker::Model;
+use std::mem;
+use std::ops::Index;
+
+// Where the sibling of a node stands.
+#[derive(Clone, Copy)]
+enum Beside {
+    // there is none
+    Nothing,
+    // it is the next node of the vector
+    Next,
+    // at the number in the node
+    Elsewhere,
+}
+
+// What a look-up reads of a node first: the first byte of its label, and where its sibling stands.
+#[derive(Clone, Copy)]
+struct Head {
+    first: u8,
+    beside: Beside,
+}
+
+const _: () = prove!(mem::size_of::<Head>() == 2);
+
+/// The nodes of a tree, which contracts see as a vector of nodes.
+#[derive(Drop)]
+pub struct NodeVec<V> {
+    nodes: Vec<Node<V>>,
+    heads: Vec<Head>,
+}
+
+impl<V> Model for NodeVec<V> {
+    ghost use Rattle.std.specs.Global.{Vec};
+    ghost use Rattle.patricia_nodes.specs.declared.arena.Node.{Node};
+
+    ghost Value = { Vec (Node V) };
+
+    ghost use Rattle.patricia_nodes.specs.Internal.Heads.{HasHeads};
+
+    ghost view = { λ v. v.nodes };
+
+    ghost invariant = { λ v. HasHeads v.nodes v.heads };
+}
+
+// The first byte of a label, 0 where there is none.
+fn first_byte(label: &Label) -> u8
+    ensures { result ≡ slice_index_or label.now 0 0 }
+{
+    let bytes = label.as_slice();
+    if bytes.is_empty() { 0 } else { bytes[0] }
+}
+
+impl Beside {
+    // Where this sibling stands of a node before this number.
+    fn new(next: usize, sibling: Link) -> Beside
+        ensures { result ≡ beside_of next sibling }
+    {
+        match sibling.get() {
+            None => Beside::Nothing,
+            Some(id) => {
+                if id.index() == next {
+                    Beside::Next
+                } else {
+                    Beside::Elsewhere
+                }
+            }
+        }
+    }
+}
+
+impl<V> NodeVec<V> {
+    /// No node. Does not allocate.
+    pub fn new(alloc: Global) -> NodeVec<V>
+        ensures items { result.items ≡ [] }
+    {
+        NodeVec {
+            nodes: Vec::new(alloc),
+            heads: Vec::new(alloc),
+        }
+    }
+
+    /// How many nodes there are.
+    pub fn len(&self) -> usize
+        ensures { result ≡ vec_len self.now }
+    {
+        self.nodes.len()
+    }
+
+    /// How many nodes there is room for.
+    pub fn capacity(&self) -> usize
+        ensures { result ≡ vec_capacity self.now }
+    {
+        self.nodes.capacity()
+    }
+
+    /// The nodes.
+    pub fn as_slice(&self) -> &[Node<V>]
+        ensures value { result.now ≡ self.now.items }
+        ensures len { length result.now ≡ vec_len self.now }
+    {
+        self.nodes.as_slice()
+    }
+
+    /// The first byte of a node's label, 0 where there is none. Does not read the node.
+    pub fn first_byte(&self, id: NodeId) -> u8
+        requires { id < vec_len self.now }
+        ensures { ReadsNode self.now id (λ n. result ≡ slice_index_or n.label 0 0) }
+    {
+        self.heads[id.index()].first
+    }
+
+    /// The sibling of a node. Does not read the node where the sibling is the next one, or none.
+    pub fn sibling(&self, id: NodeId) -> Link
+        requires { id < vec_len self.now }
+        ensures { ReadsNode self.now id (λ n. result ≡ n.sibling) }
+    {
+        match self.heads[id.index()].beside {
+            Beside::Nothing => Link::none(),
+            Beside::Next => Link::some(NodeId::new(id.index() + 1)),
+            Beside::Elsewhere => self.nodes[id.index()].sibling,
+        }
+    }
+
+    /// Adds a node behind the last. Does not allocate.
+    pub fn push_reserved(&mut self, node: Node<V>)
+        requires { vec_len self.old < vec_capacity self.old }
+        ensures items { self.new.items ≡ self.old.items ++ node ∷ [] }
+        ensures capacity { vec_capacity self.new ≡ vec_capacity self.old }
+    {
+        let head = Head {
+            first: first_byte(&node.label),
+            beside: Beside::new(self.nodes.len() + 1, node.sibling),
+        };
+        self.heads.push_reserved(head);
+        self.nodes.push_reserved(node);
+    }
+
+    /// Puts another number for the first child of a node.
+    pub fn set_child(&mut self, id: NodeId, to: Link)
+        requires { id < vec_len self.old }
+        ensures { Changes self.old self.new id (λ n. record n { child = to }) }
+    {
+        self.nodes[id.index()].child = to;
+    }
+
+    /// Puts another number for the sibling of a node.
+    pub fn set_sibling(&mut self, id: NodeId, to: Link)
+        requires { id < vec_len self.old }
+        ensures { Changes self.old self.new id (λ n. record n { sibling = to }) }
+    {
+        self.heads[id.index()].beside = Beside::new(id.index() + 1, to);
+        self.nodes[id.index()].sibling = to;
+    }
+
+    /// Puts another node at a number, and returns the one that was there.
+    pub fn replace(&mut self, id: NodeId, node: Node<V>) -> Node<V>
+        requires { id < vec_len self.old }
+        ensures nodes { self.new ≡ with_item self.old id node }
+        ensures old { result ≡ slice_index_or self.old.items id result }
+    {
+        self.heads[id.index()] = Head {
+            first: first_byte(&node.label),
+            beside: Beside::new(id.index() + 1, node.sibling),
+        };
+        mem::replace(&mut self.nodes[id.index()], node)
+    }
+
+    /// Puts another label, first child and value to a node, and returns the value that was there.
+    pub fn replace_contents(
+        &mut self,
+        id: NodeId,
+        label: Label,
+        child: Link,
+        value: Option<V>,
+    ) -> Option<V>
+        requires { id < vec_len self.old }
+        ensures { Trades self.old self.new id
+            (λ n. record n { label = label; child = child; value = value }) result }
+    {
+        self.heads[id.index()].first = first_byte(&label);
+        let node = &mut self.nodes[id.index()];
+        node.label = label;
+        node.child = child;
+        mem::replace(&mut node.value, value)
+    }
+
+    /// Keeps the first `n` bytes of a node's label, or all where there are fewer, puts another
+    /// value to it, or none, and returns the one that was there. Does not allocate.
+    pub fn cut_label(&mut self, id: NodeId, n: usize, value: Option<V>) -> Option<V>
+        requires { id < vec_len self.old }
+        ensures { Trades self.old self.new id
+            (λ m. record m { label = take n m.label; value = value }) result }
+    {
+        let node = &mut self.nodes[id.index()];
+        node.label.truncate(n);
+        self.heads[id.index()].first = first_byte(&node.label);
+        mem::replace(&mut node.value, value)
+    }
+
+    /// Takes the value out of a node, and leaves it without children.
+    pub fn take_contents(&mut self, id: NodeId) -> Option<V>
+        requires { id < vec_len self.old }
+        ensures { Trades self.old self.new id
+            (λ n. record n { child = None; value = None }) result }
+    {
+        let node = &mut self.nodes[id.index()];
+        node.child = Link::none();
+        node.value.take()
+    }
+
+    /// Puts another value to a node, or none, and returns the one that was there.
+    pub fn replace_value(&mut self, id: NodeId, value: Option<V>) -> Option<V>
+        requires { id < vec_len self.old }
+        ensures { Trades self.old self.new id (λ n. record n { value = value }) result }
+    {
+        mem::replace(&mut self.nodes[id.index()].value, value)
+    }
+
+    /// Lends the value of a node.
+    pub fn value_mut(&mut self, id: NodeId) -> Option<&mut V>
+        requires { id < vec_len self.old }
+        ensures* writes { sem 𝓛 (lends_value_at V.row self.entry id result) }
+        ensures value { option_copied_mut result ≡ value_in (slice_get self.old.items id) }
+    {
+        self.nodes[id.index()].value.as_mut()
+    }
+}
+
+impl<V: Drop> NodeVec<V> {
+    /// No node, with room for some.
+    pub fn with_capacity(alloc: Global, capacity: usize) -> Result<NodeVec<V>, AllocError>
+        ensures items { IfOk result (λ v. v.items ≡ []) }
+        ensures len { IfOk result (λ v. vec_len v ≡ 0) }
+        ensures capacity { IfOk result (λ v. capacity ≤ vec_capacity v) }
+        ensures succeeds { capacity ≡ 0 → IsOk result }
+    {
+        let nodes = Vec::with_capacity(alloc, capacity)?;
+        let heads = Vec::with_capacity(alloc, capacity)?;
+        Ok(NodeVec { nodes, heads })
+    }
+
+    // Makes room for one more node, and for as many more as there are.
+    #[cold]
+    fn reserve_more(&mut self) -> Result<(), AllocError>
+        ensures items { self.new.items ≡ self.old.items }
+        ensures room { OnOk result (vec_len self.new < vec_capacity self.new) }
+    {
+        let more = self.nodes.len().max(4);
+        self.heads.reserve_exact(more)?;
+        self.nodes.reserve_exact(more)?;
+        Ok(())
+    }
+
+    /// Adds a node behind the last.
+    pub fn push(&mut self, node: Node<V>) -> Result<(), AllocError>
+        ensures items { OnOk result (self.new.items ≡ self.old.items ++ node ∷ []) }
+    {
+        if self.nodes.len() == self.nodes.capacity() {
+            self.reserve_more()?;
+        }
+        self.push_reserved(node);
+        Ok(())
+    }
+
+    /// Drops all nodes.
+    pub fn clear(&mut self)
+        ensures items { self.new.items ≡ [] }
+    {
+        self.nodes.clear();
+        self.heads.clear();
+    }
+}
+
+impl<V> Index<usize> for NodeVec<V> {
+    type Output = Node<V>;
+
+    ghost can_index = { λ v i. i < vec_len v };
+
+    ghost index_gives = { λ v i x. x ≡ slice_index_or v.items i x };
+
+    fn index(&self, index: usize) -> &Node<V>
+        requires { index < vec_len self.now }
+        ensures { result.now ≡ slice_index_or self.now.items index result.now }
+    {
+        &self.nodes[index]
+    }
+}
