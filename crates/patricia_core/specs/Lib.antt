@@ -1,4 +1,5 @@
 pub mod Internal
+pub mod RangeWalks
 pub use Rattle.patricia_keys.specs.ByteKind
 pub use Rattle.patricia_keys.specs.Keys
 pub use Rattle.patricia_keys.specs.TextKind
@@ -7,6 +8,7 @@ pub use Rattle.patricia_model.specs.Cursors
 pub use Rattle.patricia_model.specs.Laws
 pub use Rattle.patricia_model.specs.Points
 pub use Rattle.patricia_model.specs.Prefixes
+pub use Rattle.patricia_model.specs.Ranges
 pub use Rattle.patricia_model.specs.Siblings
 pub use Rattle.patricia_model.specs.Internal.ThreeKeys
 pub use Rattle.patricia_model.specs.Trees

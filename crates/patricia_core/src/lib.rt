@@ -6,10 +6,11 @@
 pub mod elements;
 pub mod entries;
 pub mod prefixes;
+pub mod ranges;
 pub mod tree;
 
 pub use patricia_keys::keys;
 pub use patricia_model::laws;
 pub use patricia_nodes::{Steps, steps};
-pub use patricia_walks::{along, cursor, into_walk, under, value_walk, walk};
+pub use patricia_walks::{along, cursor, into_walk, range, under, value_walk, walk};
 pub use patricia_wire::{examples as wire_examples, laws as wire_laws};

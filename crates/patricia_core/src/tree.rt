@@ -17,6 +17,7 @@ ghost use Rattle.patricia_wire.specs.Writings.{Means, TooDeep};
 ghost use Rattle.patricia_wire.specs.Faults.{IsRefusal};
 
 mod cursors;
+mod ranges;
 
 pub use patricia_codec::{DecodeError, EncodeError, Narrow, Wide, Width, WireError};
 use patricia_codec::{Decoded, decode, encode};

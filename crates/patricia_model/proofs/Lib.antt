@@ -13,6 +13,7 @@ pub mod OrderLemmas
 pub mod OutsideLemmas
 pub mod PointLemmas
 pub mod PrefixLemmas
+pub mod RangeLemmas
 pub mod ReachLemmas
 pub mod RemovalLemmas
 pub mod RowLemmas

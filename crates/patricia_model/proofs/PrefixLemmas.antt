@@ -125,7 +125,7 @@ module _ {V : Type 0} where
   along_none k (e ∷ es) all = rw (begins_not e.0 k all.0) (along_none k es all.1)
 
   -- what follows from a fact of a key holds of all keys where the fact does
-  AllKeys-follows : (P Q : List ℕ → Type 0) → ((k : List ℕ) → P k → Q k) → (es : List (List ℕ × V))
+  pub AllKeys-follows : (P Q : List ℕ → Type 0) → ((k : List ℕ) → P k → Q k) → (es : List (List ℕ × V))
       → AllKeys P es → AllKeys Q es
   AllKeys-follows P Q follows [] all = tt
   AllKeys-follows P Q follows (e ∷ es) all = (follows e.0 all.0, AllKeys-follows P Q follows es all.1)
@@ -171,15 +171,15 @@ module _ (item : List ℕ → Type 0) (kind : IsKeyKind item) {V : Type 0} (l : 
       (AllKeys-prefixed (λ k. Begins k q → ⊥) l
       (λ t b. other (Begins-trans l (l ++ t) q (t, refl) b)) (own v ++ entries c)))
 
-  -- and none where the key is before the label
-  pub along_stop : (q : List ℕ) → (Begins l q → ⊥) → key_cmp q l ≡ Less
-      → along q (entries (node l v c s)) ≡ []
-  along_stop q other less =
-      along_above q _ (AllKeys-append _ (prefixed l (own v ++ entries c)) (entries s)
+  -- a key that is before the label, and that the label does not begin, is below all rows
+  pub stop_below : (q : List ℕ) → (Begins l q → ⊥) → key_cmp q l ≡ Less
+      → IsBelow q (entries (node l v c s))
+  stop_below q other less =
+      AllKeys-append _ (prefixed l (own v ++ entries c)) (entries s)
       (AllKeys-prefixed _ l below (own v ++ entries c))
       (AllKeys-follows (λ k. key_cmp (l ++ []) k ≡ Less) (λ k. key_cmp q k ≡ Less)
       (λ k more. nat_list_cmp_total.trans q l k less (rw append-nil at more)) (entries s)
-      (below_row item kind l [] s ok.sibling ok.rises)))
+      (below_row item kind l [] s ok.sibling ok.rises))
     where
       nonempty : (rest t : List ℕ) → rest ≢ [] → key_cmp [] (rest ++ t) ≡ Less
       nonempty [] t some = absurd (some refl)
@@ -193,6 +193,11 @@ module _ (item : List ℕ → Type 0) (kind : IsKeyKind item) {V : Type 0} (l : 
             let split : l ++ t ≡ q ++ (b.0 ++ t) = ap (λ k. k ++ t) (sym b.1) ∙ append_assoc q b.0 t in
             ap (λ k. key_cmp q k) split ∙ ap (λ k. key_cmp k (q ++ (b.0 ++ t))) (sym (append-nil q)) ∙ key_cmp-front q [] (b.0 ++ t) ∙ nonempty b.0 t some
       ]
+
+  -- and none where the key is before the label
+  pub along_stop : (q : List ℕ) → (Begins l q → ⊥) → key_cmp q l ≡ Less
+      → along q (entries (node l v c s)) ≡ []
+  along_stop q other less = along_above q _ (stop_below q other less)
 
   -- under a prefix that comes after the label is no row of the node
   pub first_none : (p : List ℕ) → IsBefore item l p → under p (prefixed l (own v ++ entries c)) ≡ []

@@ -30,7 +30,7 @@ module _ {V : Type 0} where
       both a b = cc
 
   -- the row that waits last is walked first
-  waiting-snoc : (path : List ℕ) (fs : List (ℕ × Siblings V)) (n : ℕ) (r : Siblings V)
+  pub waiting-snoc : (path : List ℕ) (fs : List (ℕ × Siblings V)) (n : ℕ) (r : Siblings V)
       → waiting path (fs ++ (n, r) ∷ []) ≡ prefixed (take n path) (entries r) ++ waiting path fs
   waiting-snoc path [] n r = sym (append-nil (prefixed (take n path) (entries r)))
   waiting-snoc path (f ∷ fs) n r =
@@ -67,7 +67,7 @@ module _ {V : Type 0} where
 
 module _ (item : List ℕ → Type 0) {V : Type 0} where
   -- a longer path leaves the entries of the rows that wait
-  waiting-longer : (path l : List ℕ) (fs : List (ℕ × Siblings V)) → WaitsWithin item path fs
+  pub waiting-longer : (path l : List ℕ) (fs : List (ℕ × Siblings V)) → WaitsWithin item path fs
       → waiting (path ++ l) fs ≡ waiting path fs
   waiting-longer path l [] w = refl
   waiting-longer path l (f ∷ fs) w =

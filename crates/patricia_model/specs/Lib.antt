@@ -3,6 +3,7 @@ pub mod Cursors
 pub mod Laws
 pub mod Points
 pub mod Prefixes
+pub mod Ranges
 pub mod Internal
 pub mod Siblings
 pub mod Trees

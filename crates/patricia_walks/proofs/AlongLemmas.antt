@@ -162,6 +162,12 @@ module _ (item : List ℕ → Type 0) (kind : IsKeyKind item) {V : Type 0} (k : 
 pub rest_is : (n : ℕ) (k : List ℕ) → take (length k - n) (drop n k) ≡ drop n k
 rest_is n k = take_all (length k - n) (drop n k) (omega (arith, length-drop n k))
 
+-- an ordering whose index is not 0 is not less
+pub not_less : (r : Ordering) → nat_eq (ordering_index r) 0 ≡ false → r ≡ Less → ⊥
+not_less Less e is = absurd (cc)
+not_less Equal e is = absurd (cc)
+not_less Greater e is = absurd (cc)
+
 -- the ordering of index 0 is less
 pub less_is : (r : Ordering) → nat_eq (ordering_index r) 0 ≡ true → r ≡ Less
 less_is Less e = refl

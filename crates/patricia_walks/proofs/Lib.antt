@@ -5,7 +5,9 @@ pub mod LentLemmas
 pub mod NumberLemmas
 pub mod PlaceLemmas
 pub mod PositionLemmas
+pub mod RangeCursorLemmas
 pub mod ReadLemmas
+pub mod SkipLemmas
 pub mod StartLemmas
 pub mod TrailLemmas
 pub mod UnderLemmas

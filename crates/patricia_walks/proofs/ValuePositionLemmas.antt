@@ -14,7 +14,7 @@ use Rattle.patricia_nodes.proofs.SeekLemmas.{head_within, opened, whole_plan}
 use Rattle.patricia_walks.specs.Internal.Positions.{row_at}
 use Rattle.patricia_walks.specs.Internal.ValuePositions.{ValuePosition, values_in, values_waiting}
 use Rattle.patricia_walks.specs.Internal.ValuePositions.{values_left, value_steps_waiting}
-use Rattle.patricia_walks.specs.Internal.ValuePositions.{value_steps_left, HasValues, IsValueRow}
+use Rattle.patricia_walks.specs.Internal.ValuePositions.{HasValues, IsValueRow}
 use Rattle.patricia_walks.specs.Internal.ValuePositions.{AreValueRows, IsValuePosition, GoesTo}
 use Rattle.patricia_walks.proofs.PositionLemmas.{row_none}
 

@@ -1,8 +1,10 @@
 -- Words of contracts that no user of the library meets: a reader need not believe them.
+pub mod Bounds
 pub mod Descents
 pub mod Holders
 pub mod Lends
 pub mod Positions
+pub mod Skips
 pub mod Starts
 pub mod Trails
 pub mod ValuePositions

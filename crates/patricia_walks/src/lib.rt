@@ -8,6 +8,7 @@ pub mod along;
 pub mod cursor;
 mod cursor_state;
 pub mod into_walk;
+pub mod range;
 pub mod reach;
 pub mod under;
 pub mod value_walk;

@@ -10,6 +10,7 @@ ghost use Rattle.patricia_walks.specs.Internal.Positions.{IsPosition, IsTop, Adv
 ghost use Rattle.patricia_walks.specs.Internal.Positions.{lent, row_at, rows_below};
 
 mod reading;
+mod skipping;
 
 use crate::waiting::push_row;
 use patricia_keys::Bytes;

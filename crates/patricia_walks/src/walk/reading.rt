@@ -80,6 +80,15 @@ impl<'a, K: Bytes, V> ReadCursor<'a, K, V> {
         }
     }
 
+    /// Moves the cursor to its end. Does not allocate.
+    pub fn end(&mut self)
+        ensures { self.new ≡ before_rows [] }
+    {
+        self.value.take();
+        let place = &mut self.place;
+        place.finish::<K>();
+    }
+
     /// Returns the bytes of the key at which the cursor stands, or `None` before the first entry
     /// and behind the last one. They are those of a key of its kind.
     ///

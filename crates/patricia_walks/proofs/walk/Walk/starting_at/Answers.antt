@@ -1,0 +1,25 @@
+use Rattle.std.proofs.Common.{refl, ap, ◌∙◌}
+use Rattle.std.specs.Option.{option_copied}
+use Rattle.patricia_model.proofs.WalkLemmas.{left_start}
+use Rattle.patricia_model.specs.Ranges.{from}
+use Rattle.patricia_nodes.specs.Internal.Plans.{siblings_of}
+use Rattle.patricia_walks.specs.Internal.Positions.{rows_at}
+use Rattle.patricia_walks.proofs.PositionLemmas.{position_start}
+use Rattle.patricia_walks.proofs.walk.Walk.starting_at.Goals as goal
+
+pub skip_to-requires-clause-position : goal.skip_to-requires-clause-position
+skip_to-requires-clause-position g c =
+    position_start g.K.Bytes.item c.args.arena.now _ c.requires.whole c.requires.row refl c.new.ensures.items refl c.new-2.ensures.items
+
+pub returns : goal.returns
+returns g c =
+    c.in_ok-skip_to.ensures.left ∙ ap (from c.args.key.now)
+    (left_start
+    (record {
+      path = c.new.result.items;
+      pending = option_copied c.args.pending;
+      row =
+          siblings_of c.args.arena.now;
+      stack = rows_at c.args.arena.now.nodes.items c.new-2.result.items;
+    }) c.new.ensures.items
+    (ap (rows_at c.args.arena.now.nodes.items) c.new-2.ensures.items))

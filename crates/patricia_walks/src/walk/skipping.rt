@@ -1,0 +1,103 @@
+//! Walks that begin at a key: a descent goes past the rows before it.
+ghost use Rattle.std.specs.Prelude.{◌≡◌, ◌++◌, [], Some, None, true, false, IfOk, OnOk};
+ghost use Rattle.std.specs.Option.{option_copied};
+ghost use Rattle.patricia_model.specs.Ranges.{from};
+ghost use Rattle.patricia_model.specs.Siblings.{own, IsCanonical};
+ghost use Rattle.patricia_nodes.specs.Internal.Plans.{IsWellFormed, siblings_of, entries_of};
+ghost use Rattle.patricia_walks.specs.Internal.Positions.{IsPosition, lent};
+ghost use Rattle.patricia_walks.specs.Internal.Skips.{IsTowards, Approaches, HasReached, rows_ahead};
+
+use super::{Traversal, Walk};
+use crate::waiting::push_row;
+use patricia_keys::Bytes;
+use patricia_nodes::arena::NodeArena;
+use patricia_nodes::link::NodeId;
+use std::alloc::{AllocError, Global};
+use std::cmp::Ordering;
+use std::marker::PhantomData;
+
+impl<'a, V> Traversal<'a, V> {
+    // Goes on at a node: to its children where its label begins what is left of the key, and to its
+    // sibling where the label comes before that. Else no row that is left comes before the key, and
+    // the walk stays.
+    fn approach<K: Bytes>(&mut self, id: NodeId, key: &[u8]) -> Result<bool, AllocError>
+        requires towards { IsTowards K.item key.now (lent self.old) }
+        requires taken { self.old.pending ≡ None }
+        requires next { self.old.next ≡ Some id }
+        ensures step { IfOk result (λ moved. moved ≡ true
+            → Approaches K.item key.now (lent self.old) (lent self.new)) }
+        ensures over { IfOk result (λ moved. moved ≡ false
+            → (lent self.new ≡ lent self.old) × HasReached K.item key.now (lent self.old)) }
+    {
+        let node = &self.arena.nodes[id.index()];
+        let label = node.label.as_slice();
+        let front = self.path.len();
+        let rest = &key[front..];
+        if rest.starts_with(label) {
+            push_row(&mut self.stack, front, node.sibling)?;
+            self.path.extend_from_slice(label)?;
+            self.pending = node.value.as_ref();
+            self.next = node.child;
+            return Ok(true);
+        }
+        if rest.cmp(label) == Ordering::Less {
+            return Ok(false);
+        }
+        self.next = node.sibling;
+        Ok(true)
+    }
+
+    // Goes from the start of a walk to the first row that does not come before the key.
+    fn skip_to<K: Bytes>(&mut self, key: &[u8]) -> Result<(), AllocError>
+        requires position { IsPosition K.item (lent self.old) }
+        requires path { self.old.path.items ≡ [] }
+        requires stack { self.old.stack.items ≡ [] }
+        ensures position { OnOk result (IsPosition K.item (lent self.new)) }
+        ensures left { OnOk result
+            (rows_ahead (lent self.new) ≡ from key.now (rows_ahead (lent self.old))) }
+    {
+        loop {
+            if self.path.len() >= key.len() {
+                return Ok(());
+            }
+            self.pending = None;
+            let Some(id) = self.next.get() else {
+                return Ok(());
+            };
+            if !self.approach::<K>(id, key)? {
+                return Ok(());
+            }
+        }
+    }
+}
+
+impl<'a, K: Bytes, V> Walk<'a, K, V> {
+    /// A walk over the rows from a key on. The error is out of memory.
+    ///
+    /// Takes the time of a look-up.
+    pub fn starting_at(
+        alloc: Global,
+        pending: Option<&'a V>,
+        arena: &'a NodeArena<V>,
+        key: &[u8],
+    ) -> Result<Self, AllocError>
+        requires whole { IsWellFormed arena.now }
+        requires row { IsCanonical K.item (siblings_of arena.now) }
+        ensures { IfOk result (λ walk.
+            walk ≡ from key.now (own (option_copied pending.entry) ++ entries_of arena.now)) }
+    {
+        let mut place = Traversal {
+            arena,
+            path: Vec::new(alloc),
+            pending,
+            next: arena.root,
+            stack: Vec::new(alloc),
+        };
+        place.skip_to::<K>(key)?;
+        Ok(Walk {
+            alloc,
+            place,
+            kind: PhantomData,
+        })
+    }
+}
