@@ -17,7 +17,9 @@ CRATES = os.path.join(os.path.dirname(os.path.dirname(os.path.abspath(__file__))
 EXAMPLES = [
     'test_map/src/tests/map_examples.rt',
     'test_map/src/tests/cursor_examples.rt',
+    'test_map/src/tests/range_examples.rt',
     'test_walks/src/tests/set_examples.rt',
+    'test_walks/src/tests/set_range_examples.rt',
     'example_map/src/main.rt',
     'test_prefixes/src/tests/examples.rt',
 ]

@@ -1,3 +1,4 @@
+pub mod AfterLemmas
 mod BulkLemmas
 mod CursorLemmas
 pub mod FoundLemmas

@@ -4,7 +4,6 @@ use Rattle.std.proofs.Common.{OnErr, false, map, refl, sym, ap, ◌∙◌}
 use Rattle.std.specs.Prelude.{is_some}
 use Rattle.std.specs.Iterator.{Yields}
 use Rattle.patricia_tree.specs.Bulk.{insert_all, by_bytes}
-use Rattle.patricia_tree.specs.Clones.{ClonesAreSame}
 use Rattle.std.specs.FinMap as finmap
 use Rattle.patricia_tree.specs.Sets.{KeySet, Extends, IsStoppedAt, steps_in_pairs}
 use Rattle.patricia_tree.proofs.BulkLemmas.{puts_one_more, stops_at}

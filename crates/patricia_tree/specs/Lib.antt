@@ -1,4 +1,5 @@
 pub mod Bulk
+pub mod Changes
 pub mod Internal
 pub mod Left
 pub mod Lends
@@ -11,6 +12,8 @@ pub use Rattle.patricia_core.specs.Cursors
 pub use Rattle.patricia_core.specs.Keys
 pub use Rattle.patricia_core.specs.Points
 pub use Rattle.patricia_core.specs.Prefixes
+pub use Rattle.patricia_core.specs.RangeWalks
+pub use Rattle.patricia_core.specs.Ranges
 pub use Rattle.patricia_core.specs.Siblings
 pub use Rattle.patricia_core.specs.TextKind
 pub use Rattle.patricia_core.specs.Walks

@@ -14,11 +14,14 @@ ghost use Rattle.patricia_core.specs.Faults.{IsRefusal};
 ghost use Rattle.patricia_core.specs.Writings.{Means, TooDeep};
 
 mod bulk;
+mod changes;
 mod cursors;
 mod debug;
+mod ends;
 mod iterators;
 mod loans;
 mod prefixes;
+mod ranges;
 
 pub use crate::guard::{CursorGuard, IntoMap};
 pub use crate::values::ValueCursor;
@@ -29,6 +32,8 @@ use patricia_core::keys::{BorrowedBytes, Bytes};
 pub use patricia_core::prefixes::{
     CommonPrefixValues, CommonPrefixValuesOwned, CommonPrefixesIter, IterPrefix,
 };
+pub use patricia_core::range::RangeReadCursor;
+pub use patricia_core::ranges::Range;
 pub use patricia_core::tree::Refused;
 use patricia_core::tree::{DecodeError, EncodeError, Narrow, Tree, Wide, WireError};
 pub use patricia_core::under::PrefixReadCursor;

@@ -12,13 +12,17 @@ ghost use Rattle.std.specs.FinMap as map;
 ghost use Rattle.patricia_tree.specs.Siblings.{keys_of};
 
 mod bulk;
+mod changes;
 mod debug;
+mod ends;
 mod iterators;
+mod ranges;
 
 use crate::map::GenericPatriciaMap;
-pub use crate::map::{PrefixReadCursor, ReadCursor};
+pub use crate::map::{PrefixReadCursor, RangeReadCursor, ReadCursor};
 pub use patricia_core::elements::{IntoIter, Iter, IterPrefix};
 use patricia_core::keys::{BorrowedBytes, Bytes};
+pub use patricia_core::ranges::ElementRange;
 use patricia_core::tree::{DecodeError, WireError};
 use std::alloc::{AllocError, Global};
 use std::marker::Model;

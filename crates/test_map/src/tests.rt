@@ -5,4 +5,5 @@ mod loans;
 mod long_keys;
 mod longest_loans;
 mod map_examples;
+mod range_examples;
 mod refused_text;

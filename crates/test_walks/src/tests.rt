@@ -4,4 +4,5 @@ mod drops;
 mod ends;
 mod helpers;
 mod set_examples;
+mod set_range_examples;
 mod slots;
