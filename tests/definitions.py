@@ -7,9 +7,9 @@
 A definition line is a line of crates/*/specs outside specs/Internal that is no import, comment or blank line.
 The words of the library are those that the public clauses of patricia_tree, patricia_keys and patricia_json name,
 those of the iterators of patricia_core, of the cursors that read and of `Steps`; to them the program ptree adds the
-public clauses of patricia_run, and the program prefixes those of prefixes_core. The words of the laws are those that
-the clauses of the law functions (laws.rt and examples.rt) name and no other clause does: they follow from the others,
-and need no belief.
+public clauses of patricia_run, the program prefixes those of prefixes_core, and the functions that C calls those of
+patricia_c. The words of the laws are those that the clauses of the law functions (laws.rt and examples.rt) name and
+no other clause does: they follow from the others, and need no belief.
 
 The words are found by their text: a name in a clause or in a definition that is counted reaches the definition of
 that name in the same file, or in the file that an import brings it from. A definition counts with all its lines,
@@ -30,6 +30,7 @@ LIBRARY = ('patricia_tree/src/**/*.rt', 'patricia_keys/src/**/*.rt', 'patricia_j
            'patricia_walks/src/**/reading.rt', 'patricia_*/src/steps.rt')
 PROGRAM = 'patricia_run/src/**/*.rt', 'ptree/src/**/*.rt'
 PREFIXES = ('prefixes_core/src/**/*.rt',)
+FOR_C = ('patricia_c/src/**/*.rt',)
 LAWS = 'patricia_*/src/laws.rt', 'patricia_*/src/examples.rt'
 SPECS = 'patricia_*/specs/**/*.antt', 'ptree/specs/**/*.antt', 'prefixes_core/specs/**/*.antt'
 
@@ -38,7 +39,7 @@ MODULE = re.compile(r'Rattle\.(\w+)\.specs\.(.+)$')
 NAME = re.compile(r"[^\W\d][\w'-]*(?:\.[^\W\d][\w'-]*)?")
 SIGNED = re.compile(r'(?:(?:unfoldable|abbrev|pub) )*(?:(data|record) ([^\s:]+)|([^\s:]+) :)')
 CONSTRUCTOR = re.compile(r'([^\s:{(→]+) :')
-FUNCTION = re.compile(r'( *)(pub )?(?:pub\([^)]*\) )?(?:const )?fn \w+')
+FUNCTION = re.compile(r'( *)(pub )?(?:pub\([^)]*\) )?(?:const )?(?:extern "C" )?fn \w+')
 CLAUSE = re.compile(r' *(requires|ensures)\b')
 GHOST = re.compile(r'ghost (?!use\b)(\w+)')
 UNSAID = 'coded', 'view', 'invariant'
@@ -212,7 +213,8 @@ def main():
     asked = parser.parse_args()
     library = Reached().add_clauses(LIBRARY)
     both = Reached().add_clauses(LIBRARY).add_clauses(PROGRAM)
-    all_clauses = Reached().add_clauses(LIBRARY).add_clauses(PROGRAM).add_clauses(PREFIXES)
+    programs = Reached().add_clauses(LIBRARY).add_clauses(PROGRAM).add_clauses(PREFIXES)
+    all_clauses = Reached().add_clauses(LIBRARY).add_clauses(PROGRAM).add_clauses(PREFIXES).add_clauses(FOR_C)
     laws = Reached().add_clauses(LAWS)
     whole = {}
     for file in paths(SPECS):
@@ -221,8 +223,9 @@ def main():
             whole[file] = {at for at, line in enumerate(text) if is_counted(line)}
     tell('clauses of the library', library.lines(), library if asked.names else None)
     tell('clauses of the library and the program', both.lines(), both if asked.names else None)
-    besides = without(all_clauses.lines(), both.lines())
-    tell('clauses of prefixes besides', besides, all_clauses if asked.names else None)
+    besides = without(programs.lines(), both.lines())
+    tell('clauses of prefixes besides', besides, programs if asked.names else None)
+    tell('clauses for C besides', without(all_clauses.lines(), programs.lines()), all_clauses if asked.names else None)
     tell('laws alone', without(laws.lines(), all_clauses.lines()), laws if asked.names else None)
     tell('no public clause', without(without(whole, all_clauses.lines()), laws.lines()))
     print('all: %d lines' % sum(map(len, whole.values())))

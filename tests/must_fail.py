@@ -57,7 +57,7 @@ ASKED_FOR = re.compile(r'^pub (\S+) : goal\.', re.M)
 SAID = re.compile(r'(?:note: )?(?:\./)?(\S+?):(\d+):\d+: (.*)')
 NAMES = re.compile(r'has no field|\(nearest: |is not in scope|has no `|was not admitted|is no name|operand is missing'
                    '|expected the end|cannot continue')
-FUNCTION = re.compile(r'^( *)(?:pub(?:\([a-z]+\))? )?fn (\w+)')
+FUNCTION = re.compile(r'^( *)(?:pub(?:\([a-z]+\))? )?(?:extern "C" )?fn (\w+)')
 COMMENT = re.compile('//.*')
 DEFINED = re.compile(r'^ *(?:abbrev )?(?:pub )?(\w+) : ')
 PARTS = 'src', 'specs', 'proofs'
@@ -172,9 +172,10 @@ class Edit:
 class Crate:
     """A crate of crates.txt, with the texts of its files."""
 
-    def __init__(self, name, uses):
-        self.name = name
-        self.folder = os.path.join(ROOT, 'crates', name)
+    def __init__(self, head, uses):
+        self.name, *kind = head.split()
+        self.is_static = kind == ['staticlib']
+        self.folder = os.path.join(ROOT, 'crates', self.name)
         self.uses = uses
         self.texts = {}
         for part in PARTS:
@@ -256,7 +257,8 @@ def differing(commit):
 def all_crates():
     """The crates of crates.txt, by their names."""
     lines = [x.partition(':') for x in read(os.path.join(ROOT, 'crates.txt')).split('\n')]
-    return {name: Crate(name, uses.split()) for name, colon, uses in lines if colon and name[0] != '#'}
+    crates = [Crate(head, uses.split()) for head, colon, uses in lines if colon and head[0] != '#']
+    return {x.name: x for x in crates}
 
 
 class Goal(NamedTuple):
@@ -444,6 +446,7 @@ class Libraries:
             words += ['-L', 'dependency=' + there]
         words += ['--antt-project', self.kit + '/rattle/logic/antt-project.json']
         words += ['--logic-built', self.kit + '/logic_built', '--jobs', '1']
+        words += ['--crate-type', 'staticlib'] * crate.is_static
         return [*words, '--incremental', kept]
 
 

@@ -1,0 +1,41 @@
+-- What holds of a place with nothing on the heap, which stands for the empty map.
+use Rattle.std.proofs.Common.{◌≡◌, ◌-◌, ℕ, Bool, true, false, List, [], None, Option, inl, refl, sym, ap, ◌∙◌, subst}
+use Rattle.std.proofs.lemmas.List.{nil_from_length}
+use Rattle.std.proofs.lemmas.Cmp.{nat_list_cmp_total}
+use Rattle.std.specs.FinMap as map
+use Rattle.std.specs.FinMap.{get-empty, len-empty, len-entries, len-remove, empty_of_len}
+use mathlib.Core.Bool.{cond}
+use Rattle.patricia_tree.specs.ByteKind.{IsByteItem}
+use Rattle.patricia_tree.specs.Keys.{key_cmp}
+use Rattle.patricia_tree.specs.Prefixes.{IsReach}
+use Rattle.patricia_c.specs.declared.map_pointer.StoredMap.{StoredMap}
+use Rattle.patricia_c.specs.Maps.{map_of}
+
+abbrev Map : Type 0
+Map = map.FinMap key_cmp ℕ
+
+empty_rows : map.entries {X = ℕ} (map.empty {R = key_cmp}) ≡ []
+empty_rows = nil_from_length (map.entries map.empty) (sym (len-entries map.empty) ∙ len-empty key_cmp ℕ)
+
+less_none : (b : Bool) (n : ℕ) → n ≡ 0 → cond b (n - 1) n ≡ 0
+less_none true n e = ap (λ m. m - 1) e
+less_none false n e = e
+
+empty_remove : (k : List ℕ) → map.remove {X = ℕ} (map.empty {R = key_cmp}) k ≡ map.empty
+empty_remove k = empty_of_len _ (len-remove nat_list_cmp_total map.empty k ∙ less_none _ _ (len-empty key_cmp ℕ))
+
+module _ (o : Option StoredMap) (none : None ≡ o) where
+  pub none_len : 0 ≡ map.len (map_of o)
+  none_len = subst (λ (o : Option StoredMap). 0 ≡ map.len (map_of o)) none (sym (len-empty key_cmp ℕ))
+
+  pub none_get : (k : List ℕ) → map.get (map_of o) k ≡ None
+  none_get k = subst (λ (o : Option StoredMap). map.get (map_of o) k ≡ None) none (get-empty key_cmp k)
+
+  pub none_rows : map.entries (map_of o) ≡ []
+  none_rows = subst (λ (o : Option StoredMap). map.entries (map_of o) ≡ []) none empty_rows
+
+  pub none_remove : (k : List ℕ) → map.empty ≡ map.remove (map_of o) k
+  none_remove k = subst (λ (o : Option StoredMap). map.empty ≡ map.remove (map_of o) k) none (sym (empty_remove k))
+
+pub none_reach : (k : List ℕ) → IsReach IsByteItem [] k 0
+none_reach k = record { reached = inl (refl, refl); furthest = λ _ m has _. absurd has }

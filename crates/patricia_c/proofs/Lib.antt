@@ -1,0 +1,6 @@
+mod CodeLemmas
+mod EmptyLemmas
+mod MapBox
+mod RawBoxValues
+mod RowLemmas
+mod RowsBox

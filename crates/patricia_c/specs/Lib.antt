@@ -1,0 +1,4 @@
+pub mod Codes
+pub mod Internal
+pub mod Maps
+pub mod Rows

@@ -1,0 +1,195 @@
+//! Tree bytes. The values are stored beside them, in key order, as an iterator gives them.
+ghost use Rattle.std.specs.Prelude.{◌≡◌, ◌≢◌, ◌<◌, length, take, true, false, IfOk, IfErr};
+ghost use Rattle.std.specs.FinMap as map;
+ghost use Rattle.patricia_tree.specs.ByteKind.{IsByteItem};
+ghost use Rattle.patricia_tree.specs.TreeBytes.{AreTreeBytes};
+ghost use Rattle.patricia_tree.specs.Writings.{Means, TooDeep};
+ghost use Rattle.patricia_c.specs.Codes.{IsCode, IsLen, IsRefused};
+ghost use Rattle.patricia_c.specs.Maps.{map_of};
+
+use crate::map_place::MapPlace;
+use patricia_tree::{DecodeError, PatriciaMap, WireError};
+use std::alloc::Global;
+
+/// The bytes were written, or the map was made.
+const DONE: u32 = 0;
+/// Out of memory.
+const NO_MEMORY: u32 = 2;
+/// A record would lie too deep.
+const TOO_DEEP: u32 = 3;
+/// The room is too small: nothing was written to it.
+const NO_ROOM: u32 = 4;
+
+// Copies the bytes to the front of the room, where there is enough of it.
+fn copy_to(room: &mut [u8], bytes: &[u8]) -> bool
+    ensures fits { result ≡ true → take (length bytes.now) room.new ≡ bytes.now }
+    ensures small { result ≡ false → length room.old < length bytes.now }
+{
+    if room.len() < bytes.len() {
+        return false;
+    }
+    room[..bytes.len()].copy_from_slice(bytes);
+    true
+}
+
+// The code of an error, with the offset that it names.
+fn code(error: DecodeError, offset: &mut usize) -> u32
+    ensures code { IsCode error result offset.new }
+    ensures some { result ≢ 0 }
+{
+    let (code, at) = match error {
+        DecodeError::Memory => (NO_MEMORY, 0),
+        DecodeError::Truncated(at) => (12, at),
+        DecodeError::Level(at) => (13, at),
+        DecodeError::RootLabel(at) => (14, at),
+        DecodeError::RootSibling(at) => (15, at),
+        DecodeError::EmptyLabel(at) => (16, at),
+        DecodeError::InvalidLabel(at) => (17, at),
+        DecodeError::SiblingOrder(at) => (18, at),
+        DecodeError::NoValueNoChild(at) => (19, at),
+        DecodeError::TooFewValues(at) => (20, at),
+        DecodeError::TrailingBytes(at) => (21, at),
+        DecodeError::TooManyValues => (22, 0),
+    };
+    *offset = at;
+    code
+}
+
+/// Writes the tree bytes to the room and their number to `len`, and returns `DONE`. Where they are
+/// more than the room, it returns `NO_ROOM`, and `len` is their number. It returns `TOO_DEEP` where
+/// a record would lie deeper than level 65,535, and `NO_MEMORY` where memory ran out.
+#[unsafe(no_mangle)]
+pub extern "C" fn patricia_tree_bytes(
+    alloc: Global,
+    at: &mut MapPlace,
+    room: &mut [u8],
+    len: &mut usize,
+) -> u32
+    ensures kept { map_of at.new.pointer.stored ≡ map_of at.old.pointer.stored }
+    ensures done { result ≡ 0 → AreTreeBytes IsByteItem 2 (take len.new room.new)
+        (map.entries (map_of at.old.pointer.stored)) }
+    ensures too_deep { result ≡ 3 →
+        TooDeep IsByteItem 2 (map.keys (map_of at.old.pointer.stored)) }
+    ensures len { result ≡ 4 → IsLen 2 len.new (map.entries (map_of at.old.pointer.stored)) }
+    ensures small { result ≡ 4 → length room.old < len.new }
+{
+    let Ok(stored) = at.take_or_make(alloc) else {
+        return NO_MEMORY;
+    };
+    let written = stored.map.tree_bytes();
+    at.put(stored);
+    match written {
+        Ok(bytes) => {
+            *len = bytes.len();
+            if copy_to(room, bytes.as_slice()) {
+                DONE
+            } else {
+                NO_ROOM
+            }
+        }
+        Err(WireError::Memory) => NO_MEMORY,
+        Err(_) => TOO_DEEP,
+    }
+}
+
+/// Writes the wide tree bytes, as `patricia_tree_bytes` does the tree bytes. A record would lie too
+/// deep below level 4,294,967,295.
+#[unsafe(no_mangle)]
+pub extern "C" fn patricia_wide_tree_bytes(
+    alloc: Global,
+    at: &mut MapPlace,
+    room: &mut [u8],
+    len: &mut usize,
+) -> u32
+    ensures kept { map_of at.new.pointer.stored ≡ map_of at.old.pointer.stored }
+    ensures done { result ≡ 0 → AreTreeBytes IsByteItem 4 (take len.new room.new)
+        (map.entries (map_of at.old.pointer.stored)) }
+    ensures too_deep { result ≡ 3 →
+        TooDeep IsByteItem 4 (map.keys (map_of at.old.pointer.stored)) }
+    ensures len { result ≡ 4 → IsLen 4 len.new (map.entries (map_of at.old.pointer.stored)) }
+    ensures small { result ≡ 4 → length room.old < len.new }
+{
+    let Ok(stored) = at.take_or_make(alloc) else {
+        return NO_MEMORY;
+    };
+    let written = stored.map.wide_tree_bytes();
+    at.put(stored);
+    match written {
+        Ok(bytes) => {
+            *len = bytes.len();
+            if copy_to(room, bytes.as_slice()) {
+                DONE
+            } else {
+                NO_ROOM
+            }
+        }
+        Err(WireError::Memory) => NO_MEMORY,
+        Err(_) => TOO_DEEP,
+    }
+}
+
+/// Drops the entries of the map and makes it of tree bytes and values, in key order. Returns `DONE`,
+/// `NO_MEMORY`, or the code of the first fault, whose offset it writes to `offset`. Where it does
+/// not return `DONE` the place holds the empty map.
+#[unsafe(no_mangle)]
+pub extern "C" fn patricia_from_tree_bytes(
+    alloc: Global,
+    at: &mut MapPlace,
+    bytes: &[u8],
+    values: &[u64],
+    offset: &mut usize,
+) -> u32
+    ensures done { result ≡ 0 → Means IsByteItem 2 bytes.now values.now
+        (map.entries (map_of at.new.pointer.stored)) }
+    ensures empty { result ≢ 0 → map_of at.new.pointer.stored ≡ map.empty }
+    ensures refused { result ≢ 0 →
+        IsRefused 2 bytes.now (length values.now) result offset.new }
+{
+    drop(at.take());
+    let Ok(mut stored) = at.take_or_make(alloc) else {
+        return code(DecodeError::Memory, offset);
+    };
+    let Ok(values) = Vec::from_slice(alloc, values) else {
+        return code(DecodeError::Memory, offset);
+    };
+    match PatriciaMap::from_wire(alloc, bytes, values) {
+        Ok(map) => {
+            stored.map = map;
+            at.put(stored);
+            DONE
+        }
+        Err(error) => code(error, offset),
+    }
+}
+
+/// Makes the map of wide tree bytes and values, as `patricia_from_tree_bytes` does of tree bytes.
+#[unsafe(no_mangle)]
+pub extern "C" fn patricia_from_wide_tree_bytes(
+    alloc: Global,
+    at: &mut MapPlace,
+    bytes: &[u8],
+    values: &[u64],
+    offset: &mut usize,
+) -> u32
+    ensures done { result ≡ 0 → Means IsByteItem 4 bytes.now values.now
+        (map.entries (map_of at.new.pointer.stored)) }
+    ensures empty { result ≢ 0 → map_of at.new.pointer.stored ≡ map.empty }
+    ensures refused { result ≢ 0 →
+        IsRefused 4 bytes.now (length values.now) result offset.new }
+{
+    drop(at.take());
+    let Ok(mut stored) = at.take_or_make(alloc) else {
+        return code(DecodeError::Memory, offset);
+    };
+    let Ok(values) = Vec::from_slice(alloc, values) else {
+        return code(DecodeError::Memory, offset);
+    };
+    match PatriciaMap::from_wide_wire(alloc, bytes, values) {
+        Ok(map) => {
+            stored.map = map;
+            at.put(stored);
+            DONE
+        }
+        Err(error) => code(error, offset),
+    }
+}

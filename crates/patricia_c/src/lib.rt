@@ -1,0 +1,16 @@
+//! The map for C: keys are byte strings, values numbers of 64 bits.
+//!
+//! `bindings/c/patricia.h` declares what is exported here. Each call takes a place of C, which is
+//! all zero or as a call left it, and its contract says what the place holds before and after: a
+//! finite map, or the rows that an iterator has left.
+#![tactic(auto)]
+
+mod encodings;
+mod iteration;
+mod iterator_place;
+mod map;
+mod map_place;
+mod map_pointer;
+mod prefixes;
+mod raw_box;
+mod rows_pointer;

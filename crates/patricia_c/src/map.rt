@@ -1,0 +1,153 @@
+//! The calls on single entries, and those on the whole map.
+ghost use Rattle.std.specs.Prelude.{◌≡◌, ◌≢◌, ◌≤◌, [], Some, None, true, false, IfOk, OnErr};
+ghost use Rattle.std.specs.FinMap as map;
+ghost use Rattle.patricia_c.specs.Maps.{map_of};
+
+use crate::map_place::MapPlace;
+use crate::map_pointer::StoredMap;
+use std::alloc::{AllocError, Global};
+
+/// The key was not there.
+const ABSENT: u32 = 0;
+/// The key was there.
+const FOUND: u32 = 1;
+/// Out of memory: nothing has changed.
+const NO_MEMORY: u32 = 2;
+
+/// Drops the entries and frees their memory. The place holds the empty map.
+#[unsafe(no_mangle)]
+pub extern "C" fn patricia_free(at: &mut MapPlace)
+    ensures { map_of at.new.pointer.stored ≡ map.empty }
+{
+    drop(at.take());
+}
+
+/// Returns the number of entries.
+#[unsafe(no_mangle)]
+pub extern "C" fn patricia_len(at: &mut MapPlace) -> usize
+    ensures len { result ≡ map.len (map_of at.old.pointer.stored) }
+    ensures kept { map_of at.new.pointer.stored ≡ map_of at.old.pointer.stored }
+{
+    let Some(stored) = at.take() else {
+        return 0;
+    };
+    let len = stored.map.len();
+    at.put(stored);
+    len
+}
+
+/// Returns whether the key is there, and then writes its value.
+#[unsafe(no_mangle)]
+pub extern "C" fn patricia_get(at: &mut MapPlace, key: &[u8], value: &mut u64) -> bool
+    ensures kept { map_of at.new.pointer.stored ≡ map_of at.old.pointer.stored }
+    ensures found { result ≡ true →
+        map.get (map_of at.old.pointer.stored) key.now ≡ Some value.new }
+    ensures missing { result ≡ false → map.get (map_of at.old.pointer.stored) key.now ≡ None }
+    ensures unwritten { result ≡ false → value.new ≡ value.old }
+{
+    let Some(stored) = at.take() else {
+        return false;
+    };
+    let found = stored.map.get(key).copied();
+    at.put(stored);
+    match found {
+        Some(there) => {
+            *value = there;
+            true
+        }
+        None => false,
+    }
+}
+
+/// Inserts a value at a key. Returns `ABSENT` for a new key; `FOUND` where the key was there, and
+/// writes the value that was there to `old`; `NO_MEMORY` where memory ran out.
+#[unsafe(no_mangle)]
+pub extern "C" fn patricia_insert(
+    alloc: Global,
+    at: &mut MapPlace,
+    key: &[u8],
+    value: u64,
+    old: &mut u64,
+) -> u32
+    ensures codes { result ≤ 2 }
+    ensures inserted { result ≢ 2 → map_of at.new.pointer.stored
+        ≡ map.insert (map_of at.old.pointer.stored) key.now value }
+    ensures refused { result ≡ 2 → map_of at.new.pointer.stored ≡ map_of at.old.pointer.stored }
+    ensures only_new { result ≢ 1 → map.get (map_of at.old.pointer.stored) key.now ≡ None }
+    ensures replaced { result ≡ 1 →
+        map.get (map_of at.old.pointer.stored) key.now ≡ Some old.new }
+    ensures unwritten { result ≢ 1 → old.new ≡ old.old }
+{
+    let Ok(mut stored) = at.take_or_make(alloc) else {
+        return NO_MEMORY;
+    };
+    let inserted = stored.map.insert(key, value);
+    at.put(stored);
+    match inserted {
+        Ok(Some(before)) => {
+            *old = before;
+            FOUND
+        }
+        Ok(None) => ABSENT,
+        Err(_) => NO_MEMORY,
+    }
+}
+
+/// Removes a key. Returns `FOUND` where it was there, and writes the value that was there to `old`;
+/// `ABSENT` where it was not; `NO_MEMORY` where memory ran out.
+#[unsafe(no_mangle)]
+pub extern "C" fn patricia_remove(at: &mut MapPlace, key: &[u8], old: &mut u64) -> u32
+    ensures codes { result ≤ 2 }
+    ensures removed { result ≢ 2 →
+        map_of at.new.pointer.stored ≡ map.remove (map_of at.old.pointer.stored) key.now }
+    ensures refused { result ≡ 2 → map_of at.new.pointer.stored ≡ map_of at.old.pointer.stored }
+    ensures missing { result ≡ 0 → map.get (map_of at.old.pointer.stored) key.now ≡ None }
+    ensures found { result ≡ 1 → map.get (map_of at.old.pointer.stored) key.now ≡ Some old.new }
+    ensures unwritten { result ≢ 1 → old.new ≡ old.old }
+{
+    let Some(mut stored) = at.take() else {
+        return ABSENT;
+    };
+    let removed = stored.map.remove(key);
+    at.put(stored);
+    match removed {
+        Ok(Some(before)) => {
+            *old = before;
+            FOUND
+        }
+        Ok(None) => ABSENT,
+        Err(_) => NO_MEMORY,
+    }
+}
+
+// A copy of the map in a box of its own.
+fn copied(alloc: Global, stored: &StoredMap) -> Result<Box<StoredMap>, AllocError>
+    ensures ok { IfOk result (λ b. b.value ≡ stored.now) }
+{
+    let map = stored.map.clone()?;
+    Ok(Box::new(alloc, StoredMap { map })?)
+}
+
+/// Drops the entries of `copy` and writes a copy of the map there. Returns false where memory ran
+/// out: `copy` holds the empty map then.
+#[unsafe(no_mangle)]
+pub extern "C" fn patricia_clone(alloc: Global, at: &mut MapPlace, copy: &mut MapPlace) -> bool
+    ensures kept { map_of at.new.pointer.stored ≡ map_of at.old.pointer.stored }
+    ensures same { result ≡ true →
+        map_of copy.new.pointer.stored ≡ map_of at.old.pointer.stored }
+    ensures refused { result ≡ false → map_of copy.new.pointer.stored ≡ map.empty }
+{
+    drop(copy.take());
+    let Some(stored) = at.take() else {
+        return true;
+    };
+    let made = copied(alloc, &stored);
+    at.put(stored);
+    match made {
+        Ok(same) => {
+            copy.put(same);
+            true
+        }
+        Err(_) => false,
+    }
+}

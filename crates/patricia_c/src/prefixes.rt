@@ -1,0 +1,97 @@
+//! The calls that ask which keys and a key begin alike.
+ghost use Rattle.std.specs.Prelude.{◌≡◌, [], None, true, false};
+ghost use Rattle.std.specs.FinMap as map;
+ghost use Rattle.patricia_tree.specs.ByteKind.{IsByteItem};
+ghost use Rattle.patricia_tree.specs.Prefixes.{IsReach, longest, under, outside};
+ghost use Rattle.patricia_c.specs.Maps.{map_of, is_row};
+
+use crate::map_place::MapPlace;
+use std::alloc::Global;
+
+/// Returns whether some key is a prefix of this one, and then writes the length and the value of the
+/// longest.
+#[unsafe(no_mangle)]
+pub extern "C" fn patricia_longest_prefix(
+    at: &mut MapPlace,
+    key: &[u8],
+    len: &mut usize,
+    value: &mut u64,
+) -> bool
+    ensures kept { map_of at.new.pointer.stored ≡ map_of at.old.pointer.stored }
+    ensures found { result ≡ true →
+        is_row (longest key.now (map.entries (map_of at.old.pointer.stored))) len.new value.new }
+    ensures missing { result ≡ false →
+        longest key.now (map.entries (map_of at.old.pointer.stored)) ≡ None }
+    ensures len_unwritten { result ≡ false → len.new ≡ len.old }
+    ensures value_unwritten { result ≡ false → value.new ≡ value.old }
+{
+    let Some(stored) = at.take() else {
+        return false;
+    };
+    let found = match stored.map.get_longest_common_prefix(key) {
+        Some((front, there)) => Some((front.len(), *there)),
+        None => None,
+    };
+    at.put(stored);
+    match found {
+        Some((n, there)) => {
+            *len = n;
+            *value = there;
+            true
+        }
+        None => false,
+    }
+}
+
+/// Returns the greatest number of bytes that the key has in common with the front of any key, and 0
+/// for the empty map.
+#[unsafe(no_mangle)]
+pub extern "C" fn patricia_longest_common_prefix_len(at: &mut MapPlace, key: &[u8]) -> usize
+    ensures kept { map_of at.new.pointer.stored ≡ map_of at.old.pointer.stored }
+    ensures reach { IsReach IsByteItem (map.keys (map_of at.old.pointer.stored)) key.now result }
+{
+    let Some(stored) = at.take() else {
+        return 0;
+    };
+    let reach = stored.map.longest_common_prefix_len(key);
+    at.put(stored);
+    reach
+}
+
+/// Drops the entries of `part` and moves those whose key begins with the prefix there. Returns false
+/// where memory ran out: `part` holds the empty map then, and the entries stay.
+#[unsafe(no_mangle)]
+pub extern "C" fn patricia_split_by_prefix(
+    alloc: Global,
+    at: &mut MapPlace,
+    prefix: &[u8],
+    part: &mut MapPlace,
+) -> bool
+    ensures taken { result ≡ true → map.entries (map_of part.new.pointer.stored)
+        ≡ under prefix.now (map.entries (map_of at.old.pointer.stored)) }
+    ensures left { result ≡ true → map.entries (map_of at.new.pointer.stored)
+        ≡ outside prefix.now (map.entries (map_of at.old.pointer.stored)) }
+    ensures kept { result ≡ false → map_of at.new.pointer.stored ≡ map_of at.old.pointer.stored }
+    ensures refused { result ≡ false → map_of part.new.pointer.stored ≡ map.empty }
+{
+    drop(part.take());
+    let Some(mut stored) = at.take() else {
+        return true;
+    };
+    let Ok(mut room) = part.take_or_make(alloc) else {
+        at.put(stored);
+        return false;
+    };
+    match stored.map.split_by_prefix(prefix) {
+        Ok(map) => {
+            room.map = map;
+            at.put(stored);
+            part.put(room);
+            true
+        }
+        Err(_) => {
+            at.put(stored);
+            false
+        }
+    }
+}
