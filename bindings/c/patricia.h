@@ -1,0 +1,252 @@
+/* patricia.h - maps and sets of byte strings that share their common prefixes.
+ *
+ * A map goes from keys, which are byte strings of any length, to values of 64 bits. Its keys are in
+ * the order of their bytes. Link with -lpatricia.
+ *
+ * MAPS AND ITERATORS
+ *     A patricia_map, or a patricia_iterator, is an object of the program: two words, which these
+ *     functions alone read and write. One that is all zero bytes is the empty map, or an iterator at
+ *     its end, so it is made by PATRICIA_MAP_INIT or PATRICIA_ITERATOR_INIT, by static storage, by
+ *     calloc or by memset. patricia_free makes a map empty and frees its memory, and
+ *     patricia_iterator_free does so of an iterator; either may be called any number of times.
+ *
+ * RESTRICTIONS
+ *     The program has to see to these. Nothing checks them, and if one is broken the behaviour is
+ *     undefined.
+ *
+ *     - Each map and iterator is all zero bytes, or as the last call left it.
+ *     - A map or an iterator may be moved, by assignment or memcpy, but not copied: once it is moved
+ *       the old object is not used again, unless it is made all zero. patricia_clone makes a copy.
+ *     - Pointers are not null and point to objects of their type. A pointer to bytes or to values
+ *       points to as many as the number that follows it; where that number is 0, it is not null
+ *       either, but may point anywhere. No array has more than PTRDIFF_MAX bytes.
+ *     - Pointers of one call that are written through point to objects of their own: no two are
+ *       equal, and none points into the key, the prefix, the bytes or the values of the call.
+ *     - One call at a time uses a map or an iterator. This holds of calls that only read, too: they
+ *       write to the map while they run. Two threads that share a map use a lock. A map or an
+ *       iterator may go from one thread to another. No function may be called from a handler of
+ *       signals.
+ *     - malloc, realloc and free are those of one allocator.
+ *
+ * ERRORS
+ *     A function that cannot get memory says so by false or by PATRICIA_NO_MEMORY. It has then
+ *     changed nothing but where it says otherwise, and may be called again. A function that returns
+ *     void or size_t, patricia_get and patricia_longest_prefix do not allocate.
+ *
+ * MEMORY
+ *     Memory is asked for by rattle_alloc, rattle_realloc and rattle_dealloc. The library has these
+ *     over malloc, realloc and free. A program that is linked statically may define its own three
+ *     in their place; bindings/c/heap.c says how.
+ *
+ * What each function does to a map is proved, with the restrictions above assumed: the contracts
+ * stand in crates/patricia_c. The declarations here, and the functions whose body stands here, are
+ * tested. */
+#ifndef PATRICIA_H
+#define PATRICIA_H
+
+#include <stdbool.h>
+#include <stddef.h>
+#include <stdint.h>
+#include <stdlib.h>
+
+#ifdef __cplusplus
+extern "C" {
+#endif
+
+typedef struct {
+    bool full;
+    void *at;
+} patricia_map;
+
+typedef struct {
+    bool full;
+    void *at;
+} patricia_iterator;
+
+#define PATRICIA_MAP_INIT {false, NULL}
+#define PATRICIA_ITERATOR_INIT {false, NULL}
+
+/* What functions return. */
+enum {
+    PATRICIA_DONE = 0,   /* the call is done */
+    PATRICIA_ABSENT = 0, /* the key was not there */
+    PATRICIA_END = 0,    /* no entry is left */
+    PATRICIA_FOUND = 1,  /* the key was there */
+    PATRICIA_ENTRY = 1,  /* an entry was written */
+    PATRICIA_NO_MEMORY = 2,
+    PATRICIA_TOO_DEEP = 3, /* the encoding has no room for a level */
+    PATRICIA_NO_ROOM = 4,  /* the array is too small */
+
+    /* Faults of tree bytes, in the order in which the rules for a record are tried. The offset is
+     * that of the first byte of the record, or for PATRICIA_TRAILING_BYTES of the first byte behind
+     * the last record. */
+    PATRICIA_TRUNCATED = 12,         /* the record is cut short */
+    PATRICIA_LEVEL = 13,             /* its level is not its depth by the marks before it */
+    PATRICIA_ROOT_LABEL = 14,        /* the root has a label */
+    PATRICIA_ROOT_SIBLING = 15,      /* the root has a sibling mark */
+    PATRICIA_EMPTY_LABEL = 16,       /* it has no label and is not the root */
+    PATRICIA_INVALID_LABEL = 17,     /* its label is no valid key: never for byte strings */
+    PATRICIA_SIBLING_ORDER = 18,     /* its first byte is not greater than its sibling's before it */
+    PATRICIA_NO_VALUE_NO_CHILD = 19, /* it has no mark and is not the root */
+    PATRICIA_TOO_FEW_VALUES = 20,    /* no value is left for its mark */
+    PATRICIA_TRAILING_BYTES = 21,    /* bytes follow the last record */
+    PATRICIA_TOO_MANY_VALUES = 22    /* values are left over; the offset is 0 */
+};
+
+/* Single entries */
+
+/* Inserts a value at a key. Returns PATRICIA_ABSENT for a new key, or PATRICIA_FOUND where the key
+ * was there: its value is replaced, and the one before is written to *old. PATRICIA_NO_MEMORY: the
+ * map is unchanged. *old is written with PATRICIA_FOUND alone. */
+uint32_t patricia_insert(patricia_map *map, const uint8_t *key, size_t key_len, uint64_t value,
+                         uint64_t *old);
+
+/* Returns whether the key is there, and then writes its value to *value. */
+bool patricia_get(patricia_map *map, const uint8_t *key, size_t key_len, uint64_t *value);
+
+/* Removes a key. Returns PATRICIA_FOUND where it was there, and writes its value to *old, or
+ * PATRICIA_ABSENT where it was not. PATRICIA_NO_MEMORY: the map is unchanged; this may happen where
+ * two nodes become one. *old is written with PATRICIA_FOUND alone. */
+uint32_t patricia_remove(patricia_map *map, const uint8_t *key, size_t key_len, uint64_t *old);
+
+/* The whole map */
+
+/* Returns the number of entries, in constant time. */
+size_t patricia_len(patricia_map *map);
+
+/* Removes all entries and frees all memory of the map. */
+void patricia_free(patricia_map *map);
+
+/* Frees what *copy holds and writes a copy of the map there, in time in proportion to the number of
+ * entries. Returns false where memory runs out: *copy is empty then. */
+bool patricia_clone(patricia_map *map, patricia_map *copy);
+
+/* Prefixes */
+
+/* Returns whether some key of the map is a prefix of this key, the key itself included, and then
+ * writes the length of the longest such key to *prefix_len, and its value to *value. */
+bool patricia_longest_prefix(patricia_map *map, const uint8_t *key, size_t key_len,
+                             size_t *prefix_len, uint64_t *value);
+
+/* Returns how many bytes at the front of this key are also at the front of some key of the map, at
+ * the most; 0 for the empty map. */
+size_t patricia_longest_common_prefix_len(patricia_map *map, const uint8_t *key, size_t key_len);
+
+/* Frees what *part holds, and moves the entries whose key begins with the prefix there. Returns false
+ * where memory runs out: *part is empty then, and all entries stay in the map. */
+bool patricia_split_by_prefix(patricia_map *map, const uint8_t *prefix, size_t prefix_len,
+                              patricia_map *part);
+
+/* Iterators */
+
+/* Frees what *iterator holds, and writes an iterator over the entries whose key begins with the
+ * prefix, in the order of the keys; all entries begin with the empty prefix. The iterator has copies
+ * of them, so the map may be changed or freed meanwhile, and the iterator gives the entries as they
+ * were. Returns false where memory runs out: the iterator is at its end then. */
+bool patricia_iterate(patricia_map *map, const uint8_t *prefix, size_t prefix_len,
+                      patricia_iterator *iterator);
+
+/* Takes the next entry from the iterator. Returns PATRICIA_ENTRY, and writes the key to the array, its
+ * length to *key_len and the value to *value; or PATRICIA_END where none is left. PATRICIA_NO_ROOM:
+ * the key is longer than the array. Its length is written to *key_len, and the entry is still the
+ * next one. */
+uint32_t patricia_iterator_next(patricia_iterator *iterator, uint8_t *array, size_t size,
+                                size_t *key_len, uint64_t *value);
+
+/* Returns the number of entries that the iterator has left. */
+size_t patricia_iterator_len(patricia_iterator *iterator);
+
+/* Frees all memory of the iterator, which is then at its end. */
+void patricia_iterator_free(patricia_iterator *iterator);
+
+/* Tree bytes */
+
+/* Writes the encoding of the keys to the array and its length to *len, and returns PATRICIA_DONE. The
+ * same keys have the same tree bytes, whatever was inserted and removed before. The values are not
+ * encoded: they are to be stored beside the bytes, in the order of the keys. PATRICIA_NO_ROOM: the
+ * array is too small, and *len is the length that it needs. PATRICIA_TOO_DEEP: a record would lie
+ * deeper than level 65,535. PATRICIA_NO_MEMORY. The map is never changed. */
+uint32_t patricia_tree_bytes(patricia_map *map, uint8_t *array, size_t size, size_t *len);
+
+/* The same with levels of four bytes, so that a record may lie as deep as level 4,294,967,295. */
+uint32_t patricia_wide_tree_bytes(patricia_map *map, uint8_t *array, size_t size, size_t *len);
+
+/* Frees what the map holds, and makes it of tree bytes and the values in the order of the keys. Returns
+ * PATRICIA_DONE; or PATRICIA_NO_MEMORY; or the first fault of the bytes or of the number of values,
+ * with its offset in *offset. With each of these the map is empty. *offset is 0 with
+ * PATRICIA_NO_MEMORY, and is not written with PATRICIA_DONE. The bytes may be of any source. */
+uint32_t patricia_from_tree_bytes(patricia_map *map, const uint8_t *bytes, size_t len,
+                                  const uint64_t *values, size_t count, size_t *offset);
+
+/* The same of what patricia_wide_tree_bytes wrote. */
+uint32_t patricia_from_wide_tree_bytes(patricia_map *map, const uint8_t *bytes, size_t len,
+                                       const uint64_t *values, size_t count, size_t *offset);
+
+/* Sets. A set is a map with the value 0 at each of its elements: the functions of a map that have no
+ * other here, as patricia_len, patricia_split_by_prefix, patricia_iterate and patricia_tree_bytes,
+ * take a set as it is. */
+
+typedef patricia_map patricia_set;
+
+#define PATRICIA_SET_INIT PATRICIA_MAP_INIT
+
+/* As patricia_insert: PATRICIA_ABSENT where the element is new, and PATRICIA_FOUND where not. */
+static inline uint32_t patricia_set_insert(patricia_set *set, const uint8_t *element, size_t len)
+{
+    uint64_t old;
+    return patricia_insert(set, element, len, 0, &old);
+}
+
+/* Returns whether the element is there. */
+static inline bool patricia_set_contains(patricia_set *set, const uint8_t *element, size_t len)
+{
+    uint64_t value;
+    return patricia_get(set, element, len, &value);
+}
+
+/* As patricia_remove: PATRICIA_FOUND where the element was there, and PATRICIA_ABSENT where not. */
+static inline uint32_t patricia_set_remove(patricia_set *set, const uint8_t *element, size_t len)
+{
+    uint64_t old;
+    return patricia_remove(set, element, len, &old);
+}
+
+/* Returns whether some element is a prefix of the key, and then writes the length of the longest. */
+static inline bool patricia_set_longest_prefix(patricia_set *set, const uint8_t *key, size_t len,
+                                               size_t *prefix_len)
+{
+    uint64_t value;
+    return patricia_longest_prefix(set, key, len, prefix_len, &value);
+}
+
+/* As patricia_iterator_next, of an iterator over a set. */
+static inline uint32_t patricia_set_iterator_next(patricia_iterator *iterator, uint8_t *array,
+                                                  size_t size, size_t *len)
+{
+    uint64_t value;
+    return patricia_iterator_next(iterator, array, size, len, &value);
+}
+
+/* As patricia_from_tree_bytes, of a set with so many elements. */
+static inline uint32_t patricia_set_from_tree_bytes(patricia_set *set, const uint8_t *bytes,
+                                                    size_t len, size_t elements, size_t *offset)
+{
+    uint64_t none = 0;
+    uint64_t *zeros = elements == 0 ? &none : (uint64_t *)calloc(elements, sizeof *zeros);
+    uint32_t result = PATRICIA_NO_MEMORY;
+    if (zeros == NULL) {
+        patricia_free(set);
+        *offset = 0;
+        return result;
+    }
+    result = patricia_from_tree_bytes(set, bytes, len, zeros, elements, offset);
+    if (zeros != &none)
+        free(zeros);
+    return result;
+}
+
+#ifdef __cplusplus
+}
+#endif
+
+#endif
