@@ -1,0 +1,224 @@
+//! Maps, against std's ordered map, and against what the documentation of `patricia_tree` 0.10.2 says.
+
+use patricia::{DecodeError, PatriciaMap, StringPatriciaMap};
+use std::collections::BTreeMap;
+use std::rc::Rc;
+use std::thread;
+
+/// Numbers without a pattern.
+struct Numbers(u64);
+
+impl Numbers {
+    fn below(&mut self, n: usize) -> usize {
+        self.0 ^= self.0 << 13;
+        self.0 ^= self.0 >> 7;
+        self.0 ^= self.0 << 17;
+        (self.0 % n as u64) as usize
+    }
+}
+
+fn texts() -> Vec<String> {
+    let parts = ["", "a", "b", "é", "è", "long enough to lie on the heap by itself"];
+    let mut texts = Vec::new();
+    for x in parts {
+        for y in parts {
+            for z in parts {
+                texts.push(format!("{}{}{}", x, y, z));
+            }
+        }
+    }
+    texts.sort();
+    texts.dedup();
+    texts
+}
+
+#[test]
+fn it_works() {
+    let mut map = PatriciaMap::new();
+    assert!(map.is_empty());
+    assert_eq!(map.insert("foo", 1), None);
+    assert_eq!(map.insert("bar", 2), None);
+    assert_eq!(map.insert("baz", 3), None);
+    assert_eq!(map.insert("foo", 4), Some(1));
+    assert_eq!(map.len(), 3);
+    assert_eq!(map.get("foo"), Some(&4));
+    assert_eq!(map["bar"], 2);
+    assert!(map.contains_key(b"baz"));
+    assert!(!map.contains_key("ba"));
+    *map.get_mut("bar").unwrap() += 10;
+    assert_eq!(map.remove("bar"), Some(12));
+    assert_eq!(map.remove("bar"), None);
+    map.clear();
+    assert_eq!((map.len(), map.get("foo")), (0, None));
+}
+
+#[test]
+fn longest_common_prefix() {
+    let mut map = PatriciaMap::new();
+    map.insert("foo", 1);
+    map.insert("foobar", 2);
+    assert_eq!(map.get_longest_common_prefix("fo"), None);
+    assert_eq!(map.get_longest_common_prefix("foo"), Some((&b"foo"[..], &1)));
+    assert_eq!(map.get_longest_common_prefix("fooba"), Some((&b"foo"[..], &1)));
+    assert_eq!(map.get_longest_common_prefix("foobarbaz"), Some((&b"foobar"[..], &2)));
+    *map.get_longest_common_prefix_mut("foobarbaz").unwrap().1 = 5;
+    assert_eq!(map["foobar"], 5);
+    assert_eq!(map.longest_common_prefix_len("foof"), 3);
+    let mut texts = StringPatriciaMap::new();
+    texts.insert("é", 1);
+    assert_eq!(texts.longest_common_prefix_len("è"), 0);
+    assert_eq!(texts.longest_common_prefix_len("éa"), 2);
+}
+
+#[test]
+fn common_prefixes() {
+    let map: StringPatriciaMap<u32> =
+        vec![("", 0), ("foo", 1), ("foobar", 2), ("foobaz", 3)].into_iter().collect();
+    let rows: Vec<_> = map.common_prefixes("foobarbaz").collect();
+    assert_eq!(rows, [("", &0), ("foo", &1), ("foobar", &2)]);
+    let values: Vec<_> = map.common_prefix_values("foobaz").copied().collect();
+    assert_eq!(values, [0, 1, 3]);
+}
+
+#[test]
+fn split_by_prefix() {
+    let mut map: StringPatriciaMap<u32> =
+        vec![("rust", 1), ("ruby", 2), ("bash", 3), ("erlang", 4)].into_iter().collect();
+    let mut part = map.split_by_prefix("ru");
+    assert_eq!(part.iter().map(|e| e.0).collect::<Vec<_>>(), ["ruby", "rust"]);
+    assert_eq!(map.keys().collect::<Vec<_>>(), ["bash", "erlang"]);
+    part.insert("x", 9);
+    map.insert("y", 8);
+    assert_eq!((part["rust"], part["ruby"], part["x"], map["y"], map["bash"]), (1, 2, 9, 8, 3));
+    assert_eq!(map.split_by_prefix("").len(), 3);
+    assert!(map.is_empty());
+}
+
+#[test]
+fn iterators() {
+    let mut map: StringPatriciaMap<u32> = vec![("b", 2), ("a", 1), ("ab", 3)].into_iter().collect();
+    assert_eq!(map.iter().len(), 3);
+    assert_eq!(map.values().copied().collect::<Vec<_>>(), [1, 3, 2]);
+    for (key, value) in &mut map {
+        *value += key.len() as u32;
+    }
+    for (_, value) in map.iter_prefix_mut("a") {
+        *value *= 10;
+    }
+    for value in map.values_mut() {
+        *value += 1;
+    }
+    let rows: Vec<_> = map.iter_prefix("a").map(|(key, value)| (key, *value)).collect();
+    assert_eq!(rows, [("a".to_string(), 21), ("ab".to_string(), 51)]);
+    let lent: Vec<&mut u32> = map.values_mut().collect();
+    assert_eq!(lent, [&21, &51, &4]);
+    let mut owned = map.into_iter();
+    assert_eq!(owned.next(), Some(("a".to_string(), 21)));
+}
+
+#[test]
+fn traits() {
+    let mut map: PatriciaMap<u32> = PatriciaMap::default();
+    map.extend(vec![("b", 2), ("a", 1)]);
+    assert_eq!(format!("{:?}", map), "{[97]: 1, [98]: 2}");
+    let mut other = map.clone();
+    assert_eq!(map, other);
+    other.insert("b", 3);
+    assert_ne!(map, other);
+    other.remove("b");
+    assert_ne!(map, other);
+    assert_eq!(map.len(), 2);
+}
+
+#[test]
+fn values_are_dropped_once() {
+    let value = Rc::new(());
+    let mut map = PatriciaMap::new();
+    for i in 0..100_u8 {
+        map.insert([i, i], value.clone());
+    }
+    assert_eq!(Rc::strong_count(&value), 101);
+    map.insert([0, 0], value.clone());
+    map.remove([1, 1]);
+    assert_eq!(Rc::strong_count(&value), 100);
+    let part = map.split_by_prefix([2]);
+    assert_eq!(Rc::strong_count(&value), 100);
+    drop(part);
+    assert_eq!(Rc::strong_count(&value), 99);
+    let copy = map.clone();
+    assert_eq!(Rc::strong_count(&value), 197);
+    let mut owned = copy.into_iter();
+    owned.next();
+    drop(owned);
+    assert_eq!(Rc::strong_count(&value), 99);
+    map.clear();
+    assert_eq!(Rc::strong_count(&value), 1);
+}
+
+#[test]
+fn tree_bytes() {
+    let mut map = PatriciaMap::new();
+    map.insert("a", "one");
+    let bytes = map.tree_bytes().unwrap();
+    assert_eq!(bytes, [12, 0, 0, 0, 3, 1, 0, 1, 97]);
+    assert_eq!(PatriciaMap::from_tree_bytes(&bytes, vec!["one"]).unwrap(), map);
+    let cut = PatriciaMap::from_tree_bytes(&bytes[..8], vec!["one"]).unwrap_err();
+    assert_eq!(cut, DecodeError { code: 12, offset: 4 });
+    assert_eq!(cut.to_string(), "record cut short at 4");
+    let many = PatriciaMap::from_tree_bytes(&bytes, vec!["one", "two"]).unwrap_err();
+    assert_eq!(many.to_string(), "too many values");
+}
+
+#[test]
+fn large_tree_bytes() {
+    let map: PatriciaMap<u32> = (0..1000_u32).map(|i| (i.to_be_bytes(), i)).collect();
+    let bytes = map.tree_bytes().unwrap();
+    let back = PatriciaMap::from_tree_bytes(&bytes, (0..1000).collect()).unwrap();
+    assert_eq!(back, map);
+}
+
+#[test]
+fn another_thread() {
+    let mut map: PatriciaMap<String> = PatriciaMap::new();
+    map.insert("a", "one".to_string());
+    let mut map = thread::spawn(move || {
+        map.insert("b", "two".to_string());
+        map
+    })
+    .join()
+    .unwrap();
+    assert_eq!(map.remove("b").as_deref(), Some("two"));
+}
+
+#[test]
+fn random_calls() {
+    let texts = texts();
+    let mut numbers = Numbers(1);
+    let mut map = StringPatriciaMap::new();
+    let mut model = BTreeMap::new();
+    for n in 0..40_000 {
+        let key = &texts[numbers.below(texts.len())];
+        match numbers.below(100) {
+            0..=44 => assert_eq!(map.insert(key, n), model.insert(key.clone(), n)),
+            45..=84 => assert_eq!(map.remove(key), model.remove(key)),
+            85..=97 => assert_eq!(map.get(key), model.get(key)),
+            98 => {
+                let rows: Vec<_> = map.iter_prefix(key).map(|(k, v)| (k, *v)).collect();
+                let wanted = model.iter().filter(|e| e.0.starts_with(key.as_str()));
+                assert_eq!(rows, wanted.map(|(k, v)| (k.clone(), *v)).collect::<Vec<_>>());
+                let along: Vec<_> = map.common_prefixes(key).map(|e| (e.0, *e.1)).collect();
+                let wanted = model.iter().filter(|e| key.starts_with(e.0.as_str()));
+                assert_eq!(along, wanted.map(|(k, v)| (k.as_str(), *v)).collect::<Vec<_>>());
+            }
+            _ => {
+                let part = map.split_by_prefix(key);
+                let kept = model.clone().into_iter().filter(|e| !e.0.starts_with(key.as_str()));
+                let moved = model.clone().into_iter().filter(|e| e.0.starts_with(key.as_str()));
+                assert!(part.into_iter().eq(moved));
+                model = kept.collect();
+            }
+        }
+        assert_eq!(map.len(), model.len());
+    }
+    assert!(map.into_iter().eq(model));
+}

@@ -1,0 +1,43 @@
+//! Sets.
+
+use patricia::{PatriciaSet, StringPatriciaSet};
+
+#[test]
+fn it_works() {
+    let mut set = PatriciaSet::new();
+    assert!(set.is_empty());
+    assert!(set.insert("foo"));
+    assert!(!set.insert("foo"));
+    assert!(set.insert("foobar"));
+    assert!(set.contains(b"foo"));
+    assert!(!set.contains("fo"));
+    assert_eq!(set.len(), 2);
+    assert_eq!(set.get_longest_common_prefix("foolish"), Some(&b"foo"[..]));
+    assert_eq!(set.longest_common_prefix_len("fooba"), 5);
+    assert_eq!(set.common_prefixes("foobarbaz").count(), 2);
+    assert!(set.remove("foo"));
+    assert!(!set.remove("foo"));
+    set.clear();
+    assert_eq!(set.iter().next(), None);
+}
+
+#[test]
+fn texts() {
+    let mut set: StringPatriciaSet = ["rust", "ruby", "python"].iter().collect();
+    let part = set.split_by_prefix("ru");
+    assert_eq!(part.iter().collect::<Vec<_>>(), ["ruby", "rust"]);
+    assert_eq!(format!("{:?}", set), r#"{"python"}"#);
+    assert_eq!(part.iter_prefix("rus").collect::<Vec<_>>(), ["rust"]);
+    assert_eq!(part.common_prefixes("rusty").collect::<Vec<_>>(), ["rust"]);
+    set.extend(part.clone());
+    assert_eq!(set.into_iter().collect::<Vec<_>>(), ["python", "ruby", "rust"]);
+    assert_ne!(part, StringPatriciaSet::default());
+}
+
+#[test]
+fn tree_bytes() {
+    let set: PatriciaSet = ["", "a", "ab"].iter().collect();
+    let bytes = set.tree_bytes().unwrap();
+    assert_eq!(PatriciaSet::from_tree_bytes(&bytes, 3).unwrap(), set);
+    assert!(PatriciaSet::from_tree_bytes(&bytes, 2).is_err());
+}
