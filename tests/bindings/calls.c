@@ -1,0 +1,229 @@
+/* Each function of patricia.h, on small maps whose answers are written here. */
+#include "check.h"
+#include <patricia.h>
+#include <string.h>
+
+static const uint8_t *bytes_of(const char *text) { return (const uint8_t *)text; }
+
+static uint32_t insert(patricia_map *map, const char *key, uint64_t value, uint64_t *old)
+{
+    return patricia_insert(map, bytes_of(key), strlen(key), value, old);
+}
+
+static bool get(patricia_map *map, const char *key, uint64_t *value)
+{
+    return patricia_get(map, bytes_of(key), strlen(key), value);
+}
+
+static uint32_t removed(patricia_map *map, const char *key, uint64_t *old)
+{
+    return patricia_remove(map, bytes_of(key), strlen(key), old);
+}
+
+/* bar, baz, foo and the empty key */
+static void fill(patricia_map *map)
+{
+    uint64_t old = 77;
+    CHECK(insert(map, "foo", 1, &old) == PATRICIA_ABSENT && old == 77);
+    CHECK(insert(map, "bar", 2, &old) == PATRICIA_ABSENT);
+    CHECK(insert(map, "baz", 3, &old) == PATRICIA_ABSENT);
+    CHECK(insert(map, "", 9, &old) == PATRICIA_ABSENT);
+    CHECK(insert(map, "foo", 4, &old) == PATRICIA_FOUND && old == 1);
+    CHECK(patricia_len(map) == 4);
+}
+
+static void empty_map(void)
+{
+    patricia_map map = PATRICIA_MAP_INIT, other = PATRICIA_MAP_INIT;
+    patricia_iterator iterator = PATRICIA_ITERATOR_INIT;
+    uint64_t value = 77;
+    size_t len = 78;
+    uint8_t array[8];
+    CHECK(patricia_len(&map) == 0);
+    CHECK(!get(&map, "foo", &value) && value == 77);
+    CHECK(removed(&map, "foo", &value) == PATRICIA_ABSENT && value == 77);
+    CHECK(!patricia_longest_prefix(&map, bytes_of("foo"), 3, &len, &value));
+    CHECK(len == 78 && value == 77);
+    CHECK(patricia_longest_common_prefix_len(&map, bytes_of("foo"), 3) == 0);
+    CHECK(patricia_clone(&map, &other) && patricia_len(&other) == 0);
+    CHECK(patricia_split_by_prefix(&map, bytes_of(""), 0, &other) && patricia_len(&other) == 0);
+    CHECK(patricia_iterator_len(&iterator) == 0);
+    CHECK(patricia_iterate(&map, bytes_of(""), 0, &iterator));
+    CHECK(patricia_iterator_next(&iterator, array, sizeof array, &len, &value) == PATRICIA_END);
+    patricia_free(&map);
+    patricia_free(&map);
+    patricia_free(&other);
+    patricia_iterator_free(&iterator);
+    patricia_iterator_free(&iterator);
+}
+
+static void entries(void)
+{
+    patricia_map map = PATRICIA_MAP_INIT;
+    uint64_t value = 77;
+    size_t len = 78;
+    fill(&map);
+    CHECK(get(&map, "baz", &value) && value == 3);
+    CHECK(get(&map, "", &value) && value == 9);
+    value = 77;
+    CHECK(!get(&map, "ba", &value) && value == 77);
+    CHECK(patricia_longest_prefix(&map, bytes_of("foolish"), 7, &len, &value));
+    CHECK(len == 3 && value == 4);
+    CHECK(patricia_longest_prefix(&map, bytes_of("x"), 1, &len, &value) && len == 0 && value == 9);
+    CHECK(patricia_longest_common_prefix_len(&map, bytes_of("bax"), 3) == 2);
+    CHECK(removed(&map, "bar", &value) == PATRICIA_FOUND && value == 2);
+    CHECK(removed(&map, "bar", &value) == PATRICIA_ABSENT && value == 2);
+    CHECK(removed(&map, "", &value) == PATRICIA_FOUND && value == 9);
+    CHECK(patricia_len(&map) == 2 && !get(&map, "bar", &value) && get(&map, "foo", &value));
+    patricia_free(&map);
+    CHECK(patricia_len(&map) == 0 && !get(&map, "foo", &value));
+}
+
+static void two_maps(void)
+{
+    patricia_map map = PATRICIA_MAP_INIT, copy = PATRICIA_MAP_INIT, part = PATRICIA_MAP_INIT;
+    uint64_t value;
+    fill(&map);
+    CHECK(insert(&copy, "dropped", 1, &value) == PATRICIA_ABSENT);
+    CHECK(insert(&part, "dropped", 1, &value) == PATRICIA_ABSENT);
+    CHECK(patricia_clone(&map, &copy) && patricia_len(&copy) == 4 && patricia_len(&map) == 4);
+    CHECK(!get(&copy, "dropped", &value) && get(&copy, "bar", &value) && value == 2);
+    CHECK(patricia_split_by_prefix(&map, bytes_of("ba"), 2, &part));
+    CHECK(patricia_len(&part) == 2 && patricia_len(&map) == 2 && patricia_len(&copy) == 4);
+    CHECK(get(&part, "bar", &value) && value == 2 && !get(&map, "bar", &value));
+    CHECK(!get(&part, "dropped", &value) && get(&map, "foo", &value) && value == 4);
+    CHECK(removed(&copy, "bar", &value) == PATRICIA_FOUND && patricia_len(&copy) == 3);
+    CHECK(get(&part, "bar", &value));
+    patricia_map moved = part;
+    memset(&part, 0, sizeof part);
+    CHECK(patricia_len(&moved) == 2 && patricia_len(&part) == 0);
+    patricia_free(&map);
+    patricia_free(&copy);
+    patricia_free(&part);
+    patricia_free(&moved);
+}
+
+static void iterators(void)
+{
+    patricia_map map = PATRICIA_MAP_INIT;
+    patricia_iterator iterator = PATRICIA_ITERATOR_INIT;
+    uint8_t array[8];
+    uint64_t value;
+    size_t len = 0;
+    fill(&map);
+    CHECK(patricia_iterate(&map, bytes_of("ba"), 2, &iterator));
+    CHECK(removed(&map, "baz", &value) == PATRICIA_FOUND);
+    CHECK(patricia_iterator_len(&iterator) == 2);
+    CHECK(patricia_iterator_next(&iterator, array, 2, &len, &value) == PATRICIA_NO_ROOM && len == 3);
+    CHECK(patricia_iterator_next(&iterator, array, 8, &len, &value) == PATRICIA_ENTRY);
+    CHECK(len == 3 && memcmp(array, "bar", 3) == 0 && value == 2);
+    CHECK(patricia_iterator_len(&iterator) == 1);
+    CHECK(patricia_iterator_next(&iterator, array, 3, &len, &value) == PATRICIA_ENTRY);
+    CHECK(len == 3 && memcmp(array, "baz", 3) == 0 && value == 3);
+    CHECK(patricia_iterator_next(&iterator, array, 8, &len, &value) == PATRICIA_END);
+    CHECK(patricia_iterator_next(&iterator, array, 8, &len, &value) == PATRICIA_END);
+    CHECK(patricia_iterate(&map, bytes_of(""), 0, &iterator));
+    patricia_free(&map);
+    CHECK(patricia_iterator_next(&iterator, array, 0, &len, &value) == PATRICIA_ENTRY);
+    CHECK(len == 0 && value == 9 && patricia_iterator_len(&iterator) == 2);
+    patricia_iterator_free(&iterator);
+    CHECK(patricia_iterator_next(&iterator, array, 8, &len, &value) == PATRICIA_END);
+}
+
+static void encodings(void)
+{
+    static const uint8_t one[] = {12, 0, 0, 0, 3, 1, 0, 1, 'a'};
+    static const uint8_t wide[] = {12, 0, 0, 0, 0, 0, 3, 1, 0, 0, 0, 1, 'a'};
+    const uint64_t values[] = {5, 6, 7};
+    patricia_map map = PATRICIA_MAP_INIT, back = PATRICIA_MAP_INIT;
+    uint8_t array[256];
+    uint64_t value;
+    size_t len = 0, offset = 99;
+    CHECK(insert(&map, "a", 5, &value) == PATRICIA_ABSENT);
+    CHECK(patricia_tree_bytes(&map, array, sizeof one - 1, &len) == PATRICIA_NO_ROOM);
+    CHECK(len == sizeof one);
+    CHECK(patricia_tree_bytes(&map, array, sizeof one, &len) == PATRICIA_DONE);
+    CHECK(len == sizeof one && memcmp(array, one, len) == 0);
+    CHECK(patricia_wide_tree_bytes(&map, array, 0, &len) == PATRICIA_NO_ROOM && len == sizeof wide);
+    CHECK(patricia_wide_tree_bytes(&map, array, sizeof array, &len) == PATRICIA_DONE);
+    CHECK(len == sizeof wide && memcmp(array, wide, len) == 0);
+    CHECK(patricia_from_tree_bytes(&back, one, sizeof one, values, 1, &offset) == PATRICIA_DONE);
+    CHECK(offset == 99 && patricia_len(&back) == 1 && get(&back, "a", &value) && value == 5);
+    CHECK(patricia_from_wide_tree_bytes(&back, wide, sizeof wide, values + 1, 1, &offset) == 0);
+    CHECK(offset == 99 && patricia_len(&back) == 1 && get(&back, "a", &value) && value == 6);
+    CHECK(patricia_from_tree_bytes(&back, wide, sizeof wide, values, 1, &offset) != PATRICIA_DONE);
+    CHECK(patricia_len(&back) == 0);
+    patricia_free(&map);
+    patricia_free(&back);
+}
+
+/* Bytes with so many values are refused by this code and offset. */
+static void refused(const char *bytes, size_t len, size_t count, uint32_t code, size_t at)
+{
+    const uint64_t values[] = {5, 6, 7};
+    patricia_map map = PATRICIA_MAP_INIT;
+    uint64_t old;
+    size_t offset = 99;
+    CHECK(insert(&map, "dropped", 1, &old) == PATRICIA_ABSENT);
+    CHECK(patricia_from_tree_bytes(&map, bytes_of(bytes), len, values, count, &offset) == code);
+    CHECK(offset == at && patricia_len(&map) == 0);
+    patricia_free(&map);
+}
+
+/* The root has 4 bytes: flags, length of the label, level in two bytes. */
+static void faults(void)
+{
+    refused("", 0, 0, PATRICIA_TRUNCATED, 0);
+    refused("\14\0\0\0\3\1\0\1", 8, 1, PATRICIA_TRUNCATED, 4);
+    refused("\14\0\0\0\3\1\0\2a", 9, 1, PATRICIA_LEVEL, 4);
+    refused("\0\1\0\0a", 5, 0, PATRICIA_ROOT_LABEL, 0);
+    refused("\60\0\0\0", 4, 0, PATRICIA_ROOT_SIBLING, 0);
+    refused("\14\0\0\0\3\0\0\1", 8, 1, PATRICIA_EMPTY_LABEL, 4);
+    refused("\14\0\0\0\63\1\0\1b\3\1\0\1a", 14, 2, PATRICIA_SIBLING_ORDER, 9);
+    refused("\14\0\0\0\0\1\0\1a", 9, 0, PATRICIA_NO_VALUE_NO_CHILD, 4);
+    refused("\14\0\0\0\3\1\0\1a", 9, 0, PATRICIA_TOO_FEW_VALUES, 4);
+    refused("\14\0\0\0\3\1\0\1az", 10, 1, PATRICIA_TRAILING_BYTES, 9);
+    refused("\14\0\0\0\3\1\0\1a", 9, 2, PATRICIA_TOO_MANY_VALUES, 0);
+}
+
+static void sets(void)
+{
+    patricia_set set = PATRICIA_SET_INIT, back = PATRICIA_SET_INIT;
+    patricia_iterator iterator = PATRICIA_ITERATOR_INIT;
+    uint8_t array[64], key[8];
+    size_t len = 0, offset = 0;
+    CHECK(patricia_set_insert(&set, bytes_of("foo"), 3) == PATRICIA_ABSENT);
+    CHECK(patricia_set_insert(&set, bytes_of("foo"), 3) == PATRICIA_FOUND);
+    CHECK(patricia_set_insert(&set, bytes_of("foobar"), 6) == PATRICIA_ABSENT);
+    CHECK(patricia_set_contains(&set, bytes_of("foo"), 3));
+    CHECK(!patricia_set_contains(&set, bytes_of("fo"), 2) && patricia_len(&set) == 2);
+    CHECK(patricia_set_longest_prefix(&set, bytes_of("foolish"), 7, &len) && len == 3);
+    CHECK(patricia_tree_bytes(&set, array, sizeof array, &len) == PATRICIA_DONE);
+    CHECK(patricia_set_from_tree_bytes(&back, array, len, 2, &offset) == PATRICIA_DONE);
+    CHECK(patricia_iterate(&back, bytes_of(""), 0, &iterator));
+    CHECK(patricia_set_iterator_next(&iterator, key, sizeof key, &len) == PATRICIA_ENTRY);
+    CHECK(len == 3 && memcmp(key, "foo", 3) == 0);
+    CHECK(patricia_set_iterator_next(&iterator, key, sizeof key, &len) == PATRICIA_ENTRY);
+    CHECK(len == 6 && memcmp(key, "foobar", 6) == 0);
+    CHECK(patricia_set_iterator_next(&iterator, key, sizeof key, &len) == PATRICIA_END);
+    CHECK(patricia_set_from_tree_bytes(&back, array, 4, 0, &offset) == PATRICIA_TRUNCATED);
+    CHECK(offset == 4 && patricia_len(&back) == 0);
+    CHECK(patricia_set_remove(&set, bytes_of("foo"), 3) == PATRICIA_FOUND);
+    CHECK(patricia_set_remove(&set, bytes_of("foo"), 3) == PATRICIA_ABSENT);
+    patricia_free(&set);
+    patricia_free(&back);
+    patricia_iterator_free(&iterator);
+}
+
+int main(void)
+{
+    empty_map();
+    entries();
+    two_maps();
+    iterators();
+    encodings();
+    faults();
+    sets();
+    puts("ok");
+    return 0;
+}

@@ -1,0 +1,233 @@
+/* Random calls on two maps, each held against a plain model: an array with a place for each of 121 keys.
+ *
+ *     model [CALLS [SEED]]
+ */
+#include "check.h"
+#include <patricia.h>
+#include <string.h>
+
+enum { COUNT = 121, LONGEST = 80 };
+
+typedef struct {
+    uint8_t bytes[LONGEST];
+    size_t len;
+} key_text;
+
+typedef struct {
+    patricia_map map;
+    bool has[COUNT];
+    uint64_t value[COUNT];
+} pair;
+
+static key_text keys[COUNT]; /* in the order of their bytes */
+static uint64_t state;
+
+static uint64_t next_number(void)
+{
+    state ^= state << 13;
+    state ^= state >> 7;
+    state ^= state << 17;
+    return state;
+}
+
+static size_t below(size_t n) { return (size_t)(next_number() % n); }
+
+static int compared(const void *a, const void *b)
+{
+    const key_text *x = a, *y = b;
+    int order = memcmp(x->bytes, y->bytes, x->len < y->len ? x->len : y->len);
+    return order != 0 ? order : (x->len > y->len) - (x->len < y->len);
+}
+
+/* Every key of up to four parts, each one byte or nineteen. */
+static void make_keys(void)
+{
+    static const char *const parts[] = {"\1", "nineteen bytes each", "\377"};
+    size_t made = 1, first = 0;
+    for (size_t length = 1; length <= 4; length++) {
+        size_t end = made;
+        for (size_t i = first; i < end; i++)
+            for (size_t part = 0; part < 3; part++) {
+                key_text *to = &keys[made++];
+                *to = keys[i];
+                memcpy(to->bytes + to->len, parts[part], strlen(parts[part]));
+                to->len += strlen(parts[part]);
+            }
+        first = end;
+    }
+    CHECK(made == COUNT);
+    qsort(keys, COUNT, sizeof *keys, compared);
+}
+
+static size_t common(const key_text *a, const key_text *b)
+{
+    size_t n = 0;
+    while (n < a->len && n < b->len && a->bytes[n] == b->bytes[n])
+        n++;
+    return n;
+}
+
+static bool begins(const key_text *prefix, const key_text *key)
+{
+    return common(prefix, key) == prefix->len;
+}
+
+static size_t len_of(const pair *p)
+{
+    size_t n = 0;
+    for (size_t i = 0; i < COUNT; i++)
+        n += p->has[i];
+    return n;
+}
+
+static void empty(pair *p) { memset(p->has, 0, sizeof p->has); }
+
+/* An iterator under a prefix gives what the model has there. */
+static void iterate(pair *p, const key_text *prefix)
+{
+    patricia_iterator iterator = PATRICIA_ITERATOR_INIT;
+    uint8_t array[LONGEST];
+    uint64_t value;
+    size_t len = 0;
+    CHECK(patricia_iterate(&p->map, prefix->bytes, prefix->len, &iterator));
+    for (size_t i = 0; i < COUNT; i++) {
+        if (!p->has[i] || !begins(prefix, &keys[i]))
+            continue;
+        CHECK(patricia_iterator_next(&iterator, array, sizeof array, &len, &value) == PATRICIA_ENTRY);
+        CHECK(len == keys[i].len && memcmp(array, keys[i].bytes, len) == 0 && value == p->value[i]);
+    }
+    CHECK(patricia_iterator_next(&iterator, array, sizeof array, &len, &value) == PATRICIA_END);
+    patricia_iterator_free(&iterator);
+}
+
+static void insert(pair *p, size_t i)
+{
+    uint64_t value = next_number(), old = 77;
+    uint32_t result = patricia_insert(&p->map, keys[i].bytes, keys[i].len, value, &old);
+    CHECK(result == (p->has[i] ? PATRICIA_FOUND : PATRICIA_ABSENT));
+    CHECK(old == (p->has[i] ? p->value[i] : 77));
+    p->has[i] = true;
+    p->value[i] = value;
+}
+
+static void take(pair *p, size_t i)
+{
+    uint64_t old = 77;
+    uint32_t result = patricia_remove(&p->map, keys[i].bytes, keys[i].len, &old);
+    CHECK(result == (p->has[i] ? PATRICIA_FOUND : PATRICIA_ABSENT));
+    CHECK(old == (p->has[i] ? p->value[i] : 77));
+    p->has[i] = false;
+}
+
+static void get(pair *p, size_t i)
+{
+    uint64_t value = 77;
+    CHECK(patricia_get(&p->map, keys[i].bytes, keys[i].len, &value) == p->has[i]);
+    CHECK(value == (p->has[i] ? p->value[i] : 77));
+}
+
+static void ask_prefixes(pair *p, size_t i)
+{
+    size_t len = 78, reach = 0, longest = COUNT;
+    uint64_t value = 77;
+    for (size_t k = 0; k < COUNT; k++) {
+        if (!p->has[k])
+            continue;
+        if (common(&keys[k], &keys[i]) > reach)
+            reach = common(&keys[k], &keys[i]);
+        if (begins(&keys[k], &keys[i]))
+            longest = k;
+    }
+    CHECK(patricia_longest_common_prefix_len(&p->map, keys[i].bytes, keys[i].len) == reach);
+    CHECK(patricia_longest_prefix(&p->map, keys[i].bytes, keys[i].len, &len, &value) ==
+          (longest < COUNT));
+    CHECK(len == (longest < COUNT ? keys[longest].len : 78));
+    CHECK(value == (longest < COUNT ? p->value[longest] : 77));
+}
+
+static void copy(pair *from, pair *to)
+{
+    CHECK(patricia_clone(&from->map, &to->map));
+    memcpy(to->has, from->has, sizeof to->has);
+    memcpy(to->value, from->value, sizeof to->value);
+}
+
+static void split(pair *from, pair *to, size_t i)
+{
+    CHECK(patricia_split_by_prefix(&from->map, keys[i].bytes, keys[i].len, &to->map));
+    for (size_t k = 0; k < COUNT; k++) {
+        to->has[k] = from->has[k] && begins(&keys[i], &keys[k]);
+        to->value[k] = from->value[k];
+        from->has[k] = from->has[k] && !to->has[k];
+    }
+}
+
+/* The map goes through its encoding, or is refused with one value less. */
+static void reload(pair *p, bool is_wide, bool has_all)
+{
+    uint8_t array[COUNT * (LONGEST + 6)];
+    uint64_t values[COUNT];
+    size_t len = 0, count = 0, offset = 99;
+    for (size_t i = 0; i < COUNT; i++)
+        if (p->has[i])
+            values[count++] = p->value[i];
+    CHECK((is_wide ? patricia_wide_tree_bytes : patricia_tree_bytes)(&p->map, array, sizeof array,
+                                                                      &len) == PATRICIA_DONE);
+    if (!has_all && count > 0)
+        count--;
+    else
+        has_all = true;
+    uint32_t result = (is_wide ? patricia_from_wide_tree_bytes : patricia_from_tree_bytes)(
+        &p->map, array, len, values, count, &offset);
+    CHECK(result == (has_all ? PATRICIA_DONE : PATRICIA_TOO_FEW_VALUES));
+    CHECK(has_all ? offset == 99 : offset < len);
+    if (!has_all)
+        empty(p);
+}
+
+static void call(pair *p, pair *other)
+{
+    size_t i = below(COUNT), kind = below(1000);
+    if (kind < 350)
+        insert(p, i);
+    else if (kind < 600)
+        take(p, i);
+    else if (kind < 950)
+        get(p, i);
+    else if (kind < 970)
+        ask_prefixes(p, i);
+    else if (kind < 980)
+        CHECK(patricia_len(&p->map) == len_of(p));
+    else if (kind < 986)
+        iterate(p, &keys[i]);
+    else if (kind < 989)
+        copy(p, other);
+    else if (kind < 993)
+        split(p, other, i);
+    else if (kind < 996)
+        reload(p, below(2) != 0, below(4) != 0);
+    else if (kind < 999) {
+        pair moved = *p;
+        *p = *other;
+        *other = moved;
+    } else {
+        patricia_free(&p->map);
+        empty(p);
+    }
+}
+
+int main(int count, char **words)
+{
+    static pair first, second;
+    long calls = count > 1 ? atol(words[1]) : 1000000;
+    state = count > 2 ? strtoull(words[2], NULL, 10) : 1;
+    make_keys();
+    for (long n = 0; n < calls; n++)
+        call(&first, &second);
+    iterate(&first, &keys[0]);
+    iterate(&second, &keys[0]);
+    patricia_free(&first.map);
+    patricia_free(&second.map);
+    printf("ok, %ld calls\n", calls);
+    return 0;
+}

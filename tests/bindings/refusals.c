@@ -1,0 +1,202 @@
+/* Each memory request is refused in turn: the functions say so, the map is as they promise, and all
+ * memory is freed. This program has a heap of its own, which the library uses. */
+#include "check.h"
+#include <patricia.h>
+#include <string.h>
+
+typedef struct {
+    bool ok;
+    void *at;
+} block;
+
+static char nowhere[16];
+static long before_refusal = -1;
+static long live = 0;
+
+static bool is_refused(void) { return before_refusal >= 0 && before_refusal-- == 0; }
+
+block rattle_alloc(size_t size, size_t align);
+block rattle_realloc(void *at, size_t kept, size_t size, size_t align);
+void rattle_dealloc(void *at);
+
+static block made(void *at)
+{
+    block result = {at != NULL, at != NULL ? at : (void *)nowhere};
+    return result;
+}
+
+block rattle_alloc(size_t size, size_t align)
+{
+    if (is_refused())
+        return made(NULL);
+    live++;
+    return made(malloc(size != 0 ? size : align));
+}
+
+block rattle_realloc(void *at, size_t kept, size_t size, size_t align)
+{
+    (void)kept;
+    if (is_refused())
+        return made(NULL);
+    return made(realloc(at, size != 0 ? size : align));
+}
+
+void rattle_dealloc(void *at)
+{
+    live--;
+    free(at);
+}
+
+static const char *const KEYS[] = {"a longer key than a label holds in place", "a longer key", "a", "b", "",
+                                   "a longer kex", "another key that is long enough for a heap"};
+enum { COUNT = sizeof KEYS / sizeof *KEYS };
+
+static const uint8_t *key(size_t i) { return (const uint8_t *)KEYS[i]; }
+
+/* Inserts the keys, and checks that the map has those that were not refused. Returns how many were. */
+static size_t filled(patricia_map *map, bool *has)
+{
+    size_t refused = 0, len = 0;
+    for (size_t i = 0; i < COUNT; i++) {
+        uint64_t old = 77, value = 77;
+        uint32_t result = patricia_insert(map, key(i), strlen(KEYS[i]), i, &old);
+        CHECK(old == 77 && (result == PATRICIA_ABSENT || result == PATRICIA_NO_MEMORY));
+        has[i] = result == PATRICIA_ABSENT;
+        len += has[i];
+        refused += !has[i];
+        CHECK(patricia_len(map) == len);
+        CHECK(patricia_get(map, key(i), strlen(KEYS[i]), &value) == has[i]);
+        CHECK(value == (has[i] ? i : 77));
+    }
+    return refused;
+}
+
+/* The map has these keys and no others. */
+static void is_as(patricia_map *map, const bool *has)
+{
+    size_t len = 0;
+    for (size_t i = 0; i < COUNT; i++) {
+        uint64_t value = 77;
+        CHECK(patricia_get(map, key(i), strlen(KEYS[i]), &value) == has[i]);
+        CHECK(value == (has[i] ? i : 77));
+        len += has[i];
+    }
+    CHECK(patricia_len(map) == len);
+}
+
+static size_t iterated(patricia_map *map, patricia_iterator *iterator)
+{
+    uint8_t array[128];
+    uint64_t value;
+    size_t len, entries = 0;
+    if (!patricia_iterate(map, array, 0, iterator)) {
+        CHECK(patricia_iterator_next(iterator, array, sizeof array, &len, &value) == PATRICIA_END);
+        return 1;
+    }
+    long requests = before_refusal;
+    while (patricia_iterator_next(iterator, array, sizeof array, &len, &value) == PATRICIA_ENTRY)
+        entries++;
+    CHECK(entries == patricia_len(map) && requests == before_refusal);
+    return 0;
+}
+
+typedef uint32_t writer(patricia_map *map, uint8_t *array, size_t size, size_t *len);
+typedef uint32_t reader(patricia_map *map, const uint8_t *bytes, size_t len, const uint64_t *values,
+                        size_t count, size_t *offset);
+
+static size_t encoded(patricia_map *map, patricia_map *back, writer *to, reader *from)
+{
+    const uint64_t values[COUNT] = {0};
+    uint8_t array[1024];
+    size_t len = 0, offset = 99;
+    uint32_t result = to(map, array, sizeof array, &len);
+    if (result == PATRICIA_NO_MEMORY)
+        return 1;
+    CHECK(result == PATRICIA_DONE);
+    result = from(back, array, len, values, patricia_len(map), &offset);
+    if (result == PATRICIA_NO_MEMORY) {
+        CHECK(patricia_len(back) == 0 && offset == 0);
+        return 1;
+    }
+    CHECK(result == PATRICIA_DONE && patricia_len(back) == patricia_len(map) && offset == 99);
+    return 0;
+}
+
+static size_t cloned(patricia_map *map, patricia_map *copy, const bool *has)
+{
+    if (patricia_clone(map, copy)) {
+        is_as(copy, has);
+        return 0;
+    }
+    CHECK(patricia_len(copy) == 0);
+    return 1;
+}
+
+static size_t split(patricia_map *map, patricia_map *part, bool *has)
+{
+    bool is_split = patricia_split_by_prefix(map, (const uint8_t *)"a longer", 8, part);
+    bool in_part[COUNT];
+    for (size_t i = 0; i < COUNT; i++) {
+        in_part[i] = is_split && has[i] && strncmp(KEYS[i], "a longer", 8) == 0;
+        has[i] = has[i] && !in_part[i];
+    }
+    is_as(part, in_part);
+    return !is_split;
+}
+
+static size_t without(patricia_map *map, bool *has, size_t i)
+{
+    uint64_t old = 77;
+    uint32_t result = patricia_remove(map, key(i), strlen(KEYS[i]), &old);
+    CHECK(result == (has[i] ? PATRICIA_FOUND : PATRICIA_ABSENT) || result == PATRICIA_NO_MEMORY);
+    CHECK(old == (result == PATRICIA_FOUND ? i : 77));
+    has[i] = has[i] && result != PATRICIA_FOUND;
+    return result == PATRICIA_NO_MEMORY;
+}
+
+/* One run, in which the request of this number is refused. Returns how many calls were refused. */
+static size_t run(long number)
+{
+    patricia_map map = PATRICIA_MAP_INIT, copy = PATRICIA_MAP_INIT, back = PATRICIA_MAP_INIT;
+    patricia_map part = PATRICIA_MAP_INIT;
+    patricia_iterator iterator = PATRICIA_ITERATOR_INIT;
+    bool has[COUNT];
+    before_refusal = number;
+    size_t refused = filled(&map, has);
+    refused += cloned(&map, &copy, has);
+    is_as(&map, has);
+    refused += iterated(&map, &iterator);
+    is_as(&map, has);
+    refused += encoded(&map, &back, patricia_tree_bytes, patricia_from_tree_bytes);
+    refused += encoded(&map, &back, patricia_wide_tree_bytes, patricia_from_wide_tree_bytes);
+    is_as(&map, has);
+    for (size_t i = 2; i < 5; i++) {
+        refused += without(&map, has, i);
+        is_as(&map, has);
+    }
+    refused += split(&map, &part, has);
+    is_as(&map, has);
+    patricia_free(&map);
+    patricia_free(&copy);
+    patricia_free(&back);
+    patricia_free(&part);
+    patricia_iterator_free(&iterator);
+    CHECK(live == 0);
+    return refused;
+}
+
+int main(void)
+{
+    size_t refused = 0;
+    for (long number = 0;; number++) {
+        size_t calls = run(number);
+        CHECK(calls <= 1);
+        if (before_refusal >= 0) {
+            CHECK(calls == 0 && number > 20);
+            break;
+        }
+        refused += calls;
+    }
+    printf("ok, %zu calls refused\n", refused);
+    return 0;
+}
