@@ -20,13 +20,17 @@ fn installed() -> Option<PathBuf> {
 
 fn main() {
     println!("cargo:rerun-if-env-changed=PATRICIA_LIB_DIR");
-    let built = Path::new(&env::var_os("CARGO_MANIFEST_DIR").expect("cargo sets it")).join("../c/out");
+    let built =
+        Path::new(&env::var_os("CARGO_MANIFEST_DIR").expect("cargo sets it")).join("../c/out");
     let folder = match env::var_os("PATRICIA_LIB_DIR") {
         Some(folder) => PathBuf::from(folder),
         None if built.join("libpatricia.a").exists() => built,
         None => installed().expect("build libpatricia.a by `make -C bindings/c`, or install it"),
     };
-    println!("cargo:rerun-if-changed={}", folder.join("libpatricia.a").display());
+    println!(
+        "cargo:rerun-if-changed={}",
+        folder.join("libpatricia.a").display()
+    );
     println!("cargo:rustc-link-search=native={}", folder.display());
     println!("cargo:rustc-link-lib=static=patricia");
 }

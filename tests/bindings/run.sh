@@ -1,6 +1,6 @@
 #!/bin/bash
-# Tests what C, C++, Python and Rust see of the library: builds the archive of the proved crate patricia_c where it is not
-# there yet, installs it into a folder of its own, and compiles and runs programs against what was installed.
+# Tests what C, C++, Python and Rust see of the library: builds the archive of the proved crate patricia_c where it is
+# not there yet, installs it into a folder of its own, and compiles and runs programs against what was installed.
 #
 #     tests/bindings/run.sh
 #
@@ -19,7 +19,7 @@ WARNINGS='-Wall -Wextra -Wpedantic -Werror'
 MOST_SECONDS=300
 
 note() { # name, 0 where it passed
-    if [ "$2" -eq 0 ]; then passed=$((passed + 1)); echo "passed: $1"; else failed=$((failed + 1)); echo "FAILED: $1"; fi
+    if [ "$2" -eq 0 ]; then echo "passed: $1"; passed=$((passed + 1)); else echo "FAILED: $1"; failed=$((failed + 1)); fi
 }
 
 finish() {
@@ -115,6 +115,9 @@ if has "$CXX"; then
 else
     echo "c++ is not installed"
 fi
+
+python3 -B tests/bindings/declared.py
+note "what is declared is what is exported" $?
 
 # The examples of docs/BINDINGS.md are run as they stand there.
 python3 -B tests/bindings/documented.py "$room" "$($pkg_config --cflags --libs patricia)"

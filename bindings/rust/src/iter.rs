@@ -94,7 +94,10 @@ impl<'a, K: Key, V> Iterator for IterMut<'a, K, V> {
     fn next(&mut self) -> Option<Self::Item> {
         let (key, number) = self.rows.next()?;
         let value = self.values[number as usize].take();
-        Some((K::from_bytes(key), value.expect("each number is of one key")))
+        Some((
+            K::from_bytes(key),
+            value.expect("each number is of one key"),
+        ))
     }
 }
 

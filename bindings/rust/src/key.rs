@@ -11,6 +11,9 @@ pub trait Key: sealed::Sealed + Sized {
     /// A key that is borrowed.
     type Borrowed: ?Sized;
 
+    /// The key, borrowed.
+    fn borrowed(&self) -> &Self::Borrowed;
+
     /// The bytes of a key.
     fn bytes(key: &Self::Borrowed) -> &[u8];
 
@@ -26,6 +29,10 @@ pub trait Key: sealed::Sealed + Sized {
 
 impl Key for Vec<u8> {
     type Borrowed = [u8];
+
+    fn borrowed(&self) -> &[u8] {
+        self
+    }
 
     fn bytes(key: &[u8]) -> &[u8] {
         key
@@ -46,6 +53,10 @@ impl Key for Vec<u8> {
 
 impl Key for String {
     type Borrowed = str;
+
+    fn borrowed(&self) -> &str {
+        self
+    }
 
     fn bytes(key: &str) -> &[u8] {
         key.as_bytes()

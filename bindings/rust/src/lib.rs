@@ -14,8 +14,8 @@
 //! assert_eq!(map.get_longest_common_prefix("/blog/2024"), Some(("/blog", &"blog")));
 //! ```
 //!
-//! Not here: `Sync`, since the library's functions write to a map while they read it; nodes; kinds of
-//! keys of the caller's own; serde. An iterator has copies of the keys that it gives.
+//! Not here: `Sync`, since the library's functions write to a map while they read it; nodes; kinds
+//! of keys of the caller's own; serde. An iterator has copies of the keys that it gives.
 //!
 //! Where memory runs out the process ends, as it does with std's collections.
 

@@ -121,12 +121,18 @@ impl<K: Key, V> GenericPatriciaMap<K, V> {
     }
 
     /// Returns the values of the keys that are prefixes of this one, that of the shortest first.
-    pub fn common_prefix_values<'a, 'b: 'a, Q>(&'a self, key: &'b Q) -> impl Iterator<Item = &'a V>
+    pub fn common_prefix_values<Q>(&self, key: &Q) -> impl Iterator<Item = &V>
     where
         Q: ?Sized + AsRef<K::Borrowed>,
-        K::Borrowed: 'b,
     {
-        self.common_prefixes(key).map(|entry| entry.1)
+        let rows = self.tree.along(K::bytes(key.as_ref()));
+        rows.into_iter().map(move |row| self.values.get(row.1))
+    }
+
+    /// As `common_prefix_values`, of a key that the iterator drops.
+    pub fn common_prefix_values_owned(&self, key: K) -> impl Iterator<Item = &V> {
+        let rows = self.tree.along(K::bytes(key.borrowed()));
+        rows.into_iter().map(move |row| self.values.get(row.1))
     }
 
     /// Removes the entries whose key begins with the prefix, and returns them as a map.

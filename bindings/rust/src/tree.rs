@@ -140,8 +140,8 @@ impl Tree {
     }
 
     pub(crate) fn len(&self) -> usize {
-        // SAFETY: the place is empty or as the last call left it, and no other call uses it: the tree
-        // is not Sync, and no call calls back.
+        // SAFETY: the place is empty or as the last call left it, and no other call uses it: the
+        // tree is not Sync, and no call calls back.
         unsafe { patricia_len(self.place.get()) }
     }
 
@@ -165,9 +165,8 @@ impl Tree {
     pub(crate) fn insert(&mut self, key: &[u8], number: u64) -> Option<u64> {
         let mut old = 0;
         // SAFETY: as in `get`.
-        let result = unsafe {
-            patricia_insert(self.place.get(), key.as_ptr(), key.len(), number, &mut old)
-        };
+        let result =
+            unsafe { patricia_insert(self.place.get(), key.as_ptr(), key.len(), number, &mut old) };
         match result {
             FOUND => Some(old),
             NO_MEMORY => out_of_memory(),
@@ -271,12 +270,7 @@ impl Tree {
             let mut len = 0;
             // SAFETY: the place as in `len`; the vector has as many bytes as its length says.
             let result = unsafe {
-                patricia_tree_bytes(
-                    self.place.get(),
-                    bytes.as_mut_ptr(),
-                    bytes.len(),
-                    &mut len,
-                )
+                patricia_tree_bytes(self.place.get(), bytes.as_mut_ptr(), bytes.len(), &mut len)
             };
             match result {
                 NO_ROOM => bytes.resize(len, 0),

@@ -1,4 +1,4 @@
-//! Maps, against std's ordered map, and against what the documentation of `patricia_tree` 0.10.2 says.
+//! Maps, against std's ordered map, and against what `patricia_tree` 0.10.2 documents.
 
 use patricia::{DecodeError, PatriciaMap, StringPatriciaMap};
 use std::collections::BTreeMap;
@@ -18,7 +18,14 @@ impl Numbers {
 }
 
 fn texts() -> Vec<String> {
-    let parts = ["", "a", "b", "é", "è", "long enough to lie on the heap by itself"];
+    let parts = [
+        "",
+        "a",
+        "b",
+        "é",
+        "è",
+        "long enough to lie on the heap by itself",
+    ];
     let mut texts = Vec::new();
     for x in parts {
         for y in parts {
@@ -58,9 +65,18 @@ fn longest_common_prefix() {
     map.insert("foo", 1);
     map.insert("foobar", 2);
     assert_eq!(map.get_longest_common_prefix("fo"), None);
-    assert_eq!(map.get_longest_common_prefix("foo"), Some((&b"foo"[..], &1)));
-    assert_eq!(map.get_longest_common_prefix("fooba"), Some((&b"foo"[..], &1)));
-    assert_eq!(map.get_longest_common_prefix("foobarbaz"), Some((&b"foobar"[..], &2)));
+    assert_eq!(
+        map.get_longest_common_prefix("foo"),
+        Some((&b"foo"[..], &1))
+    );
+    assert_eq!(
+        map.get_longest_common_prefix("fooba"),
+        Some((&b"foo"[..], &1))
+    );
+    assert_eq!(
+        map.get_longest_common_prefix("foobarbaz"),
+        Some((&b"foobar"[..], &2))
+    );
     *map.get_longest_common_prefix_mut("foobarbaz").unwrap().1 = 5;
     assert_eq!(map["foobar"], 5);
     assert_eq!(map.longest_common_prefix_len("foof"), 3);
@@ -72,24 +88,34 @@ fn longest_common_prefix() {
 
 #[test]
 fn common_prefixes() {
-    let map: StringPatriciaMap<u32> =
-        vec![("", 0), ("foo", 1), ("foobar", 2), ("foobaz", 3)].into_iter().collect();
+    let map: StringPatriciaMap<u32> = vec![("", 0), ("foo", 1), ("foobar", 2), ("foobaz", 3)]
+        .into_iter()
+        .collect();
     let rows: Vec<_> = map.common_prefixes("foobarbaz").collect();
     assert_eq!(rows, [("", &0), ("foo", &1), ("foobar", &2)]);
     let values: Vec<_> = map.common_prefix_values("foobaz").copied().collect();
     assert_eq!(values, [0, 1, 3]);
+    assert_eq!(map.common_prefix_values_owned("fo".to_string()).count(), 1);
 }
 
 #[test]
 fn split_by_prefix() {
     let mut map: StringPatriciaMap<u32> =
-        vec![("rust", 1), ("ruby", 2), ("bash", 3), ("erlang", 4)].into_iter().collect();
+        vec![("rust", 1), ("ruby", 2), ("bash", 3), ("erlang", 4)]
+            .into_iter()
+            .collect();
     let mut part = map.split_by_prefix("ru");
-    assert_eq!(part.iter().map(|e| e.0).collect::<Vec<_>>(), ["ruby", "rust"]);
+    assert_eq!(
+        part.iter().map(|e| e.0).collect::<Vec<_>>(),
+        ["ruby", "rust"]
+    );
     assert_eq!(map.keys().collect::<Vec<_>>(), ["bash", "erlang"]);
     part.insert("x", 9);
     map.insert("y", 8);
-    assert_eq!((part["rust"], part["ruby"], part["x"], map["y"], map["bash"]), (1, 2, 9, 8, 3));
+    assert_eq!(
+        (part["rust"], part["ruby"], part["x"], map["y"], map["bash"]),
+        (1, 2, 9, 8, 3)
+    );
     assert_eq!(map.split_by_prefix("").len(), 3);
     assert!(map.is_empty());
 }
@@ -108,7 +134,10 @@ fn iterators() {
     for value in map.values_mut() {
         *value += 1;
     }
-    let rows: Vec<_> = map.iter_prefix("a").map(|(key, value)| (key, *value)).collect();
+    let rows: Vec<_> = map
+        .iter_prefix("a")
+        .map(|(key, value)| (key, *value))
+        .collect();
     assert_eq!(rows, [("a".to_string(), 21), ("ab".to_string(), 51)]);
     let lent: Vec<&mut u32> = map.values_mut().collect();
     assert_eq!(lent, [&21, &51, &4]);
@@ -161,9 +190,18 @@ fn tree_bytes() {
     map.insert("a", "one");
     let bytes = map.tree_bytes().unwrap();
     assert_eq!(bytes, [12, 0, 0, 0, 3, 1, 0, 1, 97]);
-    assert_eq!(PatriciaMap::from_tree_bytes(&bytes, vec!["one"]).unwrap(), map);
+    assert_eq!(
+        PatriciaMap::from_tree_bytes(&bytes, vec!["one"]).unwrap(),
+        map
+    );
     let cut = PatriciaMap::from_tree_bytes(&bytes[..8], vec!["one"]).unwrap_err();
-    assert_eq!(cut, DecodeError { code: 12, offset: 4 });
+    assert_eq!(
+        cut,
+        DecodeError {
+            code: 12,
+            offset: 4
+        }
+    );
     assert_eq!(cut.to_string(), "record cut short at 4");
     let many = PatriciaMap::from_tree_bytes(&bytes, vec!["one", "two"]).unwrap_err();
     assert_eq!(many.to_string(), "too many values");
@@ -205,15 +243,27 @@ fn random_calls() {
             98 => {
                 let rows: Vec<_> = map.iter_prefix(key).map(|(k, v)| (k, *v)).collect();
                 let wanted = model.iter().filter(|e| e.0.starts_with(key.as_str()));
-                assert_eq!(rows, wanted.map(|(k, v)| (k.clone(), *v)).collect::<Vec<_>>());
+                assert_eq!(
+                    rows,
+                    wanted.map(|(k, v)| (k.clone(), *v)).collect::<Vec<_>>()
+                );
                 let along: Vec<_> = map.common_prefixes(key).map(|e| (e.0, *e.1)).collect();
                 let wanted = model.iter().filter(|e| key.starts_with(e.0.as_str()));
-                assert_eq!(along, wanted.map(|(k, v)| (k.as_str(), *v)).collect::<Vec<_>>());
+                assert_eq!(
+                    along,
+                    wanted.map(|(k, v)| (k.as_str(), *v)).collect::<Vec<_>>()
+                );
             }
             _ => {
                 let part = map.split_by_prefix(key);
-                let kept = model.clone().into_iter().filter(|e| !e.0.starts_with(key.as_str()));
-                let moved = model.clone().into_iter().filter(|e| e.0.starts_with(key.as_str()));
+                let kept = model
+                    .clone()
+                    .into_iter()
+                    .filter(|e| !e.0.starts_with(key.as_str()));
+                let moved = model
+                    .clone()
+                    .into_iter()
+                    .filter(|e| e.0.starts_with(key.as_str()));
                 assert!(part.into_iter().eq(moved));
                 model = kept.collect();
             }

@@ -30,7 +30,10 @@ fn texts() {
     assert_eq!(part.iter_prefix("rus").collect::<Vec<_>>(), ["rust"]);
     assert_eq!(part.common_prefixes("rusty").collect::<Vec<_>>(), ["rust"]);
     set.extend(part.clone());
-    assert_eq!(set.into_iter().collect::<Vec<_>>(), ["python", "ruby", "rust"]);
+    assert_eq!(
+        set.into_iter().collect::<Vec<_>>(),
+        ["python", "ruby", "rust"]
+    );
     assert_ne!(part, StringPatriciaSet::default());
 }
 
