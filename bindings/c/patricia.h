@@ -148,8 +148,8 @@ bool patricia_iterate(patricia_map *map, const uint8_t *prefix, size_t prefix_le
 
 /* Takes the next entry from the iterator. Returns PATRICIA_ENTRY, and writes the key to the array, its
  * length to *key_len and the value to *value; or PATRICIA_END where none is left. PATRICIA_NO_ROOM:
- * the key is longer than the array. Its length is written to *key_len, and the entry is still the
- * next one. */
+ * the key is longer than the array. Its length is written to *key_len and nothing to the others, and
+ * the entry is still the next one. */
 uint32_t patricia_iterator_next(patricia_iterator *iterator, uint8_t *array, size_t size,
                                 size_t *key_len, uint64_t *value);
 
@@ -164,8 +164,8 @@ void patricia_iterator_free(patricia_iterator *iterator);
 /* Writes the encoding of the keys to the array and its length to *len, and returns PATRICIA_DONE. The
  * same keys have the same tree bytes, whatever was inserted and removed before. The values are not
  * encoded: they are to be stored beside the bytes, in the order of the keys. PATRICIA_NO_ROOM: the
- * array is too small, and *len is the length that it needs. PATRICIA_TOO_DEEP: a record would lie
- * deeper than level 65,535. PATRICIA_NO_MEMORY. The map is never changed. */
+ * array is too small and is not written, and *len is the length that it needs. PATRICIA_TOO_DEEP: a
+ * record would lie deeper than level 65,535. PATRICIA_NO_MEMORY. The map is never changed. */
 uint32_t patricia_tree_bytes(patricia_map *map, uint8_t *array, size_t size, size_t *len);
 
 /* The same with levels of four bytes, so that a record may lie as deep as level 4,294,967,295. */

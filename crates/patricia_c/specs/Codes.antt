@@ -11,10 +11,10 @@ use Rattle.patricia_wire.specs.declared.error.DecodeError.TheVariants.{SiblingOr
 use Rattle.patricia_wire.specs.declared.error.DecodeError.TheVariants.{TooFewValues, TrailingBytes}
 use Rattle.patricia_wire.specs.declared.error.DecodeError.TheVariants.{TooManyValues}
 
--- the code of an error: 2 where memory ran out, else 10 more than the number of the rule that is
--- broken; with the offset that the error names
+-- the code of an error, 2 where memory ran out, else 10 more than the number of the rule that is
+-- broken; and the offset that the error names, or 0
 abbrev pub IsCode : DecodeError → ℕ → ℕ → Type 0
-IsCode Memory code at = code ≡ 2
+IsCode Memory code at = (code ≡ 2) × (at ≡ 0)
 IsCode (Truncated n) code at = (code ≡ 12) × (at ≡ n)
 IsCode (Level n) code at = (code ≡ 13) × (at ≡ n)
 IsCode (RootLabel n) code at = (code ≡ 14) × (at ≡ n)
@@ -25,7 +25,7 @@ IsCode (SiblingOrder n) code at = (code ≡ 18) × (at ≡ n)
 IsCode (NoValueNoChild n) code at = (code ≡ 19) × (at ≡ n)
 IsCode (TooFewValues n) code at = (code ≡ 20) × (at ≡ n)
 IsCode (TrailingBytes n) code at = (code ≡ 21) × (at ≡ n)
-IsCode TooManyValues code at = code ≡ 22
+IsCode TooManyValues code at = (code ≡ 22) × (at ≡ 0)
 
 -- the code and the offset are those of an error with which these bytes and so many values are
 -- refused: the first fault that stands in them, or out of memory

@@ -1,5 +1,5 @@
 //! Tree bytes. The values are stored beside them, in key order, as an iterator gives them.
-ghost use Rattle.std.specs.Prelude.{◌≡◌, ◌≢◌, ◌<◌, length, take, true, false, IfOk, IfErr};
+ghost use Rattle.std.specs.Prelude.{◌≡◌, ◌≢◌, ◌≤◌, ◌<◌, length, take, true, false};
 ghost use Rattle.std.specs.FinMap as map;
 ghost use Rattle.patricia_tree.specs.ByteKind.{IsByteItem};
 ghost use Rattle.patricia_tree.specs.TreeBytes.{AreTreeBytes};
@@ -24,6 +24,7 @@ const NO_ROOM: u32 = 4;
 fn copy_to(room: &mut [u8], bytes: &[u8]) -> bool
     ensures fits { result ≡ true → take (length bytes.now) room.new ≡ bytes.now }
     ensures small { result ≡ false → length room.old < length bytes.now }
+    ensures unwritten { result ≡ false → room.new ≡ room.old }
 {
     if room.len() < bytes.len() {
         return false;
@@ -72,6 +73,9 @@ pub extern "C" fn patricia_tree_bytes(
         TooDeep IsByteItem 2 (map.keys (map_of at.old.pointer.stored)) }
     ensures len { result ≡ 4 → IsLen 2 len.new (map.entries (map_of at.old.pointer.stored)) }
     ensures small { result ≡ 4 → length room.old < len.new }
+    ensures unwritten { result ≢ 0 → room.new ≡ room.old }
+    ensures codes { result ≤ 4 }
+    ensures not_one { result ≢ 1 }
 {
     let Ok(stored) = at.take_or_make(alloc) else {
         return NO_MEMORY;
@@ -108,6 +112,9 @@ pub extern "C" fn patricia_wide_tree_bytes(
         TooDeep IsByteItem 4 (map.keys (map_of at.old.pointer.stored)) }
     ensures len { result ≡ 4 → IsLen 4 len.new (map.entries (map_of at.old.pointer.stored)) }
     ensures small { result ≡ 4 → length room.old < len.new }
+    ensures unwritten { result ≢ 0 → room.new ≡ room.old }
+    ensures codes { result ≤ 4 }
+    ensures not_one { result ≢ 1 }
 {
     let Ok(stored) = at.take_or_make(alloc) else {
         return NO_MEMORY;
@@ -144,6 +151,7 @@ pub extern "C" fn patricia_from_tree_bytes(
     ensures empty { result ≢ 0 → map_of at.new.pointer.stored ≡ map.empty }
     ensures refused { result ≢ 0 →
         IsRefused 2 bytes.now (length values.now) result offset.new }
+    ensures unwritten { result ≡ 0 → offset.new ≡ offset.old }
 {
     drop(at.take());
     let Ok(mut stored) = at.take_or_make(alloc) else {
@@ -176,6 +184,7 @@ pub extern "C" fn patricia_from_wide_tree_bytes(
     ensures empty { result ≢ 0 → map_of at.new.pointer.stored ≡ map.empty }
     ensures refused { result ≢ 0 →
         IsRefused 4 bytes.now (length values.now) result offset.new }
+    ensures unwritten { result ≡ 0 → offset.new ≡ offset.old }
 {
     drop(at.take());
     let Ok(mut stored) = at.take_or_make(alloc) else {

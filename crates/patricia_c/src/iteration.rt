@@ -78,9 +78,11 @@ pub extern "C" fn patricia_iterator_next(
     ensures small { result ≡ 4 → length room.old < len.new }
     ensures kept { result ≢ 1 →
         rows_of iterator.new.pointer.stored ≡ rows_of iterator.old.pointer.stored }
+    ensures room_unwritten { result ≢ 1 → room.new ≡ room.old }
+    ensures value_unwritten { result ≢ 1 → value.new ≡ value.old }
     ensures codes { result ≤ 4 }
-    ensures no_two { result ≢ 2 }
-    ensures no_three { result ≢ 3 }
+    ensures not_two { result ≢ 2 }
+    ensures not_three { result ≢ 3 }
 {
     let Some(mut rows) = iterator.take() else {
         return END;
