@@ -2,7 +2,7 @@
 # Times the map, std's ordered map and, where Debian's libjudy-dev is installed, a JudySL array in
 # turn, three processes each: run.sh [KEYS ...]. Without a number of keys it runs with 820,000 and
 # with 1,000,000. Prints a table for each kind of keys, with the least of the three figures of each
-# and the ratio to std's map.
+# and the ratio to std's map, and says when the nodes were last relocated.
 set -euo pipefail
 cd "$(dirname "$0")/../.."
 if [ $# -eq 0 ]; then set -- 820000 1000000; fi
@@ -31,7 +31,7 @@ measure() { # kind, number of keys
     for program in "${programs[@]}"; do "$room/$program" < "$room/keys" > "$room/$program.answers"; done
     cmp "$room/map.answers" "$room/btree.answers"
     for program in "${programs[@]}"; do same_answers "$program"; done
-    rm -f "$room/figures"
+    "$room/map" age < "$room/keys" | sed 's/^/map /' > "$room/figures"
     for _ in 1 2 3; do
         for program in "${programs[@]}"; do
             "$room/$program" times < "$room/keys" | sed "s/^/$program /" >> "$room/figures"
@@ -47,6 +47,7 @@ table() { # kind, number of keys
         $1 == "judy" { judy = 1 }
         $2 == "keys" { next }
         $2 == "share" { share = $3; next }
+        $2 == "relocated" { relocated = $3; next }
         $2 == "tree_size" { size[$1] = $3; next }
         !(($1, $2) in best) { if ($1 == "map") names[++n] = $2; best[$1, $2] = $3 }
         $3 < best[$1, $2] { best[$1, $2] = $3 }
@@ -60,7 +61,8 @@ table() { # kind, number of keys
                 else if (judy) printf " - | - |"
                 printf "\n"
             }
-            printf "\nsplit_by_prefix takes out %d of 1,000 entries.\n", share
+            printf "\nThe nodes were last relocated when %d of 1,000 entries were there.\n", relocated
+            printf "split_by_prefix removes %d of 1,000 entries.\n", share
             printf "tree_bytes writes %d bytes for 1,000 entries, %d million a second; the copy %d, %d million a second.\n",
                 size["map"], rate(size["map"], "map", "tree_bytes"), size["btree"], rate(size["btree"], "btree", "tree_bytes")
             printf "from_wire reads %d million bytes a second and makes %.2f million entries; insert_sorted makes %.2f million a second.\n",

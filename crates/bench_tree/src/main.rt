@@ -1,4 +1,5 @@
-//! bench_tree [times]: counts the answers of a map for the keys of its input, or times its calls.
+//! bench_tree [times|age]: counts the answers of a map for the keys of its input, or times its
+//! calls, or says how many of the keys are inserted when the nodes are last relocated.
 //!
 //! The input has a key a line. The keys of every other line are inserted, the rest are only asked
 //! for. With the word `times` each line of the output has nanoseconds a call or an entry, or bytes
@@ -6,12 +7,14 @@
 //! entries that `split_by_prefix` removes.
 #![tactic(auto)]
 
+mod age;
 mod calls;
 mod keys;
 mod lines;
 mod memory;
 mod steps;
 
+use age::report_age;
 use calls::{Each, Maps, no_maps};
 use keys::{Lists, read_lists, shuffle};
 use lines::{Sheet, line};
@@ -98,10 +101,19 @@ fn run_on<R: AllocGlobal + Clock + Files + Print>(
     measure_both(sheet, &mut lists)
 }
 
-// Whether the program's word is `times`.
-fn is_timed(rt: &impl Env) -> bool {
+// Whether the program's word is this one.
+fn has_word(rt: &impl Env, wanted: &[u8]) -> bool {
     let mut word = [0; 5];
-    matches!(rt.arg(1, &mut word), Ok(5)) && word == *b"times"
+    match rt.arg(1, &mut word) {
+        Ok(len) => word.get(..len) == Some(wanted),
+        Err(_) => false,
+    }
+}
+
+// Says how old the order of the nodes is, with the keys of an input.
+fn age_on<R: AllocGlobal + Files + Print>(sheet: &Sheet<'_, R>, input: &[u8]) -> io::Result<()> {
+    let lists = read_lists(sheet.rt.alloc(), input)?;
+    report_age(sheet, &lists.present)
 }
 
 fn read_input(rt: &(impl AllocGlobal + Input)) -> io::Result<Vec<u8>> {
@@ -112,8 +124,15 @@ fn read_input(rt: &(impl AllocGlobal + Input)) -> io::Result<Vec<u8>> {
 
 fn run<R: AllocGlobal + Clock + Env + Files + Input + Print>(rt: &R) -> io::Result<()> {
     let input = read_input(rt)?;
-    let times = is_timed(rt);
-    run_on(&Sheet { rt, times }, &input)
+    let sheet = Sheet {
+        rt,
+        times: has_word(rt, b"times"),
+    };
+    if has_word(rt, b"age") {
+        age_on(&sheet, &input)
+    } else {
+        run_on(&sheet, &input)
+    }
 }
 
 fn main(rt: HostRuntime) -> io::Result<()> {
