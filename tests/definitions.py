@@ -27,7 +27,7 @@ ROOT = os.path.dirname(os.path.dirname(os.path.abspath(__file__)))
 CRATES = os.path.join(ROOT, 'crates')
 LIBRARY = ('patricia_tree/src/**/*.rt', 'patricia_keys/src/**/*.rt', 'patricia_json/src/**/*.rt',
            'patricia_core/src/elements.rt', 'patricia_core/src/entries.rt', 'patricia_core/src/prefixes.rt',
-           'patricia_walks/src/**/reading.rt', 'patricia_*/src/steps.rt')
+           'patricia_core/src/ranges.rt', 'patricia_walks/src/**/reading.rt', 'patricia_*/src/steps.rt')
 PROGRAM = 'patricia_run/src/**/*.rt', 'ptree/src/**/*.rt'
 PREFIXES = ('prefixes_core/src/**/*.rt',)
 FOR_C = ('patricia_c/src/**/*.rt',)

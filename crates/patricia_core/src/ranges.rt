@@ -9,8 +9,8 @@ use std::alloc::AllocError;
 use std::iter::FusedIterator;
 use std::marker::Model;
 
-/// The entries of a range, each with an owned key. An error is out of memory, and ends the iterator;
-/// it may come where no entry is left, too, since the walk goes past the last one.
+/// The entries of a range, each with an owned key. An error is out of memory, and ends the
+/// iterator; it may come where no entry is left, too, since the walk goes past the last one.
 #[derive(Drop)]
 pub struct Range<'a, Q: BorrowedBytes, V> {
     // none once an error has ended it

@@ -1,3 +1,4 @@
+pub mod AnyLemmas
 pub mod ByteLemmas
 pub mod KeyLemmas
 pub mod TextLemmas

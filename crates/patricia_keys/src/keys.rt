@@ -6,9 +6,11 @@ ghost use Rattle.std.specs.Prelude.{◌≡◌, ℕ, ◌≤◌, List, [], length,
 ghost use Rattle.patricia_keys.specs.Keys.{IsKeyKind, IsValid, IsCommon, DropsCommon, IsFloor};
 ghost use Rattle.patricia_keys.specs.Keys.{ComparesFirst};
 
+mod any;
 mod byte;
 mod text;
 
+pub use any::KeyBytes;
 use std::alloc::{AllocError, Global};
 use std::cmp::Ordering;
 pub use text::text_of;

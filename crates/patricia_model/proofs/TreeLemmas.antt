@@ -150,7 +150,7 @@ option_map_not_none f (Some x) e g = absurd (cc)
 -- a removal from a finite map that is made of sorted entries
 module _ {V : Type 0} where
   -- the map of the rows of other keys is the map with the key removed
-  from_sorted-others : (es : List (List ℕ × V)) (q : List ℕ) → T (is_sorted key_cmp es)
+  pub from_sorted-others : (es : List (List ℕ × V)) (q : List ℕ) → T (is_sorted key_cmp es)
       → from_sorted {R = key_cmp} (others q es) ≡ remove (from_sorted es) q
   from_sorted-others es q sorted =
       same_map nat_list_cmp_total (slice_cmp-IsAntisymmetric nat_cmp-IsAntisymmetric) _ _ (λ x.

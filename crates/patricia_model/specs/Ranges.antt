@@ -1,5 +1,5 @@
 -- The rows from a key on, and those before a key, over rows in key order.
-use Rattle.std.specs.Prelude.{ℕ, List, Option, Some, None, filter, not}
+use Rattle.std.specs.Prelude.{ℕ, List, filter, not}
 use Rattle.std.specs.Ordering.{is_lt}
 use Rattle.patricia_keys.specs.Keys.{key_cmp}
 
@@ -11,8 +11,3 @@ module _ {V : Type 0} where
   -- the other rows: those whose key is that one or comes after it
   abbrev pub from : List ℕ → List (List ℕ × V) → List (List ℕ × V)
   from key rows = filter (λ e. not (is_lt (key_cmp e.0 key))) rows
-
-  -- the rows before a bound; all rows where there is none
-  abbrev pub within : Option (List ℕ) → List (List ℕ × V) → List (List ℕ × V)
-  within None rows = rows
-  within (Some key) rows = before key rows

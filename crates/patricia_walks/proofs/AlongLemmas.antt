@@ -33,7 +33,7 @@ use Rattle.patricia_walks.specs.Internal.Descents.{left_from}
 -- a front of a list, and what is left, where some of it follows
 module _ (k l t : List ℕ) (n : ℕ) (within : n ≤ length k) (rest : l ++ t ≡ drop n k) where
   -- the first n bytes of the list, with those that follow, are its first bytes
-  front_then : take (n + length l) k ≡ take n k ++ l
+  pub front_then : take (n + length l) k ≡ take n k ++ l
   front_then =
       let long = length-take-le n k within in
       let split : take n k ++ (l ++ t) ≡ k = ap (λ r. take n k ++ r) rest ∙ take-append-drop n k in
@@ -41,7 +41,7 @@ module _ (k l t : List ℕ) (n : ℕ) (within : n ≤ length k) (rest : l ++ t �
       ∙ take-append-add (take n k) (l ++ t) (length l) ∙ ap (λ r. take n k ++ r) (take_at l t (length l) refl)
 
   -- behind both is what is left
-  left_then : drop (n + length l) k ≡ t
+  pub left_then : drop (n + length l) k ≡ t
   left_then =
       let long = length-take-le n k within in
       let split : take n k ++ (l ++ t) ≡ k = ap (λ r. take n k ++ r) rest ∙ take-append-drop n k in
@@ -49,16 +49,16 @@ module _ (k l t : List ℕ) (n : ℕ) (within : n ≤ length k) (rest : l ++ t �
       ∙ drop-append-add (take n k) (l ++ t) (length l) ∙ drop-append_seam l t
 
   -- both together are no longer than the list
-  more_within : n + length l ≤ length k
+  pub more_within : n + length l ≤ length k
   more_within = omega (arith, ap length rest, length-append l t, length-drop n k, within)
 
 -- a walk over a row takes a step
-some_step : {V : Type 0} (r : Siblings V) → 1 ≤ steps_in r
+pub some_step : {V : Type 0} (r : Siblings V) → 1 ≤ steps_in r
 some_step end = omega arith
 some_step (node l v c s) = omega arith
 
 -- no number is that of no node
-plan_none : {V : Type 0} (nodes : List (Node V)) → IsPlan nodes None (plan_at nodes None)
+pub plan_none : {V : Type 0} (nodes : List (Node V)) → IsPlan nodes None (plan_at nodes None)
 plan_none nodes = let plan : IsPlan nodes None Nil = record { stands = tt; at_is = refl; fits = omega arith } in rw (plan_is nodes None Nil plan) plan
 
 module _ (item : List ℕ → Type 0) (kind : IsKeyKind item) {V : Type 0} (k : List ℕ)

@@ -2,6 +2,8 @@ pub mod AlongLemmas
 pub mod HolderLemmas
 pub mod HolderWriteLemmas
 pub mod LentLemmas
+pub mod LastLemmas
+pub mod LowerLemmas
 pub mod NumberLemmas
 pub mod PlaceLemmas
 pub mod PositionLemmas

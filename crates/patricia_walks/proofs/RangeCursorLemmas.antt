@@ -4,11 +4,11 @@ use Rattle.std.proofs.Common.{slice_get, refl}
 use Rattle.std.specs.FinMap.{is_sorted}
 use Rattle.std.specs.Ordering.{is_lt}
 use Rattle.patricia_keys.specs.Keys.{IsKeyKind, key_cmp}
-use Rattle.patricia_model.specs.Ranges.{from, within}
+use Rattle.patricia_model.specs.Ranges.{from}
 use Rattle.patricia_model.specs.Siblings.{Siblings, own, entries, IsCanonical}
 use Rattle.patricia_model.proofs.RangeLemmas.{before_first, from_sorted_rows}
 use Rattle.patricia_model.proofs.TreeLemmas.{tree_sorted}
-use Rattle.patricia_walks.specs.Internal.Bounds.{is_past}
+use Rattle.patricia_walks.specs.Internal.Bounds.{is_past, within}
 
 -- the negation of a test holds where the test fails
 fails : (b : Bool) → not b ≡ true → b ≡ false

@@ -152,7 +152,7 @@ module _ (item : List ℕ → Type 0) (kind : IsKeyKind item) (key : List ℕ) {
       ∙ ap (λ v. prefixed p.path (from left (own v ++ entries (row_at p.nodes p.next))) ++ rows_waiting p) taken
       ∙ ap (λ r. prefixed p.path (from left (entries r)) ++ rows_waiting p) row_is
 
-  -- where a node's label begins what is left of the key, the walk goes on to its children
+  -- where a node's label begins what is left of the key, the walk advances to its children
   pub towards_down : begins n.label left ≡ true → (l : List ℕ) → l ≡ n.label → (front : ℕ)
       → front ≡ length p.path → q.path ≡ p.path ++ l
       → q.pending ≡ n.value → q.next ≡ n.child → q.stack ≡ with_row p.stack front n.sibling
@@ -181,7 +181,7 @@ module _ (item : List ℕ → Type 0) (kind : IsKeyKind item) (key : List ℕ) {
         less = step.step.less;
       }
 
-  -- where the label comes before what is left of the key, the walk goes on to the sibling
+  -- where the label comes before what is left of the key, the walk advances to the sibling
   pub towards_past : begins n.label left ≡ false → key_cmp n.label left ≡ Less
       → q.path ≡ p.path → q.pending ≡ p.pending → q.next ≡ n.sibling → q.stack ≡ p.stack
       → Approaches item key p q

@@ -3,6 +3,7 @@ pub mod Bounds
 pub mod Descents
 pub mod Holders
 pub mod Lends
+pub mod Lowers
 pub mod Positions
 pub mod Skips
 pub mod Starts

@@ -8,6 +8,7 @@ pub mod along;
 pub mod cursor;
 mod cursor_state;
 pub mod into_walk;
+pub mod last;
 pub mod range;
 pub mod reach;
 pub mod under;

@@ -1,15 +1,16 @@
 //! The rows from a key on, up to another one.
-ghost use Rattle.std.specs.Prelude.{◌≡◌, ◌≢◌, ◌↔◌, ◌+◌, ◌++◌, Option, [], T, length, slice_get, drop};
+ghost use Rattle.std.specs.Prelude.{◌≡◌, ◌≢◌, ◌↔◌, ◌+◌, ◌++◌, Option, [], T, length, slice_get};
+ghost use Rattle.std.specs.Prelude.{drop};
 ghost use Rattle.std.specs.FinMap.{is_sorted};
 ghost use Rattle.std.specs.Prelude.{IsTrue, IfOk, IfSome, OnOk, OnErr};
 ghost use Rattle.std.specs.Map.Iter.{TakesFirst};
 ghost use Rattle.std.specs.Option.{option_copied, option_map};
 ghost use Rattle.patricia_keys.specs.Keys.{IsValid, key_cmp};
 ghost use Rattle.patricia_model.specs.Cursors.{advanced, before_rows};
-ghost use Rattle.patricia_model.specs.Ranges.{from, within};
+ghost use Rattle.patricia_model.specs.Ranges.{from};
 ghost use Rattle.patricia_model.specs.Siblings.{own, IsCanonical};
 ghost use Rattle.patricia_nodes.specs.Internal.Plans.{IsWellFormed, siblings_of, entries_of};
-ghost use Rattle.patricia_walks.specs.Internal.Bounds.{IsRangeWalk, is_past, range_left};
+ghost use Rattle.patricia_walks.specs.Internal.Bounds.{IsRangeWalk, is_past, range_left, within};
 
 use crate::walk::{ReadCursor, Walk};
 use patricia_keys::{BorrowedBytes, Bytes};
@@ -93,9 +94,8 @@ pub struct RangeReadCursor<'a, Q: BorrowedBytes, V> {
 impl<'a, Q: BorrowedBytes, V> Model for RangeReadCursor<'a, Q, V> {
     ghost use Rattle.std.specs.Option.{option_map};
     ghost use Rattle.patricia_model.specs.Cursors.{ReadCursorView};
-    ghost use Rattle.patricia_model.specs.Ranges.{within};
     ghost use Rattle.patricia_model.specs.Internal.Codes.{read_cursor_view_code};
-    ghost use Rattle.patricia_walks.specs.Internal.Bounds.{IsRangeWalk, range_left};
+    ghost use Rattle.patricia_walks.specs.Internal.Bounds.{IsRangeWalk, range_left, within};
 
     ghost Value = { ReadCursorView V };
 

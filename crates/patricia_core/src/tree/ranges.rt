@@ -1,13 +1,17 @@
 //! The entries of a tree from a key on.
-ghost use Rattle.std.specs.Prelude.{◌≡◌, Option};
+ghost use Rattle.std.specs.Prelude.{◌≡◌, None, Option, IfOk};
+ghost use Rattle.std.specs.List.{last_or};
 ghost use Rattle.std.specs.Option.{option_map};
 ghost use Rattle.std.specs.FinMap as map;
 ghost use Rattle.patricia_model.specs.Cursors.{before_rows};
-ghost use Rattle.patricia_model.specs.Ranges.{from, within};
+ghost use Rattle.patricia_model.specs.Ranges.{before, from};
+ghost use Rattle.patricia_walks.specs.Internal.Bounds.{within};
 
 use super::Tree;
 use patricia_keys::{BorrowedBytes, Bytes};
+use patricia_walks::last::{last, last_before};
 use patricia_walks::range::RangeReadCursor;
+use std::alloc::AllocError;
 
 impl<K: Bytes, V: Drop> Tree<K, V> {
     /// A cursor that reads the entries from a key on, up to a bound where there is one. Making it
@@ -21,5 +25,24 @@ impl<K: Bytes, V: Drop> Tree<K, V> {
             (within (option_map Q.key bound) (from (Q.key key) (map.entries self.now))) }
     {
         RangeReadCursor::new(self.alloc, self.value.as_ref(), &self.arena, key, bound)
+    }
+
+    /// The last entry. The error is out of memory.
+    pub fn last(&self) -> Result<Option<(K, &V)>, AllocError>
+        ensures { IfOk result (λ entry. option_map (λ e. (K.key e.0, e.1.now)) entry
+            ≡ last_or None (map.entries self.now)) }
+    {
+        last(self.alloc, self.value.as_ref(), &self.arena)
+    }
+
+    /// The last entry before a key. The error is out of memory.
+    pub fn last_before<Q: BorrowedBytes<Owned = K>>(
+        &self,
+        key: Q,
+    ) -> Result<Option<(K, &V)>, AllocError>
+        ensures { IfOk result (λ entry. option_map (λ e. (K.key e.0, e.1.now)) entry
+            ≡ last_or None (before (Q.key key) (map.entries self.now))) }
+    {
+        last_before(self.alloc, self.value.as_ref(), &self.arena, key)
     }
 }

@@ -5,10 +5,15 @@ use Rattle.std.specs.Option.{option_copied}
 use Rattle.std.specs.Ordering.{is_lt}
 use Rattle.patricia_keys.specs.Keys.{key_cmp}
 use Rattle.patricia_model.specs.Cursors.{ReadCursorView, before_rows}
-use Rattle.patricia_model.specs.Ranges.{from}
+use Rattle.patricia_model.specs.Ranges.{before, from}
 use Rattle.patricia_model.specs.Siblings.{own, IsCanonical}
 use Rattle.patricia_nodes.specs.Internal.Plans.{IsWellFormed, entries_of, siblings_of}
 use Rattle.patricia_walks.specs.declared.range.RangeStart.{RangeStart}
+
+-- the rows before a bound; all rows where there is none
+abbrev pub within : {V : Type 0} → Option (List ℕ) → List (List ℕ × V) → List (List ℕ × V)
+within None rows = rows
+within (Some key) rows = before key rows
 
 -- the key of a row does not come before the bound
 abbrev pub is_past : {V : Type 0} → Option (List ℕ) → Option (List ℕ × V) → Bool

@@ -5,7 +5,8 @@ ghost use Rattle.patricia_model.specs.Ranges.{from};
 ghost use Rattle.patricia_model.specs.Siblings.{own, IsCanonical};
 ghost use Rattle.patricia_nodes.specs.Internal.Plans.{IsWellFormed, siblings_of, entries_of};
 ghost use Rattle.patricia_walks.specs.Internal.Positions.{IsPosition, lent};
-ghost use Rattle.patricia_walks.specs.Internal.Skips.{IsTowards, Approaches, HasReached, rows_ahead};
+ghost use Rattle.patricia_walks.specs.Internal.Skips.{IsTowards, Approaches, HasReached};
+ghost use Rattle.patricia_walks.specs.Internal.Skips.{rows_ahead};
 
 use super::{Traversal, Walk};
 use crate::waiting::push_row;

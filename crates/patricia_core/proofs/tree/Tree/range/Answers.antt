@@ -2,7 +2,8 @@ use Rattle.std.proofs.Common.{◌++◌, sym, ap, ◌∙◌}
 use Rattle.std.specs.FinMap as map
 use Rattle.std.specs.Option.{option_map}
 use Rattle.patricia_model.specs.Cursors.{before_rows}
-use Rattle.patricia_model.specs.Ranges.{from, within}
+use Rattle.patricia_model.specs.Ranges.{from}
+use Rattle.patricia_walks.specs.Internal.Bounds.{within}
 use Rattle.patricia_model.specs.Siblings.{own, entries}
 use Rattle.patricia_nodes.specs.Internal.Plans.{siblings_of}
 use Rattle.patricia_model.proofs.TreeLemmas.{entries_map}

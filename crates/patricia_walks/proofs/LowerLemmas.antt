@@ -1,0 +1,260 @@
+-- The steps of a descent to the last row before a key.
+use Rattle.std.proofs.Common.{◌≡◌, ◌≢◌, ℕ, ◌+◌, true, false, List, [], ◌∷◌, ◌++◌, length, get_or, take}
+use Rattle.std.proofs.Common.{drop, Option, Some, None, refl, sym, ap, subst, ◌∙◌, arith}
+use Rattle.std.specs.List.{last_or}
+use Rattle.std.specs.declared.cmp.Ordering.{Ordering}
+use Rattle.std.specs.declared.cmp.Ordering.TheVariants.{Less, Equal, Greater}
+use Rattle.std.specs.Prelude.{not, nat_eq}
+use Rattle.std.specs.Ordering.{ordering_reverse, ordering_index}
+use Rattle.std.specs.Cmp.Lexicographic.{nat_list_cmp_total}
+use Rattle.std.proofs.lemmas.List.{append-nil}
+use Rattle.patricia_keys.specs.Keys.{Begins, IsKeyKind, key_cmp}
+use Rattle.patricia_keys.proofs.KeyLemmas.{IsValid-nil, IsValid-append, key_cmp-irreflexive}
+use Rattle.patricia_model.specs.Prefixes.{begins}
+use Rattle.patricia_model.specs.Ranges.{before}
+use Rattle.patricia_model.specs.Siblings.{Siblings, end, node, prefixed, own, entries, IsCanonical}
+use Rattle.patricia_model.proofs.ListLemmas.{key_cmp-equal}
+use Rattle.patricia_model.proofs.RowLemmas.{prefixed-prefixed, prefixed-append}
+use Rattle.patricia_model.proofs.WalkLemmas.{prefixed-nil}
+use Rattle.patricia_model.proofs.PrefixLemmas.{begins_is, begins_other, stop_below, not_above}
+use Rattle.patricia_model.proofs.RangeLemmas.{IsFrom, before-append, before-prefixed, before_all}
+use Rattle.patricia_model.proofs.RangeLemmas.{before_none, before_own, first_above, siblings_from}
+use Rattle.patricia_model.proofs.RangeLemmas.{below_from}
+use Rattle.patricia_nodes.specs.declared.arena.Node.{Node}
+use Rattle.patricia_nodes.specs.declared.arena.NodeArena.{NodeArena}
+use Rattle.patricia_nodes.specs.Internal.Plans.{IsWellFormed}
+use Rattle.patricia_nodes.specs.Internal.Plans.{siblings_of}
+use Rattle.patricia_nodes.proofs.SeekLemmas.{whole_plan}
+use Rattle.patricia_walks.specs.Internal.Positions.{row_at, rows_below}
+use Rattle.patricia_walks.specs.Internal.Lowers.{IsRowAt, IsFront, IsLower, IsLowerDescent}
+use Rattle.patricia_walks.specs.Internal.Lowers.{LowerMoves, last_lower, lower_row, row_ahead}
+use Rattle.patricia_walks.specs.declared.last.Lower.TheVariants.{Below}
+use Rattle.patricia_walks.specs.declared.last.LowerDescent.{LowerDescent}
+use Rattle.patricia_walks.proofs.AlongLemmas.{front_then, left_then, more_within, some_step, plan_none}
+use Rattle.patricia_walks.proofs.LastLemmas.{last-append, last_filled, below_filled, RowOpens}
+use Rattle.patricia_walks.proofs.LastLemmas.{row_opens, row_filled}
+use Rattle.patricia_walks.proofs.PositionLemmas.{row_none}
+
+-- no key comes before the empty one
+nothing_before : {V : Type 0} (es : List (List ℕ × V)) → before [] es ≡ []
+nothing_before [] = refl
+nothing_before (e ∷ es) = rw (nothing e.0) (nothing_before es)
+  where
+    nothing : (q : List ℕ) → IsFrom [] q
+    nothing [] = refl
+    nothing (c ∷ q) = refl
+
+module _ (item : List ℕ → Type 0) (kind : IsKeyKind item) {V : Type 0} (l : List ℕ) (v : Option V)
+    (c s : Siblings V) (ok : IsCanonical item (node l v c s)) where
+  -- before a key past the label are all rows of the node, and those of its siblings before the key
+  before_past : (q : List ℕ) → (Begins l q → ⊥) → key_cmp l q ≡ Less
+      → before q (entries (node l v c s)) ≡ prefixed l (own v ++ entries c) ++ before q (entries s)
+  before_past q other less =
+      before-append q (prefixed l (own v ++ entries c)) (entries s)
+      ∙ ap (λ r. r ++ before q (entries s)) (before_all q _ (first_above item kind l v c s ok q other less))
+
+  -- before a key that the label begins are rows of the node alone
+  before_through : (t : List ℕ)
+      → before (l ++ t) (entries (node l v c s)) ≡ prefixed l (before t (own v ++ entries c))
+  before_through t =
+      before-append (l ++ t) (prefixed l (own v ++ entries c)) (entries s)
+      ∙ ap (λ r. before (l ++ t) (prefixed l (own v ++ entries c)) ++ r) (before_none (l ++ t) (entries s) (siblings_from item kind l v c s ok t))
+      ∙ append-nil _
+      ∙ before-prefixed l t (own v ++ entries c)
+
+  -- and where the key goes on, its own value comes before it
+  before_down : (t : List ℕ) → t ≢ []
+      → before (l ++ t) (entries (node l v c s)) ≡ prefixed l (own v ++ before t (entries c))
+  before_down t some = before_through t ∙ ap (prefixed l)
+      (before-append t (own v) (entries c) ∙ ap (λ r. r ++ before t (entries c)) (before_own t some v))
+
+  -- before a key that does not come after the label is no row
+  before_off : (q : List ℕ) → (key_cmp q l ≡ Greater → ⊥) → before q (entries (node l v c s)) ≡ []
+  before_off q not_after = by (key_cmp q l) refl
+    where
+      by : (o : Ordering) → key_cmp q l ≡ o → before q (entries (node l v c s)) ≡ []
+      by Less f = before_none q _ (below_from q _ (stop_below item kind l v c s ok q (λ b. not_above q l b f) f))
+      by Equal f =
+          let same : l ++ [] ≡ q = append-nil l ∙ sym (key_cmp-equal q l f) in
+          ap (λ k. before k (entries (node l v c s))) (sym same) ∙ before_through []
+          ∙ ap (prefixed l) (nothing_before (own v ++ entries c))
+      by Greater f = absurd (not_after f)
+
+module _ (item : List ℕ → Type 0) (kind : IsKeyKind item) {V : Type 0} (key : List ℕ)
+    (d e : LowerDescent V) (id : ℕ) (n : Node V) (w : IsLowerDescent item key d)
+    (next : d.next ≡ Some id) (reads : n ≡ get_or d.arena.now.nodes.items id n)
+    (arena : e.arena ≡ d.arena) where
+  -- the nodes
+  abbrev nodes : List (Node V)
+  nodes = d.arena.now.nodes.items
+
+  -- the rows that the node's two links lead to
+  abbrev child_row : Siblings V
+  child_row = row_at nodes n.child
+
+  abbrev sibling_row : Siblings V
+  sibling_row = row_at nodes n.sibling
+
+  -- the bytes that are passed, and what is left of the key
+  abbrev front : List ℕ
+  front = take d.len key
+
+  abbrev rest : List ℕ
+  rest = drop d.len key
+
+  -- the row that is next is that node's
+  opens : RowOpens item nodes d.next n
+  opens = row_opens item nodes d.next id n w.next_row next reads
+
+  -- the last row before the key, where the row that is next is that node's
+  last_is : last_lower key d ≡ last_or (lower_row key nodes d.lower)
+      (prefixed front (before rest (entries (node n.label n.value child_row sibling_row))))
+  last_is = ap (λ r. last_or (lower_row key nodes d.lower) (prefixed front (before rest (entries r)))) opens.row_is
+
+  -- where what is left of the key does not come after the label, the descent is over
+  pub lower_off : (key_cmp rest n.label ≡ Greater → ⊥) → e.len ≡ d.len → e.lower ≡ d.lower
+      → e.next ≡ None → LowerMoves item key d e
+  lower_off not_after len lower none =
+      let row_end : row_ahead e ≡ end = rw (arena, none) (row_none nodes) in
+      record {
+        descent = record {
+          front = rw len w.front;
+          next_row = record { plan = rw none (plan_none e.arena.now.nodes.items); canonical = rw row_end tt };
+          found = rw (arena, lower) w.found;
+        };
+        same = rw (arena, len, lower, none, row_none nodes) (
+            sym (ap (λ rs. last_or (lower_row key nodes d.lower) (prefixed front rs))
+            (before_off item kind n.label n.value child_row sibling_row opens.canonical rest not_after))
+            ∙ sym last_is);
+        less = rw (row_end, opens.row_is) (omega (arith, some_step child_row, some_step sibling_row));
+        arena = arena;
+      }
+
+  -- where the label comes before it and does not begin it, the last row is below the node, or behind
+  pub lower_past : begins n.label rest ≡ false → key_cmp n.label rest ≡ Less → e.len ≡ d.len
+      → e.lower ≡ Below d.len id → e.next ≡ n.sibling → LowerMoves item key d e
+  lower_past other_is less len lower sibling =
+      let other = begins_other n.label rest other_is in
+      let es = own n.value ++ entries child_row in
+      let later = before rest (entries sibling_row) in
+      let below : prefixed front (prefixed n.label es) ≡ rows_below front (node n.label n.value child_row sibling_row) = prefixed-prefixed front n.label es in
+      let top_is : row_at nodes (Some id) ≡ node n.label n.value child_row sibling_row = ap (row_at nodes) (sym next) ∙ opens.row_is in
+      record {
+        descent = record {
+          front = rw len w.front;
+          next_row = rw (arena, sibling) opens.sibling_at;
+          found = rw (arena, lower) (w.front, subst (IsRowAt item nodes) next w.next_row);
+        };
+        same = rw (arena, len, lower, sibling) (
+            ap (λ r. last_or (last_or None (rows_below front r)) (prefixed front later)) top_is
+            ∙ ap (λ o. last_or o (prefixed front later))
+            (sym (last_filled (lower_row key nodes d.lower) (rows_below front (node n.label n.value child_row sibling_row))
+            (below_filled item kind n.label n.value child_row sibling_row opens.canonical front)))
+            ∙ ap (λ rs. last_or (last_or (lower_row key nodes d.lower) rs) (prefixed front later)) (sym below)
+            ∙ sym (last-append (lower_row key nodes d.lower) (prefixed front (prefixed n.label es)) (prefixed front later))
+            ∙ ap (last_or (lower_row key nodes d.lower)) (sym (prefixed-append front (prefixed n.label es) later))
+            ∙ sym (ap (λ rs. last_or (lower_row key nodes d.lower) (prefixed front rs))
+            (before_past item kind n.label n.value child_row sibling_row opens.canonical rest other less))
+            ∙ sym last_is);
+        less = rw (arena, sibling, opens.row_is) (omega arith);
+        arena = arena;
+      }
+
+  -- where the label begins it and it goes on, the last row is below the node, or its own value
+  pub lower_down : begins n.label rest ≡ true → key_cmp rest n.label ≡ Greater
+      → e.len ≡ d.len + length n.label → e.next ≡ n.child
+      → (IsFront item key e.len → IsLower item key nodes e.lower)
+      → lower_row key nodes e.lower ≡ last_or (lower_row key nodes d.lower) (prefixed (take e.len key) (own n.value))
+      → LowerMoves item key d e
+  lower_down begun_is after len child found lower =
+      let begun = begins_is n.label rest begun_is in
+      let t = begun.0 in
+      let some : t ≢ [] = λ none. no_greater (sym begun.1 ∙ ap (λ r. n.label ++ r) none ∙ append-nil n.label) in
+      let front_is = front_then key n.label t d.len w.front.0 begun.1 in
+      let rest_is = left_then key n.label t d.len w.front.0 begun.1 in
+      let more = more_within key n.label t d.len w.front.0 begun.1 in
+      let es = before t (entries child_row) in
+      let longer : IsFront item key e.len = rw (len, front_is) (more, IsValid-append item front n.label w.front.1 opens.canonical.valid) in
+      record {
+        descent = record { front = longer; next_row = rw (arena, child) opens.child_at; found = rw arena (found longer) };
+        same = rw (arena, child, lower, len, front_is, rest_is) (
+            sym (last-append (lower_row key nodes d.lower) (prefixed (front ++ n.label) (own n.value)) (prefixed (front ++ n.label) es))
+            ∙ ap (last_or (lower_row key nodes d.lower))
+            (sym (prefixed-append (front ++ n.label) (own n.value) es) ∙ sym (prefixed-prefixed front n.label (own n.value ++ es)))
+            ∙ ap (λ rs. last_or (lower_row key nodes d.lower) (prefixed front rs))
+            (sym (before_down item kind n.label n.value child_row sibling_row opens.canonical t some))
+            ∙ ap (λ k. last_or (lower_row key nodes d.lower) (prefixed front (before k (entries (node n.label n.value child_row sibling_row))))) begun.1
+            ∙ sym last_is);
+        less = rw (arena, child, opens.row_is) (omega arith);
+        arena = arena;
+      }
+    where
+      no_greater : rest ≡ n.label → ⊥
+      no_greater same = let less = nat_list_cmp_total.antisymm n.label rest ∙ ap ordering_reverse after in key_cmp-irreflexive n.label rest (sym same) less
+
+-- an ordering that is not greater, by its index
+pub not_greater : (r : Ordering) → not (nat_eq (ordering_index r) 2) ≡ true → r ≡ Greater → ⊥
+not_greater Less e is = absurd (cc)
+not_greater Equal e is = absurd (cc)
+not_greater Greater e is = absurd (cc)
+
+-- and one that is
+pub greater_is : (r : Ordering) → not (nat_eq (ordering_index r) 2) ≡ false → r ≡ Greater
+greater_is Less e = absurd (cc)
+greater_is Equal e = absurd (cc)
+greater_is Greater e = refl
+
+-- a key comes before one that comes after it
+pub before_it : (a b : List ℕ) → key_cmp a b ≡ Greater → key_cmp b a ≡ Less
+before_it a b e = nat_list_cmp_total.antisymm b a ∙ ap ordering_reverse e
+
+module _ {V : Type 0} (key : List ℕ) (v : Option V) (r : Siblings V) where
+  -- at the start the last row before the key is the last of the value's and those ahead
+  pub lower_start : key ≢ []
+      → last_or (last_or None (prefixed (take 0 key) (own v))) (prefixed (take 0 key) (before (drop 0 key) (entries r)))
+      ≡ last_or None (before key (own v ++ entries r))
+  lower_start some =
+      let es = before key (entries r) in
+      ap (λ xs. last_or (last_or None xs) (prefixed [] es)) (prefixed-nil (own v))
+      ∙ ap (last_or (last_or None (own v))) (prefixed-nil es)
+      ∙ sym (last-append None (own v) es)
+      ∙ ap (last_or None) (sym (before-append key (own v) (entries r) ∙ ap (λ xs. xs ++ es) (before_own key some v)))
+
+  -- and so where it is what was found
+  pub last_start : (o : Option (List ℕ × V)) → o ≡ last_or None (prefixed (take 0 key) (own v)) → key ≢ []
+      → last_or o (prefixed (take 0 key) (before (drop 0 key) (entries r)))
+      ≡ last_or None (before key (own v ++ entries r))
+  last_start o is some = ap (λ x. last_or x (prefixed (take 0 key) (before (drop 0 key) (entries r)))) is ∙ lower_start some
+
+  -- no row comes before the empty key
+  pub lower_none : key ≡ [] → None ≡ last_or None (before key (own v ++ entries r))
+  lower_none none = rw none (sym (ap (last_or None) (nothing_before (own v ++ entries r))))
+
+-- the front of no byte is one
+pub front_start : (item : List ℕ → Type 0) (key : List ℕ) → IsFront item key 0
+front_start item key = (omega arith, IsValid-nil item)
+
+-- the row of whole nodes
+pub row_start : (item : List ℕ → Type 0) {V : Type 0} (s : NodeArena V) → IsWellFormed s
+    → IsCanonical item (siblings_of s) → IsRowAt item s.nodes.items s.root
+row_start item s whole ok = record { plan = whole_plan s whole; canonical = ok }
+
+module _ (item : List ℕ → Type 0) (kind : IsKeyKind item) {V : Type 0} (nodes : List (Node V))
+    (root : Option ℕ) (w : IsRowAt item nodes root) (v : Option V) where
+  -- the last row of nodes is that of their top row, where there is one
+  pub last_some : (first : ℕ) → root ≡ Some first
+      → last_or None (prefixed [] (entries (row_at nodes (Some first)))) ≡ last_or None (own v ++ entries (row_at nodes root))
+  last_some first is =
+      let es = entries (row_at nodes (Some first)) in
+      let some : es ≢ [] = subst (λ xs. xs ≢ []) (prefixed-nil es) (row_filled item kind nodes [] first (subst (IsRowAt item nodes) is w)) in
+      ap (last_or None) (prefixed-nil es)
+      ∙ sym (last_filled (last_or None (own v)) es some)
+      ∙ sym (last-append None (own v) es)
+      ∙ ap (λ at. last_or None (own v ++ entries (row_at nodes at))) (sym is)
+
+  -- and else that of the empty key
+  pub last_none : root ≡ None
+      → last_or None (prefixed (take 0 []) (own v)) ≡ last_or None (own v ++ entries (row_at nodes root))
+  last_none is =
+      let none : entries (row_at nodes root) ≡ [] = rw (is, row_none nodes) refl in
+      ap (last_or None) (prefixed-nil (own v) ∙ sym (append-nil (own v)) ∙ ap (λ es. own v ++ es) (sym none))

@@ -1,0 +1,50 @@
+use Rattle.std.proofs.Common.{refl, sym, ap, ◌∙◌, ◌+◌, length, drop, take}
+use Rattle.std.specs.List.{last_or}
+use Rattle.patricia_model.specs.Siblings.{own, prefixed}
+use Rattle.patricia_walks.specs.Internal.Lowers.{lower_row}
+use Rattle.patricia_walks.proofs.AlongLemmas.{rest_is}
+use Rattle.patricia_walks.proofs.LowerLemmas.{lower_off, lower_past, lower_down, greater_is, not_greater, before_it}
+use Rattle.patricia_walks.proofs.last.LowerDescent.pass.Goals as goal
+
+pub slice_bounds-rest-count : goal.slice_bounds-rest-count
+slice_bounds-rest-count g c = c.requires.descent.front.0
+
+pub slice_bounds-rest-start : goal.slice_bounds-rest-start
+slice_bounds-rest-start g c = c.requires.descent.front.0
+
+pub returns-then-ne : goal.returns-then-ne
+returns-then-ne g c =
+    let reads = rw c.index.ensures at c.index-node.ensures in
+    let order = rw (c.as_slice-label.ensures, rest_is) at c.cmp.ensures in
+    lower_off g.K.Bytes.item g.met.K.Bytes.lawful c.args.key.now c.args.self.now _ c.args.id
+    c.index-node.result.now c.requires.descent c.requires.next reads refl
+    (λ after. not_greater c.cmp.result (sym c.ne.ensures ∙ c.if-ne.true) (order ∙ after))
+    refl refl c.none-self.ensures
+
+pub returns-else-starts_with : goal.returns-else-starts_with
+returns-else-starts_with g c =
+    let reads = rw c.index.ensures at c.index-node.ensures in
+    let other = rw (c.as_slice-label.ensures, rest_is) at c.starts_with.ensures.value in
+    let order = rw (c.as_slice-label.ensures, rest_is) at c.cmp.ensures in
+    lower_past g.K.Bytes.item g.met.K.Bytes.lawful c.args.key.now c.args.self.now _ c.args.id
+    c.index-node.result.now c.requires.descent c.requires.next reads refl
+    (sym other ∙ c.if-starts_with.false)
+    (before_it (drop c.args.self.now.len c.args.key.now) c.index-node.result.now.label
+    (sym order ∙ greater_is c.cmp.result (sym c.ne.ensures ∙ c.if-ne.false)))
+    refl refl refl
+
+pub returns-then-starts_with : goal.returns-then-starts_with
+returns-then-starts_with g c =
+    let reads = rw c.index.ensures at c.index-node.ensures in
+    let yes = rw (c.as_slice-label.ensures, rest_is) at c.starts_with.ensures.value in
+    let order = rw (c.as_slice-label.ensures, rest_is) at c.cmp.ensures in
+    let nodes = c.args.self.now.arena.now.nodes.items in
+    let key = c.args.key.now in
+    lower_down g.K.Bytes.item g.met.K.Bytes.lawful key c.args.self.now _ c.args.id
+    c.index-node.result.now c.requires.descent c.requires.next reads refl
+    (sym yes ∙ c.if-starts_with.true)
+    (sym order ∙ greater_is c.cmp.result (sym c.ne.ensures ∙ c.if-ne.false))
+    (ap (λ l. c.args.self.now.len + length l) c.as_slice-label.ensures) refl
+    (λ front. c.put_value.ensures.found key nodes front c.requires.descent.found)
+    (c.put_value.ensures.row key nodes
+    ∙ ap (λ v. last_or (lower_row key nodes c.args.self.now.lower) (prefixed (take (c.args.self.now.len + length c.as_slice-label.result.now) key) (own v))) c.as_ref.ensures.value)
