@@ -4,4 +4,5 @@ mod CursorLemmas
 pub mod FoundLemmas
 pub mod LeftLemmas
 mod LoanLemmas
+mod PopLemmas
 mod SetLemmas

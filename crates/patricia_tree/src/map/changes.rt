@@ -25,7 +25,8 @@ impl<K: Bytes, V: Drop> GenericPatriciaMap<K, V> {
     /// assert_eq!(rt; map.count_prefix("ba")?, 2);
     /// ```
     pub fn count_prefix<Q: BorrowedBytes<Owned = K>>(&self, prefix: Q) -> Result<usize, AllocError>
-        ensures count { IfOk result (λ n. n ≡ length (under (Q.key prefix) (map.entries self.now))) }
+        ensures count { IfOk result (λ n.
+            n ≡ length (under (Q.key prefix) (map.entries self.now))) }
         ensures err_only_if_matched { OnErr result
             (under (Q.key prefix) (map.entries self.now) ≢ []) }
     {
@@ -52,15 +53,16 @@ impl<K: Bytes, V: Drop> GenericPatriciaMap<K, V> {
     /// # Examples
     ///
     /// ```
-    /// let mut map = StringPatriciaMap::from_iter(rt.alloc(), [("bar", 1), ("baz", 2), ("foo", 3)])?;
+    /// let mut map = StringPatriciaMap::from_iter(rt.alloc(), [("bar", 1), ("baz", 2)])?;
     /// assert_eq!(rt; map.remove_prefix("ba")?, 2);
-    /// assert_eq!(rt; map.len(), 1);
+    /// assert!(rt; map.is_empty());
     /// ```
     pub fn remove_prefix<Q: BorrowedBytes<Owned = K>>(
         &mut self,
         prefix: Q,
     ) -> Result<usize, AllocError>
-        ensures count { IfOk result (λ n. n ≡ length (under (Q.key prefix) (map.entries self.old))) }
+        ensures count { IfOk result (λ n.
+            n ≡ length (under (Q.key prefix) (map.entries self.old))) }
         ensures left { OnOk result (
             map.entries self.new ≡ outside (Q.key prefix) (map.entries self.old)) }
         ensures unchanged { OnErr result (self.new ≡ self.old) }

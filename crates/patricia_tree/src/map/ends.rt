@@ -1,12 +1,15 @@
-//! The first entry, and the one after a key.
-ghost use Rattle.std.specs.Prelude.{◌≡◌, ◌≢◌, [], Some, true, false, IfOk, OnErr};
-ghost use Rattle.std.specs.Prelude.{slice_get};
+//! The first and the last entry, and those next to a key.
+ghost use Rattle.std.specs.Prelude.{◌≡◌, ◌≢◌, [], Some, None, OnOk, true, false, IfOk, OnErr};
+ghost use Rattle.std.specs.Prelude.{ℕ, List, slice_get};
+ghost use Rattle.std.specs.List.{last_or};
+ghost use Rattle.std.specs.Map.Iter.{TakesFirst, TakesLast};
 ghost use Rattle.std.specs.Option.{option_map};
 ghost use Rattle.std.specs.FinMap as map;
 ghost use Rattle.patricia_core.specs.Cursors.{after};
+ghost use Rattle.patricia_core.specs.Ranges.{before};
 
 use super::GenericPatriciaMap;
-use patricia_core::keys::{BorrowedBytes, Bytes};
+use patricia_core::keys::{BorrowedBytes, Bytes, KeyBytes};
 use std::alloc::AllocError;
 
 // Whether there is an entry and it is that of the key.
@@ -80,5 +83,151 @@ impl<K: Bytes, V: Drop> GenericPatriciaMap<K, V> {
             return cursor.next_entry();
         }
         Ok(next)
+    }
+
+    /// Returns the last entry in key order, with an owned key, or `None` where there is none.
+    ///
+    /// Takes time in proportion to the nodes on the way, siblings among them, and to the bytes of
+    /// the key.
+    ///
+    /// # Errors
+    ///
+    /// Out of memory for the key.
+    ///
+    /// # Examples
+    ///
+    /// ```
+    /// let map = StringPatriciaMap::from_iter(rt.alloc(), [("foo", 1), ("bar", 2)])?;
+    /// if let Some((key, value)) = map.last_key_value()? {
+    ///     assert_eq!(rt; (key.as_str(), value), ("foo", &1));
+    /// }
+    /// ```
+    pub fn last_key_value(&self) -> Result<Option<(K, &V)>, AllocError>
+        ensures { IfOk result (λ entry. option_map (λ e. (K.key e.0, e.1.now)) entry
+            ≡ last_or None (map.entries self.now)) }
+    {
+        self.tree.last()
+    }
+
+    /// Returns the last entry whose key comes before a key, with an owned key, or `None` where
+    /// there is none. The key that is passed need not be there.
+    ///
+    /// Takes the time of a look-up, and of one descent from there to the entry.
+    ///
+    /// # Errors
+    ///
+    /// Out of memory for the key of the entry.
+    ///
+    /// # Examples
+    ///
+    /// ```
+    /// let map = StringPatriciaMap::from_iter(rt.alloc(), [("bar", 1), ("foo", 2)])?;
+    /// if let Some((key, value)) = map.last_before("foo")? {
+    ///     assert_eq!(rt; (key.as_str(), value), ("bar", &1));
+    /// }
+    /// assert!(rt; map.last_before("bar")?.is_none());
+    /// ```
+    pub fn last_before<Q: BorrowedBytes<Owned = K>>(
+        &self,
+        key: Q,
+    ) -> Result<Option<(K, &V)>, AllocError>
+        ensures { IfOk result (λ entry. option_map (λ e. (K.key e.0, e.1.now)) entry
+            ≡ last_or None (before (Q.key key) (map.entries self.now))) }
+    {
+        self.tree.last_before(key)
+    }
+
+    // The first key.
+    fn first_key(&self) -> Result<Option<K>, AllocError>
+        ensures key { IfOk result (λ key. option_map K.key key
+            ≡ option_map (λ e. e.0) (slice_get (map.entries self.now) 0)) }
+        ensures err_only_nonempty { OnErr result (map.entries self.now ≢ []) }
+    {
+        match self.first_key_value()? {
+            Some((key, _)) => Ok(Some(key)),
+            None => Ok(None),
+        }
+    }
+
+    // The last key.
+    fn last_key(&self) -> Result<Option<K>, AllocError>
+        ensures { IfOk result (λ key. option_map K.key key
+            ≡ option_map (λ e. e.0) (last_or None (map.entries self.now))) }
+    {
+        match self.last_key_value()? {
+            Some((key, _)) => Ok(Some(key)),
+            None => Ok(None),
+        }
+    }
+
+    // Removes the entry of a key, and returns it with that key.
+    fn take_entry(&mut self, key: K) -> Result<Option<(K, V)>, AllocError>
+        ensures entry { IfOk result (λ entry. option_map (λ e. (K.key e.0, e.1)) entry
+            ≡ option_map {U = List ℕ × V} (λ v. (K.key key, v)) (map.get self.old (K.key key))) }
+        ensures left { OnOk result (self.new ≡ map.remove self.old (K.key key)) }
+        ensures unchanged { OnErr result (self.new ≡ self.old) }
+    {
+        match self.remove(KeyBytes::of(&key))? {
+            Some(value) => Ok(Some((key, value))),
+            None => Ok(None),
+        }
+    }
+
+    /// Removes the first entry in key order, and returns it, or `None` where there is none.
+    ///
+    /// Takes the time of `first_key_value` and of a look-up, in which the kind of keys checks at
+    /// each node that what is left of the key is valid.
+    ///
+    /// # Errors
+    ///
+    /// Out of memory for the key, or for a joined label: the map is unchanged. Never for an empty
+    /// map.
+    ///
+    /// # Examples
+    ///
+    /// ```
+    /// let mut map = StringPatriciaMap::from_iter(rt.alloc(), [("foo", 1), ("bar", 2)])?;
+    /// if let Some((key, value)) = map.pop_first()? {
+    ///     assert_eq!(rt; (key.as_str(), value), ("bar", 2));
+    /// }
+    /// assert_eq!(rt; map.len(), 1);
+    /// ```
+    pub fn pop_first(&mut self) -> Result<Option<(K, V)>, AllocError>
+        ensures taken { IfOk result (λ entry. TakesFirst (λ e. (K.key e.0, e.1))
+            (map.entries self.old) entry (map.entries self.new)) }
+        ensures unchanged { OnErr result (self.new ≡ self.old) }
+    {
+        match self.first_key()? {
+            Some(key) => self.take_entry(key),
+            None => Ok(None),
+        }
+    }
+
+    /// Removes the last entry in key order, and returns it, or `None` where there is none.
+    ///
+    /// Takes the time of `last_key_value` and of a look-up, as `pop_first` does.
+    ///
+    /// # Errors
+    ///
+    /// Out of memory for the key, or for a joined label: the map is unchanged.
+    ///
+    /// # Examples
+    ///
+    /// ```
+    /// let mut map = StringPatriciaMap::from_iter(rt.alloc(), [("foo", 1), ("bar", 2)])?;
+    /// if let Some((key, value)) = map.pop_last()? {
+    ///     assert_eq!(rt; (key.as_str(), value), ("foo", 1));
+    /// }
+    /// assert_eq!(rt; map.len(), 1);
+    /// ```
+    pub fn pop_last(&mut self) -> Result<Option<(K, V)>, AllocError>
+        ensures taken { IfOk result (λ entry. TakesLast (λ e. (K.key e.0, e.1))
+            (map.entries self.old) entry (map.entries self.new)) }
+        ensures unchanged { OnErr result (self.new ≡ self.old) }
+    {
+        match self.last_key()? {
+            Some(key) => self.take_entry(key),
+            None => Ok(None),
+        }
     }
 }

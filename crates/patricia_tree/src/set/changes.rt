@@ -22,7 +22,8 @@ impl<T: Bytes> GenericPatriciaSet<T> {
     /// assert_eq!(rt; set.count_prefix("ba")?, 2);
     /// ```
     pub fn count_prefix<Q: BorrowedBytes<Owned = T>>(&self, prefix: Q) -> Result<usize, AllocError>
-        ensures count { IfOk result (λ n. n ≡ length (under (Q.key prefix) (map.entries self.now))) }
+        ensures count { IfOk result (λ n.
+            n ≡ length (under (Q.key prefix) (map.entries self.now))) }
         ensures err_only_if_matched { OnErr result
             (under (Q.key prefix) (map.entries self.now) ≢ []) }
     {
@@ -49,7 +50,8 @@ impl<T: Bytes> GenericPatriciaSet<T> {
         &mut self,
         prefix: Q,
     ) -> Result<usize, AllocError>
-        ensures count { IfOk result (λ n. n ≡ length (under (Q.key prefix) (map.entries self.old))) }
+        ensures count { IfOk result (λ n.
+            n ≡ length (under (Q.key prefix) (map.entries self.old))) }
         ensures left { OnOk result (
             map.entries self.new ≡ outside (Q.key prefix) (map.entries self.old)) }
         ensures unchanged { OnErr result (self.new ≡ self.old) }
