@@ -1,6 +1,8 @@
 //! The calls on single entries, and those on the whole map.
 ghost use Rattle.std.specs.Prelude.{◌≡◌, ◌≢◌, ◌≤◌, [], Some, None, true, false, IfOk, OnErr};
 ghost use Rattle.std.specs.FinMap as map;
+ghost use Rattle.patricia_tree.specs.ByteKind.{IsByteItem};
+ghost use Rattle.patricia_tree.specs.Points.{Joins};
 ghost use Rattle.patricia_c.specs.Maps.{map_of};
 
 use crate::map_place::MapPlace;
@@ -101,6 +103,8 @@ pub extern "C" fn patricia_remove(at: &mut MapPlace, key: &[u8], old: &mut u64) 
     ensures removed { result ≢ 2 →
         map_of at.new.pointer.stored ≡ map.remove (map_of at.old.pointer.stored) key.now }
     ensures refused { result ≡ 2 → map_of at.new.pointer.stored ≡ map_of at.old.pointer.stored }
+    ensures joins { result ≡ 2 →
+        Joins IsByteItem (map.keys (map_of at.old.pointer.stored)) key.now }
     ensures missing { result ≡ 0 → map.get (map_of at.old.pointer.stored) key.now ≡ None }
     ensures found { result ≡ 1 → map.get (map_of at.old.pointer.stored) key.now ≡ Some old.new }
     ensures unwritten { result ≢ 1 → old.new ≡ old.old }
