@@ -3,7 +3,7 @@
 use crate::iter::{CommonPrefixes, IntoIter, Iter, IterMut, Keys, Values, ValuesMut};
 use crate::key::Key;
 use crate::slab::Slab;
-use crate::tree::{DecodeError, TooDeep, Tree};
+use crate::tree::{DecodeError, TooDeep, Tree, Width};
 use std::fmt;
 use std::marker::PhantomData;
 use std::ops::Index;
@@ -185,12 +185,23 @@ impl<K: Key, V> GenericPatriciaMap<K, V> {
 impl<V> GenericPatriciaMap<Vec<u8>, V> {
     /// Returns the encoding of the keys, which is the same whatever was inserted and removed.
     pub fn tree_bytes(&self) -> Result<Vec<u8>, TooDeep> {
-        self.tree.tree_bytes()
+        self.tree.tree_bytes(Width::Two)
+    }
+
+    /// Returns the encoding in which each level takes four bytes.
+    pub fn wide_tree_bytes(&self) -> Result<Vec<u8>, TooDeep> {
+        self.tree.tree_bytes(Width::Four)
     }
 
     /// Makes a map of tree bytes and of the values in key order.
     pub fn from_tree_bytes(bytes: &[u8], values: Vec<V>) -> Result<Self, DecodeError> {
-        let tree = Tree::from_tree_bytes(bytes, values.len())?;
+        let tree = Tree::from_tree_bytes(bytes, values.len(), Width::Two)?;
+        Ok(Self::of(tree, values.into_iter().collect()))
+    }
+
+    /// Makes a map of wide tree bytes and of the values in key order.
+    pub fn from_wide_tree_bytes(bytes: &[u8], values: Vec<V>) -> Result<Self, DecodeError> {
+        let tree = Tree::from_tree_bytes(bytes, values.len(), Width::Four)?;
         Ok(Self::of(tree, values.into_iter().collect()))
     }
 }

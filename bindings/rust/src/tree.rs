@@ -67,6 +67,12 @@ extern "C" {
     fn patricia_iterator_len(iterator: *mut Place) -> usize;
     fn patricia_iterator_free(iterator: *mut Place);
     fn patricia_tree_bytes(map: *mut Place, array: *mut u8, size: usize, len: *mut usize) -> u32;
+    fn patricia_wide_tree_bytes(
+        map: *mut Place,
+        array: *mut u8,
+        size: usize,
+        len: *mut usize,
+    ) -> u32;
     fn patricia_from_tree_bytes(
         map: *mut Place,
         bytes: *const u8,
@@ -75,6 +81,21 @@ extern "C" {
         count: usize,
         offset: *mut usize,
     ) -> u32;
+    fn patricia_from_wide_tree_bytes(
+        map: *mut Place,
+        bytes: *const u8,
+        len: usize,
+        values: *const u64,
+        count: usize,
+        offset: *mut usize,
+    ) -> u32;
+}
+
+/// In how many bytes a level is encoded.
+#[derive(Clone, Copy)]
+pub(crate) enum Width {
+    Two,
+    Four,
 }
 
 /// Tree bytes and values that are no whole tree: the first fault, and where it is.
@@ -107,7 +128,7 @@ impl fmt::Display for DecodeError {
 
 impl Error for DecodeError {}
 
-/// A record of the encoding would lie deeper than level 65,535.
+/// A record of the encoding would lie deeper than level 65,535, or 4,294,967,295 in the wide one.
 #[derive(Clone, Copy, Debug, PartialEq, Eq)]
 pub struct TooDeep;
 
@@ -264,14 +285,17 @@ impl Tree {
         rows
     }
 
-    pub(crate) fn tree_bytes(&self) -> Result<Vec<u8>, TooDeep> {
+    pub(crate) fn tree_bytes(&self, width: Width) -> Result<Vec<u8>, TooDeep> {
+        let write = match width {
+            Width::Two => patricia_tree_bytes,
+            Width::Four => patricia_wide_tree_bytes,
+        };
         let mut bytes = vec![0; 64];
         loop {
             let mut len = 0;
             // SAFETY: the place as in `len`; the vector has as many bytes as its length says.
-            let result = unsafe {
-                patricia_tree_bytes(self.place.get(), bytes.as_mut_ptr(), bytes.len(), &mut len)
-            };
+            let result =
+                unsafe { write(self.place.get(), bytes.as_mut_ptr(), bytes.len(), &mut len) };
             match result {
                 NO_ROOM => bytes.resize(len, 0),
                 NO_MEMORY => out_of_memory(),
@@ -285,13 +309,21 @@ impl Tree {
     }
 
     /// The tree of these bytes, with the numbers 0, 1, 2, .. below `count` in key order.
-    pub(crate) fn from_tree_bytes(bytes: &[u8], count: usize) -> Result<Tree, DecodeError> {
+    pub(crate) fn from_tree_bytes(
+        bytes: &[u8],
+        count: usize,
+        width: Width,
+    ) -> Result<Tree, DecodeError> {
+        let read = match width {
+            Width::Two => patricia_from_tree_bytes,
+            Width::Four => patricia_from_wide_tree_bytes,
+        };
         let tree = Tree::new();
         let numbers: Vec<u64> = (0..count as u64).collect();
         let mut offset = 0;
         // SAFETY: the place is empty; the bytes and the numbers are slices.
         let code = unsafe {
-            patricia_from_tree_bytes(
+            read(
                 tree.place.get(),
                 bytes.as_ptr(),
                 bytes.len(),

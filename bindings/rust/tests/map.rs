@@ -205,6 +205,13 @@ fn tree_bytes() {
     assert_eq!(cut.to_string(), "record cut short at 4");
     let many = PatriciaMap::from_tree_bytes(&bytes, vec!["one", "two"]).unwrap_err();
     assert_eq!(many.to_string(), "too many values");
+    let wide = map.wide_tree_bytes().unwrap();
+    assert_eq!(wide, [12, 0, 0, 0, 0, 0, 3, 1, 0, 0, 0, 1, 97]);
+    assert_eq!(
+        PatriciaMap::from_wide_tree_bytes(&wide, vec!["one"]).unwrap(),
+        map
+    );
+    assert!(PatriciaMap::from_tree_bytes(&wide, vec!["one"]).is_err());
 }
 
 #[test]
