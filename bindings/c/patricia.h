@@ -76,6 +76,7 @@ enum {
     PATRICIA_NO_MEMORY = 2,
     PATRICIA_TOO_DEEP = 3, /* the encoding has no room for a level */
     PATRICIA_NO_ROOM = 4,  /* the array is too small */
+    PATRICIA_NOT_TEXT = 5, /* the key is not UTF-8 */
 
     /* Faults of tree bytes, in the order in which the rules for a record are tried. The offset is
      * that of the first byte of the record, or for PATRICIA_TRAILING_BYTES of the first byte behind
@@ -181,6 +182,69 @@ uint32_t patricia_from_tree_bytes(patricia_map *map, const uint8_t *bytes, size_
 /* The same of what patricia_wide_tree_bytes wrote. */
 uint32_t patricia_from_wide_tree_bytes(patricia_map *map, const uint8_t *bytes, size_t len,
                                        const uint64_t *values, size_t count, size_t *offset);
+
+/* Texts. A map of texts is a map whose keys are UTF-8, as these functions see to: they return
+ * PATRICIA_NOT_TEXT for a key that is not, and change and write nothing then. All other functions take
+ * such a map, too. A map that was made of tree bytes may have any keys. */
+
+/* Returns whether the bytes are UTF-8. */
+bool patricia_is_text(const uint8_t *bytes, size_t len);
+
+/* Returns how many bytes at the front are whole characters; the bytes may end inside one, or hold what
+ * is no character. */
+size_t patricia_text_floor(const uint8_t *bytes, size_t len);
+
+/* As patricia_insert. */
+static inline uint32_t patricia_text_insert(patricia_map *map, const char *text, size_t len,
+                                            uint64_t value, uint64_t *old)
+{
+    const uint8_t *key = (const uint8_t *)text;
+    return patricia_is_text(key, len) ? patricia_insert(map, key, len, value, old)
+                                      : (uint32_t)PATRICIA_NOT_TEXT;
+}
+
+/* As patricia_get: PATRICIA_FOUND where the text is there, and PATRICIA_ABSENT where not. */
+static inline uint32_t patricia_text_get(patricia_map *map, const char *text, size_t len,
+                                         uint64_t *value)
+{
+    const uint8_t *key = (const uint8_t *)text;
+    if (!patricia_is_text(key, len))
+        return PATRICIA_NOT_TEXT;
+    return patricia_get(map, key, len, value) ? PATRICIA_FOUND : PATRICIA_ABSENT;
+}
+
+/* As patricia_remove. */
+static inline uint32_t patricia_text_remove(patricia_map *map, const char *text, size_t len,
+                                            uint64_t *old)
+{
+    const uint8_t *key = (const uint8_t *)text;
+    return patricia_is_text(key, len) ? patricia_remove(map, key, len, old)
+                                      : (uint32_t)PATRICIA_NOT_TEXT;
+}
+
+/* As patricia_longest_prefix: PATRICIA_FOUND where some text is a prefix, and PATRICIA_ABSENT where
+ * none is. */
+static inline uint32_t patricia_text_longest_prefix(patricia_map *map, const char *text, size_t len,
+                                                    size_t *prefix_len, uint64_t *value)
+{
+    const uint8_t *key = (const uint8_t *)text;
+    if (!patricia_is_text(key, len))
+        return PATRICIA_NOT_TEXT;
+    return patricia_longest_prefix(map, key, len, prefix_len, value) ? PATRICIA_FOUND
+                                                                     : PATRICIA_ABSENT;
+}
+
+/* As patricia_longest_common_prefix_len, of whole characters: writes the number of their bytes to
+ * *common and returns PATRICIA_DONE. */
+static inline uint32_t patricia_text_longest_common_prefix_len(patricia_map *map, const char *text,
+                                                               size_t len, size_t *common)
+{
+    const uint8_t *key = (const uint8_t *)text;
+    if (!patricia_is_text(key, len))
+        return PATRICIA_NOT_TEXT;
+    *common = patricia_text_floor(key, patricia_longest_common_prefix_len(map, key, len));
+    return PATRICIA_DONE;
+}
 
 /* Sets. A set is a map with the value 0 at each of its elements: the functions of a map that have no
  * other here, as patricia_len, patricia_split_by_prefix, patricia_iterate and patricia_tree_bytes,

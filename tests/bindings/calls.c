@@ -215,6 +215,34 @@ static void sets(void)
     patricia_iterator_free(&iterator);
 }
 
+static void texts(void)
+{
+    patricia_map map = PATRICIA_MAP_INIT;
+    uint64_t value = 77;
+    size_t len = 78;
+    CHECK(patricia_is_text(bytes_of("\303\251"), 2) && patricia_is_text(bytes_of(""), 0));
+    CHECK(!patricia_is_text(bytes_of("\303"), 1) && !patricia_is_text(bytes_of("\355\240\200"), 3));
+    CHECK(patricia_text_floor(bytes_of("a\303\251\303"), 4) == 3);
+    CHECK(patricia_text_insert(&map, "\303\251", 2, 5, &value) == PATRICIA_ABSENT);
+    CHECK(patricia_text_insert(&map, "\303\251", 2, 6, &value) == PATRICIA_FOUND && value == 5);
+    value = 77;
+    CHECK(patricia_text_insert(&map, "\303", 1, 7, &value) == PATRICIA_NOT_TEXT);
+    CHECK(patricia_text_get(&map, "\303", 1, &value) == PATRICIA_NOT_TEXT);
+    CHECK(patricia_text_remove(&map, "\303", 1, &value) == PATRICIA_NOT_TEXT);
+    CHECK(patricia_text_longest_prefix(&map, "\303", 1, &len, &value) == PATRICIA_NOT_TEXT);
+    CHECK(patricia_text_longest_common_prefix_len(&map, "\303", 1, &len) == PATRICIA_NOT_TEXT);
+    CHECK(value == 77 && len == 78 && patricia_len(&map) == 1);
+    CHECK(patricia_text_get(&map, "e", 1, &value) == PATRICIA_ABSENT && value == 77);
+    CHECK(patricia_text_get(&map, "\303\251", 2, &value) == PATRICIA_FOUND && value == 6);
+    CHECK(patricia_text_longest_prefix(&map, "\303\251a", 3, &len, &value) == PATRICIA_FOUND && len == 2);
+    CHECK(patricia_text_longest_prefix(&map, "\303\250", 2, &len, &value) == PATRICIA_ABSENT);
+    CHECK(patricia_longest_common_prefix_len(&map, bytes_of("\303\250"), 2) == 1);
+    CHECK(patricia_text_longest_common_prefix_len(&map, "\303\250", 2, &len) == PATRICIA_DONE && len == 0);
+    CHECK(patricia_text_longest_common_prefix_len(&map, "\303\251a", 3, &len) == PATRICIA_DONE && len == 2);
+    CHECK(patricia_text_remove(&map, "\303\251", 2, &value) == PATRICIA_FOUND && value == 6);
+    patricia_free(&map);
+}
+
 int main(void)
 {
     empty_map();
@@ -224,6 +252,7 @@ int main(void)
     encodings();
     faults();
     sets();
+    texts();
     puts("ok");
     return 0;
 }

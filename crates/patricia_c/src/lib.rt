@@ -14,3 +14,4 @@ mod map_pointer;
 mod prefixes;
 mod raw_box;
 mod rows_pointer;
+mod texts;
