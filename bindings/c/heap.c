@@ -1,8 +1,8 @@
 /* The heap of the library: the program's malloc, realloc and free.
  *
- * `ok` says whether there was memory. A block of no bytes takes as many as its alignment says, so that
- * malloc is never asked for 0. Each alignment is at most 16. A program that is linked statically may
- * define these three functions itself: the linker then takes none from here. */
+ * `ok` says whether there was memory. A block of no bytes takes as many as its alignment says, so
+ * that malloc is never asked for 0. Each alignment is at most 16. A program that is linked
+ * statically may define these three functions itself: the linker then takes none from here. */
 #include <stdbool.h>
 #include <stddef.h>
 #include <stdlib.h>

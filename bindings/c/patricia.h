@@ -5,9 +5,9 @@
  *
  * MAPS AND ITERATORS
  *     A patricia_map, or a patricia_iterator, is an object of the program: two words, which these
- *     functions alone read and write. One that is all zero bytes is the empty map, or an iterator at
- *     its end, so it is made by PATRICIA_MAP_INIT or PATRICIA_ITERATOR_INIT, by static storage, by
- *     calloc or by memset. patricia_free makes a map empty and frees its memory, and
+ *     functions alone read and write. One that is all zero bytes is the empty map, or an iterator
+ *     at its end, so it is made by PATRICIA_MAP_INIT or PATRICIA_ITERATOR_INIT, by static storage,
+ *     by calloc or by memset. patricia_free makes a map empty and frees its memory, and
  *     patricia_iterator_free does so of an iterator; either may be called any number of times.
  *
  * RESTRICTIONS
@@ -15,8 +15,9 @@
  *     undefined.
  *
  *     - Each map and iterator is all zero bytes, or as the last call left it.
- *     - A map or an iterator may be moved, by assignment or memcpy, but not copied: once it is moved
- *       the old object is not used again, unless it is made all zero. patricia_clone makes a copy.
+ *     - A map or an iterator may be moved, by assignment or memcpy, but not copied: once it is
+ *       moved the old object is not used again, unless it is made all zero. patricia_clone makes a
+ *       copy.
  *     - Pointers are not null and point to objects of their type. A pointer to bytes or to values
  *       points to as many as the number that follows it; where that number is 0, it is not null
  *       either, but may point anywhere. No array has more than PTRDIFF_MAX bytes.
@@ -87,7 +88,7 @@ enum {
     PATRICIA_ROOT_SIBLING = 15,      /* the root has a sibling mark */
     PATRICIA_EMPTY_LABEL = 16,       /* it has no label and is not the root */
     PATRICIA_INVALID_LABEL = 17,     /* its label is no valid key: never for byte strings */
-    PATRICIA_SIBLING_ORDER = 18,     /* its first byte is not greater than its sibling's before it */
+    PATRICIA_SIBLING_ORDER = 18,     /* its first byte is not above its sibling's before it */
     PATRICIA_NO_VALUE_NO_CHILD = 19, /* it has no mark and is not the root */
     PATRICIA_TOO_FEW_VALUES = 20,    /* no value is left for its mark */
     PATRICIA_TRAILING_BYTES = 21,    /* bytes follow the last record */
@@ -133,24 +134,24 @@ bool patricia_longest_prefix(patricia_map *map, const uint8_t *key, size_t key_l
  * the most; 0 for the empty map. */
 size_t patricia_longest_common_prefix_len(patricia_map *map, const uint8_t *key, size_t key_len);
 
-/* Frees what *part holds, and moves the entries whose key begins with the prefix there. Returns false
- * where memory runs out: *part is empty then, and all entries stay in the map. */
+/* Frees what *part holds, and moves the entries whose key begins with the prefix there. Returns
+ * false where memory runs out: *part is empty then, and all entries stay in the map. */
 bool patricia_split_by_prefix(patricia_map *map, const uint8_t *prefix, size_t prefix_len,
                               patricia_map *part);
 
 /* Iterators */
 
 /* Frees what *iterator holds, and writes an iterator over the entries whose key begins with the
- * prefix, in the order of the keys; all entries begin with the empty prefix. The iterator has copies
- * of them, so the map may be changed or freed meanwhile, and the iterator gives the entries as they
- * were. Returns false where memory runs out: the iterator is at its end then. */
+ * prefix, in the order of the keys; all entries begin with the empty prefix. The iterator has
+ * copies of them, so the map may be changed or freed meanwhile, and the iterator gives the
+ * entries as they were. Returns false where memory runs out: the iterator is at its end then. */
 bool patricia_iterate(patricia_map *map, const uint8_t *prefix, size_t prefix_len,
                       patricia_iterator *iterator);
 
-/* Takes the next entry from the iterator. Returns PATRICIA_ENTRY, and writes the key to the array, its
- * length to *key_len and the value to *value; or PATRICIA_END where none is left. PATRICIA_NO_ROOM:
- * the key is longer than the array. Its length is written to *key_len and nothing to the others, and
- * the entry is still the next one. */
+/* Takes the next entry from the iterator. Returns PATRICIA_ENTRY, and writes the key to the
+ * array, its length to *key_len and the value to *value; or PATRICIA_END where none is left.
+ * PATRICIA_NO_ROOM: the key is longer than the array. Its length is written to *key_len and
+ * nothing to the others, and the entry is still the next one. */
 uint32_t patricia_iterator_next(patricia_iterator *iterator, uint8_t *array, size_t size,
                                 size_t *key_len, uint64_t *value);
 
@@ -162,19 +163,20 @@ void patricia_iterator_free(patricia_iterator *iterator);
 
 /* Tree bytes */
 
-/* Writes the encoding of the keys to the array and its length to *len, and returns PATRICIA_DONE. The
- * same keys have the same tree bytes, whatever was inserted and removed before. The values are not
- * encoded: they are to be stored beside the bytes, in the order of the keys. PATRICIA_NO_ROOM: the
- * array is too small and is not written, and *len is the length that it needs. PATRICIA_TOO_DEEP: a
- * record would lie deeper than level 65,535. PATRICIA_NO_MEMORY. The map is never changed. */
+/* Writes the encoding of the keys to the array and its length to *len, and returns PATRICIA_DONE.
+ * The same keys have the same tree bytes, whatever was inserted and removed before. The values
+ * are not encoded: they are to be stored beside the bytes, in the order of the keys.
+ * PATRICIA_NO_ROOM: the array is too small and is not written, and *len is the length that it
+ * needs. PATRICIA_TOO_DEEP: a record would lie deeper than level 65,535. PATRICIA_NO_MEMORY. The
+ * map is never changed. */
 uint32_t patricia_tree_bytes(patricia_map *map, uint8_t *array, size_t size, size_t *len);
 
 /* The same with levels of four bytes, so that a record may lie as deep as level 4,294,967,295. */
 uint32_t patricia_wide_tree_bytes(patricia_map *map, uint8_t *array, size_t size, size_t *len);
 
-/* Frees what the map holds, and makes it of tree bytes and the values in the order of the keys. Returns
- * PATRICIA_DONE; or PATRICIA_NO_MEMORY; or the first fault of the bytes or of the number of values,
- * with its offset in *offset. With each of these the map is empty. *offset is 0 with
+/* Frees what the map holds, and makes it of tree bytes and the values in the order of the keys.
+ * Returns PATRICIA_DONE; or PATRICIA_NO_MEMORY; or the first fault of the bytes or of the number
+ * of values, with its offset in *offset. With each of these the map is empty. *offset is 0 with
  * PATRICIA_NO_MEMORY, and is not written with PATRICIA_DONE. The bytes may be of any source. */
 uint32_t patricia_from_tree_bytes(patricia_map *map, const uint8_t *bytes, size_t len,
                                   const uint64_t *values, size_t count, size_t *offset);
@@ -184,14 +186,14 @@ uint32_t patricia_from_wide_tree_bytes(patricia_map *map, const uint8_t *bytes, 
                                        const uint64_t *values, size_t count, size_t *offset);
 
 /* Texts. A map of texts is a map whose keys are UTF-8, as these functions see to: they return
- * PATRICIA_NOT_TEXT for a key that is not, and change and write nothing then. All other functions take
- * such a map, too. A map that was made of tree bytes may have any keys. */
+ * PATRICIA_NOT_TEXT for a key that is not, and change and write nothing then. All other functions
+ * take such a map, too. A map that was made of tree bytes may have any keys. */
 
 /* Returns whether the bytes are UTF-8. */
 bool patricia_is_text(const uint8_t *bytes, size_t len);
 
-/* Returns how many bytes at the front are whole characters; the bytes may end inside one, or hold what
- * is no character. */
+/* Returns how many bytes at the front are whole characters; the bytes may end inside one, or hold
+ * what is no character. */
 size_t patricia_text_floor(const uint8_t *bytes, size_t len);
 
 /* As patricia_insert. */
@@ -246,9 +248,9 @@ static inline uint32_t patricia_text_longest_common_prefix_len(patricia_map *map
     return PATRICIA_DONE;
 }
 
-/* Sets. A set is a map with the value 0 at each of its elements: the functions of a map that have no
- * other here, as patricia_len, patricia_split_by_prefix, patricia_iterate and patricia_tree_bytes,
- * take a set as it is. */
+/* Sets. A set is a map with the value 0 at each of its elements: the functions of a map that have
+ * no other here, as patricia_len, patricia_split_by_prefix, patricia_iterate and
+ * patricia_tree_bytes, take a set as it is. */
 
 typedef patricia_map patricia_set;
 
@@ -275,7 +277,8 @@ static inline uint32_t patricia_set_remove(patricia_set *set, const uint8_t *ele
     return patricia_remove(set, element, len, &old);
 }
 
-/* Returns whether some element is a prefix of the key, and then writes the length of the longest. */
+/* Returns whether some element is a prefix of the key, and then writes the length of the longest
+ * to *prefix_len. */
 static inline bool patricia_set_longest_prefix(patricia_set *set, const uint8_t *key, size_t len,
                                                size_t *prefix_len)
 {

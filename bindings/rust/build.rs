@@ -1,5 +1,5 @@
-//! Says where libpatricia.a is: in the folder PATRICIA_LIB_DIR, or where `make -C bindings/c` builds
-//! it, or where pkg-config says that it is installed.
+//! Says where libpatricia.a is: in the folder PATRICIA_LIB_DIR, or where `make -C bindings/c`
+//! builds it, or where pkg-config says that it is installed.
 
 use std::env;
 use std::path::{Path, PathBuf};

@@ -1,4 +1,5 @@
-/* Random calls on two maps, each held against a plain model: an array with a place for each of 121 keys.
+/* Random calls on two maps, each held against a plain model: an array with a place for each of 121
+ * keys.
  *
  *     model [CALLS [SEED]]
  */
@@ -93,7 +94,8 @@ static void iterate(pair *p, const key_text *prefix)
     for (size_t i = 0; i < COUNT; i++) {
         if (!p->has[i] || !begins(prefix, &keys[i]))
             continue;
-        CHECK(patricia_iterator_next(&iterator, array, sizeof array, &len, &value) == PATRICIA_ENTRY);
+        CHECK(patricia_iterator_next(&iterator, array, sizeof array, &len, &value) ==
+              PATRICIA_ENTRY);
         CHECK(len == keys[i].len && memcmp(array, keys[i].bytes, len) == 0 && value == p->value[i]);
     }
     CHECK(patricia_iterator_next(&iterator, array, sizeof array, &len, &value) == PATRICIA_END);

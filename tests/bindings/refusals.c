@@ -47,13 +47,16 @@ void rattle_dealloc(void *at)
     free(at);
 }
 
-static const char *const KEYS[] = {"a longer key than a label holds in place", "a longer key", "a", "b", "",
-                                   "a longer kex", "another key that is long enough for a heap"};
+static const char *const KEYS[] = {
+    "a longer key than a label holds in place", "a longer key", "a", "b", "", "a longer kex",
+    "another key that is long enough for a heap",
+};
 enum { COUNT = sizeof KEYS / sizeof *KEYS };
 
 static const uint8_t *key(size_t i) { return (const uint8_t *)KEYS[i]; }
 
-/* Inserts the keys, and checks that the map has those that were not refused. Returns how many were. */
+/* Inserts the keys, and checks that the map has those that were not refused. Returns how many were.
+ */
 static size_t filled(patricia_map *map, bool *has)
 {
     size_t refused = 0, len = 0;

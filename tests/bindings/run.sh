@@ -19,7 +19,13 @@ WARNINGS='-Wall -Wextra -Wpedantic -Werror'
 MOST_SECONDS=300
 
 note() { # name, 0 where it passed
-    if [ "$2" -eq 0 ]; then echo "passed: $1"; passed=$((passed + 1)); else echo "FAILED: $1"; failed=$((failed + 1)); fi
+    if [ "$2" -eq 0 ]; then
+        passed=$((passed + 1))
+        echo "passed: $1"
+    else
+        failed=$((failed + 1))
+        echo "FAILED: $1"
+    fi
 }
 
 finish() {

@@ -1,5 +1,5 @@
-/* A map is made in one thread, changed in another and freed in a third; and two threads share a map with
- * a lock. */
+/* A map is made in one thread, changed in another and freed in a third; and two threads share a
+ * map with a lock. */
 #include "check.h"
 #include <patricia.h>
 #include <pthread.h>

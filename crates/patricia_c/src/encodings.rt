@@ -135,9 +135,9 @@ pub extern "C" fn patricia_wide_tree_bytes(
     }
 }
 
-/// Drops the entries of the map and makes it of tree bytes and values, in key order. Returns `DONE`,
-/// `NO_MEMORY`, or the code of the first fault, whose offset it writes to `offset`. Where it does
-/// not return `DONE` the place holds the empty map.
+/// Drops the entries of the map and makes it of tree bytes and values, in key order. Returns
+/// `DONE`, `NO_MEMORY`, or the code of the first fault, whose offset it writes to `offset`. Where
+/// it does not return `DONE` the place holds the empty map.
 #[unsafe(no_mangle)]
 pub extern "C" fn patricia_from_tree_bytes(
     alloc: Global,

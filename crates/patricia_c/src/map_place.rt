@@ -80,8 +80,8 @@ impl MapPlace {
         *self = MapPlace::of(self.alloc, stored);
     }
 
-    /// Removes the map from the place, or makes an empty one, and leaves the empty map. The error is
-    /// an allocation failure.
+    /// Removes the map from the place, or makes an empty one, and leaves the empty map. The error
+    /// is an allocation failure.
     pub(crate) fn take_or_make(&mut self, alloc: Global) -> Result<Box<StoredMap>, AllocError>
         ensures ok { IfOk result (λ b. b.value.map ≡ map_of self.old.pointer.stored) }
         ensures left { map_of self.new.pointer.stored ≡ map.empty }

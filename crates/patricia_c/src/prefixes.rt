@@ -8,8 +8,8 @@ ghost use Rattle.patricia_c.specs.Maps.{map_of, is_row};
 use crate::map_place::MapPlace;
 use std::alloc::Global;
 
-/// Returns whether some key is a prefix of this one, and then writes the length and the value of the
-/// longest.
+/// Returns whether some key is a prefix of this one, and then writes the length and the value of
+/// the longest.
 #[unsafe(no_mangle)]
 pub extern "C" fn patricia_longest_prefix(
     at: &mut MapPlace,
@@ -58,8 +58,8 @@ pub extern "C" fn patricia_longest_common_prefix_len(at: &mut MapPlace, key: &[u
     reach
 }
 
-/// Drops the entries of `part` and moves those whose key begins with the prefix there. Returns false
-/// where memory ran out: `part` holds the empty map then, and the entries stay.
+/// Drops the entries of `part` and moves those whose key begins with the prefix there. Returns
+/// false where memory ran out: `part` holds the empty map then, and the entries stay.
 #[unsafe(no_mangle)]
 pub extern "C" fn patricia_split_by_prefix(
     alloc: Global,
