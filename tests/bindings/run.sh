@@ -51,9 +51,8 @@ runs() { # name, the program with its arguments
 compiled() { # the program's name, flags
     local name=$1
     shift
-    # shellcheck disable=SC2046,SC2086
-    $CC -std=c11 -O1 -g $WARNINGS "$@" -o "$room/$name" "tests/bindings/${name%%.*}.c" \
-        $($pkg_config --cflags --libs patricia) -pthread
+    # shellcheck disable=SC2086
+    $CC -std=c11 -O1 -g $WARNINGS "$@" -o "$room/$name" "tests/bindings/${name%%.*}.c" $flags -pthread
 }
 
 archive=crates/patricia_c/out/libpatricia_c.a
@@ -67,10 +66,11 @@ make -s -C bindings/c ARCHIVE="$top/$archive" OUT="$room/built" PREFIX="$room/in
     { cat "$room/out"; note "make install" 1; finish; }
 note "make install" 0
 export PKG_CONFIG_PATH=$room/installed/lib/pkgconfig
-pkg_config=pkg-config
-if ! has pkg-config; then
-    # what pkg-config would print
-    pkg_config="echo -I$room/installed/include -L$room/installed/lib -lpatricia"
+if has pkg-config; then
+    flags=$(pkg-config --cflags --libs patricia)
+    note "pkg-config" $?
+else
+    flags="-I$room/installed/include -L$room/installed/lib -lpatricia"
     echo "pkg-config is not installed"
 fi
 
@@ -114,8 +114,8 @@ else
 fi
 
 if has "$CXX"; then
-    # shellcheck disable=SC2046,SC2086
-    $CXX -std=c++11 $WARNINGS -o "$room/plus" tests/bindings/plus.cpp $($pkg_config --cflags --libs patricia)
+    # shellcheck disable=SC2086
+    $CXX -std=c++11 $WARNINGS -o "$room/plus" tests/bindings/plus.cpp $flags
     note "c++ plus.cpp" $?
     runs "a program of C++" "$room/plus"
 else
@@ -126,7 +126,7 @@ python3 -B tests/bindings/declared.py
 note "what is declared is what is exported" $?
 
 # The examples of docs/BINDINGS.md are run as they stand there.
-python3 -B tests/bindings/documented.py "$room" "$($pkg_config --cflags --libs patricia)"
+python3 -B tests/bindings/documented.py "$room" "$flags"
 note "the examples of docs/BINDINGS.md" $?
 
 (cd bindings/python && PATRICIA_LIBRARY=$room/shared/libpatricia.so limited python3 -B -m unittest -q test_patricia) \
