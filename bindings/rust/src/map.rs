@@ -64,15 +64,9 @@ impl<K: Key, V> GenericPatriciaMap<K, V> {
 
     /// Inserts a value at a key, and returns the value that was there.
     pub fn insert<Q: AsRef<K::Borrowed>>(&mut self, key: Q, value: V) -> Option<V> {
-        let key = K::bytes(key.as_ref());
-        match self.tree.get(key) {
-            Some(number) => Some(self.values.replace(number, value)),
-            None => {
-                let number = self.values.insert(value);
-                self.tree.insert(key, number);
-                None
-            }
-        }
+        let number = self.values.insert(value);
+        let before = self.tree.insert(K::bytes(key.as_ref()), number)?;
+        Some(self.values.remove(before))
     }
 
     /// Removes a key, and returns the value that was there.

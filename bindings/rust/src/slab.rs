@@ -37,12 +37,6 @@ impl<V> Slab<V> {
         value
     }
 
-    /// Replaces the value under a number that some key has, and returns the one before.
-    pub(crate) fn replace(&mut self, number: u64, value: V) -> V {
-        let place = self.values[number as usize].replace(value);
-        place.expect("each number has a value")
-    }
-
     pub(crate) fn get(&self, number: u64) -> &V {
         let value = self.values[number as usize].as_ref();
         value.expect("each number has a value")
