@@ -1,6 +1,7 @@
 #!/bin/bash
 # Tests what C, C++, Python and Rust see of the library: builds the archive of the proved crate patricia_c where it is
-# not there yet, installs it into a folder of its own, and compiles and runs programs against what was installed.
+# not there yet or older than a source, installs it into a folder of its own, and compiles and runs programs against
+# what was installed.
 #
 #     tests/bindings/run.sh
 #
@@ -56,10 +57,9 @@ compiled() { # the program's name, flags
 }
 
 archive=crates/patricia_c/out/libpatricia_c.a
-if [ ! -e "$archive" ] && ! (cd crates/patricia_c && rt lib > "$room/lib.log" 2>&1); then
-    tail -n 20 "$room/lib.log"
-    note "rt lib in crates/patricia_c" 1
-    finish
+if [ ! -e "$archive" ] || [ -n "$(find crates/*/src crates/*/specs -newer "$archive" -print -quit)" ]; then
+    (cd crates/patricia_c && rt lib) > "$room/lib.log" 2>&1 ||
+        { tail -n 20 "$room/lib.log"; note "rt lib in crates/patricia_c" 1; finish; }
 fi
 
 make -s -C bindings/c ARCHIVE="$top/$archive" OUT="$room/built" PREFIX="$room/installed" install > "$room/out" 2>&1 ||
