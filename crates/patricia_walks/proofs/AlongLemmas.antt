@@ -1,5 +1,5 @@
 -- The steps of a walk along a key.
-use Rattle.std.proofs.Common.{◌≡◌, ℕ, ◌+◌, ◌-◌, ◌≤◌, true, false, List, ◌++◌, length, get_or, take}
+use Rattle.std.proofs.Common.{◌≡◌, ◌≢◌, ◌<◌, ◌∷◌, [], ℕ, ◌+◌, ◌-◌, ◌≤◌, true, false, List, ◌++◌, length, get_or, take}
 use Rattle.std.proofs.Common.{drop, Option, Some, None, refl, sym, ap, subst, ◌∙◌, arith}
 use Rattle.std.specs.Option.{option_copied}
 use Rattle.std.specs.Prelude.{nat_eq}
@@ -8,6 +8,7 @@ use Rattle.std.specs.declared.cmp.Ordering.{Ordering}
 use Rattle.std.specs.declared.cmp.Ordering.TheVariants.{Less, Equal, Greater}
 use Rattle.std.proofs.lemmas.List.{take-append-drop, length-take-le, length-append, length-drop}
 use Rattle.std.proofs.lemmas.List.{take_at, take_all}
+use Rattle.std.proofs.lemmas.Bool.Decides.{nat_tests}
 use Rattle.std.proofs.Math.Seq.{take-append-add, drop-append-add, drop-append_seam}
 use Rattle.patricia_keys.specs.Keys.{IsKeyKind, key_cmp}
 use Rattle.patricia_keys.proofs.KeyLemmas.{IsValid-nil, IsValid-append}
@@ -23,7 +24,7 @@ use Rattle.patricia_nodes.specs.declared.arena.NodeArena.{NodeArena}
 use Rattle.patricia_nodes.specs.Internal.Plans.{Nil, row, plan_at, IsPlan, IsWellFormed}
 use Rattle.patricia_nodes.specs.Internal.Plans.{siblings_of as slots_row}
 use Rattle.patricia_nodes.proofs.PlanLemmas.{plan_is}
-use Rattle.patricia_nodes.proofs.SeekLemmas.{opened, whole_plan}
+use Rattle.patricia_nodes.proofs.SeekLemmas.{head_within, opened, whole_plan}
 use Rattle.patricia_walks.specs.Internal.Positions.{row_at}
 use Rattle.patricia_walks.proofs.PositionLemmas.{row_none}
 use Rattle.patricia_walks.specs.declared.along.Descent.{Descent}
@@ -56,6 +57,28 @@ module _ (k l t : List ℕ) (n : ℕ) (within : n ≤ length k) (rest : l ++ t �
 pub some_step : {V : Type 0} (r : Siblings V) → 1 ≤ steps_in r
 some_step end = omega arith
 some_step (node l v c s) = omega arith
+
+-- a label does not begin a key with another first byte, or without one
+pub begins_otherwise : (l k : List ℕ) → l ≢ [] → (k ≢ [] → get_or k 0 0 ≢ get_or l 0 0)
+    → begins l k ≡ false
+begins_otherwise [] k some other = absurd (some refl)
+begins_otherwise (b ∷ l) [] some other = refl
+begins_otherwise (b ∷ l) (a ∷ k) some other =
+    let apart = other (λ none. absurd (cc)) in grind (arith, nat_tests)
+
+-- a key with the lesser first byte comes before a label
+pub less_first : (k l : List ℕ) → l ≢ [] → (k ≢ [] → get_or k 0 0 < get_or l 0 0)
+    → key_cmp k l ≡ Less
+less_first [] [] some less = absurd (some refl)
+less_first [] (b ∷ l) some less = refl
+less_first (a ∷ k) [] some less = absurd (some refl)
+less_first (a ∷ k) (b ∷ l) some less =
+    let first : a < b = less (λ none. absurd (cc)) in grind (arith, nat_tests)
+
+-- a length that is tested to be 0 is that of no byte
+pub tested_empty : (k : List ℕ) → nat_eq (length k) 0 ≡ true → k ≡ []
+tested_empty [] e = refl
+tested_empty (a ∷ k) e = absurd (grind (arith, nat_tests))
 
 -- no number is that of no node
 pub plan_none : {V : Type 0} (nodes : List (Node V)) → IsPlan nodes None (plan_at nodes None)
@@ -95,6 +118,10 @@ module _ (item : List ℕ → Type 0) (kind : IsKeyKind item) {V : Type 0} (k : 
   before : along_left k d ≡ prefixed (take d.len k)
       (along (drop d.len k) (entries (node n.label n.value child_row sibling_row)))
   before = ap (λ v. left_from k d.len (option_copied v) (siblings_left d)) taken ∙ ap (λ r. prefixed (take d.len k) (along (drop d.len k) (entries r))) opens.is
+
+  -- its label has a byte
+  pub labelled : n.label ≢ []
+  labelled = node_row.nonempty
 
   -- where a node's label begins what is left of the key, the step goes to its children
   pub moves_down : begins n.label (drop d.len k) ≡ true → e.len ≡ d.len + length n.label
@@ -157,6 +184,28 @@ module _ (item : List ℕ → Type 0) (kind : IsKeyKind item) {V : Type 0} (k : 
             ∙ sym before;
         less = rw (row_is, opens.is) (omega (arith, some_step child_row, some_step sibling_row));
       }
+
+  -- a key without a byte more, or with the lesser one, ends the walk
+  pub stops_before :
+      (drop d.len k ≢ [] → get_or (drop d.len k) 0 0 < get_or n.label 0 0) → e.len ≡ d.len
+      → e.pending ≡ d.pending → e.next ≡ None → Moves item k d e
+  stops_before less =
+      moves_off
+      (begins_otherwise n.label (drop d.len k) labelled (λ some same. omega (arith, less some, same)))
+      (less_first (drop d.len k) n.label labelled less)
+
+  -- past a label with the lesser first byte the walk is at the sibling
+  pub passes_by : get_or n.label 0 0 < get_or (drop d.len k) 0 0 → e.len ≡ d.len
+      → e.pending ≡ d.pending → e.next ≡ n.sibling → Moves item k d e
+  passes_by more =
+      moves_past
+      (begins_otherwise n.label (drop d.len k) labelled (λ some same. omega (arith, more, same)))
+
+-- the node of a walk is in the vector
+pub descent_within : (item : List ℕ → Type 0) {V : Type 0} (k : List ℕ) (d : Descent V) (id : ℕ)
+    → IsDescent item k d → d.next ≡ Some id → id < length d.arena.now.nodes.items
+descent_within item k d id w next =
+    let nodes = d.arena.now.nodes.items in head_within nodes d.next (plan_at nodes d.next) id w.plan next
 
 -- a slice of a list from a place to its end is all that is behind the place
 pub rest_is : (n : ℕ) (k : List ℕ) → take (length k - n) (drop n k) ≡ drop n k

@@ -51,9 +51,22 @@ impl<'a, V> Descent<'a, V> {
         requires next { self.old.next ≡ Some id }
         ensures { Moves K.item key.now self.old self.new }
     {
+        let rest = &key[self.len..];
+        let first = self.arena.nodes.first_byte(id);
+        if rest.is_empty() {
+            self.next = Link::none();
+            return;
+        }
+        if first < rest[0] {
+            self.next = self.arena.nodes.sibling(id);
+            return;
+        }
+        if rest[0] < first {
+            self.next = Link::none();
+            return;
+        }
         let node = &self.arena.nodes[id.index()];
         let label = node.label.as_slice();
-        let rest = &key[self.len..];
         if rest.starts_with(label) {
             self.len += label.len();
             self.pending = node.value.as_ref();

@@ -1,4 +1,6 @@
-use Rattle.std.proofs.Common.{refl, sym, ◌∙◌}
+use Rattle.std.proofs.Common.{refl, sym, ◌∙◌, arith}
+use Rattle.patricia_nodes.proofs.NodeVecLemmas.{node_there}
+use Rattle.patricia_walks.proofs.AlongLemmas.{stops_before, passes_by, descent_within, tested_empty}
 use Rattle.patricia_walks.proofs.AlongLemmas.{moves_down, moves_past, moves_off, rest_is, less_is}
 use Rattle.patricia_walks.proofs.along.Descent.pass.Goals as goal
 
@@ -20,7 +22,7 @@ returns-then-eq g c =
     c.index-node.result.now c.requires.descent c.requires.taken c.requires.next reads refl
     (sym other ∙ c.if-starts_with.false)
     (sym order ∙ less_is c.cmp.result (sym c.eq.ensures ∙ c.if-eq.true)) refl refl
-    c.none-self.ensures
+    c.none-self-then-eq.ensures
 
 pub returns-else-eq : goal.returns-else-eq
 returns-else-eq g c =
@@ -29,3 +31,40 @@ returns-else-eq g c =
     moves_past g.K.Bytes.item g.met.K.Bytes.lawful c.args.key.now c.args.self.now _ c.args.id
     c.index-node.result.now c.requires.descent c.requires.taken c.requires.next reads refl
     (sym other ∙ c.if-starts_with.false) refl refl refl
+
+pub first_byte-first-requires : goal.first_byte-first-requires
+first_byte-first-requires g c =
+    let within = descent_within g.K.Bytes.item c.args.key.now c.args.self.now c.args.id c.requires.descent c.requires.next in
+    omega (arith, within, c.args.self.now.arena.now.nodes.ok.0)
+
+pub index-node-requires : goal.index-node-requires
+index-node-requires g c =
+    let within = descent_within g.K.Bytes.item c.args.key.now c.args.self.now c.args.id c.requires.descent c.requires.next in
+    omega (arith, within, c.index.ensures, c.args.self.now.arena.now.nodes.ok.0)
+
+pub sibling-self-requires : goal.sibling-self-requires
+sibling-self-requires g c =
+    let within = descent_within g.K.Bytes.item c.args.key.now c.args.self.now c.args.id c.requires.descent c.requires.next in
+    omega (arith, within, c.args.self.now.arena.now.nodes.ok.0)
+
+pub returns-then-is_empty : goal.returns-then-is_empty
+returns-then-is_empty g c =
+    let n = node_there _ _ (descent_within g.K.Bytes.item c.args.key.now c.args.self.now c.args.id c.requires.descent c.requires.next) in
+    let empty = tested_empty _ (rw rest_is at (sym c.is_empty.ensures ∙ c.if-is_empty.true)) in
+    stops_before g.K.Bytes.item g.met.K.Bytes.lawful c.args.key.now c.args.self.now _ c.args.id
+    n.0 c.requires.descent c.requires.taken c.requires.next n.1 refl
+    (λ some. absurd (some empty)) refl refl c.none-self.ensures
+
+pub returns-then-first-rest : goal.returns-then-first-rest
+returns-then-first-rest g c =
+    let n = node_there _ _ (descent_within g.K.Bytes.item c.args.key.now c.args.self.now c.args.id c.requires.descent c.requires.next) in
+    passes_by g.K.Bytes.item g.met.K.Bytes.lawful c.args.key.now c.args.self.now _ c.args.id
+    n.0 c.requires.descent c.requires.taken c.requires.next n.1 refl
+    (rw (rest_is, c.first_byte-first.ensures _ n.1) at c.if-first-rest.true) refl refl (c.sibling-self.ensures _ n.1)
+
+pub returns-then-rest-first : goal.returns-then-rest-first
+returns-then-rest-first g c =
+    let n = node_there _ _ (descent_within g.K.Bytes.item c.args.key.now c.args.self.now c.args.id c.requires.descent c.requires.next) in
+    stops_before g.K.Bytes.item g.met.K.Bytes.lawful c.args.key.now c.args.self.now _ c.args.id
+    n.0 c.requires.descent c.requires.taken c.requires.next n.1 refl
+    (λ some. rw (rest_is, c.first_byte-first.ensures _ n.1) at c.if-rest-first.true) refl refl c.none-self-then-rest-first.ensures
