@@ -8,10 +8,10 @@ given, and tells the shim tests/hostile/live.c by requests that are refused wher
 of the tree and of the values, and where it ends. The most that is live in a call above what was live when it began, a
 block that grows counted twice, may be EACH bytes for each byte given, and FIXED besides.
 
-EACH comes of the least record, a narrow one: 5 bytes, with a child and a sibling and no value. It may take a node of 64 bytes, of the
-records that are due one more, of 32 bytes, and 8 for a node that waits. A list has room for twice what it holds at the
-most, and counts three times while it grows, so this comes to 3 * 64 + 2 * (32 + 8) bytes, 55 for each byte of the
-record. FIXED is the first room for records that are due.
+EACH comes of the least record, a narrow one: 5 bytes, with a child and a sibling and no value. It may take a node of 64 bytes with
+2 beside it, of the records that are due one more, of 32 bytes, and 8 for a node that waits. A list has room for twice
+what it holds at the most, and counts three times while it grows, so this comes to 3 * 64 + 2 * (2 + 32 + 8) bytes, 56
+for each byte of the record. FIXED is the first room for records that are due.
 """
 import argparse
 import os
