@@ -87,9 +87,9 @@ fn count_prefix(rt: HostRuntime) -> anyhow::Result<()> {
 #[test]
 fn remove_prefix(rt: HostRuntime) -> anyhow::Result<()> {
     // example: map remove_prefix
-    let mut map = StringPatriciaMap::from_iter(rt.alloc(), [("bar", 1), ("baz", 2), ("foo", 3)])?;
+    let mut map = StringPatriciaMap::from_iter(rt.alloc(), [("bar", 1), ("baz", 2)])?;
     assert_eq!(rt; map.remove_prefix("ba")?, 2);
-    assert_eq!(rt; map.len(), 1);
+    assert!(rt; map.is_empty());
     // end
     Ok(())
 }
@@ -112,6 +112,53 @@ fn insert_with(rt: HostRuntime) -> anyhow::Result<()> {
     assert!(rt; !map.insert_with("foo", || 5)?);
     assert!(rt; map.insert_with("bar", || 5)?);
     assert_eq!(rt; map.get("bar"), Some(&5));
+    // end
+    Ok(())
+}
+
+#[test]
+fn last_key_value(rt: HostRuntime) -> anyhow::Result<()> {
+    // example: map last_key_value
+    let map = StringPatriciaMap::from_iter(rt.alloc(), [("foo", 1), ("bar", 2)])?;
+    if let Some((key, value)) = map.last_key_value()? {
+        assert_eq!(rt; (key.as_str(), value), ("foo", &1));
+    }
+    // end
+    Ok(())
+}
+
+#[test]
+fn last_before(rt: HostRuntime) -> anyhow::Result<()> {
+    // example: map last_before
+    let map = StringPatriciaMap::from_iter(rt.alloc(), [("bar", 1), ("foo", 2)])?;
+    if let Some((key, value)) = map.last_before("foo")? {
+        assert_eq!(rt; (key.as_str(), value), ("bar", &1));
+    }
+    assert!(rt; map.last_before("bar")?.is_none());
+    // end
+    Ok(())
+}
+
+#[test]
+fn pop_first(rt: HostRuntime) -> anyhow::Result<()> {
+    // example: map pop_first
+    let mut map = StringPatriciaMap::from_iter(rt.alloc(), [("foo", 1), ("bar", 2)])?;
+    if let Some((key, value)) = map.pop_first()? {
+        assert_eq!(rt; (key.as_str(), value), ("bar", 2));
+    }
+    assert_eq!(rt; map.len(), 1);
+    // end
+    Ok(())
+}
+
+#[test]
+fn pop_last(rt: HostRuntime) -> anyhow::Result<()> {
+    // example: map pop_last
+    let mut map = StringPatriciaMap::from_iter(rt.alloc(), [("foo", 1), ("bar", 2)])?;
+    if let Some((key, value)) = map.pop_last()? {
+        assert_eq!(rt; (key.as_str(), value), ("foo", 1));
+    }
+    assert_eq!(rt; map.len(), 1);
     // end
     Ok(())
 }

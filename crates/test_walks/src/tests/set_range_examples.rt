@@ -86,3 +86,42 @@ fn remove_prefix(rt: HostRuntime) -> Result<(), AllocError> {
     // end
     Ok(())
 }
+
+#[test]
+fn last(rt: HostRuntime) -> Result<(), AllocError> {
+    // example: set last
+    let set = StringPatriciaSet::from_iter(rt.alloc(), ["foo", "bar"])?;
+    assert_eq!(rt; set.last()?.as_deref(), Some("foo"));
+    // end
+    Ok(())
+}
+
+#[test]
+fn last_before(rt: HostRuntime) -> Result<(), AllocError> {
+    // example: set last_before
+    let set = StringPatriciaSet::from_iter(rt.alloc(), ["foo", "bar"])?;
+    assert_eq!(rt; set.last_before("foo")?.as_deref(), Some("bar"));
+    assert!(rt; set.last_before("bar")?.is_none());
+    // end
+    Ok(())
+}
+
+#[test]
+fn pop_first(rt: HostRuntime) -> Result<(), AllocError> {
+    // example: set pop_first
+    let mut set = StringPatriciaSet::from_iter(rt.alloc(), ["foo", "bar"])?;
+    assert_eq!(rt; set.pop_first()?.as_deref(), Some("bar"));
+    assert_eq!(rt; set.len(), 1);
+    // end
+    Ok(())
+}
+
+#[test]
+fn pop_last(rt: HostRuntime) -> Result<(), AllocError> {
+    // example: set pop_last
+    let mut set = StringPatriciaSet::from_iter(rt.alloc(), ["foo", "bar"])?;
+    assert_eq!(rt; set.pop_last()?.as_deref(), Some("foo"));
+    assert_eq!(rt; set.len(), 1);
+    // end
+    Ok(())
+}
