@@ -1,8 +1,10 @@
 #!/bin/bash
 # Times the map, std's ordered map and, where Debian's libjudy-dev is installed, a JudySL array in
-# turn, three processes each: run.sh [KEYS ...]. Without a number of keys it runs with 820,000 and
-# with 1,000,000. Prints a table for each kind of keys, with the least of the three figures of each
-# and the ratio to std's map, and says when the nodes were last relocated.
+# turn, three processes each: run.sh [KEYS ...]. Where `rt lib` in crates/patricia_c has built the
+# archive, it times the map as C calls it, too, over malloc. Without a number of keys it runs with
+# 820,000 and with 1,000,000. Prints a table for each kind of keys, with the least of the three
+# figures of each and the ratio to std's map, or of the calls from C that to the map, and says when
+# the nodes were last relocated.
 set -euo pipefail
 cd "$(dirname "$0")/../.."
 if [ $# -eq 0 ]; then set -- 820000 1000000; fi
@@ -17,6 +19,11 @@ cp crates/bench_tree/out/bench_tree "$room/map"
 rustc -O --edition 2021 tests/bench/btree.rs -o "$room/btree"
 programs=(map btree)
 if cc -O2 -o "$room/judy" tests/bench/judy.c -lJudy 2> "$room/log"; then programs+=(judy); fi
+archive=crates/patricia_c/out/libpatricia_c.a
+if [ -e "$archive" ]; then
+    cc -O2 -Ibindings/c -o "$room/exports" tests/bench/exports.c bindings/c/heap.c "$archive"
+    programs+=(exports)
+fi
 
 # The lines of the counts that two programs print with the same names are the same.
 same_answers() { # other
@@ -43,8 +50,14 @@ table() { # kind, number of keys
     awk -v count="$2" -v kind="$1" '
         # a million bytes or entries a second: so many for 1,000 entries, over the nanoseconds of one
         function rate(count, program, name) { return count / (best[program, name] > 0 ? best[program, name] : 1) }
-        function over(program, name) { return best[program, name] / (best["btree", name] > 0 ? best["btree", name] : 1) }
+        function over(program, name, measure) { return best[program, name] / (best[measure, name] > 0 ? best[measure, name] : 1) }
+        # a figure and its ratio to that of another program
+        function cells(program, name, measure) {
+            if ((program, name) in best) printf " %d | %.2f |", best[program, name], over(program, name, measure)
+            else printf " - | - |"
+        }
         $1 == "judy" { judy = 1 }
+        $1 == "exports" { exports = 1 }
         $2 == "keys" { next }
         $2 == "share" { share = $3; next }
         $2 == "relocated" { relocated = $3; next }
@@ -52,13 +65,14 @@ table() { # kind, number of keys
         !(($1, $2) in best) { if ($1 == "map") names[++n] = $2; best[$1, $2] = $3 }
         $3 < best[$1, $2] { best[$1, $2] = $3 }
         END {
-            printf "| %d %s | the map | std\047s ordered map | ratio |%s\n", count, kind, judy ? " JudySL | ratio |" : ""
-            printf "|---|---|---|---|%s\n", judy ? "---|---|" : ""
+            printf "| %d %s | the map | std\047s ordered map | ratio |%s%s\n", count, kind,
+                judy ? " JudySL | ratio |" : "", exports ? " the map from C | to the map |" : ""
+            printf "|---|---|---|---|%s%s\n", judy ? "---|---|" : "", exports ? "---|---|" : ""
             for (i = 1; i <= n; i++) {
                 name = names[i]
-                printf "| %s | %d | %d | %.2f |", name, best["map", name], best["btree", name], over("map", name)
-                if (judy && ("judy", name) in best) printf " %d | %.2f |", best["judy", name], over("judy", name)
-                else if (judy) printf " - | - |"
+                printf "| %s | %d | %d | %.2f |", name, best["map", name], best["btree", name], over("map", name, "btree")
+                if (judy) cells("judy", name, "btree")
+                if (exports) cells("exports", name, "map")
                 printf "\n"
             }
             printf "\nThe nodes were last relocated when %d of 1,000 entries were there.\n", relocated
