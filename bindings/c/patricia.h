@@ -139,6 +139,40 @@ size_t patricia_longest_common_prefix_len(patricia_map *map, const uint8_t *key,
 bool patricia_split_by_prefix(patricia_map *map, const uint8_t *prefix, size_t prefix_len,
                               patricia_map *part);
 
+/* Writes the number of entries whose key begins with the prefix to *count, and returns true, in
+ * time in proportion to them and to the length of the prefix. Returns false where memory runs out,
+ * which is never so where there is no such entry. *count is written with true alone. */
+bool patricia_count_prefix(patricia_map *map, const uint8_t *prefix, size_t prefix_len,
+                           size_t *count);
+
+/* Removes the entries whose key begins with the prefix, writes how many they were to *count, and
+ * returns true. Returns false where memory runs out: all entries stay. This is never so for the
+ * empty prefix, nor where there is no such entry. *count is written with true alone. */
+bool patricia_remove_prefix(patricia_map *map, const uint8_t *prefix, size_t prefix_len,
+                            size_t *count);
+
+/* Neighbours. Each of these asks for one entry. They return PATRICIA_FOUND, and write its key to
+ * the array, the length of the key to *key_len and the value to *value; or PATRICIA_ABSENT where
+ * there is no such entry. PATRICIA_NO_ROOM: the key is longer than the array. Its length is written
+ * to *key_len and nothing to the others. PATRICIA_NO_MEMORY. With PATRICIA_ABSENT and
+ * PATRICIA_NO_MEMORY nothing is written. The map is never changed. */
+
+/* Asks for the first entry in the order of the keys. */
+uint32_t patricia_first(patricia_map *map, uint8_t *array, size_t size, size_t *key_len,
+                        uint64_t *value);
+
+/* Asks for the last entry in the order of the keys. */
+uint32_t patricia_last(patricia_map *map, uint8_t *array, size_t size, size_t *key_len,
+                       uint64_t *value);
+
+/* Asks for the first entry whose key comes after this one, which need not be in the map. */
+uint32_t patricia_first_after(patricia_map *map, const uint8_t *key, size_t len, uint8_t *array,
+                              size_t size, size_t *key_len, uint64_t *value);
+
+/* Asks for the last entry whose key comes before this one, which need not be in the map. */
+uint32_t patricia_last_before(patricia_map *map, const uint8_t *key, size_t len, uint8_t *array,
+                              size_t size, size_t *key_len, uint64_t *value);
+
 /* Iterators */
 
 /* Frees what *iterator holds, and writes an iterator over the entries whose key begins with the

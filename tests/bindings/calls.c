@@ -47,6 +47,16 @@ static void empty_map(void)
     CHECK(patricia_longest_common_prefix_len(&map, bytes_of("foo"), 3) == 0);
     CHECK(patricia_clone(&map, &other) && patricia_len(&other) == 0);
     CHECK(patricia_split_by_prefix(&map, bytes_of(""), 0, &other) && patricia_len(&other) == 0);
+    CHECK(patricia_first(&map, array, sizeof array, &len, &value) == PATRICIA_ABSENT);
+    CHECK(patricia_last(&map, array, sizeof array, &len, &value) == PATRICIA_ABSENT);
+    CHECK(patricia_first_after(&map, bytes_of(""), 0, array, sizeof array, &len, &value) ==
+          PATRICIA_ABSENT);
+    CHECK(patricia_last_before(&map, bytes_of("foo"), 3, array, sizeof array, &len, &value) ==
+          PATRICIA_ABSENT);
+    CHECK(len == 78 && value == 77);
+    CHECK(patricia_count_prefix(&map, bytes_of(""), 0, &len) && len == 0);
+    len = 78;
+    CHECK(patricia_remove_prefix(&map, bytes_of(""), 0, &len) && len == 0);
     CHECK(patricia_iterator_len(&iterator) == 0);
     CHECK(patricia_iterate(&map, bytes_of(""), 0, &iterator));
     CHECK(patricia_iterator_next(&iterator, array, sizeof array, &len, &value) == PATRICIA_END);
@@ -101,6 +111,58 @@ static void two_maps(void)
     patricia_free(&copy);
     patricia_free(&part);
     patricia_free(&moved);
+}
+
+static void neighbours(void)
+{
+    patricia_map map = PATRICIA_MAP_INIT;
+    uint8_t array[8] = "unwritte";
+    uint64_t value = 77;
+    size_t len = 78;
+    fill(&map);
+    CHECK(patricia_first(&map, array, 0, &len, &value) == PATRICIA_FOUND && len == 0 && value == 9);
+    CHECK(memcmp(array, "unwritte", 8) == 0);
+    value = 77;
+    CHECK(patricia_last(&map, array, 2, &len, &value) == PATRICIA_NO_ROOM && len == 3);
+    CHECK(memcmp(array, "unwritte", 8) == 0 && value == 77);
+    CHECK(patricia_last(&map, array, 3, &len, &value) == PATRICIA_FOUND && len == 3 && value == 4);
+    CHECK(memcmp(array, "fooritte", 8) == 0);
+    CHECK(patricia_first_after(&map, bytes_of(""), 0, array, 8, &len, &value) == PATRICIA_FOUND);
+    CHECK(len == 3 && memcmp(array, "bar", 3) == 0 && value == 2);
+    CHECK(patricia_first_after(&map, bytes_of("bar"), 3, array, 8, &len, &value) == PATRICIA_FOUND);
+    CHECK(len == 3 && memcmp(array, "baz", 3) == 0 && value == 3);
+    CHECK(patricia_first_after(&map, bytes_of("bax"), 3, array, 8, &len, &value) == PATRICIA_FOUND);
+    CHECK(len == 3 && memcmp(array, "baz", 3) == 0 && value == 3);
+    CHECK(patricia_last_before(&map, bytes_of("bax"), 3, array, 8, &len, &value) == PATRICIA_FOUND);
+    CHECK(len == 3 && memcmp(array, "bar", 3) == 0 && value == 2);
+    CHECK(patricia_last_before(&map, bytes_of("bar"), 3, array, 8, &len, &value) == PATRICIA_FOUND);
+    CHECK(len == 0 && value == 9);
+    CHECK(patricia_last_before(&map, bytes_of("zoo"), 3, array, 2, &len, &value) ==
+          PATRICIA_NO_ROOM);
+    CHECK(len == 3 && value == 9);
+    len = 78;
+    CHECK(patricia_first_after(&map, bytes_of("foo"), 3, array, 8, &len, &value) ==
+          PATRICIA_ABSENT);
+    CHECK(patricia_last_before(&map, bytes_of(""), 0, array, 8, &len, &value) == PATRICIA_ABSENT);
+    CHECK(len == 78 && value == 9 && patricia_len(&map) == 4);
+    patricia_free(&map);
+}
+
+static void counts(void)
+{
+    patricia_map map = PATRICIA_MAP_INIT;
+    uint64_t value = 77;
+    size_t count = 78;
+    fill(&map);
+    CHECK(patricia_count_prefix(&map, bytes_of("ba"), 2, &count) && count == 2);
+    CHECK(patricia_count_prefix(&map, bytes_of("bas"), 3, &count) && count == 0);
+    CHECK(patricia_count_prefix(&map, bytes_of(""), 0, &count) && count == 4);
+    CHECK(patricia_remove_prefix(&map, bytes_of("bas"), 3, &count) && count == 0);
+    CHECK(patricia_remove_prefix(&map, bytes_of("ba"), 2, &count) && count == 2);
+    CHECK(patricia_len(&map) == 2 && !get(&map, "bar", &value) && get(&map, "foo", &value));
+    CHECK(patricia_remove_prefix(&map, bytes_of(""), 0, &count) && count == 2);
+    CHECK(patricia_len(&map) == 0);
+    patricia_free(&map);
 }
 
 static void iterators(void)
@@ -252,6 +314,8 @@ int main(void)
     empty_map();
     entries();
     two_maps();
+    neighbours();
+    counts();
     iterators();
     encodings();
     faults();

@@ -147,6 +147,67 @@ static void ask_prefixes(pair *p, size_t i)
     CHECK(value == (longest < COUNT ? p->value[longest] : 77));
 }
 
+/* What a call says of an entry, where the model has it at this place, or nothing at COUNT. */
+static void is_entry(pair *p, size_t at, uint32_t result, const uint8_t *array, size_t len,
+                     uint64_t value)
+{
+    CHECK(result == (at < COUNT ? PATRICIA_FOUND : PATRICIA_ABSENT));
+    CHECK(len == (at < COUNT ? keys[at].len : 78));
+    CHECK(value == (at < COUNT ? p->value[at] : 77));
+    CHECK(at == COUNT || memcmp(array, keys[at].bytes, len) == 0);
+}
+
+/* The entries at the ends, and those next to a key. */
+static void ask_neighbours(pair *p, size_t i)
+{
+    uint8_t array[LONGEST];
+    size_t first = COUNT, last = COUNT, next = COUNT, previous = COUNT, len = 78;
+    uint64_t value = 77;
+    for (size_t k = 0; k < COUNT; k++) {
+        if (!p->has[k])
+            continue;
+        first = first == COUNT ? k : first;
+        next = next == COUNT && k > i ? k : next;
+        previous = k < i ? k : previous;
+        last = k;
+    }
+    uint32_t result = patricia_first(&p->map, array, sizeof array, &len, &value);
+    is_entry(p, first, result, array, len, value);
+    len = 78, value = 77;
+    result = patricia_last(&p->map, array, sizeof array, &len, &value);
+    is_entry(p, last, result, array, len, value);
+    len = 78, value = 77;
+    result = patricia_first_after(&p->map, keys[i].bytes, keys[i].len, array, sizeof array, &len,
+                                  &value);
+    is_entry(p, next, result, array, len, value);
+    len = 78, value = 77;
+    result = patricia_last_before(&p->map, keys[i].bytes, keys[i].len, array, sizeof array, &len,
+                                  &value);
+    is_entry(p, previous, result, array, len, value);
+}
+
+static size_t under(const pair *p, size_t i)
+{
+    size_t n = 0;
+    for (size_t k = 0; k < COUNT; k++)
+        n += p->has[k] && begins(&keys[i], &keys[k]);
+    return n;
+}
+
+static void count(pair *p, size_t i)
+{
+    size_t n = 78;
+    CHECK(patricia_count_prefix(&p->map, keys[i].bytes, keys[i].len, &n) && n == under(p, i));
+}
+
+static void drop(pair *p, size_t i)
+{
+    size_t n = 78;
+    CHECK(patricia_remove_prefix(&p->map, keys[i].bytes, keys[i].len, &n) && n == under(p, i));
+    for (size_t k = 0; k < COUNT; k++)
+        p->has[k] = p->has[k] && !begins(&keys[i], &keys[k]);
+}
+
 static void copy(pair *from, pair *to)
 {
     CHECK(patricia_clone(&from->map, &to->map));
@@ -194,8 +255,14 @@ static void call(pair *p, pair *other)
         insert(p, i);
     else if (kind < 600)
         take(p, i);
-    else if (kind < 950)
+    else if (kind < 930)
         get(p, i);
+    else if (kind < 940)
+        ask_neighbours(p, i);
+    else if (kind < 947)
+        count(p, i);
+    else if (kind < 950)
+        drop(p, i);
     else if (kind < 970)
         ask_prefixes(p, i);
     else if (kind < 980)

@@ -147,6 +147,84 @@ static size_t split(patricia_map *map, patricia_map *part, bool *has)
     return !is_split;
 }
 
+/* The keys in the order of their bytes, by their numbers. */
+static const size_t ORDER[COUNT] = {4, 2, 5, 1, 0, 6, 3};
+
+/* What a call says of an entry, where the map should have the key of this number. Returns whether
+ * it was refused. */
+static size_t is_entry(uint32_t result, size_t i, const uint8_t *array, size_t len, uint64_t value)
+{
+    if (result == PATRICIA_NO_MEMORY || i == COUNT) {
+        CHECK(len == 78 && value == 77 && (i < COUNT || result != PATRICIA_FOUND));
+        return result == PATRICIA_NO_MEMORY;
+    }
+    CHECK(result == PATRICIA_FOUND && value == i && len == strlen(KEYS[i]));
+    CHECK(memcmp(array, KEYS[i], len) == 0);
+    return 0;
+}
+
+/* The number of the first key from a place in the order on, or back from there, that the map has.
+ */
+static size_t nearest(const bool *has, int at, int step)
+{
+    for (; at >= 0 && at < COUNT; at += step)
+        if (has[ORDER[at]])
+            return ORDER[at];
+    return COUNT;
+}
+
+/* The entries at the ends, and those next to a key. */
+static size_t neighbours(patricia_map *map, const bool *has)
+{
+    uint8_t array[64];
+    size_t refused = 0, len = 78;
+    uint64_t value = 77;
+    uint32_t result = patricia_first(map, array, sizeof array, &len, &value);
+    refused += is_entry(result, nearest(has, 0, 1), array, len, value);
+    len = 78, value = 77;
+    result = patricia_last(map, array, sizeof array, &len, &value);
+    refused += is_entry(result, nearest(has, COUNT - 1, -1), array, len, value);
+    for (int at = 0; at < COUNT; at++) {
+        const uint8_t *bytes = key(ORDER[at]);
+        size_t size = strlen(KEYS[ORDER[at]]);
+        len = 78, value = 77;
+        result = patricia_first_after(map, bytes, size, array, sizeof array, &len, &value);
+        refused += is_entry(result, nearest(has, at + 1, 1), array, len, value);
+        len = 78, value = 77;
+        result = patricia_last_before(map, bytes, size, array, sizeof array, &len, &value);
+        refused += is_entry(result, nearest(has, at - 1, -1), array, len, value);
+    }
+    return refused;
+}
+
+static size_t under(const bool *has, const char *prefix)
+{
+    size_t count = 0;
+    for (size_t i = 0; i < COUNT; i++)
+        count += has[i] && strncmp(KEYS[i], prefix, strlen(prefix)) == 0;
+    return count;
+}
+
+static size_t counted(patricia_map *map, const bool *has, const char *prefix)
+{
+    size_t count = 78;
+    bool is_done = patricia_count_prefix(map, (const uint8_t *)prefix, strlen(prefix), &count);
+    CHECK(is_done || under(has, prefix) > 0);
+    CHECK(count == (is_done ? under(has, prefix) : 78));
+    return !is_done;
+}
+
+static size_t dropped(patricia_map *map, bool *has, const char *prefix)
+{
+    size_t count = 78;
+    bool is_done = patricia_remove_prefix(map, (const uint8_t *)prefix, strlen(prefix), &count);
+    CHECK(is_done || (*prefix != 0 && under(has, prefix) > 0));
+    CHECK(count == (is_done ? under(has, prefix) : 78));
+    for (size_t i = 0; i < COUNT; i++)
+        has[i] = has[i] && !(is_done && strncmp(KEYS[i], prefix, strlen(prefix)) == 0);
+    return !is_done;
+}
+
 static size_t without(patricia_map *map, bool *has, size_t i)
 {
     uint64_t old = 77;
@@ -170,6 +248,9 @@ static size_t run(long number)
     is_as(&map, has);
     refused += iterated(&map, &iterator);
     is_as(&map, has);
+    refused += neighbours(&map, has);
+    refused += counted(&map, has, "a longer") + counted(&map, has, "");
+    is_as(&map, has);
     refused += encoded(&map, &back, patricia_tree_bytes, patricia_from_tree_bytes);
     refused += encoded(&map, &back, patricia_wide_tree_bytes, patricia_from_wide_tree_bytes);
     is_as(&map, has);
@@ -178,6 +259,10 @@ static size_t run(long number)
         is_as(&map, has);
     }
     refused += split(&map, &part, has);
+    is_as(&map, has);
+    refused += dropped(&map, has, "an");
+    is_as(&map, has);
+    refused += dropped(&map, has, "");
     is_as(&map, has);
     patricia_free(&map);
     patricia_free(&copy);

@@ -6,6 +6,7 @@
 #![tactic(auto)]
 
 mod encodings;
+mod ends;
 mod iteration;
 mod iterator_place;
 mod map;

@@ -1,5 +1,5 @@
 //! The calls that ask which keys and a key begin alike.
-ghost use Rattle.std.specs.Prelude.{◌≡◌, [], None, true, false};
+ghost use Rattle.std.specs.Prelude.{◌≡◌, ◌≢◌, [], length, None, true, false};
 ghost use Rattle.std.specs.FinMap as map;
 ghost use Rattle.patricia_tree.specs.ByteKind.{IsByteItem};
 ghost use Rattle.patricia_tree.specs.Prefixes.{IsReach, longest, under, outside};
@@ -93,5 +93,64 @@ pub extern "C" fn patricia_split_by_prefix(
             at.put(stored);
             false
         }
+    }
+}
+
+/// Returns true and writes the number of entries whose key begins with the prefix, or false where
+/// memory ran out.
+#[unsafe(no_mangle)]
+pub extern "C" fn patricia_count_prefix(at: &mut MapPlace, prefix: &[u8], count: &mut usize) -> bool
+    ensures kept { map_of at.new.pointer.stored ≡ map_of at.old.pointer.stored }
+    ensures count { result ≡ true → count.new
+        ≡ length (under prefix.now (map.entries (map_of at.old.pointer.stored))) }
+    ensures refused { result ≡ false →
+        under prefix.now (map.entries (map_of at.old.pointer.stored)) ≢ [] }
+    ensures unwritten { result ≡ false → count.new ≡ count.old }
+{
+    let Some(stored) = at.take() else {
+        *count = 0;
+        return true;
+    };
+    let counted = stored.map.count_prefix(prefix);
+    at.put(stored);
+    match counted {
+        Ok(n) => {
+            *count = n;
+            true
+        }
+        Err(_) => false,
+    }
+}
+
+/// Removes the entries whose key begins with the prefix. Returns true and writes how many they
+/// were, or false where memory ran out: the entries stay.
+#[unsafe(no_mangle)]
+pub extern "C" fn patricia_remove_prefix(
+    at: &mut MapPlace,
+    prefix: &[u8],
+    count: &mut usize,
+) -> bool
+    ensures count { result ≡ true → count.new
+        ≡ length (under prefix.now (map.entries (map_of at.old.pointer.stored))) }
+    ensures left { result ≡ true → map.entries (map_of at.new.pointer.stored)
+        ≡ outside prefix.now (map.entries (map_of at.old.pointer.stored)) }
+    ensures kept { result ≡ false → map_of at.new.pointer.stored ≡ map_of at.old.pointer.stored }
+    ensures refused { result ≡ false →
+        under prefix.now (map.entries (map_of at.old.pointer.stored)) ≢ [] }
+    ensures refused_nonempty { result ≡ false → prefix.now ≢ [] }
+    ensures unwritten { result ≡ false → count.new ≡ count.old }
+{
+    let Some(mut stored) = at.take() else {
+        *count = 0;
+        return true;
+    };
+    let removed = stored.map.remove_prefix(prefix);
+    at.put(stored);
+    match removed {
+        Ok(n) => {
+            *count = n;
+            true
+        }
+        Err(_) => false,
     }
 }

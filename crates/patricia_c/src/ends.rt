@@ -1,0 +1,246 @@
+//! The first and the last entry, and those next to a key.
+ghost use Rattle.std.specs.Prelude.{◌≡◌, ◌≢◌, ◌≤◌, ◌<◌, [], length, take, slice_get};
+ghost use Rattle.std.specs.Prelude.{ℕ, List, Some, None, IfOk, OnErr};
+ghost use Rattle.std.specs.List.{last_or};
+ghost use Rattle.std.specs.Option.{option_map};
+ghost use Rattle.std.specs.FinMap as map;
+ghost use Rattle.patricia_tree.specs.Cursors.{after};
+ghost use Rattle.patricia_tree.specs.Ranges.{before};
+ghost use Rattle.patricia_c.specs.Maps.{map_of};
+
+use crate::map_place::MapPlace;
+use crate::map_pointer::StoredMap;
+use std::alloc::AllocError;
+
+/// There is no such entry.
+const ABSENT: u32 = 0;
+/// The entry was written.
+const FOUND: u32 = 1;
+/// Out of memory.
+const NO_MEMORY: u32 = 2;
+/// The room is too small: only the length of the key was written.
+const NO_ROOM: u32 = 4;
+
+// Writes an entry, where the room is as long as its key.
+fn write_entry(
+    entry: Option<(Vec<u8>, u64)>,
+    room: &mut [u8],
+    len: &mut usize,
+    value: &mut u64,
+) -> u32
+    ensures absent { result ≡ 0 → entry ≡ None }
+    ensures found { result ≡ 1 → option_map {U = List ℕ × ℕ} (λ e. (e.0.items, e.1)) entry
+        ≡ Some (take len.new room.new, value.new) }
+    ensures longer { result ≡ 4 → option_map (λ e. length e.0.items) entry ≡ Some len.new }
+    ensures small { result ≡ 4 → length room.old < len.new }
+    ensures room_unwritten { result ≢ 1 → room.new ≡ room.old }
+    ensures value_unwritten { result ≢ 1 → value.new ≡ value.old }
+    ensures len_unwritten { result ≡ 0 → len.new ≡ len.old }
+    ensures codes { result ≤ 4 }
+    ensures not_two { result ≢ 2 }
+    ensures not_three { result ≢ 3 }
+{
+    let Some((key, there)) = entry else {
+        return ABSENT;
+    };
+    *len = key.len();
+    if room.len() < key.len() {
+        return NO_ROOM;
+    }
+    room[..key.len()].copy_from_slice(key.as_slice());
+    *value = there;
+    FOUND
+}
+
+// A copy of the first entry.
+fn first_of(stored: &StoredMap) -> Result<Option<(Vec<u8>, u64)>, AllocError>
+    ensures first { IfOk result (λ entry. option_map (λ e. (e.0.items, e.1)) entry
+        ≡ slice_get (map.entries stored.now.map) 0) }
+    ensures err { OnErr result (map.entries stored.now.map ≢ []) }
+{
+    match stored.map.first_key_value()? {
+        Some((key, value)) => Ok(Some((key, *value))),
+        None => Ok(None),
+    }
+}
+
+// A copy of the last entry.
+fn last_of(stored: &StoredMap) -> Result<Option<(Vec<u8>, u64)>, AllocError>
+    ensures { IfOk result (λ entry. option_map (λ e. (e.0.items, e.1)) entry
+        ≡ last_or None (map.entries stored.now.map)) }
+{
+    match stored.map.last_key_value()? {
+        Some((key, value)) => Ok(Some((key, *value))),
+        None => Ok(None),
+    }
+}
+
+// A copy of the first entry whose key comes after this one.
+fn next_of(stored: &StoredMap, key: &[u8]) -> Result<Option<(Vec<u8>, u64)>, AllocError>
+    ensures { IfOk result (λ entry. option_map (λ e. (e.0.items, e.1)) entry
+        ≡ slice_get (after (Some key.now) (map.entries stored.now.map)) 0) }
+{
+    match stored.map.first_after(key)? {
+        Some((next, value)) => Ok(Some((next, *value))),
+        None => Ok(None),
+    }
+}
+
+// A copy of the last entry whose key comes before this one.
+fn previous_of(stored: &StoredMap, key: &[u8]) -> Result<Option<(Vec<u8>, u64)>, AllocError>
+    ensures { IfOk result (λ entry. option_map (λ e. (e.0.items, e.1)) entry
+        ≡ last_or None (before key.now (map.entries stored.now.map))) }
+{
+    match stored.map.last_before(key)? {
+        Some((previous, value)) => Ok(Some((previous, *value))),
+        None => Ok(None),
+    }
+}
+
+/// Asks for the first entry in key order. Returns `FOUND`, and writes its key to the room, the
+/// length of the key to `len` and the value to `value`; `NO_ROOM` where the key is longer than the
+/// room, and writes its length to `len`; `ABSENT` for the empty map; `NO_MEMORY` where memory ran
+/// out.
+#[unsafe(no_mangle)]
+pub extern "C" fn patricia_first(
+    at: &mut MapPlace,
+    room: &mut [u8],
+    len: &mut usize,
+    value: &mut u64,
+) -> u32
+    ensures kept { map_of at.new.pointer.stored ≡ map_of at.old.pointer.stored }
+    ensures absent { result ≡ 0 →
+        slice_get (map.entries (map_of at.old.pointer.stored)) 0 ≡ None }
+    ensures found { result ≡ 1 → slice_get (map.entries (map_of at.old.pointer.stored)) 0
+        ≡ Some (take len.new room.new, value.new) }
+    ensures longer { result ≡ 4 → option_map (λ e. length e.0)
+        (slice_get (map.entries (map_of at.old.pointer.stored)) 0) ≡ Some len.new }
+    ensures small { result ≡ 4 → length room.old < len.new }
+    ensures refused { result ≡ 2 → map.entries (map_of at.old.pointer.stored) ≢ [] }
+    ensures room_unwritten { result ≢ 1 → room.new ≡ room.old }
+    ensures value_unwritten { result ≢ 1 → value.new ≡ value.old }
+    ensures absent_len { result ≡ 0 → len.new ≡ len.old }
+    ensures refused_len { result ≡ 2 → len.new ≡ len.old }
+    ensures codes { result ≤ 4 }
+    ensures not_three { result ≢ 3 }
+{
+    let Some(stored) = at.take() else {
+        return ABSENT;
+    };
+    let first = first_of(&stored);
+    at.put(stored);
+    match first {
+        Ok(entry) => write_entry(entry, room, len, value),
+        Err(_) => NO_MEMORY,
+    }
+}
+
+/// Asks for the last entry in key order, as `patricia_first` does for the first.
+#[unsafe(no_mangle)]
+pub extern "C" fn patricia_last(
+    at: &mut MapPlace,
+    room: &mut [u8],
+    len: &mut usize,
+    value: &mut u64,
+) -> u32
+    ensures kept { map_of at.new.pointer.stored ≡ map_of at.old.pointer.stored }
+    ensures absent { result ≡ 0 →
+        last_or None (map.entries (map_of at.old.pointer.stored)) ≡ None }
+    ensures found { result ≡ 1 → last_or None (map.entries (map_of at.old.pointer.stored))
+        ≡ Some (take len.new room.new, value.new) }
+    ensures longer { result ≡ 4 → option_map (λ e. length e.0)
+        (last_or None (map.entries (map_of at.old.pointer.stored))) ≡ Some len.new }
+    ensures small { result ≡ 4 → length room.old < len.new }
+    ensures room_unwritten { result ≢ 1 → room.new ≡ room.old }
+    ensures value_unwritten { result ≢ 1 → value.new ≡ value.old }
+    ensures absent_len { result ≡ 0 → len.new ≡ len.old }
+    ensures refused_len { result ≡ 2 → len.new ≡ len.old }
+    ensures codes { result ≤ 4 }
+    ensures not_three { result ≢ 3 }
+{
+    let Some(stored) = at.take() else {
+        return ABSENT;
+    };
+    let last = last_of(&stored);
+    at.put(stored);
+    match last {
+        Ok(entry) => write_entry(entry, room, len, value),
+        Err(_) => NO_MEMORY,
+    }
+}
+
+/// Asks for the first entry whose key comes after this one, as `patricia_first` does for the first
+/// of all. The key that is passed need not be there.
+#[unsafe(no_mangle)]
+pub extern "C" fn patricia_first_after(
+    at: &mut MapPlace,
+    key: &[u8],
+    room: &mut [u8],
+    len: &mut usize,
+    value: &mut u64,
+) -> u32
+    ensures kept { map_of at.new.pointer.stored ≡ map_of at.old.pointer.stored }
+    ensures absent { result ≡ 0 →
+        slice_get (after (Some key.now) (map.entries (map_of at.old.pointer.stored))) 0 ≡ None }
+    ensures found { result ≡ 1 →
+        slice_get (after (Some key.now) (map.entries (map_of at.old.pointer.stored))) 0
+        ≡ Some (take len.new room.new, value.new) }
+    ensures longer { result ≡ 4 → option_map (λ e. length e.0)
+        (slice_get (after (Some key.now) (map.entries (map_of at.old.pointer.stored))) 0)
+        ≡ Some len.new }
+    ensures small { result ≡ 4 → length room.old < len.new }
+    ensures room_unwritten { result ≢ 1 → room.new ≡ room.old }
+    ensures value_unwritten { result ≢ 1 → value.new ≡ value.old }
+    ensures absent_len { result ≡ 0 → len.new ≡ len.old }
+    ensures refused_len { result ≡ 2 → len.new ≡ len.old }
+    ensures codes { result ≤ 4 }
+    ensures not_three { result ≢ 3 }
+{
+    let Some(stored) = at.take() else {
+        return ABSENT;
+    };
+    let next = next_of(&stored, key);
+    at.put(stored);
+    match next {
+        Ok(entry) => write_entry(entry, room, len, value),
+        Err(_) => NO_MEMORY,
+    }
+}
+
+/// Asks for the last entry whose key comes before this one, as `patricia_first` does for the first
+/// of all. The key that is passed need not be there.
+#[unsafe(no_mangle)]
+pub extern "C" fn patricia_last_before(
+    at: &mut MapPlace,
+    key: &[u8],
+    room: &mut [u8],
+    len: &mut usize,
+    value: &mut u64,
+) -> u32
+    ensures kept { map_of at.new.pointer.stored ≡ map_of at.old.pointer.stored }
+    ensures absent { result ≡ 0 →
+        last_or None (before key.now (map.entries (map_of at.old.pointer.stored))) ≡ None }
+    ensures found { result ≡ 1 →
+        last_or None (before key.now (map.entries (map_of at.old.pointer.stored)))
+        ≡ Some (take len.new room.new, value.new) }
+    ensures longer { result ≡ 4 → option_map (λ e. length e.0)
+        (last_or None (before key.now (map.entries (map_of at.old.pointer.stored))))
+        ≡ Some len.new }
+    ensures small { result ≡ 4 → length room.old < len.new }
+    ensures room_unwritten { result ≢ 1 → room.new ≡ room.old }
+    ensures value_unwritten { result ≢ 1 → value.new ≡ value.old }
+    ensures absent_len { result ≡ 0 → len.new ≡ len.old }
+    ensures refused_len { result ≡ 2 → len.new ≡ len.old }
+    ensures codes { result ≤ 4 }
+    ensures not_three { result ≢ 3 }
+{
+    let Some(stored) = at.take() else {
+        return ABSENT;
+    };
+    let previous = previous_of(&stored, key);
+    at.put(stored);
+    match previous {
+        Ok(entry) => write_entry(entry, room, len, value),
+        Err(_) => NO_MEMORY,
+    }
+}
