@@ -82,6 +82,12 @@ def _load():
             ('longest_prefix', ctypes.c_bool, place, *key, length, number),
             ('longest_common_prefix_len', size, place, *key),
             ('split_by_prefix', ctypes.c_bool, place, *key, place),
+            ('count_prefix', ctypes.c_bool, place, *key, length),
+            ('remove_prefix', ctypes.c_bool, place, *key, length),
+            ('first', ctypes.c_uint32, place, *room, number),
+            ('last', ctypes.c_uint32, place, *room, number),
+            ('first_after', ctypes.c_uint32, place, *key, *room, number),
+            ('last_before', ctypes.c_uint32, place, *key, *room, number),
             ('iterate', ctypes.c_bool, place, *key, place),
             ('iterator_next', ctypes.c_uint32, place, *room, number),
             ('iterator_free', None, place),
@@ -171,6 +177,43 @@ class _Tree:
             raise MemoryError
         self.changes += len(other) != 0
         return other
+
+    def count_under(self, prefix):
+        if not _library.patricia_count_prefix(self.address, prefix, len(prefix), self.length):
+            raise MemoryError
+        return self.length.value
+
+    def remove_under(self, prefix):
+        if not _library.patricia_remove_prefix(self.address, prefix, len(prefix), self.length):
+            raise MemoryError
+        self.changes += self.length.value != 0
+        return self.length.value
+
+    def first(self):
+        return self.row(_library.patricia_first)
+
+    def last(self):
+        return self.row(_library.patricia_last)
+
+    def first_after(self, key):
+        return self.row(_library.patricia_first_after, key, len(key))
+
+    def last_before(self, key):
+        return self.row(_library.patricia_last_before, key, len(key))
+
+    def row(self, ask, *key):
+        """The key with its number that a function of the library asks for, or None."""
+        room = ctypes.create_string_buffer(256)
+        while True:
+            result = ask(self.address, *key, room, len(room), self.length, self.number)
+            if result == NO_ROOM:
+                room = ctypes.create_string_buffer(self.length.value)
+            elif result == NO_MEMORY:
+                raise MemoryError
+            elif result == FOUND:
+                return room.raw[:self.length.value], self.number.value
+            else:
+                return None
 
     def longest(self, key):
         """The longest key that is a prefix of this one, with its number, or None."""
@@ -288,6 +331,26 @@ class _Prefixes:
         key = self._key(key)
         return self._items(key, self._tree.reach(key))
 
+    def count_under(self, prefix):
+        """How many keys begin with the prefix."""
+        return self._tree.count_under(self._key(prefix))
+
+    def first(self):
+        """The first of all in key order, or None where there is none."""
+        return self._row(self._tree.first())
+
+    def last(self):
+        """The last of all in key order, or None where there is none."""
+        return self._row(self._tree.last())
+
+    def first_after(self, key):
+        """The first that comes after this key, which need not be there, or None."""
+        return self._row(self._tree.first_after(self._key(key)))
+
+    def last_before(self, key):
+        """The last that comes before this key, which need not be there, or None."""
+        return self._row(self._tree.last_before(self._key(key)))
+
     def tree_bytes(self, wide=False):
         """The encoding of the keys, the same whatever was added and removed; with wide levels where asked."""
         return self._tree.tree_bytes(wide)
@@ -400,10 +463,21 @@ class _Map(_Prefixes, MutableMapping):
         """An iterator over the entries whose key begins with the prefix, in key order."""
         return self._under(self._key(prefix))
 
+    def _row(self, row):
+        return None if row is None else (self._text(row[0]), self._objects[row[1]])
+
     def longest(self, key):
         """The entry of the longest key that is a prefix of this one, or None."""
-        row = self._tree.longest(self._key(key))
-        return None if row is None else (self._text(row[0]), self._objects[row[1]])
+        return self._row(self._tree.longest(self._key(key)))
+
+    def remove_under(self, prefix):
+        """Removes the entries whose key begins with the prefix, and returns how many they were."""
+        prefix = self._key(prefix)
+        numbers = [number for _, number in self._tree.rows(prefix)]
+        removed = self._tree.remove_under(prefix)
+        for number in numbers:
+            self._freed(number)
+        return removed
 
     def prefixes_of(self, key):
         """The entries whose key is a prefix of this one, itself included, the shortest first."""
@@ -478,10 +552,16 @@ class _Set(_Prefixes, MutableSet):
         """An iterator over the elements that begin with the prefix, in order."""
         return self._under(self._key(prefix))
 
+    def _row(self, row):
+        return None if row is None else self._text(row[0])
+
     def longest(self, key):
         """The longest element that is a prefix of this key, or None."""
-        row = self._tree.longest(self._key(key))
-        return None if row is None else self._text(row[0])
+        return self._row(self._tree.longest(self._key(key)))
+
+    def remove_under(self, prefix):
+        """Removes the elements that begin with the prefix, and returns how many they were."""
+        return self._tree.remove_under(self._key(prefix))
 
     def prefixes_of(self, key):
         """The elements that are prefixes of this key, itself included, the shortest first."""
