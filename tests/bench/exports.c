@@ -154,7 +154,7 @@ static size_t begun(List list, Key key, size_t len) {
     return count;
 }
 
-/* A prefix of about a tenth of the sorted keys: the nearest to it of the beginnings of eight keys. */
+/* Of the prefixes of eight of the sorted keys, the one under which there are nearest to a tenth of all. */
 static Key tenth(List list) {
     size_t tenth = list.len / 10, nearest = list.len;
     Key best = {(uint8_t *)"", 0};
