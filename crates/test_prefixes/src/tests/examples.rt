@@ -1,7 +1,8 @@
 //! The examples of the calls of prefixes_core, as the documentation has them.
 use patricia_tree::StringPatriciaMap;
-use prefixes_core::{BlockList, Payload, UnpackError, complete, drop_subtree, pack, segment};
-use prefixes_core::{subtree, unpack};
+use prefixes_core::{
+    BlockList, Payload, UnpackError, complete, drop_subtree, pack, segment, subtree, unpack,
+};
 
 #[test]
 fn segment_example(rt: HostRuntime) -> anyhow::Result<()> {
