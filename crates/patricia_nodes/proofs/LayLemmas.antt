@@ -1,6 +1,7 @@
 -- All nodes are relocated, row by row.
 use Rattle.std.proofs.Common.{◌≡◌, inl, inr, ℕ, zero, suc, ◌+◌, ◌<◌, ◌≤◌, List, [], ◌∷◌, ◌++◌}
-use Rattle.std.proofs.Common.{length, set, get_or, Option, Some, None, slice_get, refl, sym, ap}
+use Rattle.std.proofs.Common.{Bool, true, false, nat_lt, if◌then◌else◌, length, set, get_or}
+use Rattle.std.proofs.Common.{Option, Some, None, slice_get, refl, sym, ap, ◌≢◌}
 use Rattle.std.proofs.Common.{subst, ◌∙◌, arith, length-append, length-set}
 use Rattle.std.proofs.lemmas.Bool.{cases_lt}
 use Rattle.std.proofs.lemmas.Bool.Decides.{nat_tests}
@@ -14,22 +15,78 @@ use Rattle.patricia_nodes.specs.Internal.Growth.{size_below}
 use Rattle.patricia_nodes.proofs.PlanLemmas.{below_le, below_in, plan_is, node_is}
 use Rattle.patricia_nodes.proofs.WriteLemmas.{get-set_same, get-set_other}
 use Rattle.patricia_nodes.proofs.GrowthLemmas.{takes_none, takes_same, takes_more}
-use Rattle.patricia_nodes.proofs.RelayLemmas.{Mix, flat, first_of, flat_first, Lies, IsUpTo, news}
-use Rattle.patricia_nodes.proofs.RelayLemmas.{olds, waits, OpenAt, opened, step, row-opened}
+use Rattle.patricia_nodes.specs.Internal.Relocation.{Mix, flat, first_of, Lies, AreMoved, news, olds}
+use Rattle.patricia_nodes.specs.Internal.Relocation.{waits, Laying, Emptied, Filling, marked_from}
+use Rattle.patricia_nodes.proofs.RelayLemmas.{flat_first, OpenAt, opened, Turns, step, row-opened}
 use Rattle.patricia_nodes.proofs.RelayLemmas.{size-opened, first-opened, olds-below, waits-opened}
 use Rattle.patricia_nodes.proofs.RelayLemmas.{waits-below, count-parts, below-keep, news-opened}
-use Rattle.patricia_nodes.proofs.RelayLemmas.{up_to-opened, row-step, size-step, first-step}
+use Rattle.patricia_nodes.proofs.RelayLemmas.{moved-opened, row-step, size-step, first-step}
 use Rattle.patricia_nodes.proofs.RelayLemmas.{step-moves, open_exists, opens_at, open_within}
-use Rattle.patricia_nodes.proofs.RelayLemmas.{top_row, tops_within, up_to-step, lies-opened}
+use Rattle.patricia_nodes.proofs.RelayLemmas.{top_row, tops_within, moved-step, moved-same, lies-opened}
 use Rattle.patricia_nodes.proofs.RelayLemmas.{length-laid, lies-step, lies_done}
 
 -- a number that is not below a length counts as none below it
 below_out : (n at : ℕ) → n ≤ at → below n at ≡ 0
 below_out n at h = grind (arith, nat_tests)
 
--- where the numbers had their turn up to the length, the next one is the length
-all_turns : (i n : ℕ) → i ≤ n → n ≤ i → i ≡ n
-all_turns i n a b = omega arith
+-- no mark
+abbrev pub unmarked : ℕ → Bool
+unmarked at = false
+
+-- the numbers before the first keep their marks; from there on those before i have one, and from
+-- the end on
+abbrev pub between : ℕ → ℕ → ℕ → (ℕ → Bool) → ℕ → Bool
+between start i end marks at = if nat_lt at start then marks at else (if nat_lt at i then true else (if nat_lt at end then false else true))
+
+-- marks below a length, and none from there on
+abbrev pub up_to : ℕ → (ℕ → Bool) → ℕ → Bool
+up_to n marks at = if nat_lt at n then marks at else false
+
+pub up_to_none : (n : ℕ) (marks : ℕ → Bool) (at : ℕ) → n ≤ at → up_to n marks at ≡ false
+up_to_none n marks at h = grind (arith, nat_tests)
+
+-- where none is marked from the first on, the next to be marked is the first
+pub between_none : (start end : ℕ) (marks : ℕ → Bool) → ((at : ℕ) → start ≤ at → marks at ≡ false)
+    → (at : ℕ) → at < end → between start start end marks at ≡ marks at
+between_none start end marks none at short = elim (cases_lt at start) [
+  | inl h ↦ grind (arith, nat_tests)
+  | inr h ↦ let no = none at h in grind (arith, nat_tests)
+]
+
+-- the next to be marked has no mark
+pub between_next : (start i end : ℕ) (marks : ℕ → Bool) → start ≤ i → i < end
+    → between start i end marks i ≡ false
+between_next start i end marks a b = grind (arith, nat_tests)
+
+-- then it has one
+pub between_turns : (start i end n len : ℕ) (marks : ℕ → Bool) → n ≡ len → start ≤ i → i < end
+    → end ≤ len
+    → Turns (between start i end marks) (up_to n (between start (i + 1) end marks)) i len
+between_turns start i end n len marks e a b c = record {
+  here = grind (arith, nat_tests);
+  same = λ at short other. grind (arith, nat_tests);
+  new = λ at h. grind (arith, nat_tests);
+}
+
+-- where the end is that of the nodes, the new nodes come before it
+pub between_level : (start i end n m : ℕ) (marks : ℕ → Bool) → start ≤ i → i < end → end ≡ n
+    → (at : ℕ) → at < m
+    → between start (i + 1) m marks at ≡ up_to n (between start (i + 1) end marks) at
+between_level start i end n m marks a b c at short = grind (arith, nat_tests)
+
+-- and else they have all their marks
+pub between_deep : (start i end n : ℕ) (marks : ℕ → Bool) → start ≤ i → i < end → end ≤ n
+    → (at : ℕ) → between start (i + 1) end marks at ≡ marked_from n (up_to n (between start (i + 1) end marks)) at
+between_deep start i end n marks a b c at = grind (arith, nat_tests)
+
+-- at the end all have one
+pub between_done : (start i end : ℕ) (marks : ℕ → Bool) → end ≤ i → (at : ℕ)
+    → marked_from start marks at ≡ between start i end marks at
+between_done start i end marks h at = grind (arith, nat_tests)
+
+-- marks from 0 on are everywhere
+pub marked_all : (marks : ℕ → Bool) (at : ℕ) → marked_from 0 marks at ≡ true
+marked_all marks at = grind (arith, nat_tests)
 
 module _ {V : Type 0} where
   -- an item of the first of two lists has the same place in both together
@@ -43,27 +100,14 @@ module _ {V : Type 0} where
   same_node : {a b : Node V} → Some a ≡ Some b → a ≡ b
   same_node e = cc
 
-  -- the nodes before i have their children in the new vector, and together they are the plan
-  pub record Laying (p : Plan V) (from : List (Node V)) (i : ℕ) (to : List (Node V)) (root : Option ℕ) : Type 0 where
-    pub mix : Mix V
-    pub row_is : row (flat mix) ≡ row p
-    pub size_is : size (flat mix) ≡ size p
-    pub root_is : root ≡ first_of mix
-    pub lies : Lies from to mix
-    pub up_to : IsUpTo i mix
-    pub news_once : (at : ℕ) → news mix at ≡ below (length to) at
-    pub olds_once : (at : ℕ) → olds mix at ≤ 1
-    pub sized : length to + waits mix ≡ size p
-    pub within : i ≤ length to
-
   -- a number of a sound plan stands there once at most
   pub counted_once : (nodes : List (Node V)) (root free : Option ℕ) (p : Plan V) (spare : List ℕ)
       → IsSound nodes root free p spare → (at : ℕ) → count p at ≤ 1
   counted_once nodes root free p spare sound at = omega (arith, sound.once at, below_le (length nodes) at)
 
-  -- once the top row is laid, the turn is that of its first node
+  -- once the top row is laid, each of its nodes waits for its children
   pub laying_start : (p : Plan V) (from to : List (Node V)) → IsLaid from to p
-      → Laying p from 0 to (head (numbered_siblings 0 p))
+      → Laying p from unmarked to (head (numbered_siblings 0 p))
   laying_start p from to l =
       let long : length to ≡ length (tops p) = ap length l.laid_is ∙ length-laid 0 p in
       record {
@@ -72,14 +116,13 @@ module _ {V : Type 0} where
         size_is = size-opened 0 p;
         root_is = sym (first-opened 0 p);
         lies = lies-opened from [] to p l.below_stands (λ at h. ap (λ xs. slice_get xs at) l.laid_is);
-        up_to = up_to-opened 0 0 p (omega arith);
+        moved = moved-opened unmarked 0 p (λ at h. refl);
         news_once = λ at. let came = news-opened 0 p at in
             let none : below 0 at ≡ 0 = grind (arith, nat_tests) in
             let same : 0 + length (tops p) ≡ length (tops p) = omega arith in omega
             (arith, ap (λ k. below k at) long, ap (λ k. below k at) same);
         olds_once = λ at. omega (arith, olds-below 0 p at, l.once at);
         sized = omega (arith, waits-opened 0 p, long);
-        within = omega arith;
       }
 
   -- the children of the next node are a row that can be moved, and there is room for it
@@ -91,11 +134,12 @@ module _ {V : Type 0} where
     pub top : IsTopRow from parent.child row
     pub room : length to + length (tops row) ≤ size p
 
-  -- the row below the next node is still to be laid
-  pub laying_row : (p : Plan V) (from : List (Node V)) (i : ℕ) (to : List (Node V))
-      (root : Option ℕ) (l : Laying p from i to root) → i < length to → NextRow p from i to l.mix
-  laying_row p from i to root l short =
-      let some = open_exists i l.mix l.up_to (omega (arith, l.news_once i, below_in (length to) i short)) in
+  -- the row below a node without a mark is still to be laid
+  pub laying_row : (p : Plan V) (from : List (Node V)) (marks : ℕ → Bool) (i : ℕ)
+      (to : List (Node V)) (root : Option ℕ) (l : Laying p from marks to root) → i < length to
+      → marks i ≡ false → NextRow p from i to l.mix
+  laying_row p from marks i to root l short bare =
+      let some = open_exists marks i l.mix l.moved bare (omega (arith, l.news_once i, below_in (length to) i short)) in
       let w = some.0 in
       let opens = opens_at from to i l.mix w l.lies some.1 in
       let within = open_within i l.mix w some.1 in
@@ -114,16 +158,26 @@ module _ {V : Type 0} where
       → IsTopRow from n.child next.row
   next_top p from i to mix next n reads = rw (node_is to i n next.parent next.there reads) next.top
 
-  -- with the children of node i behind the others, the laying goes on at the number after i
-  laying_on : (p : Plan V) (from later : List (Node V)) (i : ℕ) (to final : List (Node V))
-      (root : Option ℕ) (l : Laying p from i to root) → i < length to
+  -- the numbers of the nodes are those below their length
+  pub news_short : (p : Plan V) (from : List (Node V)) (marks : ℕ → Bool) (to : List (Node V))
+      (root : Option ℕ) (l : Laying p from marks to root) (at : ℕ) → news l.mix at ≢ 0
+      → at < length to
+  news_short p from marks to root l at some = elim (cases_lt at (length to)) [
+    | inl h ↦ h
+    | inr h ↦ absurd (some (l.news_once at ∙ below_out (length to) at h))
+  ]
+
+  -- with the children of node i behind the others, it has its mark
+  laying_on : (p : Plan V) (from later : List (Node V)) (marks marked : ℕ → Bool) (i : ℕ)
+      (to final : List (Node V)) (root : Option ℕ) (l : Laying p from marks to root)
+      → i < length to → Turns marks marked i (length to)
       → (next : NextRow p from i to l.mix)
       → ((at : ℕ) → times (tops next.row) at ≡ 0 → slice_get later at ≡ slice_get from at)
       → final ≡ set (to ++ laid (length to) next.row) i
       (linked next.parent.label next.parent.value
       (head (numbered_siblings (length to) next.row)) next.parent.sibling)
-      → Laying p later (suc i) final root
-  laying_on p from later i to final root l short next others is =
+      → Laying p later marked final root
+  laying_on p from later marks marked i to final root l short turns next others is =
       let w = next.row in
       let n = length to in
       let whole = to ++ laid n w in
@@ -145,26 +199,26 @@ module _ {V : Type 0} where
             (same_node (sym next.there ∙ at)))
             (λ at h. ap (λ xs. slice_get xs at) is ∙ get-set_other whole i at new (λ e. omega arith))
             l.mix once next.due
-            (λ at k. elim (cases_lt at n) [ inl h ↦ h | inr h ↦ absurd (k (l.news_once at ∙ below_out n at h)) ])
+            (news_short p from marks to root l)
             (λ at k. others at (omega (arith, moves.left at, l.olds_once at)))
             l.lies;
-        up_to = up_to-step i n l.mix l.up_to short;
+        moved = moved-step marks marked i n l.mix l.moved (news_short p from marks to root l) turns;
         news_once = λ at. omega (arith, moves.came at, l.news_once at, ap (λ k. below k at) long);
         olds_once = λ at. omega (arith, moves.left at, l.olds_once at);
         sized = omega (arith, l.sized, moves.waits, long);
-        within = omega (arith, long);
       }
 
   -- as the nodes are read and written
-  pub laying_next : (p : Plan V) (from later : List (Node V)) (i : ℕ) (to final : List (Node V))
-      (root : Option ℕ) (l : Laying p from i to root) → i < length to
+  pub laying_next : (p : Plan V) (from later : List (Node V)) (marks marked : ℕ → Bool) (i : ℕ)
+      (to final : List (Node V)) (root : Option ℕ) (l : Laying p from marks to root)
+      → i < length to → Turns marks marked i (length to)
       → (next : NextRow p from i to l.mix)
       → ((at : ℕ) → times (tops next.row) at ≡ 0 → slice_get later at ≡ slice_get from at)
       → (moved : List (Node V)) → moved ≡ to ++ laid (length to) next.row → (first : Option ℕ)
       → first ≡ head (numbered_siblings (length to) next.row) → (n : Node V) → n ≡ get_or moved i n
       → final ≡ set moved i (linked n.label n.value first n.sibling)
-      → Laying p later (suc i) final root
-  laying_next p from later i to final root l short next others moved comes first first_is n reads written =
+      → Laying p later marked final root
+  laying_next p from later marks marked i to final root l short turns next others moved comes first first_is n reads written =
       let parent : n ≡ next.parent = node_is moved i n next.parent
       (ap (λ xs. slice_get xs i) comes ∙ get_front to (laid (length to) next.row) i short ∙
       next.there) reads in
@@ -172,15 +226,16 @@ module _ {V : Type 0} where
       (linked next.parent.label next.parent.value
       (head (numbered_siblings (length to) next.row)) next.parent.sibling) =
       rw (← parent, ← first_is, ← comes) written in
-      laying_on p from later i to final root l short next others is
+      laying_on p from later marks marked i to final root l short turns next others is
 
   -- at the end the nodes are sound, and the same row
   pub laying_done :
-      (p : Plan V) (from : List (Node V)) (i : ℕ) (to : List (Node V)) (root : Option ℕ)
-      → Laying p from i to root → length to ≤ i
+      (p : Plan V) (from : List (Node V)) (marks : ℕ → Bool) (to : List (Node V))
+      (root : Option ℕ) → Laying p from marks to root
+      → ((at : ℕ) → at < length to → marks at ≡ true)
       → (q : Plan V) × IsSound to root None q [] × (row q ≡ row p) × (size q ≡ size p)
-  laying_done p from i to root l all =
-      let done = lies_done from to l.mix l.lies (subst (λ k. IsUpTo k l.mix) (all_turns i (length to) l.within all) l.up_to) in
+  laying_done p from marks to root l all =
+      let done = lies_done from to marks l.mix l.lies l.moved all in
       let q = flat l.mix in (
         q,
         record {
@@ -193,19 +248,6 @@ module _ {V : Type 0} where
         l.row_is,
         l.size_is,
       )
-
-  -- what is taken from the old nodes meanwhile
-  pub record Emptied (old : NodeArena V) (w : Plan V) (mix : Mix V) (now : NodeArena V) : Type 0 where
-    pub counts : ℕ → ℕ
-    pub number : ℕ
-    pub takes : TakesNodes old now counts number
-    pub split : (at : ℕ) → counts at + olds mix at ≡ count_below w at
-    pub sized : number + waits mix ≡ size_below w
-
-  -- nodes moved from a vector, row by row: what was moved, and what waits
-  pub record Filling (old : NodeArena V) (w : Plan V) (now : NodeArena V) (i : ℕ) (to : List (Node V)) : Type 0 where
-    pub laying : Laying w now.nodes.items i to (head (numbered_siblings 0 w))
-    pub emptied : Emptied old w laying.mix now
 
   -- at first nothing is taken from the old nodes but the top row
   emptied_start : (s : NodeArena V) (w : Plan V) → Emptied s w (opened 0 w) s
@@ -234,39 +276,63 @@ module _ {V : Type 0} where
 
   -- at first nothing below the top row was moved
   pub filling_start : (w : Plan V) (s : NodeArena V) (to : List (Node V))
-      → IsLaid s.nodes.items to w → Filling s w s 0 to
+      → IsLaid s.nodes.items to w → Filling s w s unmarked to
   unfolding laying_start
   filling_start w s to l = record { laying = laying_start w s.nodes.items to l; emptied = emptied_start s w }
 
-  -- once they are moved and the node has their new number, it is the next one's turn
-  pub filling_next : (old : NodeArena V) (w : Plan V) (from later : NodeArena V) (i : ℕ)
-      (to final : List (Node V)) (f : Filling old w from i to) → i < length to
+  -- once they are moved and the node has their new number, it has its mark
+  pub filling_next : (old : NodeArena V) (w : Plan V) (from later : NodeArena V)
+      (marks marked : ℕ → Bool) (i : ℕ) (to final : List (Node V))
+      (f : Filling old w from marks to) → i < length to → Turns marks marked i (length to)
       → (next : NextRow w from.nodes.items i to f.laying.mix) → TakesRow from later next.row
       → (moved : List (Node V)) → moved ≡ to ++ laid (length to) next.row → (first : Option ℕ)
       → first ≡ head (numbered_siblings (length to) next.row) → (n : Node V) → n ≡ get_or moved i n
       → final ≡ set moved i (linked n.label n.value first n.sibling)
-      → Filling old w later (i + 1) final
+      → Filling old w later marked final
   unfolding laying_on laying_next
-  filling_next old w from later i to final f short next takes moved comes first first_is n reads written =
+  filling_next old w from later marks marked i to final f short turns next takes moved comes first first_is n reads written =
       let l = f.laying in
-      let done : Filling old w later (suc i) final = record {
-        laying = laying_next w from.nodes.items later.nodes.items i to final
-            (head (numbered_siblings 0 w)) l short next takes.others moved comes first first_is n
-            reads written;
+      record {
+        laying = laying_next w from.nodes.items later.nodes.items marks marked i to final
+            (head (numbered_siblings 0 w)) l short turns next takes.others moved comes first
+            first_is n reads written;
         emptied = emptied_next old w l.mix from later i (length to) next.row (omega (arith, l.news_once i, below_le (length to) i)) next.due takes f.emptied;
-      } in
-      subst (λ k. Filling old w later k final) (omega arith) done
+      }
+
+  -- marks at numbers past the nodes say nothing
+  pub filling_same : (old : NodeArena V) (w : Plan V) (now : NodeArena V) (marks later : ℕ → Bool)
+      (to : List (Node V)) → Filling old w now marks to
+      → ((at : ℕ) → at < length to → later at ≡ marks at) → Filling old w now later to
+  filling_same old w now marks later to f same =
+      let l = f.laying in
+      record {
+        laying = record {
+          mix = l.mix;
+          row_is = l.row_is;
+          size_is = l.size_is;
+          root_is = l.root_is;
+          lies = l.lies;
+          moved = moved-same marks later l.mix
+              (λ at some. same at (news_short w now.nodes.items marks to (head (numbered_siblings 0 w)) l at some))
+              l.moved;
+          news_once = l.news_once;
+          olds_once = l.olds_once;
+          sized = l.sized;
+        };
+        emptied = f.emptied;
+      }
 
   -- and at the end they are sound, and what is below the row was taken
   pub filling_done :
-      (old : NodeArena V) (w : Plan V) (now : NodeArena V) (i : ℕ) (to : List (Node V))
-      → Filling old w now i to → length to ≤ i
+      (old : NodeArena V) (w : Plan V) (now : NodeArena V) (marks : ℕ → Bool)
+      (to : List (Node V)) → Filling old w now marks to
+      → ((at : ℕ) → at < length to → marks at ≡ true)
       → ((q : Plan V) × IsSound to (head (numbered_siblings 0 w)) None q [] × (row q ≡ row w) × (size q ≡ size w)) × TakesBelow old now w
-  filling_done old w now i to f all =
+  filling_done old w now marks to f all =
       let l = f.laying in
       let e = f.emptied in
-      let done = lies_done now.nodes.items to l.mix l.lies (subst (λ k. IsUpTo k l.mix) (all_turns i (length to) l.within all) l.up_to) in (
-        laying_done w now.nodes.items i to (head (numbered_siblings 0 w)) l all,
+      let done = lies_done now.nodes.items to marks l.mix l.lies l.moved all in (
+        laying_done w now.nodes.items marks to (head (numbered_siblings 0 w)) l all,
         takes_same old now e.counts (λ at. count_below w at) e.number (size_below w)
             (λ at. omega (arith, e.split at, done.3 at)) (omega (arith, e.sized, done.2)) e.takes,
       )

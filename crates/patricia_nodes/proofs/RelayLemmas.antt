@@ -12,6 +12,8 @@ use Rattle.patricia_nodes.specs.Internal.Plans.{Plan, Nil, Cell, linked, head, r
 use Rattle.patricia_nodes.specs.Internal.Plans.{one, below, times, LaidOut}
 use Rattle.patricia_nodes.specs.Internal.Growth.{tops, numbered_siblings, laid, RowStands, IsTopRow}
 use Rattle.patricia_nodes.specs.Internal.Growth.{count_below, size_below, BelowStands}
+use Rattle.patricia_nodes.specs.Internal.Relocation.{Mix, Empty, Done, Open, flat, first_of, Lies}
+use Rattle.patricia_nodes.specs.Internal.Relocation.{AreMoved, news, olds, waits}
 use Rattle.patricia_nodes.proofs.PlanLemmas.{one-same}
 use Rattle.patricia_nodes.proofs.WriteLemmas.{stands-keep}
 
@@ -27,60 +29,32 @@ other_number id i none = by (nat_eq id i) refl
 same_number : (i : ℕ) → nat_eq i i ≡ true
 same_number i = grind (arith, nat_tests)
 
--- a plan in the new vector: the children of a node are there too, or they are a plan in the old one
-pub data Mix (V : Type 0) : Type 0 where
-  Empty : Mix V
-  Done : (id : ℕ) (label : List ℕ) (value : Option V) (child sibling : Mix V) → Mix V
-  Open : (id : ℕ) (label : List ℕ) (value : Option V) (child : Plan V) (sibling : Mix V) → Mix V
+-- node i gets its mark, and those from n on have none
+pub record Turns (marks later : ℕ → Bool) (i n : ℕ) : Type 0 where
+  pub here : later i ≡ true
+  pub same : (at : ℕ) → at < n → at ≢ i → later at ≡ marks at
+  pub new : (at : ℕ) → n ≤ at → later at ≡ false
+
+-- what the test of equal numbers says
+eq_of : (id i : ℕ) → nat_eq id i ≡ true → id ≡ i
+eq_of id i e = grind (arith, nat_tests)
+
+ne_of : (id i : ℕ) → nat_eq id i ≡ false → id ≢ i
+ne_of id i e = λ z. absurd (let no : nat_eq id i ≡ true = ap (λ k. nat_eq k i) z ∙ same_number i in let both : true ≡ false = sym no ∙ e in cc)
+
+-- a marked number is not one without a mark
+other_mark : (marks : ℕ → Bool) (id i : ℕ) → marks id ≡ true → marks i ≡ false → one id i ≡ 0
+other_mark marks id i marked bare = elim (cases_eq id i) [
+  | inl e ↦ absurd (let z : true ≡ false = sym marked ∙ ap marks e ∙ bare in cc)
+  | inr e ↦ grind (arith, nat_tests)
+]
 
 module _ {V : Type 0} where
-  -- the plan without the difference
-  abbrev pub flat : Mix V → Plan V
-  flat Empty = Nil
-  flat (Done id l v c d) = Cell id l v (flat c) (flat d)
-  flat (Open id l v c d) = Cell id l v c (flat d)
-
-  -- the number of the first node of a row
-  abbrev pub first_of : Mix V → Option ℕ
-  first_of Empty = None
-  first_of (Done id l v c d) = Some id
-  first_of (Open id l v c d) = Some id
-
   -- it is the number of the first node of its plan
   pub flat_first : (q : Mix V) → first_of q ≡ head (flat q)
   flat_first Empty = refl
   flat_first (Done id l v c d) = refl
   flat_first (Open id l v c d) = refl
-
-  -- each node is where it says
-  abbrev pub Lies : List (Node V) → List (Node V) → Mix V → Type 0
-  Lies from to Empty = Unit {0}
-  Lies from to (Done id l v c d) = (slice_get to id ≡ Some (linked l v (first_of c) (first_of d))) × Lies from to c × Lies from to d
-  Lies from to (Open id l v c d) = (slice_get to id ≡ Some (linked l v (head c) (first_of d))) × LaidOut from c × Lies from to d
-
-  -- the nodes before i have their children in the new vector, and the others do not
-  abbrev pub IsUpTo : ℕ → Mix V → Type 0
-  IsUpTo i Empty = Unit {0}
-  IsUpTo i (Done id l v c d) = (id < i) × IsUpTo i c × IsUpTo i d
-  IsUpTo i (Open id l v c d) = (i ≤ id) × IsUpTo i d
-
-  -- how often a number stands in the new part, and in the old part
-  abbrev pub news : Mix V → ℕ → ℕ
-  news Empty at = 0
-  news (Done id l v c d) at = one id at + (news c at + news d at)
-  news (Open id l v c d) at = one id at + news d at
-
-  -- how often a number is that of a node still to be moved
-  abbrev pub olds : Mix V → ℕ → ℕ
-  olds Empty at = 0
-  olds (Done id l v c d) at = olds c at + olds d at
-  olds (Open id l v c d) at = count c at + olds d at
-
-  -- how many nodes are in the old part
-  abbrev pub waits : Mix V → ℕ
-  waits Empty = 0
-  waits (Done id l v c d) = waits c + waits d
-  waits (Open id l v c d) = size c + waits d
 
   -- a row that has just come, with numbers from n on
   abbrev pub opened : ℕ → Plan V → Mix V
@@ -145,10 +119,25 @@ module _ {V : Type 0} where
       let same : suc n + length (tops d) ≡ n + suc (length (tops d)) = omega arith in
       ap (λ k. one n at + news (opened (suc n) d) at + k) refl ∙ omega (arith, rest, more, ap (λ k. below k at) same)
 
-  -- no row before the first new number waits
-  pub up_to-opened : (i n : ℕ) (w : Plan V) → i ≤ n → IsUpTo i (opened n w)
-  up_to-opened i n Nil h = tt
-  up_to-opened i n (Cell id l v c d) h = (h, up_to-opened i (suc n) d (omega arith))
+  -- a row that comes waits where none of its numbers is marked
+  pub moved-opened : (marks : ℕ → Bool) (n : ℕ) (w : Plan V)
+      → ((at : ℕ) → n ≤ at → marks at ≡ false) → AreMoved marks (opened n w)
+  moved-opened marks n Nil h = tt
+  moved-opened marks n (Cell id l v c d) h = (h n (omega arith), moved-opened marks (suc n) d (λ at le. h at (omega arith)))
+
+  -- marks at other numbers than those of the nodes say nothing
+  pub moved-same : (marks later : ℕ → Bool) (q : Mix V)
+      → ((at : ℕ) → news q at ≢ 0 → later at ≡ marks at) → AreMoved marks q → AreMoved later q
+  moved-same marks later Empty k m = tt
+  moved-same marks later (Done id l v c d) k m = (
+    k id (λ e. omega (arith, one-same id)) ∙ m.0,
+    moved-same marks later c (λ at n. k at (λ e. n (omega arith))) m.1,
+    moved-same marks later d (λ at n. k at (λ e. n (omega arith))) m.2,
+  )
+  moved-same marks later (Open id l v c d) k m = (
+    k id (λ e. omega (arith, one-same id)) ∙ m.0,
+    moved-same marks later d (λ at n. k at (λ e. n (omega arith))) m.1,
+  )
 
   -- a step keeps the row, its size and its first number
   pub row-step : (i n : ℕ) (q : Mix V) → row (flat (step i n q)) ≡ row (flat q)
@@ -233,18 +222,19 @@ module _ {V : Type 0} where
         came = λ at. omega (arith, news-opened n w at);
       })
 
-  -- where a number of the new part has not had its turn, its children are in the old part
-  pub open_exists : (i : ℕ) (q : Mix V) → IsUpTo i q → 1 ≤ news q i → (w : Plan V) × OpenAt i q w
-  open_exists i Empty up some = absurd (omega arith)
-  open_exists i (Done id l v c d) up some =
-      let other : one id i ≡ 0 = let less = up.0 in grind (arith, nat_tests) in
+  -- where a number of the new part has no mark, its children are in the old part
+  pub open_exists : (marks : ℕ → Bool) (i : ℕ) (q : Mix V) → AreMoved marks q → marks i ≡ false
+      → 1 ≤ news q i → (w : Plan V) × OpenAt i q w
+  open_exists marks i Empty m bare some = absurd (omega arith)
+  open_exists marks i (Done id l v c d) m bare some =
+      let other = other_mark marks id i m.0 bare in
       elim (cases_lt 0 (news c i)) [
-        | inl h ↦ let at = open_exists i c up.1 (omega arith) in (at.0, inl at.1)
-        | inr h ↦ let at = open_exists i d up.2 (omega arith) in (at.0, inr at.1)
+        | inl h ↦ let at = open_exists marks i c m.1 bare h in (at.0, inl at.1)
+        | inr h ↦ let at = open_exists marks i d m.2 bare (omega (arith, other)) in (at.0, inr at.1)
       ]
-  open_exists i (Open id l v c d) up some = elim (cases_eq id i) [
+  open_exists marks i (Open id l v c d) m bare some = elim (cases_eq id i) [
     | inl e ↦ (c, inl (e, refl))
-    | inr e ↦ let other : one id i ≡ 0 = grind (arith, nat_tests) in let at = open_exists i d up.1 (omega arith) in (at.0, inr at.1)
+    | inr e ↦ let other : one id i ≡ 0 = grind (arith, nat_tests) in let at = open_exists marks i d m.1 bare (omega (arith, other)) in (at.0, inr at.1)
   ]
 
   -- they stand there, and the node has the number of the first of them
@@ -286,16 +276,24 @@ module _ {V : Type 0} where
       → ((i : ℕ) → count w i ≤ 1) → IsTopRow nodes at w
   top_row nodes at w s e once = record { stands = rows_stand nodes w s; at_is = e; once = λ i. omega (arith, once i, (tops_within w).1 i) }
 
-  -- the nodes up to i + 1 have their children in the new vector then
-  pub up_to-step : (i n : ℕ) (q : Mix V) → IsUpTo i q → i < n → IsUpTo (suc i) (step i n q)
-  up_to-step i n Empty up h = tt
-  up_to-step i n (Done id l v c d) up h = (let less = up.0 in omega arith, up_to-step i n c up.1 h, up_to-step i n d up.2 h)
-  up_to-step i n (Open id l v c d) up h = by (nat_eq id i) refl (up_to-step i n d up.1 h)
+  -- then node i has its children in the new vector, too, and those that came wait
+  pub moved-step : (marks later : ℕ → Bool) (i n : ℕ) (q : Mix V) → AreMoved marks q
+      → ((at : ℕ) → news q at ≢ 0 → at < n) → Turns marks later i n → AreMoved later (step i n q)
+  moved-step marks later i n Empty m short t = tt
+  moved-step marks later i n (Done id l v c d) m short t = (
+    elim (cases_eq id i) [
+      | inl e ↦ ap later e ∙ t.here
+      | inr e ↦ t.same id (short id (λ z. omega (arith, one-same id))) e ∙ m.0
+    ],
+    moved-step marks later i n c m.1 (λ at k. short at (λ e. k (omega arith))) t,
+    moved-step marks later i n d m.2 (λ at k. short at (λ e. k (omega arith))) t,
+  )
+  moved-step marks later i n (Open id l v c d) m short t = by (nat_eq id i) refl (moved-step marks later i n d m.1 (λ at k. short at (λ e. k (omega arith))) t)
     where
-      by : (b : Bool) → nat_eq id i ≡ b → IsUpTo (suc i) (step i n d) → IsUpTo (suc i)
+      by : (b : Bool) → nat_eq id i ≡ b → AreMoved later (step i n d) → AreMoved later
           (if b then Done id l v (opened n c) (step i n d) else Open id l v c (step i n d))
-      by true e rest = (grind (arith, nat_tests), up_to-opened (suc i) n c (omega arith), rest)
-      by false e rest = (let le = up.0 in grind (arith, nat_tests), rest)
+      by true e rest = (ap later (eq_of id i e) ∙ t.here, moved-opened later n c t.new, rest)
+      by false e rest = (t.same id (short id (λ z. omega (arith, one-same id))) (ne_of id i e) ∙ m.0, rest)
 
   -- what lies at other numbers, lies still
   lies-keep : (from later to final : List (Node V)) (q : Mix V)
@@ -421,14 +419,15 @@ module _ {V : Type 0} where
           still d none (λ at n. short at (λ e. n (omega arith))) (λ at n. kept at (λ e. n (omega arith))) lies.2,
         )
 
-  -- once each number had its turn, nothing waits
-  pub lies_done : (from to : List (Node V)) (q : Mix V) → Lies from to q → IsUpTo (length to) q
+  -- once each number has its mark, nothing waits
+  pub lies_done : (from to : List (Node V)) (marks : ℕ → Bool) (q : Mix V) → Lies from to q
+      → AreMoved marks q → ((at : ℕ) → at < length to → marks at ≡ true)
       → LaidOut to (flat q) × ((at : ℕ) → count (flat q) at ≡ news q at) × (waits q ≡ 0) × ((at : ℕ) → olds q at ≡ 0)
-  lies_done from to Empty lies up = (tt, λ at. refl, refl, λ at. refl)
-  lies_done from to (Open id l v c d) lies up = absurd (let short = slice_get_within to id _ lies.0 in let long = up.0 in omega arith)
-  lies_done from to (Done id l v c d) lies up =
-      let below = lies_done from to c lies.1 up.1 in
-      let beside = lies_done from to d lies.2 up.2 in (
+  lies_done from to marks Empty lies m all = (tt, λ at. refl, refl, λ at. refl)
+  lies_done from to marks (Open id l v c d) lies m all = absurd (let z : true ≡ false = sym (all id (slice_get_within to id _ lies.0)) ∙ m.0 in cc)
+  lies_done from to marks (Done id l v c d) lies m all =
+      let below = lies_done from to marks c lies.1 m.1 all in
+      let beside = lies_done from to marks d lies.2 m.2 all in (
         (lies.0 ∙ ap (λ k. Some (linked l v k (first_of d))) (flat_first c) ∙ ap (λ k. Some (linked l v (head (flat c)) k)) (flat_first d), below.0, beside.0),
         λ at. omega (arith, below.1 at, beside.1 at),
         omega (arith, below.2, beside.2),

@@ -8,4 +8,5 @@ pub mod Merges
 pub mod NodeVecs
 pub mod Places
 pub mod Plans
+pub mod Relocation
 pub mod Writes

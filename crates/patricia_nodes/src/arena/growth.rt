@@ -1,18 +1,22 @@
 //! Room for more nodes: a larger vector, to which the nodes are relocated.
 //!
-//! The siblings of a row lie side by side, and the rows level by level. The new vector is the
-//! queue of the rows that wait, so nothing else is asked for.
+//! The siblings of a row lie side by side, and what is below a node behind its row, so that a
+//! look-up reads few pages. What waits stands in the new vector, so nothing else is asked for.
 ghost use Rattle.std.specs.Prelude.{◌≡◌, ◌+◌, ◌≤◌, ◌++◌, [], None, IfOk, OnOk, OnErr, length};
 ghost use Rattle.std.specs.Prelude.{vec_len, vec_capacity};
 ghost use Rattle.patricia_nodes.specs.Internal.Plans.{Plan, head, row, siblings_of, size, IsSound};
 ghost use Rattle.patricia_nodes.specs.Internal.Plans.{IsWellFormed};
 ghost use Rattle.patricia_nodes.specs.Internal.Growth.{IsLaid, IsTopRow, TakesBelow, TakesRow};
 ghost use Rattle.patricia_nodes.specs.Internal.Growth.{tops, laid, numbered_siblings};
+ghost use Rattle.patricia_nodes.specs.Internal.Relocation.{WaitsFrom, MovesFrom};
 
 use crate::arena::node_vec::NodeVec;
 use crate::arena::{Node, NodeArena};
 use crate::link::{Link, NodeId};
 use std::alloc::{AllocError, Global};
+
+// How many rows deep nodes are relocated depth first.
+const DEPTH_FIRST: u32 = 64;
 
 // A vector for half as many nodes again, and for four at the least.
 fn larger_vector<V: Drop>(alloc: Global, len: usize) -> Result<NodeVec<V>, AllocError>
@@ -56,8 +60,34 @@ impl<V: Drop> NodeArena<V> {
         }
     }
 
-    /// Moves what is below the nodes of a new vector behind them, row by row. They have the numbers
-    /// that their children have here. What is moved is free here.
+    // Moves what is below the nodes of a new vector from one on behind them, what is below each of
+    // them before what is below the next. They have the numbers that their children have here.
+    // What lies deeper than `depth` rows below them is moved row by row.
+    fn relocate_below(&mut self, alloc: Global, to: &mut NodeVec<V>, start: usize, depth: u32)
+        requires { WaitsFrom self.old start to.old.items (vec_capacity to.old) }
+        ensures moved { MovesFrom self.old self.new start to.old.items to.new.items }
+        ensures longer { vec_len to.old ≤ vec_len to.new }
+        ensures capacity { vec_capacity to.new ≡ vec_capacity to.old }
+    {
+        let mut end = to.len();
+        let mut i = start;
+        while i < end {
+            let below = to.len();
+            let child = to[i].child;
+            let first = self.relocate_siblings(alloc, child, to);
+            to.set_child(NodeId::new(i), first);
+            i += 1;
+            if depth == 0 {
+                end = to.len();
+            } else {
+                self.relocate_below(alloc, to, below, depth - 1);
+            }
+        }
+    }
+
+    /// Moves what is below the nodes of a new vector behind them, each row with its siblings side
+    /// by side, depth first. They have the numbers that their children have here. What is moved is
+    /// free here.
     pub fn relocate_descendants(&mut self, alloc: Global, to: &mut NodeVec<V>)
         requires { (w : Plan V) × IsLaid self.old.nodes.items to.old.items w
             × (size w ≤ vec_capacity to.old) }
@@ -68,13 +98,7 @@ impl<V: Drop> NodeArena<V> {
             × (row q ≡ row w) × (size q ≡ size w) }
         ensures capacity { vec_capacity to.new ≡ vec_capacity to.old }
     {
-        let mut i = 0;
-        while i < to.len() {
-            let child = to[i].child;
-            let first = self.relocate_siblings(alloc, child, to);
-            to.set_child(NodeId::new(i), first);
-            i += 1;
-        }
+        self.relocate_below(alloc, to, 0, DEPTH_FIRST);
     }
 
     /// Lays the nodes anew in a larger vector, with room for two more and none free.
