@@ -48,6 +48,7 @@ pub fn decode<K: Bytes, W: Width, V: Drop>(
             nodes: builder.nodes,
             root: builder.root,
             free: Link::none(),
+            edits: 0,
         },
     })
 }

@@ -1,5 +1,5 @@
 -- Values whose clones are the same.
-use Rattle.std.proofs.Common.{inl, inr, ℕ, List, [], ◌∷◌, ◌++◌, Option, Some, None, sym, subst}
+use Rattle.std.proofs.Common.{inl, inr, ℕ, Bool, List, [], ◌∷◌, ◌++◌, Option, Some, None, sym, subst}
 use Rattle.std.specs.Prelude.{IfSome, map}
 use Rattle.std.specs.List.{All, AllByRecursion}
 use Rattle.std.proofs.lemmas.List.Elements.{All-from_recursion, recursion_from_All}
@@ -7,8 +7,9 @@ use Rattle.patricia_model.specs.Siblings.{Siblings, end, node, own, prefixed, en
 use Rattle.patricia_nodes.specs.declared.arena.Node.{Node}
 use Rattle.patricia_nodes.specs.declared.arena.NodeArena.{NodeArena}
 use Rattle.patricia_nodes.specs.Internal.Plans.{Plan, row, siblings_of}
-use Rattle.patricia_nodes.proofs.RelayLemmas.{Mix, Empty, Done, Open, flat, OpenAt}
-use Rattle.patricia_nodes.proofs.LayLemmas.{Laying, NextRow}
+use Rattle.patricia_nodes.specs.Internal.Relocation.{Mix, Empty, Done, Open, flat, Laying}
+use Rattle.patricia_nodes.proofs.RelayLemmas.{OpenAt}
+use Rattle.patricia_nodes.proofs.LayLemmas.{NextRow}
 use Rattle.patricia_model.specs.Clones.{CloneIsSame, ClonesAreSame}
 use Rattle.patricia_edits.specs.Internal.Copies.{EntriesKept, RowKept}
 
@@ -70,7 +71,8 @@ module _ {V : Type 0} (is_clone : V → V → Type 0) where
   kept-open i (Open id l v c d) w (inr due) k = kept-open i d w due k.2
 
   -- and so are those of the next row that is laid
-  pub next_row_kept : (p : Plan V) (from : List (Node V)) (i : ℕ) (to : List (Node V))
-      (root : Option ℕ) (l : Laying p from i to root) (next : NextRow p from i to l.mix)
-      → RowKept is_clone (row p) → RowKept is_clone (row next.row)
-  next_row_kept p from i to root l next kept = kept-open i l.mix next.row next.due (subst (λ r. RowKept is_clone r) (sym l.row_is) kept)
+  pub next_row_kept : (p : Plan V) (from : List (Node V)) (marks : ℕ → Bool) (i : ℕ)
+      (to : List (Node V)) (root : Option ℕ) (l : Laying p from marks to root)
+      (next : NextRow p from i to l.mix) → RowKept is_clone (row p)
+      → RowKept is_clone (row next.row)
+  next_row_kept p from marks i to root l next kept = kept-open i l.mix next.row next.due (subst (λ r. RowKept is_clone r) (sym l.row_is) kept)

@@ -1,7 +1,7 @@
 //! Nodes copied to a vector of their own.
 //!
-//! Rows are laid there as growth lays them: siblings side by side, and the rows level by level. The
-//! new vector is the queue of the rows that wait, and it is reserved once.
+//! Rows are laid there as growth lays them: siblings side by side, and what is below a node behind
+//! its row. What waits stands in the new vector, which is reserved once.
 ghost use Rattle.std.specs.Prelude.{◌≡◌, ◌≢◌, ◌+◌, ◌≤◌, ◌++◌, [], None, IfSome, IfOk, OnOk, OnErr};
 ghost use Rattle.std.specs.Prelude.{length, vec_len, vec_capacity};
 ghost use Rattle.patricia_model.specs.Siblings.{end};
@@ -10,10 +10,10 @@ ghost use Rattle.patricia_nodes.specs.Internal.Plans.{plan_at, IsSound, IsWellFo
 ghost use Rattle.patricia_nodes.specs.Internal.Growth.{IsLaid, IsTopRow, tops, laid};
 ghost use Rattle.patricia_nodes.specs.Internal.Growth.{numbered_siblings};
 ghost use Rattle.patricia_model.specs.Clones.{CloneIsSame};
-ghost use Rattle.patricia_edits.specs.Internal.Copies.{RowKept, EntriesKept};
+ghost use Rattle.patricia_edits.specs.Internal.Copies.{RowKept, EntriesKept, AwaitsFrom, CopiesFrom};
 
 use patricia_nodes::arena::node_vec::NodeVec;
-use patricia_nodes::arena::{Node, NodeArena};
+use patricia_nodes::arena::{DEPTH_FIRST, Node, NodeArena};
 use patricia_nodes::label::Label;
 use patricia_nodes::link::{Link, NodeId};
 use std::alloc::{AllocError, Global};
@@ -92,7 +92,40 @@ fn copy_row<V: Clone>(
     })
 }
 
-// Copies what is below the nodes of a new vector behind them, row by row. They have the old numbers
+// Copies what is below the nodes of a new vector from one on behind them, what is below each of them
+// before what is below the next. They have the old numbers of their children. What lies deeper than
+// `depth` rows below them is copied row by row.
+fn copy_rows_below<V: Clone>(
+    alloc: Global,
+    from: &[Node<V>],
+    to: &mut NodeVec<V>,
+    start: usize,
+    depth: u32,
+) -> Result<(), AllocError>
+    requires { AwaitsFrom V.is_clone from.now start to.old.items (vec_capacity to.old) }
+    ensures copied { OnOk result (CopiesFrom from.now start to.old.items to.new.items) }
+    ensures longer { OnOk result (vec_len to.old ≤ vec_len to.new) }
+    ensures capacity { OnOk result (vec_capacity to.new ≡ vec_capacity to.old) }
+    ensures nonempty { OnErr result (to.old.items ≢ []) }
+{
+    let mut end = to.len();
+    let mut i = start;
+    while i < end {
+        let below = to.len();
+        let child = to[i].child;
+        let first = copy_row(alloc, from, child, to)?;
+        to.set_child(NodeId::new(i), first);
+        i += 1;
+        if depth == 0 {
+            end = to.len();
+        } else {
+            copy_rows_below(alloc, from, to, below, depth - 1)?;
+        }
+    }
+    Ok(())
+}
+
+// Copies what is below the nodes of a new vector behind them, depth first. They have the old numbers
 // of their children.
 fn copy_below<V: Clone>(
     alloc: Global,
@@ -106,14 +139,7 @@ fn copy_below<V: Clone>(
         × (row q ≡ row w)) }
     ensures nonempty { OnErr result (to.old.items ≢ []) }
 {
-    let mut i = 0;
-    while i < to.len() {
-        let child = to[i].child;
-        let first = copy_row(alloc, from, child, to)?;
-        to.set_child(NodeId::new(i), first);
-        i += 1;
-    }
-    Ok(())
+    copy_rows_below(alloc, from, to, 0, DEPTH_FIRST)
 }
 
 /// The same nodes in a vector of their own, laid row by row as growth lays them, with none free.
@@ -133,5 +159,6 @@ pub fn copy<V: Clone>(arena: &NodeArena<V>, alloc: Global) -> Result<NodeArena<V
         nodes,
         root,
         free: Link::none(),
+        edits: 0,
     })
 }

@@ -38,6 +38,7 @@ fn make<V: Drop>(arena: &mut NodeArena<V>, node: Node<V>) -> NodeId
     ensures keeps { vec_len arena.old.nodes ≤ vec_len arena.new.nodes }
     ensures capacity { vec_capacity arena.new.nodes ≡ vec_capacity arena.old.nodes }
 {
+    arena.edits = arena.edits.saturating_add(1);
     match arena.free.get() {
         None => {
             let id = NodeId::new(arena.nodes.len());
@@ -233,7 +234,7 @@ pub fn insert<V: Drop, Q: BorrowedBytes>(
     ensures reuses { Reuses arena.old arena.new }
 {
     let place = arena.seek(key);
-    if place.here().is_some() || arena.has_room() {
+    if place.here().is_some() || arena.is_ready() {
         return insert_at(arena, alloc, &place, value);
     }
     if arena.reserve_two(alloc).is_err() {

@@ -132,6 +132,7 @@ fn move_out<V: Drop>(
         nodes,
         root: Link::some(NodeId::new(0)),
         free: Link::none(),
+        edits: 0,
     }
 }
 

@@ -300,27 +300,29 @@ module _ {V : Type 0} where
       }
 
   -- marks at numbers past the nodes say nothing
+  pub laying_same : (p : Plan V) (from : List (Node V)) (marks later : ℕ → Bool)
+      (to : List (Node V)) (root : Option ℕ) → Laying p from marks to root
+      → ((at : ℕ) → at < length to → later at ≡ marks at) → Laying p from later to root
+  laying_same p from marks later to root l same = record {
+    mix = l.mix;
+    row_is = l.row_is;
+    size_is = l.size_is;
+    root_is = l.root_is;
+    lies = l.lies;
+    moved = moved-same marks later l.mix (λ at some. same at (news_short p from marks to root l at some)) l.moved;
+    news_once = l.news_once;
+    olds_once = l.olds_once;
+    sized = l.sized;
+  }
+
   pub filling_same : (old : NodeArena V) (w : Plan V) (now : NodeArena V) (marks later : ℕ → Bool)
       (to : List (Node V)) → Filling old w now marks to
       → ((at : ℕ) → at < length to → later at ≡ marks at) → Filling old w now later to
-  filling_same old w now marks later to f same =
-      let l = f.laying in
-      record {
-        laying = record {
-          mix = l.mix;
-          row_is = l.row_is;
-          size_is = l.size_is;
-          root_is = l.root_is;
-          lies = l.lies;
-          moved = moved-same marks later l.mix
-              (λ at some. same at (news_short w now.nodes.items marks to (head (numbered_siblings 0 w)) l at some))
-              l.moved;
-          news_once = l.news_once;
-          olds_once = l.olds_once;
-          sized = l.sized;
-        };
-        emptied = f.emptied;
-      }
+  unfolding laying_same
+  filling_same old w now marks later to f same = record {
+    laying = laying_same w now.nodes.items marks later to (head (numbered_siblings 0 w)) f.laying same;
+    emptied = f.emptied;
+  }
 
   -- and at the end they are sound, and what is below the row was taken
   pub filling_done :

@@ -11,6 +11,8 @@ pub mod node_vec;
 mod room;
 pub mod seek;
 
+pub use growth::DEPTH_FIRST;
+
 use crate::arena::node_vec::NodeVec;
 use crate::arena::seek::LinkRef;
 use crate::label::Label;
@@ -44,6 +46,8 @@ pub struct NodeArena<V> {
     pub nodes: NodeVec<V>,
     pub root: Link,
     pub free: Link,
+    // how many nodes were made or freed since all were relocated: how far they are out of order
+    pub edits: usize,
 }
 
 impl<V: Drop> NodeArena<V> {
@@ -56,6 +60,7 @@ impl<V: Drop> NodeArena<V> {
             nodes: NodeVec::new(alloc),
             root: Link::none(),
             free: Link::none(),
+            edits: 0,
         }
     }
 
@@ -75,6 +80,7 @@ impl<V: Drop> NodeArena<V> {
         self.nodes.clear();
         self.root = Link::none();
         self.free = Link::none();
+        self.edits = 0;
     }
 
     /// Takes a node out. Its place in the vector holds the number of the next free one, so that
@@ -91,6 +97,7 @@ impl<V: Drop> NodeArena<V> {
             sibling: self.free,
         };
         self.free = Link::some(id);
+        self.edits = self.edits.saturating_add(1);
         self.nodes.replace(id, hollow)
     }
 

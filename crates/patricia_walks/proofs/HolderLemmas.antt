@@ -88,6 +88,7 @@ module _ {V : Type 0} (s : NodeArena V) (whole : IsWellFormed s) where
         };
         root = s.root;
         free = s.free;
+        edits = s.edits;
       } in
       (m, record { nodes = refl; root = refl; whole = (marks whole.0, (whole.1.0, sound-marks v.items s.root s.free whole.0 whole.1.0 whole.1.1)) })
 

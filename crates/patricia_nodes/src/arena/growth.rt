@@ -15,8 +15,9 @@ use crate::arena::{Node, NodeArena};
 use crate::link::{Link, NodeId};
 use std::alloc::{AllocError, Global};
 
-// How many rows deep nodes are relocated depth first.
-const DEPTH_FIRST: u32 = 64;
+/// How many rows deep nodes are laid depth first. What lies deeper is laid row by row, so that the
+/// call stack has a bound.
+pub const DEPTH_FIRST: u32 = 64;
 
 // A vector for half as many nodes again, and for four at the least.
 fn larger_vector<V: Drop>(alloc: Global, len: usize) -> Result<NodeVec<V>, AllocError>
@@ -116,6 +117,7 @@ impl<V: Drop> NodeArena<V> {
         self.nodes = nodes;
         self.root = root;
         self.free = Link::none();
+        self.edits = 0;
         Ok(())
     }
 }

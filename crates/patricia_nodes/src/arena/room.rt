@@ -6,6 +6,9 @@ ghost use Rattle.patricia_nodes.specs.Internal.Writes.{FreeAtLeast, HasRoomFor, 
 use crate::arena::NodeArena;
 use std::alloc::{AllocError, Global};
 
+// The fewest nodes that are relocated for their order alone.
+const FEWEST_TO_RELOCATE: usize = 4096;
+
 impl<V: Drop> NodeArena<V> {
     // How many nodes are free, where two are enough.
     fn free_nodes(&self) -> usize
@@ -22,15 +25,32 @@ impl<V: Drop> NodeArena<V> {
         }
     }
 
-    /// Whether there is room for two more nodes.
-    pub fn has_room(&self) -> bool
+    // Whether there is room for two more nodes.
+    fn has_room(&self) -> bool
         requires { IsWellFormed self.now }
         ensures { IsTrue result → HasRoomFor self.now 2 }
     {
         self.nodes.capacity() - self.nodes.len() + self.free_nodes() >= 2
     }
 
-    /// Makes room for two more nodes. The nodes may have other numbers then.
+    // Whether so many nodes were made or freed since all were relocated that look-ups gain by
+    // relocating them. Few nodes are near one another wherever they lie.
+    fn is_worn(&self) -> bool {
+        let len = self.nodes.len();
+        len >= FEWEST_TO_RELOCATE && self.edits >= len
+    }
+
+    /// Whether there is room for two more nodes, and no gain in relocating those that are there.
+    pub fn is_ready(&self) -> bool
+        requires { IsWellFormed self.now }
+        ensures { IsTrue result → HasRoomFor self.now 2 }
+    {
+        self.has_room() && !self.is_worn()
+    }
+
+    /// Makes room for two more nodes, or relocates the nodes for their order alone. They may have
+    /// other numbers then. Where there is room already, no memory for that is no error: the nodes
+    /// stay where they are, and wait for as many changes as before.
     pub fn reserve_two(&mut self, alloc: Global) -> Result<(), AllocError>
         requires whole { IsWellFormed self.old }
         ensures whole { IsWellFormed self.new }
@@ -39,6 +59,15 @@ impl<V: Drop> NodeArena<V> {
         ensures reuses { Reuses self.old self.new }
         ensures unchanged { OnErr result (Stays self.old self.new) }
     {
-        self.grow(alloc)
+        match self.grow(alloc) {
+            Ok(()) => Ok(()),
+            Err(error) => {
+                if !self.has_room() {
+                    return Err(error);
+                }
+                self.edits = 0;
+                Ok(())
+            }
+        }
     }
 }

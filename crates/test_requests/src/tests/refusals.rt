@@ -8,3 +8,4 @@ mod reading;
 mod sets;
 mod tally;
 mod walks;
+mod worn;

@@ -1,0 +1,55 @@
+//! An insert that relocates the nodes for their order alone, which is done without memory for that,
+//! too. `.ci/run` counts the memory requests of `made`, and refuses the next one of `called`.
+use patricia_tree::PatriciaMap;
+use std::alloc::{AllocError, Global};
+
+// How many keys there are: enough that their nodes are relocated after as many changes.
+const COUNT: u16 = 6000;
+
+// A map of all keys of two bytes below the last one.
+fn filled(alloc: Global) -> Result<PatriciaMap<u64>, AllocError> {
+    let mut map = PatriciaMap::new(alloc);
+    for number in 0..COUNT {
+        let key = number.to_be_bytes();
+        if map.insert(key.as_slice(), u64::from(number)).is_err() {
+            return Err(AllocError);
+        }
+    }
+    Ok(map)
+}
+
+// Removes a key and inserts it again. Returns whether it was there and both calls were done.
+fn is_replaced(map: &mut PatriciaMap<u64>, number: u16) -> bool {
+    let key = number.to_be_bytes();
+    let Ok(Some(value)) = map.remove(key.as_slice()) else {
+        return false;
+    };
+    matches!(map.insert(key.as_slice(), value), Ok(None))
+}
+
+// Whether a key has its number.
+fn is_there(map: &PatriciaMap<u64>, number: u16) -> bool {
+    let key = number.to_be_bytes();
+    map.get(key.as_slice()).copied() == Some(u64::from(number))
+}
+
+#[test]
+fn made(rt: HostRuntime) -> Result<(), AllocError> {
+    let map = filled(rt.alloc())?;
+    assert!(rt; map.len() == usize::from(COUNT));
+    Ok(())
+}
+
+#[test]
+fn called(rt: HostRuntime) -> Result<(), AllocError> {
+    let mut map = filled(rt.alloc())?;
+    for number in 0..COUNT {
+        let is_done = is_replaced(&mut map, number);
+        assert!(rt; is_done);
+    }
+    for number in 0..COUNT {
+        let is_found = is_there(&map, number);
+        assert!(rt; is_found);
+    }
+    Ok(())
+}
