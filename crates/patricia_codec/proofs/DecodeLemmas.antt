@@ -180,10 +180,11 @@ module _ (item : List ℕ → Type 0) (w : ℕ) {V : Type 0} (b : Builder V) (p 
   pub decoded : (kind : IsKeyKind item) (bytes : List ℕ) → q.bytes.now ≡ bytes
       → (items rest : List V) (left : ℕ) → items ≡ taken ++ rest → left ≡ length rest
       → (q.offset ≡ length q.bytes.now) × (left ≡ 0) → (free : Option ℕ) → free ≡ None
-      → IsDone item w (record { nodes = b.nodes; root = b.root; free = free }) b.value bytes items
-  decoded kind bytes same items rest left split count over free none =
+      → (edits : ℕ)
+      → IsDone item w (record { nodes = b.nodes; root = b.root; free = free; edits = edits }) b.value bytes items
+  decoded kind bytes same items rest left split count over free none edits =
       subst (λ l. IsDone item w s b.value l items) same (subst (IsDone item w s b.value q.bytes.now) (sym (all_taken items taken rest left split count over.1))
       (done item w kind s b.value R taken q.bytes.now grown_all none (spelled_all item w q n R [] read_all (omega (arith, over.0)))))
     where
       s : NodeArena V
-      s = record { nodes = b.nodes; root = b.root; free = free }
+      s = record { nodes = b.nodes; root = b.root; free = free; edits = edits }

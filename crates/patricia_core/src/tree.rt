@@ -118,6 +118,14 @@ impl<K: Bytes, V: Drop> Tree<K, V> {
         self.count = 0;
     }
 
+    /// Relocates nodes that lie out of order, as at the end of a load. Without memory for that they
+    /// stay where they are.
+    pub fn settle(&mut self)
+        ensures { self.new ≡ self.old }
+    {
+        self.arena.settle(self.alloc);
+    }
+
     /// Looks a key up. It takes a step for the root, and one for each node whose label is compared
     /// with the key.
     pub fn get_counted<Q: BorrowedBytes<Owned = K>, L: Ledger>(

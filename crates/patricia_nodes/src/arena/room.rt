@@ -1,5 +1,5 @@
 //! Room for new nodes.
-ghost use Rattle.std.specs.Prelude.{◌≡◌, ◌≤◌, IsTrue, OnOk, OnErr};
+ghost use Rattle.std.specs.Prelude.{◌≡◌, ◌≤◌, None, IsTrue, OnOk, OnErr};
 ghost use Rattle.patricia_nodes.specs.Internal.Plans.{IsWellFormed, siblings_of};
 ghost use Rattle.patricia_nodes.specs.Internal.Writes.{FreeAtLeast, HasRoomFor, Reuses, Stays};
 
@@ -68,6 +68,21 @@ impl<V: Drop> NodeArena<V> {
                 self.edits = 0;
                 Ok(())
             }
+        }
+    }
+
+    /// Relocates the nodes at the end of a load, where an eighth of them or more were made or freed
+    /// since they were last relocated. Without memory for that they stay where they are.
+    pub fn settle(&mut self, alloc: Global)
+        requires whole { IsWellFormed self.old }
+        ensures whole { IsWellFormed self.new }
+        ensures row { siblings_of self.new ≡ siblings_of self.old }
+        ensures none_free { self.old.free ≡ None → self.new.free ≡ None }
+    {
+        let len = self.nodes.len();
+        if len >= FEWEST_TO_RELOCATE && self.edits >= len / 8 {
+            // a refusal changes nothing
+            let _relocated = self.grow(alloc);
         }
     }
 }

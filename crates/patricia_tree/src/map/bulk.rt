@@ -14,7 +14,8 @@ impl<K: Bytes, V: Drop> GenericPatriciaMap<K, V> {
     /// Inserts pairs, one after the other: of two values for one key the later stays. The iterator
     /// must end.
     ///
-    /// Takes the time of an `insert` for each pair.
+    /// Takes the time of an `insert` for each pair. Where the map has more than doubled, its nodes are
+    /// relocated at the end, if memory is there for it.
     ///
     /// # Errors
     ///
@@ -39,12 +40,16 @@ impl<K: Bytes, V: Drop> GenericPatriciaMap<K, V> {
         ensures err { OnErr result
             (IsStoppedAt I.into_iter_gives I.IntoIter.next_gives Q.key pairs self.old self.new) }
     {
+        let before = self.len();
         let mut rest = pairs.into_iter();
         while let Some((key, value)) = rest.next() {
             match self.insert(key, value) {
                 Ok(old) => drop(old),
                 Err(_) => return Err(AllocError),
             }
+        }
+        if self.len() / 2 > before {
+            self.tree.settle();
         }
         Ok(())
     }
