@@ -1,24 +1,36 @@
 -- The heads of nodes, where nodes are added and changed.
 use Rattle.std.proofs.Common.{◌≡◌, ℕ, zero, suc, ◌+◌, ◌<◌, List, [], ◌∷◌, ◌++◌, length, get_or, set}
-use Rattle.std.proofs.Common.{refl, sym, ap, ◌∙◌, arith}
+use Rattle.std.proofs.Common.{◌≢◌, ◌-◌, refl, sym, ap, ◌∙◌, arith}
+use Rattle.std.specs.Int.{w32, to_le_bytes, from_le_bytes}
+use Rattle.std.proofs.lemmas.Nat.{from_le_bytes-to_le_bytes_4}
 use Rattle.std.specs.Global.{Vec}
 use Rattle.std.specs.Prelude.{◌≤◌, Option, Some, None, vec_len, vec_capacity}
 use Rattle.std.proofs.lemmas.Bool.Decides.{nat_tests}
 use Rattle.std.specs.Vec.{with_item}
 use Rattle.patricia_nodes.specs.declared.arena.Node.{Node}
 use Rattle.patricia_nodes.specs.declared.arena.node_vec.Head.{Head}
-use Rattle.patricia_nodes.specs.declared.arena.node_vec.Beside.TheVariants.{Nothing, Next}
-use Rattle.patricia_nodes.specs.Internal.Heads.{beside_of, head_of, heads_from, HasHeads}
+use Rattle.patricia_nodes.specs.Internal.Heads.{beside_code, beside_of, head_of, heads_from, HasHeads}
+
+-- the number that was noted is read again
+pub code_is : (next : ℕ) (s : Option ℕ) → from_le_bytes w32 (to_le_bytes w32 (beside_code next s)) ≡ beside_code next s
+code_is next None = from_le_bytes-to_le_bytes_4 0 (omega arith)
+code_is next (Some k) = from_le_bytes-to_le_bytes_4 (beside_code next (Some k)) (grind (arith, nat_tests))
 
 -- where no sibling is noted, there is none
-pub none_beside : (next : ℕ) (s : Option ℕ) → Nothing ≡ beside_of next s → None ≡ s
+pub none_beside : (next : ℕ) (s : Option ℕ) → beside_code next s ≡ 0 → None ≡ s
 none_beside next None e = refl
 none_beside next (Some k) e = absurd (grind (arith, nat_tests))
 
 -- where the next node is noted, it is the sibling
-pub next_beside : (next : ℕ) (s : Option ℕ) → Next ≡ beside_of next s → Some next ≡ s
-next_beside next None e = absurd (cc)
-next_beside next (Some k) e = grind (arith, nat_tests)
+pub next_beside : (next : ℕ) (s : Option ℕ) → beside_code next s ≡ 1 → Some next ≡ s
+next_beside next None e = absurd (omega arith)
+next_beside next (Some k) e = ap (λ x. Some x) (grind (arith, nat_tests))
+
+-- where another number is noted, but the greatest, it is that of the sibling
+pub near_beside : (next : ℕ) (s : Option ℕ) (code : ℕ) → beside_code next s ≡ code → code ≢ 0
+    → code ≢ 1 → code ≢ 4294967295 → Some (code - 2) ≡ s
+near_beside next None code e none one far = absurd (none (sym e))
+near_beside next (Some k) code e none one far = ap (λ x. Some x) (grind (arith, nat_tests))
 
 module _ {V : Type 0} where
   -- there are as many heads as nodes

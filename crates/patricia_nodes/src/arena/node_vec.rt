@@ -1,8 +1,9 @@
-//! Nodes in a vector, and beside them two bytes for each, which are all that a look-up reads of
+//! Nodes in a vector, and beside them five bytes for each, which are all that a look-up reads of
 //! most nodes that it passes.
 ghost use Rattle.std.specs.Prelude.{◌≡◌, ◌≢◌, ◌+◌, ◌<◌, ◌≤◌, ◌++◌, [], ◌∷◌, IfOk, IsOk, OnOk};
 ghost use Rattle.std.specs.Prelude.{take, length, slice_index_or, slice_get};
 ghost use Rattle.std.specs.Prelude.{vec_len, vec_capacity};
+ghost use Rattle.std.specs.Int.{w32, from_le_bytes};
 ghost use Rattle.std.specs.Borrow.{sem};
 ghost use Rattle.std.specs.Option.{option_copied_mut};
 ghost use Rattle.std.specs.Vec.{with_item};
@@ -18,16 +19,12 @@ use std::marker::Model;
 use std::mem;
 use std::ops::Index;
 
-// Where the sibling of a node stands.
+// Where the sibling of a node stands, in four bytes: 0 for none, 1 for the next node of the vector, a
+// number below `FAR` is 2 more than that of the node, and `FAR` says that the number is in the node.
 #[derive(Clone, Copy)]
-enum Beside {
-    // there is none
-    Nothing,
-    // it is the next node of the vector
-    Next,
-    // at the number in the node
-    Elsewhere,
-}
+struct Beside([u8; 4]);
+
+const FAR: u32 = u32::MAX;
 
 // What a look-up reads of a node first: the first byte of its label, and where its sibling stands.
 #[derive(Clone, Copy)]
@@ -36,7 +33,7 @@ struct Head {
     beside: Beside,
 }
 
-const _: () = prove!(mem::size_of::<Head>() == 2);
+const _: () = prove!(mem::size_of::<Head>() == 5);
 
 /// The nodes of a tree, which contracts see as a vector of nodes.
 #[derive(Drop)]
@@ -71,16 +68,20 @@ impl Beside {
     fn new(next: usize, sibling: Link) -> Beside
         ensures { result ≡ beside_of next sibling }
     {
-        match sibling.get() {
-            None => Beside::Nothing,
-            Some(id) => {
-                if id.index() == next {
-                    Beside::Next
-                } else {
-                    Beside::Elsewhere
-                }
-            }
-        }
+        let code = match sibling.get() {
+            None => 0,
+            Some(id) if id.index() == next => 1,
+            Some(id) if id.index() < FAR as usize - 2 => id.index() as u32 + 2,
+            Some(_) => FAR,
+        };
+        Beside(code.to_le_bytes())
+    }
+
+    // Where it stands, as a number.
+    fn code(self) -> u32
+        ensures { result ≡ from_le_bytes w32 self.0 }
+    {
+        u32::from_le_bytes(self.0)
     }
 }
 
@@ -125,15 +126,17 @@ impl<V> NodeVec<V> {
         self.heads[id.index()].first
     }
 
-    /// The sibling of a node. Does not read the node where the sibling is the next one, or none.
+    /// The sibling of a node. Does not read the node, but where its sibling is one of the nodes past
+    /// the first four billion and does not come next.
     pub fn sibling(&self, id: NodeId) -> Link
         requires { id < vec_len self.now }
         ensures { ReadsNode self.now id (λ n. result ≡ n.sibling) }
     {
-        match self.heads[id.index()].beside {
-            Beside::Nothing => Link::none(),
-            Beside::Next => Link::some(NodeId::new(id.index() + 1)),
-            Beside::Elsewhere => self.nodes[id.index()].sibling,
+        match self.heads[id.index()].beside.code() {
+            0 => Link::none(),
+            1 => Link::some(NodeId::new(id.index() + 1)),
+            FAR => self.nodes[id.index()].sibling,
+            code => Link::some(NodeId::new(code as usize - 2)),
         }
     }
 

@@ -1,5 +1,8 @@
-use Rattle.std.proofs.Common.{refl, sym, ap, ◌∙◌, arith}
-use Rattle.patricia_nodes.proofs.HeadLemmas.{as_many, head_is, none_beside, next_beside}
+use Rattle.std.proofs.Common.{◌≡◌, ◌+◌, ◌-◌, refl, sym, ap, ◌∙◌, arith}
+use Rattle.std.specs.Int.{w32, from_le_bytes}
+use Rattle.patricia_nodes.specs.Internal.Heads.{beside_code}
+use Rattle.patricia_nodes.proofs.HeadLemmas.{as_many, head_is, code_is, none_beside, next_beside}
+use Rattle.patricia_nodes.proofs.HeadLemmas.{near_beside}
 use Rattle.patricia_nodes.proofs.arena.node_vec.NodeVec.sibling.Goals as goal
 
 pub index-requires-2 : goal.index-requires-2
@@ -7,15 +10,26 @@ index-requires-2 g c =
     let same = as_many _ _ c.self.invariant in
     omega (arith, same, ap (λ v. v.len) c.self.view_is, c.index.ensures, c.requires)
 
-pub returns-in-Nothing : goal.returns-in-Nothing
-returns-in-Nothing g c n reads =
+pub returns-in-0 : goal.returns-in-0
+returns-in-0 g c n reads =
     let is = head_is _ _ c.self.invariant c.args.id c.index.result c.args.id n c.index-2.result.now c.index.ensures refl
     (rw (ap (λ v. v.len) c.self.view_is) c.requires) (rw c.self.view_is reads) c.index-2.ensures in
-    c.none.ensures ∙ none_beside _ n.sibling (sym c.in-Nothing.is ∙ ap (λ h. h.beside) is)
+    let code : beside_code (c.args.id + 1) n.sibling ≡ c.code.result = sym (c.code.ensures ∙ ap (λ h. from_le_bytes w32 h.beside.0) is ∙ code_is (c.args.id + 1) n.sibling) in
+    c.none.ensures ∙ none_beside (c.args.id + 1) n.sibling (omega (arith, code, c.in-0.is))
 
-pub returns-in-Next : goal.returns-in-Next
-returns-in-Next g c n reads =
+pub returns-in-1 : goal.returns-in-1
+returns-in-1 g c n reads =
     let is = head_is _ _ c.self.invariant c.args.id c.index.result c.args.id n c.index-2.result.now c.index.ensures refl
     (rw (ap (λ v. v.len) c.self.view_is) c.requires) (rw c.self.view_is reads) c.index-2.ensures in
-    rw (c.some.ensures, c.new.ensures, c.index-in-Next.ensures)
-    (next_beside _ n.sibling (sym c.in-Next.is ∙ ap (λ h. h.beside) is))
+    let code : beside_code (c.args.id + 1) n.sibling ≡ c.code.result = sym (c.code.ensures ∙ ap (λ h. from_le_bytes w32 h.beside.0) is ∙ code_is (c.args.id + 1) n.sibling) in
+    rw (c.some.ensures, c.new.ensures, c.index-in-1.ensures)
+    (next_beside (c.args.id + 1) n.sibling (omega (arith, code, c.in-1.is)))
+
+pub returns-in_default : goal.returns-in_default
+returns-in_default g c n reads =
+    let is = head_is _ _ c.self.invariant c.args.id c.index.result c.args.id n c.index-2.result.now c.index.ensures refl
+    (rw (ap (λ v. v.len) c.self.view_is) c.requires) (rw c.self.view_is reads) c.index-2.ensures in
+    let code : beside_code (c.args.id + 1) n.sibling ≡ c.code.result = sym (c.code.ensures ∙ ap (λ h. from_le_bytes w32 h.beside.0) is ∙ code_is (c.args.id + 1) n.sibling) in
+    let at : c.new-in_default.result ≡ c.code.result - 2 = omega (arith, c.new-in_default.ensures) in
+    rw (c.some-in_default.ensures, at)
+    (near_beside (c.args.id + 1) n.sibling c.code.result code (omega arith) (omega arith) (omega arith))
