@@ -42,16 +42,14 @@ pub fn decode<K: Bytes, W: Width, V: Drop>(
         builder.add::<K>(&record, value)?;
     }
     reader.finish::<K, W>(values.len())?;
-    let mut arena = NodeArena {
-        nodes: builder.nodes,
-        root: builder.root,
-        free: Link::none(),
-        // in the order of keys, siblings lie far apart
-        edits: usize::MAX,
-    };
-    arena.settle(alloc);
     Ok(Decoded {
         value: builder.value,
-        arena,
+        arena: NodeArena {
+            nodes: builder.nodes,
+            root: builder.root,
+            free: Link::none(),
+            // in the order of keys, siblings lie far apart
+            edits: usize::MAX,
+        },
     })
 }

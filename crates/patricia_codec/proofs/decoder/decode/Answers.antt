@@ -5,9 +5,7 @@ use Rattle.std.specs.Vec.Iter.{into_iter_items, into_iter_len}
 use Rattle.patricia_wire.specs.Records.{Record}
 use Rattle.patricia_wire.specs.Internal.Readings.{too_few_values, due_behind, IsRead}
 use Rattle.patricia_codec.specs.Internal.Builds.{IsBuilt}
-use Rattle.patricia_model.specs.Siblings.{IsCanonical, entries, own}
 use Rattle.patricia_wire.specs.Faults.{IsRefusal}
-use Rattle.patricia_wire.specs.Writings.{Means}
 use Rattle.patricia_codec.proofs.CheckLemmas.{handed_on}
 use Rattle.patricia_codec.proofs.DecodeLemmas.{read_all, tree_of_all, decoded, Takes, takes_some}
 use Rattle.patricia_codec.proofs.DecodeLemmas.{takes_none, some_left, started, new_built, can_add}
@@ -130,15 +128,15 @@ returns-in_err-finish-clause-first_fault g c =
     (subst (λ b. IsRefusal g.K.Bytes.item g.W.Width.width b (length c.args.values.items) c.in_err-finish.field-0.0) bytes
     (subst (λ l. IsRefusal g.K.Bytes.item g.W.Width.width c.next.new.self.bytes.now (length l) c.in_err-finish.field-0.0) c.into_iter-values.ensures.rest refused))
 
-pub settle-requires : goal.settle-requires
-settle-requires g c =
+pub returns-clause-whole : goal.returns-clause-whole
+returns-clause-whole g c =
     let inv = c.loop-builder.invariant in
     let ends = rw c.in_default.is at c.in_ok-record.ensures.ok in
     let bytes = ap (λ b. b.now) (c.in_ok-record.ensures.bytes ∙ inv.bytes) ∙ c.in_ok-reader.ensures.bytes in
     let split = sym c.into_iter-values.ensures.rest ∙ inv.split in
     let done = decoded g.K.Bytes.item g.W.Width.width c.loop-builder.builder _ _ _ inv.before inv.due inv.taken inv.reading inv.built ends
     g.met.K.Bytes.lawful _ bytes _ _ c.len-2.result split (c.len-2.ensures ∙ inv.left) c.in_ok-finish.ensures.whole c.none.result c.none.ensures 18446744073709551615 in
-    record { whole = done.whole }
+    done.whole
 
 pub returns-clause-row : goal.returns-clause-row
 returns-clause-row g c =
@@ -148,7 +146,7 @@ returns-clause-row g c =
     let split = sym c.into_iter-values.ensures.rest ∙ inv.split in
     let done = decoded g.K.Bytes.item g.W.Width.width c.loop-builder.builder _ _ _ inv.before inv.due inv.taken inv.reading inv.built ends
     g.met.K.Bytes.lawful _ bytes _ _ c.len-2.result split (c.len-2.ensures ∙ inv.left) c.in_ok-finish.ensures.whole c.none.result c.none.ensures 18446744073709551615 in
-    subst (IsCanonical g.K.Bytes.item) (sym c.settle.ensures.row) done.canonical
+    done.canonical
 
 pub returns-clause-means : goal.returns-clause-means
 returns-clause-means g c =
@@ -158,7 +156,7 @@ returns-clause-means g c =
     let split = sym c.into_iter-values.ensures.rest ∙ inv.split in
     let done = decoded g.K.Bytes.item g.W.Width.width c.loop-builder.builder _ _ _ inv.before inv.due inv.taken inv.reading inv.built ends
     g.met.K.Bytes.lawful _ bytes _ _ c.len-2.result split (c.len-2.ensures ∙ inv.left) c.in_ok-finish.ensures.whole c.none.result c.none.ensures 18446744073709551615 in
-    subst (λ r. Means g.K.Bytes.item g.W.Width.width c.args.bytes.now c.args.values.items (own c.loop-builder.builder.value ++ entries r)) (sym c.settle.ensures.row) done.means
+    done.means
 
 pub loop-builder-smaller : goal.loop-builder-smaller
 loop-builder-smaller g c = grind (arith, common_steps)

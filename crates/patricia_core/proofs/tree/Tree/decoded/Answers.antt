@@ -3,8 +3,8 @@ use Rattle.patricia_nodes.specs.Internal.Plans.{siblings_of, entries_of}
 use Rattle.patricia_model.proofs.TreeLemmas.{entries_map}
 use Rattle.patricia_wire.specs.Writings.{Means}
 use Rattle.patricia_core.proofs.FewRows.{few_values, row_count}
-use Rattle.patricia_core.proofs.tree.Tree.from_wire.Goals as goal
-use Rattle.patricia_core.proofs.tree.Tree.from_wire.Goals.{then-is_some, else-is_some}
+use Rattle.patricia_core.proofs.tree.Tree.decoded.Goals as goal
+use Rattle.patricia_core.proofs.tree.Tree.decoded.Goals.{then-is_some, else-is_some}
 
 pub invariant_of-result : goal.invariant_of-result
 invariant_of-result g c =
