@@ -1,7 +1,7 @@
 -- The rows after a key, among those from it on.
 use Rattle.std.proofs.Common.{◌≡◌, ◌≢◌, ◌≤◌, ℕ, Bool, true, false, T, not, cond, List, [], ◌∷◌, Option, None, Some}
 use Rattle.std.proofs.Common.{length, slice_get, refl, sym, ap, subst, ◌∙◌, arith}
-use Rattle.std.specs.Prelude.{◌↔◌, IsTrue, IfOk, Result, Ok, Err}
+use Rattle.std.specs.Prelude.{◌↔◌, IsTrue, IfOk, OnErr, Result, Ok, Err}
 use Rattle.std.specs.Option.{option_map}
 use Rattle.std.specs.Ordering.{is_lt, ordering_reverse}
 use Rattle.std.specs.declared.cmp.Ordering.{Ordering}
@@ -10,6 +10,7 @@ use Rattle.std.specs.Cmp.Lexicographic.{nat_list_cmp_total}
 use Rattle.std.specs.FinMap as map
 use Rattle.std.specs.FinMap.{is_sorted, len-entries}
 use Rattle.std.specs.Map.Iter.{TakesFirst}
+use Rattle.std.proofs.lemmas.List.{nil_from_length}
 use Rattle.std.proofs.lemmas.List.Filters.{length-filter_both}
 use Rattle.patricia_core.specs.Cursors.{after}
 use Rattle.patricia_core.specs.Keys.{key_cmp}
@@ -95,3 +96,24 @@ under_len m p = omega (
   len-entries m,
   length-filter_both (λ e. begins p e.0) (λ e. not (begins p e.0)) (λ e. refl) (map.entries m),
 )
+
+module _ {V : Type 0} (m : map.FinMap key_cmp V) where
+  -- a map that has no length has no entry
+  pub no_entries : map.len m ≡ 0 → map.entries m ≡ []
+  no_entries e = nil_from_length (map.entries m) (sym (len-entries m) ∙ e)
+
+  -- and one that was found to have one has entries
+  pub some_entries : (b : Bool) → b ≡ false → (IsTrue b ↔ (map.len m ≡ 0)) → map.entries m ≢ []
+  some_entries b e is none =
+      let empty = is.1 (len-entries m ∙ ap length none) in
+      absurd (let no = rw e at empty in cc)
+
+  -- in an empty map no entry comes after a key
+  pub none_after : (key : Option (List ℕ)) → map.len m ≡ 0 → None ≡ slice_get (after key (map.entries m)) 0
+  none_after None e = rw (no_entries e) refl
+  none_after (Some key) e = rw (no_entries e) refl
+
+-- what holds, holds at an error
+pub at_error : {A E : Type 0} (P : Type 0) (r : Result A E) → P → OnErr r P
+at_error P (Ok x) holds = tt
+at_error P (Err e) holds = holds

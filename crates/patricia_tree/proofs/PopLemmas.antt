@@ -1,5 +1,5 @@
 -- What is left of a map once its first or its last entry is removed.
-use Rattle.std.proofs.Common.{◌≡◌, ℕ, inl, inr, T, not, List, [], ◌∷◌, ◌++◌, Option, Some, None}
+use Rattle.std.proofs.Common.{◌≡◌, ◌≢◌, ℕ, inl, inr, T, not, List, [], ◌∷◌, ◌++◌, Option, Some, None}
 use Rattle.std.proofs.Common.{slice_get, refl, sym, ap, subst, ◌∙◌}
 use Rattle.std.specs.Prelude.{IfOk, OnOk, Result, Ok, Err}
 use Rattle.std.specs.List.{last_or}
@@ -127,6 +127,11 @@ module _ {V : Type 0} where
   no_first [] e = refl
   no_first (x ∷ xs) e = absurd (cc)
 
+  -- and where there is one there are rows
+  pub has_first_key : (rows : List (List ℕ × V)) (k : List ℕ)
+      → Some k ≡ option_map (λ e. e.0) (slice_get rows 0) → rows ≢ []
+  has_first_key rows k e none = absurd (let no : Some k ≡ None = rw none at e in cc)
+
   -- a list with an item has a last one
   some_last : (x : List ℕ × V) (xs : List (List ℕ × V)) → last_or (Some x) xs ≡ None → ⊥
   some_last x [] e = absurd (cc)
@@ -140,6 +145,11 @@ module _ {V : Type 0} where
       by : (o : Option (List ℕ × V)) → last_or (Some x) xs ≡ o → x ∷ xs ≡ []
       by None is = absurd (some_last x xs is)
       by (Some y) is = absurd (let no : None ≡ Some y.0 = rw is at e in cc)
+
+  -- and where there is one there are rows
+  pub has_last_key : (rows : List (List ℕ × V)) (k : List ℕ)
+      → Some k ≡ option_map (λ e. e.0) (last_or None rows) → rows ≢ []
+  has_last_key rows k e none = absurd (let no : Some k ≡ None = rw none at e in cc)
 
 module _ {A E V : Type 0} (shows : A → List ℕ × V) (m n : FinMap key_cmp V) (k : List ℕ)
     (r : Result (Option A) E)

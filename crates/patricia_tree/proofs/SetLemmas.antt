@@ -1,17 +1,12 @@
 -- Words of sets, tied to those of maps.
-use Rattle.std.proofs.Common.{◌≡◌, ◌≢◌, ℕ, List, [], ◌∷◌, ◌++◌, Option, Some, None, Result, Ok, Err}
-use Rattle.std.proofs.Common.{OnErr, false, map, refl, sym, ap, ◌∙◌}
+use Rattle.std.proofs.Common.{◌≡◌, ◌≢◌, ℕ, List, [], ◌∷◌, ◌++◌, Option, Some, None}
+use Rattle.std.proofs.Common.{false, map, refl, sym, ap, ◌∙◌}
 use Rattle.std.specs.Prelude.{is_some}
 use Rattle.std.specs.Iterator.{Yields}
 use Rattle.patricia_tree.specs.Bulk.{insert_all, by_bytes}
 use Rattle.std.specs.FinMap as finmap
 use Rattle.patricia_tree.specs.Sets.{KeySet, Extends, IsStoppedAt, steps_in_pairs}
 use Rattle.patricia_tree.proofs.BulkLemmas.{puts_one_more, stops_at}
-
--- what holds, holds at an error
-pub at_error : {A E : Type 0} (P : Type 0) (r : Result A E) → P → OnErr r P
-at_error P (Ok x) holds = tt
-at_error P (Err e) holds = holds
 
 -- each key with `()` as its value
 abbrev pub in_pairs : {Q : Type 0} → List Q → List (Q × Unit {0})

@@ -27,6 +27,16 @@ module _ {A : Type 0} where
   last_filled o [] some = absurd (some refl)
   last_filled o (x ∷ xs) some = refl
 
+  -- it is there
+  pub last_there : (o : Option A) (xs : List A) → xs ≢ [] → last_or o xs ≢ None
+  last_there o [] some none = some refl
+  last_there o (x ∷ []) some none = absurd (cc)
+  last_there o (x ∷ y ∷ ys) some none = last_there (Some x) (y ∷ ys) (λ e. absurd (cc)) none
+
+  -- and where there is a last one, the list has an item
+  pub filled_last : (xs : List A) → last_or None xs ≢ None → xs ≢ []
+  filled_last xs some none = some (ap (last_or None) none)
+
 module _ (item : List ℕ → Type 0) (kind : IsKeyKind item) {V : Type 0} (l : List ℕ) (v : Option V)
     (c s : Siblings V) (ok : IsCanonical item (node l v c s)) where
   -- there are rows below a node
@@ -77,6 +87,15 @@ module _ (item : List ℕ → Type 0) (kind : IsKeyKind item) {V : Type 0} (node
           let some = has_entry item kind None l v (row c) (row d) ok in
           let no = rw some.2 at none in
           absurd (cc)
+
+  -- and so has the node there, itself and below it
+  pub top_filled : (front : List ℕ) (id : ℕ) → IsRowAt item nodes (Some id)
+      → rows_below front (row_at nodes (Some id)) ≢ []
+  top_filled front id w = by (plan_at nodes (Some id)) w.plan.at_is w.canonical
+    where
+      by : (q : Plan V) → Some id ≡ head q → IsCanonical item (row q) → rows_below front (row q) ≢ []
+      by Nil e ok none = absurd (cc)
+      by (Cell i l v c d) e ok none = below_filled item kind l v (row c) (row d) ok front none
 
 module _ (item : List ℕ → Type 0) (kind : IsKeyKind item) {V : Type 0} (nodes : List (Node V)) (id : ℕ)
     (n : Node V) (w : IsRowAt item nodes (Some id)) (reads : n ≡ get_or nodes id n) where

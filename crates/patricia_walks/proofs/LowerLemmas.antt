@@ -4,7 +4,7 @@ use Rattle.std.proofs.Common.{drop, Option, Some, None, refl, sym, ap, subst, �
 use Rattle.std.specs.List.{last_or}
 use Rattle.std.specs.declared.cmp.Ordering.{Ordering}
 use Rattle.std.specs.declared.cmp.Ordering.TheVariants.{Less, Equal, Greater}
-use Rattle.std.specs.Prelude.{not, nat_eq}
+use Rattle.std.specs.Prelude.{not, nat_eq, OnErr, Result, Ok, Err}
 use Rattle.std.specs.Ordering.{ordering_reverse, ordering_index}
 use Rattle.std.specs.Cmp.Lexicographic.{nat_list_cmp_total}
 use Rattle.std.proofs.lemmas.List.{append-nil}
@@ -28,10 +28,11 @@ use Rattle.patricia_nodes.proofs.SeekLemmas.{whole_plan}
 use Rattle.patricia_walks.specs.Internal.Positions.{row_at, rows_below}
 use Rattle.patricia_walks.specs.Internal.Lowers.{IsRowAt, IsFront, IsLower, IsLowerDescent}
 use Rattle.patricia_walks.specs.Internal.Lowers.{LowerMoves, last_lower, lower_row, row_ahead}
+use Rattle.patricia_walks.specs.declared.last.Lower.{Lower}
 use Rattle.patricia_walks.specs.declared.last.Lower.TheVariants.{Below}
 use Rattle.patricia_walks.specs.declared.last.LowerDescent.{LowerDescent}
 use Rattle.patricia_walks.proofs.AlongLemmas.{front_then, left_then, more_within, some_step, plan_none}
-use Rattle.patricia_walks.proofs.LastLemmas.{last-append, last_filled, below_filled, RowOpens}
+use Rattle.patricia_walks.proofs.LastLemmas.{last-append, last_filled, last_there, filled_last, below_filled, top_filled, RowOpens}
 use Rattle.patricia_walks.proofs.LastLemmas.{row_opens, row_filled}
 use Rattle.patricia_walks.proofs.PositionLemmas.{row_none}
 
@@ -258,3 +259,22 @@ module _ (item : List ℕ → Type 0) (kind : IsKeyKind item) {V : Type 0} (node
   last_none is =
       let none : entries (row_at nodes root) ≡ [] = rw (is, row_none nodes) refl in
       ap (last_or None) (prefixed-nil (own v) ∙ sym (append-nil (own v)) ∙ ap (λ es. own v ++ es) (sym none))
+
+-- below a node there is a row
+pub below_there : (item : List ℕ → Type 0) (kind : IsKeyKind item) {V : Type 0} (key : List ℕ)
+    (nodes : List (Node V)) (lower : Lower V) (len top : ℕ) → lower ≡ Below len top
+    → IsLower item key nodes lower → lower_row key nodes lower ≢ None
+below_there item kind key nodes lower len top is w =
+    let there : IsFront item key len × IsRowAt item nodes (Some top) = rw is at w in
+    rw is (last_there None (rows_below (take len key) (row_at nodes (Some top))) (top_filled item kind nodes (take len key) top there.1))
+
+-- what holds, holds at an error
+pub at_error : {A E : Type 0} (P : Type 0) (r : Result A E) → P → OnErr r P
+at_error P (Ok x) holds = tt
+at_error P (Err e) holds = holds
+
+-- where an error comes where a row is there, and the row is the last of some, it comes where they are
+pub filled_error : {A B E : Type 0} (xs : List A) (o : Option A) (r : Result B E) → o ≡ last_or None xs
+    → OnErr r (o ≢ None) → OnErr r (xs ≢ [])
+filled_error xs o (Ok x) is h = tt
+filled_error xs o (Err e) is h = filled_last xs (λ none. h (is ∙ none))

@@ -1,5 +1,6 @@
 //! The last entry, and the last one before a key.
-ghost use Rattle.std.specs.Prelude.{◌≡◌, ◌≤◌, ◌++◌, ℕ, List, [], Some, None, take, IfOk, OnOk};
+ghost use Rattle.std.specs.Prelude.{◌≡◌, ◌≢◌, ◌≤◌, ◌++◌, ℕ, List, [], Some, None, take};
+ghost use Rattle.std.specs.Prelude.{IfOk, OnOk, OnErr};
 ghost use Rattle.std.specs.List.{last_or};
 ghost use Rattle.std.specs.Option.{option_copied, option_map};
 ghost use Rattle.patricia_keys.specs.Keys.{IsValid};
@@ -161,8 +162,10 @@ fn entry_at<'a, K: Bytes, V>(
     lower: Lower<'a, V>,
 ) -> Result<Option<(K, &'a V)>, AllocError>
     requires { IsLower K.item key.now arena.now.nodes.items lower }
-    ensures { IfOk result (λ entry. option_map (λ e. (K.key e.0, e.1.now)) entry
+    ensures entry { IfOk result (λ entry. option_map (λ e. (K.key e.0, e.1.now)) entry
         ≡ lower_row key.now arena.now.nodes.items lower.entry) }
+    ensures err_only_there { OnErr result
+        (lower_row key.now arena.now.nodes.items lower.entry ≢ None) }
 {
     match lower {
         Lower::Nowhere => Ok(None),
@@ -176,7 +179,7 @@ fn entry_at<'a, K: Bytes, V>(
     }
 }
 
-/// The last entry before a key. The error is out of memory.
+/// The last entry before a key. The error is out of memory, and never comes where there is none.
 ///
 /// One descent along the key, and one along last siblings.
 pub fn last_before<'a, Q: BorrowedBytes, V>(
@@ -187,16 +190,18 @@ pub fn last_before<'a, Q: BorrowedBytes, V>(
 ) -> Result<Option<(Q::Owned, &'a V)>, AllocError>
     requires whole { IsWellFormed arena.now }
     requires row { IsCanonical Q.Owned.item (siblings_of arena.now) }
-    ensures { IfOk result (λ entry. option_map (λ e. (Q.Owned.key e.0, e.1.now)) entry
+    ensures entry { IfOk result (λ entry. option_map (λ e. (Q.Owned.key e.0, e.1.now)) entry
         ≡ last_or None (before (Q.key key)
         (own (option_copied pending.entry) ++ entries_of arena.now))) }
+    ensures err_only_before { OnErr result
+        (before (Q.key key) (own (option_copied pending.entry) ++ entries_of arena.now) ≢ []) }
 {
     let bytes = key.as_bytes();
     let lower = find_lower::<Q::Owned, V>(pending, arena, bytes);
     entry_at::<Q::Owned, V>(alloc, arena, bytes, lower)
 }
 
-/// The last entry. The error is out of memory.
+/// The last entry. The error is out of memory, and never comes where there is none.
 pub fn last<'a, K: Bytes, V>(
     alloc: Global,
     pending: Option<&'a V>,
@@ -204,8 +209,10 @@ pub fn last<'a, K: Bytes, V>(
 ) -> Result<Option<(K, &'a V)>, AllocError>
     requires whole { IsWellFormed arena.now }
     requires row { IsCanonical K.item (siblings_of arena.now) }
-    ensures { IfOk result (λ entry. option_map (λ e. (K.key e.0, e.1.now)) entry
+    ensures entry { IfOk result (λ entry. option_map (λ e. (K.key e.0, e.1.now)) entry
         ≡ last_or None (own (option_copied pending.entry) ++ entries_of arena.now)) }
+    ensures err_only_nonempty { OnErr result
+        (own (option_copied pending.entry) ++ entries_of arena.now ≢ []) }
 {
     match arena.root.get() {
         Some(first) => {

@@ -1,5 +1,5 @@
 //! The entries of a tree from a key on.
-ghost use Rattle.std.specs.Prelude.{◌≡◌, None, Option, IfOk};
+ghost use Rattle.std.specs.Prelude.{◌≡◌, ◌≢◌, [], None, Option, IfOk, OnErr};
 ghost use Rattle.std.specs.List.{last_or};
 ghost use Rattle.std.specs.Option.{option_map};
 ghost use Rattle.std.specs.FinMap as map;
@@ -27,21 +27,23 @@ impl<K: Bytes, V: Drop> Tree<K, V> {
         RangeReadCursor::new(self.alloc, self.value.as_ref(), &self.arena, key, bound)
     }
 
-    /// The last entry. The error is out of memory.
+    /// The last entry. The error is out of memory, and never comes where there is none.
     pub fn last(&self) -> Result<Option<(K, &V)>, AllocError>
-        ensures { IfOk result (λ entry. option_map (λ e. (K.key e.0, e.1.now)) entry
+        ensures entry { IfOk result (λ entry. option_map (λ e. (K.key e.0, e.1.now)) entry
             ≡ last_or None (map.entries self.now)) }
+        ensures err_only_nonempty { OnErr result (map.entries self.now ≢ []) }
     {
         last(self.alloc, self.value.as_ref(), &self.arena)
     }
 
-    /// The last entry before a key. The error is out of memory.
+    /// The last entry before a key. The error is out of memory, and never comes where there is none.
     pub fn last_before<Q: BorrowedBytes<Owned = K>>(
         &self,
         key: Q,
     ) -> Result<Option<(K, &V)>, AllocError>
-        ensures { IfOk result (λ entry. option_map (λ e. (K.key e.0, e.1.now)) entry
+        ensures entry { IfOk result (λ entry. option_map (λ e. (K.key e.0, e.1.now)) entry
             ≡ last_or None (before (Q.key key) (map.entries self.now))) }
+        ensures err_only_before { OnErr result (before (Q.key key) (map.entries self.now) ≢ []) }
     {
         last_before(self.alloc, self.value.as_ref(), &self.arena, key)
     }

@@ -59,7 +59,8 @@ impl<K: Bytes, V: Drop> GenericPatriciaMap<K, V> {
     ///
     /// # Errors
     ///
-    /// Out of memory for the way to it and for its key.
+    /// Out of memory for the way to it and for its key, never for an empty map. The way goes along
+    /// the key, so an error may come where no entry is behind it, too.
     ///
     /// # Examples
     ///
@@ -74,6 +75,18 @@ impl<K: Bytes, V: Drop> GenericPatriciaMap<K, V> {
         &self,
         key: Q,
     ) -> Result<Option<(K, &V)>, AllocError>
+        ensures first { IfOk result (λ entry. option_map (λ e. (K.key e.0, e.1.now)) entry
+            ≡ slice_get (after (Some (Q.key key)) (map.entries self.now)) 0) }
+        ensures err_only_nonempty { OnErr result (map.entries self.now ≢ []) }
+    {
+        if self.is_empty() {
+            return Ok(None);
+        }
+        self.find_after(key)
+    }
+
+    // The first entry after a key.
+    fn find_after<Q: BorrowedBytes<Owned = K>>(&self, key: Q) -> Result<Option<(K, &V)>, AllocError>
         ensures { IfOk result (λ entry. option_map (λ e. (K.key e.0, e.1.now)) entry
             ≡ slice_get (after (Some (Q.key key)) (map.entries self.now)) 0) }
     {
@@ -92,7 +105,7 @@ impl<K: Bytes, V: Drop> GenericPatriciaMap<K, V> {
     ///
     /// # Errors
     ///
-    /// Out of memory for the key.
+    /// Out of memory for the key, never for an empty map.
     ///
     /// # Examples
     ///
@@ -103,8 +116,9 @@ impl<K: Bytes, V: Drop> GenericPatriciaMap<K, V> {
     /// }
     /// ```
     pub fn last_key_value(&self) -> Result<Option<(K, &V)>, AllocError>
-        ensures { IfOk result (λ entry. option_map (λ e. (K.key e.0, e.1.now)) entry
+        ensures last { IfOk result (λ entry. option_map (λ e. (K.key e.0, e.1.now)) entry
             ≡ last_or None (map.entries self.now)) }
+        ensures err_only_nonempty { OnErr result (map.entries self.now ≢ []) }
     {
         self.tree.last()
     }
@@ -116,7 +130,7 @@ impl<K: Bytes, V: Drop> GenericPatriciaMap<K, V> {
     ///
     /// # Errors
     ///
-    /// Out of memory for the key of the entry.
+    /// Out of memory for the key of the entry, never where there is none.
     ///
     /// # Examples
     ///
@@ -131,8 +145,9 @@ impl<K: Bytes, V: Drop> GenericPatriciaMap<K, V> {
         &self,
         key: Q,
     ) -> Result<Option<(K, &V)>, AllocError>
-        ensures { IfOk result (λ entry. option_map (λ e. (K.key e.0, e.1.now)) entry
+        ensures last { IfOk result (λ entry. option_map (λ e. (K.key e.0, e.1.now)) entry
             ≡ last_or None (before (Q.key key) (map.entries self.now))) }
+        ensures err_only_before { OnErr result (before (Q.key key) (map.entries self.now) ≢ []) }
     {
         self.tree.last_before(key)
     }
@@ -151,8 +166,9 @@ impl<K: Bytes, V: Drop> GenericPatriciaMap<K, V> {
 
     // The last key.
     fn last_key(&self) -> Result<Option<K>, AllocError>
-        ensures { IfOk result (λ key. option_map K.key key
+        ensures key { IfOk result (λ key. option_map K.key key
             ≡ option_map (λ e. e.0) (last_or None (map.entries self.now))) }
+        ensures err_only_nonempty { OnErr result (map.entries self.now ≢ []) }
     {
         match self.last_key_value()? {
             Some((key, _)) => Ok(Some(key)),
@@ -196,6 +212,7 @@ impl<K: Bytes, V: Drop> GenericPatriciaMap<K, V> {
         ensures taken { IfOk result (λ entry. TakesFirst (λ e. (K.key e.0, e.1))
             (map.entries self.old) entry (map.entries self.new)) }
         ensures unchanged { OnErr result (self.new ≡ self.old) }
+        ensures err_only_nonempty { OnErr result (map.entries self.old ≢ []) }
     {
         match self.first_key()? {
             Some(key) => self.take_entry(key),
@@ -209,7 +226,8 @@ impl<K: Bytes, V: Drop> GenericPatriciaMap<K, V> {
     ///
     /// # Errors
     ///
-    /// Out of memory for the key, or for a joined label: the map is unchanged.
+    /// Out of memory for the key, or for a joined label: the map is unchanged. Never for an empty
+    /// map.
     ///
     /// # Examples
     ///
@@ -224,6 +242,7 @@ impl<K: Bytes, V: Drop> GenericPatriciaMap<K, V> {
         ensures taken { IfOk result (λ entry. TakesLast (λ e. (K.key e.0, e.1))
             (map.entries self.old) entry (map.entries self.new)) }
         ensures unchanged { OnErr result (self.new ≡ self.old) }
+        ensures err_only_nonempty { OnErr result (map.entries self.old ≢ []) }
     {
         match self.last_key()? {
             Some(key) => self.take_entry(key),

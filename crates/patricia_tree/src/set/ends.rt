@@ -44,7 +44,8 @@ impl<T: Bytes> GenericPatriciaSet<T> {
     ///
     /// # Errors
     ///
-    /// Out of memory for the way to it and for the element.
+    /// Out of memory for the way to it and for the element, never for an empty set. The way goes
+    /// along the key, so an error may come where no element is behind it, too.
     ///
     /// # Examples
     ///
@@ -54,8 +55,9 @@ impl<T: Bytes> GenericPatriciaSet<T> {
     /// assert!(rt; set.first_after("foo")?.is_none());
     /// ```
     pub fn first_after<Q: BorrowedBytes<Owned = T>>(&self, key: Q) -> Result<Option<T>, AllocError>
-        ensures { IfOk result (λ element. option_map T.key element ≡ option_map (λ e. e.0)
+        ensures first { IfOk result (λ element. option_map T.key element ≡ option_map (λ e. e.0)
             (slice_get (after (Some (Q.key key)) (map.entries self.now)) 0)) }
+        ensures err_only_nonempty { OnErr result (map.entries self.now ≢ []) }
     {
         match self.map.first_after(key)? {
             Some((next, _)) => Ok(Some(next)),
@@ -70,7 +72,7 @@ impl<T: Bytes> GenericPatriciaSet<T> {
     ///
     /// # Errors
     ///
-    /// Out of memory for the element.
+    /// Out of memory for the element, never for an empty set.
     ///
     /// # Examples
     ///
@@ -79,8 +81,9 @@ impl<T: Bytes> GenericPatriciaSet<T> {
     /// assert_eq!(rt; set.last()?.as_deref(), Some("foo"));
     /// ```
     pub fn last(&self) -> Result<Option<T>, AllocError>
-        ensures { IfOk result (λ element. option_map T.key element
+        ensures last { IfOk result (λ element. option_map T.key element
             ≡ option_map (λ e. e.0) (last_or None (map.entries self.now))) }
+        ensures err_only_nonempty { OnErr result (map.entries self.now ≢ []) }
     {
         match self.map.last_key_value()? {
             Some((last, _)) => Ok(Some(last)),
@@ -95,7 +98,7 @@ impl<T: Bytes> GenericPatriciaSet<T> {
     ///
     /// # Errors
     ///
-    /// Out of memory for the element.
+    /// Out of memory for the element, never where there is none.
     ///
     /// # Examples
     ///
@@ -105,8 +108,9 @@ impl<T: Bytes> GenericPatriciaSet<T> {
     /// assert!(rt; set.last_before("bar")?.is_none());
     /// ```
     pub fn last_before<Q: BorrowedBytes<Owned = T>>(&self, key: Q) -> Result<Option<T>, AllocError>
-        ensures { IfOk result (λ element. option_map T.key element ≡ option_map (λ e. e.0)
+        ensures last { IfOk result (λ element. option_map T.key element ≡ option_map (λ e. e.0)
             (last_or None (before (Q.key key) (map.entries self.now)))) }
+        ensures err_only_before { OnErr result (before (Q.key key) (map.entries self.now) ≢ []) }
     {
         match self.map.last_before(key)? {
             Some((last, _)) => Ok(Some(last)),
@@ -120,7 +124,8 @@ impl<T: Bytes> GenericPatriciaSet<T> {
     ///
     /// # Errors
     ///
-    /// Out of memory for the element, or for a joined label: the set is unchanged.
+    /// Out of memory for the element, or for a joined label: the set is unchanged. Never for an
+    /// empty set.
     ///
     /// # Examples
     ///
@@ -133,6 +138,7 @@ impl<T: Bytes> GenericPatriciaSet<T> {
         ensures taken { IfOk result (λ element.
             TakesFirst T.key (map.keys self.old) element (map.keys self.new)) }
         ensures unchanged { OnErr result (self.new ≡ self.old) }
+        ensures err_only_nonempty { OnErr result (map.entries self.old ≢ []) }
     {
         match self.map.pop_first()? {
             Some((first, _)) => Ok(Some(first)),
@@ -146,7 +152,8 @@ impl<T: Bytes> GenericPatriciaSet<T> {
     ///
     /// # Errors
     ///
-    /// Out of memory for the element, or for a joined label: the set is unchanged.
+    /// Out of memory for the element, or for a joined label: the set is unchanged. Never for an
+    /// empty set.
     ///
     /// # Examples
     ///
@@ -159,6 +166,7 @@ impl<T: Bytes> GenericPatriciaSet<T> {
         ensures taken { IfOk result (λ element.
             TakesLast T.key (map.keys self.old) element (map.keys self.new)) }
         ensures unchanged { OnErr result (self.new ≡ self.old) }
+        ensures err_only_nonempty { OnErr result (map.entries self.old ≢ []) }
     {
         match self.map.pop_last()? {
             Some((last, _)) => Ok(Some(last)),

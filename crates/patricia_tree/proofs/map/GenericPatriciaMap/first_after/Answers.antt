@@ -1,26 +1,9 @@
-use Rattle.std.proofs.Common.{sym, ap, subst, ◌≡◌, slice_get, Bor, List, ℕ}
-use Rattle.std.specs.Prelude.{IfOk}
-use Rattle.std.specs.Option.{option_map}
-use Rattle.std.specs.FinMap as map
-use Rattle.std.specs.FinMap.{entries_sorted}
-use Rattle.patricia_core.specs.Cursors.{ReadCursorView}
-use Rattle.patricia_tree.proofs.AfterLemmas.{next_after, first_after_is, first_given}
+use Rattle.std.proofs.Common.{Some}
+use Rattle.patricia_tree.proofs.AfterLemmas.{at_error, none_after, some_entries}
 use Rattle.patricia_tree.proofs.map.GenericPatriciaMap.first_after.Goals as goal
 
-pub returns-then-stands_at : goal.returns-then-stands_at
-returns-then-stands_at g c =
-    let shows : g.row.K.Denot × Bor g.row.V.Denot → List ℕ × g.row.V.Denot = λ e. (g.K.Bytes.key e.0, e.1.now) in
-    let left = c.next_entry.new.self.left in
-    let start = ap (λ (s : ReadCursorView g.row.V.Denot). s.left) c.cursor_from-cursor.ensures in
-    let first = rw start at c.in_ok-next.ensures in
-    let rows = next_after (g.Q.BorrowedBytes.key c.args.key) shows (map.entries c.args.self.now) (entries_sorted c.args.self.now)
-    left c.in_ok-next.next first (c.stands_at.ensures.there c.if-stands_at.true) in
-    subst (λ rs. IfOk c.next_entry-then-stands_at.result (λ entry. option_map shows entry ≡ slice_get rs 0)) (sym rows)
-    (first_given shows left _ c.next_entry-then-stands_at.result c.next_entry-then-stands_at.ensures)
+pub returns-then-is_empty-clause-first : goal.returns-then-is_empty-clause-first
+returns-then-is_empty-clause-first g c = none_after c.args.self.now (Some (g.Q.BorrowedBytes.key c.args.key)) (c.is_empty.ensures.0 c.if-is_empty.true)
 
-pub returns : goal.returns
-returns g c =
-    let start = ap (λ (s : ReadCursorView g.row.V.Denot). s.left) c.cursor_from-cursor.ensures in
-    let first = rw start at c.in_ok-next.ensures in
-    first_after_is (g.Q.BorrowedBytes.key c.args.key) (λ e. (g.K.Bytes.key e.0, e.1.now)) (map.entries c.args.self.now) (entries_sorted c.args.self.now)
-    c.next_entry.new.self.left c.in_ok-next.next first (c.stands_at.ensures.elsewhere c.if-stands_at.false)
+pub returns-clause-err_only_nonempty : goal.returns-clause-err_only_nonempty
+returns-clause-err_only_nonempty g c = at_error _ c.find_after.result (some_entries c.args.self.now c.is_empty.result c.if-is_empty.false c.is_empty.ensures)

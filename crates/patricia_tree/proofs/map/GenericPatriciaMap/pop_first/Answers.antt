@@ -1,6 +1,7 @@
 use Rattle.std.proofs.Common.{List, ℕ}
 use Rattle.std.specs.FinMap as map
-use Rattle.patricia_tree.proofs.PopLemmas.{no_first, popped_first}
+use Rattle.patricia_tree.proofs.AfterLemmas.{at_error}
+use Rattle.patricia_tree.proofs.PopLemmas.{has_first_key, no_first, popped_first}
 use Rattle.patricia_tree.proofs.map.GenericPatriciaMap.pop_first.Goals as goal
 
 pub returns-in-Some-clause-taken : goal.returns-in-Some-clause-taken
@@ -14,3 +15,7 @@ pub returns-in-None-clause-taken : goal.returns-in-None-clause-taken
 returns-in-None-clause-taken g c =
     let none = no_first (map.entries c.args.self.now) (rw c.in-None.is at c.in_ok-key.ensures.key) in
     (none, none)
+
+pub returns-in-Some-clause-err_only_nonempty : goal.returns-in-Some-clause-err_only_nonempty
+returns-in-Some-clause-err_only_nonempty g c = at_error _ c.take_entry.result
+    (has_first_key (map.entries c.args.self.now) (g.K.Bytes.key c.in-Some.key) (rw c.in-Some.is at c.in_ok-key.ensures.key))

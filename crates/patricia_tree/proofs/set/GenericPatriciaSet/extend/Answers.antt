@@ -1,4 +1,5 @@
-use Rattle.patricia_tree.proofs.SetLemmas.{at_error, puts_one_more_key, ends_at, refuses_at}
+use Rattle.patricia_tree.proofs.AfterLemmas.{at_error}
+use Rattle.patricia_tree.proofs.SetLemmas.{puts_one_more_key, ends_at, refuses_at}
 use Rattle.patricia_tree.proofs.set.GenericPatriciaSet.extend.Goals as goal
 
 pub loop-element-preserved : goal.loop-element-preserved

@@ -1,4 +1,4 @@
-use Rattle.patricia_tree.proofs.SetLemmas.{at_error}
+use Rattle.patricia_tree.proofs.AfterLemmas.{at_error}
 use Rattle.patricia_tree.specs.Sets.{KeySet, IsStoppedAt}
 use Rattle.std.specs.FinMap as map
 use Rattle.patricia_tree.proofs.set.GenericPatriciaSet.from_iter.Goals as goal
