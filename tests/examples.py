@@ -18,8 +18,10 @@ EXAMPLES = [
     'test_map/src/tests/map_examples.rt',
     'test_map/src/tests/cursor_examples.rt',
     'test_map/src/tests/range_examples.rt',
+    'test_map/src/tests/whole_map_examples.rt',
     'test_walks/src/tests/set_examples.rt',
     'test_walks/src/tests/set_range_examples.rt',
+    'test_walks/src/tests/whole_set_examples.rt',
     'example_map/src/main.rt',
     'test_prefixes/src/tests/examples.rt',
 ]

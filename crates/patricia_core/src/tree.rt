@@ -84,6 +84,13 @@ impl<K: Bytes, V: Drop> Tree<K, V> {
         }
     }
 
+    /// An empty tree with the same allocator. Does not allocate.
+    pub fn empty_alike(&self) -> Self
+        ensures { result ≡ map.empty }
+    {
+        Tree::new(self.alloc)
+    }
+
     /// How many nodes the vector has, used or free. There is one for each point of the keys.
     pub fn slots(&self) -> usize
         ensures { (n : ℕ) × IsCount (IsPoint K.item (map.keys self.now)) n × (n ≤ result) }

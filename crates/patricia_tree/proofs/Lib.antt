@@ -6,3 +6,6 @@ pub mod LeftLemmas
 mod LoanLemmas
 mod PopLemmas
 mod SetLemmas
+mod WholeLemmas
+mod RetainLemmas
+mod MergeLemmas

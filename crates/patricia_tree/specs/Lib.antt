@@ -4,8 +4,10 @@ pub mod Internal
 pub mod Left
 pub mod Lends
 pub mod Loans
+pub mod Merges
 pub mod Sets
 pub mod Steps
+pub mod Whole
 pub use Rattle.patricia_core.specs.ByteKind
 pub use Rattle.patricia_core.specs.Clones
 pub use Rattle.patricia_core.specs.Cursors

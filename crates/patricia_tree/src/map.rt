@@ -22,6 +22,7 @@ mod iterators;
 mod loans;
 mod prefixes;
 mod ranges;
+mod whole;
 
 pub use crate::guard::{CursorGuard, IntoMap};
 pub use crate::values::ValueCursor;

@@ -17,6 +17,7 @@ mod debug;
 mod ends;
 mod iterators;
 mod ranges;
+mod whole;
 
 use crate::map::GenericPatriciaMap;
 pub use crate::map::{PrefixReadCursor, RangeReadCursor, ReadCursor};

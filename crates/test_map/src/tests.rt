@@ -7,3 +7,4 @@ mod longest_loans;
 mod map_examples;
 mod range_examples;
 mod refused_text;
+mod whole_map_examples;

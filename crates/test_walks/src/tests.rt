@@ -6,3 +6,4 @@ mod helpers;
 mod set_examples;
 mod set_range_examples;
 mod slots;
+mod whole_set_examples;

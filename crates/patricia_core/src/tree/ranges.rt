@@ -36,7 +36,8 @@ impl<K: Bytes, V: Drop> Tree<K, V> {
         last(self.alloc, self.value.as_ref(), &self.arena)
     }
 
-    /// The last entry before a key. The error is out of memory, and never comes where there is none.
+    /// The last entry before a key. The error is out of memory, and never comes where there is
+    /// none.
     pub fn last_before<Q: BorrowedBytes<Owned = K>>(
         &self,
         key: Q,

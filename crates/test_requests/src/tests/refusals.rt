@@ -9,3 +9,4 @@ mod sets;
 mod tally;
 mod walks;
 mod worn;
+mod whole;

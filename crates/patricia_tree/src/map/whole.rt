@@ -1,0 +1,146 @@
+//! Two maps compared, and one merged into the other.
+ghost use Rattle.std.specs.Prelude.{◌≡◌, ◌≢◌, ℕ, List, [], Some, IfOk, OnOk, OnErr};
+ghost use Rattle.std.specs.FinMap as map;
+ghost use Rattle.patricia_tree.specs.Merges.{IsMergeStopped, MergesAll, MergesRow};
+ghost use Rattle.patricia_tree.specs.Whole.{is_same_row, are_same_rows};
+
+use super::GenericPatriciaMap;
+use patricia_core::keys::{Bytes, KeyBytes};
+use patricia_core::walk::ReadCursor;
+use std::alloc::AllocError;
+use std::cmp::PartialEq;
+use std::iter::{IntoIterator, Iterator};
+
+// Whether two cursors stand at the same key, with values that are equal.
+fn stand_at_same<K: Bytes, V: PartialEq>(
+    one: &ReadCursor<'_, K, V>,
+    two: &ReadCursor<'_, K, V>,
+) -> bool
+    ensures { (e f : List ℕ × V) → one.now.at ≡ Some e → two.now.at ≡ Some f
+        → result ≡ is_same_row V.eq e f }
+{
+    match (one.key(), one.value(), two.key(), two.value()) {
+        (Some(key), Some(value), Some(other_key), Some(other_value)) => {
+            key == other_key && *value == *other_value
+        }
+        _ => false,
+    }
+}
+
+impl<K: Bytes, V: Drop> GenericPatriciaMap<K, V> {
+    /// Returns whether the two maps have the same keys, with equal values. It is a call that may
+    /// run out of memory, which `==` could not say.
+    ///
+    /// Takes constant time where the maps differ in length, and else a walk over both, up to the
+    /// first entry that differs.
+    ///
+    /// # Errors
+    ///
+    /// Out of memory for the paths of the walks, never for empty maps, nor where the maps differ in
+    /// length.
+    ///
+    /// # Examples
+    ///
+    /// ```
+    /// let map = StringPatriciaMap::from_iter(rt.alloc(), [("foo", 1), ("bar", 2)])?;
+    /// let same = StringPatriciaMap::from_iter(rt.alloc(), [("bar", 2), ("foo", 1)])?;
+    /// let other = StringPatriciaMap::from_iter(rt.alloc(), [("bar", 2), ("foo", 3)])?;
+    /// assert!(rt; map.equals(&same)?);
+    /// assert!(rt; !map.equals(&other)?);
+    /// ```
+    pub fn equals(&self, other: &Self) -> Result<bool, AllocError>
+    where
+        V: PartialEq,
+        ensures same { IfOk result (λ b.
+            b ≡ are_same_rows V.eq (map.entries self.now) (map.entries other.now)) }
+        ensures err_only_nonempty { OnErr result (map.entries self.now ≢ []) }
+        ensures err_only_same_len { OnErr result (map.len self.now ≡ map.len other.now) }
+    {
+        if self.len() != other.len() {
+            return Ok(false);
+        }
+        let mut one = self.cursor();
+        let mut two = other.cursor();
+        while one.advance()? {
+            two.advance()?;
+            if !stand_at_same(&one, &two) {
+                return Ok(false);
+            }
+        }
+        Ok(true)
+    }
+
+    // Puts an entry in: where its key is there, the closure makes one value of the two.
+    fn merge_entry<F: FnMut(&mut V, V)>(
+        &mut self,
+        key: &K,
+        value: V,
+        f: &mut F,
+    ) -> Result<(), AllocError>
+        requires { F.IsAlwaysCallable f.old }
+        ensures callable { F.IsAlwaysCallable f.new }
+        ensures merged { OnOk result
+            (MergesRow F.FnMut (f.old, self.old) (K.key key.now, value) (f.new, self.new)) }
+        ensures unchanged { OnErr result (self.new ≡ self.old) }
+    {
+        let key = KeyBytes::of(key);
+        if self.contains_key(key) {
+            if let Some(there) = self.get_mut(key) {
+                f(there, value);
+            }
+            return Ok(());
+        }
+        match self.insert(key, value) {
+            Ok(_) => Ok(()),
+            Err(_) => Err(AllocError),
+        }
+    }
+
+    /// Inserts the entries of another map. Where both have a key, the closure is called at the
+    /// value here and the one from there, and what it leaves here stays. It is called in key
+    /// order.
+    ///
+    /// Takes a walk over the other map, and an `insert` for each of its entries.
+    ///
+    /// # Errors
+    ///
+    /// Out of memory, never for an empty other map: the entries before the refused one, in key
+    /// order, are inserted; it and the rest are dropped.
+    ///
+    /// # Examples
+    ///
+    /// ```
+    /// let mut map = StringPatriciaMap::from_iter(rt.alloc(), [("foo", 1), ("bar", 2)])?;
+    /// let other = StringPatriciaMap::from_iter(rt.alloc(), [("foo", 5), ("baz", 7)])?;
+    /// map.merge_with(other, |value, new| *value = (*value).max(new))?;
+    /// assert_eq!(rt; map.get("foo"), Some(&5));
+    /// assert_eq!(rt; map.len(), 3);
+    /// ```
+    pub fn merge_with<F: FnMut(&mut V, V)>(
+        &mut self,
+        other: Self,
+        mut f: F,
+    ) -> Result<(), AllocError>
+        requires { F.IsAlwaysCallable f }
+        ensures merged { OnOk result
+            (MergesAll F.FnMut f self.old (map.entries other) self.new) }
+        ensures stopped { OnErr result
+            (IsMergeStopped F.FnMut f self.old (map.entries other) self.new) }
+    {
+        let mut rest = other.into_iter();
+        while let Some(entry) = rest.next() {
+            let (key, value) = entry?;
+            self.merge_entry(&key, value, &mut f)?;
+        }
+        Ok(())
+    }
+
+    /// An empty map with the same allocator.
+    pub(crate) fn empty_alike(&self) -> Self
+        ensures { result ≡ map.empty }
+    {
+        GenericPatriciaMap {
+            tree: self.tree.empty_alike(),
+        }
+    }
+}

@@ -1,0 +1,26 @@
+//! The examples of whole maps, as the documentation has them.
+use patricia_tree::StringPatriciaMap;
+
+#[test]
+fn equals(rt: HostRuntime) -> anyhow::Result<()> {
+    // example: map equals
+    let map = StringPatriciaMap::from_iter(rt.alloc(), [("foo", 1), ("bar", 2)])?;
+    let same = StringPatriciaMap::from_iter(rt.alloc(), [("bar", 2), ("foo", 1)])?;
+    let other = StringPatriciaMap::from_iter(rt.alloc(), [("bar", 2), ("foo", 3)])?;
+    assert!(rt; map.equals(&same)?);
+    assert!(rt; !map.equals(&other)?);
+    // end
+    Ok(())
+}
+
+#[test]
+fn merge_with(rt: HostRuntime) -> anyhow::Result<()> {
+    // example: map merge_with
+    let mut map = StringPatriciaMap::from_iter(rt.alloc(), [("foo", 1), ("bar", 2)])?;
+    let other = StringPatriciaMap::from_iter(rt.alloc(), [("foo", 5), ("baz", 7)])?;
+    map.merge_with(other, |value, new| *value = (*value).max(new))?;
+    assert_eq!(rt; map.get("foo"), Some(&5));
+    assert_eq!(rt; map.len(), 3);
+    // end
+    Ok(())
+}
