@@ -1,15 +1,19 @@
 -- The longest entry along a key, found at its key.
-use Rattle.std.proofs.Common.{◌≡◌, ℕ, ◌⊎◌, inl, inr, List, [], ◌∷◌, Option, None, Some, refl, sym}
+use Rattle.std.proofs.Common.{◌≡◌, ℕ, ◌⊎◌, Bool, true, false, not, cond, inl, inr, List, [], ◌∷◌, Option, None, Some, refl, sym}
 use Rattle.std.proofs.Common.{ap, subst, ◌∙◌}
-use Rattle.std.specs.Prelude.{IsSome}
+use Rattle.std.specs.Prelude.{IsSome, MatchOption, is_some}
+use Rattle.std.specs.Cmp.{tied_itself}
+use Rattle.std.specs.Cmp.Lexicographic.{nat_list_cmp_total}
+use Rattle.std.specs.Ordering.{is_eq}
 use Rattle.std.specs.List.{last_or}
 use Rattle.std.specs.FinMap as map
-use Rattle.std.specs.FinMap.{entries_sorted, get-entries}
+use Rattle.std.specs.FinMap.{entries_sorted, get-entries, get-insert}
 use Rattle.patricia_core.specs.Keys.{Begins, key_cmp}
 use Rattle.patricia_core.specs.Points.{Has}
 use Rattle.patricia_core.specs.Prefixes.{along, longest}
 use Rattle.patricia_model.proofs.FilterLemmas.{has_filter}
 use Rattle.patricia_tree.proofs.FoundLemmas.{find_has}
+use Rattle.patricia_tree.specs.Changes.{PutsMade}
 use Rattle.patricia_tree.specs.Internal.Longest.{IsLongest}
 
 module _ {A : Type 0} where
@@ -39,3 +43,45 @@ module _ {V : Type 0} where
         there = subst IsSome (sym found) refl;
         is_longest = λ v there. let same : e.1 ≡ v = (let both = sym found ∙ there in cc) in is ∙ ap (λ w. Some (e.0, w)) same;
       }
+
+-- a value that is inserted is found at its key
+get_inserted : {V : Type 0} (m : map.FinMap key_cmp V) (key : List ℕ) (v : V)
+    → map.get (map.insert m key v) key ≡ Some v
+get_inserted m key v =
+    get-insert nat_list_cmp_total m key v key
+    ∙ ap (λ o. cond (is_eq o) (Some v) (map.get m key)) (tied_itself nat_list_cmp_total key)
+
+-- what holds at an option holds at one that is the same
+match_along : {A : Type 0} (X : Type 0) (P : A → Type 0) (o p : Option A) → o ≡ p → MatchOption p X P
+    → MatchOption o X P
+match_along X P o p is h = subst (λ q. MatchOption q X P) (sym is) h
+
+module _ {F V : Type 0} (makes : F → Unit {0} → V → Type 0) (f : F) (old new : map.FinMap key_cmp V)
+    (key : List ℕ) (b : Bool) (is_new : b ≡ not (map.contains_key old key))
+    (made : b ≡ true → PutsMade makes f old key new) (kept : b ≡ false → new ≡ old) where
+  -- the value at a key where one was made if there was none: that which was there, or what was made
+  now_there : (w : V) × (map.get new key ≡ Some w) × MatchOption (map.get old key) (makes f tt w) (λ v. w ≡ v)
+  now_there = by (map.get old key) refl
+    where
+      by : (o : Option V) → map.get old key ≡ o
+          → (w : V) × (map.get new key ≡ Some w) × MatchOption (map.get old key) (makes f tt w) (λ v. w ≡ v)
+      by None none =
+          let puts = made (is_new ∙ ap (λ o. not (is_some o)) none) in (
+            puts.made,
+            ap (λ m. map.get m key) puts.put_in ∙ get_inserted old key puts.made,
+            match_along (makes f tt puts.made) (λ v. puts.made ≡ v) (map.get old key) None none puts.met,
+          )
+      by (Some v) there = (
+        v,
+        ap (λ m. map.get m key) (kept (is_new ∙ ap (λ o. not (is_some o)) there)) ∙ there,
+        match_along (makes f tt v) (λ x. v ≡ x) (map.get old key) (Some v) there refl,
+      )
+
+  pub is_there : IsSome (map.get new key)
+  is_there = subst IsSome (sym now_there.1) refl
+
+  pub value_is : (w : V) → map.get new key ≡ Some w
+      → MatchOption (map.get old key) (makes f tt w) (λ v. w ≡ v)
+  value_is w there =
+      let same : now_there.0 ≡ w = (let both = sym now_there.1 ∙ there in cc) in
+      subst (λ x. MatchOption (map.get old key) (makes f tt x) (λ v. x ≡ v)) same now_there.2

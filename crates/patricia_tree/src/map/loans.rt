@@ -1,5 +1,6 @@
 //! Loans of one value.
-ghost use Rattle.std.specs.Prelude.{◌≡◌, None, Some, IfSome, IsSome, MatchOption};
+ghost use Rattle.std.specs.Prelude.{◌≡◌, ◌≢◌, [], None, Some, IfOk, IfSome, IsSome, MatchOption};
+ghost use Rattle.std.specs.Prelude.{OnErr};
 ghost use Rattle.std.specs.Borrow.{sem};
 ghost use Rattle.std.specs.Option.{option_map};
 ghost use Rattle.std.specs.FinMap as map;
@@ -8,6 +9,7 @@ ghost use Rattle.patricia_core.specs.Prefixes.{longest};
 
 use super::GenericPatriciaMap;
 use patricia_core::keys::{BorrowedBytes, Bytes};
+use std::alloc::AllocError;
 
 impl<K: Bytes, V: Drop> GenericPatriciaMap<K, V> {
     ghost use Rattle.patricia_tree.specs.Loans.{RunsOn, TakesLongest};
@@ -34,6 +36,42 @@ impl<K: Bytes, V: Drop> GenericPatriciaMap<K, V> {
             Some(value) => value,
             None => unreachable!(),
         }
+    }
+
+    /// Lends the value at a key. Where there is none, the value that a closure makes is inserted
+    /// first; else the closure is not run.
+    ///
+    /// The contract says no more than what is read: what the map is where memory runs out, or after
+    /// the loan, those of `insert_with` and of `get_mut` say, of which this is made.
+    ///
+    /// Takes the time of an `insert` and of a look-up.
+    ///
+    /// # Errors
+    ///
+    /// Out of memory, at a new nonempty key alone: what the closure made is dropped.
+    ///
+    /// # Examples
+    ///
+    /// ```
+    /// let mut map = StringPatriciaMap::from_iter(rt.alloc(), [("foo", 1)])?;
+    /// *map.get_or_insert_with("foo", || 5)? = 2;
+    /// *map.get_or_insert_with("bar", || 5)? = 7;
+    /// assert_eq!(rt; map.get("foo"), Some(&2));
+    /// assert_eq!(rt; map.get("bar"), Some(&7));
+    /// ```
+    pub fn get_or_insert_with<Q: BorrowedBytes<Owned = K>, F: FnOnce() -> V>(
+        &mut self,
+        key: Q,
+        f: F,
+    ) -> Result<&mut V, AllocError>
+        requires callable { map.get self.old (Q.key key) ≡ None → F.FnOnce.pre f tt }
+        ensures value { IfOk result (λ v. MatchOption (map.get self.old (Q.key key))
+            (F.FnOnce.post f tt v.now) (λ there. v.now ≡ there)) }
+        ensures err_only_nonempty { OnErr result (Q.key key ≢ []) }
+        ensures only_new { OnErr result (map.get self.old (Q.key key) ≡ None) }
+    {
+        self.insert_with(key, f)?;
+        Ok(self.value_mut(key))
     }
 
     /// Lends the value of the longest key that is a prefix of the key, and returns that key. Does

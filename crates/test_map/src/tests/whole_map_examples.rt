@@ -24,3 +24,15 @@ fn merge_with(rt: HostRuntime) -> anyhow::Result<()> {
     // end
     Ok(())
 }
+
+#[test]
+fn get_or_insert_with(rt: HostRuntime) -> anyhow::Result<()> {
+    // example: map get_or_insert_with
+    let mut map = StringPatriciaMap::from_iter(rt.alloc(), [("foo", 1)])?;
+    *map.get_or_insert_with("foo", || 5)? = 2;
+    *map.get_or_insert_with("bar", || 5)? = 7;
+    assert_eq!(rt; map.get("foo"), Some(&2));
+    assert_eq!(rt; map.get("bar"), Some(&7));
+    // end
+    Ok(())
+}

@@ -136,6 +136,18 @@ fn merge(rt: &impl Abort, alloc: Global, tally: &mut Tally) -> Result<(), AllocE
     Ok(())
 }
 
+// Inserts a value at a new key, and lends it.
+fn lend(rt: &impl Abort, alloc: Global, tally: &mut Tally) -> Result<(), AllocError> {
+    let mut map = once_more!(tally, PatriciaMap::from_iter(alloc, HERE.iter().copied()));
+    if map.get_or_insert_with(b"baz".as_slice(), || 7).is_err() {
+        tally.add();
+        assert!(rt; has(&map, HERE));
+        assert!(rt; map.get_or_insert_with(b"baz".as_slice(), || 7).is_ok());
+    }
+    assert_eq!(rt; map.get(b"baz".as_slice()), Some(&7));
+    Ok(())
+}
+
 const SETS: Script<'static, &'static str> = Script {
     one: &["", "bar", "baz", "foo"],
     two: &["baz", "foo", "foobar", "quux", "x"],
@@ -149,6 +161,7 @@ const SETS: Script<'static, &'static str> = Script {
 fn none_is_refused(rt: HostRuntime) -> Result<(), AllocError> {
     let mut tally = Tally::new();
     merge(&rt, rt.alloc(), &mut tally)?;
+    lend(&rt, rt.alloc(), &mut tally)?;
     tally.check(&rt, 0);
     run(&rt, rt.alloc(), &SETS, 0)
 }
@@ -157,6 +170,7 @@ fn none_is_refused(rt: HostRuntime) -> Result<(), AllocError> {
 fn maps_refused_in_turn(rt: HostRuntime) -> Result<(), AllocError> {
     let mut tally = Tally::new();
     merge(&rt, rt.alloc(), &mut tally)?;
+    lend(&rt, rt.alloc(), &mut tally)?;
     tally.check(&rt, 1);
     Ok(())
 }
