@@ -1,3 +1,4 @@
+pub mod AfterLemmas
 pub mod AlongLemmas
 pub mod HolderLemmas
 pub mod HolderWriteLemmas
@@ -5,6 +6,7 @@ pub mod LentLemmas
 pub mod LastLemmas
 pub mod LowerLemmas
 pub mod NumberLemmas
+pub mod PassLemmas
 pub mod PlaceLemmas
 pub mod PositionLemmas
 pub mod RangeCursorLemmas

@@ -2,9 +2,10 @@
 use Rattle.std.proofs.Common.{◌≡◌, ◌≢◌, ℕ, ◌+◌, ◌<◌, List, [], ◌∷◌, ◌++◌, length, get_or, take}
 use Rattle.std.proofs.Common.{Option, Some, None, slice_get, refl, sym, ap, subst, ◌∙◌, arith}
 use Rattle.std.proofs.lemmas.List.{map-append, append-nil}
+use Rattle.patricia_keys.specs.Keys.{IsKeyKind, IsValid}
 use Rattle.patricia_keys.proofs.KeyLemmas.{IsValid-nil, IsValid-append}
 use Rattle.patricia_model.specs.Siblings.{node, end, IsCanonical}
-use Rattle.patricia_model.specs.Internal.WalkStates.{entries_left}
+use Rattle.patricia_model.specs.Internal.WalkStates.{entries_left, WaitsWithin}
 use Rattle.patricia_model.proofs.WalkLemmas.{step_down, step_back, left_filled}
 use Rattle.patricia_nodes.specs.declared.arena.Node.{Node}
 use Rattle.patricia_nodes.specs.declared.arena.NodeArena.{NodeArena}
@@ -12,10 +13,11 @@ use Rattle.patricia_nodes.specs.Internal.Plans.{Plan, Nil, Cell, head, row, coun
 use Rattle.patricia_nodes.specs.Internal.Plans.{siblings_of, IsPlan, IsWellFormed}
 use Rattle.patricia_walks.specs.Internal.Positions.{Position, row_at, rows_at, state_of, AllPlans}
 use Rattle.patricia_walks.specs.Internal.Positions.{count_all, Stand, IsPosition, IsTop, rows_below}
-use Rattle.patricia_walks.specs.Internal.Positions.{AdvancesTo, with_row}
+use Rattle.patricia_walks.specs.Internal.Positions.{AdvancesTo, with_row, WaitsAfter}
 use Rattle.patricia_nodes.proofs.PlanLemmas.{one-same, below_le, plan_is}
 use Rattle.patricia_nodes.proofs.SeekLemmas.{Opened, head_within, opened, whole_plan}
 use Rattle.patricia_nodes.proofs.WriteLemmas.{stands-keep}
+use Rattle.patricia_walks.proofs.AfterLemmas.{after-push, after-front, after-back}
 use Rattle.patricia_walks.proofs.WaitingLemmas.{step_without}
 
 module _ {V : Type 0} (nodes : List (Node V)) where
@@ -26,13 +28,13 @@ module _ {V : Type 0} (nodes : List (Node V)) where
   all_plans-snoc (f ∷ fs) n at ps p = (ps.0, all_plans-snoc fs n at ps.1 p)
 
   -- where all rows that wait stand in the nodes, so does the last, and so do those before it
-  all_plans-last : (fs : List (ℕ × Option ℕ)) (n : ℕ) (at : Option ℕ)
+  pub all_plans-last : (fs : List (ℕ × Option ℕ)) (n : ℕ) (at : Option ℕ)
       → AllPlans nodes (fs ++ (n, at) ∷ []) → IsPlan nodes at (plan_at nodes at) × AllPlans nodes fs
   all_plans-last [] n at ps = (ps.0, tt)
   all_plans-last (f ∷ fs) n at ps = let later = all_plans-last fs n at ps.1 in (later.0, (ps.0, later.1))
 
   -- one more row that waits adds its numbers to those of the others
-  count_all-snoc : (fs : List (ℕ × Option ℕ)) (n : ℕ) (at : Option ℕ) (i : ℕ)
+  pub count_all-snoc : (fs : List (ℕ × Option ℕ)) (n : ℕ) (at : Option ℕ) (i : ℕ)
       → count_all nodes (fs ++ (n, at) ∷ []) i ≡ count (plan_at nodes at) i + count_all nodes fs i
   count_all-snoc [] n at i = omega arith
   count_all-snoc (f ∷ fs) n at i = omega (arith, count_all-snoc fs n at i)
@@ -130,6 +132,11 @@ module _ (item : List ℕ → Type 0) {V : Type 0} where
         stand = d.stand;
         step = step_down item (state_of p) (state_of q) n.label n.value _ _ w.state pending
             d.row_is (rw (sym label_is) path) pending' refl d.stack_is;
+        after =
+            let node_ok = subst (IsCanonical item) d.row_is w.state.canonical in
+            subst (λ k. WaitsAfter item k (rows_at q.nodes q.stack)) (sym (path ∙ ap (λ k. p.path ++ k) label_is))
+            (subst (WaitsAfter item (p.path ++ n.label)) (sym d.stack_is)
+            (after-push item p.path n.label (rows_at p.nodes p.stack) _ w.after node_ok.nonempty node_ok.rises));
       }
 
   -- a row without nodes need not wait
@@ -149,6 +156,8 @@ module _ (item : List ℕ → Type 0) {V : Type 0} where
           once = λ i. rw (nodes, next) (omega (arith, w.stand.once i, ap (λ f. count_all q.nodes f i) stack, count_all-snoc q.nodes r.stack front None i));
         };
         step = step_without item (state_of p) (state_of q) (state_of r) front w.step rows path pending (rw (nodes, next) refl);
+        after = subst (λ k. WaitsAfter item k (rows_at r.nodes r.stack)) (sym path)
+            (after-front item q.path (rows_at r.nodes r.stack) front end (subst (WaitsAfter item q.path) rows w.after));
       }
 
   -- the step to a node's value and its children, where only that node is written to and its
@@ -171,19 +180,25 @@ module _ (item : List ℕ → Type 0) {V : Type 0} where
           (rw (is, stack) refl) refl refl refl refl
 
   -- the step back to the row that waits last
-  pub goes_back : (p q : Position V) (n : ℕ) (at : Option ℕ) → IsPosition item p → p.pending ≡ None
+  pub goes_back : IsKeyKind item → (p q : Position V) (n : ℕ) (at : Option ℕ) → IsPosition item p → p.pending ≡ None
       → p.next ≡ None → p.stack ≡ q.stack ++ (n, at) ∷ [] → q.nodes ≡ p.nodes
       → q.path ≡ take n p.path → q.pending ≡ p.pending → q.next ≡ at → AdvancesTo item p q
-  goes_back p q n at w pending next stack nodes path pending' at_is =
+  goes_back kind p q n at w pending next stack nodes path pending' at_is =
       let last = all_plans-last p.nodes q.stack n at (rw stack at w.stand.plans) in
+      let rows : rows_at p.nodes p.stack ≡ rows_at q.nodes q.stack ++ (n, row_at p.nodes at) ∷ [] = rw (stack, nodes) (map-append _ _ _) in
+      let step = step_back item (state_of p) (state_of q) n (row_at p.nodes at) w.state pending (ap (row_at p.nodes) next ∙ row_none p.nodes)
+      rows path pending' (rw (nodes, at_is) refl) in
       record {
         stand = record {
           next_plan = rw (nodes, at_is) last.0;
           plans = rw nodes last.1;
           once = λ i. rw (nodes, at_is) (omega (arith, w.stand.once i, ap (λ f. count_all p.nodes f i) stack, count_all-snoc p.nodes q.stack n at i));
         };
-        step = step_back item (state_of p) (state_of q) n (row_at p.nodes at) w.state pending (ap (row_at p.nodes) next ∙ row_none p.nodes)
-            (rw (stack, nodes) (map-append _ _ _)) path pending' (rw (nodes, at_is) refl);
+        step = step;
+        after = subst (λ k. WaitsAfter item k (rows_at q.nodes q.stack)) (sym path)
+            (after-back item kind p.path (rows_at q.nodes q.stack) n (row_at p.nodes at)
+            (subst (WaitsWithin item p.path) rows w.state.waits) (subst (WaitsAfter item p.path) rows w.after)
+            (subst (IsValid item) path step.state.valid));
       }
 
   -- where a node is next, an entry is left
@@ -215,6 +230,7 @@ module _ (item : List ℕ → Type 0) {V : Type 0} where
           once = λ i. rw (nodes, next, stack) (omega (arith, once i, below_le (length s.nodes.items) i, ap (λ r. count r i) is));
         };
         state = record { valid = rw path (IsValid-nil item); canonical = rw (nodes, next) ok; waits = rw stack tt };
+        after = rw stack tt;
       }
 
   -- with no row left a walk stands at its end
@@ -226,6 +242,7 @@ module _ (item : List ℕ → Type 0) {V : Type 0} where
       record {
         stand = record { next_plan = rw (next, is) plan; plans = rw stack tt; once = λ i. rw (next, is, stack) (omega arith) };
         state = record { valid = rw path (IsValid-nil item); canonical = rw (next, is) tt; waits = rw stack tt };
+        after = rw stack tt;
       }
 
 module _ (item : List ℕ → Type 0) {V : Type 0} (arena : NodeArena V) (front : List ℕ) (top : ℕ)
@@ -254,6 +271,7 @@ module _ (item : List ℕ → Type 0) {V : Type 0} (arena : NodeArena V) (front 
           once = λ i. rw (nodes, next, is, stack) (omega (arith, w.once i, ap (λ r. count r i) top_opened.is));
         };
         state = record { valid = rw path (IsValid-append item front n.label w.valid ok.valid); canonical = rw (nodes, next) ok.child; waits = rw stack tt };
+        after = rw stack tt;
       }
 
   -- all rows below the node are left then

@@ -77,7 +77,7 @@ module _ (item : List ℕ → Type 0) (key : List ℕ) {V : Type 0} (p : Positio
   -- a value before the end of the key may be passed
   pub value_towards : IsTowards item key (passed_value p)
   value_towards = record {
-    position = record { stand = record { next_plan = w.position.stand.next_plan; plans = w.position.stand.plans; once = w.position.stand.once }; state = record { valid = w.position.state.valid; canonical = w.position.state.canonical; waits = w.position.state.waits } };
+    position = record { stand = record { next_plan = w.position.stand.next_plan; plans = w.position.stand.plans; once = w.position.stand.once }; state = record { valid = w.position.state.valid; canonical = w.position.state.canonical; waits = w.position.state.waits }; after = w.position.after };
     begins = w.begins;
     waits = w.waits;
   }
@@ -167,7 +167,7 @@ module _ (item : List ℕ → Type 0) (kind : IsKeyKind item) (key : List ℕ) {
       let here : p.path ++ (n.label ++ begun.0) ≡ key = ap (λ k. p.path ++ k) begun.1 ∙ splits item key p w in
       record {
         towards = record {
-          position = record { stand = step.stand; state = step.step.state };
+          position = record { stand = step.stand; state = step.step.state; after = step.after };
           begins = (begun.0, ap (λ k. k ++ begun.0) path_is ∙ append_assoc p.path n.label begun.0 ∙ here);
           waits = ap (from key) wait_is ∙ from-append key (prefixed p.path es) (rows_waiting p)
               ∙ ap (λ r. from key (prefixed p.path es) ++ r) w.waits
@@ -201,6 +201,7 @@ module _ (item : List ℕ → Type 0) (kind : IsKeyKind item) (key : List ℕ) {
             canonical = rw (nodes, sibling) node_row.sibling;
             waits = rw (path, nodes, stack) state.waits;
           };
+          after = rw (path, nodes, stack) w.position.after;
         };
         begins = rw path w.begins;
         waits = rw (path, nodes, stack) w.waits;

@@ -27,7 +27,7 @@ module _ {V : Type 0} where
 
 module _ (item : List ℕ → Type 0) {V : Type 0} where
   -- the rows before the last wait without it too
-  WaitsWithin-front : (path : List ℕ) (fs : List (ℕ × Siblings V)) (f : ℕ × Siblings V)
+  pub WaitsWithin-front : (path : List ℕ) (fs : List (ℕ × Siblings V)) (f : ℕ × Siblings V)
       → WaitsWithin item path (fs ++ f ∷ []) → WaitsWithin item path fs
   WaitsWithin-front path [] f w = tt
   WaitsWithin-front path (g ∷ fs) f w =

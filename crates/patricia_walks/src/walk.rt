@@ -1,13 +1,14 @@
 //! Walks over nodes in one vector, in key order.
-ghost use Rattle.std.specs.Prelude.{◌≡◌, ◌≢◌, ◌++◌, [], Some, None, false, IfOk, OnOk, OnErr};
-ghost use Rattle.std.specs.Prelude.{IsTrue};
+ghost use Rattle.std.specs.Prelude.{◌≡◌, ◌≢◌, ◌≤◌, ◌++◌, [], length, take, Some, None, false};
+ghost use Rattle.std.specs.Prelude.{IsTrue, IfOk, OnOk, OnErr};
 ghost use Rattle.std.specs.Option.{option_copied};
+ghost use Rattle.patricia_keys.specs.Keys.{IsValid};
 ghost use Rattle.patricia_model.specs.Siblings.{own, keys_of, IsCanonical};
 ghost use Rattle.patricia_model.specs.Internal.WalkStates.{entries_left, TakesEntry};
 ghost use Rattle.patricia_model.specs.Walks.{YieldsOrErr};
 ghost use Rattle.patricia_nodes.specs.Internal.Plans.{IsWellFormed, siblings_of, entries_of};
 ghost use Rattle.patricia_walks.specs.Internal.Positions.{IsPosition, IsTop, AdvancesTo, state_of};
-ghost use Rattle.patricia_walks.specs.Internal.Positions.{lent, row_at, rows_below};
+ghost use Rattle.patricia_walks.specs.Internal.Positions.{lent, row_at, rows_below, HasPassed};
 
 mod reading;
 mod skipping;
@@ -77,6 +78,26 @@ impl<'a, V> Traversal<'a, V> {
         self.path.truncate(front);
         self.next = row;
         true
+    }
+
+    // Passes the rows that begin with the first bytes of the path, which are whole items.
+    fn skip<K: Bytes>(&mut self, len: usize)
+        requires position { IsPosition K.item (lent self.old) }
+        requires within { len ≤ length self.old.path.items }
+        requires valid { IsValid K.item (take len self.old.path.items) }
+        ensures position { IsPosition K.item (lent self.new) }
+        ensures path { self.new.path.items ≡ self.old.path.items }
+        ensures passed { HasPassed (take len self.old.path.items)
+            (entries_left (state_of (lent self.old))) (entries_left (state_of (lent self.new))) }
+    {
+        self.pending = None;
+        self.next = Link::none();
+        while let Some((front, _)) = self.stack.last() {
+            if *front < len {
+                return;
+            }
+            self.stack.pop();
+        }
     }
 
     // Takes the next value, whose key is then the path.

@@ -1,9 +1,12 @@
 -- How far a walk over nodes in one vector has come.
-use Rattle.std.specs.Prelude.{ℕ, ◌+◌, ◌≤◌, List, [], ◌∷◌, ◌++◌, Option, Some, None, map}
+use Rattle.std.specs.Prelude.{◌≡◌, ℕ, ◌+◌, ◌<◌, ◌≤◌, List, [], ◌∷◌, ◌++◌, Option, Some, None, map}
+use Rattle.std.specs.Prelude.{length, drop}
 use Rattle.std.specs.Option.{option_copied}
 use Rattle.patricia_keys.specs.Keys.{IsValid}
 use Rattle.patricia_model.specs.Siblings.{Siblings, end, node, prefixed, own, entries, IsCanonical}
-use Rattle.patricia_model.specs.Internal.WalkStates.{WalkState, IsWalkState, IsStep}
+use Rattle.patricia_model.specs.Siblings.{IsBeforeSiblings}
+use Rattle.patricia_model.specs.Prefixes.{under, outside}
+use Rattle.patricia_model.specs.Internal.WalkStates.{WalkState, IsWalkState, IsStep, IsWithinAll}
 use Rattle.patricia_nodes.specs.declared.arena.Node.{Node}
 use Rattle.patricia_nodes.specs.declared.arena.NodeArena.{NodeArena}
 use Rattle.patricia_walks.specs.declared.walk.Traversal.{Traversal}
@@ -78,6 +81,11 @@ module _ {V : Type 0} where
     pub plans : AllPlans p.nodes p.stack
     pub once : (at : ℕ) → count (plan_at p.nodes p.next) at + count_all p.nodes p.stack at ≤ 1
 
+  -- what is left is without the rows that begin with these bytes, which came first
+  pub record HasPassed (p : List ℕ) (rows later : List (List ℕ × V)) : Type 0 where
+    pub left : later ≡ outside p rows
+    pub split : rows ≡ under p rows ++ later
+
   -- the entries of the first node of a row, behind these bytes
   abbrev pub rows_below : List ℕ → Siblings V → List (List ℕ × V)
   rows_below front end = []
@@ -92,12 +100,25 @@ module _ (item : List ℕ → Type 0) {V : Type 0} where
     pub once : (at : ℕ) → count (plan_at arena.nodes.items (Some top)) at ≤ 1
     pub canonical : IsCanonical item (row_at arena.nodes.items (Some top))
 
-  -- the rows stand, and they are those of a walk
+  -- each row that waits is behind fewer of the bytes than those above it, and not behind all of
+  -- them, and its first items come after the item that goes on behind it
+  abbrev pub WaitsAfter : List ℕ → List (ℕ × Siblings V) → Type 0
+  WaitsAfter path [] = Unit {0}
+  WaitsAfter path (f ∷ fs) = record {
+    short : f.0 < length path;
+    apart : IsWithinAll (f.0 + 1) fs;
+    after : IsBeforeSiblings item (drop f.0 path) f.1;
+    rest : WaitsAfter path fs;
+  }
+
+  -- the rows stand, they are those of a walk, and those that wait come after the bytes
   pub record IsPosition (p : Position V) : Type 0 where
     pub stand : Stand p
     pub state : IsWalkState item (state_of p)
+    pub after : WaitsAfter p.path (rows_at p.nodes p.stack)
 
   -- a step of the walk
   pub record AdvancesTo (p q : Position V) : Type 0 where
     pub stand : Stand q
     pub step : IsStep item (state_of p) (state_of q)
+    pub after : WaitsAfter q.path (rows_at q.nodes q.stack)

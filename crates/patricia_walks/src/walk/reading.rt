@@ -1,9 +1,10 @@
 //! A cursor that lends the entries of a walk, and copies no key.
-ghost use Rattle.std.specs.Prelude.{◌≡◌, ◌≢◌, ◌↔◌, ◌+◌, [], length, IfOk, IfSome, OnOk, OnErr};
-ghost use Rattle.std.specs.Prelude.{IsTrue};
+ghost use Rattle.std.specs.Prelude.{◌≡◌, ◌≢◌, ◌↔◌, ℕ, ◌+◌, List, [], ◌++◌, length, take, IsTrue};
+ghost use Rattle.std.specs.Prelude.{IfOk, IfSome, OnOk, OnErr};
 ghost use Rattle.std.specs.Option.{option_copied, option_map};
-ghost use Rattle.patricia_keys.specs.Keys.{IsValid};
+ghost use Rattle.patricia_keys.specs.Keys.{IsFloor, IsValid};
 ghost use Rattle.patricia_model.specs.Cursors.{advanced, before_rows};
+ghost use Rattle.patricia_model.specs.Prefixes.{outside, under};
 
 use super::{Traversal, Walk};
 use patricia_keys::Bytes;
@@ -78,6 +79,30 @@ impl<'a, K: Bytes, V> ReadCursor<'a, K, V> {
                 Err(error)
             }
         }
+    }
+
+    /// Passes the entries that are left and whose key begins with the first `len` bytes of the key at
+    /// which the cursor stands, or with as many of these as are whole items. The cursor still stands
+    /// at that key; where it stands at none, nothing is passed. Does not allocate.
+    ///
+    /// Takes time in proportion to the key and to the nodes on its path, however many entries are
+    /// passed.
+    pub fn skip(&mut self, len: usize)
+        ensures at { self.new.at ≡ self.old.at }
+        ensures nowhere { self.old.at ≡ None → self.new.left ≡ self.old.left }
+        ensures left { (key : List ℕ) (value : V) (n : ℕ) → self.old.at ≡ Some (key, value)
+            → IsFloor K.item (take len key) n
+            → self.new.left ≡ outside (take n key) self.old.left }
+        ensures first { (key : List ℕ) (value : V) (n : ℕ) → self.old.at ≡ Some (key, value)
+            → IsFloor K.item (take len key) n
+            → self.old.left ≡ under (take n key) self.old.left ++ self.new.left }
+    {
+        if self.value.is_none() {
+            return;
+        }
+        let path = self.place.path.as_slice();
+        let whole = K::floor_boundary(&path[..len.min(path.len())]);
+        self.place.skip::<K>(whole);
     }
 
     /// Moves the cursor to its end. Does not allocate.
