@@ -11,6 +11,7 @@ pub mod PlaceLemmas
 pub mod PositionLemmas
 pub mod RangeCursorLemmas
 pub mod ReadLemmas
+pub mod SearchLemmas
 pub mod SkipLemmas
 pub mod StartLemmas
 pub mod TrailLemmas

@@ -5,6 +5,7 @@ pub mod Holders
 pub mod Lends
 pub mod Lowers
 pub mod Positions
+pub mod SearchCodes
 pub mod Skips
 pub mod Starts
 pub mod Trails

@@ -9,6 +9,7 @@ pub mod cursor;
 mod cursor_state;
 pub mod into_walk;
 pub mod last;
+pub mod near;
 pub mod range;
 pub mod reach;
 pub mod under;
