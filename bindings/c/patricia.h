@@ -3,30 +3,31 @@
  * A map goes from keys, which are byte strings of any length, to values of 64 bits. Its keys are in
  * the order of their bytes. Link with -lpatricia.
  *
- * MAPS AND ITERATORS
- *     A patricia_map, or a patricia_iterator, is an object of the program: two words, which these
- *     functions alone read and write. One that is all zero bytes is the empty map, or an iterator
- *     at its end, so it is made by PATRICIA_MAP_INIT or PATRICIA_ITERATOR_INIT, by static storage,
- *     by calloc or by memset. patricia_free makes a map empty and frees its memory, and
- *     patricia_iterator_free does so of an iterator; either may be called any number of times.
+ * MAPS, CURSORS AND ITERATORS
+ *     A patricia_map, a patricia_cursor or a patricia_iterator is an object of the program: two
+ *     words, which these functions alone read and write. One that is all zero bytes is the empty
+ *     map, a cursor before the first entry, or an iterator at its end, so it is made by
+ *     PATRICIA_MAP_INIT, PATRICIA_CURSOR_INIT or PATRICIA_ITERATOR_INIT, by static storage, by
+ *     calloc or by memset. patricia_free, patricia_cursor_free and patricia_iterator_free free its
+ *     memory and leave it so; each may be called any number of times.
  *
  * RESTRICTIONS
  *     The program has to see to these. Nothing checks them, and if one is broken the behaviour is
  *     undefined.
  *
- *     - Each map and iterator is all zero bytes, or as the last call left it.
- *     - A map or an iterator may be moved, by assignment or memcpy, but not copied: once it is
- *       moved the old object is not used again, unless it is made all zero. patricia_clone makes a
- *       copy.
+ *     - Each map, cursor and iterator is all zero bytes, or as the last call left it.
+ *     - A map, a cursor or an iterator may be moved, by assignment or memcpy, but not copied: once
+ *       it is moved the old object is not used again, unless it is made all zero. patricia_clone
+ *       makes a copy of a map.
  *     - Pointers are not null and point to objects of their type. A pointer to bytes or to values
  *       points to as many as the number that follows it; where that number is 0, it is not null
  *       either, but may point anywhere. No array has more than PTRDIFF_MAX bytes.
  *     - Pointers of one call that are written through point to objects of their own: no two are
  *       equal, and none points into the key, the prefix, the bytes or the values of the call.
- *     - One call at a time uses a map or an iterator. This holds of calls that only read, too: they
- *       write to the map while they run. Two threads that share a map use a lock. A map or an
- *       iterator may go from one thread to another. No function may be called from a handler of
- *       signals.
+ *     - One call at a time uses a map, a cursor or an iterator. This holds of calls that only read,
+ *       too: they write to the map while they run. Two threads that share a map use a lock. A map,
+ *       a cursor or an iterator may go from one thread to another. No function may be called from a
+ *       handler of signals.
  *     - malloc, realloc and free are those of one allocator.
  *
  * ERRORS
@@ -64,14 +65,20 @@ typedef struct {
     void *at;
 } patricia_iterator;
 
+typedef struct {
+    bool full;
+    void *at;
+} patricia_cursor;
+
 #define PATRICIA_MAP_INIT {false, NULL}
+#define PATRICIA_CURSOR_INIT {false, NULL}
 #define PATRICIA_ITERATOR_INIT {false, NULL}
 
 /* What functions return. */
 enum {
     PATRICIA_DONE = 0,   /* the call is done */
     PATRICIA_ABSENT = 0, /* the key was not there */
-    PATRICIA_END = 0,    /* no entry is left */
+    PATRICIA_END = 0,    /* no entry is left, or ahead */
     PATRICIA_FOUND = 1,  /* the key was there */
     PATRICIA_ENTRY = 1,  /* an entry was written */
     PATRICIA_NO_MEMORY = 2,
@@ -172,6 +179,32 @@ uint32_t patricia_first_after(patricia_map *map, const uint8_t *key, size_t len,
 /* Asks for the last entry whose key comes before this one, which need not be in the map. */
 uint32_t patricia_last_before(patricia_map *map, const uint8_t *key, size_t len, uint8_t *array,
                               size_t size, size_t *key_len, uint64_t *value);
+
+/* Cursors. A cursor goes over entries in the order of their keys. It has no entries, only the key
+ * that it passed last, and each step asks a map for the first entry ahead: of those that come after
+ * that key. So the map may be changed between two steps, and what is ahead is always so of the map
+ * as it is at the step: an entry that was inserted or removed there meanwhile is passed, or is not.
+ * A step takes the time of a look-up, and memory for the key. A cursor that is all zero bytes has
+ * all entries ahead. */
+
+/* Sets the cursor: ahead are the entries whose key is this key or comes after it, among those whose
+ * key begins with the first `common` bytes of this key; with the whole key, where `common` is
+ * key_len or more. So with 0 they are all entries from a key on, and with key_len those whose key
+ * begins with a prefix. Returns false where memory runs out: the cursor is unchanged. */
+bool patricia_cursor_seek(patricia_cursor *cursor, const uint8_t *key, size_t key_len,
+                          size_t common);
+
+/* Passes the first entry of the map that the cursor has ahead. Returns PATRICIA_ENTRY, and writes
+ * its key to the array, the length of the key to *key_len and the value to *value; or PATRICIA_END
+ * where none is ahead. PATRICIA_NO_ROOM: the key is longer than the array. Its length is written to
+ * *key_len and nothing to the others. PATRICIA_NO_MEMORY, but not for an empty map. With
+ * PATRICIA_END and PATRICIA_NO_MEMORY nothing is written. With all but PATRICIA_ENTRY nothing is
+ * passed: the same entries stay ahead. The map is never changed. */
+uint32_t patricia_cursor_next(patricia_cursor *cursor, patricia_map *map, uint8_t *array,
+                              size_t size, size_t *key_len, uint64_t *value);
+
+/* Frees all memory of the cursor, which then has all entries ahead. */
+void patricia_cursor_free(patricia_cursor *cursor);
 
 /* Iterators */
 

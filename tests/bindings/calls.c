@@ -193,6 +193,79 @@ static void iterators(void)
     CHECK(patricia_iterator_next(&iterator, array, 8, &len, &value) == PATRICIA_END);
 }
 
+/* The cursor passes this entry next. */
+static void passes(patricia_cursor *cursor, patricia_map *map, const char *key, uint64_t value)
+{
+    uint8_t array[8] = "unwritte";
+    uint64_t got = 77;
+    size_t len = 78;
+    if (*key != 0) {
+        CHECK(patricia_cursor_next(cursor, map, array, strlen(key) - 1, &len, &got) ==
+              PATRICIA_NO_ROOM);
+        CHECK(len == strlen(key) && got == 77 && memcmp(array, "unwritte", 8) == 0);
+    }
+    CHECK(patricia_cursor_next(cursor, map, array, strlen(key), &len, &got) == PATRICIA_ENTRY);
+    CHECK(len == strlen(key) && got == value && memcmp(array, key, len) == 0);
+}
+
+/* Nothing is ahead of it. */
+static void ends(patricia_cursor *cursor, patricia_map *map)
+{
+    uint8_t array[8] = "unwritte";
+    uint64_t value = 77;
+    size_t len = 78;
+    CHECK(patricia_cursor_next(cursor, map, array, 8, &len, &value) == PATRICIA_END);
+    CHECK(len == 78 && value == 77 && memcmp(array, "unwritte", 8) == 0);
+}
+
+static void cursors(void)
+{
+    patricia_map map = PATRICIA_MAP_INIT, other = PATRICIA_MAP_INIT;
+    patricia_cursor cursor = PATRICIA_CURSOR_INIT;
+    uint64_t value;
+    ends(&cursor, &map);
+    fill(&map);
+    passes(&cursor, &map, "", 9);
+    passes(&cursor, &map, "bar", 2);
+    CHECK(removed(&map, "baz", &value) == PATRICIA_FOUND);
+    CHECK(insert(&map, "bas", 5, &value) == PATRICIA_ABSENT);
+    CHECK(insert(&map, "bap", 6, &value) == PATRICIA_ABSENT);
+    passes(&cursor, &map, "bas", 5);
+    ends(&cursor, &other);
+    passes(&cursor, &map, "foo", 4);
+    ends(&cursor, &map);
+    CHECK(insert(&map, "zoo", 7, &value) == PATRICIA_ABSENT);
+    passes(&cursor, &map, "zoo", 7);
+    ends(&cursor, &map);
+    patricia_cursor_free(&cursor);
+    passes(&cursor, &map, "", 9);
+    CHECK(patricia_cursor_seek(&cursor, bytes_of("ba"), 2, 2));
+    passes(&cursor, &map, "bap", 6);
+    patricia_cursor moved = cursor;
+    memset(&cursor, 0, sizeof cursor);
+    passes(&moved, &map, "bar", 2);
+    passes(&cursor, &map, "", 9);
+    passes(&moved, &map, "bas", 5);
+    ends(&moved, &map);
+    CHECK(patricia_cursor_seek(&cursor, bytes_of("baq"), 3, 0));
+    passes(&cursor, &map, "bar", 2);
+    passes(&cursor, &map, "bas", 5);
+    passes(&cursor, &map, "foo", 4);
+    CHECK(patricia_cursor_seek(&cursor, bytes_of("baq"), 3, 1));
+    passes(&cursor, &map, "bar", 2);
+    passes(&cursor, &map, "bas", 5);
+    ends(&cursor, &map);
+    CHECK(patricia_cursor_seek(&cursor, bytes_of("foo"), 3, 99));
+    passes(&cursor, &map, "foo", 4);
+    ends(&cursor, &map);
+    CHECK(patricia_len(&map) == 6);
+    patricia_free(&map);
+    ends(&cursor, &map);
+    patricia_cursor_free(&cursor);
+    patricia_cursor_free(&cursor);
+    patricia_cursor_free(&moved);
+}
+
 static void encodings(void)
 {
     static const uint8_t one[] = {12, 0, 0, 0, 3, 1, 0, 1, 'a'};
@@ -316,6 +389,7 @@ int main(void)
     two_maps();
     neighbours();
     counts();
+    cursors();
     iterators();
     encodings();
     faults();

@@ -1,5 +1,5 @@
 #!/usr/bin/env python3
-"""Compares what patricia.h, tree.rs of the Rust crate and patricia.py declare with what patricia_c exports.
+"""Compares what patricia.h, library.rs of the Rust crate and patricia.py declare with what patricia_c exports.
 
     tests/bindings/declared.py
 
@@ -15,12 +15,14 @@ ROOT = os.path.dirname(os.path.dirname(os.path.dirname(os.path.abspath(__file__)
 EXPORT = re.compile(r'#\[unsafe\(no_mangle\)\]\npub extern "C" fn (\w+)\(([^)]*)\)(?: -> (\w+))?')
 EXPORTED = {
     'Global': (), 'u64': ('u64',), '&mut u64': ('*u64',), '&mut usize': ('*usize',),
-    '&mut MapPlace': ('*map',), '&mut IteratorPlace': ('*iterator',),
+    '&mut MapPlace': ('*map',), '&mut CursorPlace': ('*cursor',), '&mut IteratorPlace': ('*iterator',),
+    'usize': ('usize',),
     '&[u8]': ('*const u8', 'usize'), '&mut [u8]': ('*u8', 'usize'), '&[u64]': ('*const u64', 'usize'),
 }
 IN_C = {
     'void': None, 'bool': 'bool', 'uint32_t': 'u32', 'uint64_t': 'u64', 'size_t': 'usize',
-    'patricia_map *': '*map', 'patricia_iterator *': '*iterator', 'uint64_t *': '*u64', 'size_t *': '*usize',
+    'patricia_map *': '*map', 'patricia_cursor *': '*cursor', 'patricia_iterator *': '*iterator',
+    'uint64_t *': '*u64', 'size_t *': '*usize',
     'uint8_t *': '*u8', 'const uint8_t *': '*const u8', 'const uint64_t *': '*const u64',
 }
 IN_PYTHON = {
@@ -60,14 +62,14 @@ def in_c():
 
 
 def in_rust():
-    block = re.search(r'^extern "C" \{\n(.*?)^\}', read('bindings', 'rust', 'src', 'tree.rs'), re.M | re.S)[1]
+    block = re.search(r'^extern "C" \{\n(.*?)^\}', read('bindings', 'rust', 'src', 'library.rs'), re.M | re.S)[1]
     found = {}
     for name, words, result in re.findall(r'fn (\w+)\(([^)]*)\)(?: -> (\w+))?;', block):
         types = []
         for part in split(words):
             word, kind = part.split(': ')
-            kind = '*iterator' if kind == '*mut Place' and word == 'iterator' else kind
-            types.append(kind.replace('*mut Place', '*map').replace('*mut ', '*'))
+            place = '*' + word if word in ('cursor', 'iterator') else '*map'
+            types.append(kind.replace('*mut Place', place).replace('*mut ', '*'))
         found[name] = (tuple(types), result or None)
     return found
 
@@ -87,14 +89,14 @@ def in_python():
 def without_types(of):
     """Pointers to places and to arrays, without what they point to."""
     types, result = of
-    bare = {'*map': '*', '*iterator': '*', '*u8': '*', '*const u8': '*', '*const u64': '*'}
+    bare = {'*map': '*', '*cursor': '*', '*iterator': '*', '*u8': '*', '*const u8': '*', '*const u64': '*'}
     return tuple(bare.get(x, x) for x in types), result
 
 
 def main():
     exports = exported()
-    faults = [] if len(exports) == 25 else ['%d functions are exported' % len(exports)]
-    for where, found, form in (('patricia.h', in_c(), lambda x: x), ('tree.rs', in_rust(), lambda x: x),
+    faults = [] if len(exports) == 28 else ['%d functions are exported' % len(exports)]
+    for where, found, form in (('patricia.h', in_c(), lambda x: x), ('library.rs', in_rust(), lambda x: x),
                                ('patricia.py', in_python(), without_types)):
         for name in exports if where == 'patricia.h' else found:
             if name not in found or name not in exports or found[name] != form(exports[name]):

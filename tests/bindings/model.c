@@ -18,6 +18,10 @@ typedef struct {
     patricia_map map;
     bool has[COUNT];
     uint64_t value[COUNT];
+    patricia_cursor cursor;
+    size_t ahead;  /* the first key that the cursor has not passed */
+    size_t common; /* with so many bytes of the key `like` its keys begin */
+    size_t like;
 } pair;
 
 static key_text keys[COUNT]; /* in the order of their bytes */
@@ -100,6 +104,37 @@ static void iterate(pair *p, const key_text *prefix)
     }
     CHECK(patricia_iterator_next(&iterator, array, sizeof array, &len, &value) == PATRICIA_END);
     patricia_iterator_free(&iterator);
+}
+
+/* The cursor is set, to stand from then on while the map changes. */
+static void seek(pair *p, size_t i)
+{
+    p->ahead = p->like = i;
+    p->common = below(keys[i].len + 3);
+    CHECK(patricia_cursor_seek(&p->cursor, keys[i].bytes, keys[i].len, p->common));
+    if (p->common > keys[i].len)
+        p->common = keys[i].len;
+}
+
+/* The cursor passes the first entry that it has ahead. */
+static void step(pair *p)
+{
+    uint8_t array[LONGEST];
+    uint64_t value = 77;
+    size_t len = 78, i = p->ahead;
+    while (i < COUNT && !(p->has[i] && common(&keys[p->like], &keys[i]) >= p->common))
+        i++;
+    uint32_t result = patricia_cursor_next(&p->cursor, &p->map, array, below(2) * sizeof array,
+                                           &len, &value);
+    if (result == PATRICIA_NO_ROOM) {
+        CHECK(len == keys[i].len && value == 77);
+        result = patricia_cursor_next(&p->cursor, &p->map, array, sizeof array, &len, &value);
+    }
+    CHECK(result == (i < COUNT ? PATRICIA_ENTRY : PATRICIA_END));
+    CHECK(len == (i < COUNT ? keys[i].len : 78) && value == (i < COUNT ? p->value[i] : 77));
+    CHECK(i == COUNT || memcmp(array, keys[i].bytes, len) == 0);
+    if (i < COUNT)
+        p->ahead = i + 1;
 }
 
 static void insert(pair *p, size_t i)
@@ -255,8 +290,12 @@ static void call(pair *p, pair *other)
         insert(p, i);
     else if (kind < 600)
         take(p, i);
-    else if (kind < 930)
+    else if (kind < 800)
         get(p, i);
+    else if (kind < 920)
+        step(p);
+    else if (kind < 930)
+        seek(p, i);
     else if (kind < 940)
         ask_neighbours(p, i);
     else if (kind < 947)
@@ -297,6 +336,8 @@ int main(int count, char **words)
     iterate(&second, &keys[0]);
     patricia_free(&first.map);
     patricia_free(&second.map);
+    patricia_cursor_free(&first.cursor);
+    patricia_cursor_free(&second.cursor);
     printf("ok, %ld calls\n", calls);
     return 0;
 }

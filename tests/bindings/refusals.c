@@ -197,6 +197,54 @@ static size_t neighbours(patricia_map *map, const bool *has)
     return refused;
 }
 
+/* Whether a key is among those that a cursor has ahead first, in the order of the keys. */
+static bool is_ahead(const bool *has, size_t i, const char *from, size_t common)
+{
+    return has[i] && strcmp(KEYS[i], from) >= 0 && strncmp(KEYS[i], from, common) == 0;
+}
+
+/* A cursor passes all that is ahead, and where it is refused it goes on at the same entry. */
+static size_t passed(patricia_map *map, patricia_cursor *cursor, const bool *has, const char *from,
+                     size_t common)
+{
+    uint8_t array[64];
+    size_t refused = 0, len = 78;
+    uint64_t value = 77;
+    if (!patricia_cursor_seek(cursor, (const uint8_t *)from, strlen(from), common)) {
+        refused++;
+        CHECK(patricia_cursor_seek(cursor, (const uint8_t *)from, strlen(from), common));
+    }
+    for (int at = 0; at < COUNT; at++) {
+        if (!is_ahead(has, ORDER[at], from, common))
+            continue;
+        len = 78, value = 77;
+        uint32_t result = patricia_cursor_next(cursor, map, array, sizeof array, &len, &value);
+        if (is_entry(result, ORDER[at], array, len, value) != 0) {
+            refused++;
+            result = patricia_cursor_next(cursor, map, array, sizeof array, &len, &value);
+            CHECK(is_entry(result, ORDER[at], array, len, value) == 0);
+        }
+    }
+    len = 78, value = 77;
+    uint32_t result = patricia_cursor_next(cursor, map, array, sizeof array, &len, &value);
+    return refused + is_entry(result, COUNT, array, len, value);
+}
+
+/* A cursor that is all zero at first. */
+static size_t walked(patricia_map *map, const bool *has)
+{
+    patricia_cursor cursor = PATRICIA_CURSOR_INIT;
+    uint8_t array[64];
+    size_t len = 78;
+    uint64_t value = 77;
+    uint32_t result = patricia_cursor_next(&cursor, map, array, sizeof array, &len, &value);
+    size_t refused = is_entry(result, nearest(has, 0, 1), array, len, value);
+    if (refused != 0)
+        refused += passed(map, &cursor, has, "", 0);
+    patricia_cursor_free(&cursor);
+    return refused;
+}
+
 static size_t under(const bool *has, const char *prefix)
 {
     size_t count = 0;
@@ -241,6 +289,7 @@ static size_t run(long number)
     patricia_map map = PATRICIA_MAP_INIT, copy = PATRICIA_MAP_INIT, back = PATRICIA_MAP_INIT;
     patricia_map part = PATRICIA_MAP_INIT;
     patricia_iterator iterator = PATRICIA_ITERATOR_INIT;
+    patricia_cursor cursor = PATRICIA_CURSOR_INIT;
     bool has[COUNT];
     before_refusal = number;
     size_t refused = filled(&map, has);
@@ -249,6 +298,9 @@ static size_t run(long number)
     refused += iterated(&map, &iterator);
     is_as(&map, has);
     refused += neighbours(&map, has);
+    refused += walked(&map, has) + passed(&map, &cursor, has, "", 0);
+    refused += passed(&map, &cursor, has, "a longer", 8) + passed(&map, &cursor, has, "a", 0);
+    is_as(&map, has);
     refused += counted(&map, has, "a longer") + counted(&map, has, "");
     is_as(&map, has);
     refused += encoded(&map, &back, patricia_tree_bytes, patricia_from_tree_bytes);
@@ -268,6 +320,7 @@ static size_t run(long number)
     patricia_free(&copy);
     patricia_free(&back);
     patricia_free(&part);
+    patricia_cursor_free(&cursor);
     patricia_iterator_free(&iterator);
     CHECK(live == 0);
     return refused;

@@ -1,27 +1,24 @@
 //! Iterators over a map.
 
+use crate::cursor::Cursor;
 use crate::key::Key;
+use crate::rows::Rows;
 use crate::slab::Slab;
-use crate::tree::Rows;
+use std::iter::FusedIterator;
 use std::marker::PhantomData;
 use std::vec;
 
-/// An iterator over entries, in key order.
+/// An iterator over entries, in key order. It has the last key alone, and takes a look-up for each
+/// entry.
 pub struct Iter<'a, K, V> {
-    rows: Rows,
-    values: &'a Slab<V>,
+    cursor: Cursor<'a, K, V>,
     left: usize,
-    kind: PhantomData<fn() -> K>,
 }
 
 impl<'a, K: Key, V> Iter<'a, K, V> {
-    pub(crate) fn new(mut rows: Rows, values: &'a Slab<V>) -> Self {
-        Iter {
-            left: rows.len(),
-            rows,
-            values,
-            kind: PhantomData,
-        }
+    /// So many entries are ahead of the cursor.
+    pub(crate) fn new(cursor: Cursor<'a, K, V>, left: usize) -> Self {
+        Iter { cursor, left }
     }
 }
 
@@ -29,9 +26,9 @@ impl<'a, K: Key, V> Iterator for Iter<'a, K, V> {
     type Item = (K, &'a V);
 
     fn next(&mut self) -> Option<Self::Item> {
-        let (key, number) = self.rows.next()?;
+        let entry = self.cursor.next_entry()?;
         self.left -= 1;
-        Some((K::from_bytes(key), self.values.get(number)))
+        Some(entry)
     }
 
     fn size_hint(&self) -> (usize, Option<usize>) {
@@ -40,6 +37,8 @@ impl<'a, K: Key, V> Iterator for Iter<'a, K, V> {
 }
 
 impl<K: Key, V> ExactSizeIterator for Iter<'_, K, V> {}
+
+impl<K: Key, V> FusedIterator for Iter<'_, K, V> {}
 
 /// An iterator over the keys, in order.
 pub struct Keys<'a, K, V>(pub(crate) Iter<'a, K, V>);

@@ -1,5 +1,7 @@
 //! Kinds of keys.
 
+use std::str;
+
 mod sealed {
     pub trait Sealed {}
     impl Sealed for Vec<u8> {}
@@ -20,6 +22,9 @@ pub trait Key: sealed::Sealed + Sized {
     /// A key of the bytes of a key of this kind.
     fn from_bytes(bytes: Vec<u8>) -> Self;
 
+    /// The key that these bytes are.
+    fn of_bytes(bytes: &[u8]) -> &Self::Borrowed;
+
     /// The first `n` bytes of a key, which are a key.
     fn prefix(key: &Self::Borrowed, n: usize) -> &Self::Borrowed;
 
@@ -39,6 +44,10 @@ impl Key for Vec<u8> {
     }
 
     fn from_bytes(bytes: Vec<u8>) -> Self {
+        bytes
+    }
+
+    fn of_bytes(bytes: &[u8]) -> &[u8] {
         bytes
     }
 
@@ -64,6 +73,10 @@ impl Key for String {
 
     fn from_bytes(bytes: Vec<u8>) -> Self {
         String::from_utf8(bytes).expect("the keys of such a map are texts")
+    }
+
+    fn of_bytes(bytes: &[u8]) -> &str {
+        str::from_utf8(bytes).expect("the keys of such a map are texts")
     }
 
     fn prefix(key: &str, n: usize) -> &str {

@@ -3,7 +3,7 @@
 //! The names and the behaviour are those of the crate `patricia_tree` 0.10.2. The tree itself, from
 //! byte strings to numbers, is the library's, whose functions are proved (docs/BINDINGS.md). The
 //! values lie in a slab of this crate, under these numbers. That slab and the declarations in
-//! `tree.rs` are tested.
+//! `library.rs` are tested; all unsafe code is in `tree.rs` and `rows.rs`.
 //!
 //! ```
 //! use patricia::StringPatriciaMap;
@@ -15,17 +15,22 @@
 //! ```
 //!
 //! Not here: `Sync`, since the library's functions write to a map while they read it; nodes; kinds
-//! of keys of the caller's own; serde. An iterator has copies of the keys that it gives.
+//! of keys of the caller's own; serde. `iter`, `keys` and `values` have the last key alone and take
+//! a look-up for each entry; the other iterators have copies of the keys that they give.
 //!
 //! Where memory runs out the process ends, as it does with std's collections.
 
+mod cursor;
 mod iter;
 mod key;
+mod library;
 mod map;
+mod rows;
 mod set;
 mod slab;
 mod tree;
 
+pub use cursor::Cursor;
 pub use iter::{CommonPrefixes, IntoIter, Iter, IterMut, Keys, Values, ValuesMut};
 pub use key::Key;
 pub use map::GenericPatriciaMap;

@@ -1,7 +1,9 @@
 //! Maps.
 
+use crate::cursor::Cursor;
 use crate::iter::{CommonPrefixes, IntoIter, Iter, IterMut, Keys, Values, ValuesMut};
 use crate::key::Key;
+use crate::rows;
 use crate::slab::Slab;
 use crate::tree::{DecodeError, TooDeep, Tree, Width};
 use std::fmt;
@@ -132,21 +134,100 @@ impl<K: Key, V> GenericPatriciaMap<K, V> {
     /// Removes the entries whose key begins with the prefix, and returns them as a map.
     pub fn split_by_prefix<Q: AsRef<K::Borrowed>>(&mut self, prefix: Q) -> Self {
         let mut part = Self::of(self.tree.split(K::bytes(prefix.as_ref())), Slab::new());
-        for (key, number) in part.tree.rows(&[]) {
+        let mut cursor = rows::Cursor::new(&[], 0);
+        while let Some(number) = part.tree.next(&mut cursor) {
             let moved = part.values.insert(self.values.remove(number));
-            part.tree.insert(&key, moved);
+            part.tree.insert(cursor.key(), moved);
         }
         part
     }
 
     /// Returns the entries, in key order.
     pub fn iter(&self) -> Iter<'_, K, V> {
-        Iter::new(self.tree.rows(&[]), &self.values)
+        Iter::new(self.cursor(), self.len())
     }
 
-    /// Returns the entries whose key begins with the prefix, in key order.
+    /// Returns the entries whose key begins with the prefix, in key order. They are counted first.
     pub fn iter_prefix(&self, prefix: &K::Borrowed) -> Iter<'_, K, V> {
-        Iter::new(self.tree.rows(K::bytes(prefix)), &self.values)
+        Iter::new(self.cursor_under(prefix), self.tree.count(K::bytes(prefix)))
+    }
+
+    /// Returns a cursor before the first entry.
+    pub fn cursor(&self) -> Cursor<'_, K, V> {
+        self.cursor_at(&[], 0)
+    }
+
+    /// Returns a cursor before the first entry whose key begins with the prefix, which goes over
+    /// these entries.
+    pub fn cursor_under(&self, prefix: &K::Borrowed) -> Cursor<'_, K, V> {
+        let prefix = K::bytes(prefix);
+        self.cursor_at(prefix, prefix.len())
+    }
+
+    /// Returns a cursor before the first entry from a key on; the key itself need not be there.
+    pub fn cursor_from(&self, key: &K::Borrowed) -> Cursor<'_, K, V> {
+        self.cursor_at(K::bytes(key), 0)
+    }
+
+    fn cursor_at(&self, key: &[u8], common: usize) -> Cursor<'_, K, V> {
+        Cursor::new(&self.tree, &self.values, rows::Cursor::new(key, common))
+    }
+
+    fn entry(&self, row: Option<(Vec<u8>, u64)>) -> Option<(K, &V)> {
+        row.map(|(key, number)| (K::from_bytes(key), self.values.get(number)))
+    }
+
+    /// Returns the first entry in key order.
+    pub fn first_key_value(&self) -> Option<(K, &V)> {
+        self.entry(self.tree.first())
+    }
+
+    /// Returns the last entry in key order.
+    pub fn last_key_value(&self) -> Option<(K, &V)> {
+        self.entry(self.tree.last())
+    }
+
+    /// Returns the first entry whose key comes after this one, which need not be there.
+    pub fn first_after<Q: AsRef<K::Borrowed>>(&self, key: Q) -> Option<(K, &V)> {
+        self.entry(self.tree.first_after(K::bytes(key.as_ref())))
+    }
+
+    /// Returns the last entry whose key comes before this one, which need not be there.
+    pub fn last_before<Q: AsRef<K::Borrowed>>(&self, key: Q) -> Option<(K, &V)> {
+        self.entry(self.tree.last_before(K::bytes(key.as_ref())))
+    }
+
+    fn taken(&mut self, row: Option<(Vec<u8>, u64)>) -> Option<(K, V)> {
+        let (key, number) = row?;
+        self.tree.remove(&key);
+        Some((K::from_bytes(key), self.values.remove(number)))
+    }
+
+    /// Removes the first entry in key order, and returns it.
+    pub fn pop_first(&mut self) -> Option<(K, V)> {
+        self.taken(self.tree.first())
+    }
+
+    /// Removes the last entry in key order, and returns it.
+    pub fn pop_last(&mut self) -> Option<(K, V)> {
+        self.taken(self.tree.last())
+    }
+
+    /// Returns the number of entries whose key begins with the prefix.
+    pub fn count_prefix<Q: AsRef<K::Borrowed>>(&self, prefix: Q) -> usize {
+        self.tree.count(K::bytes(prefix.as_ref()))
+    }
+
+    /// Removes the entries whose key begins with the prefix, and returns how many they were.
+    pub fn remove_prefix<Q: AsRef<K::Borrowed>>(&mut self, prefix: Q) -> usize {
+        let prefix = K::bytes(prefix.as_ref());
+        let mut cursor = rows::Cursor::new(prefix, prefix.len());
+        let mut removed = Vec::new();
+        while let Some(number) = self.tree.next(&mut cursor) {
+            removed.push(self.values.remove(number));
+        }
+        // The values are dropped last, when each number that a key has is that of a value again.
+        self.tree.remove_under(prefix)
     }
 
     /// Lends the value of each entry, in key order. Takes memory for a reference to each value.

@@ -82,6 +82,46 @@ impl<T: Key> GenericPatriciaSet<T> {
         }
     }
 
+    /// Returns the first element in order.
+    pub fn first(&self) -> Option<T> {
+        self.map.first_key_value().map(|entry| entry.0)
+    }
+
+    /// Returns the last element in order.
+    pub fn last(&self) -> Option<T> {
+        self.map.last_key_value().map(|entry| entry.0)
+    }
+
+    /// Returns the first element that comes after this one, which need not be there.
+    pub fn first_after<U: AsRef<T::Borrowed>>(&self, element: U) -> Option<T> {
+        self.map.first_after(element).map(|entry| entry.0)
+    }
+
+    /// Returns the last element that comes before this one, which need not be there.
+    pub fn last_before<U: AsRef<T::Borrowed>>(&self, element: U) -> Option<T> {
+        self.map.last_before(element).map(|entry| entry.0)
+    }
+
+    /// Removes the first element in order, and returns it.
+    pub fn pop_first(&mut self) -> Option<T> {
+        self.map.pop_first().map(|entry| entry.0)
+    }
+
+    /// Removes the last element in order, and returns it.
+    pub fn pop_last(&mut self) -> Option<T> {
+        self.map.pop_last().map(|entry| entry.0)
+    }
+
+    /// Returns the number of elements that begin with the prefix.
+    pub fn count_prefix<U: AsRef<T::Borrowed>>(&self, prefix: U) -> usize {
+        self.map.count_prefix(prefix)
+    }
+
+    /// Removes the elements that begin with the prefix, and returns how many they were.
+    pub fn remove_prefix<U: AsRef<T::Borrowed>>(&mut self, prefix: U) -> usize {
+        self.map.remove_prefix(prefix)
+    }
+
     /// Returns the elements, in order.
     pub fn iter(&self) -> Iter<'_, T> {
         Iter(self.map.keys())

@@ -1,95 +1,11 @@
-//! The library's map from byte strings to numbers. All unsafe code of the crate is here.
+//! The library's map from byte strings to numbers.
 
+use crate::library::*;
+use crate::rows::{Cursor, Rows};
 use std::alloc::{handle_alloc_error, Layout};
 use std::cell::UnsafeCell;
 use std::error::Error;
-use std::ffi::c_void;
 use std::fmt;
-use std::ptr;
-
-const FOUND: u32 = 1;
-const NO_MEMORY: u32 = 2;
-const TOO_DEEP: u32 = 3;
-const NO_ROOM: u32 = 4;
-
-/// A `patricia_map` or a `patricia_iterator` of patricia.h.
-#[repr(C)]
-struct Place {
-    full: bool,
-    at: *mut c_void,
-}
-
-const EMPTY: Place = Place {
-    full: false,
-    at: ptr::null_mut(),
-};
-
-extern "C" {
-    fn patricia_free(map: *mut Place);
-    fn patricia_len(map: *mut Place) -> usize;
-    fn patricia_get(map: *mut Place, key: *const u8, len: usize, value: *mut u64) -> bool;
-    fn patricia_insert(
-        map: *mut Place,
-        key: *const u8,
-        len: usize,
-        value: u64,
-        old: *mut u64,
-    ) -> u32;
-    fn patricia_remove(map: *mut Place, key: *const u8, len: usize, old: *mut u64) -> u32;
-    fn patricia_clone(map: *mut Place, copy: *mut Place) -> bool;
-    fn patricia_longest_prefix(
-        map: *mut Place,
-        key: *const u8,
-        len: usize,
-        prefix_len: *mut usize,
-        value: *mut u64,
-    ) -> bool;
-    fn patricia_longest_common_prefix_len(map: *mut Place, key: *const u8, len: usize) -> usize;
-    fn patricia_split_by_prefix(
-        map: *mut Place,
-        prefix: *const u8,
-        len: usize,
-        part: *mut Place,
-    ) -> bool;
-    fn patricia_iterate(
-        map: *mut Place,
-        prefix: *const u8,
-        len: usize,
-        iterator: *mut Place,
-    ) -> bool;
-    fn patricia_iterator_next(
-        iterator: *mut Place,
-        array: *mut u8,
-        size: usize,
-        len: *mut usize,
-        value: *mut u64,
-    ) -> u32;
-    fn patricia_iterator_len(iterator: *mut Place) -> usize;
-    fn patricia_iterator_free(iterator: *mut Place);
-    fn patricia_tree_bytes(map: *mut Place, array: *mut u8, size: usize, len: *mut usize) -> u32;
-    fn patricia_wide_tree_bytes(
-        map: *mut Place,
-        array: *mut u8,
-        size: usize,
-        len: *mut usize,
-    ) -> u32;
-    fn patricia_from_tree_bytes(
-        map: *mut Place,
-        bytes: *const u8,
-        len: usize,
-        values: *const u64,
-        count: usize,
-        offset: *mut usize,
-    ) -> u32;
-    fn patricia_from_wide_tree_bytes(
-        map: *mut Place,
-        bytes: *const u8,
-        len: usize,
-        values: *const u64,
-        count: usize,
-        offset: *mut usize,
-    ) -> u32;
-}
 
 /// In how many bytes a level is encoded.
 #[derive(Clone, Copy)]
@@ -140,8 +56,27 @@ impl fmt::Display for TooDeep {
 
 impl Error for TooDeep {}
 
-fn out_of_memory() -> ! {
+pub(crate) fn out_of_memory() -> ! {
     handle_alloc_error(Layout::new::<u64>())
+}
+
+/// The entry that a function of the library writes to an array.
+fn entry(
+    mut ask: impl FnMut(*mut u8, usize, *mut usize, *mut u64) -> u32,
+) -> Option<(Vec<u8>, u64)> {
+    let mut array = vec![0; 64];
+    loop {
+        let (mut len, mut value) = (0, 0);
+        match ask(array.as_mut_ptr(), array.len(), &mut len, &mut value) {
+            NO_ROOM => array.resize(len, 0),
+            NO_MEMORY => out_of_memory(),
+            FOUND => {
+                array.truncate(len);
+                return Some((array, value));
+            }
+            _ => return None,
+        }
+    }
 }
 
 /// A map from byte strings to numbers.
@@ -264,25 +199,76 @@ impl Tree {
         part
     }
 
-    /// The keys that begin with the prefix, with their numbers, in key order.
-    pub(crate) fn rows(&self, prefix: &[u8]) -> Rows {
-        let mut rows = Rows {
-            place: EMPTY,
-            room: vec![0; 64],
-        };
-        // SAFETY: as in `get`; the place of the iterator is empty.
+    /// The first key, with its number.
+    pub(crate) fn first(&self) -> Option<(Vec<u8>, u64)> {
+        // SAFETY: as in `get`; the array is that of `entry`.
+        entry(|array, size, len, value| unsafe {
+            patricia_first(self.place.get(), array, size, len, value)
+        })
+    }
+
+    /// The last key, with its number.
+    pub(crate) fn last(&self) -> Option<(Vec<u8>, u64)> {
+        // SAFETY: as in `first`.
+        entry(|array, size, len, value| unsafe {
+            patricia_last(self.place.get(), array, size, len, value)
+        })
+    }
+
+    /// The first key that comes after this one, with its number.
+    pub(crate) fn first_after(&self, key: &[u8]) -> Option<(Vec<u8>, u64)> {
+        let place = self.place.get();
+        // SAFETY: as in `first`; the key is a slice.
+        entry(|array, size, len, value| unsafe {
+            patricia_first_after(place, key.as_ptr(), key.len(), array, size, len, value)
+        })
+    }
+
+    /// The last key that comes before this one, with its number.
+    pub(crate) fn last_before(&self, key: &[u8]) -> Option<(Vec<u8>, u64)> {
+        let place = self.place.get();
+        // SAFETY: as in `first_after`.
+        entry(|array, size, len, value| unsafe {
+            patricia_last_before(place, key.as_ptr(), key.len(), array, size, len, value)
+        })
+    }
+
+    /// How many keys begin with the prefix.
+    pub(crate) fn count(&self, prefix: &[u8]) -> usize {
+        let mut count = 0;
+        // SAFETY: as in `get`.
         let done = unsafe {
-            patricia_iterate(
-                self.place.get(),
-                prefix.as_ptr(),
-                prefix.len(),
-                &mut rows.place,
-            )
+            patricia_count_prefix(self.place.get(), prefix.as_ptr(), prefix.len(), &mut count)
         };
         if !done {
             out_of_memory()
         }
-        rows
+        count
+    }
+
+    /// Removes the keys that begin with the prefix, and returns how many they were.
+    pub(crate) fn remove_under(&mut self, prefix: &[u8]) -> usize {
+        let mut count = 0;
+        // SAFETY: as in `get`.
+        let done = unsafe {
+            patricia_remove_prefix(self.place.get(), prefix.as_ptr(), prefix.len(), &mut count)
+        };
+        if !done {
+            out_of_memory()
+        }
+        count
+    }
+
+    /// Copies of the keys that begin with the prefix, with their numbers, in key order.
+    pub(crate) fn rows(&self, prefix: &[u8]) -> Rows {
+        // SAFETY: as in `len`.
+        unsafe { Rows::new(self.place.get(), prefix) }
+    }
+
+    /// Passes the next key that a cursor has ahead in this tree, and returns its number.
+    pub(crate) fn next(&self, cursor: &mut Cursor) -> Option<u64> {
+        // SAFETY: as in `len`.
+        unsafe { cursor.next_in(self.place.get()) }
     }
 
     pub(crate) fn tree_bytes(&self, width: Width) -> Result<Vec<u8>, TooDeep> {
@@ -354,57 +340,5 @@ impl Clone for Tree {
 impl Drop for Tree {
     fn drop(&mut self) {
         self.clear();
-    }
-}
-
-/// An iterator over keys and numbers.
-pub(crate) struct Rows {
-    place: Place,
-    room: Vec<u8>,
-}
-
-// SAFETY: an iterator may go from one thread to another, and has copies of its rows.
-unsafe impl Send for Rows {}
-// SAFETY: by a shared reference to an iterator nothing is called.
-unsafe impl Sync for Rows {}
-
-impl Rows {
-    /// How many rows are left.
-    pub(crate) fn len(&mut self) -> usize {
-        // SAFETY: the place is as the last call left it.
-        unsafe { patricia_iterator_len(&mut self.place) }
-    }
-}
-
-impl Iterator for Rows {
-    type Item = (Vec<u8>, u64);
-
-    fn next(&mut self) -> Option<Self::Item> {
-        loop {
-            let (mut len, mut value) = (0, 0);
-            // SAFETY: the place is as the last call left it; the vector has as many bytes as its
-            // length says; the length and the value are variables of this call.
-            let result = unsafe {
-                patricia_iterator_next(
-                    &mut self.place,
-                    self.room.as_mut_ptr(),
-                    self.room.len(),
-                    &mut len,
-                    &mut value,
-                )
-            };
-            match result {
-                NO_ROOM => self.room.resize(len, 0),
-                FOUND => return Some((self.room[..len].to_vec(), value)),
-                _ => return None,
-            }
-        }
-    }
-}
-
-impl Drop for Rows {
-    fn drop(&mut self) {
-        // SAFETY: the place is as the last call left it.
-        unsafe { patricia_iterator_free(&mut self.place) }
     }
 }

@@ -146,6 +146,54 @@ fn iterators() {
 }
 
 #[test]
+fn cursors() {
+    let map: StringPatriciaMap<u32> = vec![("", 0), ("a", 1), ("ab", 2), ("b", 3)]
+        .into_iter()
+        .collect();
+    let mut cursor = map.cursor();
+    assert_eq!((cursor.key(), cursor.value()), (None, None));
+    assert!(cursor.advance());
+    assert_eq!((cursor.key(), cursor.value()), (Some(""), Some(&0)));
+    assert_eq!(cursor.next_entry(), Some(("a".to_string(), &1)));
+    assert_eq!(cursor.key(), Some("a"));
+    let mut under = map.cursor_under("a");
+    assert!(under.advance() && under.advance());
+    assert_eq!((under.key(), under.value()), (Some("ab"), Some(&2)));
+    assert!(!under.advance() && !under.advance());
+    assert_eq!((under.key(), under.value()), (None, None));
+    let mut from = map.cursor_from("aa");
+    assert_eq!(from.next_entry(), Some(("ab".to_string(), &2)));
+    assert_eq!(from.next_entry(), Some(("b".to_string(), &3)));
+    assert_eq!(from.next_entry(), None);
+    assert_eq!(map.iter_prefix("a").len(), 2);
+    assert_eq!(map.iter_prefix("c").next(), None);
+}
+
+#[test]
+fn ends_and_neighbours() {
+    let long =
+        "a key of more bytes than the room that is tried first has: it is tried again".to_string();
+    let mut map: StringPatriciaMap<u32> = vec![("b", 2), ("c", 3), (long.as_str(), 1)]
+        .into_iter()
+        .collect();
+    assert_eq!(map.first_key_value(), Some((long.clone(), &1)));
+    assert_eq!(map.last_key_value(), Some(("c".to_string(), &3)));
+    assert_eq!(map.first_after("b"), Some(("c".to_string(), &3)));
+    assert_eq!(map.first_after("c"), None);
+    assert_eq!(map.last_before("b"), Some((long.clone(), &1)));
+    assert_eq!(map.last_before(""), None);
+    assert_eq!(map.cursor().next_entry(), Some((long.clone(), &1)));
+    assert_eq!((map.count_prefix("a"), map.count_prefix("")), (1, 3));
+    assert_eq!(map.pop_last(), Some(("c".to_string(), 3)));
+    assert_eq!(map.pop_first(), Some((long, 1)));
+    assert_eq!(map.len(), 1);
+    assert_eq!((map.remove_prefix("c"), map.remove_prefix("b")), (0, 1));
+    assert_eq!((map.pop_first(), map.first_key_value()), (None, None));
+    map.insert("d", 4);
+    assert_eq!(map.pop_last(), Some(("d".to_string(), 4)));
+}
+
+#[test]
 fn traits() {
     let mut map: PatriciaMap<u32> = PatriciaMap::default();
     map.extend(vec![("b", 2), ("a", 1)]);
@@ -173,6 +221,11 @@ fn values_are_dropped_once() {
     let part = map.split_by_prefix([2]);
     assert_eq!(Rc::strong_count(&value), 100);
     drop(part);
+    assert_eq!(Rc::strong_count(&value), 99);
+    assert_eq!(map.remove_prefix([3]), 1);
+    map.insert([3, 3], value.clone());
+    assert!(map.pop_first().is_some());
+    map.insert([0, 0], value.clone());
     assert_eq!(Rc::strong_count(&value), 99);
     let copy = map.clone();
     assert_eq!(Rc::strong_count(&value), 197);
@@ -254,6 +307,20 @@ fn random_calls() {
                     rows,
                     wanted.map(|(k, v)| (k.clone(), *v)).collect::<Vec<_>>()
                 );
+                let mut cursor = map.cursor_from(key);
+                for (k, v) in model.range(key.clone()..) {
+                    assert!(cursor.advance());
+                    assert_eq!((cursor.key(), cursor.value()), (Some(k.as_str()), Some(v)));
+                }
+                assert!(!cursor.advance());
+                let owned = |e: (&String, &u32)| (e.0.clone(), *e.1);
+                let found = |e: (String, &u32)| (e.0, *e.1);
+                let wanted = model.iter().find(|e| e.0 > key).map(owned);
+                assert_eq!(map.first_after(key).map(found), wanted);
+                let wanted = model.range(..key.clone()).next_back().map(owned);
+                assert_eq!(map.last_before(key).map(found), wanted);
+                let wanted = model.iter().filter(|e| e.0.starts_with(key.as_str()));
+                assert_eq!(map.count_prefix(key), wanted.count());
                 let along: Vec<_> = map.common_prefixes(key).map(|e| (e.0, *e.1)).collect();
                 let wanted = model.iter().filter(|e| key.starts_with(e.0.as_str()));
                 assert_eq!(

@@ -38,6 +38,22 @@ fn texts() {
 }
 
 #[test]
+fn ends_and_neighbours() {
+    let mut set: StringPatriciaSet = ["a", "ab", "b"].iter().collect();
+    assert_eq!(set.first().as_deref(), Some("a"));
+    assert_eq!(set.last().as_deref(), Some("b"));
+    assert_eq!(set.first_after("a").as_deref(), Some("ab"));
+    assert_eq!(set.last_before("ab").as_deref(), Some("a"));
+    assert_eq!(
+        (set.count_prefix("a"), set.iter().size_hint()),
+        (2, (3, Some(3)))
+    );
+    assert_eq!(set.pop_last().as_deref(), Some("b"));
+    assert_eq!(set.pop_first().as_deref(), Some("a"));
+    assert_eq!((set.remove_prefix("a"), set.len()), (1, 0));
+}
+
+#[test]
 fn tree_bytes() {
     let set: PatriciaSet = ["", "a", "ab"].iter().collect();
     let bytes = set.tree_bytes().unwrap();

@@ -1,6 +1,8 @@
 mod CodeLemmas
+mod CursorLemmas
 mod EmptyLemmas
 mod MapBox
+mod PositionBox
 mod RawBoxValues
 mod RowLemmas
 mod RowsBox

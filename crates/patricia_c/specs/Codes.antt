@@ -1,6 +1,5 @@
 -- How a fault of tree bytes is returned to C: a code, and the offset of what is at fault.
 use Rattle.std.specs.Prelude.{◌≡◌, ℕ, List, length}
-use Rattle.patricia_tree.specs.ByteKind.{IsByteItem}
 use Rattle.patricia_tree.specs.Faults.{IsRefusal}
 use Rattle.patricia_tree.specs.TreeBytes.{AreTreeBytes}
 use Rattle.patricia_wire.specs.declared.error.DecodeError.{DecodeError}
@@ -27,15 +26,17 @@ IsCode (TooFewValues n) code at = (code ≡ 20) × (at ≡ n)
 IsCode (TrailingBytes n) code at = (code ≡ 21) × (at ≡ n)
 IsCode TooManyValues code at = (code ≡ 22) × (at ≡ 0)
 
--- the code and the offset are those of an error with which these bytes and so many values are
--- refused: the first fault that stands in them, or out of memory
-pub record IsRefused (w : ℕ) (bytes : List ℕ) (n code at : ℕ) : Type 0 where
-  pub error : DecodeError
-  pub is_code : IsCode error code at
-  pub refuses : IsRefusal IsByteItem w bytes n error
+-- whatever the items of keys are
+module _ (item : List ℕ → Type 0) where
+  -- the code and the offset are those of an error with which these bytes and so many values are
+  -- refused: the first fault that stands in them, or out of memory
+  pub record IsRefused (w : ℕ) (bytes : List ℕ) (n code at : ℕ) : Type 0 where
+    pub error : DecodeError
+    pub is_code : IsCode error code at
+    pub refuses : IsRefusal item w bytes n error
 
--- the tree bytes of the rows are n bytes
-pub record IsLen {V : Type 0} (w n : ℕ) (rows : List (List ℕ × V)) : Type 0 where
-  pub bytes : List ℕ
-  pub are : AreTreeBytes IsByteItem w bytes rows
-  pub len : n ≡ length bytes
+  -- the tree bytes of the rows are n bytes
+  pub record IsLen {V : Type 0} (w n : ℕ) (rows : List (List ℕ × V)) : Type 0 where
+    pub bytes : List ℕ
+    pub are : AreTreeBytes item w bytes rows
+    pub len : n ≡ length bytes

@@ -1,4 +1,5 @@
 pub mod Codes
+pub mod Cursors
 pub mod Internal
 pub mod Maps
 pub mod Rows

@@ -12,16 +12,16 @@ use patricia_tree::{DecodeError, PatriciaMap, WireError};
 use std::alloc::Global;
 
 /// The bytes were written, or the map was made.
-const DONE: u32 = 0;
+pub(crate) const DONE: u32 = 0;
 /// Out of memory.
-const NO_MEMORY: u32 = 2;
+pub(crate) const NO_MEMORY: u32 = 2;
 /// A record would lie too deep.
-const TOO_DEEP: u32 = 3;
+pub(crate) const TOO_DEEP: u32 = 3;
 /// The room is too small: nothing was written to it.
-const NO_ROOM: u32 = 4;
+pub(crate) const NO_ROOM: u32 = 4;
 
 // Copies the bytes to the front of the room, where there is enough of it.
-fn copy_to(room: &mut [u8], bytes: &[u8]) -> bool
+pub(crate) fn copy_to(room: &mut [u8], bytes: &[u8]) -> bool
     ensures fits { result ≡ true → take (length bytes.now) room.new ≡ bytes.now }
     ensures small { result ≡ false → length room.old < length bytes.now }
     ensures unwritten { result ≡ false → room.new ≡ room.old }
@@ -34,7 +34,7 @@ fn copy_to(room: &mut [u8], bytes: &[u8]) -> bool
 }
 
 // The code of an error, with the offset that it names.
-fn code(error: DecodeError, offset: &mut usize) -> u32
+pub(crate) fn code(error: DecodeError, offset: &mut usize) -> u32
     ensures code { IsCode error result offset.new }
     ensures some { result ≢ 0 }
 {
@@ -71,7 +71,8 @@ pub extern "C" fn patricia_tree_bytes(
         (map.entries (map_of at.old.pointer.stored)) }
     ensures too_deep { result ≡ 3 →
         TooDeep IsByteItem 2 (map.keys (map_of at.old.pointer.stored)) }
-    ensures len { result ≡ 4 → IsLen 2 len.new (map.entries (map_of at.old.pointer.stored)) }
+    ensures len { result ≡ 4 →
+        IsLen IsByteItem 2 len.new (map.entries (map_of at.old.pointer.stored)) }
     ensures small { result ≡ 4 → length room.old < len.new }
     ensures unwritten { result ≢ 0 → room.new ≡ room.old }
     ensures codes { result ≤ 4 }
@@ -110,7 +111,8 @@ pub extern "C" fn patricia_wide_tree_bytes(
         (map.entries (map_of at.old.pointer.stored)) }
     ensures too_deep { result ≡ 3 →
         TooDeep IsByteItem 4 (map.keys (map_of at.old.pointer.stored)) }
-    ensures len { result ≡ 4 → IsLen 4 len.new (map.entries (map_of at.old.pointer.stored)) }
+    ensures len { result ≡ 4 →
+        IsLen IsByteItem 4 len.new (map.entries (map_of at.old.pointer.stored)) }
     ensures small { result ≡ 4 → length room.old < len.new }
     ensures unwritten { result ≢ 0 → room.new ≡ room.old }
     ensures codes { result ≤ 4 }
@@ -150,7 +152,7 @@ pub extern "C" fn patricia_from_tree_bytes(
         (map.entries (map_of at.new.pointer.stored)) }
     ensures empty { result ≢ 0 → map_of at.new.pointer.stored ≡ map.empty }
     ensures refused { result ≢ 0 →
-        IsRefused 2 bytes.now (length values.now) result offset.new }
+        IsRefused IsByteItem 2 bytes.now (length values.now) result offset.new }
     ensures unwritten { result ≡ 0 → offset.new ≡ offset.old }
 {
     drop(at.take());
@@ -183,7 +185,7 @@ pub extern "C" fn patricia_from_wide_tree_bytes(
         (map.entries (map_of at.new.pointer.stored)) }
     ensures empty { result ≢ 0 → map_of at.new.pointer.stored ≡ map.empty }
     ensures refused { result ≢ 0 →
-        IsRefused 4 bytes.now (length values.now) result offset.new }
+        IsRefused IsByteItem 4 bytes.now (length values.now) result offset.new }
     ensures unwritten { result ≡ 0 → offset.new ≡ offset.old }
 {
     drop(at.take());

@@ -76,7 +76,7 @@ fn last_of(stored: &StoredMap) -> Result<Option<(Vec<u8>, u64)>, AllocError>
 }
 
 // A copy of the first entry whose key comes after this one.
-fn next_of(stored: &StoredMap, key: &[u8]) -> Result<Option<(Vec<u8>, u64)>, AllocError>
+pub(crate) fn next_of(stored: &StoredMap, key: &[u8]) -> Result<Option<(Vec<u8>, u64)>, AllocError>
     ensures { IfOk result (λ entry. option_map (λ e. (e.0.items, e.1)) entry
         ≡ slice_get (after (Some key.now) (map.entries stored.now.map)) 0) }
 {

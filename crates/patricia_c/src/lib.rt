@@ -2,9 +2,12 @@
 //!
 //! `bindings/c/patricia.h` declares what is exported here. Each call takes a place of C, which is
 //! all zero or as a call left it, and its contract says what the place holds before and after: a
-//! finite map, or the rows that an iterator has left.
+//! finite map, the rows that an iterator has left, or where a cursor stands.
 #![tactic(auto)]
 
+mod cursor_place;
+mod cursor_pointer;
+mod cursors;
 mod encodings;
 mod ends;
 mod iteration;

@@ -1,0 +1,192 @@
+-- What a cursor has ahead, over rows in key order.
+use Rattle.std.proofs.Common.{◌≡◌, ◌≤◌, ℕ, Bool, true, false, T, not, cond, inl, inr, List, [], ◌∷◌, ◌++◌}
+use Rattle.std.proofs.Common.{Option, None, Some, length, take, drop, slice_get, refl, sym, ap, subst, ◌∙◌, arith}
+use Rattle.std.specs.Ordering.{is_lt, ordering_reverse}
+use Rattle.std.specs.declared.cmp.Ordering.{Ordering}
+use Rattle.std.specs.declared.cmp.Ordering.TheVariants.{Less, Equal, Greater}
+use Rattle.std.specs.FinMap as map
+use Rattle.std.specs.FinMap.{is_sorted, len-entries}
+use Rattle.std.specs.Prelude.{IsTrue}
+use Rattle.std.specs.FinMap.Entries.{below_all, is_sorted-where_key}
+use Rattle.std.specs.Cmp.Lexicographic.{nat_list_cmp_total}
+use Rattle.std.proofs.lemmas.List.{append-nil, nil_from_length, take_all, take-append-drop, take-append-le}
+use Rattle.patricia_keys.specs.Keys.{Begins, key_cmp}
+use Rattle.patricia_keys.proofs.KeyLemmas.{Begins-trans, key_cmp-irreflexive}
+use Rattle.patricia_tree.specs.Cursors.{after}
+use Rattle.patricia_tree.specs.Prefixes.{begins, under}
+use Rattle.patricia_tree.specs.Ranges.{from}
+use Rattle.patricia_model.proofs.FilterLemmas.{has_filter}
+use Rattle.patricia_model.proofs.ListLemmas.{key_cmp-equal, key_cmp-extends}
+use Rattle.patricia_model.proofs.PrefixLemmas.{begins_from, begins_is, not_above, under_none, under_empty}
+use Rattle.patricia_model.proofs.RangeLemmas.{IsFrom, from_below, from_sorted_rows, from_start, is_less}
+use Rattle.patricia_model.proofs.RowLemmas.{AllKeys}
+use Rattle.patricia_model.proofs.TestLemmas.{first_part, second_part, less_so}
+use Rattle.patricia_c.specs.Cursors.{ahead_of, beyond}
+use Rattle.patricia_c.specs.declared.cursor_pointer.Position.{Position}
+
+-- where one key is greater, the other one is less
+greater_turned : (a b : List ℕ) → key_cmp a b ≡ Greater → key_cmp b a ≡ Less
+greater_turned a b e = nat_list_cmp_total.antisymm b a ∙ ap ordering_reverse e
+
+-- what is behind a key with a front, and before another one with it, has that front, too
+between : (p r t e : List ℕ) → key_cmp (p ++ r) e ≡ Less → key_cmp e (p ++ t) ≡ Less → Begins p e
+between p r t e above less = by (key_cmp p e) refl
+  where
+    by : (o : Ordering) → key_cmp p e ≡ o → Begins p e
+    by Less f = elim (key_cmp-extends p e t [] f) [
+      | inl past ↦
+          let past' : key_cmp (p ++ t) e ≡ Less = rw append-nil at past in
+          absurd (key_cmp-irreflexive e e refl (nat_list_cmp_total.trans e (p ++ t) e less past'))
+      | inr begun ↦ begun
+    ]
+    by Equal f = ([], append-nil p ∙ key_cmp-equal p e f)
+    by Greater f = elim (key_cmp-extends e p [] r (greater_turned p e f)) [
+      | inl past ↦
+          let past' : key_cmp e (p ++ r) ≡ Less = rw append-nil at past in
+          absurd (key_cmp-irreflexive e e refl (nat_list_cmp_total.trans e (p ++ r) e past' above))
+      | inr begun ↦ absurd (not_above (p ++ r) e (Begins-trans e p (p ++ r) begun (r, refl)) above)
+    ]
+
+-- the same where the key with the front may be that one
+from_between : (p r t e : List ℕ) → IsFrom (p ++ r) e → key_cmp e (p ++ t) ≡ Less → Begins p e
+from_between p r t e is less = by (key_cmp e (p ++ r)) refl
+  where
+    by : (o : Ordering) → key_cmp e (p ++ r) ≡ o → Begins p e
+    by Less f = absurd (let no = rw f at is in cc)
+    by Equal f = (r, sym (key_cmp-equal e (p ++ r) f))
+    by Greater f = between p r t e (greater_turned e (p ++ r) f) less
+
+-- so many bytes of a key that a list begins are that list
+pub same_prefix : (p next : List ℕ) → begins p next ≡ true → take (length p) next ≡ p
+same_prefix p next is =
+    let begun = begins_is p next is in
+    ap (take (length p)) (sym begun.1) ∙ take-append-le (length p) p begun.0 (omega arith) ∙ take_all (length p) p (omega arith)
+
+module _ {V : Type 0} where
+  -- in order, from a key with a prefix on: where the first row is not under the prefix, none is
+  none_under : (p r : List ℕ) (e : List ℕ × V) (es : List (List ℕ × V))
+      → T (is_sorted key_cmp (e ∷ es)) → IsFrom (p ++ r) e.0 → begins p e.0 ≡ false
+      → under p (e ∷ es) ≡ []
+  none_under p r e es sorted is other =
+      under_none p (e ∷ es) (lacks, rest es (first_part _ _ sorted))
+    where
+      lacks : Begins p e.0 → ⊥
+      lacks b = let yes = begins_from p e.0 b in let no = rw other at yes in cc
+
+      rest : (fs : List (List ℕ × V)) → T (below_all key_cmp e.0 fs)
+          → AllKeys (λ k. Begins p k → ⊥) fs
+      rest [] h = tt
+      rest (f ∷ fs) h =
+          let less = less_so (key_cmp e.0 f.0) (first_part _ _ h) in
+          (λ b. lacks (from_between p r b.0 e.0 is (subst (λ k. key_cmp e.0 k ≡ Less) (sym b.1) less)), rest fs (second_part _ _ h))
+
+  -- a row that is first under a prefix begins with it
+  pub first_begins : (p : List ℕ) (rows : List (List ℕ × V)) (e : List ℕ × V)
+      → slice_get (under p rows) 0 ≡ Some e → begins p e.0 ≡ true
+  first_begins p rows e first = by (under p rows) refl first
+    where
+      by : (us : List (List ℕ × V)) → under p rows ≡ us → slice_get us 0 ≡ Some e
+          → begins p e.0 ≡ true
+      by [] is some = absurd (cc)
+      by (u ∷ us) is some =
+          let same : u ≡ e = cc in
+          (has_filter (λ x. begins p x.0) rows e (rw is (inl same))).1
+
+  -- all rows under a prefix are from it on
+  under_from : (p : List ℕ) (rows : List (List ℕ × V)) → under p (from p rows) ≡ under p rows
+  under_from p [] = refl
+  under_from p (e ∷ es) = by (is_lt (key_cmp e.0 p)) (begins p e.0) refl refl (under_from p es)
+    where
+      by : (b c : Bool) → is_lt (key_cmp e.0 p) ≡ b → begins p e.0 ≡ c
+          → under p (from p es) ≡ under p es
+          → under p (cond (not b) (e ∷ from p es) (from p es)) ≡ cond c (e ∷ under p es) (under p es)
+      by true true f h same = absurd (not_above e.0 p (begins_is p e.0 h) (is_less (key_cmp e.0 p) f))
+      by true false f h same = same
+      by false true f h same = rw (h, same) refl
+      by false false f h same = rw (h, same) refl
+
+  -- so a key that is whole in the prefix bounds nothing
+  pub under_whole : (n : ℕ) (key : List ℕ) → length key ≤ n → (rows : List (List ℕ × V))
+      → under (take n key) (from key rows) ≡ under key rows
+  under_whole n key long rows = ap (λ p. under p (from key rows)) (take_all n key long) ∙ under_from key rows
+
+  -- from the empty key on, under no prefix
+  pub under_start : (rows : List (List ℕ × V)) → under [] (from [] rows) ≡ rows
+  under_start rows = under_empty (from [] rows) ∙ from_start rows
+
+-- the rows from a place on are in order
+beyond_sorted : (passed : Bool) (key : List ℕ) (es : List (List ℕ × ℕ)) → T (is_sorted key_cmp es)
+    → T (is_sorted key_cmp (beyond passed key es))
+beyond_sorted true key es sorted = is_sorted-where_key key_cmp (λ q. is_lt (key_cmp key q)) es sorted
+beyond_sorted false key es sorted = from_sorted_rows key es sorted
+
+-- and the first of them is not before the key
+beyond_from : (passed : Bool) (key : List ℕ) (es : List (List ℕ × ℕ)) (e : List ℕ × ℕ)
+    (rest : List (List ℕ × ℕ)) → beyond passed key es ≡ e ∷ rest → IsFrom key e.0
+beyond_from true key es e rest is =
+    from_below key e.0 (is_less _ (has_filter (λ x. is_lt (key_cmp key x.0)) es e (rw is (inl refl))).1)
+beyond_from false key es e rest is =
+    by (is_lt (key_cmp e.0 key)) refl (has_filter (λ x. not (is_lt (key_cmp x.0 key))) es e (rw is (inl refl))).1
+  where
+    by : (b : Bool) → is_lt (key_cmp e.0 key) ≡ b → not (is_lt (key_cmp e.0 key)) ≡ true → IsFrom key e.0
+    by true f h = absurd (let no = rw f at h in cc)
+    by false f h = f
+
+module _ (passed : Bool) (n : ℕ) (key : List ℕ) (es : List (List ℕ × ℕ)) (sorted : T (is_sorted key_cmp es)) where
+  -- where no row is beyond the place, none is under the prefix
+  pub ahead_none : None ≡ slice_get (beyond passed key es) 0
+      → None ≡ slice_get (under (take n key) (beyond passed key es)) 0
+  ahead_none none = by (beyond passed key es) none
+    where
+      by : (rows : List (List ℕ × ℕ)) → None ≡ slice_get rows 0
+          → None ≡ slice_get (under (take n key) rows) 0
+      by [] none = refl
+      by (e ∷ rows) none = absurd (cc)
+
+  -- the first of them is the first under the prefix, where it is under it
+  pub ahead_some : (e : List ℕ × ℕ) → Some e ≡ slice_get (beyond passed key es) 0
+      → begins (take n key) e.0 ≡ true
+      → Some e ≡ slice_get (under (take n key) (beyond passed key es)) 0
+  ahead_some e some is = by (beyond passed key es) some
+    where
+      by : (rows : List (List ℕ × ℕ)) → Some e ≡ slice_get rows 0
+          → Some e ≡ slice_get (under (take n key) rows) 0
+      by [] some = absurd (cc)
+      by (x ∷ rows) some = let same : e ≡ x = cc in rw (← same, is) refl
+
+  -- and else none is
+  pub ahead_other : (e : List ℕ × ℕ) → Some e ≡ slice_get (beyond passed key es) 0
+      → begins (take n key) e.0 ≡ false
+      → None ≡ slice_get (under (take n key) (beyond passed key es)) 0
+  ahead_other e some other = by (beyond passed key es) refl some
+    where
+      by : (rows : List (List ℕ × ℕ)) → beyond passed key es ≡ rows → Some e ≡ slice_get rows 0
+          → None ≡ slice_get (under (take n key) rows) 0
+      by [] is some = absurd (cc)
+      by (x ∷ rows) is some =
+          let same : e ≡ x = cc in
+          let whole = take-append-drop n key in
+          let bound = subst (λ k. IsFrom k x.0) (sym whole) (beyond_from passed key es x rows is) in
+          let order = subst (λ l. T (is_sorted key_cmp l)) is (beyond_sorted passed key es sorted) in
+          let none = none_under (take n key) (drop n key) x rows order bound (rw (← same) other) in
+          rw none refl
+
+-- nothing of no rows is ahead
+pub ahead_empty : (o : Option Position) (rows : List (List ℕ × ℕ)) → rows ≡ []
+    → slice_get (ahead_of o rows) 0 ≡ None
+ahead_empty o rows none = subst (λ (l : List (List ℕ × ℕ)). slice_get (ahead_of o l) 0 ≡ None) (sym none) (by o)
+  where
+    by : (o : Option Position) → slice_get (ahead_of o []) 0 ≡ None
+    by None = refl
+    by (Some p) = ap (λ (l : List (List ℕ × ℕ)). slice_get (under (take p.common p.key.items) l) 0) (past p.passed p.key.items)
+      where
+        past : (passed : Bool) (key : List ℕ) → beyond passed key [] ≡ []
+        past true key = refl
+        past false key = refl
+
+-- a map of no length has no row, and one that has no row has no length
+pub emptied : (m : map.FinMap key_cmp ℕ) → map.len m ≡ 0 → map.entries m ≡ []
+emptied m none = nil_from_length (map.entries m) (sym (len-entries m) ∙ none)
+
+pub filled : (m : map.FinMap key_cmp ℕ) → (map.len m ≡ 0 → IsTrue false) → map.entries m ≡ [] → ⊥
+filled m some none = let no = some (len-entries m ∙ ap length none) in cc

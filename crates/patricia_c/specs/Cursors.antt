@@ -1,0 +1,23 @@
+-- The entries that a cursor in a place of C has ahead.
+use Rattle.std.specs.Prelude.{ℕ, Bool, true, false, List, [], take, Option, None, Some}
+use Rattle.patricia_tree.specs.Cursors.{after}
+use Rattle.patricia_tree.specs.Prefixes.{under}
+use Rattle.patricia_tree.specs.Ranges.{from}
+use Rattle.patricia_c.specs.declared.cursor_pointer.Position.{Position}
+
+-- the bytes that the keys of its entries begin with
+abbrev pub prefix_of : Option Position → List ℕ
+prefix_of None = []
+prefix_of (Some position) = take position.common position.key.items
+
+-- the rows that come after a key that was passed, and else those from it on
+abbrev pub beyond : Bool → List ℕ → List (List ℕ × ℕ) → List (List ℕ × ℕ)
+beyond true key rows = after (Some key) rows
+beyond false key rows = from key rows
+
+-- those of the rows that it has ahead; with nothing on the heap it has all of them ahead
+abbrev pub ahead_of : Option Position → List (List ℕ × ℕ) → List (List ℕ × ℕ)
+ahead_of None rows = rows
+ahead_of (Some position) rows =
+    under (take position.common position.key.items)
+    (beyond position.passed position.key.items rows)

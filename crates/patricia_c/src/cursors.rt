@@ -1,0 +1,231 @@
+//! Cursors. A cursor has the last key alone, and asks the map for the next entry at each step, so
+//! the map may change in between.
+ghost use Rattle.std.specs.Prelude.{◌≡◌, ◌≢◌, ◌≤◌, ◌<◌, ℕ, List, [], length, take, slice_get};
+ghost use Rattle.std.specs.Prelude.{Some, None, true, false, IfOk};
+ghost use Rattle.std.specs.Option.{option_map};
+ghost use Rattle.std.specs.FinMap as map;
+ghost use Rattle.patricia_tree.specs.Cursors.{after};
+ghost use Rattle.patricia_tree.specs.Prefixes.{begins, under};
+ghost use Rattle.patricia_tree.specs.Ranges.{from};
+ghost use Rattle.patricia_c.specs.Cursors.{ahead_of, beyond, prefix_of};
+ghost use Rattle.patricia_c.specs.Maps.{map_of};
+
+use crate::cursor_place::CursorPlace;
+use crate::cursor_pointer::Position;
+use crate::ends::next_of;
+use crate::map_place::MapPlace;
+use crate::map_pointer::StoredMap;
+use std::alloc::{AllocError, Global};
+
+/// No entry is ahead.
+const END: u32 = 0;
+/// An entry was written.
+const ENTRY: u32 = 1;
+/// Out of memory.
+const NO_MEMORY: u32 = 2;
+/// The room is too small: only the length of the key was written.
+const NO_ROOM: u32 = 4;
+
+impl Position {
+    // The bytes that the keys of its entries begin with.
+    fn prefix(&self) -> &[u8]
+        ensures { result.now ≡ prefix_of (Some self.now) }
+    {
+        if self.common < self.key.len() {
+            &self.key[..self.common]
+        } else {
+            self.key.as_slice()
+        }
+    }
+
+    // Passes a key that has the prefix.
+    fn pass(&mut self, key: Vec<u8>)
+        requires { begins (prefix_of (Some self.old)) key.items ≡ true }
+        ensures ahead { (rows : List (List ℕ × ℕ)) → ahead_of (Some self.new) rows
+            ≡ under (prefix_of (Some self.old)) (after (Some key.items) rows) }
+        ensures prefix { prefix_of (Some self.new) ≡ prefix_of (Some self.old) }
+    {
+        self.common = self.prefix().len();
+        self.key = key;
+        self.passed = true;
+    }
+}
+
+// A copy of the first entry after a key that was passed, and else of the first from it on.
+fn first_beyond(
+    stored: &StoredMap,
+    key: &[u8],
+    passed: bool,
+) -> Result<Option<(Vec<u8>, u64)>, AllocError>
+    ensures { IfOk result (λ entry. option_map (λ e. (e.0.items, e.1)) entry
+        ≡ slice_get (beyond passed key.now (map.entries stored.now.map)) 0) }
+{
+    if passed {
+        return next_of(stored, key);
+    }
+    let mut cursor = stored.map.cursor_from(key);
+    match cursor.next_entry()? {
+        Some((first, value)) => Ok(Some((first, *value))),
+        None => Ok(None),
+    }
+}
+
+// A copy of the first entry that a cursor has ahead.
+fn first_ahead(
+    stored: &StoredMap,
+    position: &Position,
+) -> Result<Option<(Vec<u8>, u64)>, AllocError>
+    ensures { IfOk result (λ entry. option_map (λ e. (e.0.items, e.1)) entry
+        ≡ slice_get (ahead_of (Some position.now) (map.entries stored.now.map)) 0) }
+{
+    let key = position.key.as_slice();
+    let Some((next, value)) = first_beyond(stored, key, position.passed)? else {
+        return Ok(None);
+    };
+    if next.as_slice().starts_with(position.prefix()) {
+        Ok(Some((next, value)))
+    } else {
+        Ok(None)
+    }
+}
+
+/// Sets the cursor before the first entry whose key is this one or comes after it, among those
+/// whose key begins with the first `common` bytes of this key; where it is shorter, with the key.
+/// Returns false where memory ran out: the cursor stands where it stood.
+#[unsafe(no_mangle)]
+pub extern "C" fn patricia_cursor_seek(
+    alloc: Global,
+    cursor: &mut CursorPlace,
+    key: &[u8],
+    common: usize,
+) -> bool
+    ensures ahead { result ≡ true → (rows : List (List ℕ × ℕ)) →
+        ahead_of cursor.new.pointer.stored rows ≡ under (take common key.now) (from key.now rows) }
+    ensures all { result ≡ true → length key.now ≤ common → (rows : List (List ℕ × ℕ)) →
+        ahead_of cursor.new.pointer.stored rows ≡ under key.now rows }
+    ensures prefix { result ≡ true → prefix_of cursor.new.pointer.stored ≡ take common key.now }
+    ensures refused { result ≡ false → cursor.new.pointer.stored ≡ cursor.old.pointer.stored }
+{
+    let Ok(key) = Vec::from_slice(alloc, key) else {
+        return false;
+    };
+    let position = Position {
+        key,
+        common,
+        passed: false,
+    };
+    match Box::new(alloc, position) {
+        Ok(stored) => {
+            cursor.put(stored);
+            true
+        }
+        Err(_) => false,
+    }
+}
+
+// Writes the first entry that a cursor has ahead, where the room is as long as its key, and passes
+// it.
+fn step(
+    stored: &StoredMap,
+    position: &mut Position,
+    room: &mut [u8],
+    len: &mut usize,
+    value: &mut u64,
+) -> u32
+    ensures end { result ≡ 0 →
+        slice_get (ahead_of (Some position.old) (map.entries stored.now.map)) 0 ≡ None }
+    ensures entry { result ≡ 1 →
+        slice_get (ahead_of (Some position.old) (map.entries stored.now.map)) 0
+        ≡ Some (take len.new room.new, value.new) }
+    ensures passed { result ≡ 1 → (rows : List (List ℕ × ℕ)) → ahead_of (Some position.new) rows
+        ≡ under (prefix_of (Some position.old)) (after (Some (take len.new room.new)) rows) }
+    ensures prefix { prefix_of (Some position.new) ≡ prefix_of (Some position.old) }
+    ensures longer { result ≡ 4 → option_map (λ e. length e.0)
+        (slice_get (ahead_of (Some position.old) (map.entries stored.now.map)) 0) ≡ Some len.new }
+    ensures small { result ≡ 4 → length room.old < len.new }
+    ensures stays { result ≢ 1 → position.new ≡ position.old }
+    ensures room_unwritten { result ≢ 1 → room.new ≡ room.old }
+    ensures value_unwritten { result ≢ 1 → value.new ≡ value.old }
+    ensures end_len { result ≡ 0 → len.new ≡ len.old }
+    ensures refused_len { result ≡ 2 → len.new ≡ len.old }
+    ensures codes { result ≤ 4 }
+    ensures not_three { result ≢ 3 }
+{
+    let Ok(first) = first_ahead(stored, position) else {
+        return NO_MEMORY;
+    };
+    let Some((key, there)) = first else {
+        return END;
+    };
+    *len = key.len();
+    if room.len() < key.len() {
+        return NO_ROOM;
+    }
+    room[..key.len()].copy_from_slice(key.as_slice());
+    *value = there;
+    position.pass(key);
+    ENTRY
+}
+
+/// Asks the map for the first entry that the cursor has ahead, and passes it. Returns `ENTRY`, and
+/// writes its key to the room, the length of the key to `len` and the value to `value`; `NO_ROOM`
+/// where the key is longer than the room, and writes its length to `len`; `END` where no entry is
+/// ahead; `NO_MEMORY` where memory ran out. But with `ENTRY` the cursor stands where it stood.
+#[unsafe(no_mangle)]
+pub extern "C" fn patricia_cursor_next(
+    alloc: Global,
+    cursor: &mut CursorPlace,
+    at: &mut MapPlace,
+    room: &mut [u8],
+    len: &mut usize,
+    value: &mut u64,
+) -> u32
+    ensures kept { map_of at.new.pointer.stored ≡ map_of at.old.pointer.stored }
+    ensures end { result ≡ 0 → slice_get (ahead_of cursor.old.pointer.stored
+        (map.entries (map_of at.old.pointer.stored))) 0 ≡ None }
+    ensures entry { result ≡ 1 → slice_get (ahead_of cursor.old.pointer.stored
+        (map.entries (map_of at.old.pointer.stored))) 0 ≡ Some (take len.new room.new, value.new) }
+    ensures passed { result ≡ 1 → (rows : List (List ℕ × ℕ)) →
+        ahead_of cursor.new.pointer.stored rows
+        ≡ under (prefix_of cursor.old.pointer.stored) (after (Some (take len.new room.new)) rows) }
+    ensures prefix { prefix_of cursor.new.pointer.stored ≡ prefix_of cursor.old.pointer.stored }
+    ensures longer { result ≡ 4 → option_map (λ e. length e.0)
+        (slice_get (ahead_of cursor.old.pointer.stored
+        (map.entries (map_of at.old.pointer.stored))) 0) ≡ Some len.new }
+    ensures small { result ≡ 4 → length room.old < len.new }
+    ensures stays { result ≢ 1 → (rows : List (List ℕ × ℕ)) →
+        ahead_of cursor.new.pointer.stored rows ≡ ahead_of cursor.old.pointer.stored rows }
+    ensures room_unwritten { result ≢ 1 → room.new ≡ room.old }
+    ensures value_unwritten { result ≢ 1 → value.new ≡ value.old }
+    ensures end_len { result ≡ 0 → len.new ≡ len.old }
+    ensures refused_len { result ≡ 2 → len.new ≡ len.old }
+    ensures refused { result ≡ 2 → map.entries (map_of at.old.pointer.stored) ≢ [] }
+    ensures codes { result ≤ 4 }
+    ensures not_three { result ≢ 3 }
+{
+    let Some(stored) = at.take() else {
+        return END;
+    };
+    if stored.map.is_empty() {
+        at.put(stored);
+        return END;
+    }
+    let Ok(mut position) = cursor.take_or_make(alloc) else {
+        at.put(stored);
+        return NO_MEMORY;
+    };
+    let result = step(&stored, &mut position, room, len, value);
+    at.put(stored);
+    cursor.put(position);
+    result
+}
+
+/// Frees the memory of the cursor, which is then before the first entry of all.
+#[unsafe(no_mangle)]
+pub extern "C" fn patricia_cursor_free(cursor: &mut CursorPlace)
+    ensures ahead { (rows : List (List ℕ × ℕ)) → ahead_of cursor.new.pointer.stored rows ≡ rows }
+    ensures prefix { prefix_of cursor.new.pointer.stored ≡ [] }
+{
+    let position = cursor.take();
+    drop(position);
+}
