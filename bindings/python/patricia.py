@@ -19,7 +19,8 @@ The shared library is looked for at the path in the environment's PATRICIA_LIBRA
 two are in the library at once; an interpreter without that lock is refused. Beyond that, threads that share a map or a
 set need a lock, as for any class written in Python.
 
-An iterator raises `RuntimeError` where keys were added or removed since it was made, as that of a `dict` does.
+An iterator has the last key alone, and takes a look-up for each entry. It gives the value that a key has when it comes
+to it. Where keys were added or removed since it was made it raises `RuntimeError`, as that of a `dict` does.
 """
 import ctypes
 import ctypes.util
@@ -88,9 +89,9 @@ def _load():
             ('last', ctypes.c_uint32, place, *room, number),
             ('first_after', ctypes.c_uint32, place, *key, *room, number),
             ('last_before', ctypes.c_uint32, place, *key, *room, number),
-            ('iterate', ctypes.c_bool, place, *key, place),
-            ('iterator_next', ctypes.c_uint32, place, *room, number),
-            ('iterator_free', None, place),
+            ('cursor_seek', ctypes.c_bool, place, *key, size),
+            ('cursor_next', ctypes.c_uint32, place, place, *room, number),
+            ('cursor_free', None, place),
             ('tree_bytes', ctypes.c_uint32, place, *room),
             ('wide_tree_bytes', ctypes.c_uint32, place, *room),
             ('from_tree_bytes', ctypes.c_uint32, place, *key, ctypes.c_void_p, size, length),
@@ -113,12 +114,12 @@ class _Place(ctypes.Structure):
         free(address(self))
 
 
-class _IteratorPlace(ctypes.Structure):
-    """The two words of an iterator."""
+class _CursorPlace(ctypes.Structure):
+    """The two words of a cursor."""
 
     _fields_ = [('full', ctypes.c_bool), ('at', ctypes.c_void_p)]
 
-    def __del__(self, free=_library.patricia_iterator_free, address=ctypes.addressof):
+    def __del__(self, free=_library.patricia_cursor_free, address=ctypes.addressof):
         free(address(self))
 
 
@@ -234,21 +235,23 @@ class _Tree:
         return rows[::-1]
 
     def rows(self, prefix=b''):
-        """An iterator over the keys that begin with the prefix, with their numbers."""
-        place = _IteratorPlace()
-        if not _library.patricia_iterate(self.address, prefix, len(prefix), ctypes.addressof(place)):
+        """An iterator over the keys that begin with the prefix, with their numbers, which it asks for one by one."""
+        place = _CursorPlace()
+        if not _library.patricia_cursor_seek(ctypes.addressof(place), prefix, len(prefix), len(prefix)):
             raise MemoryError
-        return self.listed(place, self.changes)
+        return self.passed(place, self.changes)
 
-    def listed(self, place, changes):
+    def passed(self, place, changes):
         at, length, number = ctypes.addressof(place), ctypes.c_size_t(), ctypes.c_uint64()
         room = ctypes.create_string_buffer(256)
         while True:
             if self.changes != changes:
                 raise RuntimeError('keys were added or removed during iteration')
-            result = _library.patricia_iterator_next(at, room, len(room), length, number)
+            result = _library.patricia_cursor_next(at, self.address, room, len(room), length, number)
             if result == NO_ROOM:
                 room = ctypes.create_string_buffer(length.value)
+            elif result == NO_MEMORY:
+                raise MemoryError
             elif result == FOUND:
                 yield room.raw[:length.value], number.value
             else:

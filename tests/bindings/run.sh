@@ -135,13 +135,43 @@ got=$?
 if [ "$got" -ne 0 ]; then cat "$room/out"; fi
 note "the tests of bindings/python with $(python3 --version)" "$got"
 
+# pip builds in a copy, since it leaves files beside the module.
+pip=
+for python in python3 /usr/bin/python3; do
+    if [ -z "$pip" ] && "$python" -c 'import setuptools, wheel, pip' 2> /dev/null; then pip=$python; fi
+done
+if [ -n "$pip" ]; then
+    mkdir "$room/package" && cp bindings/python/patricia.py bindings/python/pyproject.toml "$room/package"
+    "$pip" -m pip -q install --no-build-isolation --no-index --no-deps --target "$room/packages" "$room/package" \
+        > "$room/out" 2>&1 &&
+        (cd "$room" && PYTHONPATH=$room/packages PATRICIA_LIBRARY=$room/shared/libpatricia.so "$pip" -B -c \
+            'import patricia as p; assert "packages" in p.__file__ and p.PatriciaSet([b"a"]).first() == b"a"') \
+            >> "$room/out" 2>&1
+    got=$?
+    if [ "$got" -ne 0 ]; then cat "$room/out"; fi
+    note "pip install of bindings/python" "$got"
+else
+    echo "pip with setuptools and wheel is not installed"
+fi
+
 if has cargo; then
     (cd bindings/rust && PATRICIA_LIB_DIR=$room/installed/lib CARGO_TARGET_DIR=$room/target \
         cargo test --offline --quiet) > "$room/out" 2>&1
     got=$?
     if [ "$got" -ne 0 ]; then cat "$room/out"; fi
-    rm -rf bindings/rust/Cargo.lock
     note "the tests of bindings/rust with $(cargo --version)" "$got"
+    if has valgrind; then
+        programs=$(cd bindings/rust && PATRICIA_LIB_DIR=$room/installed/lib CARGO_TARGET_DIR=$room/target \
+            cargo test --offline --no-run --tests 2>&1 | sed -n 's/.*Executable tests.*(\(.*\))/\1/p')
+        for program in $programs; do
+            limited valgrind -q --leak-check=full --errors-for-leak-kinds=definite --error-exitcode=9 "$program" \
+                --test-threads=1 > "$room/out" 2>&1
+            got=$?
+            if [ "$got" -ne 0 ]; then cat "$room/out"; fi
+            note "$(basename "${program%-*}") of bindings/rust/tests under valgrind" "$got"
+        done
+    fi
+    rm -rf bindings/rust/Cargo.lock
 else
     echo "cargo is not installed"
 fi
