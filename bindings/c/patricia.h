@@ -84,7 +84,7 @@ enum {
     PATRICIA_NO_MEMORY = 2,
     PATRICIA_TOO_DEEP = 3, /* the encoding has no room for a level */
     PATRICIA_NO_ROOM = 4,  /* the array is too small */
-    PATRICIA_NOT_TEXT = 5, /* the key is not UTF-8 */
+    PATRICIA_NOT_TEXT = 5, /* the key, or a key of the map, is not UTF-8 */
 
     /* Faults of tree bytes, in the order in which the rules for a record are tried. The offset is
      * that of the first byte of the record, or for PATRICIA_TRAILING_BYTES of the first byte behind
@@ -95,7 +95,8 @@ enum {
     PATRICIA_ROOT_SIBLING = 15,      /* the root has a sibling mark */
     PATRICIA_EMPTY_LABEL = 16,       /* it has no label and is not the root */
     PATRICIA_INVALID_LABEL = 17,     /* its label is no valid key: never for byte strings */
-    PATRICIA_SIBLING_ORDER = 18,     /* its first byte is not above its sibling's before it */
+    PATRICIA_SIBLING_ORDER = 18,     /* its first byte, or of texts its first character, is not
+                                      * above that of its sibling before it */
     PATRICIA_NO_VALUE_NO_CHILD = 19, /* it has no mark and is not the root */
     PATRICIA_TOO_FEW_VALUES = 20,    /* no value is left for its mark */
     PATRICIA_TRAILING_BYTES = 21,    /* bytes follow the last record */
@@ -254,7 +255,7 @@ uint32_t patricia_from_wide_tree_bytes(patricia_map *map, const uint8_t *bytes, 
 
 /* Texts. A map of texts is a map whose keys are UTF-8, as these functions see to: they return
  * PATRICIA_NOT_TEXT for a key that is not, and change and write nothing then. All other functions
- * take such a map, too. A map that was made of tree bytes may have any keys. */
+ * take such a map, too. A map that patricia_from_tree_bytes made may have any keys. */
 
 /* Returns whether the bytes are UTF-8. */
 bool patricia_is_text(const uint8_t *bytes, size_t len);
@@ -262,6 +263,23 @@ bool patricia_is_text(const uint8_t *bytes, size_t len);
 /* Returns how many bytes at the front are whole characters; the bytes may end inside one, or hold
  * what is no character. */
 size_t patricia_text_floor(const uint8_t *bytes, size_t len);
+
+/* As patricia_tree_bytes, for texts: no label is cut inside a character. PATRICIA_NOT_TEXT: some key
+ * of the map is not UTF-8. Takes memory and time for a copy of the map. */
+uint32_t patricia_text_tree_bytes(patricia_map *map, uint8_t *array, size_t size, size_t *len);
+
+/* The same with levels of four bytes. */
+uint32_t patricia_text_wide_tree_bytes(patricia_map *map, uint8_t *array, size_t size,
+                                       size_t *len);
+
+/* As patricia_from_tree_bytes, of what patricia_text_tree_bytes wrote: all keys are texts. Neither
+ * function reads the other's encoding, though they are often the same. */
+uint32_t patricia_text_from_tree_bytes(patricia_map *map, const uint8_t *bytes, size_t len,
+                                       const uint64_t *values, size_t count, size_t *offset);
+
+/* The same of what patricia_text_wide_tree_bytes wrote. */
+uint32_t patricia_text_from_wide_tree_bytes(patricia_map *map, const uint8_t *bytes, size_t len,
+                                            const uint64_t *values, size_t count, size_t *offset);
 
 /* As patricia_insert. */
 static inline uint32_t patricia_text_insert(patricia_map *map, const char *text, size_t len,

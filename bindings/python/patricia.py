@@ -30,7 +30,7 @@ from collections.abc import ItemsView, Mapping, MutableMapping, MutableSet, Valu
 
 __all__ = ['DecodeError', 'PatriciaMap', 'PatriciaSet', 'StringPatriciaMap', 'StringPatriciaSet']
 
-FOUND, NO_MEMORY, TOO_DEEP, NO_ROOM = 1, 2, 3, 4
+FOUND, NO_MEMORY, TOO_DEEP, NO_ROOM, NOT_TEXT = 1, 2, 3, 4, 5
 FAULTS = {
     12: 'record cut short',
     13: 'wrong level',
@@ -95,7 +95,11 @@ def _load():
             ('tree_bytes', ctypes.c_uint32, place, *room),
             ('wide_tree_bytes', ctypes.c_uint32, place, *room),
             ('from_tree_bytes', ctypes.c_uint32, place, *key, ctypes.c_void_p, size, length),
-            ('from_wide_tree_bytes', ctypes.c_uint32, place, *key, ctypes.c_void_p, size, length)):
+            ('from_wide_tree_bytes', ctypes.c_uint32, place, *key, ctypes.c_void_p, size, length),
+            ('text_tree_bytes', ctypes.c_uint32, place, *room),
+            ('text_wide_tree_bytes', ctypes.c_uint32, place, *room),
+            ('text_from_tree_bytes', ctypes.c_uint32, place, *key, ctypes.c_void_p, size, length),
+            ('text_from_wide_tree_bytes', ctypes.c_uint32, place, *key, ctypes.c_void_p, size, length)):
         function = getattr(library, 'patricia_' + name)
         function.restype = result
         function.argtypes = arguments
@@ -257,8 +261,8 @@ class _Tree:
             else:
                 return
 
-    def tree_bytes(self, wide):
-        write = _library.patricia_wide_tree_bytes if wide else _library.patricia_tree_bytes
+    def tree_bytes(self, write):
+        """What a function of the library writes of the keys."""
         room = ctypes.create_string_buffer(64)
         while True:
             result = write(self.address, room, len(room), self.length)
@@ -268,12 +272,13 @@ class _Tree:
                 raise MemoryError
             elif result == TOO_DEEP:
                 raise OverflowError('a record of the encoding would lie too deep')
+            elif result == NOT_TEXT:
+                raise ValueError('a key has a surrogate, which is no character')
             else:
                 return room.raw[:self.length.value]
 
-    def read(self, data, numbers, wide):
-        """Becomes what the tree bytes and the numbers mean."""
-        read = _library.patricia_from_wide_tree_bytes if wide else _library.patricia_from_tree_bytes
+    def read(self, read, data, numbers):
+        """Becomes what the tree bytes and the numbers mean to a function of the library."""
         values = (ctypes.c_uint64 * max(1, len(numbers)))(*numbers)
         result = read(self.address, data, len(data), ctypes.addressof(values), len(numbers), self.length)
         self.changes += 1
@@ -285,6 +290,10 @@ class _Tree:
 
 class _ByteKeys:
     """Keys that are byte strings."""
+
+    # Each with narrow and with wide levels.
+    _write = _library.patricia_tree_bytes, _library.patricia_wide_tree_bytes
+    _read = _library.patricia_from_tree_bytes, _library.patricia_from_wide_tree_bytes
 
     @staticmethod
     def _key(key):
@@ -305,6 +314,9 @@ class _ByteKeys:
 
 class _StringKeys:
     """Keys that are texts, kept as their UTF-8, in which surrogates are allowed, since a str may have some."""
+
+    _write = _library.patricia_text_tree_bytes, _library.patricia_text_wide_tree_bytes
+    _read = _library.patricia_text_from_tree_bytes, _library.patricia_text_from_wide_tree_bytes
 
     @staticmethod
     def _key(key):
@@ -356,7 +368,7 @@ class _Prefixes:
 
     def tree_bytes(self, wide=False):
         """The encoding of the keys, the same whatever was added and removed; with wide levels where asked."""
-        return self._tree.tree_bytes(wide)
+        return self._tree.tree_bytes(self._write[bool(wide)])
 
 
 class _Items(ItemsView):
@@ -499,13 +511,8 @@ class _Map(_Prefixes, MutableMapping):
         """Makes a map of tree bytes and of the values in key order."""
         made = cls()
         made._objects = list(values)
-        made._tree.read(bytes(data), range(len(made._objects)), wide)
-        made._checked()
+        made._tree.read(cls._read[bool(wide)], bytes(data), range(len(made._objects)))
         return made
-
-    def _checked(self):
-        for key, _ in self._tree.rows():
-            self._text(key)
 
 
 class _Set(_Prefixes, MutableSet):
@@ -580,9 +587,7 @@ class _Set(_Prefixes, MutableSet):
     def from_tree_bytes(cls, data, count, wide=False):
         """Makes a set of tree bytes and the number of its elements."""
         made = cls()
-        made._tree.read(bytes(data), bytes(count), wide)
-        for _ in made:
-            pass
+        made._tree.read(cls._read[bool(wide)], bytes(data), bytes(count))
         return made
 
 

@@ -382,6 +382,50 @@ static void texts(void)
     patricia_free(&map);
 }
 
+/* Two characters that begin with one byte are two labels of texts. */
+static void text_encodings(void)
+{
+    static const uint8_t text[] = {12, 0, 0,    0,    51, 2, 0, 1,
+                                   0303, 0250, 3, 2, 0, 1, 0303, 0251};
+    static const uint8_t wide[] = {12, 0, 0, 0, 0, 0, 51, 2, 0, 0, 0, 1, 0303, 0250,
+                                   3,  2, 0, 0, 0, 1, 0303, 0251};
+    const uint64_t values[] = {5, 6};
+    patricia_map map = PATRICIA_MAP_INIT, back = PATRICIA_MAP_INIT;
+    uint8_t array[64], bytes[64];
+    uint64_t value = 77;
+    size_t len = 78, byte_len, offset = 99;
+    CHECK(patricia_text_tree_bytes(&map, array, 3, &len) == PATRICIA_NO_ROOM && len == 4);
+    CHECK(patricia_text_tree_bytes(&map, array, 4, &len) == PATRICIA_DONE && array[0] == 0);
+    CHECK(patricia_text_insert(&map, "\303\250", 2, 5, &value) == PATRICIA_ABSENT);
+    CHECK(patricia_text_insert(&map, "\303\251", 2, 6, &value) == PATRICIA_ABSENT);
+    CHECK(patricia_text_tree_bytes(&map, array, sizeof text, &len) == PATRICIA_DONE);
+    CHECK(len == sizeof text && memcmp(array, text, len) == 0);
+    CHECK(patricia_text_wide_tree_bytes(&map, array, 0, &len) == PATRICIA_NO_ROOM);
+    CHECK(patricia_text_wide_tree_bytes(&map, array, len, &len) == PATRICIA_DONE);
+    CHECK(len == sizeof wide && memcmp(array, wide, len) == 0);
+    CHECK(patricia_text_from_tree_bytes(&back, text, sizeof text, values, 2, &offset) == 0);
+    CHECK(patricia_text_get(&back, "\303\251", 2, &value) == PATRICIA_FOUND && value == 6);
+    CHECK(patricia_text_from_wide_tree_bytes(&back, wide, sizeof wide, values, 2, &offset) == 0);
+    CHECK(patricia_text_get(&back, "\303\250", 2, &value) == PATRICIA_FOUND && value == 5);
+    CHECK(patricia_len(&back) == 2 && offset == 99);
+    CHECK(patricia_tree_bytes(&map, bytes, sizeof bytes, &byte_len) == PATRICIA_DONE);
+    CHECK(patricia_text_from_tree_bytes(&back, bytes, byte_len, values, 2, &offset) ==
+          PATRICIA_INVALID_LABEL);
+    CHECK(offset == 4 && patricia_len(&back) == 0);
+    CHECK(patricia_from_tree_bytes(&back, text, sizeof text, values, 2, &offset) ==
+          PATRICIA_SIBLING_ORDER);
+    CHECK(offset == 10 && patricia_len(&back) == 0);
+    CHECK(patricia_text_from_wide_tree_bytes(&back, wide, 6, values, 2, &offset) ==
+          PATRICIA_TRUNCATED);
+    CHECK(patricia_insert(&map, bytes_of("\303"), 1, 7, &value) == PATRICIA_ABSENT);
+    len = 78;
+    CHECK(patricia_text_tree_bytes(&map, array, 64, &len) == PATRICIA_NOT_TEXT && len == 78);
+    CHECK(patricia_text_wide_tree_bytes(&map, array, 64, &len) == PATRICIA_NOT_TEXT);
+    CHECK(patricia_len(&map) == 3 && len == 78);
+    patricia_free(&map);
+    patricia_free(&back);
+}
+
 int main(void)
 {
     empty_map();
@@ -395,6 +439,7 @@ int main(void)
     faults();
     sets();
     texts();
+    text_encodings();
     puts("ok");
     return 0;
 }

@@ -283,6 +283,27 @@ static void reload(pair *p, bool is_wide, bool has_all)
         empty(p);
 }
 
+/* The same as a map of texts, which it is where no key has a byte 255. */
+static void reload_texts(pair *p)
+{
+    uint8_t array[COUNT * (LONGEST + 4)];
+    uint64_t values[COUNT];
+    size_t len = 78, count = 0, offset = 99;
+    bool is_text = true;
+    for (size_t i = 0; i < COUNT; i++) {
+        if (!p->has[i])
+            continue;
+        values[count++] = p->value[i];
+        is_text = is_text && memchr(keys[i].bytes, 255, keys[i].len) == NULL;
+    }
+    uint32_t result = patricia_text_tree_bytes(&p->map, array, sizeof array, &len);
+    CHECK(result == (is_text ? PATRICIA_DONE : PATRICIA_NOT_TEXT) && (is_text || len == 78));
+    if (is_text)
+        CHECK(patricia_text_from_tree_bytes(&p->map, array, len, values, count, &offset) ==
+              PATRICIA_DONE);
+    CHECK(offset == 99);
+}
+
 static void call(pair *p, pair *other)
 {
     size_t i = below(COUNT), kind = below(1000);
@@ -312,8 +333,10 @@ static void call(pair *p, pair *other)
         copy(p, other);
     else if (kind < 993)
         split(p, other, i);
-    else if (kind < 996)
+    else if (kind < 995)
         reload(p, below(2) != 0, below(4) != 0);
+    else if (kind < 996)
+        reload_texts(p);
     else if (kind < 999) {
         pair moved = *p;
         *p = *other;

@@ -305,6 +305,9 @@ static size_t run(long number)
     is_as(&map, has);
     refused += encoded(&map, &back, patricia_tree_bytes, patricia_from_tree_bytes);
     refused += encoded(&map, &back, patricia_wide_tree_bytes, patricia_from_wide_tree_bytes);
+    refused += encoded(&map, &back, patricia_text_tree_bytes, patricia_text_from_tree_bytes);
+    refused +=
+        encoded(&map, &back, patricia_text_wide_tree_bytes, patricia_text_from_wide_tree_bytes);
     is_as(&map, has);
     for (size_t i = 2; i < 5; i++) {
         refused += without(&map, has, i);

@@ -13,6 +13,9 @@ pub trait Key: sealed::Sealed + Sized {
     /// A key that is borrowed.
     type Borrowed: ?Sized;
 
+    /// Whether a key is a text.
+    const IS_TEXT: bool;
+
     /// The key, borrowed.
     fn borrowed(&self) -> &Self::Borrowed;
 
@@ -34,6 +37,8 @@ pub trait Key: sealed::Sealed + Sized {
 
 impl Key for Vec<u8> {
     type Borrowed = [u8];
+
+    const IS_TEXT: bool = false;
 
     fn borrowed(&self) -> &[u8] {
         self
@@ -62,6 +67,8 @@ impl Key for Vec<u8> {
 
 impl Key for String {
     type Borrowed = str;
+
+    const IS_TEXT: bool = true;
 
     fn borrowed(&self) -> &str {
         self

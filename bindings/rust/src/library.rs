@@ -8,6 +8,7 @@ pub(crate) const FOUND: u32 = 1;
 pub(crate) const NO_MEMORY: u32 = 2;
 pub(crate) const TOO_DEEP: u32 = 3;
 pub(crate) const NO_ROOM: u32 = 4;
+pub(crate) const NOT_TEXT: u32 = 5;
 
 /// A `patricia_map`, a `patricia_iterator` or a `patricia_cursor` of patricia.h.
 #[repr(C)]
@@ -147,6 +148,34 @@ extern "C" {
         array: *mut u8,
         size: usize,
         len: *mut usize,
+    ) -> u32;
+    pub(crate) fn patricia_text_tree_bytes(
+        map: *mut Place,
+        array: *mut u8,
+        size: usize,
+        len: *mut usize,
+    ) -> u32;
+    pub(crate) fn patricia_text_wide_tree_bytes(
+        map: *mut Place,
+        array: *mut u8,
+        size: usize,
+        len: *mut usize,
+    ) -> u32;
+    pub(crate) fn patricia_text_from_tree_bytes(
+        map: *mut Place,
+        bytes: *const u8,
+        len: usize,
+        values: *const u64,
+        count: usize,
+        offset: *mut usize,
+    ) -> u32;
+    pub(crate) fn patricia_text_from_wide_tree_bytes(
+        map: *mut Place,
+        bytes: *const u8,
+        len: usize,
+        values: *const u64,
+        count: usize,
+        offset: *mut usize,
     ) -> u32;
     pub(crate) fn patricia_from_tree_bytes(
         map: *mut Place,

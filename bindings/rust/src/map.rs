@@ -5,7 +5,7 @@ use crate::iter::{CommonPrefixes, IntoIter, Iter, IterMut, Keys, Values, ValuesM
 use crate::key::Key;
 use crate::rows;
 use crate::slab::Slab;
-use crate::tree::{DecodeError, TooDeep, Tree, Width};
+use crate::tree::{DecodeError, Form, TooDeep, Tree};
 use std::fmt;
 use std::marker::PhantomData;
 use std::ops::Index;
@@ -257,26 +257,37 @@ impl<K: Key, V> GenericPatriciaMap<K, V> {
     }
 }
 
-impl<V> GenericPatriciaMap<Vec<u8>, V> {
-    /// Returns the encoding of the keys, which is the same whatever was inserted and removed.
+impl<K: Key, V> GenericPatriciaMap<K, V> {
+    const NARROW: Form = Form {
+        is_text: K::IS_TEXT,
+        is_wide: false,
+    };
+
+    const WIDE: Form = Form {
+        is_text: K::IS_TEXT,
+        is_wide: true,
+    };
+
+    /// Returns the encoding of the keys, which is the same whatever was inserted and removed. For
+    /// texts it is made of a copy of the map.
     pub fn tree_bytes(&self) -> Result<Vec<u8>, TooDeep> {
-        self.tree.tree_bytes(Width::Two)
+        self.tree.tree_bytes(Self::NARROW)
     }
 
     /// Returns the encoding in which each level takes four bytes.
     pub fn wide_tree_bytes(&self) -> Result<Vec<u8>, TooDeep> {
-        self.tree.tree_bytes(Width::Four)
+        self.tree.tree_bytes(Self::WIDE)
     }
 
     /// Makes a map of tree bytes and of the values in key order.
     pub fn from_tree_bytes(bytes: &[u8], values: Vec<V>) -> Result<Self, DecodeError> {
-        let tree = Tree::from_tree_bytes(bytes, values.len(), Width::Two)?;
+        let tree = Tree::from_tree_bytes(bytes, values.len(), Self::NARROW)?;
         Ok(Self::of(tree, values.into_iter().collect()))
     }
 
     /// Makes a map of wide tree bytes and of the values in key order.
     pub fn from_wide_tree_bytes(bytes: &[u8], values: Vec<V>) -> Result<Self, DecodeError> {
-        let tree = Tree::from_tree_bytes(bytes, values.len(), Width::Four)?;
+        let tree = Tree::from_tree_bytes(bytes, values.len(), Self::WIDE)?;
         Ok(Self::of(tree, values.into_iter().collect()))
     }
 }

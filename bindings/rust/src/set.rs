@@ -133,7 +133,7 @@ impl<T: Key> GenericPatriciaSet<T> {
     }
 }
 
-impl GenericPatriciaSet<Vec<u8>> {
+impl<T: Key> GenericPatriciaSet<T> {
     /// Returns the encoding of the elements, which is the same whatever was inserted and removed.
     pub fn tree_bytes(&self) -> Result<Vec<u8>, tree::TooDeep> {
         self.map.tree_bytes()

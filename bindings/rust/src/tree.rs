@@ -7,11 +7,12 @@ use std::cell::UnsafeCell;
 use std::error::Error;
 use std::fmt;
 
-/// In how many bytes a level is encoded.
+/// How keys are encoded: as byte strings or as texts, whose labels are cut between characters; with
+/// levels in two bytes or in four.
 #[derive(Clone, Copy)]
-pub(crate) enum Width {
-    Two,
-    Four,
+pub(crate) struct Form {
+    pub(crate) is_text: bool,
+    pub(crate) is_wide: bool,
 }
 
 /// Tree bytes and values that are no whole tree: the first fault, and where it is.
@@ -271,10 +272,13 @@ impl Tree {
         unsafe { cursor.next_in(self.place.get()) }
     }
 
-    pub(crate) fn tree_bytes(&self, width: Width) -> Result<Vec<u8>, TooDeep> {
-        let write = match width {
-            Width::Two => patricia_tree_bytes,
-            Width::Four => patricia_wide_tree_bytes,
+    /// The encoding of the keys, which are texts where the form is that of texts.
+    pub(crate) fn tree_bytes(&self, form: Form) -> Result<Vec<u8>, TooDeep> {
+        let write = match (form.is_text, form.is_wide) {
+            (false, false) => patricia_tree_bytes,
+            (false, true) => patricia_wide_tree_bytes,
+            (true, false) => patricia_text_tree_bytes,
+            (true, true) => patricia_text_wide_tree_bytes,
         };
         let mut bytes = vec![0; 64];
         loop {
@@ -286,6 +290,7 @@ impl Tree {
                 NO_ROOM => bytes.resize(len, 0),
                 NO_MEMORY => out_of_memory(),
                 TOO_DEEP => return Err(TooDeep),
+                NOT_TEXT => unreachable!("the keys are texts"),
                 _ => {
                     bytes.truncate(len);
                     return Ok(bytes);
@@ -298,11 +303,13 @@ impl Tree {
     pub(crate) fn from_tree_bytes(
         bytes: &[u8],
         count: usize,
-        width: Width,
+        form: Form,
     ) -> Result<Tree, DecodeError> {
-        let read = match width {
-            Width::Two => patricia_from_tree_bytes,
-            Width::Four => patricia_from_wide_tree_bytes,
+        let read = match (form.is_text, form.is_wide) {
+            (false, false) => patricia_from_tree_bytes,
+            (false, true) => patricia_from_wide_tree_bytes,
+            (true, false) => patricia_text_from_tree_bytes,
+            (true, true) => patricia_text_from_wide_tree_bytes,
         };
         let tree = Tree::new();
         let numbers: Vec<u64> = (0..count as u64).collect();

@@ -268,6 +268,32 @@ fn tree_bytes() {
 }
 
 #[test]
+fn tree_bytes_of_texts() {
+    let map: StringPatriciaMap<u32> = vec![("è", 1), ("é", 2)].into_iter().collect();
+    let bytes = map.tree_bytes().unwrap();
+    assert_eq!(
+        bytes,
+        [12, 0, 0, 0, 51, 2, 0, 1, 0xC3, 0xA8, 3, 2, 0, 1, 0xC3, 0xA9]
+    );
+    assert_eq!(
+        StringPatriciaMap::from_tree_bytes(&bytes, vec![1, 2]).unwrap(),
+        map
+    );
+    let wide = map.wide_tree_bytes().unwrap();
+    assert_eq!(
+        StringPatriciaMap::from_wide_tree_bytes(&wide, vec![1, 2]).unwrap(),
+        map
+    );
+    let order = PatriciaMap::from_tree_bytes(&bytes, vec![1, 2]).unwrap_err();
+    assert_eq!((order.code, order.offset), (18, 10));
+    let mut byte_map = PatriciaMap::new();
+    byte_map.insert([0xC3], 1);
+    let bytes = byte_map.tree_bytes().unwrap();
+    let label = StringPatriciaMap::from_tree_bytes(&bytes, vec![1]).unwrap_err();
+    assert_eq!(label.to_string(), "invalid label at 4");
+}
+
+#[test]
 fn large_tree_bytes() {
     let map: PatriciaMap<u32> = (0..1000_u32).map(|i| (i.to_be_bytes(), i)).collect();
     let bytes = map.tree_bytes().unwrap();

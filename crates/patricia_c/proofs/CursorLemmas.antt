@@ -12,7 +12,6 @@ use Rattle.std.specs.Cmp.Lexicographic.{nat_list_cmp_total}
 use Rattle.std.proofs.lemmas.List.{append-nil, nil_from_length, take_all, take-append-drop, take-append-le}
 use Rattle.patricia_keys.specs.Keys.{Begins, key_cmp}
 use Rattle.patricia_keys.proofs.KeyLemmas.{Begins-trans, key_cmp-irreflexive}
-use Rattle.patricia_tree.specs.Cursors.{after}
 use Rattle.patricia_tree.specs.Prefixes.{begins, under}
 use Rattle.patricia_tree.specs.Ranges.{from}
 use Rattle.patricia_model.proofs.FilterLemmas.{has_filter}

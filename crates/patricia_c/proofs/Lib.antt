@@ -1,4 +1,5 @@
 mod CodeLemmas
+mod CopyLemmas
 mod CursorLemmas
 mod EmptyLemmas
 mod MapBox

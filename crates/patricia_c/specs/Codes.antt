@@ -1,6 +1,8 @@
 -- How a fault of tree bytes is returned to C: a code, and the offset of what is at fault.
 use Rattle.std.specs.Prelude.{◌≡◌, ℕ, List, length}
 use Rattle.patricia_tree.specs.Faults.{IsRefusal}
+use Rattle.patricia_tree.specs.Keys.{IsValid}
+use Rattle.patricia_tree.specs.Points.{Has}
 use Rattle.patricia_tree.specs.TreeBytes.{AreTreeBytes}
 use Rattle.patricia_wire.specs.declared.error.DecodeError.{DecodeError}
 use Rattle.patricia_wire.specs.declared.error.DecodeError.TheVariants.{Memory, Truncated, Level}
@@ -40,3 +42,9 @@ module _ (item : List ℕ → Type 0) where
     pub bytes : List ℕ
     pub are : AreTreeBytes item w bytes rows
     pub len : n ≡ length bytes
+
+  -- some key is no list of items
+  pub record HasOther (keys : List (List ℕ)) : Type 0 where
+    pub key : List ℕ
+    pub is_key : Has keys key
+    pub is_other : IsValid item key → ⊥

@@ -18,4 +18,5 @@ mod map_pointer;
 mod prefixes;
 mod raw_box;
 mod rows_pointer;
+mod text_encodings;
 mod texts;

@@ -1,4 +1,4 @@
-use Rattle.std.proofs.Common.{◌∙◌, ap, subst, ◌≡◌, ℕ, List, take, Option, Some}
+use Rattle.std.proofs.Common.{◌∙◌, ap, ℕ, List, take, Option, Some}
 use Rattle.patricia_tree.specs.Prefixes.{under}
 use Rattle.patricia_tree.specs.Ranges.{from}
 use Rattle.patricia_c.specs.Cursors.{ahead_of}

@@ -1,0 +1,223 @@
+//! Tree bytes of a map whose keys are texts: no label is cut inside a character.
+ghost use Rattle.std.specs.Prelude.{◌≡◌, ◌≢◌, ◌≤◌, ◌<◌, length, take, None, IfOk, IfSome};
+ghost use Rattle.std.specs.FinMap as map;
+ghost use Rattle.patricia_tree.specs.TextKind.{IsTextItem};
+ghost use Rattle.patricia_tree.specs.TreeBytes.{AreTreeBytes};
+ghost use Rattle.patricia_tree.specs.Writings.{Means, TooDeep};
+ghost use Rattle.patricia_c.specs.Codes.{HasOther, IsLen, IsRefused};
+ghost use Rattle.patricia_c.specs.Maps.{map_of};
+
+use crate::encodings::{DONE, NO_MEMORY, NO_ROOM, TOO_DEEP, code, copy_to};
+use crate::map_place::MapPlace;
+use patricia_keys::keys::text_of;
+use patricia_tree::{Bytes, DecodeError, PatriciaMap, StringPatriciaMap, WireError};
+use std::alloc::{AllocError, Global};
+
+/// Some key is no text.
+const NOT_TEXT: u32 = 5;
+
+// The map with texts as keys, or none where some key is no text.
+fn to_texts(
+    alloc: Global,
+    from: &PatriciaMap<u64>,
+) -> Result<Option<StringPatriciaMap<u64>>, AllocError>
+    ensures same { IfOk result (λ found. IfSome found (λ texts. texts ≡ from.now)) }
+    ensures other { IfOk result (λ found. found ≡ None → HasOther IsTextItem (map.keys from.now)) }
+{
+    let mut texts = StringPatriciaMap::new(alloc);
+    for entry in from.iter() {
+        let (key, value) = entry?;
+        let bytes = key.as_slice();
+        if !String::is_valid_bytes(bytes) {
+            return Ok(None);
+        }
+        let Ok(_) = texts.insert(text_of(bytes), *value) else {
+            return Err(AllocError);
+        };
+    }
+    Ok(Some(texts))
+}
+
+// The map with the bytes of its texts as keys.
+fn to_bytes(alloc: Global, from: &StringPatriciaMap<u64>) -> Result<PatriciaMap<u64>, AllocError>
+    ensures { IfOk result (λ bytes. bytes ≡ from.now) }
+{
+    let mut bytes = PatriciaMap::new(alloc);
+    for entry in from.iter() {
+        let (key, value) = entry?;
+        let Ok(_) = bytes.insert(key.as_str().as_bytes(), *value) else {
+            return Err(AllocError);
+        };
+    }
+    Ok(bytes)
+}
+
+/// Writes the tree bytes of the map as one of texts, as `patricia_tree_bytes` does those of byte
+/// strings. Returns `NOT_TEXT` where some key is no text.
+#[unsafe(no_mangle)]
+pub extern "C" fn patricia_text_tree_bytes(
+    alloc: Global,
+    at: &mut MapPlace,
+    room: &mut [u8],
+    len: &mut usize,
+) -> u32
+    ensures kept { map_of at.new.pointer.stored ≡ map_of at.old.pointer.stored }
+    ensures done { result ≡ 0 → AreTreeBytes IsTextItem 2 (take len.new room.new)
+        (map.entries (map_of at.old.pointer.stored)) }
+    ensures too_deep { result ≡ 3 →
+        TooDeep IsTextItem 2 (map.keys (map_of at.old.pointer.stored)) }
+    ensures len { result ≡ 4 →
+        IsLen IsTextItem 2 len.new (map.entries (map_of at.old.pointer.stored)) }
+    ensures small { result ≡ 4 → length room.old < len.new }
+    ensures not_text { result ≡ 5 →
+        HasOther IsTextItem (map.keys (map_of at.old.pointer.stored)) }
+    ensures unwritten { result ≢ 0 → room.new ≡ room.old }
+    ensures codes { result ≤ 5 }
+    ensures not_one { result ≢ 1 }
+{
+    let Ok(stored) = at.take_or_make(alloc) else {
+        return NO_MEMORY;
+    };
+    let texts = to_texts(alloc, &stored.map);
+    at.put(stored);
+    let texts = match texts {
+        Ok(Some(texts)) => texts,
+        Ok(None) => return NOT_TEXT,
+        Err(_) => return NO_MEMORY,
+    };
+    match texts.tree_bytes() {
+        Ok(bytes) => {
+            *len = bytes.len();
+            if copy_to(room, bytes.as_slice()) {
+                DONE
+            } else {
+                NO_ROOM
+            }
+        }
+        Err(WireError::Memory) => NO_MEMORY,
+        Err(_) => TOO_DEEP,
+    }
+}
+
+/// Writes the wide tree bytes of the map as one of texts, as `patricia_text_tree_bytes` does the
+/// tree bytes.
+#[unsafe(no_mangle)]
+pub extern "C" fn patricia_text_wide_tree_bytes(
+    alloc: Global,
+    at: &mut MapPlace,
+    room: &mut [u8],
+    len: &mut usize,
+) -> u32
+    ensures kept { map_of at.new.pointer.stored ≡ map_of at.old.pointer.stored }
+    ensures done { result ≡ 0 → AreTreeBytes IsTextItem 4 (take len.new room.new)
+        (map.entries (map_of at.old.pointer.stored)) }
+    ensures too_deep { result ≡ 3 →
+        TooDeep IsTextItem 4 (map.keys (map_of at.old.pointer.stored)) }
+    ensures len { result ≡ 4 →
+        IsLen IsTextItem 4 len.new (map.entries (map_of at.old.pointer.stored)) }
+    ensures small { result ≡ 4 → length room.old < len.new }
+    ensures not_text { result ≡ 5 →
+        HasOther IsTextItem (map.keys (map_of at.old.pointer.stored)) }
+    ensures unwritten { result ≢ 0 → room.new ≡ room.old }
+    ensures codes { result ≤ 5 }
+    ensures not_one { result ≢ 1 }
+{
+    let Ok(stored) = at.take_or_make(alloc) else {
+        return NO_MEMORY;
+    };
+    let texts = to_texts(alloc, &stored.map);
+    at.put(stored);
+    let texts = match texts {
+        Ok(Some(texts)) => texts,
+        Ok(None) => return NOT_TEXT,
+        Err(_) => return NO_MEMORY,
+    };
+    match texts.wide_tree_bytes() {
+        Ok(bytes) => {
+            *len = bytes.len();
+            if copy_to(room, bytes.as_slice()) {
+                DONE
+            } else {
+                NO_ROOM
+            }
+        }
+        Err(WireError::Memory) => NO_MEMORY,
+        Err(_) => TOO_DEEP,
+    }
+}
+
+/// Drops the entries of the map and makes it of tree bytes of texts and values, as
+/// `patricia_from_tree_bytes` does of those of byte strings.
+#[unsafe(no_mangle)]
+pub extern "C" fn patricia_text_from_tree_bytes(
+    alloc: Global,
+    at: &mut MapPlace,
+    bytes: &[u8],
+    values: &[u64],
+    offset: &mut usize,
+) -> u32
+    ensures done { result ≡ 0 → Means IsTextItem 2 bytes.now values.now
+        (map.entries (map_of at.new.pointer.stored)) }
+    ensures empty { result ≢ 0 → map_of at.new.pointer.stored ≡ map.empty }
+    ensures refused { result ≢ 0 →
+        IsRefused IsTextItem 2 bytes.now (length values.now) result offset.new }
+    ensures unwritten { result ≡ 0 → offset.new ≡ offset.old }
+{
+    drop(at.take());
+    let Ok(mut stored) = at.take_or_make(alloc) else {
+        return code(DecodeError::Memory, offset);
+    };
+    let Ok(values) = Vec::from_slice(alloc, values) else {
+        return code(DecodeError::Memory, offset);
+    };
+    let texts = match StringPatriciaMap::from_wire(alloc, bytes, values) {
+        Ok(texts) => texts,
+        Err(error) => return code(error, offset),
+    };
+    match to_bytes(alloc, &texts) {
+        Ok(map) => {
+            stored.map = map;
+            at.put(stored);
+            DONE
+        }
+        Err(_) => code(DecodeError::Memory, offset),
+    }
+}
+
+/// Makes the map of wide tree bytes of texts and values, as `patricia_text_from_tree_bytes` does of
+/// tree bytes.
+#[unsafe(no_mangle)]
+pub extern "C" fn patricia_text_from_wide_tree_bytes(
+    alloc: Global,
+    at: &mut MapPlace,
+    bytes: &[u8],
+    values: &[u64],
+    offset: &mut usize,
+) -> u32
+    ensures done { result ≡ 0 → Means IsTextItem 4 bytes.now values.now
+        (map.entries (map_of at.new.pointer.stored)) }
+    ensures empty { result ≢ 0 → map_of at.new.pointer.stored ≡ map.empty }
+    ensures refused { result ≢ 0 →
+        IsRefused IsTextItem 4 bytes.now (length values.now) result offset.new }
+    ensures unwritten { result ≡ 0 → offset.new ≡ offset.old }
+{
+    drop(at.take());
+    let Ok(mut stored) = at.take_or_make(alloc) else {
+        return code(DecodeError::Memory, offset);
+    };
+    let Ok(values) = Vec::from_slice(alloc, values) else {
+        return code(DecodeError::Memory, offset);
+    };
+    let texts = match StringPatriciaMap::from_wide_wire(alloc, bytes, values) {
+        Ok(texts) => texts,
+        Err(error) => return code(error, offset),
+    };
+    match to_bytes(alloc, &texts) {
+        Ok(map) => {
+            stored.map = map;
+            at.put(stored);
+            DONE
+        }
+        Err(_) => code(DecodeError::Memory, offset),
+    }
+}
