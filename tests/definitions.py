@@ -6,7 +6,7 @@
 
 A definition line is a line of crates/*/specs outside specs/Internal that is no import, comment or blank line.
 The words of the library are those that the public clauses of patricia_tree, patricia_keys and patricia_json name,
-those of the iterators of patricia_core, of the cursors that read and of `Steps`; to them the program ptree adds the
+those of the iterators of patricia_core, of the cursors that read, of `is_within` and of `Steps`; to them the program ptree adds the
 public clauses of patricia_run, the program prefixes those of prefixes_core, and the functions that C calls those of
 patricia_c. The words of the laws are those that the clauses of the law functions (laws.rt and examples.rt) name and
 no other clause does: they follow from the others, and need no belief.
@@ -27,7 +27,8 @@ ROOT = os.path.dirname(os.path.dirname(os.path.abspath(__file__)))
 CRATES = os.path.join(ROOT, 'crates')
 LIBRARY = ('patricia_tree/src/**/*.rt', 'patricia_keys/src/**/*.rt', 'patricia_json/src/**/*.rt',
            'patricia_core/src/elements.rt', 'patricia_core/src/entries.rt', 'patricia_core/src/prefixes.rt',
-           'patricia_core/src/ranges.rt', 'patricia_walks/src/**/reading.rt', 'patricia_*/src/steps.rt')
+           'patricia_core/src/ranges.rt', 'patricia_walks/src/**/reading.rt', 'patricia_walks/src/near.rt',
+           'patricia_distance/src/near.rt', 'patricia_*/src/steps.rt')
 PROGRAM = 'patricia_run/src/**/*.rt', 'ptree/src/**/*.rt'
 PREFIXES = ('prefixes_core/src/**/*.rt',)
 FOR_C = ('patricia_c/src/**/*.rt',)

@@ -1,5 +1,6 @@
 pub mod Internal
 pub mod RangeWalks
+pub use Rattle.patricia_distance.specs.Edits
 pub use Rattle.patricia_keys.specs.ByteKind
 pub use Rattle.patricia_keys.specs.Keys
 pub use Rattle.patricia_keys.specs.TextKind
@@ -13,6 +14,7 @@ pub use Rattle.patricia_model.specs.Siblings
 pub use Rattle.patricia_model.specs.Internal.ThreeKeys
 pub use Rattle.patricia_model.specs.Trees
 pub use Rattle.patricia_model.specs.Walks
+pub use Rattle.patricia_walks.specs.Searches
 pub use Rattle.patricia_wire.specs.Counts
 pub use Rattle.patricia_wire.specs.Faults
 pub use Rattle.patricia_wire.specs.Forests

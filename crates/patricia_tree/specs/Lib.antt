@@ -11,11 +11,13 @@ pub mod Whole
 pub use Rattle.patricia_core.specs.ByteKind
 pub use Rattle.patricia_core.specs.Clones
 pub use Rattle.patricia_core.specs.Cursors
+pub use Rattle.patricia_core.specs.Edits
 pub use Rattle.patricia_core.specs.Keys
 pub use Rattle.patricia_core.specs.Points
 pub use Rattle.patricia_core.specs.Prefixes
 pub use Rattle.patricia_core.specs.RangeWalks
 pub use Rattle.patricia_core.specs.Ranges
+pub use Rattle.patricia_core.specs.Searches
 pub use Rattle.patricia_core.specs.Siblings
 pub use Rattle.patricia_core.specs.TextKind
 pub use Rattle.patricia_core.specs.Walks

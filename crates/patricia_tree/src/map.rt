@@ -20,6 +20,7 @@ mod debug;
 mod ends;
 mod iterators;
 mod loans;
+mod near;
 mod prefixes;
 mod ranges;
 mod whole;
@@ -30,6 +31,7 @@ pub use cursors::{IterMut, IterPrefixMut, ValuesMut};
 use patricia_core::Steps;
 pub use patricia_core::entries::{IntoIter, Iter, Keys, Values};
 use patricia_core::keys::{BorrowedBytes, Bytes};
+pub use patricia_core::near::NearCursor;
 pub use patricia_core::prefixes::{
     CommonPrefixValues, CommonPrefixValuesOwned, CommonPrefixesIter, IterPrefix,
 };

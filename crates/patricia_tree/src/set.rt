@@ -16,11 +16,12 @@ mod changes;
 mod debug;
 mod ends;
 mod iterators;
+mod near;
 mod ranges;
 mod whole;
 
 use crate::map::GenericPatriciaMap;
-pub use crate::map::{PrefixReadCursor, RangeReadCursor, ReadCursor};
+pub use crate::map::{NearCursor, PrefixReadCursor, RangeReadCursor, ReadCursor};
 pub use patricia_core::elements::{IntoIter, Iter, IterPrefix};
 use patricia_core::keys::{BorrowedBytes, Bytes};
 pub use patricia_core::ranges::ElementRange;

@@ -3,6 +3,7 @@ mod cursors;
 mod drops;
 mod ends;
 mod helpers;
+mod near;
 mod set_examples;
 mod set_range_examples;
 mod slots;

@@ -162,3 +162,33 @@ fn pop_last(rt: HostRuntime) -> anyhow::Result<()> {
     // end
     Ok(())
 }
+
+#[test]
+fn within(rt: HostRuntime) -> anyhow::Result<()> {
+    // example: map within
+    let map = StringPatriciaMap::from_iter(rt.alloc(), [("bar", 1), ("baz", 2), ("foo", 3)])?;
+    let mut cursor = map.within("bat", 1)?;
+    assert!(rt; cursor.advance()?);
+    assert_eq!(rt; (cursor.text(), cursor.value()), (Some("bar"), Some(&1)));
+    assert!(rt; cursor.advance()?);
+    assert_eq!(rt; cursor.text(), Some("baz"));
+    assert!(rt; !cursor.advance()?);
+    // end
+    Ok(())
+}
+
+#[test]
+fn skip(rt: HostRuntime) -> anyhow::Result<()> {
+    let files = [("README", 1), ("src/lib", 2), ("src/map/ends", 3), ("test/lib", 4)];
+    let map = StringPatriciaMap::from_iter(rt.alloc(), files)?;
+    let mut cursor = map.cursor();
+    assert!(rt; cursor.advance()?);
+    assert!(rt; cursor.advance()?);
+    assert_eq!(rt; cursor.text(), Some("src/lib"));
+    cursor.skip(4);
+    assert_eq!(rt; cursor.text(), Some("src/lib"));
+    assert!(rt; cursor.advance()?);
+    assert_eq!(rt; cursor.text(), Some("test/lib"));
+    assert!(rt; !cursor.advance()?);
+    Ok(())
+}

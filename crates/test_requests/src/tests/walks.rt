@@ -49,6 +49,17 @@ fn gives_all<W: Walk>(mut walk: W, len: usize, past: bool) -> bool {
     gives_each && (!past || !walk.gives())
 }
 
+// Whether a cursor finds an entry, and past it what begins with its first byte is skipped where that
+// is asked.
+fn skips<K: Bytes>(map: &GenericPatriciaMap<K, u64>, past: bool) -> bool {
+    let mut cursor = map.cursor();
+    let found = cursor.gives();
+    if past {
+        cursor.skip(1);
+    }
+    found
+}
+
 // Whether each walk over a map that stays does.
 fn gives_borrowed<K: Bytes>(map: &GenericPatriciaMap<K, u64>, past: bool) -> bool {
     let len = map.len();
@@ -56,6 +67,7 @@ fn gives_borrowed<K: Bytes>(map: &GenericPatriciaMap<K, u64>, past: bool) -> boo
         && gives_all(map.keys(), len, past)
         && gives_all(map.values(), len, past)
         && gives_all(map.cursor(), len, past)
+        && skips(map, past)
 }
 
 // Whether each walk over a map of some keys does.
