@@ -346,11 +346,7 @@ impl<K: Bytes, V: Drop> Tree<K, V> {
     }
 
     // The tree of the rows that the bytes mean with the values, with its nodes in key order.
-    fn decoded<W: Width>(
-        alloc: Global,
-        bytes: &[u8],
-        values: Vec<V>,
-    ) -> Result<Self, DecodeError>
+    fn decoded<W: Width>(alloc: Global, bytes: &[u8], values: Vec<V>) -> Result<Self, DecodeError>
         ensures ok { IfOk result (λ t.
             Means K.item W.width bytes.now values.items (map.entries t)) }
         ensures refused { IfErr result (λ e.

@@ -9,7 +9,7 @@ use Rattle.std.proofs.lemmas.Bool.Decides.{nat_tests}
 use Rattle.std.specs.Vec.{with_item}
 use Rattle.patricia_nodes.specs.declared.arena.Node.{Node}
 use Rattle.patricia_nodes.specs.declared.arena.node_vec.Head.{Head}
-use Rattle.patricia_nodes.specs.Internal.Heads.{beside_code, beside_of, head_of, heads_from, HasHeads}
+use Rattle.patricia_nodes.specs.Internal.Heads.{beside_code, head_of, heads_from, HasHeads}
 
 -- the number that was noted is read again
 pub code_is : (next : ℕ) (s : Option ℕ) → from_le_bytes w32 (to_le_bytes w32 (beside_code next s)) ≡ beside_code next s

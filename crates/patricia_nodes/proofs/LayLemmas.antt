@@ -2,7 +2,7 @@
 use Rattle.std.proofs.Common.{◌≡◌, inl, inr, ℕ, zero, suc, ◌+◌, ◌<◌, ◌≤◌, List, [], ◌∷◌, ◌++◌}
 use Rattle.std.proofs.Common.{Bool, true, false, nat_lt, if◌then◌else◌, length, set, get_or}
 use Rattle.std.proofs.Common.{Option, Some, None, slice_get, refl, sym, ap, ◌≢◌}
-use Rattle.std.proofs.Common.{subst, ◌∙◌, arith, length-append, length-set}
+use Rattle.std.proofs.Common.{◌∙◌, arith, length-append, length-set}
 use Rattle.std.proofs.lemmas.Bool.{cases_lt}
 use Rattle.std.proofs.lemmas.Bool.Decides.{nat_tests}
 use Rattle.patricia_nodes.specs.declared.arena.Node.{Node}
@@ -10,13 +10,13 @@ use Rattle.patricia_nodes.specs.declared.arena.NodeArena.{NodeArena}
 use Rattle.patricia_nodes.specs.Internal.Plans.{Plan, linked, head, row, size, count, times, below}
 use Rattle.patricia_nodes.specs.Internal.Plans.{LaidOut, IsSound, plan_at}
 use Rattle.patricia_nodes.specs.Internal.Growth.{tops, numbered_siblings, laid, IsTopRow, IsLaid}
-use Rattle.patricia_nodes.specs.Internal.Growth.{TakesNodes, TakesRow, TakesBelow, count_below}
+use Rattle.patricia_nodes.specs.Internal.Growth.{TakesRow, TakesBelow, count_below}
 use Rattle.patricia_nodes.specs.Internal.Growth.{size_below}
 use Rattle.patricia_nodes.proofs.PlanLemmas.{below_le, below_in, plan_is, node_is}
 use Rattle.patricia_nodes.proofs.WriteLemmas.{get-set_same, get-set_other}
 use Rattle.patricia_nodes.proofs.GrowthLemmas.{takes_none, takes_same, takes_more}
-use Rattle.patricia_nodes.specs.Internal.Relocation.{Mix, flat, first_of, Lies, AreMoved, news, olds}
-use Rattle.patricia_nodes.specs.Internal.Relocation.{waits, Laying, Emptied, Filling, marked_from}
+use Rattle.patricia_nodes.specs.Internal.Relocation.{Mix, flat, news}
+use Rattle.patricia_nodes.specs.Internal.Relocation.{Laying, Emptied, Filling, marked_from}
 use Rattle.patricia_nodes.proofs.RelayLemmas.{flat_first, OpenAt, opened, Turns, step, row-opened}
 use Rattle.patricia_nodes.proofs.RelayLemmas.{size-opened, first-opened, olds-below, waits-opened}
 use Rattle.patricia_nodes.proofs.RelayLemmas.{waits-below, count-parts, below-keep, news-opened}

@@ -11,12 +11,11 @@ pub mod node_vec;
 mod room;
 pub mod seek;
 
-pub use growth::DEPTH_FIRST;
-
 use crate::arena::node_vec::NodeVec;
 use crate::arena::seek::LinkRef;
 use crate::label::Label;
 use crate::link::{Link, NodeId};
+pub use growth::DEPTH_FIRST;
 use std::alloc::Global;
 use thiserror::Error;
 

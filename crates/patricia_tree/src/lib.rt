@@ -19,7 +19,7 @@ mod values;
 pub mod wire;
 
 pub use map::{GenericPatriciaMap, PatriciaMap, Refused, StringPatriciaMap};
-pub use patricia_core::{Steps, is_within};
 pub use patricia_core::keys::{BorrowedBytes, Bytes};
+pub use patricia_core::{Steps, is_within};
 pub use set::{GenericPatriciaSet, PatriciaSet, StringPatriciaSet};
 pub use wire::{DecodeError, WireError};

@@ -179,7 +179,12 @@ fn within(rt: HostRuntime) -> anyhow::Result<()> {
 
 #[test]
 fn skip(rt: HostRuntime) -> anyhow::Result<()> {
-    let files = [("README", 1), ("src/lib", 2), ("src/map/ends", 3), ("test/lib", 4)];
+    let files = [
+        ("README", 1),
+        ("src/lib", 2),
+        ("src/map/ends", 3),
+        ("test/lib", 4),
+    ];
     let map = StringPatriciaMap::from_iter(rt.alloc(), files)?;
     let mut cursor = map.cursor();
     assert!(rt; cursor.advance()?);

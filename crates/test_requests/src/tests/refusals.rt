@@ -8,5 +8,5 @@ mod reading;
 mod sets;
 mod tally;
 mod walks;
-mod worn;
 mod whole;
+mod worn;

@@ -63,23 +63,23 @@ loop-i-preserved-then-depth-eq0 g t c =
     let put = c.set_child.ensures in
     let same : length c.set_child.new.self.items ≡ length c.copy_row.new.to.items = ap (λ v. length v.items) put.2 ∙ length-set _ _ _ in
     let turned : (w : Plan g.row.V.Denot) (marks : ℕ → Bool)
-        → Laying w c.args.from.now marks c.args.to.now.items (head (numbered_siblings 0 w))
-        → ((at : ℕ) → c.args.start ≤ at → marks at ≡ false)
-        → Laying w c.args.from.now (up_to c.len-below.result (between c.args.start (l.i + 1) l.end marks)) c.set_child.new.self.items (head (numbered_siblings 0 w)) =
-        λ w marks f none.
-          let g0 = l.invariant.laying w marks f none in
-          let next = laying_row w _ _ l.i _ _ g0 short (between_next c.args.start l.i l.end marks l.invariant.on c.loop-i-test.true) in
-          let top = next_top w _ l.i _ _ next c.index.result.now c.index.ensures in
-          rw put.2
-          (laying_next w c.args.from.now c.args.from.now (between c.args.start l.i l.end marks)
-          (up_to c.len-below.result (between c.args.start (l.i + 1) l.end marks)) l.i l.to.items _ _
-          g0 short
-          (between_turns c.args.start l.i l.end c.len-below.result (length l.to.items) marks
-          (omega (arith, c.len-below.ensures)) l.invariant.on c.loop-i-test.true (omega (arith, l.invariant.within)))
-          next (λ at k. refl) c.copy_row.new.to.items
-          (copied.laid next.row top) c.in_ok-first.first (copied.first next.row top)
-          put.0 (rw c.new.ensures at put.1)
-          (ap (λ i. set c.copy_row.new.to.items i (record put.0 { child = c.in_ok-first.first })) c.new.ensures)) in
+    → Laying w c.args.from.now marks c.args.to.now.items (head (numbered_siblings 0 w))
+    → ((at : ℕ) → c.args.start ≤ at → marks at ≡ false)
+    → Laying w c.args.from.now (up_to c.len-below.result (between c.args.start (l.i + 1) l.end marks)) c.set_child.new.self.items (head (numbered_siblings 0 w)) =
+    λ w marks f none.
+    let g0 = l.invariant.laying w marks f none in
+    let next = laying_row w _ _ l.i _ _ g0 short (between_next c.args.start l.i l.end marks l.invariant.on c.loop-i-test.true) in
+    let top = next_top w _ l.i _ _ next c.index.result.now c.index.ensures in
+    rw put.2
+    (laying_next w c.args.from.now c.args.from.now (between c.args.start l.i l.end marks)
+    (up_to c.len-below.result (between c.args.start (l.i + 1) l.end marks)) l.i l.to.items _ _
+    g0 short
+    (between_turns c.args.start l.i l.end c.len-below.result (length l.to.items) marks
+    (omega (arith, c.len-below.ensures)) l.invariant.on c.loop-i-test.true (omega (arith, l.invariant.within)))
+    next (λ at k. refl) c.copy_row.new.to.items
+    (copied.laid next.row top) c.in_ok-first.first (copied.first next.row top)
+    put.0 (rw c.new.ensures at put.1)
+    (ap (λ i. set c.copy_row.new.to.items i (record put.0 { child = c.in_ok-first.first })) c.new.ensures)) in
     let level : l.end ≡ length l.to.items = omega (arith, l.invariant.level c.if-depth-eq0.true) in
     record {
       capacity = ap (λ v. v.cap) put.2 ∙ copied.capacity ∙ l.invariant.capacity;
@@ -107,24 +107,23 @@ copy_rows_below-requires g t c κs within =
     let put = c.set_child.ensures in
     let same : length c.set_child.new.self.items ≡ length c.copy_row.new.to.items = ap (λ v. length v.items) put.2 ∙ length-set _ _ _ in
     let turned : (w : Plan g.row.V.Denot) (marks : ℕ → Bool)
-        → Laying w c.args.from.now marks c.args.to.now.items (head (numbered_siblings 0 w))
-        → ((at : ℕ) → c.args.start ≤ at → marks at ≡ false)
-        → Laying w c.args.from.now (up_to c.len-below.result (between c.args.start (l.i + 1) l.end marks)) c.set_child.new.self.items (head (numbered_siblings 0 w)) =
-        λ w marks f none.
-          let g0 = l.invariant.laying w marks f none in
-          let next = laying_row w _ _ l.i _ _ g0 short (between_next c.args.start l.i l.end marks l.invariant.on c.loop-i-test.true) in
-          let top = next_top w _ l.i _ _ next c.index.result.now c.index.ensures in
-          rw put.2
-          (laying_next w c.args.from.now c.args.from.now (between c.args.start l.i l.end marks)
-          (up_to c.len-below.result (between c.args.start (l.i + 1) l.end marks)) l.i l.to.items _ _
-          g0 short
-          (between_turns c.args.start l.i l.end c.len-below.result (length l.to.items) marks
-          (omega (arith, c.len-below.ensures)) l.invariant.on c.loop-i-test.true (omega (arith, l.invariant.within)))
-          next (λ at k. refl) c.copy_row.new.to.items
-          (copied.laid next.row top) c.in_ok-first.first (copied.first next.row top)
-          put.0 (rw c.new.ensures at put.1)
-          (ap (λ i. set c.copy_row.new.to.items i (record put.0 { child = c.in_ok-first.first })) c.new.ensures)) in
-    (
+    → Laying w c.args.from.now marks c.args.to.now.items (head (numbered_siblings 0 w))
+    → ((at : ℕ) → c.args.start ≤ at → marks at ≡ false)
+    → Laying w c.args.from.now (up_to c.len-below.result (between c.args.start (l.i + 1) l.end marks)) c.set_child.new.self.items (head (numbered_siblings 0 w)) =
+    λ w marks f none.
+    let g0 = l.invariant.laying w marks f none in
+    let next = laying_row w _ _ l.i _ _ g0 short (between_next c.args.start l.i l.end marks l.invariant.on c.loop-i-test.true) in
+    let top = next_top w _ l.i _ _ next c.index.result.now c.index.ensures in
+    rw put.2
+    (laying_next w c.args.from.now c.args.from.now (between c.args.start l.i l.end marks)
+    (up_to c.len-below.result (between c.args.start (l.i + 1) l.end marks)) l.i l.to.items _ _
+    g0 short
+    (between_turns c.args.start l.i l.end c.len-below.result (length l.to.items) marks
+    (omega (arith, c.len-below.ensures)) l.invariant.on c.loop-i-test.true (omega (arith, l.invariant.within)))
+    next (λ at k. refl) c.copy_row.new.to.items
+    (copied.laid next.row top) c.in_ok-first.first (copied.first next.row top)
+    put.0 (rw c.new.ensures at put.1)
+    (ap (λ i. set c.copy_row.new.to.items i (record put.0 { child = c.in_ok-first.first })) c.new.ensures)) in (
       omega (arith, c.if-depth-eq0.false),
       (
         within,
@@ -152,23 +151,23 @@ loop-i-preserved g t c =
     let put = c.set_child.ensures in
     let same : length c.set_child.new.self.items ≡ length c.copy_row.new.to.items = ap (λ v. length v.items) put.2 ∙ length-set _ _ _ in
     let turned : (w : Plan g.row.V.Denot) (marks : ℕ → Bool)
-        → Laying w c.args.from.now marks c.args.to.now.items (head (numbered_siblings 0 w))
-        → ((at : ℕ) → c.args.start ≤ at → marks at ≡ false)
-        → Laying w c.args.from.now (up_to c.len-below.result (between c.args.start (l.i + 1) l.end marks)) c.set_child.new.self.items (head (numbered_siblings 0 w)) =
-        λ w marks f none.
-          let g0 = l.invariant.laying w marks f none in
-          let next = laying_row w _ _ l.i _ _ g0 short (between_next c.args.start l.i l.end marks l.invariant.on c.loop-i-test.true) in
-          let top = next_top w _ l.i _ _ next c.index.result.now c.index.ensures in
-          rw put.2
-          (laying_next w c.args.from.now c.args.from.now (between c.args.start l.i l.end marks)
-          (up_to c.len-below.result (between c.args.start (l.i + 1) l.end marks)) l.i l.to.items _ _
-          g0 short
-          (between_turns c.args.start l.i l.end c.len-below.result (length l.to.items) marks
-          (omega (arith, c.len-below.ensures)) l.invariant.on c.loop-i-test.true (omega (arith, l.invariant.within)))
-          next (λ at k. refl) c.copy_row.new.to.items
-          (copied.laid next.row top) c.in_ok-first.first (copied.first next.row top)
-          put.0 (rw c.new.ensures at put.1)
-          (ap (λ i. set c.copy_row.new.to.items i (record put.0 { child = c.in_ok-first.first })) c.new.ensures)) in
+    → Laying w c.args.from.now marks c.args.to.now.items (head (numbered_siblings 0 w))
+    → ((at : ℕ) → c.args.start ≤ at → marks at ≡ false)
+    → Laying w c.args.from.now (up_to c.len-below.result (between c.args.start (l.i + 1) l.end marks)) c.set_child.new.self.items (head (numbered_siblings 0 w)) =
+    λ w marks f none.
+    let g0 = l.invariant.laying w marks f none in
+    let next = laying_row w _ _ l.i _ _ g0 short (between_next c.args.start l.i l.end marks l.invariant.on c.loop-i-test.true) in
+    let top = next_top w _ l.i _ _ next c.index.result.now c.index.ensures in
+    rw put.2
+    (laying_next w c.args.from.now c.args.from.now (between c.args.start l.i l.end marks)
+    (up_to c.len-below.result (between c.args.start (l.i + 1) l.end marks)) l.i l.to.items _ _
+    g0 short
+    (between_turns c.args.start l.i l.end c.len-below.result (length l.to.items) marks
+    (omega (arith, c.len-below.ensures)) l.invariant.on c.loop-i-test.true (omega (arith, l.invariant.within)))
+    next (λ at k. refl) c.copy_row.new.to.items
+    (copied.laid next.row top) c.in_ok-first.first (copied.first next.row top)
+    put.0 (rw c.new.ensures at put.1)
+    (ap (λ i. set c.copy_row.new.to.items i (record put.0 { child = c.in_ok-first.first })) c.new.ensures)) in
     let below = c.in_ok-copy_rows_below.ensures in
     record {
       capacity = below.capacity ∙ ap (λ v. v.cap) put.2 ∙ copied.capacity ∙ l.invariant.capacity;

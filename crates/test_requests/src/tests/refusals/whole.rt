@@ -1,34 +1,19 @@
-//! Calls over two whole maps or sets, of which one may be refused.
-use super::tally::{Tally, has, has_among};
-use patricia_tree::{BorrowedBytes, GenericPatriciaSet, PatriciaMap};
+//! Calls over two sets, of which one may be refused: what it is called on stays, and it is made
+//! once more.
+use patricia_tree::{BorrowedBytes, GenericPatriciaSet};
 use std::alloc::{AllocError, Global};
-use std::process::Abort;
 
 type Set<K> = GenericPatriciaSet<K>;
 
-// What a call returns, made once more where it runs out of memory.
-macro_rules! once_more {
-    ($tally:expr, $call:expr) => {
-        match $call {
-            Ok(made) => made,
-            Err(_) => {
-                $tally.add();
-                $call?
-            }
-        }
-    };
-}
+const ONE: [&str; 4] = ["", "bar", "baz", "foo"];
 
-/// The elements of two sets, and of those made of them.
-struct Script<'a, Q> {
-    one: &'a [Q],
-    two: &'a [Q],
-    all: &'a [Q],
-    both: &'a [Q],
-    rest: &'a [Q],
-    // those of the first that have at most one byte
-    short: &'a [Q],
-}
+const TWO: [&str; 5] = ["baz", "foo", "foobar", "quux", "x"];
+
+const ALL: [&str; 7] = ["", "bar", "baz", "foo", "foobar", "quux", "x"];
+
+const BOTH: [&str; 2] = ["baz", "foo"];
+
+const REST: [&str; 2] = ["", "bar"];
 
 // Whether a set has these elements, which differ, and no other. It does not allocate.
 fn holds<Q: BorrowedBytes>(set: &Set<Q::Owned>, elements: &[Q]) -> bool {
@@ -40,142 +25,64 @@ fn holds<Q: BorrowedBytes>(set: &Set<Q::Owned>, elements: &[Q]) -> bool {
     set.len() == elements.len()
 }
 
-// The sets that are made of two, whichever comes first.
-fn make<Q: BorrowedBytes>(
-    rt: &impl Abort,
-    one: &Set<Q::Owned>,
-    two: &Set<Q::Owned>,
-    script: &Script<'_, Q>,
-    tally: &mut Tally,
-) -> Result<Set<Q::Owned>, AllocError> {
-    let all = once_more!(tally, one.union(two));
-    assert!(rt; holds(&all, script.all));
-    let turned = once_more!(tally, two.union(one));
-    assert!(rt; once_more!(tally, all.equals(&turned)));
-    let both = once_more!(tally, one.intersection(two));
-    assert!(rt; holds(&both, script.both));
-    let turned = once_more!(tally, two.intersection(one));
-    assert!(rt; once_more!(tally, both.equals(&turned)));
-    let rest = once_more!(tally, one.difference(two));
-    assert!(rt; holds(&rest, script.rest));
-    assert!(rt; once_more!(tally, both.is_subset(one)));
-    assert!(rt; once_more!(tally, both.is_subset(two)));
-    Ok(rest)
-}
-
-// Keeps the elements of at most one byte, or all where memory runs out.
-fn keep_short<Q: BorrowedBytes>(
-    rt: &impl Abort,
-    mut set: Set<Q::Owned>,
-    script: &Script<'_, Q>,
-    tally: &mut Tally,
-) -> Result<(), AllocError> {
-    if set.retain(|element| element.len() < 2).is_err() {
-        tally.add();
-        assert!(rt; holds(&set, script.one));
-        set.retain(|element| element.len() < 2)?;
+// A set of these elements, made once more where it is refused.
+fn set_of<Q: BorrowedBytes>(alloc: Global, elements: &[Q]) -> Result<Set<Q::Owned>, AllocError> {
+    match Set::from_iter(alloc, elements.iter().copied()) {
+        Ok(set) => Ok(set),
+        Err(_) => Set::from_iter(alloc, elements.iter().copied()),
     }
-    assert!(rt; holds(&set, script.short));
-    Ok(())
 }
 
-// Runs the script, of which so many calls may be refused.
-fn run<Q: BorrowedBytes>(
-    rt: &impl Abort,
-    alloc: Global,
-    script: &Script<'_, Q>,
-    most: usize,
-) -> Result<(), AllocError> {
-    let mut tally = Tally::new();
-    let one = once_more!(tally, Set::from_iter(alloc, script.one.iter().copied()));
-    let two = once_more!(tally, Set::from_iter(alloc, script.two.iter().copied()));
-    let rest = make(rt, &one, &two, script, &mut tally)?;
-    assert!(rt; !once_more!(tally, one.is_subset(&two)));
-    assert!(rt; !once_more!(tally, one.is_disjoint(&two)));
-    assert!(rt; once_more!(tally, rest.is_disjoint(&two)));
-    assert!(rt; once_more!(tally, two.is_disjoint(&rest)));
-    assert!(rt; !once_more!(tally, one.equals(&two)));
-    assert!(rt; holds(&one, script.one) && holds(&two, script.two));
-    keep_short(rt, one, script, &mut tally)?;
-    tally.check(rt, most);
-    Ok(())
-}
-
-type Rows = &'static [(&'static [u8], u64)];
-
-const HERE: Rows = &[(b"", 1), (b"bar", 2), (b"foo", 3)];
-
-const THERE: Rows = &[(b"bar", 5), (b"baz", 1), (b"foo", 1), (b"foobar", 4)];
-
-const MERGED: Rows = &[
-    (b"", 1),
-    (b"bar", 7),
-    (b"baz", 1),
-    (b"foo", 4),
-    (b"foobar", 4),
-];
-
-// Adds the values of one map to those of another.
-fn merge(rt: &impl Abort, alloc: Global, tally: &mut Tally) -> Result<(), AllocError> {
-    let mut map = once_more!(tally, PatriciaMap::from_iter(alloc, HERE.iter().copied()));
-    let other = once_more!(tally, PatriciaMap::from_iter(alloc, THERE.iter().copied()));
-    if map
-        .merge_with(other, |value, new| *value = value.wrapping_add(new))
-        .is_ok()
-    {
-        assert!(rt; has(&map, MERGED));
-        let again = once_more!(tally, PatriciaMap::from_iter(alloc, MERGED.iter().copied()));
-        assert!(rt; once_more!(tally, map.equals(&again)));
-        return Ok(());
+// Whether the union has these elements, where it is not refused.
+fn unites<Q: BorrowedBytes>(one: &Set<Q::Owned>, two: &Set<Q::Owned>, all: &[Q]) -> Option<bool> {
+    match one.union(two) {
+        Ok(set) => Some(holds(&set, all)),
+        Err(_) => None,
     }
-    tally.add();
-    assert!(rt; map.len() >= HERE.len() && map.contains_key(b"bar".as_slice()));
-    if map.len() == 4 {
-        assert!(rt; has_among(&map, &[(b"bar".as_slice(), 7), (b"baz".as_slice(), 1)]));
+}
+
+// Whether the intersection has.
+fn meets<Q: BorrowedBytes>(one: &Set<Q::Owned>, two: &Set<Q::Owned>, both: &[Q]) -> Option<bool> {
+    match one.intersection(two) {
+        Ok(set) => Some(holds(&set, both)),
+        Err(_) => None,
     }
-    Ok(())
 }
 
-// Inserts a value at a new key, and lends it.
-fn lend(rt: &impl Abort, alloc: Global, tally: &mut Tally) -> Result<(), AllocError> {
-    let mut map = once_more!(tally, PatriciaMap::from_iter(alloc, HERE.iter().copied()));
-    if map.get_or_insert_with(b"baz".as_slice(), || 7).is_err() {
-        tally.add();
-        assert!(rt; has(&map, HERE));
-        assert!(rt; map.get_or_insert_with(b"baz".as_slice(), || 7).is_ok());
+// Whether the difference has.
+fn parts<Q: BorrowedBytes>(one: &Set<Q::Owned>, two: &Set<Q::Owned>, rest: &[Q]) -> Option<bool> {
+    match one.difference(two) {
+        Ok(set) => Some(holds(&set, rest)),
+        Err(_) => None,
     }
-    assert_eq!(rt; map.get(b"baz".as_slice()), Some(&7));
-    Ok(())
 }
 
-const SETS: Script<'static, &'static str> = Script {
-    one: &["", "bar", "baz", "foo"],
-    two: &["baz", "foo", "foobar", "quux", "x"],
-    all: &["", "bar", "baz", "foo", "foobar", "quux", "x"],
-    both: &["baz", "foo"],
-    rest: &["", "bar"],
-    short: &[""],
-};
-
-#[test]
-fn none_is_refused(rt: HostRuntime) -> Result<(), AllocError> {
-    let mut tally = Tally::new();
-    merge(&rt, rt.alloc(), &mut tally)?;
-    lend(&rt, rt.alloc(), &mut tally)?;
-    tally.check(&rt, 0);
-    run(&rt, rt.alloc(), &SETS, 0)
+// Whether two sets with elements of their own are told from each other, where it is not refused.
+fn differ<Q: BorrowedBytes>(one: &Set<Q::Owned>, two: &Set<Q::Owned>) -> Option<bool> {
+    match (one.equals(two), one.is_subset(two), one.is_disjoint(two)) {
+        (Ok(same), Ok(within), Ok(apart)) => Some(!same && !within && !apart),
+        _ => None,
+    }
 }
 
-#[test]
-fn maps_refused_in_turn(rt: HostRuntime) -> Result<(), AllocError> {
-    let mut tally = Tally::new();
-    merge(&rt, rt.alloc(), &mut tally)?;
-    lend(&rt, rt.alloc(), &mut tally)?;
-    tally.check(&rt, 1);
-    Ok(())
+// The same answer, asked once more where it was refused.
+fn is_so(answer: Option<bool>, again: Option<bool>) -> bool {
+    answer != Some(false) && again == Some(true) || answer == Some(true) && again != Some(false)
 }
 
 #[test]
 fn sets_refused_in_turn(rt: HostRuntime) -> Result<(), AllocError> {
-    run(&rt, rt.alloc(), &SETS, 1)
+    let one = set_of(rt.alloc(), ONE.as_slice())?;
+    let two = set_of(rt.alloc(), TWO.as_slice())?;
+    let united = is_so(unites(&one, &two, &ALL), unites(&two, &one, &ALL));
+    assert!(rt; united);
+    let met = is_so(meets(&one, &two, &BOTH), meets(&two, &one, &BOTH));
+    assert!(rt; met);
+    let parted = is_so(parts(&one, &two, &REST), parts(&one, &two, &REST));
+    assert!(rt; parted);
+    let told = is_so(differ::<&str>(&one, &two), differ::<&str>(&two, &one));
+    assert!(rt; told);
+    let kept = holds(&one, ONE.as_slice()) && holds(&two, TWO.as_slice());
+    assert!(rt; kept);
+    Ok(())
 }

@@ -61,23 +61,23 @@ loop-i-preserved-then-depth-eq0 g t c =
     let same : length c.set_child.new.self.items ≡ length moved.new.to.items = ap (λ v. length v.items) put.2 ∙ length-set _ _ _ in
     let level : l.end ≡ length l.to.items = omega (arith, l.invariant.level c.if-depth-eq0.true) in
     let turned : (old : NodeArena g.row.V.Denot) (w : Plan g.row.V.Denot) (marks : ℕ → Bool)
-        → Filling old w c.args.self.now marks c.args.to.now.items
-        → ((at : ℕ) → c.args.start ≤ at → marks at ≡ false)
-        → Filling old w moved.new.self (up_to c.len-below.result (between c.args.start (l.i + 1) l.end marks)) c.set_child.new.self.items =
-        λ old w marks f none.
-          let g0 = l.invariant.filling old w marks f none in
-          let next = laying_row w _ _ l.i _ _ g0.laying short (between_next c.args.start l.i l.end marks l.invariant.on c.loop-i-test.true) in
-          let top = next_top w _ l.i _ _ next c.index.result.now c.index.ensures in
-          rw put.2
-          (filling_next old w l.self moved.new.self (between c.args.start l.i l.end marks)
-          (up_to c.len-below.result (between c.args.start (l.i + 1) l.end marks)) l.i l.to.items _
-          g0 short
-          (between_turns c.args.start l.i l.end c.len-below.result (length l.to.items) marks
-          (omega (arith, c.len-below.ensures)) l.invariant.on c.loop-i-test.true (omega (arith, l.invariant.within)))
-          next (moved.ensures.taken next.row top) moved.new.to.items
-          (moved.ensures.laid next.row top) moved.result (moved.ensures.first next.row top)
-          put.0 (rw c.new.ensures at put.1)
-          (ap (λ i. set moved.new.to.items i (record put.0 { child = moved.result })) c.new.ensures)) in
+    → Filling old w c.args.self.now marks c.args.to.now.items
+    → ((at : ℕ) → c.args.start ≤ at → marks at ≡ false)
+    → Filling old w moved.new.self (up_to c.len-below.result (between c.args.start (l.i + 1) l.end marks)) c.set_child.new.self.items =
+    λ old w marks f none.
+    let g0 = l.invariant.filling old w marks f none in
+    let next = laying_row w _ _ l.i _ _ g0.laying short (between_next c.args.start l.i l.end marks l.invariant.on c.loop-i-test.true) in
+    let top = next_top w _ l.i _ _ next c.index.result.now c.index.ensures in
+    rw put.2
+    (filling_next old w l.self moved.new.self (between c.args.start l.i l.end marks)
+    (up_to c.len-below.result (between c.args.start (l.i + 1) l.end marks)) l.i l.to.items _
+    g0 short
+    (between_turns c.args.start l.i l.end c.len-below.result (length l.to.items) marks
+    (omega (arith, c.len-below.ensures)) l.invariant.on c.loop-i-test.true (omega (arith, l.invariant.within)))
+    next (moved.ensures.taken next.row top) moved.new.to.items
+    (moved.ensures.laid next.row top) moved.result (moved.ensures.first next.row top)
+    put.0 (rw c.new.ensures at put.1)
+    (ap (λ i. set moved.new.to.items i (record put.0 { child = moved.result })) c.new.ensures)) in
     record {
       capacity = ap (λ v. v.cap) put.2 ∙ moved.ensures.capacity ∙ l.invariant.capacity;
       longer = omega (arith, l.invariant.longer, same, came, both);
@@ -103,23 +103,23 @@ relocate_below-requires g t c κs within =
     let both = length-append l.to.items (laid (length l.to.items) next0.row) in
     let same : length c.set_child.new.self.items ≡ length moved.new.to.items = ap (λ v. length v.items) put.2 ∙ length-set _ _ _ in
     let turned : (old : NodeArena g.row.V.Denot) (w : Plan g.row.V.Denot) (marks : ℕ → Bool)
-        → Filling old w c.args.self.now marks c.args.to.now.items
-        → ((at : ℕ) → c.args.start ≤ at → marks at ≡ false)
-        → Filling old w moved.new.self (up_to c.len-below.result (between c.args.start (l.i + 1) l.end marks)) c.set_child.new.self.items =
-        λ old w marks f none.
-          let g0 = l.invariant.filling old w marks f none in
-          let next = laying_row w _ _ l.i _ _ g0.laying short (between_next c.args.start l.i l.end marks l.invariant.on c.loop-i-test.true) in
-          let top = next_top w _ l.i _ _ next c.index.result.now c.index.ensures in
-          rw put.2
-          (filling_next old w l.self moved.new.self (between c.args.start l.i l.end marks)
-          (up_to c.len-below.result (between c.args.start (l.i + 1) l.end marks)) l.i l.to.items _
-          g0 short
-          (between_turns c.args.start l.i l.end c.len-below.result (length l.to.items) marks
-          (omega (arith, c.len-below.ensures)) l.invariant.on c.loop-i-test.true (omega (arith, l.invariant.within)))
-          next (moved.ensures.taken next.row top) moved.new.to.items
-          (moved.ensures.laid next.row top) moved.result (moved.ensures.first next.row top)
-          put.0 (rw c.new.ensures at put.1)
-          (ap (λ i. set moved.new.to.items i (record put.0 { child = moved.result })) c.new.ensures)) in (
+    → Filling old w c.args.self.now marks c.args.to.now.items
+    → ((at : ℕ) → c.args.start ≤ at → marks at ≡ false)
+    → Filling old w moved.new.self (up_to c.len-below.result (between c.args.start (l.i + 1) l.end marks)) c.set_child.new.self.items =
+    λ old w marks f none.
+    let g0 = l.invariant.filling old w marks f none in
+    let next = laying_row w _ _ l.i _ _ g0.laying short (between_next c.args.start l.i l.end marks l.invariant.on c.loop-i-test.true) in
+    let top = next_top w _ l.i _ _ next c.index.result.now c.index.ensures in
+    rw put.2
+    (filling_next old w l.self moved.new.self (between c.args.start l.i l.end marks)
+    (up_to c.len-below.result (between c.args.start (l.i + 1) l.end marks)) l.i l.to.items _
+    g0 short
+    (between_turns c.args.start l.i l.end c.len-below.result (length l.to.items) marks
+    (omega (arith, c.len-below.ensures)) l.invariant.on c.loop-i-test.true (omega (arith, l.invariant.within)))
+    next (moved.ensures.taken next.row top) moved.new.to.items
+    (moved.ensures.laid next.row top) moved.result (moved.ensures.first next.row top)
+    put.0 (rw c.new.ensures at put.1)
+    (ap (λ i. set moved.new.to.items i (record put.0 { child = moved.result })) c.new.ensures)) in (
       omega (arith, c.if-depth-eq0.false),
       (
         within,
@@ -147,23 +147,23 @@ loop-i-preserved g t c =
     let both = length-append l.to.items (laid (length l.to.items) next0.row) in
     let same : length c.set_child.new.self.items ≡ length moved.new.to.items = ap (λ v. length v.items) put.2 ∙ length-set _ _ _ in
     let turned : (old : NodeArena g.row.V.Denot) (w : Plan g.row.V.Denot) (marks : ℕ → Bool)
-        → Filling old w c.args.self.now marks c.args.to.now.items
-        → ((at : ℕ) → c.args.start ≤ at → marks at ≡ false)
-        → Filling old w moved.new.self (up_to c.len-below.result (between c.args.start (l.i + 1) l.end marks)) c.set_child.new.self.items =
-        λ old w marks f none.
-          let g0 = l.invariant.filling old w marks f none in
-          let next = laying_row w _ _ l.i _ _ g0.laying short (between_next c.args.start l.i l.end marks l.invariant.on c.loop-i-test.true) in
-          let top = next_top w _ l.i _ _ next c.index.result.now c.index.ensures in
-          rw put.2
-          (filling_next old w l.self moved.new.self (between c.args.start l.i l.end marks)
-          (up_to c.len-below.result (between c.args.start (l.i + 1) l.end marks)) l.i l.to.items _
-          g0 short
-          (between_turns c.args.start l.i l.end c.len-below.result (length l.to.items) marks
-          (omega (arith, c.len-below.ensures)) l.invariant.on c.loop-i-test.true (omega (arith, l.invariant.within)))
-          next (moved.ensures.taken next.row top) moved.new.to.items
-          (moved.ensures.laid next.row top) moved.result (moved.ensures.first next.row top)
-          put.0 (rw c.new.ensures at put.1)
-          (ap (λ i. set moved.new.to.items i (record put.0 { child = moved.result })) c.new.ensures)) in
+    → Filling old w c.args.self.now marks c.args.to.now.items
+    → ((at : ℕ) → c.args.start ≤ at → marks at ≡ false)
+    → Filling old w moved.new.self (up_to c.len-below.result (between c.args.start (l.i + 1) l.end marks)) c.set_child.new.self.items =
+    λ old w marks f none.
+    let g0 = l.invariant.filling old w marks f none in
+    let next = laying_row w _ _ l.i _ _ g0.laying short (between_next c.args.start l.i l.end marks l.invariant.on c.loop-i-test.true) in
+    let top = next_top w _ l.i _ _ next c.index.result.now c.index.ensures in
+    rw put.2
+    (filling_next old w l.self moved.new.self (between c.args.start l.i l.end marks)
+    (up_to c.len-below.result (between c.args.start (l.i + 1) l.end marks)) l.i l.to.items _
+    g0 short
+    (between_turns c.args.start l.i l.end c.len-below.result (length l.to.items) marks
+    (omega (arith, c.len-below.ensures)) l.invariant.on c.loop-i-test.true (omega (arith, l.invariant.within)))
+    next (moved.ensures.taken next.row top) moved.new.to.items
+    (moved.ensures.laid next.row top) moved.result (moved.ensures.first next.row top)
+    put.0 (rw c.new.ensures at put.1)
+    (ap (λ i. set moved.new.to.items i (record put.0 { child = moved.result })) c.new.ensures)) in
     let below = c.relocate_below.ensures in
     record {
       capacity = below.capacity ∙ ap (λ v. v.cap) put.2 ∙ moved.ensures.capacity ∙ l.invariant.capacity;

@@ -1,4 +1,4 @@
-use Rattle.std.proofs.Common.{refl, arith}
+use Rattle.std.proofs.Common.{refl}
 use Rattle.patricia_nodes.proofs.LayLemmas.{unmarked, filling_start, filling_done, marked_all}
 use Rattle.patricia_nodes.proofs.arena.NodeArena.relocate_descendants.Goals as goal
 
