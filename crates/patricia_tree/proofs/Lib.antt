@@ -9,3 +9,4 @@ mod SetLemmas
 mod WholeLemmas
 mod RetainLemmas
 mod MergeLemmas
+mod VisitLemmas

@@ -7,6 +7,7 @@ pub mod Loans
 pub mod Merges
 pub mod Sets
 pub mod Steps
+pub mod Visits
 pub mod Whole
 pub use Rattle.patricia_core.specs.ByteKind
 pub use Rattle.patricia_core.specs.Clones

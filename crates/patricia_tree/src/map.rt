@@ -23,6 +23,7 @@ mod loans;
 mod near;
 mod prefixes;
 mod ranges;
+mod visits;
 mod whole;
 
 pub use crate::guard::{CursorGuard, IntoMap};

@@ -18,6 +18,7 @@ mod ends;
 mod iterators;
 mod near;
 mod ranges;
+mod visits;
 mod whole;
 
 use crate::map::GenericPatriciaMap;

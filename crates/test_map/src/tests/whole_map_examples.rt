@@ -36,3 +36,28 @@ fn get_or_insert_with(rt: HostRuntime) -> anyhow::Result<()> {
     // end
     Ok(())
 }
+
+#[test]
+fn for_each(rt: HostRuntime) -> anyhow::Result<()> {
+    // example: map for_each
+    let map = StringPatriciaMap::from_iter(rt.alloc(), [("quux", 1), ("bar", 2)])?;
+    let (mut longest, mut greatest) = (0, 0);
+    map.for_each(|key, value| {
+        longest = longest.max(key.len());
+        greatest = greatest.max(*value);
+    })?;
+    assert_eq!(rt; (longest, greatest), (4, 2));
+    // end
+    Ok(())
+}
+
+#[test]
+fn for_each_under(rt: HostRuntime) -> anyhow::Result<()> {
+    // example: map for_each_under
+    let map = StringPatriciaMap::from_iter(rt.alloc(), [("foo", 5), ("bar", 2), ("baz", 3)])?;
+    let mut greatest = 0;
+    map.for_each_under("ba", |_, value| greatest = greatest.max(*value))?;
+    assert_eq!(rt; greatest, 3);
+    // end
+    Ok(())
+}

@@ -82,3 +82,25 @@ fn retain(rt: HostRuntime) -> Result<(), AllocError> {
     // end
     Ok(())
 }
+
+#[test]
+fn for_each(rt: HostRuntime) -> Result<(), AllocError> {
+    // example: set for_each
+    let set = StringPatriciaSet::from_iter(rt.alloc(), ["quux", "foo"])?;
+    let mut longest = 0;
+    set.for_each(|element| longest = longest.max(element.len()))?;
+    assert_eq!(rt; longest, 4);
+    // end
+    Ok(())
+}
+
+#[test]
+fn for_each_under(rt: HostRuntime) -> Result<(), AllocError> {
+    // example: set for_each_under
+    let set = StringPatriciaSet::from_iter(rt.alloc(), ["quux", "bar", "baz"])?;
+    let mut longest = 0;
+    set.for_each_under("ba", |element| longest = longest.max(element.len()))?;
+    assert_eq!(rt; longest, 3);
+    // end
+    Ok(())
+}
