@@ -25,7 +25,7 @@ module _ {F V : Type 0} (R : F → List ℕ × V → F → Type 0) where
   abbrev pub VisitsAll : F → List (List ℕ × V) → Type 0
   VisitsAll f rows = (last : F) × FoldsTo R f rows last
 
-  -- it was called at the first of these rows, in order, and not at those that are left
+  -- it was called at the first of these rows, in order, and some are left
   pub record IsVisitStopped (f : F) (rows : List (List ℕ × V)) : Type 0 where
     pub visited : List (List ℕ × V)
     pub left : List (List ℕ × V)
