@@ -1,12 +1,17 @@
 -- Values whose clones are the same.
-use Rattle.std.proofs.Common.{inl, inr, ℕ, Bool, List, [], ◌∷◌, ◌++◌, Option, Some, None, sym, subst}
-use Rattle.std.specs.Prelude.{IfSome, map}
+use Rattle.std.proofs.Common.{◌≡◌, ◌≢◌, inl, inr, ℕ, Bool, true, false, List, [], ◌∷◌, ◌++◌, Option, Some, None}
+use Rattle.std.proofs.Common.{refl, sym, ap, subst, ◌∙◌, length, arith, slice_get}
+use Rattle.std.specs.Prelude.{IfSome, map, zero, suc, nat_eq}
+use Rattle.std.proofs.lemmas.Bool.Decides.{nat_tests}
+use Rattle.std.proofs.lemmas.Option.{slice_get_within}
 use Rattle.std.specs.List.{All, AllByRecursion}
 use Rattle.std.proofs.lemmas.List.Elements.{All-from_recursion, recursion_from_All}
 use Rattle.patricia_model.specs.Siblings.{Siblings, end, node, own, prefixed, entries}
 use Rattle.patricia_nodes.specs.declared.arena.Node.{Node}
 use Rattle.patricia_nodes.specs.declared.arena.NodeArena.{NodeArena}
-use Rattle.patricia_nodes.specs.Internal.Plans.{Plan, row, siblings_of}
+use Rattle.patricia_nodes.specs.Internal.Plans.{Plan, Nil, Cell, linked, head, row, siblings_of, count}
+use Rattle.patricia_nodes.specs.Internal.Plans.{LaidOut, IsSound, IsWellFormed}
+use Rattle.patricia_nodes.proofs.PlanLemmas.{below_in, plan_is}
 use Rattle.patricia_nodes.specs.Internal.Relocation.{Mix, Empty, Done, Open, flat, Laying}
 use Rattle.patricia_nodes.proofs.RelayLemmas.{OpenAt}
 use Rattle.patricia_nodes.proofs.LayLemmas.{NextRow}
@@ -60,6 +65,42 @@ module _ {V : Type 0} (is_clone : V → V → Type 0) where
   -- the values of the entries are those of the row
   pub row_kept : (s : NodeArena V) → EntriesKept is_clone s → RowKept is_clone (siblings_of s)
   row_kept s k = kept-entries (siblings_of s) (recursion_from_All (λ e. CloneIsSame is_clone e.1) (entries (siblings_of s)) k)
+
+  -- and so are those of each node that stands in a plan, where those of its row are
+  kept_at : (nodes : List (Node V)) (p : Plan V) → LaidOut nodes p → RowKept is_clone (row p)
+      → (i : ℕ) → count p i ≢ 0 → (n : Node V) → slice_get nodes i ≡ Some n
+      → IfSome n.value (CloneIsSame is_clone)
+  kept_at nodes Nil stands k i there n is = absurd (there refl)
+  kept_at nodes (Cell id l v c d) stands k i there n is =
+      by (nat_eq id i) refl (λ some. kept_at nodes c stands.1 k.1 i some n is) (λ some. kept_at nodes d stands.2 k.2 i some n is)
+    where
+      below : nat_eq id i ≡ false → (count d i ≢ 0 → IfSome n.value (CloneIsSame is_clone))
+          → (count c i ≢ 0 → IfSome n.value (CloneIsSame is_clone)) → (m : ℕ) → count c i ≡ m
+          → IfSome n.value (CloneIsSame is_clone)
+      below e of_d of_c zero z = of_d (λ none. there (rw (e, z, none) refl))
+      below e of_d of_c (suc m) z = of_c (λ none. absurd (let no_more : suc m ≡ 0 = sym z ∙ none in cc))
+
+      by : (b : Bool) → nat_eq id i ≡ b → (count c i ≢ 0 → IfSome n.value (CloneIsSame is_clone))
+          → (count d i ≢ 0 → IfSome n.value (CloneIsSame is_clone)) → IfSome n.value (CloneIsSame is_clone)
+      by true e of_c of_d =
+          let here : id ≡ i = grind (arith, nat_tests) in
+          let both : Some (linked l v (head c) (head d)) ≡ Some n = sym stands.0 ∙ ap (slice_get nodes) here ∙ is in
+          let same : linked l v (head c) (head d) ≡ n = cc in
+          subst (λ (m : Node V). IfSome m.value (CloneIsSame is_clone)) same k.0
+      by false e of_c of_d = below e of_d of_c (count c i) refl
+
+  -- where no node is free, that are all nodes
+  pub nodes_kept : (s : NodeArena V) → IsWellFormed s → s.free ≡ None → EntriesKept is_clone s
+      → (i : ℕ) (n : Node V) → slice_get s.nodes.items i ≡ Some n → IfSome n.value (CloneIsSame is_clone)
+  nodes_kept s whole none k i n is = by whole.1.0 whole.1.1
+    where
+      kept : RowKept is_clone (row whole.0)
+      kept = subst (λ p. RowKept is_clone (row p)) (plan_is s.nodes.items s.root whole.0 whole.1.1.plan_ok) (row_kept s k)
+
+      by : (spare : List ℕ) → IsSound s.nodes.items s.root s.free whole.0 spare → IfSome n.value (CloneIsSame is_clone)
+      by (id ∷ ids) sound = absurd (let no : None ≡ Some id = sym none ∙ sound.free_is in cc)
+      by [] sound = kept_at s.nodes.items whole.0 sound.plan_ok.stands kept i
+          (λ gone. absurd (omega (arith, sound.once i, below_in (length s.nodes.items) i (slice_get_within s.nodes.items i n is), gone))) n is
 
   -- the clones of a node's children are the same, where those of the whole row are
   kept-open : (i : ℕ) (q : Mix V) (w : Plan V) → OpenAt i q w → RowKept is_clone (row (flat q))

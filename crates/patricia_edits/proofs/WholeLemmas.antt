@@ -1,11 +1,13 @@
 -- All nodes are copied.
-use Rattle.std.proofs.Common.{◌≡◌, ℕ, List, [], ◌++◌, length, None, refl, ap, ◌∙◌}
+use Rattle.std.proofs.Common.{◌≡◌, ℕ, List, [], ◌∷◌, ◌++◌, length, Some, None, refl, sym, ap, ◌∙◌, arith}
+use Rattle.std.proofs.lemmas.List.{nil_from_length}
 use Rattle.patricia_model.specs.Siblings.{end}
 use Rattle.patricia_nodes.specs.declared.arena.Node.{Node}
 use Rattle.patricia_nodes.specs.declared.arena.NodeArena.{NodeArena}
 use Rattle.patricia_nodes.specs.Internal.Plans.{Plan, Nil, Cell, head, row, siblings_of, size}
-use Rattle.patricia_nodes.specs.Internal.Plans.{plan_at, IsWellFormed}
+use Rattle.patricia_nodes.specs.Internal.Plans.{plan_at, IsSound, IsWellFormed}
 use Rattle.patricia_nodes.specs.Internal.Growth.{laid, IsTopRow, IsLaid}
+use Rattle.patricia_nodes.proofs.PlanLemmas.{plan_is}
 use Rattle.patricia_nodes.proofs.LayLemmas.{Readable, readable, laid_apart}
 
 module _ {V : Type 0} where
@@ -46,3 +48,13 @@ module _ {V : Type 0} where
   top_copied s whole from same to0 to none comes =
       let r = whole_readable s whole in
       rw same (laid_apart s.nodes.items s.nodes.items (plan_at s.nodes.items s.root) to0 to r.stands r.once (λ at k. refl) none comes)
+
+  -- where no node is free and there is no row, there is no node
+  pub none_there : (s : NodeArena V) → IsWellFormed s → s.free ≡ None → siblings_of s ≡ end → s.nodes.items ≡ []
+  none_there s whole none e = by whole.1.0 whole.1.1
+    where
+      by : (spare : List ℕ) → IsSound s.nodes.items s.root s.free whole.0 spare → s.nodes.items ≡ []
+      by (id ∷ ids) sound = absurd (let no : None ≡ Some id = sym none ∙ sound.free_is in cc)
+      by [] sound =
+          let gone : whole.0 ≡ Nil = no_nodes whole.0 (ap (λ p. row p) (sym (plan_is s.nodes.items s.root whole.0 sound.plan_ok)) ∙ e) in
+          nil_from_length s.nodes.items (omega (arith, sound.total, ap (λ (p : Plan V). size p) gone))

@@ -1,9 +1,10 @@
 //! Nodes copied to a vector of their own.
 //!
-//! Rows are laid there as growth lays them: siblings side by side, and what is below a node behind
-//! its row. What waits stands in the new vector, which is reserved once.
+//! Where none is free, each keeps its number. Else rows are laid there as growth lays them: siblings
+//! side by side, and what is below a node behind its row. What waits stands in the new vector, which
+//! is reserved once.
 ghost use Rattle.std.specs.Prelude.{◌≡◌, ◌≢◌, ◌+◌, ◌≤◌, ◌++◌, [], None, IfSome, IfOk, OnOk, OnErr};
-ghost use Rattle.std.specs.Prelude.{length, vec_len, vec_capacity};
+ghost use Rattle.std.specs.Prelude.{length, slice_get, vec_len, vec_capacity, ℕ, Some};
 ghost use Rattle.patricia_model.specs.Siblings.{end};
 ghost use Rattle.patricia_nodes.specs.Internal.Plans.{Plan, linked, head, row, siblings_of, size};
 ghost use Rattle.patricia_nodes.specs.Internal.Plans.{plan_at, IsSound, IsWellFormed};
@@ -142,9 +143,43 @@ fn copy_below<V: Clone>(
     copy_rows_below(alloc, from, to, 0, DEPTH_FIRST)
 }
 
-/// The same nodes in a vector of their own, laid row by row as growth lays them, with none free.
-/// The vector is reserved once.
-pub fn copy<V: Clone>(arena: &NodeArena<V>, alloc: Global) -> Result<NodeArena<V>, AllocError>
+// Copies nodes, each to the number that it has.
+fn copy_nodes<V: Clone>(alloc: Global, from: &[Node<V>]) -> Result<NodeVec<V>, AllocError>
+    requires { (i : ℕ) (n : Node V) → slice_get from.now i ≡ Some n
+        → IfSome n.value (CloneIsSame V.is_clone) }
+    ensures same { IfOk result (λ to. to.items ≡ from.now) }
+    ensures nonempty { OnErr result (from.now ≢ []) }
+{
+    let mut to = NodeVec::with_capacity(alloc, from.len())?;
+    for node in from {
+        to.push_reserved(copy_node(alloc, node, node.sibling)?);
+    }
+    Ok(to)
+}
+
+// The same nodes, of which none is free, each at the number that it had.
+fn copy_in_place<V: Clone>(
+    arena: &NodeArena<V>,
+    alloc: Global,
+) -> Result<NodeArena<V>, AllocError>
+    requires whole { IsWellFormed arena.now }
+    requires cloned { EntriesKept V.is_clone arena.now }
+    requires none_free { arena.now.free ≡ None }
+    ensures whole { IfOk result (λ c. IsWellFormed c) }
+    ensures row { IfOk result (λ c. siblings_of c ≡ siblings_of arena.now) }
+    ensures none_free { IfOk result (λ c. c.free ≡ None) }
+    ensures nonempty { OnErr result (siblings_of arena.now ≢ end) }
+{
+    Ok(NodeArena {
+        nodes: copy_nodes(alloc, arena.nodes.as_slice())?,
+        root: arena.root,
+        free: Link::none(),
+        edits: arena.edits,
+    })
+}
+
+// The same nodes laid as growth lays them, without the free ones.
+fn copy_laid<V: Clone>(arena: &NodeArena<V>, alloc: Global) -> Result<NodeArena<V>, AllocError>
     requires whole { IsWellFormed arena.now }
     requires cloned { EntriesKept V.is_clone arena.now }
     ensures whole { IfOk result (λ c. IsWellFormed c) }
@@ -161,4 +196,21 @@ pub fn copy<V: Clone>(arena: &NodeArena<V>, alloc: Global) -> Result<NodeArena<V
         free: Link::none(),
         edits: 0,
     })
+}
+
+/// The same nodes in a vector of their own, with none free. Where none is free each has the number
+/// that it had, and the vector is read and written from front to end; else they are laid as growth
+/// lays them. The vector is reserved once.
+pub fn copy<V: Clone>(arena: &NodeArena<V>, alloc: Global) -> Result<NodeArena<V>, AllocError>
+    requires whole { IsWellFormed arena.now }
+    requires cloned { EntriesKept V.is_clone arena.now }
+    ensures whole { IfOk result (λ c. IsWellFormed c) }
+    ensures row { IfOk result (λ c. siblings_of c ≡ siblings_of arena.now) }
+    ensures none_free { IfOk result (λ c. c.free ≡ None) }
+    ensures nonempty { OnErr result (siblings_of arena.now ≢ end) }
+{
+    match arena.free.get() {
+        None => copy_in_place(arena, alloc),
+        Some(_) => copy_laid(arena, alloc),
+    }
 }

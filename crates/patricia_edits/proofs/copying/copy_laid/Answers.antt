@@ -8,7 +8,7 @@ use Rattle.patricia_nodes.proofs.RelayLemmas.{tops_within}
 use Rattle.patricia_edits.proofs.KeptLemmas.{row_kept}
 use Rattle.patricia_edits.proofs.WholeLemmas.{none_used, none_first, none_laid, top_there}
 use Rattle.patricia_edits.proofs.WholeLemmas.{top_copied}
-use Rattle.patricia_edits.proofs.copying.copy.Goals as goal
+use Rattle.patricia_edits.proofs.copying.copy_laid.Goals as goal
 
 pub returns-in_err-nodes-clause-nonempty : goal.returns-in_err-nodes-clause-nonempty
 returns-in_err-nodes-clause-nonempty g c = on_err c.from_residual.result
