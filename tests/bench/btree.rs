@@ -1,6 +1,6 @@
 //! btree [times]: what `bench_tree` does, over std's ordered map. Its walk lends the keys.
 
-use std::collections::BTreeMap;
+use std::collections::{BTreeMap, BTreeSet};
 use std::ops::Bound;
 use std::io::Read;
 use std::time::Instant;
@@ -37,6 +37,16 @@ fn raised(map: &mut Map) -> u64 {
         raised += 1;
     }
     raised
+}
+
+// The lengths of the keys of ten entries from each key on.
+fn from_ten(map: &Map, keys: &[&[u8]]) -> u64 {
+    let mut bytes = 0;
+    for key in keys {
+        let from = (Bound::Included(*key), Bound::Unbounded);
+        bytes += map.range::<[u8], _>(from).take(10).map(|(key, _)| key.len() as u64).sum::<u64>();
+    }
+    bytes
 }
 
 // The entries under the first half of each key.
@@ -179,7 +189,7 @@ fn report(times: bool, name: &str, start: Instant, calls: usize, answer: u64) {
     }
 }
 
-// Copies the map, and takes a part out of the copy.
+// Copies the map, takes a part out of the copy and puts it back, and keeps half of it.
 fn time_copies(times: bool, map: &Map, prefix: &[u8]) {
     let start = Instant::now();
     let mut copy = map.clone();
@@ -188,6 +198,13 @@ fn time_copies(times: bool, map: &Map, prefix: &[u8]) {
     let part = split_by_prefix(&mut copy, prefix);
     report(times, "split_by_prefix", start, part.len(), part.len() as u64);
     println!("share {}", part.len() * 1000 / map.len().max(1));
+    let mut part = part;
+    let start = Instant::now();
+    copy.append(&mut part);
+    report(times, "merge", start, map.len(), copy.len() as u64);
+    let start = Instant::now();
+    copy.retain(|_, value| *value & 1 == 0);
+    report(times, "retain", start, map.len(), copy.len() as u64);
 }
 
 // Takes half of the keys out and puts them in again, and then the other half.
@@ -215,6 +232,22 @@ fn churn(times: bool, present: &[&[u8]], absent: &[&[u8]]) {
     report(times, "churned_lend", start, map.len(), walked(&map));
 }
 
+// Makes a map of keys in their order.
+fn load(times: bool, keys: &[&[u8]]) {
+    let start = Instant::now();
+    let map: Map = keys.iter().map(|key| (key.to_vec(), 1)).collect();
+    report(times, "sorted_load", start, keys.len(), map.len() as u64);
+}
+
+// Makes the union of two sets.
+fn unite(times: bool, first: &[&[u8]], second: &[&[u8]]) {
+    let first: BTreeSet<Vec<u8>> = first.iter().map(|key| key.to_vec()).collect();
+    let second: BTreeSet<Vec<u8>> = second.iter().map(|key| key.to_vec()).collect();
+    let start = Instant::now();
+    let union: BTreeSet<Vec<u8>> = first.union(&second).cloned().collect();
+    report(times, "union", start, union.len(), union.len() as u64);
+}
+
 fn measure(times: bool, present: &mut [&[u8]], absent: &[&[u8]], prefix: &[u8]) {
     let before = memory("VmRSS:");
     let mut map = Map::new();
@@ -237,6 +270,8 @@ fn measure(times: bool, present: &mut [&[u8]], absent: &[&[u8]], prefix: &[u8]) 
     report(times, "values", start, map.len(), summed(&map));
     let some = &absent[..absent.len().min(100_000)];
     let start = Instant::now();
+    report(times, "range", start, some.len(), from_ten(&map, some));
+    let start = Instant::now();
     report(times, "under", start, some.len(), under(&map, some));
     let start = Instant::now();
     report(times, "longest", start, some.len(), longest(&map, some));
@@ -253,6 +288,8 @@ fn measure(times: bool, present: &mut [&[u8]], absent: &[&[u8]], prefix: &[u8]) 
     let start = Instant::now();
     let new = put(&mut map, present);
     report(times, "insert_sorted", start, present.len(), new);
+    load(times, present);
+    unite(times, present, some);
     if times {
         println!("memory {}", after.saturating_sub(before) / new.max(1));
         println!("peak {}", peak.saturating_sub(before) / new.max(1));

@@ -104,6 +104,30 @@ def prefix_answers(m, kind, call, words):
     return [str(value) for _, value in along[0]]
 
 
+def items(key, kind):
+    """The bytes of a key, or the characters of a text."""
+    return key.decode() if kind == 'text' else key
+
+
+def edits(one, two):
+    """How many items at the least are inserted, deleted or replaced to make two of one."""
+    before = list(range(len(two) + 1))
+    for i, x in enumerate(one):
+        here = [i + 1]
+        for j, y in enumerate(two):
+            here.append(min(before[j] + (x != y), before[j + 1] + 1, here[j] + 1))
+        before = here
+    return before[-1]
+
+
+def near_answers(m, kind, call, words):
+    """The entries that are at most so many edits from a key, or None for another call."""
+    if call != 'within':
+        return None
+    sought, limit = items(words[0], kind), int(words[1])
+    return [row(e) for e in rows(m) if edits(items(e[0], kind), sought) <= limit]
+
+
 def key_answers(kind, call, words):
     """The answers to a call of the key traits."""
     if call == 'floor':
@@ -248,6 +272,8 @@ def answers(m, kind, call, words):
         found = debug_answers(m, kind, call)
     if found is None:
         found = prefix_answers(m, kind, call, words)
+    if found is None:
+        found = near_answers(m, kind, call, words)
     return key_answers(kind, call, words) if found is None else found
 
 

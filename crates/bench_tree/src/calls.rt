@@ -9,6 +9,7 @@ use std::mem;
 pub(super) enum Each {
     Put,
     Get,
+    From,
     Under,
     Longest,
     Take,
@@ -30,6 +31,24 @@ fn put<Q: BorrowedBytes>(
 fn one<T: Drop>(item: Result<T, AllocError>) -> Result<u64, AllocError> {
     item?;
     Ok(1)
+}
+
+// The lengths of the keys of ten entries from a key on, which a cursor lends.
+fn from_ten<Q: BorrowedBytes>(
+    map: &GenericPatriciaMap<Q::Owned, u64>,
+    key: Q,
+) -> Result<u64, AllocError> {
+    let mut bytes: u64 = 0;
+    let mut cursor = map.cursor_from(key);
+    for _ in 0..10 {
+        if !cursor.advance()? {
+            break;
+        }
+        if let Some(key) = cursor.key() {
+            bytes = bytes.wrapping_add(key.len() as u64);
+        }
+    }
+    Ok(bytes)
 }
 
 // How many entries there are under a prefix.
@@ -71,6 +90,7 @@ fn call_one<Q: BorrowedBytes>(
     match call {
         Each::Put => put(map, key, value),
         Each::Get => Ok(u64::from(map.get(key).is_some())),
+        Each::From => from_ten(map, key),
         Each::Under => under(map, key),
         Each::Longest => Ok(longest(map, key)),
         Each::Take => taken(map, key),
@@ -101,6 +121,8 @@ pub(super) enum Whole {
     Read,
     Copy,
     Split,
+    Merge,
+    Retain,
 }
 
 /// A map, and what calls make of it.
@@ -232,7 +254,23 @@ fn parted<Q: BorrowedBytes>(
     Ok(part.len() as u64)
 }
 
-/// What the call answers on the map, on its copy for `Split`. What it makes is kept.
+// Puts the entries of a part into a map, and counts what it then has.
+fn merged<K: Bytes>(
+    map: &mut GenericPatriciaMap<K, u64>,
+    part: GenericPatriciaMap<K, u64>,
+) -> Result<u64, AllocError> {
+    map.merge_with(part, |value, new| *value = new)?;
+    Ok(map.len() as u64)
+}
+
+// Keeps the entries with an even value, and counts them.
+fn retained<K: Bytes>(map: &mut GenericPatriciaMap<K, u64>) -> Result<u64, AllocError> {
+    map.retain(|_, value| *value & 1 == 0)?;
+    Ok(map.len() as u64)
+}
+
+/// What the call answers on the map, on its copy for `Split`, `Merge` and `Retain`. What it makes
+/// is kept.
 pub(super) fn call_whole<Q: BorrowedBytes>(
     maps: &mut Maps<Q::Owned>,
     call: Whole,
@@ -250,6 +288,11 @@ pub(super) fn call_whole<Q: BorrowedBytes>(
         }
         Whole::Copy => copied(&maps.map, &mut maps.copy),
         Whole::Split => parted(&mut maps.copy, prefix, &mut maps.part),
+        Whole::Merge => {
+            let part = mem::replace(&mut maps.part, GenericPatriciaMap::new(maps.alloc));
+            merged(&mut maps.copy, part)
+        }
+        Whole::Retain => retained(&mut maps.copy),
     }
 }
 

@@ -13,6 +13,12 @@ pub(super) struct Lists<Q> {
     pub(super) memory: (u64, u64),
 }
 
+/// As many absent keys as there are halves.
+pub(super) fn few<Q>(lists: &Lists<Q>) -> &[Q] {
+    let absent = lists.absent.as_slice();
+    absent.get(..lists.halves.len()).unwrap_or(absent)
+}
+
 fn push<'k>(list: &mut Vec<&'k [u8]>, key: &'k [u8]) -> Result<(), AllocError> {
     list.push(key)?;
     Ok(())

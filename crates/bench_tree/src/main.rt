@@ -11,13 +11,15 @@ mod age;
 mod calls;
 mod keys;
 mod lines;
+mod loads;
 mod memory;
 mod steps;
 
 use age::report_age;
 use calls::{Each, Maps, no_maps};
-use keys::{Lists, read_lists, shuffle};
+use keys::{Lists, few, read_lists, shuffle};
 use lines::{Sheet, line};
+use loads::{time_load, time_union};
 use memory::{memory, memory_since};
 use patricia_tree::{BorrowedBytes, GenericPatriciaMap};
 use std::io::{self, Read as _};
@@ -61,7 +63,8 @@ fn put_in_order<R: AllocGlobal + Clock + Print, Q: BorrowedBytes>(
     keys: &[Q],
 ) -> io::Result<()> {
     let mut map = GenericPatriciaMap::new(sheet.rt.alloc());
-    time_each(sheet, "insert_sorted", &mut map, Each::Put, keys)
+    time_each(sheet, "insert_sorted", &mut map, Each::Put, keys)?;
+    time_load(sheet, keys)
 }
 
 fn report_memory<R: Print>(sheet: &Sheet<'_, R>, memory: (u64, u64)) -> io::Result<()> {
@@ -89,6 +92,7 @@ fn measure_both<R: AllocGlobal + Clock + Files + Print>(
     line(sheet, "keys", lists.present.len() as u128)?;
     measure(sheet, lists)?;
     put_sorted(sheet, &mut lists.present)?;
+    time_union(sheet, &lists.present, few(lists))?;
     report_memory(sheet, lists.memory)
 }
 

@@ -1,6 +1,6 @@
 //! The steps of a measurement, one after the other.
 use crate::calls::{Each, Maps, Whole, call_each, call_whole, collect, forget, refill};
-use crate::keys::Lists;
+use crate::keys::{Lists, few};
 use crate::lines::{Sheet, report, report_share};
 use patricia_tree::{BorrowedBytes, Bytes, GenericPatriciaMap};
 use std::io;
@@ -38,12 +38,13 @@ enum Step {
     Between(Between),
 }
 
-const STEPS: [(&str, Step); 27] = [
+const STEPS: [(&str, Step); 30] = [
     ("get", Step::Each(Each::Get, Part::Present)),
     ("get_absent", Step::Each(Each::Get, Part::Absent)),
     ("walk", Step::Whole(Whole::Walk)),
     ("lend", Step::Whole(Whole::Lend)),
     ("values", Step::Whole(Whole::Values)),
+    ("range", Step::Each(Each::From, Part::Few)),
     ("under", Step::Each(Each::Under, Part::Halves)),
     ("longest", Step::Each(Each::Longest, Part::Few)),
     ("tree_bytes", Step::Whole(Whole::Write)),
@@ -55,6 +56,8 @@ const STEPS: [(&str, Step); 27] = [
     ("clone", Step::Whole(Whole::Copy)),
     ("split_by_prefix", Step::Whole(Whole::Split)),
     ("share", Step::Between(Between::Share)),
+    ("merge", Step::Whole(Whole::Merge)),
+    ("retain", Step::Whole(Whole::Retain)),
     ("", Step::Between(Between::Forget)),
     ("remove", Step::Each(Each::Take, Part::Present)),
     ("", Step::Between(Between::Refill)),
@@ -69,12 +72,11 @@ const STEPS: [(&str, Step); 27] = [
 ];
 
 fn part_of<Q>(lists: &Lists<Q>, part: Part) -> &[Q] {
-    let absent = lists.absent.as_slice();
     let middle = lists.present.len() / 2;
     match part {
         Part::Present => &lists.present,
-        Part::Absent => absent,
-        Part::Few => absent.get(..lists.halves.len()).unwrap_or(absent),
+        Part::Absent => &lists.absent,
+        Part::Few => few(lists),
         Part::Halves => &lists.halves,
         Part::Front => &lists.present[..middle],
         Part::Back => &lists.present[middle..],

@@ -1,7 +1,7 @@
-//! The calls of a map about prefixes of keys.
+//! The calls of a map about prefixes of keys, and about keys that are few edits apart.
 
 use crate::answers::{Answers, is_still_whole, outcome};
-use crate::calls::Readable;
+use crate::calls::{self, Readable};
 use crate::{key_calls, map_queries};
 use patricia_tree::{BorrowedBytes, Bytes, GenericPatriciaMap};
 use std::alloc::{AllocError, Global};
@@ -21,6 +21,7 @@ pub(super) fn answer<'a, Q: Readable<'a>>(
         "along" | "along_values" | "along_owned" | "under" => {
             add_walk::<Q>(alloc, map, call, arguments, out)
         }
+        "within" => add_within::<Q>(map, arguments, out),
         _ => key_calls::answer::<Q>(alloc, call, arguments, out),
     }
 }
@@ -138,4 +139,37 @@ fn add_under<Q: BorrowedBytes>(
         is_whole = is_still_whole(is_whole, map_queries::add_entry(entry, out), out)?;
     }
     outcome(is_whole)
+}
+
+// The entries whose key is at most so many edits from a key.
+fn add_within<'a, Q: Readable<'a>>(
+    map: &Map<Q::Owned>,
+    arguments: &'a [Vec<u8>],
+    out: &mut String,
+) -> Result<(), AllocError> {
+    if let [key, limit] = arguments
+        && let Some(key) = Q::read(key)
+    {
+        let limit = u32::try_from(calls::number(limit)).unwrap_or(u32::MAX);
+        return add_near(map, key, limit, out);
+    }
+    out.add("unknown")
+}
+
+fn add_near<Q: BorrowedBytes>(
+    map: &Map<Q::Owned>,
+    key: Q,
+    limit: u32,
+    out: &mut String,
+) -> Result<(), AllocError> {
+    let mut cursor = map.within(key, limit)?;
+    for _ in 0..map.len() {
+        if !cursor.advance()? {
+            break;
+        }
+        if let (Some(key), Some(value)) = (cursor.key(), cursor.value()) {
+            out.add_row(key, *value)?;
+        }
+    }
+    Ok(())
 }

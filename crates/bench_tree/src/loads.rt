@@ -1,0 +1,39 @@
+//! Keys that are loaded in their order, and sets that are united.
+use crate::lines::{Sheet, report};
+use patricia_tree::{BorrowedBytes, GenericPatriciaMap, GenericPatriciaSet};
+use std::alloc::{AllocError, Global};
+use std::io;
+use std::rt::Clock;
+use std::time::Instant;
+
+fn set_of<Q: BorrowedBytes>(
+    alloc: Global,
+    keys: &[Q],
+) -> Result<GenericPatriciaSet<Q::Owned>, AllocError> {
+    GenericPatriciaSet::from_iter(alloc, keys.iter().copied())
+}
+
+/// Loads keys in their order into a new map.
+pub(super) fn time_load<R: AllocGlobal + Clock + Print, Q: BorrowedBytes>(
+    sheet: &Sheet<'_, R>,
+    keys: &[Q],
+) -> io::Result<()> {
+    let mut map: GenericPatriciaMap<Q::Owned, u64> = GenericPatriciaMap::new(sheet.rt.alloc());
+    let start = Instant::now(sheet.rt)?;
+    let loaded = map.sorted_load(keys.iter().map(|key| (*key, 1)));
+    let answer = if loaded.is_ok() { map.len() as u64 } else { 0 };
+    report(sheet, "sorted_load", start, keys.len(), answer)
+}
+
+/// Makes the union of two sets.
+pub(super) fn time_union<R: AllocGlobal + Clock + Print, Q: BorrowedBytes>(
+    sheet: &Sheet<'_, R>,
+    first: &[Q],
+    second: &[Q],
+) -> io::Result<()> {
+    let first = set_of(sheet.rt.alloc(), first)?;
+    let second = set_of(sheet.rt.alloc(), second)?;
+    let start = Instant::now(sheet.rt)?;
+    let union = first.union(&second)?;
+    report(sheet, "union", start, union.len(), union.len() as u64)
+}
