@@ -92,6 +92,11 @@ impl<K: Bytes, V: Drop> Tree<K, V> {
         Tree::new(self.alloc)
     }
 
+    /// The allocator that the tree was made with.
+    pub fn alloc(&self) -> Global {
+        self.alloc
+    }
+
     /// How many nodes the vector has, used or free. There is one for each point of the keys.
     pub fn slots(&self) -> usize
         ensures { (n : ℕ) × IsCount (IsPoint K.item (map.keys self.now)) n × (n ≤ result) }

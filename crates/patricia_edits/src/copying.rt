@@ -158,10 +158,7 @@ fn copy_nodes<V: Clone>(alloc: Global, from: &[Node<V>]) -> Result<NodeVec<V>, A
 }
 
 // The same nodes, of which none is free, each at the number that it had.
-fn copy_in_place<V: Clone>(
-    arena: &NodeArena<V>,
-    alloc: Global,
-) -> Result<NodeArena<V>, AllocError>
+fn copy_in_place<V: Clone>(arena: &NodeArena<V>, alloc: Global) -> Result<NodeArena<V>, AllocError>
     requires whole { IsWellFormed arena.now }
     requires cloned { EntriesKept V.is_clone arena.now }
     requires none_free { arena.now.free ≡ None }

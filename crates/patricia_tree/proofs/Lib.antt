@@ -3,10 +3,13 @@ mod BulkLemmas
 mod CursorLemmas
 pub mod FoundLemmas
 pub mod LeftLemmas
+mod LoadLemmas
 mod LoanLemmas
 mod PopLemmas
 mod SetLemmas
 mod WholeLemmas
 mod RetainLemmas
+mod ChoiceLemmas
+mod FoldLemmas
 mod MergeLemmas
 mod VisitLemmas

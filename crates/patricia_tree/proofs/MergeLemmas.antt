@@ -1,13 +1,12 @@
 -- The entries of a map, put into another one.
-use Rattle.std.proofs.Common.{◌≡◌, ℕ, List, [], ◌∷◌, ◌++◌, Some, refl, sym, ap, subst, ◌∙◌, append_assoc}
-use Rattle.std.proofs.lemmas.Fn.{FoldsTo-push}
-use Rattle.std.proofs.lemmas.List.{append-nil}
+use Rattle.std.proofs.Common.{◌≡◌, ℕ, List, [], ◌∷◌, Some, refl, sym, subst, ◌∙◌}
 use Rattle.std.specs.Borrow.{MutBor}
 use Rattle.std.specs.Fn.{Mut, CalledWithState}
-use Rattle.std.specs.List.{FoldsTo}
 use Rattle.std.specs.FinMap as map
 use Rattle.patricia_core.specs.Keys.{key_cmp}
-use Rattle.patricia_tree.specs.Merges.{MergesRow, MergesAll, IsMergeStopped}
+use Rattle.patricia_tree.specs.Folds.{IsFoldStopped}
+use Rattle.patricia_tree.specs.Merges.{MergesRow, IsMergeStopped}
+use Rattle.patricia_tree.proofs.FoldLemmas.{IsFolding, folding_stops}
 
 module _ {F V : Type 0}
     (call : Mut F (MutBor V × (V × Unit {0})) (Unit {0} × (MutBor V × Unit {0}))) where
@@ -17,30 +16,13 @@ module _ {F V : Type 0}
       → MergesRow call (f, m) (key, u) (g, map.insert m key w)
   merges_there f g m key v u w is called = rw is (w, called, refl)
 
-  module _ (f : F) (old : map.FinMap key_cmp V) (rows done rest : List (List ℕ × V)) (g : F)
-      (m : map.FinMap key_cmp V) (are_rows : rows ≡ done ++ rest)
-      (ran : FoldsTo (MergesRow call) (f, old) done (g, m)) where
-    -- a turn
-    pub merging_on : (later : List (List ℕ × V)) (row : List ℕ × V) (h : F) (n : map.FinMap key_cmp V)
-        → rest ≡ row ∷ later → MergesRow call (g, m) row (h, n)
-        → (more : List (List ℕ × V)) × (rows ≡ more ++ later) × FoldsTo (MergesRow call) (f, old) more (h, n)
-    merging_on later row h n is step = (
-      done ++ row ∷ [],
-      are_rows ∙ ap (λ r. done ++ r) is ∙ sym (append_assoc done (row ∷ []) later),
-      FoldsTo-push (MergesRow call) (f, old) done (g, m) row (h, n) ran step,
-    )
-
-    -- a row that is refused
-    pub merging_stops : (later : List (List ℕ × V)) (row : List ℕ × V) (n : map.FinMap key_cmp V)
-        → rest ≡ row ∷ later → n ≡ m → IsMergeStopped call f old rows n
-    merging_stops later row n is same = record {
-      put = done;
-      left = rest;
-      are_rows = are_rows;
-      some_left = λ none. absurd (let no : row ∷ later ≡ [] = sym is ∙ none in cc);
-      put_in = (g, subst (λ k. FoldsTo (MergesRow call) (f, old) done (g, k)) (sym same) ran);
-    }
-
-    -- the end
-    pub merging_ends : rest ≡ [] → MergesAll call f old rows m
-    merging_ends none = (g, subst (λ r. FoldsTo (MergesRow call) (f, old) r (g, m)) (sym (are_rows ∙ ap (λ r. done ++ r) none ∙ append-nil done)) ran)
+  -- a row that is refused
+  pub merging_stops : (f g : F) (old m n : map.FinMap key_cmp V) (rows left later : List (List ℕ × V))
+      (row : List ℕ × V) → left ≡ row ∷ later → n ≡ m
+      → IsFolding (MergesRow call) (f, old) rows (g, m) left → IsMergeStopped call f old rows n
+  merging_stops f g old m n rows left later row is same so_far = (
+    g,
+    subst (λ k. IsFoldStopped (MergesRow call) (f, old) rows (g, k)) (sym same)
+        (folding_stops (MergesRow call) (f, old) rows (g, m) left
+        (λ none. absurd (let no : row ∷ later ≡ [] = sym is ∙ none in cc)) so_far),
+  )

@@ -1,12 +1,14 @@
 -- Words of sets, tied to those of maps.
 use Rattle.std.proofs.Common.{◌≡◌, ◌≢◌, ℕ, List, [], ◌∷◌, ◌++◌, Option, Some, None}
 use Rattle.std.proofs.Common.{false, map, refl, sym, ap, ◌∙◌}
-use Rattle.std.specs.Prelude.{is_some}
+use Rattle.std.specs.Prelude.{is_some, IfErr, IsErrAnd, Result}
 use Rattle.std.specs.Iterator.{Yields}
 use Rattle.patricia_tree.specs.Bulk.{insert_all, by_bytes}
 use Rattle.std.specs.FinMap as finmap
-use Rattle.patricia_tree.specs.Sets.{KeySet, Extends, IsStoppedAt, steps_in_pairs}
+use Rattle.patricia_tree.specs.Loads.{EndsNotBefore}
+use Rattle.patricia_tree.specs.Sets.{KeySet, Extends, IsStoppedAt, Loads, IsLoadStopped, steps_in_pairs}
 use Rattle.patricia_tree.proofs.BulkLemmas.{puts_one_more, stops_at}
+use Rattle.patricia_tree.proofs.LoadLemmas.{loads_more, load_stops}
 
 -- each key with `()` as its value
 abbrev pub in_pairs : {Q : Type 0} → List Q → List (Q × Unit {0})
@@ -60,3 +62,33 @@ module _ {I S Q : Type 0} (becomes : I → S → Type 0) (steps : S → Option Q
         → IsStoppedAt becomes steps bytes keys old new
     refuses_at key next same nonempty absent = stops_at start at rest (in_pairs given) (key, tt)
         is_start (gave_pairs start given at gave) next so_far same nonempty (no_value _ absent)
+
+  module _ (keys : I) (old here : KeySet) (start at rest : S) (given : List Q)
+      (is_start : becomes keys start) (gave : Yields steps start given at)
+      (so_far : finmap.entries here ≡ finmap.entries old ++ by_bytes bytes (in_pairs given)) where
+    -- the same of keys in order
+    pub load_ends_at : {new : KeySet} → steps at None rest → new ≡ here
+        → Loads becomes steps bytes keys old new
+    load_ends_at none same = record {
+      start = start;
+      given = in_pairs given;
+      is_start = is_start;
+      gave_all = (rest, (at, gave_pairs start given at gave, none));
+      behind = ap finmap.entries same ∙ so_far;
+    }
+
+    pub load_refuses_at : {E T : Type 0} (late : E → Type 0) (out : Result T E) (e : E) {new : KeySet} (key : Q)
+        → IsErrAnd out (λ x. x ≡ e) → steps at (Some key) rest → new ≡ here
+        → (late e → EndsNotBefore (bytes key) (finmap.entries here))
+        → IfErr out (λ x. IsLoadStopped becomes steps bytes (late x) keys old new)
+    load_refuses_at late out e key is next same order = load_stops bytes becomes (steps_in_pairs becomes steps bytes) keys late out e old here _ start at rest
+        (in_pairs given) (key, tt) is is_start (gave_pairs start given at gave) next so_far same order
+
+-- one more turn, at which the key is put behind the others
+pub loads_more_keys : {Q : Type 0} (bytes : Q → List ℕ) (old here new : KeySet) (given : List Q) (key : Q)
+    → finmap.entries here ≡ finmap.entries old ++ by_bytes bytes (in_pairs given)
+    → finmap.entries new ≡ finmap.entries here ++ (bytes key, tt) ∷ []
+    → finmap.entries new ≡ finmap.entries old ++ by_bytes bytes (in_pairs (given ++ key ∷ []))
+loads_more_keys bytes old here new given key so_far put =
+    loads_more bytes old here new (in_pairs given) (key, tt) so_far put
+    ∙ ap (λ pairs. finmap.entries old ++ by_bytes bytes pairs) (sym (in_pairs_more given key))

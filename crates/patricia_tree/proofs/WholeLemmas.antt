@@ -56,7 +56,7 @@ module _ (eq : Unit {0} → Unit {0} → Bool) (all : (u v : Unit {0}) → eq u 
 
 module _ {V : Type 0} where
   -- a key below all rows is not found among them
-  below_none : (q : List ℕ) (es : List (List ℕ × V)) → T (below_all key_cmp q es) → find key_cmp q es ≡ None
+  pub below_none : (q : List ℕ) (es : List (List ℕ × V)) → T (below_all key_cmp q es) → find key_cmp q es ≡ None
   below_none q [] h = refl
   below_none q (e ∷ es) h = rw (less_so (key_cmp q e.0) (first_part _ _ h)) (below_none q es (second_part _ _ h))
 

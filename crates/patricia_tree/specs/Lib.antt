@@ -1,10 +1,13 @@
 pub mod Bulk
 pub mod Changes
+pub mod Folds
 pub mod Internal
 pub mod Left
 pub mod Lends
+pub mod Loads
 pub mod Loans
 pub mod Merges
+pub mod Retains
 pub mod Sets
 pub mod Steps
 pub mod Visits

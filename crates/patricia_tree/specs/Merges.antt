@@ -1,10 +1,11 @@
 -- What a map is after the entries of another one are merged into it.
-use Rattle.std.specs.Prelude.{◌≡◌, ◌≢◌, ◌++◌, ℕ, List, [], MatchOption}
+use Rattle.std.specs.Prelude.{◌≡◌, ℕ, List, MatchOption}
 use Rattle.std.specs.Borrow.{MutBor}
 use Rattle.std.specs.Fn.{Mut, CalledWithState}
 use Rattle.std.specs.List.{FoldsTo}
 use Rattle.std.specs.FinMap as map
 use Rattle.patricia_core.specs.Keys.{key_cmp}
+use Rattle.patricia_tree.specs.Folds.{IsFoldStopped}
 
 -- `call` says of a closure when it may be called at a loan of a value and another value, and what
 -- it may then leave there and become
@@ -24,10 +25,6 @@ module _ {F V : Type 0}
   MergesAll f old rows new = (last : F) × FoldsTo MergesRow (f, old) rows (last, new)
 
   -- some rows were inserted so, one after the other, and the others were not
-  pub record IsMergeStopped (f : F) (old : map.FinMap key_cmp V) (rows : List (List ℕ × V))
-      (new : map.FinMap key_cmp V) : Type 0 where
-    pub put : List (List ℕ × V)
-    pub left : List (List ℕ × V)
-    pub are_rows : rows ≡ put ++ left
-    pub some_left : left ≢ []
-    pub put_in : MergesAll f old put new
+  abbrev pub IsMergeStopped :
+      F → map.FinMap key_cmp V → List (List ℕ × V) → map.FinMap key_cmp V → Type 0
+  IsMergeStopped f old rows new = (last : F) × IsFoldStopped MergesRow (f, old) rows (last, new)

@@ -3,6 +3,7 @@
 use Rattle.std.specs.Prelude.{ℕ, List, Option, option_map}
 use Rattle.std.specs.FinSet.{FinSet}
 use Rattle.patricia_tree.specs.Bulk as bulk
+use Rattle.patricia_tree.specs.Loads as loads
 use Rattle.patricia_tree.specs.Keys.{key_cmp}
 
 abbrev pub KeySet : Type 0
@@ -24,3 +25,13 @@ module _ {I S Q : Type 0} (becomes : I → S → Type 0) (steps : S → Option Q
   -- new is old with the keys before it inserted
   abbrev pub IsStoppedAt : I → KeySet → KeySet → Type 0
   IsStoppedAt keys old new = bulk.IsStoppedAt becomes steps_in_pairs bytes keys old new
+
+  -- the iterator gave all its keys, and new has them behind those of old
+  abbrev pub Loads : I → KeySet → KeySet → Type 0
+  Loads keys old new = loads.Loads becomes steps_in_pairs bytes keys old new
+
+  -- the iterator gave some keys and then a refused one, and new has those before it behind those of
+  -- old; where it is refused for its order, the last key does not come before it
+  abbrev pub IsLoadStopped : Type 0 → I → KeySet → KeySet → Type 0
+  IsLoadStopped out_of_order keys old new =
+      loads.IsLoadStopped becomes steps_in_pairs bytes out_of_order keys old new

@@ -18,7 +18,7 @@ pub mod set;
 mod values;
 pub mod wire;
 
-pub use map::{GenericPatriciaMap, PatriciaMap, Refused, StringPatriciaMap};
+pub use map::{GenericPatriciaMap, LoadError, PatriciaMap, Refused, StringPatriciaMap};
 pub use patricia_core::keys::{BorrowedBytes, Bytes};
 pub use patricia_core::{Steps, is_within};
 pub use set::{GenericPatriciaSet, PatriciaSet, StringPatriciaSet};

@@ -23,6 +23,8 @@ mod loans;
 mod near;
 mod prefixes;
 mod ranges;
+mod retain;
+mod sorted;
 mod visits;
 mod whole;
 
@@ -42,6 +44,7 @@ pub use patricia_core::tree::Refused;
 use patricia_core::tree::{DecodeError, EncodeError, Narrow, Tree, Wide, WireError};
 pub use patricia_core::under::PrefixReadCursor;
 pub use patricia_core::walk::ReadCursor;
+pub use sorted::LoadError;
 use std::alloc::{AllocError, Global};
 use std::marker::Model;
 use std::sync::ledger::Ledger;

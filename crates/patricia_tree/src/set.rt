@@ -18,6 +18,7 @@ mod ends;
 mod iterators;
 mod near;
 mod ranges;
+mod sorted;
 mod visits;
 mod whole;
 

@@ -1,5 +1,5 @@
 //! Many pairs inserted by one call.
-ghost use Rattle.std.specs.Prelude.{IfOk, OnOk, OnErr};
+ghost use Rattle.std.specs.Prelude.{◌≡◌, IfOk, OnOk, OnErr};
 ghost use Rattle.std.specs.Iterator.{IsFiniteIterable};
 ghost use Rattle.std.specs.FinMap as map;
 ghost use Rattle.patricia_core.specs.Keys.{key_cmp};
@@ -48,10 +48,17 @@ impl<K: Bytes, V: Drop> GenericPatriciaMap<K, V> {
                 Err(_) => return Err(AllocError),
             }
         }
+        self.settle_since(before);
+        Ok(())
+    }
+
+    // Relocates the nodes at the end of a load, where the map has more than doubled.
+    pub(crate) fn settle_since(&mut self, before: usize)
+        ensures { self.new ≡ self.old }
+    {
         if self.len() / 2 > before {
             self.tree.settle();
         }
-        Ok(())
     }
 
     /// Makes a map of pairs, inserted one after the other: of two values for one key the later

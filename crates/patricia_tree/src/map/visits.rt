@@ -2,8 +2,10 @@
 ghost use Rattle.std.specs.Prelude.{◌≡◌, ℕ, List, Some, OnOk, OnErr};
 ghost use Rattle.std.specs.Option.{option_copied, option_map};
 ghost use Rattle.std.specs.FinMap as map;
+ghost use Rattle.std.specs.List.{FoldsTo};
 ghost use Rattle.patricia_tree.specs.Prefixes.{under};
-ghost use Rattle.patricia_tree.specs.Visits.{IsCalledAtEntry, IsVisitStopped, VisitsAll};
+ghost use Rattle.patricia_tree.specs.Folds.{IsFoldStopped};
+ghost use Rattle.patricia_tree.specs.Visits.{IsCalledAtEntry};
 
 use super::GenericPatriciaMap;
 use patricia_core::keys::{BorrowedBytes, Bytes};
@@ -36,22 +38,23 @@ impl<K: Bytes, V: Drop> GenericPatriciaMap<K, V> {
     /// ```
     /// let map = StringPatriciaMap::from_iter(rt.alloc(), [("quux", 1), ("bar", 2)])?;
     /// let (mut longest, mut greatest) = (0, 0);
-    /// map.for_each(|key, value| {
+    /// map.for_each(&mut |key, value| {
     ///     longest = longest.max(key.len());
     ///     greatest = greatest.max(*value);
     /// })?;
     /// assert_eq!(rt; (longest, greatest), (4, 2));
     /// ```
-    pub fn for_each<F: FnMut(&[u8], &V)>(&self, mut f: F) -> Result<(), AllocError>
-        requires { F.IsAlwaysCallable f }
-        ensures visited { OnOk result
-            (VisitsAll (IsCalledAtEntry F.FnMut) f (map.entries self.now)) }
+    pub fn for_each<F: FnMut(&[u8], &V)>(&self, f: &mut F) -> Result<(), AllocError>
+        requires { F.IsAlwaysCallable f.old }
+        ensures callable { F.IsAlwaysCallable f.new }
+        ensures called { OnOk result
+            (FoldsTo (IsCalledAtEntry F.FnMut) f.old (map.entries self.now) f.new) }
         ensures stopped { OnErr result
-            (IsVisitStopped (IsCalledAtEntry F.FnMut) f (map.entries self.now)) }
+            (IsFoldStopped (IsCalledAtEntry F.FnMut) f.old (map.entries self.now) f.new) }
     {
         let mut cursor = self.cursor();
         while cursor.advance()? {
-            call_at(&mut f, cursor.key(), cursor.value());
+            call_at(f, cursor.key(), cursor.value());
         }
         Ok(())
     }
@@ -71,23 +74,24 @@ impl<K: Bytes, V: Drop> GenericPatriciaMap<K, V> {
     /// ```
     /// let map = StringPatriciaMap::from_iter(rt.alloc(), [("foo", 5), ("bar", 2), ("baz", 3)])?;
     /// let mut greatest = 0;
-    /// map.for_each_under("ba", |_, value| greatest = greatest.max(*value))?;
+    /// map.for_each_under("ba", &mut |_, value| greatest = greatest.max(*value))?;
     /// assert_eq!(rt; greatest, 3);
     /// ```
     pub fn for_each_under<Q: BorrowedBytes<Owned = K>, F: FnMut(&[u8], &V)>(
         &self,
         prefix: Q,
-        mut f: F,
+        f: &mut F,
     ) -> Result<(), AllocError>
-        requires { F.IsAlwaysCallable f }
-        ensures visited { OnOk result (VisitsAll (IsCalledAtEntry F.FnMut) f
-            (under (Q.key prefix) (map.entries self.now))) }
-        ensures stopped { OnErr result (IsVisitStopped (IsCalledAtEntry F.FnMut) f
-            (under (Q.key prefix) (map.entries self.now))) }
+        requires { F.IsAlwaysCallable f.old }
+        ensures callable { F.IsAlwaysCallable f.new }
+        ensures called { OnOk result (FoldsTo (IsCalledAtEntry F.FnMut) f.old
+            (under (Q.key prefix) (map.entries self.now)) f.new) }
+        ensures stopped { OnErr result (IsFoldStopped (IsCalledAtEntry F.FnMut) f.old
+            (under (Q.key prefix) (map.entries self.now)) f.new) }
     {
         let mut cursor = self.cursor_under(prefix);
         while cursor.advance()? {
-            call_at(&mut f, cursor.key(), cursor.value());
+            call_at(f, cursor.key(), cursor.value());
         }
         Ok(())
     }

@@ -1,5 +1,5 @@
 //! Many elements inserted by one call.
-ghost use Rattle.std.specs.Prelude.{IfOk, OnOk, OnErr};
+ghost use Rattle.std.specs.Prelude.{◌≡◌, IfOk, OnOk, OnErr};
 ghost use Rattle.std.specs.Iterator.{IsFiniteIterable};
 ghost use Rattle.std.specs.FinMap as map;
 ghost use Rattle.patricia_tree.specs.Sets.{Extends, IsStoppedAt, KeySet};
@@ -12,7 +12,8 @@ use std::iter::{IntoIterator, Iterator};
 impl<T: Bytes> GenericPatriciaSet<T> {
     /// Inserts elements, one after the other. The iterator must end.
     ///
-    /// Takes the time of an `insert` for each element.
+    /// Takes the time of an `insert` for each element. Where the set has more than doubled, its
+    /// nodes are relocated at the end, if memory is there for it.
     ///
     /// # Errors
     ///
@@ -36,11 +37,20 @@ impl<T: Bytes> GenericPatriciaSet<T> {
         ensures err { OnErr result
             (IsStoppedAt I.into_iter_gives I.IntoIter.next_gives Q.key elements self.old self.new) }
     {
+        let before = self.len();
         let mut rest = elements.into_iter();
         while let Some(element) = rest.next() {
             self.insert(element)?;
         }
+        self.settle_since(before);
         Ok(())
+    }
+
+    // Relocates the nodes at the end of a load, where the set has more than doubled.
+    pub(super) fn settle_since(&mut self, before: usize)
+        ensures { self.new ≡ self.old }
+    {
+        self.map.settle_since(before);
     }
 
     /// Makes a set of elements, inserted one after the other. The iterator must end.

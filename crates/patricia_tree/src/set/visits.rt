@@ -2,8 +2,10 @@
 ghost use Rattle.std.specs.Prelude.{◌≡◌, ℕ, List, Some, OnOk, OnErr};
 ghost use Rattle.std.specs.Option.{option_map};
 ghost use Rattle.std.specs.FinMap as map;
+ghost use Rattle.std.specs.List.{FoldsTo};
 ghost use Rattle.patricia_tree.specs.Prefixes.{under};
-ghost use Rattle.patricia_tree.specs.Visits.{IsCalledAtElement, IsVisitStopped, VisitsAll};
+ghost use Rattle.patricia_tree.specs.Folds.{IsFoldStopped};
+ghost use Rattle.patricia_tree.specs.Visits.{IsCalledAtElement};
 
 use super::GenericPatriciaSet;
 use patricia_core::keys::{BorrowedBytes, Bytes};
@@ -36,19 +38,20 @@ impl<T: Bytes> GenericPatriciaSet<T> {
     /// ```
     /// let set = StringPatriciaSet::from_iter(rt.alloc(), ["quux", "foo"])?;
     /// let mut longest = 0;
-    /// set.for_each(|element| longest = longest.max(element.len()))?;
+    /// set.for_each(&mut |element| longest = longest.max(element.len()))?;
     /// assert_eq!(rt; longest, 4);
     /// ```
-    pub fn for_each<F: FnMut(&[u8])>(&self, mut f: F) -> Result<(), AllocError>
-        requires { F.IsAlwaysCallable f }
-        ensures visited { OnOk result
-            (VisitsAll (IsCalledAtElement F.FnMut) f (map.entries self.now)) }
+    pub fn for_each<F: FnMut(&[u8])>(&self, f: &mut F) -> Result<(), AllocError>
+        requires { F.IsAlwaysCallable f.old }
+        ensures callable { F.IsAlwaysCallable f.new }
+        ensures called { OnOk result
+            (FoldsTo (IsCalledAtElement F.FnMut) f.old (map.entries self.now) f.new) }
         ensures stopped { OnErr result
-            (IsVisitStopped (IsCalledAtElement F.FnMut) f (map.entries self.now)) }
+            (IsFoldStopped (IsCalledAtElement F.FnMut) f.old (map.entries self.now) f.new) }
     {
         let mut cursor = self.cursor();
         while cursor.advance()? {
-            call_at(&mut f, cursor.key());
+            call_at(f, cursor.key());
         }
         Ok(())
     }
@@ -68,23 +71,24 @@ impl<T: Bytes> GenericPatriciaSet<T> {
     /// ```
     /// let set = StringPatriciaSet::from_iter(rt.alloc(), ["quux", "bar", "baz"])?;
     /// let mut longest = 0;
-    /// set.for_each_under("ba", |element| longest = longest.max(element.len()))?;
+    /// set.for_each_under("ba", &mut |element| longest = longest.max(element.len()))?;
     /// assert_eq!(rt; longest, 3);
     /// ```
     pub fn for_each_under<Q: BorrowedBytes<Owned = T>, F: FnMut(&[u8])>(
         &self,
         prefix: Q,
-        mut f: F,
+        f: &mut F,
     ) -> Result<(), AllocError>
-        requires { F.IsAlwaysCallable f }
-        ensures visited { OnOk result (VisitsAll (IsCalledAtElement F.FnMut) f
-            (under (Q.key prefix) (map.entries self.now))) }
-        ensures stopped { OnErr result (IsVisitStopped (IsCalledAtElement F.FnMut) f
-            (under (Q.key prefix) (map.entries self.now))) }
+        requires { F.IsAlwaysCallable f.old }
+        ensures callable { F.IsAlwaysCallable f.new }
+        ensures called { OnOk result (FoldsTo (IsCalledAtElement F.FnMut) f.old
+            (under (Q.key prefix) (map.entries self.now)) f.new) }
+        ensures stopped { OnErr result (IsFoldStopped (IsCalledAtElement F.FnMut) f.old
+            (under (Q.key prefix) (map.entries self.now)) f.new) }
     {
         let mut cursor = self.cursor_under(prefix);
         while cursor.advance()? {
-            call_at(&mut f, cursor.key());
+            call_at(f, cursor.key());
         }
         Ok(())
     }

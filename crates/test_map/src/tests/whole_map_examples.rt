@@ -1,5 +1,5 @@
 //! The examples of whole maps, as the documentation has them.
-use patricia_tree::StringPatriciaMap;
+use patricia_tree::{LoadError, StringPatriciaMap};
 
 #[test]
 fn equals(rt: HostRuntime) -> anyhow::Result<()> {
@@ -42,7 +42,7 @@ fn for_each(rt: HostRuntime) -> anyhow::Result<()> {
     // example: map for_each
     let map = StringPatriciaMap::from_iter(rt.alloc(), [("quux", 1), ("bar", 2)])?;
     let (mut longest, mut greatest) = (0, 0);
-    map.for_each(|key, value| {
+    map.for_each(&mut |key, value| {
         longest = longest.max(key.len());
         greatest = greatest.max(*value);
     })?;
@@ -56,8 +56,37 @@ fn for_each_under(rt: HostRuntime) -> anyhow::Result<()> {
     // example: map for_each_under
     let map = StringPatriciaMap::from_iter(rt.alloc(), [("foo", 5), ("bar", 2), ("baz", 3)])?;
     let mut greatest = 0;
-    map.for_each_under("ba", |_, value| greatest = greatest.max(*value))?;
+    map.for_each_under("ba", &mut |_, value| greatest = greatest.max(*value))?;
     assert_eq!(rt; greatest, 3);
+    // end
+    Ok(())
+}
+
+#[test]
+fn retain(rt: HostRuntime) -> anyhow::Result<()> {
+    // example: map retain
+    let pairs = [("foo", 1), ("bar", 2), ("baz", 3)];
+    let mut map = StringPatriciaMap::from_iter(rt.alloc(), pairs)?;
+    map.retain(|key, value| {
+        *value = (*value).max(3);
+        key.starts_with(b"b")
+    })?;
+    assert_eq!(rt; map.len(), 2);
+    assert_eq!(rt; map.get("bar"), Some(&3));
+    // end
+    Ok(())
+}
+
+#[test]
+fn sorted_load(rt: HostRuntime) -> anyhow::Result<()> {
+    // example: map sorted_load
+    let mut map = StringPatriciaMap::new(rt.alloc());
+    map.sorted_load([("bar", 1), ("foo", 2)])?;
+    assert_eq!(rt;
+        map.sorted_load([("quux", 3), ("baz", 4)]),
+        Err(LoadError::NotInOrder)
+    );
+    assert_eq!(rt; map.len(), 3);
     // end
     Ok(())
 }

@@ -1,6 +1,8 @@
 //! Scripts of calls of which one may be refused: what it leaves is looked at, and the call is made
 //! once more. `.ci/run` runs them with the Nth memory request refused, for each N.
 
+mod choices;
+mod ends;
 mod insert;
 mod maps;
 mod owned;

@@ -1,5 +1,5 @@
 //! The examples of sets compared and made of two, as the documentation has them.
-use patricia_tree::StringPatriciaSet;
+use patricia_tree::{LoadError, StringPatriciaSet};
 use std::alloc::AllocError;
 
 #[test]
@@ -88,7 +88,7 @@ fn for_each(rt: HostRuntime) -> Result<(), AllocError> {
     // example: set for_each
     let set = StringPatriciaSet::from_iter(rt.alloc(), ["quux", "foo"])?;
     let mut longest = 0;
-    set.for_each(|element| longest = longest.max(element.len()))?;
+    set.for_each(&mut |element| longest = longest.max(element.len()))?;
     assert_eq!(rt; longest, 4);
     // end
     Ok(())
@@ -99,8 +99,22 @@ fn for_each_under(rt: HostRuntime) -> Result<(), AllocError> {
     // example: set for_each_under
     let set = StringPatriciaSet::from_iter(rt.alloc(), ["quux", "bar", "baz"])?;
     let mut longest = 0;
-    set.for_each_under("ba", |element| longest = longest.max(element.len()))?;
+    set.for_each_under("ba", &mut |element| longest = longest.max(element.len()))?;
     assert_eq!(rt; longest, 3);
+    // end
+    Ok(())
+}
+
+#[test]
+fn sorted_load(rt: HostRuntime) -> Result<(), AllocError> {
+    // example: set sorted_load
+    let mut set = StringPatriciaSet::new(rt.alloc());
+    assert_eq!(rt; set.sorted_load(["bar", "foo"]), Ok(()));
+    assert_eq!(rt;
+        set.sorted_load(["quux", "baz"]),
+        Err(LoadError::NotInOrder)
+    );
+    assert_eq!(rt; set.len(), 3);
     // end
     Ok(())
 }

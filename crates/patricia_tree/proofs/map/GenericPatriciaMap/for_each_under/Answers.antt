@@ -9,7 +9,7 @@ use Rattle.patricia_tree.proofs.map.GenericPatriciaMap.for_each_under.Goals as g
 pub loop-cursor-preserved : goal.loop-cursor-preserved
 loop-cursor-preserved g c = record {
   callable = c.call_at.ensures.callable;
-  visiting = visiting_on (IsCalledAtEntry g.F.FnMut) c.args.f (under (g.Q.BorrowedBytes.key c.args.prefix) (map.entries c.args.self.now)) c.loop-cursor.f c.call_at.new.f
+  visiting = visiting_on (IsCalledAtEntry g.F.FnMut) c.args.f.now (under (g.Q.BorrowedBytes.key c.args.prefix) (map.entries c.args.self.now)) c.loop-cursor.f c.call_at.new.f
       c.loop-cursor.cursor c.advance.new.self c.in_ok-advance.ensures.advanced
       (c.in_ok-advance.ensures.found.0 c.if-branch.true)
       (λ e at. c.call_at.ensures.called e

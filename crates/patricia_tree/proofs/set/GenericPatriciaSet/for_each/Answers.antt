@@ -8,7 +8,7 @@ use Rattle.patricia_tree.proofs.set.GenericPatriciaSet.for_each.Goals as goal
 pub loop-cursor-preserved : goal.loop-cursor-preserved
 loop-cursor-preserved g c = record {
   callable = c.call_at.ensures.callable;
-  visiting = visiting_on (IsCalledAtElement g.F.FnMut) c.args.f (map.entries c.args.self.now) c.loop-cursor.f c.call_at.new.f
+  visiting = visiting_on (IsCalledAtElement g.F.FnMut) c.args.f.now (map.entries c.args.self.now) c.loop-cursor.f c.call_at.new.f
       c.loop-cursor.cursor c.advance.new.self c.in_ok-advance.ensures.advanced
       (c.in_ok-advance.ensures.found.0 c.if-branch.true)
       (λ e at. c.call_at.ensures.called e

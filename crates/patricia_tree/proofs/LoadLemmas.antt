@@ -1,0 +1,115 @@
+-- Pairs put behind the rows of a map.
+use Rattle.std.proofs.Common.{◌≡◌, ◌≢◌, ℕ, T, Bool, true, List, [], ◌∷◌, ◌++◌, Option, Some, None, refl, sym, ap, ◌∙◌, subst, append_assoc}
+use Rattle.std.proofs.iter.Next.{Yields-more}
+use Rattle.std.proofs.lemmas.List.{append-nil}
+use Rattle.std.specs.Prelude.{◌↔◌, IsTrue, IfErr, IsErrAnd, Result, Ok, Err}
+use Rattle.std.specs.Cmp.Lexicographic.{nat_list_cmp_total}
+use Rattle.std.specs.Iterator.{Yields}
+use Rattle.std.specs.List.{last_or}
+use Rattle.std.specs.Option.{option_map}
+use Rattle.std.specs.declared.cmp.Ordering.TheVariants.{Less}
+use Rattle.std.specs.FinMap as map
+use Rattle.std.specs.FinMap.{FinMap, is_sorted, entries-insert, entries_sorted, put}
+use Rattle.patricia_core.specs.Keys.{key_cmp}
+use Rattle.patricia_model.proofs.ListLemmas.{IsAbove, put-append_right}
+use Rattle.patricia_model.proofs.TestLemmas.{first_part, second_part, less_so}
+use Rattle.patricia_tree.specs.Bulk.{by_bytes}
+use Rattle.patricia_tree.specs.Loads.{EndsNotBefore, IsLoadStopped}
+
+module _ {V : Type 0} where
+  -- the last of rows, the last of which is this one
+  last_appended : (o : Option (List ℕ × V)) (rows : List (List ℕ × V)) (row : List ℕ × V)
+      → last_or o (rows ++ row ∷ []) ≡ Some row
+  last_appended o [] row = refl
+  last_appended o (r ∷ rows) row = last_appended (Some r) rows row
+
+  -- a key behind the last of rows in order is behind all of them
+  above_last : (q : List ℕ) (row : List ℕ × V) (rows : List (List ℕ × V)) → T (is_sorted key_cmp (row ∷ rows))
+      → (last : List ℕ × V) → last_or (Some row) rows ≡ Some last → key_cmp last.0 q ≡ Less → IsAbove q (row ∷ rows)
+  above_last q row [] sorted last is behind =
+      let same : row ≡ last = cc in
+      (subst (λ (r : List ℕ × V). key_cmp r.0 q ≡ Less) (sym same) behind, tt)
+  above_last q row (r ∷ rows) sorted last is behind =
+      let later = above_last q r rows (second_part _ _ sorted) last is behind in
+      (nat_list_cmp_total.trans row.0 r.0 q (less_so (key_cmp row.0 r.0) (first_part _ _ (first_part _ _ sorted))) later.0, later)
+
+  -- a pair whose key is behind all rows is put behind them
+  put_behind : (m : FinMap key_cmp V) (q : List ℕ) (v : V) → IsAbove q (map.entries m)
+      → map.entries (map.insert m q v) ≡ map.entries m ++ (q, v) ∷ []
+  put_behind m q v above = entries-insert nat_list_cmp_total m q v
+      ∙ sym (ap (put key_cmp q v) (append-nil (map.entries m))) ∙ put-append_right q v (map.entries m) [] above
+
+  -- the map has no row, or its last key comes before this one
+  pub loads_behind : (m n : FinMap key_cmp V) (q : List ℕ) (v : V)
+      → ((last : List ℕ × V) → last_or None (map.entries m) ≡ Some last → key_cmp last.0 q ≡ Less)
+      → n ≡ map.insert m q v → map.entries n ≡ map.entries m ++ (q, v) ∷ []
+  loads_behind m n q v behind is = ap map.entries is ∙ put_behind m q v (by (map.entries m) (entries_sorted m) behind)
+    where
+      has_last : (row : List ℕ × V) (rows : List (List ℕ × V)) → (last : List ℕ × V) × (last_or (Some row) rows ≡ Some last)
+      has_last row [] = (row, refl)
+      has_last row (r ∷ rows) = has_last r rows
+
+      by : (rows : List (List ℕ × V)) → T (is_sorted key_cmp rows)
+          → ((last : List ℕ × V) → last_or None rows ≡ Some last → key_cmp last.0 q ≡ Less) → IsAbove q rows
+      by [] sorted before = tt
+      by (row ∷ rows) sorted before =
+          let last = has_last row rows in
+          above_last q row rows sorted last.0 last.1 (before last.0 last.1)
+
+-- the last of the rows, whose key this is, does not come before a key
+pub ends_not_before : {V : Type 0} (rows : List (List ℕ × V)) (last key : List ℕ) (b : Bool)
+    → option_map (λ e. e.0) (last_or None rows) ≡ Some last → (IsTrue b ↔ (key_cmp last key ≡ Less)) → b ≢ true
+    → EndsNotBefore key rows
+ends_not_before {V} rows last key b is tells unlike = by (last_or None rows) refl
+  where
+    by : (o : Option (List ℕ × V)) → last_or None rows ≡ o → EndsNotBefore key rows
+    by None none = absurd (let gone : None ≡ Some last = sym (ap (option_map (λ e. e.0)) none) ∙ is in cc)
+    by (Some e) some =
+        let both : Some e.0 ≡ Some last = sym (ap (option_map (λ e. e.0)) some) ∙ is in
+        let same : e.0 ≡ last = cc in
+        record {
+          last = e;
+          is_last = some;
+          not_before = λ less. unlike (tells.1 (ap (λ k. key_cmp k key) (sym same) ∙ less));
+        }
+
+module _ {Q V : Type 0} (bytes : Q → List ℕ) where
+  by_bytes-more : (pairs : List (Q × V)) (pair : Q × V)
+      → by_bytes bytes (pairs ++ pair ∷ []) ≡ by_bytes bytes pairs ++ (bytes pair.0, pair.1) ∷ []
+  by_bytes-more [] pair = refl
+  by_bytes-more (first ∷ pairs) pair = ap (λ rows. (bytes first.0, first.1) ∷ rows) (by_bytes-more pairs pair)
+
+  -- one more turn
+  pub loads_more : (old here new : FinMap key_cmp V) (given : List (Q × V)) (pair : Q × V)
+      → map.entries here ≡ map.entries old ++ by_bytes bytes given
+      → map.entries new ≡ map.entries here ++ (bytes pair.0, pair.1) ∷ []
+      → map.entries new ≡ map.entries old ++ by_bytes bytes (given ++ pair ∷ [])
+  loads_more old here new given pair so_far put = put ∙ ap (λ rows. rows ++ (bytes pair.0, pair.1) ∷ []) so_far
+      ∙ append_assoc (map.entries old) (by_bytes bytes given) _ ∙ ap (λ rows. map.entries old ++ rows) (sym (by_bytes-more given pair))
+
+  -- the last key is that of the pair that was put last
+  pub last_is : (here new : FinMap key_cmp V) (pair : Q × V)
+      → map.entries new ≡ map.entries here ++ (bytes pair.0, pair.1) ∷ []
+      → option_map (λ e. e.0) (last_or None (map.entries new)) ≡ Some (bytes pair.0)
+  last_is here new pair put = ap (λ rows. option_map (λ e. e.0) (last_or None rows)) put
+      ∙ ap (option_map (λ e. e.0)) (last_appended None (map.entries here) (bytes pair.0, pair.1))
+
+  -- the last turn, at which the pair is refused with an error, which is returned
+  pub load_stops : {I S E T : Type 0} (becomes : I → S → Type 0) (steps : S → Option (Q × V) → S → Type 0)
+      (pairs : I) (late : E → Type 0) (out : Result T E) (e : E) (old here new : FinMap key_cmp V)
+      (start at rest : S) (given : List (Q × V)) (pair : Q × V) → IsErrAnd out (λ x. x ≡ e)
+      → becomes pairs start → Yields steps start given at → steps at (Some pair) rest
+      → map.entries here ≡ map.entries old ++ by_bytes bytes given → new ≡ here
+      → (late e → EndsNotBefore (bytes pair.0) (map.entries here))
+      → IfErr out (λ x. IsLoadStopped becomes steps bytes (late x) pairs old new)
+  load_stops becomes steps pairs late (Ok x) e old here new start at rest given pair is is_start gave next so_far same order = tt
+  load_stops becomes steps pairs late (Err x) e old here new start at rest given pair is is_start gave next so_far same order = record {
+    start = start;
+    given = given;
+    refused = pair;
+    rest = rest;
+    is_start = is_start;
+    gave = Yields-more steps start given at pair rest gave next;
+    behind = ap map.entries same ∙ so_far;
+    order = λ late_at. subst (λ (m : FinMap key_cmp V). EndsNotBefore (bytes pair.0) (map.entries m)) (sym same) (order (subst late is late_at));
+  }

@@ -1,0 +1,39 @@
+-- Maps that pairs in key order are put behind.
+use Rattle.std.specs.Prelude.{◌≡◌, ◌≢◌, ◌++◌, ◌∷◌, ℕ, List, [], Option, None, Some}
+use Rattle.std.specs.FinMap as map
+use Rattle.std.specs.Iterator.{Drains, Yields}
+use Rattle.std.specs.List.{last_or}
+use Rattle.std.specs.declared.cmp.Ordering.TheVariants.{Less}
+use Rattle.patricia_core.specs.Keys.{key_cmp}
+use Rattle.patricia_tree.specs.Bulk.{by_bytes}
+
+-- the last of these rows has a key that does not come before this one
+pub record EndsNotBefore {V : Type 0} (key : List ℕ) (rows : List (List ℕ × V)) : Type 0 where
+  pub last : List ℕ × V
+  pub is_last : last_or None rows ≡ Some last
+  pub not_before : key_cmp last.0 key ≢ Less
+
+-- `becomes` says of what is passed which iterators it may become, `steps` what a call of `next` may
+-- give and leave, and `bytes` what the bytes of a key are
+module _ {I S Q V : Type 0} (becomes : I → S → Type 0)
+    (steps : S → Option (Q × V) → S → Type 0) (bytes : Q → List ℕ) where
+  -- the iterator gave all its pairs, and new has them behind the rows of old
+  pub record Loads (pairs : I) (old new : map.FinMap key_cmp V) : Type 0 where
+    pub start : S
+    pub given : List (Q × V)
+    pub is_start : becomes pairs start
+    pub gave_all : Drains steps start given
+    pub behind : map.entries new ≡ map.entries old ++ by_bytes bytes given
+
+  -- the iterator gave some pairs and then a refused one, and new has those before it behind the
+  -- rows of old; where it is refused for its order, the last row does not come before it
+  pub record IsLoadStopped (out_of_order : Type 0) (pairs : I) (old new : map.FinMap key_cmp V)
+      : Type 0 where
+    pub start : S
+    pub given : List (Q × V)
+    pub refused : Q × V
+    pub rest : S
+    pub is_start : becomes pairs start
+    pub gave : Yields steps start (given ++ refused ∷ []) rest
+    pub behind : map.entries new ≡ map.entries old ++ by_bytes bytes given
+    pub order : out_of_order → EndsNotBefore (bytes refused.0) (map.entries new)

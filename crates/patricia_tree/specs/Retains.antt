@@ -1,0 +1,48 @@
+-- What a map is after a closure has chosen which of its entries stay.
+use Rattle.std.specs.Prelude.{◌≡◌, ◌++◌, ◌∷◌, ℕ, List, Bool, false, cond}
+use Rattle.std.specs.Borrow.{Bor, MutBor}
+use Rattle.std.specs.Fn.{Mut, Called}
+use Rattle.std.specs.List.{FoldsTo}
+use Rattle.std.specs.FinMap as map
+use Rattle.patricia_core.specs.Keys.{key_cmp}
+
+-- `call` says of a closure what it may return at a key and a loan of a value, and what it may then
+-- leave there and become
+module _ {F V : Type 0}
+    (call : Mut F (Bor (List ℕ) × (MutBor V × Unit {0})) (Bool × (MutBor V × Unit {0}))) where
+  -- it was called at the bytes of the key and a loan of the value of this entry, returned `stays`,
+  -- and left a value there
+  pub record IsAskedAtEntry (f : F) (entry : List ℕ × V) (stays : Bool) (g : F) (left : V) : Type 0
+    where
+      pub key : Bor (List ℕ)
+      pub shown : MutBor V
+      pub after : MutBor V
+      pub shows : (key.now ≡ entry.0) × (shown.now ≡ entry.1)
+      pub called : Called call f (key, (shown, tt)) (stays, (after, tt)) g
+      pub leaves : after.now ≡ left
+
+  -- at a row where it returned true the map has what it left of the value, and else the row is gone
+  pub record RetainsRow (old : F × map.FinMap key_cmp V) (row : List ℕ × V)
+      (new : F × map.FinMap key_cmp V) : Type 0 where
+    pub stays : Bool
+    pub left : V
+    pub asked : IsAskedAtEntry old.0 row stays new.0 left
+    pub is_new : new.1 ≡ cond stays (map.insert old.1 row.0 left) (map.remove old.1 row.0)
+
+  -- so at all rows, in order
+  abbrev pub RetainsAll : F → map.FinMap key_cmp V → map.FinMap key_cmp V → Type 0
+  RetainsAll f old new = (last : F) × FoldsTo RetainsRow (f, old) (map.entries old) (last, new)
+
+  -- so at some rows, in order; at the row after them it returned false, and this row stays, with
+  -- what it left of the value, as do the rows behind it
+  pub record IsRetainStopped (f : F) (old new : map.FinMap key_cmp V) : Type 0 where
+    pub done : List (List ℕ × V)
+    pub refused : List ℕ × V
+    pub behind : List (List ℕ × V)
+    pub are_rows : map.entries old ≡ done ++ refused ∷ behind
+    pub before : F × map.FinMap key_cmp V
+    pub retained : FoldsTo RetainsRow (f, old) done before
+    pub last : F
+    pub left : V
+    pub asked : IsAskedAtEntry before.0 refused false last left
+    pub is_new : new ≡ map.insert before.1 refused.0 left
