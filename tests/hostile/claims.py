@@ -11,8 +11,8 @@ block that grows counted twice, may be EACH bytes for each byte given, and FIXED
 EACH comes of the least record, a narrow one: 5 bytes, with a child and a sibling and no value. It may take a node of 64 bytes with
 5 beside it, of the records that are due one more, of 32 bytes, and 8 for a node that waits. A list has room for twice
 what it holds at the most, and counts three times while it grows, so this comes to 3 * 64 + 2 * (5 + 32 + 8) bytes, 57
-for each byte of the record. Nodes that are relocated at the end count three and a half times, 69 bytes each, and
-nothing else does then. FIXED is the first room for records that are due.
+for each byte of the record. A relocation at the end asks for 8 bytes a node, and nothing else is asked for then. FIXED
+is the first room for records that are due.
 """
 import argparse
 import os

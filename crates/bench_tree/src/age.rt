@@ -9,11 +9,11 @@ use std::rt::Files;
 // How many keys are inserted between two looks at the process.
 const PACE: usize = 1024;
 
-// What the process takes more, at the least, when the nodes get a larger vector.
+// What the process takes more, at the least, when the vector of nodes is extended.
 const JUMP: u64 = 1 << 20;
 
 /// A line with the thousandths of the keys that are inserted when the nodes are last relocated: by
-/// then the process has asked for a larger vector.
+/// then the process has more room for them.
 pub(super) fn report_age<R: AllocGlobal + Files + Print>(
     sheet: &Sheet<'_, R>,
     keys: &[&[u8]],

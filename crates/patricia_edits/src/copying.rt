@@ -1,8 +1,8 @@
 //! Nodes copied to a vector of their own.
 //!
-//! Where none is free, each keeps its number. Else rows are laid there as growth lays them: siblings
-//! side by side, and what is below a node behind its row. What waits stands in the new vector, which
-//! is reserved once.
+//! Where none is free, each keeps its number. Else rows are laid there as a relocation lays them:
+//! siblings side by side, and what is below a node behind its row. What waits stands in the new
+//! vector, which is reserved once.
 ghost use Rattle.std.specs.Prelude.{◌≡◌, ◌≢◌, ◌+◌, ◌≤◌, ◌++◌, [], None, IfSome, IfOk, OnOk, OnErr};
 ghost use Rattle.std.specs.Prelude.{length, slice_get, vec_len, vec_capacity, ℕ, Some};
 ghost use Rattle.patricia_model.specs.Siblings.{end};
@@ -175,7 +175,7 @@ fn copy_in_place<V: Clone>(arena: &NodeArena<V>, alloc: Global) -> Result<NodeAr
     })
 }
 
-// The same nodes laid as growth lays them, without the free ones.
+// The same nodes laid as a relocation lays them, without the free ones.
 fn copy_laid<V: Clone>(arena: &NodeArena<V>, alloc: Global) -> Result<NodeArena<V>, AllocError>
     requires whole { IsWellFormed arena.now }
     requires cloned { EntriesKept V.is_clone arena.now }
@@ -196,8 +196,8 @@ fn copy_laid<V: Clone>(arena: &NodeArena<V>, alloc: Global) -> Result<NodeArena<
 }
 
 /// The same nodes in a vector of their own, with none free. Where none is free each has the number
-/// that it had, and the vector is read and written from front to end; else they are laid as growth
-/// lays them. The vector is reserved once.
+/// that it had, and the vector is read and written from front to end; else they are laid as a
+/// relocation lays them. The vector is reserved once.
 pub fn copy<V: Clone>(arena: &NodeArena<V>, alloc: Global) -> Result<NodeArena<V>, AllocError>
     requires whole { IsWellFormed arena.now }
     requires cloned { EntriesKept V.is_clone arena.now }

@@ -1,6 +1,6 @@
 -- The heads of nodes, where nodes are added and changed.
 use Rattle.std.proofs.Common.{◌≡◌, ℕ, zero, suc, ◌+◌, ◌<◌, List, [], ◌∷◌, ◌++◌, length, get_or, set}
-use Rattle.std.proofs.Common.{◌≢◌, ◌-◌, refl, sym, ap, ◌∙◌, arith}
+use Rattle.std.proofs.Common.{◌≢◌, ◌-◌, take, refl, sym, ap, ◌∙◌, arith}
 use Rattle.std.specs.Int.{w32, to_le_bytes, from_le_bytes}
 use Rattle.std.proofs.lemmas.Nat.{from_le_bytes-to_le_bytes_4}
 use Rattle.std.specs.Global.{Vec}
@@ -75,6 +75,13 @@ module _ {V : Type 0} where
       rw here at same ∙ ap (head_of id) reads)
   heads-kept id (suc i) at (x ∷ nodes) n m e reads same =
       ap (λ hs. head_of id x ∷ hs) (heads-kept (suc id) i at nodes n m (omega arith) reads same)
+
+  -- the first nodes have the first heads
+  pub heads-take : (id n : ℕ) (nodes : List (Node V))
+      → heads_from id (take n nodes) ≡ take n (heads_from id nodes)
+  heads-take id zero nodes = refl
+  heads-take id (suc n) [] = refl
+  heads-take id (suc n) (m ∷ nodes) = ap (λ hs. head_of id m ∷ hs) (heads-take (suc id) n nodes)
 
   module _ (nodes : Vec (Node V)) (heads : Vec Head) (has : HasHeads nodes heads) where
     -- there are as many heads as nodes

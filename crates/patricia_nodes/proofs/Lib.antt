@@ -7,8 +7,11 @@ pub mod LayLemmas
 pub mod LinkRefLemmas
 pub mod LoanLemmas
 pub mod NodeVecLemmas
+pub mod OrderLemmas
+pub mod PermuteLemmas
 pub mod PlanLemmas
 pub mod RelayLemmas
+pub mod RenumberLemmas
 pub mod SeekLemmas
 pub mod ValueLemmas
 pub mod WriteLemmas

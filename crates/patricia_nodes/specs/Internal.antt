@@ -6,7 +6,10 @@ pub mod Links
 pub mod Loans
 pub mod Merges
 pub mod NodeVecs
+pub mod Order
+pub mod Permutations
 pub mod Places
 pub mod Plans
 pub mod Relocation
+pub mod Renumbering
 pub mod Writes

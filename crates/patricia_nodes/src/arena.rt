@@ -4,10 +4,12 @@ ghost use Rattle.patricia_nodes.specs.Internal.Plans.{IsWellFormed, siblings_of}
 ghost use Rattle.patricia_nodes.specs.Internal.Writes.{Frees, Relinks, LinkRefWithin};
 ghost use Rattle.patricia_model.specs.Siblings.{end};
 
-mod growth;
 mod lending;
 mod merging;
 pub mod node_vec;
+mod order;
+pub mod permute;
+mod relocation;
 mod room;
 pub mod seek;
 
@@ -15,7 +17,7 @@ use crate::arena::node_vec::NodeVec;
 use crate::arena::seek::LinkRef;
 use crate::label::Label;
 use crate::link::{Link, NodeId};
-pub use growth::DEPTH_FIRST;
+pub use relocation::DEPTH_FIRST;
 use std::alloc::Global;
 use thiserror::Error;
 

@@ -231,8 +231,8 @@ impl<K: Bytes, V: Drop> GenericPatriciaMap<K, V> {
 
     /// Inserts a value at a key, and returns the value that was there, or `None` for a new key.
     ///
-    /// Takes the time of a look-up. Where the vector of nodes is full it is relocated, in time in
-    /// proportion to the number of entries.
+    /// Takes the time of a look-up. Where the vector of nodes is full it is extended and the nodes
+    /// are relocated, in time in proportion to the number of entries.
     ///
     /// # Errors
     ///

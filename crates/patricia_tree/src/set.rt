@@ -183,8 +183,8 @@ impl<T: Bytes> GenericPatriciaSet<T> {
 
     /// Inserts an element, and returns whether it is a new one.
     ///
-    /// Takes the time of a look-up. Where the vector of nodes is full it is relocated, in time in
-    /// proportion to the number of elements.
+    /// Takes the time of a look-up. Where the vector of nodes is full it is extended and the nodes
+    /// are relocated, in time in proportion to the number of elements.
     ///
     /// # Errors
     ///

@@ -1,14 +1,18 @@
 //! The values of a list.
 
-ghost use Rattle.std.specs.Prelude.{◌≡◌, IfOk};
+ghost use Rattle.std.specs.Prelude.{◌≡◌, ◌<◌, IfOk, OnErr, length};
 
+use smallvec::SmallVec;
 use std::alloc::{AllocError, Global};
 use std::marker::Model;
 
-/// What stands beside a name in a list: any bytes.
+// How many bytes stand in the value itself.
+const INLINE: usize = 16;
+
+/// What stands beside a name in a list: any bytes. Up to 16 of them take no memory of their own.
 #[derive(Debug, Drop)]
 pub struct Payload {
-    bytes: Vec<u8>,
+    bytes: SmallVec<u8, INLINE>,
 }
 
 impl Model for Payload {
@@ -27,7 +31,7 @@ impl Payload {
     ///
     /// # Errors
     ///
-    /// Out of memory.
+    /// Out of memory, never for up to 16 bytes.
     ///
     /// # Examples
     ///
@@ -36,10 +40,11 @@ impl Payload {
     /// assert_eq!(rt; payload.as_bytes(), b"on".as_slice());
     /// ```
     pub fn new(alloc: Global, bytes: &[u8]) -> Result<Payload, AllocError>
-        ensures { IfOk result (λ payload. payload ≡ bytes.now) }
+        ensures bytes { IfOk result (λ payload. payload ≡ bytes.now) }
+        ensures err_only_long { OnErr result (INLINE < length bytes.now) }
     {
         Ok(Payload {
-            bytes: Vec::from_slice(alloc, bytes)?,
+            bytes: SmallVec::from_slice(alloc, bytes)?,
         })
     }
 

@@ -7,11 +7,14 @@ ghost use Rattle.std.specs.Int.{w32, from_le_bytes};
 ghost use Rattle.std.specs.Borrow.{sem};
 ghost use Rattle.std.specs.Option.{option_copied_mut};
 ghost use Rattle.std.specs.Vec.{with_item};
-ghost use Rattle.patricia_nodes.specs.Internal.Heads.{beside_of};
+ghost use Rattle.patricia_nodes.specs.Internal.Heads.{beside_of, head_of, heads_from};
+ghost use Rattle.patricia_nodes.specs.Internal.Permutations.{AreInverse};
+ghost use Rattle.patricia_nodes.specs.Internal.Renumbering.{moved, Renumbers, Rearranges};
 ghost use Rattle.patricia_nodes.specs.Internal.NodeVecs.{ReadsNode, Changes, Trades, value_in};
 ghost use Rattle.patricia_nodes.specs.Internal.NodeVecs.{lends_value_at};
 
 use crate::arena::Node;
+use crate::arena::permute::permute;
 use crate::label::Label;
 use crate::link::{Link, NodeId};
 use std::alloc::{AllocError, Global};
@@ -85,6 +88,57 @@ impl Beside {
     }
 }
 
+// The head of a node with this number.
+fn head_of_node<V>(id: usize, node: &Node<V>) -> Head
+    requires { id < 18446744073709551615 }
+    ensures { result ≡ head_of id node.now }
+{
+    Head {
+        first: first_byte(&node.label),
+        beside: Beside::new(id + 1, node.sibling),
+    }
+}
+
+// Writes the heads of nodes, in the room of those that were there.
+fn write_heads<V>(nodes: &[Node<V>], heads: &mut Vec<Head>)
+    requires { length nodes.now ≤ vec_capacity heads.old }
+    ensures items { heads.new.items ≡ heads_from 0 nodes.now }
+    ensures capacity { vec_capacity heads.new ≡ vec_capacity heads.old }
+{
+    heads.clear();
+    let mut id = 0;
+    while id < nodes.len() {
+        heads.push_reserved(head_of_node(id, &nodes[id]));
+        id += 1;
+    }
+}
+
+/// The link to the same node, where each number has the place that is listed for it.
+pub fn moved_link(places: &[u32], link: Link) -> Link
+    ensures { result ≡ moved places.now link }
+{
+    let Some(id) = link.get() else {
+        return Link::none();
+    };
+    match places.get(id.index()) {
+        Some(&place) => Link::some(NodeId::new(place as usize)),
+        None => link,
+    }
+}
+
+// Links nodes by the new numbers of their children and siblings.
+fn renumber<V>(nodes: &mut [Node<V>], places: &[u32])
+    ensures { Renumbers places.now nodes.old nodes.new }
+{
+    let mut id = 0;
+    while id < nodes.len() {
+        let node = &mut nodes[id];
+        node.child = moved_link(places, node.child);
+        node.sibling = moved_link(places, node.sibling);
+        id += 1;
+    }
+}
+
 impl<V> NodeVec<V> {
     /// No node. Does not allocate.
     pub fn new(alloc: Global) -> NodeVec<V>
@@ -146,11 +200,8 @@ impl<V> NodeVec<V> {
         ensures items { self.new.items ≡ self.old.items ++ node ∷ [] }
         ensures capacity { vec_capacity self.new ≡ vec_capacity self.old }
     {
-        let head = Head {
-            first: first_byte(&node.label),
-            beside: Beside::new(self.nodes.len() + 1, node.sibling),
-        };
-        self.heads.push_reserved(head);
+        self.heads
+            .push_reserved(head_of_node(self.nodes.len(), &node));
         self.nodes.push_reserved(node);
     }
 
@@ -177,10 +228,7 @@ impl<V> NodeVec<V> {
         ensures nodes { self.new ≡ with_item self.old id node }
         ensures old { result ≡ slice_index_or self.old.items id result }
     {
-        self.heads[id.index()] = Head {
-            first: first_byte(&node.label),
-            beside: Beside::new(id.index() + 1, node.sibling),
-        };
+        self.heads[id.index()] = head_of_node(id.index(), &node);
         mem::replace(&mut self.nodes[id.index()], node)
     }
 
@@ -235,6 +283,19 @@ impl<V> NodeVec<V> {
         mem::replace(&mut self.nodes[id.index()].value, value)
     }
 
+    /// Lays the nodes in this order, where they are, and links them by their new numbers. Does not
+    /// allocate.
+    pub fn rearrange(&mut self, order: Vec<u32>, places: Vec<u32>)
+        requires inverse { AreInverse order.items places.items }
+        requires long { length order.items ≡ vec_len self.old }
+        ensures items { Rearranges order.items places.items self.old.items self.new.items }
+        ensures capacity { vec_capacity self.new ≡ vec_capacity self.old }
+    {
+        renumber(self.nodes.as_mut_slice(), places.as_slice());
+        permute(self.nodes.as_mut_slice(), order, places);
+        write_heads(self.nodes.as_slice(), &mut self.heads);
+    }
+
     /// Lends the value of a node.
     pub fn value_mut(&mut self, id: NodeId) -> Option<&mut V>
         requires { id < vec_len self.old }
@@ -258,13 +319,12 @@ impl<V: Drop> NodeVec<V> {
         Ok(NodeVec { nodes, heads })
     }
 
-    // Makes room for one more node, and for as many more as there are.
+    /// Makes room for so many nodes more.
     #[cold]
-    fn reserve_more(&mut self) -> Result<(), AllocError>
+    pub fn reserve_exact(&mut self, more: usize) -> Result<(), AllocError>
         ensures items { self.new.items ≡ self.old.items }
-        ensures room { OnOk result (vec_len self.new < vec_capacity self.new) }
+        ensures room { OnOk result (vec_len self.new + more ≤ vec_capacity self.new) }
     {
-        let more = self.nodes.len().max(4);
         self.heads.reserve_exact(more)?;
         self.nodes.reserve_exact(more)?;
         Ok(())
@@ -275,10 +335,25 @@ impl<V: Drop> NodeVec<V> {
         ensures items { OnOk result (self.new.items ≡ self.old.items ++ node ∷ []) }
     {
         if self.nodes.len() == self.nodes.capacity() {
-            self.reserve_more()?;
+            let more = self.nodes.len().max(4);
+            self.reserve_exact(more)?;
         }
         self.push_reserved(node);
         Ok(())
+    }
+
+    /// Keeps the first `n` nodes, with room for half as many more, and drops the others. Room that
+    /// is more than that is given back, where the allocator takes it.
+    pub fn keep_first(&mut self, n: usize)
+        ensures items { self.new.items ≡ take n self.old.items }
+        ensures room { vec_len self.new + 2 ≤ vec_capacity self.old
+            → vec_len self.new + 2 ≤ vec_capacity self.new }
+    {
+        self.nodes.truncate(n);
+        self.heads.truncate(n);
+        let len = self.nodes.len();
+        self.nodes.shrink_to(len.saturating_add(len / 2 + 4));
+        self.heads.shrink_to(self.nodes.capacity());
     }
 
     /// Drops all nodes.

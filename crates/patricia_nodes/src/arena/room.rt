@@ -1,9 +1,15 @@
-//! Room for new nodes.
-ghost use Rattle.std.specs.Prelude.{◌≡◌, ◌≤◌, None, IsTrue, OnOk, OnErr};
+//! Room for new nodes, and nodes that are relocated for their order.
+//!
+//! The nodes stay in their vector, which the allocator extends where it can. Beside it a relocation
+//! asks for eight bytes a node: the order, and the place of each node.
+ghost use Rattle.std.specs.Prelude.{◌≡◌, ◌≤◌, None, IsTrue, OnOk, OnErr, vec_len};
 ghost use Rattle.patricia_nodes.specs.Internal.Plans.{IsWellFormed, siblings_of};
 ghost use Rattle.patricia_nodes.specs.Internal.Writes.{FreeAtLeast, HasRoomFor, Reuses, Stays};
 
 use crate::arena::NodeArena;
+use crate::arena::node_vec::moved_link;
+use crate::arena::permute::inverse;
+use crate::link::Link;
 use std::alloc::{AllocError, Global};
 
 // The fewest nodes that are relocated for their order alone.
@@ -48,9 +54,44 @@ impl<V: Drop> NodeArena<V> {
         self.has_room() && !self.is_worn()
     }
 
-    /// Makes room for two more nodes, or relocates the nodes for their order alone. They may have
-    /// other numbers then. Where there is room already, no memory for that is no error: the nodes
-    /// stay where they are, and wait for as many changes as before.
+    // Lays the nodes depth first, where they are, and drops those that are free.
+    fn relocate(&mut self, alloc: Global) -> Result<(), AllocError>
+        requires { IsWellFormed self.old }
+        ensures whole { IsWellFormed self.new }
+        ensures row { siblings_of self.new ≡ siblings_of self.old }
+        ensures none_free { OnOk result (self.new.free ≡ None) }
+        ensures fewer { vec_len self.new.nodes ≤ vec_len self.old.nodes }
+        ensures room { HasRoomFor self.old 2 → HasRoomFor self.new 2 }
+        ensures unchanged { OnErr result (self.new ≡ self.old) }
+    {
+        let (order, used) = self.depth_first_order(alloc)?;
+        let places = inverse(alloc, order.as_slice())?;
+        self.root = moved_link(places.as_slice(), self.root);
+        self.nodes.rearrange(order, places);
+        self.nodes.keep_first(used);
+        self.free = Link::none();
+        Ok(())
+    }
+
+    // Relocates the nodes where they are many and memory is there for a list of their numbers. Else
+    // they stay where they are, and wait for as many changes as before.
+    fn try_relocate(&mut self, alloc: Global)
+        requires { IsWellFormed self.old }
+        ensures whole { IsWellFormed self.new }
+        ensures row { siblings_of self.new ≡ siblings_of self.old }
+        ensures none_free { self.old.free ≡ None → self.new.free ≡ None }
+        ensures fewer { vec_len self.new.nodes ≤ vec_len self.old.nodes }
+        ensures room { HasRoomFor self.old 2 → HasRoomFor self.new 2 }
+    {
+        if self.nodes.len() >= FEWEST_TO_RELOCATE {
+            // a refusal changes nothing
+            let _relocated = self.relocate(alloc);
+        }
+        self.edits = 0;
+    }
+
+    /// Makes room for two more nodes, and relocates the nodes for their order. They may have other
+    /// numbers then. No memory for the order is no error.
     pub fn reserve_two(&mut self, alloc: Global) -> Result<(), AllocError>
         requires whole { IsWellFormed self.old }
         ensures whole { IsWellFormed self.new }
@@ -59,16 +100,12 @@ impl<V: Drop> NodeArena<V> {
         ensures reuses { Reuses self.old self.new }
         ensures unchanged { OnErr result (Stays self.old self.new) }
     {
-        match self.grow(alloc) {
-            Ok(()) => Ok(()),
-            Err(error) => {
-                if !self.has_room() {
-                    return Err(error);
-                }
-                self.edits = 0;
-                Ok(())
-            }
+        if !self.has_room() {
+            let more = self.nodes.len() / 2 + 4;
+            self.nodes.reserve_exact(more)?;
         }
+        self.try_relocate(alloc);
+        Ok(())
     }
 
     /// Relocates the nodes at the end of a load, where an eighth of them or more were made or freed
@@ -79,10 +116,8 @@ impl<V: Drop> NodeArena<V> {
         ensures row { siblings_of self.new ≡ siblings_of self.old }
         ensures none_free { self.old.free ≡ None → self.new.free ≡ None }
     {
-        let len = self.nodes.len();
-        if len >= FEWEST_TO_RELOCATE && self.edits >= len / 8 {
-            // a refusal changes nothing
-            let _relocated = self.grow(alloc);
+        if self.edits >= self.nodes.len() / 8 {
+            self.try_relocate(alloc);
         }
     }
 }

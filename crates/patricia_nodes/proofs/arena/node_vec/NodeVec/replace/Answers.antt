@@ -10,7 +10,7 @@ index_mut-requires g c =
 pub invariant_of-self : goal.invariant_of-self
 invariant_of-self g c =
     has_other _ _ c.self.invariant c.args.id c.index-2.result c.index-3.result _ _ c.index-2.ensures c.index-3.ensures
-    (rw (c.new.ensures, c.index.ensures, c.first_byte.ensures, c.replace.ensures.after) refl)
+    (rw c.replace.ensures.after (rw c.index.ensures at c.head_of_node.ensures))
 
 pub returns-clause-nodes : goal.returns-clause-nodes
 returns-clause-nodes g c = rw (c.replace.ensures.after, c.index-3.ensures, c.self.view_is) refl

@@ -1,11 +1,10 @@
-//! Room for more nodes: a larger vector, to which the nodes are relocated.
+//! Nodes that are moved to another vector.
 //!
 //! The siblings of a row lie side by side, and what is below a node behind its row, so that a
 //! look-up reads few pages. What waits stands in the new vector, so nothing else is asked for.
-ghost use Rattle.std.specs.Prelude.{◌≡◌, ◌+◌, ◌≤◌, ◌++◌, [], None, IfOk, OnOk, OnErr, length};
+ghost use Rattle.std.specs.Prelude.{◌≡◌, ◌+◌, ◌≤◌, ◌++◌, [], None, length};
 ghost use Rattle.std.specs.Prelude.{vec_len, vec_capacity};
-ghost use Rattle.patricia_nodes.specs.Internal.Plans.{Plan, head, row, siblings_of, size, IsSound};
-ghost use Rattle.patricia_nodes.specs.Internal.Plans.{IsWellFormed};
+ghost use Rattle.patricia_nodes.specs.Internal.Plans.{Plan, head, row, size, IsSound};
 ghost use Rattle.patricia_nodes.specs.Internal.Growth.{IsLaid, IsTopRow, TakesBelow, TakesRow};
 ghost use Rattle.patricia_nodes.specs.Internal.Growth.{tops, laid, numbered_siblings};
 ghost use Rattle.patricia_nodes.specs.Internal.Relocation.{WaitsFrom, MovesFrom};
@@ -13,22 +12,11 @@ ghost use Rattle.patricia_nodes.specs.Internal.Relocation.{WaitsFrom, MovesFrom}
 use crate::arena::node_vec::NodeVec;
 use crate::arena::{Node, NodeArena};
 use crate::link::{Link, NodeId};
-use std::alloc::{AllocError, Global};
+use std::alloc::Global;
 
 /// How many rows deep nodes are laid depth first. What lies deeper is laid row by row, so that the
 /// call stack has a bound.
 pub const DEPTH_FIRST: u32 = 64;
-
-// A vector for half as many nodes again, and for four at the least.
-fn larger_vector<V: Drop>(alloc: Global, len: usize) -> Result<NodeVec<V>, AllocError>
-    ensures empty { IfOk result (λ v. v.items ≡ []) }
-    ensures room { IfOk result (λ v. len + 2 ≤ vec_capacity v) }
-{
-    match len.checked_add(len / 2 + 4) {
-        Some(room) => NodeVec::with_capacity(alloc, room),
-        None => Err(AllocError),
-    }
-}
 
 impl<V: Drop> NodeArena<V> {
     // Moves a row behind the last of some new nodes, each with the old number of its first child,
@@ -100,24 +88,5 @@ impl<V: Drop> NodeArena<V> {
         ensures capacity { vec_capacity to.new ≡ vec_capacity to.old }
     {
         self.relocate_below(alloc, to, 0, DEPTH_FIRST);
-    }
-
-    /// Lays the nodes anew in a larger vector, with room for two more and none free.
-    pub fn grow(&mut self, alloc: Global) -> Result<(), AllocError>
-        requires { IsWellFormed self.old }
-        ensures ok { OnOk result (IsWellFormed self.new) }
-        ensures row { OnOk result (siblings_of self.new ≡ siblings_of self.old) }
-        ensures room { OnOk result (vec_len self.new.nodes + 2 ≤ vec_capacity self.new.nodes) }
-        ensures none_free { OnOk result (self.new.free ≡ None) }
-        ensures unchanged { OnErr result (self.new ≡ self.old) }
-    {
-        let mut nodes = larger_vector(alloc, self.nodes.len())?;
-        let root = self.relocate_siblings(alloc, self.root, &mut nodes);
-        self.relocate_descendants(alloc, &mut nodes);
-        self.nodes = nodes;
-        self.root = root;
-        self.free = Link::none();
-        self.edits = 0;
-        Ok(())
     }
 }

@@ -1,6 +1,6 @@
 use Rattle.std.proofs.Common.{arith}
 use Rattle.patricia_nodes.proofs.HeadLemmas.{as_many}
-use Rattle.patricia_nodes.proofs.arena.node_vec.NodeVec.reserve_more.Goals as goal
+use Rattle.patricia_nodes.proofs.arena.node_vec.NodeVec.reserve_exact.Goals as goal
 
 pub invariant_of-self-2 : goal.invariant_of-self-2
 invariant_of-self-2 g c =

@@ -1,0 +1,66 @@
+use Rattle.std.proofs.Common.{[], sym, ap, ◌∙◌, arith, length}
+use Rattle.std.proofs.lemmas.List.{length-append, length-take}
+use Rattle.patricia_nodes.specs.Internal.Plans.{row}
+use Rattle.patricia_nodes.proofs.LayLemmas.{same_row}
+use Rattle.patricia_nodes.proofs.PlanLemmas.{plan_is}
+use Rattle.patricia_nodes.proofs.RenumberLemmas.{lists_long, lists_order, renamed, row-renamed, sound_used}
+use Rattle.patricia_nodes.proofs.WriteLemmas.{one_chain}
+use Rattle.patricia_nodes.proofs.arena.NodeArena.relocate.Goals as goal
+
+pub inverse-requires-clause-once : goal.inverse-requires-clause-once
+inverse-requires-clause-once g c =
+    let sound = c.requires.1.1 in
+    let lists = c.in_ok-order.ensures.lists _ _ sound in
+    rw c.as_slice.ensures.value (lists_order _ _ _ _ _ _ _ sound lists)
+
+pub inverse-requires-clause-short : goal.inverse-requires-clause-short
+inverse-requires-clause-short g c =
+    let sound = c.requires.1.1 in
+    let lists = c.in_ok-order.ensures.lists _ _ sound in
+    omega (arith, ap length c.as_slice.ensures.value, lists_long _ _ _ _ _ _ _ sound lists, c.in_ok-order.ensures.few, c.args.self.now.nodes.ok.0)
+
+pub rearrange-requires-clause-long : goal.rearrange-requires-clause-long
+rearrange-requires-clause-long g c =
+    let sound = c.requires.1.1 in
+    let lists = c.in_ok-order.ensures.lists _ _ sound in
+    omega (arith, lists_long _ _ _ _ _ _ _ sound lists, c.args.self.now.nodes.ok.0)
+
+pub returns-clause-whole : goal.returns-clause-whole
+returns-clause-whole g c =
+    let sound = c.requires.1.1 in
+    let lists = c.in_ok-order.ensures.lists _ _ sound in
+    let inv = rw c.as_slice.ensures.value at c.in_ok-places.ensures in (
+      renamed c.in_ok-places.places.items c.requires.0,
+      (
+        [],
+        rw (c.keep_first.ensures.items, c.moved_link-self.ensures, c.as_slice-2.ensures.value, c.none-self.ensures)
+            (sound_used c.in_ok-order.order.items c.in_ok-places.places.items inv c.args.self.now.nodes.items
+            c.rearrange.new.self.items (lists_long _ _ _ _ _ _ _ sound lists) c.rearrange.ensures.items
+            _ _ c.requires.0 c.requires.1.0 c.in_ok-order.used sound lists),
+      ),
+    )
+
+pub returns-clause-row : goal.returns-clause-row
+returns-clause-row g c =
+    let sound = c.requires.1.1 in
+    let lists = c.in_ok-order.ensures.lists _ _ sound in
+    let inv = rw c.as_slice.ensures.value at c.in_ok-places.ensures in
+    rw (c.keep_first.ensures.items, c.moved_link-self.ensures, c.as_slice-2.ensures.value)
+    (same_row _ _ _ (renamed c.in_ok-places.places.items c.requires.0) c.requires.0 []
+    (sound_used c.in_ok-order.order.items c.in_ok-places.places.items inv c.args.self.now.nodes.items
+    c.rearrange.new.self.items (lists_long _ _ _ _ _ _ _ sound lists) c.rearrange.ensures.items
+    _ _ c.requires.0 c.requires.1.0 c.in_ok-order.used sound lists)
+    (row-renamed c.in_ok-places.places.items c.requires.0))
+    ∙ sym (ap (λ p. row p) (plan_is _ _ c.requires.0 sound.plan_ok))
+
+pub returns-clause-room : goal.returns-clause-room
+returns-clause-room g c room =
+    let sound = c.requires.1.1 in
+    let lists = c.in_ok-order.ensures.lists _ _ sound in
+    let same = one_chain c.args.self.now.nodes.items room.0 c.requires.1.0 room.1.0 sound.chain (sym room.1.1 ∙ sound.free_is) in
+    let kept = ap length c.keep_first.ensures.items ∙ length-take c.in_ok-order.used c.rearrange.new.self.items in
+    let long = lists_long _ _ _ _ _ _ _ sound lists in
+    let parts = ap length lists.order_is ∙ length-append lists.first c.requires.1.0 in
+    let after = c.keep_first.ensures.room
+    (omega (arith, room.2, ap length same, kept, long, parts, lists.used_is, c.rearrange.ensures.items.long, c.rearrange.ensures.capacity, c.keep_first.new.self.ok.0)) in
+    ([], (tt, c.none-self.ensures), omega (arith, after, c.keep_first.new.self.ok.0))
