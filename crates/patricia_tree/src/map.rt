@@ -29,7 +29,6 @@ mod visits;
 mod whole;
 
 pub use crate::guard::{CursorGuard, IntoMap};
-pub use crate::values::ValueCursor;
 pub use cursors::{IterMut, IterPrefixMut, ValuesMut};
 use patricia_core::Steps;
 pub use patricia_core::entries::{IntoIter, Iter, Keys, Values};
@@ -43,6 +42,7 @@ pub use patricia_core::ranges::Range;
 pub use patricia_core::tree::Refused;
 use patricia_core::tree::{DecodeError, EncodeError, Narrow, Tree, Wide, WireError};
 pub use patricia_core::under::PrefixReadCursor;
+pub use patricia_core::value_cursor::ValueCursor;
 pub use patricia_core::walk::ReadCursor;
 pub use sorted::LoadError;
 use std::alloc::{AllocError, Global};

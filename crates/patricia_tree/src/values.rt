@@ -2,81 +2,22 @@
 ghost use Rattle.std.specs.Prelude.{◌≡◌, ◌≢◌, ◌+◌, ◌↔◌, None, Some, false, IfOk, OnOk, OnErr};
 ghost use Rattle.std.specs.Prelude.{IsSome, IsTrue, MatchOption};
 ghost use Rattle.std.specs.Borrow.{sem};
-ghost use Rattle.std.specs.Option.{option_copied_mut, option_map};
-ghost use Rattle.patricia_model.specs.Cursors.{last_value, next_key, next_row, next_value, stepped};
-ghost use Rattle.patricia_model.specs.Cursors.{written};
+ghost use Rattle.std.specs.Option.{option_copied_mut};
+ghost use Rattle.patricia_model.specs.Cursors.{last_value, next_row, next_value, stepped, written};
 
 use crate::guard::{CursorGuard, IntoMap};
 use patricia_keys::Bytes;
-use patricia_walks::cursor::Cursor;
+use patricia_walks::value_cursor::ValueCursor;
 use std::alloc::AllocError;
-use std::marker::Model;
-
-/// A cursor over the entries of a map that lends the values alone.
-#[derive(Drop)]
-pub struct ValueCursor<K: Bytes, V> {
-    cursor: Cursor<K, V>,
-}
-
-impl<K: Bytes, V> Model for ValueCursor<K, V> {
-    ghost use Rattle.patricia_model.specs.Cursors.{CursorView};
-    ghost use Rattle.patricia_model.specs.Internal.Codes.{cursor_view_code};
-
-    ghost Value = { CursorView V };
-
-    ghost coded = { cursor_view_code V.code };
-
-    ghost view = { λ c. c.cursor };
-}
-
-impl<K: Bytes, V: Drop> ValueCursor<K, V> {
-    ghost use Rattle.std.specs.Borrow.{LendsIf};
-    ghost use Rattle.patricia_tree.specs.contracts.values.ValueCursor.{the_row};
-
-    /// Makes a cursor that lends the values alone.
-    pub fn new(cursor: Cursor<K, V>) -> Self
-        ensures { result ≡ cursor }
-    {
-        ValueCursor { cursor }
-    }
-
-    /// Makes a cursor that returns the keys too.
-    pub fn into_cursor(self) -> Cursor<K, V>
-        ensures { result ≡ self }
-    {
-        let ValueCursor { cursor } = self;
-        cursor
-    }
-
-    // Advances to the next value, and returns whether there is one.
-    fn advance(&mut self) -> Result<bool, AllocError>
-        ensures found { IfOk result (λ found. IsTrue found ↔ (next_key self.old ≢ None)) }
-        ensures stepped { OnOk result (self.new ≡ stepped self.old) }
-        ensures unchanged { OnErr result (self.new ≡ self.old) }
-        ensures err_only_if_left { OnErr result (next_key self.old ≢ None) }
-    {
-        self.cursor.advance_without_key()
-    }
-
-    // Lends the value that it advanced to last.
-    fn value(&mut self) -> Option<&mut V>
-        ensures* writes { sem 𝓛
-            (LendsIf (the_row K.row V.row K.Bytes) V.row self.entry result
-            (written self.entry.now) self.entry.now) }
-        ensures value { option_copied_mut result ≡ last_value self.old }
-    {
-        self.cursor.value()
-    }
-}
 
 impl<'a, M: Drop, K: Bytes, V: Drop> CursorGuard<'a, M, ValueCursor<K, V>>
 where
     ValueCursor<K, V>: IntoMap<M>,
 {
+    ghost use Rattle.patricia_walks.specs.contracts.value_cursor.ValueCursor.{the_row};
     ghost use Rattle.patricia_tree.specs.Left.{left};
     ghost use Rattle.patricia_tree.specs.Lends.{lends_last};
     ghost use Rattle.patricia_tree.specs.Internal.Nexts.{IsNextValue, lends_next};
-    ghost use Rattle.patricia_tree.specs.contracts.values.ValueCursor.{the_row};
     ghost use Rattle.patricia_tree.specs.Steps.{StepsWithValue, TakesNextValue};
 
     /// Advances to the next value and returns whether there is one. `value` lends it. No key is

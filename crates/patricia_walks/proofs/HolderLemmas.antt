@@ -16,8 +16,8 @@ use Rattle.patricia_nodes.specs.Internal.Places.{above_of, Leads, Matches, Place
 use Rattle.patricia_nodes.proofs.PlanLemmas.{plan_is, below_le}
 use Rattle.patricia_nodes.proofs.SeekLemmas.{whole_plan}
 use Rattle.patricia_walks.specs.Internal.Positions.{row_at}
-use Rattle.patricia_walks.specs.declared.cursor_state.ValueSlot.{ValueSlot}
-use Rattle.patricia_walks.specs.declared.cursor_state.ValueSlot.TheVariants.{OfEmptyKey, OfNode}
+use Rattle.patricia_walks.specs.declared.held_tree.ValueSlot.{ValueSlot}
+use Rattle.patricia_walks.specs.declared.held_tree.ValueSlot.TheVariants.{OfEmptyKey, OfNode}
 use Rattle.patricia_walks.specs.Internal.Holders.{numbered_slots, holders, held, uses, ReadsHeld}
 use Rattle.patricia_walks.proofs.NumberLemmas.{mark, marks, head-marks, length-marks}
 use Rattle.patricia_walks.proofs.NumberLemmas.{numbered_slots-length, own-uses, plan_at-marks}

@@ -10,8 +10,8 @@ use Rattle.patricia_nodes.specs.declared.arena.NodeArena.{NodeArena}
 use Rattle.patricia_nodes.specs.Internal.Plans.{Plan, Nil, Cell, linked, head, size, count, LaidOut}
 use Rattle.patricia_nodes.specs.Internal.Plans.{IsChain, IsSound, siblings_of, IsWellFormed}
 use Rattle.patricia_nodes.proofs.WriteLemmas.{get-set_same, get-set_other}
-use Rattle.patricia_walks.specs.declared.cursor_state.ValueSlot.{ValueSlot}
-use Rattle.patricia_walks.specs.declared.cursor_state.ValueSlot.TheVariants.{OfEmptyKey, OfNode}
+use Rattle.patricia_walks.specs.declared.held_tree.ValueSlot.{ValueSlot}
+use Rattle.patricia_walks.specs.declared.held_tree.ValueSlot.TheVariants.{OfEmptyKey, OfNode}
 use Rattle.patricia_nodes.specs.Internal.NodeVecs.{value_in}
 use Rattle.patricia_walks.specs.Internal.Holders.{numbered_slots, holders, held, is_same}
 use Rattle.patricia_walks.proofs.NumberLemmas.{mark, marked_node, marks, numbered_slots-get}

@@ -1,4 +1,4 @@
--- What a write through a loan leaves of a trail.
+-- What a write through a loan leaves of a tree that is held, and of a trail.
 use Rattle.std.proofs.Common.{◌≡◌, ◌≢◌, ℕ, ◌<◌, false, List, ◌++◌, length, set, Option, Some, None}
 use Rattle.std.proofs.Common.{slice_get, refl, sym, ap, subst, ◌∙◌}
 use Rattle.std.specs.FinMap as map
@@ -16,13 +16,16 @@ use Rattle.patricia_model.specs.Internal.WalkStates.{entries_left}
 use Rattle.patricia_walks.specs.Internal.Positions.{IsPosition, state_of}
 use Rattle.patricia_nodes.specs.Internal.Loans.{with_value}
 use Rattle.patricia_nodes.specs.Internal.NodeVecs.{value_in, with_valued}
-use Rattle.patricia_walks.specs.declared.cursor_state.ValueSlot.{ValueSlot}
-use Rattle.patricia_walks.specs.declared.cursor_state.ValueSlot.TheVariants.{OfEmptyKey, OfNode}
+use Rattle.patricia_walks.specs.declared.held_tree.ValueSlot.{ValueSlot}
+use Rattle.patricia_walks.specs.declared.held_tree.ValueSlot.TheVariants.{OfEmptyKey, OfNode}
 use Rattle.patricia_walks.specs.declared.cursor_state.Start.{Start}
 use Rattle.patricia_walks.specs.declared.cursor_state.CursorState.{CursorState}
-use Rattle.patricia_walks.specs.Internal.Holders.{holders, held, is_same, key_at, ReadsHeld}
-use Rattle.patricia_walks.specs.Internal.Trails.{position_of, key_of, last_key, standing, with_held}
-use Rattle.patricia_walks.specs.Internal.Trails.{held_last, IsHeld, IsTrail, IsPrefixCursor}
+use Rattle.patricia_walks.specs.declared.held_tree.HeldTree.{HeldTree}
+use Rattle.patricia_walks.specs.Internal.Holders.{numbered_slots, holders, held, is_same, key_at}
+use Rattle.patricia_walks.specs.Internal.Holders.{ReadsHeld}
+use Rattle.patricia_walks.specs.Internal.HeldTrees.{key_of, last_key, rows_left, standing, with_held}
+use Rattle.patricia_walks.specs.Internal.HeldTrees.{held_last, IsHeld}
+use Rattle.patricia_walks.specs.Internal.Trails.{position_of, IsTrail, IsPrefixCursor}
 use Rattle.patricia_walks.proofs.HolderLemmas.{holders_read, holders_once}
 use Rattle.patricia_walks.proofs.HolderWriteLemmas.{write_numbered, write_holders, write_whole}
 use Rattle.patricia_walks.proofs.HolderWriteLemmas.{write_tree, write_held, write_kept}
@@ -34,7 +37,7 @@ node_in : {V : Type 0} (o : Option (Node V)) (v : V) → value_in o ≡ Some v
 node_in None v e = absurd (cc)
 node_in (Some n) v e = (n, refl, e)
 
-module _ (item : List ℕ → Type 0) {V : Type 0} (t : CursorState V) (w : IsHeld item t) where
+module _ (item : List ℕ → Type 0) {V : Type 0} (t : HeldTree V) (w : IsHeld item t) where
   -- what was lent last holds a value
   holds : (h : ValueSlot) → t.last ≡ Some h
       → (v : V) × (held t.value t.arena.nodes.items h ≡ Some v)
@@ -53,15 +56,18 @@ module _ (item : List ℕ → Type 0) {V : Type 0} (t : CursorState V) (w : IsHe
   pub last_within : (id : ℕ) → t.last ≡ Some (OfNode id) → id < length t.arena.nodes.items
   last_within id is = let n = last_node id is in slice_get_within t.arena.nodes.items id n.0 n.1
 
--- a cursor after a write
-pub record Wrote (item : List ℕ → Type 0) {V : Type 0} (t u : CursorState V) (prefix : List ℕ) (x : V) : Type 0 where
-  pub state : IsTrail item u prefix
+-- a tree after a write
+pub record Wrote (item : List ℕ → Type 0) {V : Type 0} (t u : HeldTree V) (prefix : List ℕ) (x : V) : Type 0 where
+  pub held : IsHeld item u
   pub stands : standing u prefix ≡ written (standing t prefix) x
+  pub nodes : numbered_slots 0 u.arena.nodes.items ≡ numbered_slots 0 t.arena.nodes.items
+  pub rows : rows_left u prefix ≡ rows_left t prefix
 
-module _ (item : List ℕ → Type 0) (kind : IsKeyKind item) {V : Type 0} (t u : CursorState V)
-    (prefix : List ℕ) (w : IsTrail item t prefix) (h : ValueSlot) (lent : t.last ≡ Some h)
+module _ (item : List ℕ → Type 0) (kind : IsKeyKind item) {V : Type 0} (t u : HeldTree V)
+    (prefix : List ℕ) (w : IsHeld item t) (h : ValueSlot) (lent : t.last ≡ Some h)
     (last : u.last ≡ t.last) (x : V)
-    (same : holders u.value u.arena ≡ holders t.value t.arena) (place : position_of u ≡ position_of t)
+    (same : holders u.value u.arena ≡ holders t.value t.arena)
+    (nodes : numbered_slots 0 u.arena.nodes.items ≡ numbered_slots 0 t.arena.nodes.items)
     (whole : IsWellFormed u.arena) (tree : IsTree item (siblings_of u.arena) u.count)
     (here : held u.value u.arena.nodes.items h ≡ Some x)
     (others : (g : ValueSlot) → is_same g h ≡ false → held u.value u.arena.nodes.items g ≡ held
@@ -69,15 +75,15 @@ module _ (item : List ℕ → Type 0) (kind : IsKeyKind item) {V : Type 0} (t u 
   -- what a caller sees after the write is the map with the value at the holder's key
   key_is : (k : Option (List ℕ)) → key_at (holders t.value t.arena) h ≡ k
       → standing u prefix ≡ written_at (standing t prefix) k x
-  key_is None e = absurd (w.held.known h lent e)
+  key_is None e = absurd (w.known h lent e)
   key_is (Some k) e =
       let rows = own t.value ++ entries_of t.arena in
-      let sorted = tree_sorted item kind t.value (siblings_of t.arena) w.held.tree.canonical in
+      let sorted = tree_sorted item kind t.value (siblings_of t.arena) w.tree.canonical in
       let reads = subst (λ es. ReadsHeld (held u.value u.arena.nodes.items) es (own u.value ++ entries_of u.arena)) same (holders_read u.arena whole u.value) in
       let put_in = put_read (held t.value t.arena.nodes.items) (held u.value u.arena.nodes.items) h
       x here others k (holders t.value t.arena) rows _
-      (holders_read t.arena w.held.whole t.value) reads
-      (holders_once t.arena w.held.whole t.value h) sorted e in
+      (holders_read t.arena w.whole t.value) reads
+      (holders_once t.arena w.whole t.value h) sorted e in
       let keys : last_key u ≡ last_key t = rw (same, last) refl in
       ap (λ m. record { map = m; prefix = prefix; last = last_key u }) (ap from_sorted put_in ∙ sym (from_sorted-put rows k x sorted))
       ∙ ap (λ l. record { map = map.insert (map_of t.value (siblings_of t.arena)) k x; prefix = prefix; last = l }) keys
@@ -85,61 +91,54 @@ module _ (item : List ℕ → Type 0) (kind : IsKeyKind item) {V : Type 0} (t u 
   -- a write through the loan changes the value at that key alone
   pub wrote : Wrote item t u prefix x
   wrote = record {
-    state = record {
-      held = record { whole = whole; tree = tree; known = rw same (λ g is. w.held.known g (sym last ∙ is)) };
-      position = subst (IsPosition item) (sym place) w.position;
-      left_is = ap (λ p. entries_left (state_of p)) place ∙ w.left_is ∙ rw (same, last) refl;
-    };
+    held = record { whole = whole; tree = tree; known = rw same (λ g is. w.known g (sym last ∙ is)) };
     stands = subst
         (λ o. standing u prefix ≡ written_at (standing t prefix)
         (key_of (holders t.value t.arena) o) x) (sym lent)
         (key_is (key_at (holders t.value t.arena) h) refl);
+    nodes = nodes;
+    rows = rw (same, last) refl;
   }
 
-module _ (item : List ℕ → Type 0) (kind : IsKeyKind item) {V : Type 0} (t : CursorState V)
-    (prefix : List ℕ) (w : IsTrail item t prefix) (x : V) where
-  -- whatever was lent last, a write to it keeps the trail, and puts the value in at its key
+module _ (item : List ℕ → Type 0) (kind : IsKeyKind item) {V : Type 0} (t : HeldTree V)
+    (prefix : List ℕ) (w : IsHeld item t) (x : V) where
+  -- whatever was lent last, a write to it keeps the tree whole, and puts the value in at its key
   pub wrote_last : Wrote item t (with_held t t.last x) prefix x
   wrote_last = by t.last refl
     where
       by : (o : Option ValueSlot) → t.last ≡ o → Wrote item t (with_held t o x) prefix x
       by None is = record {
-        state = w;
+        held = w;
         stands = subst
             (λ o. standing t prefix ≡ written_at (standing t prefix)
             (key_of (holders t.value t.arena) o) x) (sym is) refl;
+        nodes = refl;
+        rows = refl;
       }
       by (Some OfEmptyKey) is =
-          let v = holds item t w.held OfEmptyKey is in
+          let v = holds item t w OfEmptyKey is in
           wrote item kind t (record t { value = Some x }) prefix w OfEmptyKey is refl x
-          (rw v.1 refl) refl w.held.whole w.held.tree refl (λ g other. by_top g other)
+          (rw v.1 refl) refl w.whole w.tree refl (λ g other. by_top g other)
         where
           by_top : (g : ValueSlot) → is_same g OfEmptyKey ≡ false
               → held (Some x) t.arena.nodes.items g ≡ held t.value t.arena.nodes.items g
           by_top OfEmptyKey other = absurd (cc)
           by_top (OfNode i) other = refl
       by (Some (OfNode id)) is =
-          let n = last_node item t w.held id is in
+          let n = last_node item t w id is in
           let items : (with_value t.arena id x).nodes.items ≡ set t.arena.nodes.items id
           (record n.0 { value = Some x }) = ap
           (λ o. (with_valued t.arena.nodes id x o).items) n.1 in
           let u = with_value t.arena id x in
           wrote item kind t (record t { arena = u }) prefix w (OfNode id) is refl x
           (write_holders t.arena u id n.0 x n.1 n.2 items refl refl t.value)
-          (ap (λ ns.
-          record {
-            nodes = ns;
-            path = t.path.items;
-            pending = t.pending;
-            next = t.next;
-            stack = t.stack.items;
-          }) (write_numbered t.arena u id n.0 x n.1 n.2 items refl refl))
-          (write_whole t.arena u id n.0 x n.1 n.2 items refl refl w.held.whole)
-          (write_tree t.arena u id n.0 x n.1 n.2 items refl refl item t.count w.held.whole w.held.tree)
+          (write_numbered t.arena u id n.0 x n.1 n.2 items refl refl)
+          (write_whole t.arena u id n.0 x n.1 n.2 items refl refl w.whole)
+          (write_tree t.arena u id n.0 x n.1 n.2 items refl refl item t.count w.whole w.tree)
           (write_held t.arena u id n.0 x n.1 n.2 items refl refl t.value)
           (write_kept t.arena u id n.0 x n.1 n.2 items refl refl t.value)
 
-module _ (item : List ℕ → Type 0) (kind : IsKeyKind item) {V : Type 0} (t : CursorState V)
+module _ (item : List ℕ → Type 0) (kind : IsKeyKind item) {V : Type 0} (t : HeldTree V)
     (prefix : List ℕ) (w : IsHeld item t) where
   -- what is read is the value at the key that was lent last
   pub read_last : held_last t t.last ≡ last_value (standing t prefix)
@@ -160,22 +159,35 @@ module _ (item : List ℕ → Type 0) (kind : IsKeyKind item) {V : Type 0} (t : 
               (held t.value t.arena.nodes.items) h k (holders t.value t.arena) rows
               (holders_read t.arena w.whole t.value) sorted e)
 
--- the same before the walk under a prefix has begun, when nothing is lent
-pub record WroteUnder (item : List ℕ → Type 0) {V : Type 0} (t u : CursorState V) (prefix : List ℕ) (o : Option Start) (x : V) : Type 0 where
-  pub state : IsPrefixCursor item u prefix o
-  pub stands : standing u prefix ≡ written (standing t prefix) x
-
 module _ (item : List ℕ → Type 0) (kind : IsKeyKind item) {V : Type 0} (t : CursorState V)
     (prefix : List ℕ) (x : V) where
-  -- a write through the loan is one to a cursor under a prefix, even before it has begun
+  -- the same trail with the value in
+  abbrev pub with_last : CursorState V
+  with_last = record t { tree = with_held t.tree t.tree.last x }
+
+  -- a write through the loan keeps a trail
+  pub wrote_trail : IsTrail item t prefix → IsTrail item with_last prefix
+  wrote_trail w =
+      let wrote = wrote_last item kind t.tree prefix w.held x in
+      let place : position_of with_last ≡ position_of t = ap
+      (λ ns.
+      record {
+        nodes = ns;
+        path = t.path.items;
+        pending = t.pending;
+        next = t.next;
+        stack = t.stack.items;
+      }) wrote.nodes in
+      record {
+        held = wrote.held;
+        position = subst (IsPosition item) (sym place) w.position;
+        left_is = ap (λ p. entries_left (state_of p)) place ∙ w.left_is ∙ sym wrote.rows;
+      }
+
+  -- and a cursor under a prefix, even before it has begun, when nothing is lent
   pub wrote_under : (o : Option Start) → IsPrefixCursor item t prefix o
-      → WroteUnder item t (with_held t t.last x) prefix o x
-  wrote_under None w = let wrote = wrote_last item kind t prefix w x in record { state = wrote.state; stands = wrote.stands }
-  wrote_under (Some s) w = subst (λ o. WroteUnder item t (with_held t o x) prefix (Some s) x)
-      (sym w.none)
-      (record {
-        state = w;
-        stands = subst
-            (λ o. standing t prefix ≡ written_at (standing t prefix) (key_of (holders t.value t.arena) o)
-            x) (sym w.none) refl;
-      })
+      → IsPrefixCursor item with_last prefix o
+  wrote_under None w = wrote_trail w
+  wrote_under (Some s) w = subst
+      (λ o. IsPrefixCursor item (record t { tree = with_held t.tree o x }) prefix (Some s))
+      (sym w.none) w

@@ -1,5 +1,6 @@
 pub mod AfterLemmas
 pub mod AlongLemmas
+pub mod HeldTreeLemmas
 pub mod HolderLemmas
 pub mod HolderWriteLemmas
 pub mod LentLemmas
@@ -17,4 +18,5 @@ pub mod StartLemmas
 pub mod TrailLemmas
 pub mod UnderLemmas
 pub mod ValuePositionLemmas
+pub mod ValueTrailLemmas
 pub mod WaitingLemmas

@@ -10,8 +10,8 @@ use Rattle.patricia_nodes.specs.declared.arena.Node.{Node}
 use Rattle.patricia_nodes.specs.Internal.Plans.{Plan, Nil, Cell, linked, head, row, size, count}
 use Rattle.patricia_nodes.specs.Internal.Plans.{LaidOut, IsChain, IsPlan, IsSound, plan_at}
 use Rattle.patricia_nodes.proofs.PlanLemmas.{plan_is}
-use Rattle.patricia_walks.specs.declared.cursor_state.ValueSlot.{ValueSlot}
-use Rattle.patricia_walks.specs.declared.cursor_state.ValueSlot.TheVariants.{OfEmptyKey, OfNode}
+use Rattle.patricia_walks.specs.declared.held_tree.ValueSlot.{ValueSlot}
+use Rattle.patricia_walks.specs.declared.held_tree.ValueSlot.TheVariants.{OfEmptyKey, OfNode}
 use Rattle.patricia_nodes.specs.Internal.NodeVecs.{value_in}
 use Rattle.patricia_walks.specs.Internal.Holders.{numbered_slots, held, uses, ReadsHeld}
 

@@ -15,8 +15,8 @@ use Rattle.patricia_model.specs.Points.{Has}
 use Rattle.patricia_model.specs.Prefixes.{begins, under}
 use Rattle.patricia_model.proofs.TestLemmas.{first_part, second_part, less_so}
 use Rattle.patricia_model.proofs.ListLemmas.{key_cmp-turned}
-use Rattle.patricia_walks.specs.declared.cursor_state.ValueSlot.{ValueSlot}
-use Rattle.patricia_walks.specs.declared.cursor_state.ValueSlot.TheVariants.{OfEmptyKey, OfNode}
+use Rattle.patricia_walks.specs.declared.held_tree.ValueSlot.{ValueSlot}
+use Rattle.patricia_walks.specs.declared.held_tree.ValueSlot.TheVariants.{OfEmptyKey, OfNode}
 use Rattle.patricia_walks.specs.Internal.Holders.{is_same, key_at, uses, ReadsHeld}
 
 -- two entries with the same key and the same value are one

@@ -19,8 +19,8 @@ use Rattle.patricia_walks.proofs.PositionLemmas.{position_start, row_none}
 use Rattle.patricia_model.proofs.WalkLemmas.{left_start}
 use Rattle.patricia_model.specs.Internal.WalkStates.{entries_left}
 use Rattle.patricia_walks.proofs.UnderLemmas.{place_top, place_rows, place_nothing, top_filled}
-use Rattle.patricia_walks.specs.declared.cursor_state.ValueSlot.{ValueSlot}
-use Rattle.patricia_walks.specs.declared.cursor_state.ValueSlot.TheVariants.{OfEmptyKey, OfNode}
+use Rattle.patricia_walks.specs.declared.held_tree.ValueSlot.{ValueSlot}
+use Rattle.patricia_walks.specs.declared.held_tree.ValueSlot.TheVariants.{OfEmptyKey, OfNode}
 use Rattle.patricia_walks.specs.Internal.Holders.{numbered_slots, holders}
 use Rattle.patricia_walks.specs.Internal.Trails.{IsAtStart, StartsUnder}
 use Rattle.patricia_walks.proofs.HolderLemmas.{Marked, marked, place_marked, row_marked}

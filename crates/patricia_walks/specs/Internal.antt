@@ -1,6 +1,7 @@
 -- Words of contracts that no user of the library meets: a reader need not believe them.
 pub mod Bounds
 pub mod Descents
+pub mod HeldTrees
 pub mod Holders
 pub mod Lends
 pub mod Lowers
@@ -10,3 +11,4 @@ pub mod Skips
 pub mod Starts
 pub mod Trails
 pub mod ValuePositions
+pub mod ValueTrails

@@ -1,14 +1,16 @@
 //! Cursors: each owns a tree, and lends its values one at a time, in key order.
-ghost use Rattle.std.specs.Prelude.{◌≡◌, ◌≢◌, ◌↔◌, [], None, IfOk, OnOk, OnErr, IsTrue};
+ghost use Rattle.std.specs.Prelude.{◌≡◌, ◌≢◌, [], None, IfOk, OnOk, OnErr};
 ghost use Rattle.std.specs.Borrow.{sem};
 ghost use Rattle.std.specs.Option.{option_copied_mut, option_map};
 ghost use Rattle.patricia_model.specs.Cursors.{last_value, next_key, stepped};
 ghost use Rattle.patricia_model.specs.Siblings.{IsCanonical};
 ghost use Rattle.patricia_model.specs.Trees.{map_of, IsTree};
 ghost use Rattle.patricia_nodes.specs.Internal.Plans.{IsWellFormed, siblings_of};
-ghost use Rattle.patricia_walks.specs.Internal.Trails.{standing, IsTrail, IsPrefixCursor};
+ghost use Rattle.patricia_walks.specs.Internal.HeldTrees.{standing};
+ghost use Rattle.patricia_walks.specs.Internal.Trails.{IsTrail, IsPrefixCursor};
 
-use crate::cursor_state::{CursorState, Start, TreeParts, find_start};
+use crate::cursor_state::{CursorState, Start, find_start};
+use crate::held_tree::TreeParts;
 use patricia_keys::{BorrowedBytes, Bytes};
 use std::alloc::{AllocError, Global};
 use std::marker::{Model, PhantomData};
@@ -25,13 +27,14 @@ impl<K: Bytes, V> Model for Cursor<K, V> {
     ghost use Rattle.std.specs.Prelude.{[]};
     ghost use Rattle.patricia_model.specs.Cursors.{CursorView};
     ghost use Rattle.patricia_model.specs.Internal.Codes.{cursor_view_code};
-    ghost use Rattle.patricia_walks.specs.Internal.Trails.{standing, IsTrail};
+    ghost use Rattle.patricia_walks.specs.Internal.HeldTrees.{standing};
+    ghost use Rattle.patricia_walks.specs.Internal.Trails.{IsTrail};
 
     ghost Value = { CursorView V };
 
     ghost coded = { cursor_view_code V.code };
 
-    ghost view = { λ c. standing c.state [] };
+    ghost view = { λ c. standing c.state.tree [] };
 
     ghost invariant = { λ c. IsTrail K.item c.state [] };
 }
@@ -63,7 +66,7 @@ impl<K: Bytes, V: Drop> Cursor<K, V> {
         ensures map { map_of result.value (siblings_of result.arena) ≡ self.map }
     {
         let Cursor { alloc, state, .. } = self;
-        state.into_parts(alloc)
+        state.tree.into_parts(alloc)
     }
 
     /// Advances to the next entry, and returns its key. The error is out of memory.
@@ -76,22 +79,12 @@ impl<K: Bytes, V: Drop> Cursor<K, V> {
         self.state.advance::<K>(self.alloc)
     }
 
-    /// Advances to the next entry, and returns whether there is one. The error is out of memory.
-    pub fn advance_without_key(&mut self) -> Result<bool, AllocError>
-        ensures found { IfOk result (λ found. IsTrue found ↔ (next_key self.old ≢ None)) }
-        ensures stepped { OnOk result (self.new ≡ stepped self.old) }
-        ensures unchanged { OnErr result (self.new ≡ self.old) }
-        ensures err_only_if_left { OnErr result (next_key self.old ≢ None) }
-    {
-        self.state.advance_without_key::<K>()
-    }
-
     /// Lends the value that it advanced to last, or returns `None` where it has not advanced yet.
     pub fn value(&mut self) -> Option<&mut V>
         ensures* writes { sem 𝓛 (cursor_lends_last K.row V.row K.Bytes self.entry result) }
         ensures value { option_copied_mut result ≡ last_value self.old }
     {
-        self.state.value::<K>()
+        self.state.tree.value::<K>()
     }
 }
 
@@ -105,9 +98,11 @@ fn start_at<Q: BorrowedBytes, V>(
     requires { IsPrefixCursor Q.Owned.item state.old (Q.key prefix) start.old }
     ensures begun { OnOk result (start.new ≡ None) }
     ensures state { OnOk result (IsTrail Q.Owned.item state.new (Q.key prefix)) }
-    ensures stands { standing state.new (Q.key prefix) ≡ standing state.old (Q.key prefix) }
+    ensures stands { standing state.new.tree (Q.key prefix)
+        ≡ standing state.old.tree (Q.key prefix) }
     ensures ahead { OnErr result (IsPrefixCursor Q.Owned.item state.new (Q.key prefix) start.new) }
-    ensures err_only_if_left { OnErr result (next_key (standing state.old (Q.key prefix)) ≢ None) }
+    ensures err_only_if_left { OnErr result
+        (next_key (standing state.old.tree (Q.key prefix)) ≢ None) }
 {
     let Some(at) = *start else {
         return Ok(());
@@ -131,13 +126,14 @@ pub struct PrefixCursor<Q: BorrowedBytes, V> {
 impl<Q: BorrowedBytes, V> Model for PrefixCursor<Q, V> {
     ghost use Rattle.patricia_model.specs.Cursors.{CursorView};
     ghost use Rattle.patricia_model.specs.Internal.Codes.{cursor_view_code};
-    ghost use Rattle.patricia_walks.specs.Internal.Trails.{standing, IsPrefixCursor};
+    ghost use Rattle.patricia_walks.specs.Internal.HeldTrees.{standing};
+    ghost use Rattle.patricia_walks.specs.Internal.Trails.{IsPrefixCursor};
 
     ghost Value = { CursorView V };
 
     ghost coded = { cursor_view_code V.code };
 
-    ghost view = { λ c. standing c.state (Q.key c.prefix) };
+    ghost view = { λ c. standing c.state.tree (Q.key c.prefix) };
 
     ghost invariant = { λ c. IsPrefixCursor Q.Owned.item c.state (Q.key c.prefix) c.start };
 }
@@ -179,7 +175,7 @@ impl<Q: BorrowedBytes, V: Drop> PrefixCursor<Q, V> {
         ensures map { map_of result.value (siblings_of result.arena) ≡ self.map }
     {
         let PrefixCursor { alloc, state, .. } = self;
-        state.into_parts(alloc)
+        state.tree.into_parts(alloc)
     }
 
     /// Advances to the next entry, and returns its key. The error is out of memory.
@@ -199,6 +195,6 @@ impl<Q: BorrowedBytes, V: Drop> PrefixCursor<Q, V> {
             Q.Owned.Bytes self.entry result) }
         ensures value { option_copied_mut result ≡ last_value self.old }
     {
-        self.state.value::<Q::Owned>()
+        self.state.tree.value::<Q::Owned>()
     }
 }

@@ -7,14 +7,16 @@
 pub mod along;
 pub mod cursor;
 mod cursor_state;
+mod held_tree;
 pub mod into_walk;
 pub mod last;
 pub mod near;
 pub mod range;
 pub mod reach;
 pub mod under;
+pub mod value_cursor;
 pub mod value_walk;
 mod waiting;
 pub mod walk;
 
-pub use cursor_state::TreeParts;
+pub use held_tree::TreeParts;

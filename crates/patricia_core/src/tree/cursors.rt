@@ -8,6 +8,7 @@ use super::Tree;
 use patricia_keys::{BorrowedBytes, Bytes};
 use patricia_walks::TreeParts;
 use patricia_walks::cursor::{Cursor, PrefixCursor};
+use patricia_walks::value_cursor::ValueCursor;
 use std::marker::PhantomData;
 use std::mem;
 
@@ -62,6 +63,21 @@ impl<K: Bytes, V: Drop> Tree<K, V> {
         ensures { result ≡ cursor.map }
     {
         made_of(cursor.into_parts())
+    }
+
+    /// A cursor over the values, which owns the tree. Making it does not allocate.
+    pub fn into_value_cursor(self) -> ValueCursor<K, V>
+        ensures { result ≡ record { map = self; prefix = []; last = None } }
+    {
+        ValueCursor::new(self.into_parts())
+    }
+
+    /// The tree that such a cursor walked over.
+    pub fn from_value_cursor(cursor: ValueCursor<K, V>) -> Self
+        ensures { result ≡ cursor.map }
+    {
+        let whole = cursor.into_parts();
+        made_of(whole)
     }
 
     /// A cursor over the entries whose key begins with a prefix, which owns the tree. Making it

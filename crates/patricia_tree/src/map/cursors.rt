@@ -3,10 +3,10 @@ ghost use Rattle.std.specs.Prelude.{◌≡◌, [], None};
 
 use super::GenericPatriciaMap;
 use crate::guard::{CursorGuard, IntoMap};
-use crate::values::ValueCursor;
 use patricia_core::cursor::{Cursor, PrefixCursor};
 use patricia_core::keys::{BorrowedBytes, Bytes};
 use patricia_core::tree::Tree;
+use patricia_core::value_cursor::ValueCursor;
 
 /// A cursor over the entries of a map.
 pub type IterMut<'a, K, V> = CursorGuard<'a, GenericPatriciaMap<K, V>, Cursor<K, V>>;
@@ -43,7 +43,7 @@ impl<K: Bytes, V: Drop> IntoMap<GenericPatriciaMap<K, V>> for ValueCursor<K, V> 
 
     fn into_map(self) -> GenericPatriciaMap<K, V> {
         GenericPatriciaMap {
-            tree: Tree::from_cursor(self.into_cursor()),
+            tree: Tree::from_value_cursor(self),
         }
     }
 }
@@ -90,7 +90,7 @@ impl<K: Bytes, V: Drop> GenericPatriciaMap<K, V> {
         ensures start { result.at ≡ record { map = self.old; prefix = []; last = None } }
     {
         let tree = self.tree.take();
-        CursorGuard::new(self, ValueCursor::new(tree.into_cursor()))
+        CursorGuard::new(self, tree.into_value_cursor())
     }
 
     /// Returns a cursor over the entries whose key begins with the prefix, in key order. Making it

@@ -8,8 +8,8 @@ use Rattle.patricia_nodes.specs.declared.arena.NodeArena.{NodeArena}
 use Rattle.patricia_nodes.specs.Internal.Plans.{linked}
 use Rattle.patricia_walks.specs.Internal.Positions.{row_at}
 use Rattle.patricia_nodes.specs.Internal.NodeVecs.{value_in}
-use Rattle.patricia_walks.specs.declared.cursor_state.ValueSlot.{ValueSlot}
-use Rattle.patricia_walks.specs.declared.cursor_state.ValueSlot.TheVariants.{OfEmptyKey, OfNode}
+use Rattle.patricia_walks.specs.declared.held_tree.ValueSlot.{ValueSlot}
+use Rattle.patricia_walks.specs.declared.held_tree.ValueSlot.TheVariants.{OfEmptyKey, OfNode}
 
 module _ {V : Type 0} where
   -- each value replaced by the number of its node, from this number on

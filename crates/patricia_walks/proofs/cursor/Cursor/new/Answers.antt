@@ -1,6 +1,7 @@
 use Rattle.std.proofs.Common.{[], ◌∙◌, sym}
 use Rattle.patricia_model.proofs.PrefixLemmas.{under_empty}
-use Rattle.patricia_walks.proofs.TrailLemmas.{made_trail, made_stands}
+use Rattle.patricia_walks.proofs.HeldTreeLemmas.{made_stands}
+use Rattle.patricia_walks.proofs.TrailLemmas.{made_trail}
 use Rattle.patricia_walks.proofs.cursor.Cursor.new.Goals as goal
 
 pub invariant_of-result : goal.invariant_of-result
@@ -10,4 +11,4 @@ invariant_of-result g c =
     (c.new.ensures.left ∙ sym (under_empty _))
 
 pub returns : goal.returns
-returns g c = made_stands g.K.Bytes.item c.args.parts c.new.result [] c.requires.whole c.requires.tree c.new.ensures.tree c.new.ensures.last
+returns g c = made_stands g.K.Bytes.item c.args.parts c.new.result.tree [] c.requires.whole c.requires.tree c.new.ensures.tree c.new.ensures.last

@@ -8,7 +8,7 @@ pub index-node-requires : goal.index-node-requires
 index-node-requires g c = omega (
   arith,
   c.index.ensures,
-  start_within g.K.Bytes.item c.args.self.now.arena.nodes.items
+  start_within g.K.Bytes.item c.args.self.now.tree.arena.nodes.items
       c.args.front.now c.args.top c.requires.start,
 )
 
@@ -20,7 +20,7 @@ returns-clause-position g c =
     (c.in_ok-extend_from_slice.ensures.items ∙ ap (λ p. p ++ c.args.front.now)
     c.in_ok-path.ensures.items) ∙ ap (λ l. c.args.front.now ++ l) c.as_slice-label.ensures
     in
-    start_position g.K.Bytes.item c.args.self.now.arena _ (marked _ c.requires.whole).1
+    start_position g.K.Bytes.item c.args.self.now.tree.arena _ (marked _ c.requires.whole).1
     c.args.front.now c.args.top c.index-node.result.now c.requires.start reads _ refl path refl
     c.requires.stack
 
@@ -32,15 +32,11 @@ returns-clause-left g c =
     (c.in_ok-extend_from_slice.ensures.items ∙ ap (λ p. p ++ c.args.front.now)
     c.in_ok-path.ensures.items) ∙ ap (λ l. c.args.front.now ++ l) c.as_slice-label.ensures
     in
-    start_left g.K.Bytes.item c.args.self.now.arena _ (marked _ c.requires.whole).1 c.args.front.now c.args.top c.index-node.result.now c.requires.start reads
+    start_left g.K.Bytes.item c.args.self.now.tree.arena _ (marked _ c.requires.whole).1 c.args.front.now c.args.top c.index-node.result.now c.requires.start reads
     (position_of (record {
-      value = c.args.self.now.value;
-      arena = c.args.self.now.arena;
-      count =
-          c.args.self.now.count;
+      tree = c.args.self.now.tree;
       path = c.extend_from_slice-2.new.self;
       pending = c.held_by-self.result;
       next = c.index-node.result.now.child;
       stack = c.args.self.now.stack;
-      last = c.args.self.now.last;
     })) refl path refl c.requires.stack c.held_by-self.ensures

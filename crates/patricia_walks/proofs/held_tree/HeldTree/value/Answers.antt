@@ -1,6 +1,6 @@
 use Rattle.std.proofs.Common.{arith, rules}
 use Rattle.patricia_walks.proofs.LentLemmas.{last_within}
-use Rattle.patricia_walks.proofs.cursor_state.CursorState.value.Goals as goal
+use Rattle.patricia_walks.proofs.held_tree.HeldTree.value.Goals as goal
 
 pub value_mut-requires : goal.value_mut-requires
 value_mut-requires g c =

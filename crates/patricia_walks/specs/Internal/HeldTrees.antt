@@ -1,0 +1,78 @@
+-- A tree that a cursor holds, and the key that it lent last.
+use Rattle.std.specs.Prelude.{◌≡◌, ◌≢◌, ℕ, List, [], ◌∷◌, Option, Some, None}
+use Rattle.patricia_model.specs.Cursors.{CursorView, after}
+use Rattle.patricia_model.specs.Prefixes.{under}
+use Rattle.patricia_model.specs.Trees.{map_of, IsTree}
+use Rattle.patricia_nodes.specs.Internal.Loans.{with_value}
+use Rattle.patricia_nodes.specs.Internal.Plans.{IsWellFormed, siblings_of}
+use Rattle.patricia_walks.specs.declared.held_tree.HeldTree.{HeldTree}
+use Rattle.patricia_walks.specs.declared.held_tree.TreeParts.{TreeParts}
+use Rattle.patricia_walks.specs.declared.held_tree.ValueSlot.{ValueSlot}
+use Rattle.patricia_walks.specs.declared.held_tree.ValueSlot.TheVariants.{OfEmptyKey, OfNode}
+use Rattle.patricia_walks.specs.Internal.Holders.{holders, held, key_at}
+
+-- the key of a holder
+abbrev pub key_of : List (List ℕ × ValueSlot) → Option ValueSlot → Option (List ℕ)
+key_of rows None = None
+key_of rows (Some h) = key_at rows h
+
+module _ {V : Type 0} where
+  -- the tree is the same
+  pub record IsSameTree (t u : HeldTree V) : Type 0 where
+    pub value : u.value ≡ t.value
+    pub arena : u.arena ≡ t.arena
+    pub count : u.count ≡ t.count
+
+  -- it is the tree of these parts
+  pub record IsMadeOf (p : TreeParts V) (t : HeldTree V) : Type 0 where
+    pub value : p.value ≡ t.value
+    pub arena : p.arena ≡ t.arena
+    pub count : p.count ≡ t.count
+
+  -- the key that was lent last
+  abbrev pub last_key : HeldTree V → Option (List ℕ)
+  last_key t = key_of (holders t.value t.arena) t.last
+
+  -- what a caller of the cursor sees
+  abbrev pub standing : HeldTree V → List ℕ → CursorView V
+  standing t prefix =
+      record { map = map_of t.value (siblings_of t.arena); prefix = prefix; last = last_key t }
+
+  -- the rows behind the key that was lent last, below the prefix
+  abbrev pub rows_left : HeldTree V → List ℕ → List (List ℕ × ValueSlot)
+  rows_left t prefix = after (last_key t) (under prefix (holders t.value t.arena))
+
+  -- these are those rows
+  abbrev pub AreEntriesLeft : HeldTree V → List ℕ → List (List ℕ × ValueSlot) → Type 0
+  AreEntriesLeft t prefix rows = rows ≡ rows_left t prefix
+
+  -- the first of these rows was lent, and the others are left; or there was none
+  abbrev pub Takes : HeldTree V → List (List ℕ × ValueSlot) → Option (List ℕ) → HeldTree V
+      → List (List ℕ × ValueSlot) → Type 0
+  Takes t rows None u later = (rows ≡ []) × (later ≡ []) × (u.last ≡ t.last)
+  Takes t rows (Some key) u later =
+      (h : ValueSlot) × (rows ≡ (key, h) ∷ later) × (u.last ≡ Some h)
+
+  -- a row was left, and all are left still
+  pub record Refuses (t : HeldTree V) (rows : List (List ℕ × ValueSlot)) (u : HeldTree V)
+      (later : List (List ℕ × ValueSlot)) : Type 0 where
+    pub left : later ≡ rows
+    pub last : u.last ≡ t.last
+    pub some : rows ≢ []
+
+  -- the same with another value where this one holds one
+  abbrev pub with_held : HeldTree V → Option ValueSlot → V → HeldTree V
+  with_held t None value = t
+  with_held t (Some OfEmptyKey) value = record t { value = Some value }
+  with_held t (Some (OfNode id)) value = record t { arena = with_value t.arena id value }
+
+  -- the value that was lent last
+  abbrev pub held_last : HeldTree V → Option ValueSlot → Option V
+  held_last t None = None
+  held_last t (Some h) = held t.value t.arena.nodes.items h
+
+-- the tree is whole, and what was lent last is in it
+pub record IsHeld (item : List ℕ → Type 0) {V : Type 0} (t : HeldTree V) : Type 0 where
+  pub whole : IsWellFormed t.arena
+  pub tree : IsTree item (siblings_of t.arena) t.count
+  pub known : (h : ValueSlot) → t.last ≡ Some h → key_at (holders t.value t.arena) h ≢ None

@@ -1,0 +1,131 @@
+//! A tree that a cursor owns, and who holds the value that it lent last.
+ghost use Rattle.std.specs.Prelude.{◌≡◌, ◌≢◌, ◌↔◌, MatchOption, ℕ, Some, IsTrue};
+ghost use Rattle.std.specs.Borrow.{sem};
+ghost use Rattle.std.specs.Option.{option_copied_mut, option_map};
+ghost use Rattle.patricia_walks.specs.declared.held_tree.ValueSlot.TheVariants.{OfEmptyKey};
+ghost use Rattle.patricia_walks.specs.declared.held_tree.ValueSlot.TheVariants.{OfNode};
+ghost use Rattle.patricia_walks.specs.Internal.HeldTrees.{IsMadeOf, IsHeld, held_last};
+
+use patricia_keys::Bytes;
+use patricia_nodes::arena::{Node, NodeArena};
+use patricia_nodes::link::{Link, NodeId};
+use std::alloc::Global;
+
+/// Who holds a value: the tree, for the empty key, or a node.
+#[derive(Clone, Copy)]
+pub enum ValueSlot {
+    OfEmptyKey,
+    OfNode(NodeId),
+}
+
+/// The parts of a tree: the value of the empty key, the nodes of the other keys, and how many keys
+/// these have.
+#[derive(Drop)]
+pub struct TreeParts<V> {
+    pub alloc: Global,
+    pub value: Option<V>,
+    pub arena: NodeArena<V>,
+    pub count: usize,
+}
+
+/// A tree, and who holds the value that was lent last.
+#[derive(Drop)]
+pub struct HeldTree<V> {
+    pub value: Option<V>,
+    pub arena: NodeArena<V>,
+    pub count: usize,
+    // who holds the value that was lent last
+    pub last: Option<ValueSlot>,
+}
+
+/// Who holds the value of a node, where it has one.
+pub fn held_by<V>(node: &Node<V>, id: NodeId) -> Option<ValueSlot>
+    ensures { result ≡ option_map (λ _. OfNode id) node.now.value }
+{
+    match &node.value {
+        Some(_) => Some(ValueSlot::OfNode(id)),
+        None => None,
+    }
+}
+
+impl<V> HeldTree<V> {
+    ghost use Rattle.patricia_walks.specs.Internal.Lends.{lends_held};
+
+    /// A tree of which nothing was lent yet.
+    pub fn new(parts: TreeParts<V>) -> HeldTree<V>
+        ensures tree { IsMadeOf parts result }
+        ensures last { result.last ≡ None }
+    {
+        HeldTree {
+            value: parts.value,
+            arena: parts.arena,
+            count: parts.count,
+            last: None,
+        }
+    }
+
+    /// The tree.
+    pub fn into_parts(self, alloc: Global) -> TreeParts<V>
+        ensures { IsMadeOf result self }
+    {
+        TreeParts {
+            alloc,
+            value: self.value,
+            arena: self.arena,
+            count: self.count,
+        }
+    }
+
+    /// Who holds the value of the empty key, where it has one.
+    pub fn root_value_slot(&self) -> Option<ValueSlot>
+        ensures { result ≡ option_map (λ _. OfEmptyKey) self.now.value }
+    {
+        match &self.value {
+            Some(_) => Some(ValueSlot::OfEmptyKey),
+            None => None,
+        }
+    }
+
+    /// The first row of nodes.
+    pub fn root(&self) -> Link
+        ensures { result ≡ self.now.arena.root }
+    {
+        self.arena.root
+    }
+
+    // Whether the value that was lent last is that of the empty key.
+    fn is_on_top(&self) -> bool
+        ensures { IsTrue result ↔ (self.now.last ≡ Some OfEmptyKey) }
+    {
+        match &self.last {
+            Some(ValueSlot::OfEmptyKey) => true,
+            _ => false,
+        }
+    }
+
+    // The node that holds the value that was lent last.
+    fn node(&self) -> Option<NodeId>
+        ensures { MatchOption result ((id : ℕ) → self.now.last ≢ Some (OfNode id))
+            (λ id. self.now.last ≡ Some (OfNode id)) }
+    {
+        match &self.last {
+            Some(ValueSlot::OfNode(id)) => Some(*id),
+            _ => None,
+        }
+    }
+
+    /// Lends the value that was lent last.
+    pub fn value<K: Bytes>(&mut self) -> Option<&mut V>
+        requires { IsHeld K.item self.old }
+        ensures* writes { sem 𝓛 (lends_held V.row self.entry result) }
+        ensures value { option_copied_mut result ≡ held_last self.old self.old.last }
+    {
+        if self.is_on_top() {
+            return self.value.as_mut();
+        }
+        match self.node() {
+            Some(id) => self.arena.value_mut(id),
+            None => None,
+        }
+    }
+}

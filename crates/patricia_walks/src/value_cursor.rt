@@ -1,0 +1,223 @@
+//! A cursor that owns a tree and lends its values one at a time, in the order of their keys.
+//!
+//! It reads no label and keeps no key, only the rows that are still to come.
+ghost use Rattle.std.specs.Prelude.{◌≡◌, ◌≢◌, ◌↔◌, [], Some, None, true, false, IfOk, OnOk};
+ghost use Rattle.std.specs.Prelude.{OnErr, IsTrue};
+ghost use Rattle.std.specs.Borrow.{sem};
+ghost use Rattle.std.specs.Option.{option_copied_mut, option_map};
+ghost use Rattle.patricia_model.specs.Cursors.{last_value, next_key, stepped};
+ghost use Rattle.patricia_model.specs.Siblings.{IsCanonical};
+ghost use Rattle.patricia_model.specs.Trees.{map_of, IsTree};
+ghost use Rattle.patricia_model.specs.Walks.{values_of};
+ghost use Rattle.patricia_nodes.specs.Internal.Plans.{IsWellFormed, siblings_of};
+ghost use Rattle.patricia_walks.specs.Internal.HeldTrees.{IsMadeOf, IsSameTree};
+ghost use Rattle.patricia_walks.specs.Internal.Holders.{holders};
+ghost use Rattle.patricia_walks.specs.Internal.ValuePositions.{IsValuePosition, GoesTo};
+ghost use Rattle.patricia_walks.specs.Internal.ValueTrails.{spot_of, holders_left, Moves};
+ghost use Rattle.patricia_walks.specs.Internal.ValueTrails.{MoveIsRefused};
+
+use crate::held_tree::{HeldTree, TreeParts, ValueSlot, held_by};
+use patricia_keys::Bytes;
+use patricia_nodes::link::{Link, NodeId};
+use std::alloc::{AllocError, Global};
+use std::marker::{Model, PhantomData};
+
+// A tree, and how far a walk over its values has come.
+#[derive(Drop)]
+struct ValueTrail<V> {
+    tree: HeldTree<V>,
+    // who holds the value that is due
+    pending: Option<ValueSlot>,
+    // the row that is next
+    next: Link,
+    // the rows that wait
+    stack: Vec<Link>,
+}
+
+impl<V> ValueTrail<V> {
+    // A trail over all values.
+    fn new<K: Bytes>(parts: TreeParts<V>) -> ValueTrail<V>
+        requires whole { IsWellFormed parts.arena }
+        requires row { IsCanonical K.item (siblings_of parts.arena) }
+        ensures tree { IsMadeOf parts result.tree }
+        ensures position { IsValuePosition (spot_of result) }
+        ensures left { holders_left result ≡ values_of (holders parts.value parts.arena) }
+        ensures last { result.tree.last ≡ None }
+    {
+        let stack = Vec::new(parts.alloc);
+        let tree = HeldTree::new(parts);
+        let pending = tree.root_value_slot();
+        let next = tree.root();
+        ValueTrail {
+            tree,
+            pending,
+            next,
+            stack,
+        }
+    }
+
+    // Advances to the node's value and its children, or its siblings where it has no children. Its
+    // siblings wait only where it has both.
+    fn descend(&mut self, id: NodeId) -> Result<(), AllocError>
+        requires position { IsValuePosition (spot_of self.old) }
+        requires taken { self.old.pending ≡ None }
+        requires next { self.old.next ≡ Some id }
+        ensures goes { OnOk result (GoesTo (spot_of self.old) (spot_of self.new)) }
+        ensures refused { OnErr result (spot_of self.new ≡ spot_of self.old) }
+        ensures tree { self.new.tree ≡ self.old.tree }
+    {
+        let node = &self.tree.arena.nodes[id.index()];
+        if node.child.get().is_none() {
+            self.pending = held_by(node, id);
+            self.next = node.sibling;
+            return Ok(());
+        }
+        if node.sibling.get().is_some() {
+            self.stack.push(node.sibling)?;
+        }
+        self.pending = held_by(node, id);
+        self.next = node.child;
+        Ok(())
+    }
+
+    // Goes back to the row that waits last, if there is one.
+    fn back(&mut self) -> bool
+        requires position { IsValuePosition (spot_of self.old) }
+        requires taken { self.old.pending ≡ None }
+        requires over { self.old.next ≡ None }
+        ensures step { IsTrue result → GoesTo (spot_of self.old) (spot_of self.new) }
+        ensures over { result ≡ false → holders_left self.old ≡ [] }
+        ensures stays { result ≡ false → spot_of self.new ≡ spot_of self.old }
+        ensures tree { self.new.tree ≡ self.old.tree }
+    {
+        let Some(row) = self.stack.pop() else {
+            return false;
+        };
+        self.next = row;
+        true
+    }
+
+    // Advances until a value is due. The answer is false where none is left.
+    fn seek(&mut self) -> Result<bool, AllocError>
+        requires { IsValuePosition (spot_of self.old) }
+        ensures position { IsValuePosition (spot_of self.new) }
+        ensures left { holders_left self.new ≡ holders_left self.old }
+        ensures found { IfOk result (λ found. IsTrue found → self.new.pending ≢ None) }
+        ensures over { IfOk result (λ found. found ≡ false → holders_left self.old ≡ []) }
+        ensures refused { OnErr result (holders_left self.old ≢ []) }
+        ensures tree { self.new.tree ≡ self.old.tree }
+    {
+        loop {
+            if self.pending.is_some() {
+                return Ok(true);
+            }
+            match self.next.get() {
+                Some(id) => self.descend(id)?,
+                None => {
+                    if !self.back() {
+                        return Ok(false);
+                    }
+                }
+            }
+        }
+    }
+
+    // Takes the value that is due for lent.
+    fn mark_lent(&mut self)
+        requires position { IsValuePosition (spot_of self.old) }
+        requires pending { self.old.pending ≢ None }
+        ensures position { IsValuePosition (spot_of self.new) }
+        ensures goes { Moves self.old true self.new }
+        ensures tree { IsSameTree self.old.tree self.new.tree }
+    {
+        self.tree.last = self.pending.take();
+    }
+
+    // Advances to the next value, and returns whether there is one.
+    fn advance(&mut self) -> Result<bool, AllocError>
+        requires { IsValuePosition (spot_of self.old) }
+        ensures position { IsValuePosition (spot_of self.new) }
+        ensures goes { IfOk result (λ found. Moves self.old found self.new) }
+        ensures refused { OnErr result (MoveIsRefused self.old self.new) }
+        ensures tree { IsSameTree self.old.tree self.new.tree }
+    {
+        if !self.seek()? {
+            return Ok(false);
+        }
+        self.mark_lent();
+        Ok(true)
+    }
+}
+
+/// A cursor over the values of all entries.
+#[derive(Drop)]
+pub struct ValueCursor<K: Bytes, V> {
+    alloc: Global,
+    trail: ValueTrail<V>,
+    kind: PhantomData<K>,
+}
+
+impl<K: Bytes, V> Model for ValueCursor<K, V> {
+    ghost use Rattle.std.specs.Prelude.{[]};
+    ghost use Rattle.patricia_model.specs.Cursors.{CursorView};
+    ghost use Rattle.patricia_model.specs.Internal.Codes.{cursor_view_code};
+    ghost use Rattle.patricia_walks.specs.Internal.HeldTrees.{standing};
+    ghost use Rattle.patricia_walks.specs.Internal.ValueTrails.{IsValueTrail};
+
+    ghost Value = { CursorView V };
+
+    ghost coded = { cursor_view_code V.code };
+
+    ghost view = { λ c. standing c.trail.tree [] };
+
+    ghost invariant = { λ c. IsValueTrail K.item c.trail };
+}
+
+impl<K: Bytes, V: Drop> ValueCursor<K, V> {
+    ghost use Rattle.patricia_walks.specs.Internal.Lends.{value_cursor_lends_last};
+
+    /// Makes a cursor over a tree. Does not allocate.
+    pub fn new(parts: TreeParts<V>) -> Self
+        requires whole { IsWellFormed parts.arena }
+        requires tree { IsTree K.item (siblings_of parts.arena) parts.count }
+        ensures { result ≡ record {
+          map = map_of parts.value (siblings_of parts.arena);
+          prefix = [];
+          last = None;
+        } }
+    {
+        ValueCursor {
+            alloc: parts.alloc,
+            trail: ValueTrail::new::<K>(parts),
+            kind: PhantomData,
+        }
+    }
+
+    /// The tree.
+    pub fn into_parts(self) -> TreeParts<V>
+        ensures whole { IsWellFormed result.arena }
+        ensures tree { IsTree K.item (siblings_of result.arena) result.count }
+        ensures map { map_of result.value (siblings_of result.arena) ≡ self.map }
+    {
+        let ValueCursor { alloc, trail, .. } = self;
+        trail.tree.into_parts(alloc)
+    }
+
+    /// Advances to the next value, and returns whether there is one. The error is out of memory.
+    pub fn advance(&mut self) -> Result<bool, AllocError>
+        ensures found { IfOk result (λ found. IsTrue found ↔ (next_key self.old ≢ None)) }
+        ensures stepped { OnOk result (self.new ≡ stepped self.old) }
+        ensures unchanged { OnErr result (self.new ≡ self.old) }
+        ensures err_only_if_left { OnErr result (next_key self.old ≢ None) }
+    {
+        self.trail.advance()
+    }
+
+    /// Lends the value that it advanced to last, or returns `None` where it has not advanced yet.
+    pub fn value(&mut self) -> Option<&mut V>
+        ensures* writes { sem 𝓛 (value_cursor_lends_last K.row V.row K.Bytes self.entry result) }
+        ensures value { option_copied_mut result ≡ last_value self.old }
+    {
+        self.trail.tree.value::<K>()
+    }
+}
