@@ -5,6 +5,7 @@ use Rattle.std.specs.FinSet.{FinSet}
 use Rattle.patricia_tree.specs.Bulk as bulk
 use Rattle.patricia_tree.specs.Loads as loads
 use Rattle.patricia_tree.specs.Keys.{key_cmp}
+use Rattle.patricia_tree.specs.declared.map.sorted.LoadError.{LoadError}
 
 abbrev pub KeySet : Type 0
 KeySet = FinSet key_cmp
@@ -30,8 +31,8 @@ module _ {I S Q : Type 0} (becomes : I → S → Type 0) (steps : S → Option Q
   abbrev pub Loads : I → KeySet → KeySet → Type 0
   Loads keys old new = loads.Loads becomes steps_in_pairs bytes keys old new
 
-  -- the iterator gave some keys and then a refused one, and new has those before it behind those of
-  -- old; where it is refused for its order, the last key does not come before it
-  abbrev pub IsLoadStopped : Type 0 → I → KeySet → KeySet → Type 0
-  IsLoadStopped out_of_order keys old new =
-      loads.IsLoadStopped becomes steps_in_pairs bytes out_of_order keys old new
+  -- the iterator gave some keys and then one that is refused with this error, and new has those
+  -- before it behind those of old; the last key is known where there is one before it
+  abbrev pub IsLoadStopped : LoadError → I → KeySet → KeySet → Type 0
+  IsLoadStopped e keys old new =
+      loads.IsLoadStopped becomes steps_in_pairs bytes e keys old new
