@@ -1,6 +1,6 @@
 -- A finite set of keys: std's, which is a finite map with `()` at each key, and has the words of
 -- maps.
-use Rattle.std.specs.Prelude.{ℕ, List, Option, option_map}
+use Rattle.std.specs.Prelude.{ℕ, List, Option, map as list_map, option_map}
 use Rattle.std.specs.FinSet.{FinSet}
 use Rattle.patricia_tree.specs.Bulk as bulk
 use Rattle.patricia_tree.specs.Loads as loads
@@ -9,6 +9,10 @@ use Rattle.patricia_tree.specs.declared.map.sorted.LoadError.{LoadError}
 
 abbrev pub KeySet : Type 0
 KeySet = FinSet key_cmp
+
+-- the set with these keys inserted, one after the other
+abbrev pub insert_all_keys : {Q : Type 0} → (Q → List ℕ) → KeySet → List Q → KeySet
+insert_all_keys bytes old keys = bulk.insert_all old (list_map (λ key. (bytes key, tt)) keys)
 
 -- `becomes` says of what is passed which iterators it may become, `steps` what a call of `next` may
 -- give and leave, and `bytes` what the bytes of a key are
