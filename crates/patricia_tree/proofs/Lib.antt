@@ -10,6 +10,7 @@ mod SetLemmas
 mod WholeLemmas
 mod RetainLemmas
 mod ChoiceLemmas
+mod CollectLemmas
 mod FoldLemmas
 mod MergeLemmas
 mod VisitLemmas

@@ -14,7 +14,8 @@ use Rattle.patricia_core.specs.Keys.{key_cmp}
 use Rattle.patricia_model.proofs.ListLemmas.{IsAbove, put-append_right}
 use Rattle.patricia_model.proofs.TestLemmas.{first_part, second_part, less_so}
 use Rattle.patricia_tree.specs.Bulk.{by_bytes}
-use Rattle.patricia_tree.specs.Loads.{EndsNotBefore, IsLoadStopped}
+use Rattle.patricia_tree.specs.Loads.{EndsBefore, EndsNotBefore, IsLoadRefusal, IsLoadStopped}
+use Rattle.patricia_tree.specs.declared.map.sorted.LoadError.{LoadError}
 
 module _ {V : Type 0} where
   -- the last of rows, the last of which is this one
@@ -41,8 +42,7 @@ module _ {V : Type 0} where
 
   -- the map has no row, or its last key comes before this one
   pub loads_behind : (m n : FinMap key_cmp V) (q : List ℕ) (v : V)
-      → ((last : List ℕ × V) → last_or None (map.entries m) ≡ Some last → key_cmp last.0 q ≡ Less)
-      → n ≡ map.insert m q v → map.entries n ≡ map.entries m ++ (q, v) ∷ []
+      → EndsBefore q (map.entries m) → n ≡ map.insert m q v → map.entries n ≡ map.entries m ++ (q, v) ∷ []
   loads_behind m n q v behind is = ap map.entries is ∙ put_behind m q v (by (map.entries m) (entries_sorted m) behind)
     where
       has_last : (row : List ℕ × V) (rows : List (List ℕ × V)) → (last : List ℕ × V) × (last_or (Some row) rows ≡ Some last)
@@ -50,11 +50,11 @@ module _ {V : Type 0} where
       has_last row (r ∷ rows) = has_last r rows
 
       by : (rows : List (List ℕ × V)) → T (is_sorted key_cmp rows)
-          → ((last : List ℕ × V) → last_or None rows ≡ Some last → key_cmp last.0 q ≡ Less) → IsAbove q rows
+          → EndsBefore q rows → IsAbove q rows
       by [] sorted before = tt
       by (row ∷ rows) sorted before =
           let last = has_last row rows in
-          above_last q row rows sorted last.0 last.1 (before last.0 last.1)
+          above_last q row rows sorted last.0 last.1 (rw last.1 at before)
 
 -- the last of the rows, whose key this is, does not come before a key
 pub ends_not_before : {V : Type 0} (rows : List (List ℕ × V)) (last key : List ℕ) (b : Bool)
@@ -94,22 +94,29 @@ module _ {Q V : Type 0} (bytes : Q → List ℕ) where
   last_is here new pair put = ap (λ rows. option_map (λ e. e.0) (last_or None rows)) put
       ∙ ap (option_map (λ e. e.0)) (last_appended None (map.entries here) (bytes pair.0, pair.1))
 
-  -- the last turn, at which the pair is refused with an error, which is returned
-  pub load_stops : {I S E T : Type 0} (becomes : I → S → Type 0) (steps : S → Option (Q × V) → S → Type 0)
-      (pairs : I) (late : E → Type 0) (out : Result T E) (e : E) (old here new : FinMap key_cmp V)
+  -- the last turn, at which the pair is refused with an error, which is returned; the last key is
+  -- known, unless no pair was given
+  pub load_stops : {I S T : Type 0} (becomes : I → S → Type 0) (steps : S → Option (Q × V) → S → Type 0)
+      (pairs : I) (out : Result T LoadError) (e : LoadError) (known : Type 0) (old here new : FinMap key_cmp V)
       (start at rest : S) (given : List (Q × V)) (pair : Q × V) → IsErrAnd out (λ x. x ≡ e)
       → becomes pairs start → Yields steps start given at → steps at (Some pair) rest
       → map.entries here ≡ map.entries old ++ by_bytes bytes given → new ≡ here
-      → (late e → EndsNotBefore (bytes pair.0) (map.entries here))
-      → IfErr out (λ x. IsLoadStopped becomes steps bytes (late x) pairs old new)
-  load_stops becomes steps pairs late (Ok x) e old here new start at rest given pair is is_start gave next so_far same order = tt
-  load_stops becomes steps pairs late (Err x) e old here new start at rest given pair is is_start gave next so_far same order = record {
-    start = start;
-    given = given;
-    refused = pair;
-    rest = rest;
-    is_start = is_start;
-    gave = Yields-more steps start given at pair rest gave next;
-    behind = ap map.entries same ∙ so_far;
-    order = λ late_at. subst (λ (m : FinMap key_cmp V). EndsNotBefore (bytes pair.0) (map.entries m)) (sym same) (order (subst late is late_at));
-  }
+      → (given ≢ [] → known) → IsLoadRefusal e known (bytes pair.0) (map.entries here)
+      → IfErr out (λ x. IsLoadStopped becomes steps bytes x pairs old new)
+  load_stops becomes steps pairs (Ok x) e known old here new start at rest given pair is is_start gave next so_far same knows why = tt
+  load_stops becomes steps pairs (Err x) e known old here new start at rest given pair is is_start gave next so_far same knows why =
+      let rows : map.entries here ≡ map.entries new = ap map.entries (sym same) in
+      record {
+        start = start;
+        given = given;
+        refused = pair;
+        rest = rest;
+        is_start = is_start;
+        gave = Yields-more steps start given at pair rest gave next;
+        behind = ap map.entries same ∙ so_far;
+        refusal = record {
+          late = λ late. subst (EndsNotBefore (bytes pair.0)) rows (why.late (sym is ∙ late));
+          nonempty = λ memory none. why.nonempty (sym is ∙ memory) (rows ∙ none);
+          in_order = λ memory some. subst (EndsBefore (bytes pair.0)) rows (why.in_order (sym is ∙ memory) (knows some));
+        };
+      }

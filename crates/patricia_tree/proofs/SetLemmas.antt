@@ -5,7 +5,8 @@ use Rattle.std.specs.Prelude.{is_some, IfErr, IsErrAnd, Result}
 use Rattle.std.specs.Iterator.{Yields}
 use Rattle.patricia_tree.specs.Bulk.{insert_all, by_bytes}
 use Rattle.std.specs.FinMap as finmap
-use Rattle.patricia_tree.specs.Loads.{EndsNotBefore}
+use Rattle.patricia_tree.specs.Loads.{IsLoadRefusal}
+use Rattle.patricia_tree.specs.declared.map.sorted.LoadError.{LoadError}
 use Rattle.patricia_tree.specs.Sets.{KeySet, Extends, IsStoppedAt, Loads, IsLoadStopped, steps_in_pairs}
 use Rattle.patricia_tree.proofs.BulkLemmas.{puts_one_more, stops_at}
 use Rattle.patricia_tree.proofs.LoadLemmas.{loads_more, load_stops}
@@ -77,12 +78,13 @@ module _ {I S Q : Type 0} (becomes : I → S → Type 0) (steps : S → Option Q
       behind = ap finmap.entries same ∙ so_far;
     }
 
-    pub load_refuses_at : {E T : Type 0} (late : E → Type 0) (out : Result T E) (e : E) {new : KeySet} (key : Q)
-        → IsErrAnd out (λ x. x ≡ e) → steps at (Some key) rest → new ≡ here
-        → (late e → EndsNotBefore (bytes key) (finmap.entries here))
-        → IfErr out (λ x. IsLoadStopped becomes steps bytes (late x) keys old new)
-    load_refuses_at late out e key is next same order = load_stops bytes becomes (steps_in_pairs becomes steps bytes) keys late out e old here _ start at rest
-        (in_pairs given) (key, tt) is is_start (gave_pairs start given at gave) next so_far same order
+    pub load_refuses_at : {T : Type 0} (out : Result T LoadError) (e : LoadError) (known : Type 0) {new : KeySet} (key : Q)
+        → IsErrAnd out (λ x. x ≡ e) → steps at (Some key) rest → new ≡ here → (given ≢ [] → known)
+        → IsLoadRefusal e known (bytes key) (finmap.entries here)
+        → IfErr out (λ x. IsLoadStopped becomes steps bytes x keys old new)
+    load_refuses_at out e known key is next same knows why = load_stops bytes becomes (steps_in_pairs becomes steps bytes) keys out e known old here _ start at rest
+        (in_pairs given) (key, tt) is is_start (gave_pairs start given at gave) next so_far same
+        (λ some. knows (λ none. some (ap in_pairs none))) why
 
 -- one more turn, at which the key is put behind the others
 pub loads_more_keys : {Q : Type 0} (bytes : Q → List ℕ) (old here new : KeySet) (given : List Q) (key : Q)

@@ -1,13 +1,18 @@
 -- A finite set of keys: std's, which is a finite map with `()` at each key, and has the words of
 -- maps.
-use Rattle.std.specs.Prelude.{ℕ, List, Option, option_map}
+use Rattle.std.specs.Prelude.{ℕ, List, Option, map as list_map, option_map}
 use Rattle.std.specs.FinSet.{FinSet}
 use Rattle.patricia_tree.specs.Bulk as bulk
 use Rattle.patricia_tree.specs.Loads as loads
 use Rattle.patricia_tree.specs.Keys.{key_cmp}
+use Rattle.patricia_tree.specs.declared.map.sorted.LoadError.{LoadError}
 
 abbrev pub KeySet : Type 0
 KeySet = FinSet key_cmp
+
+-- the set with these keys inserted, one after the other
+abbrev pub insert_all_keys : {Q : Type 0} → (Q → List ℕ) → KeySet → List Q → KeySet
+insert_all_keys bytes old keys = bulk.insert_all old (list_map (λ key. (bytes key, tt)) keys)
 
 -- `becomes` says of what is passed which iterators it may become, `steps` what a call of `next` may
 -- give and leave, and `bytes` what the bytes of a key are
@@ -30,8 +35,8 @@ module _ {I S Q : Type 0} (becomes : I → S → Type 0) (steps : S → Option Q
   abbrev pub Loads : I → KeySet → KeySet → Type 0
   Loads keys old new = loads.Loads becomes steps_in_pairs bytes keys old new
 
-  -- the iterator gave some keys and then a refused one, and new has those before it behind those of
-  -- old; where it is refused for its order, the last key does not come before it
-  abbrev pub IsLoadStopped : Type 0 → I → KeySet → KeySet → Type 0
-  IsLoadStopped out_of_order keys old new =
-      loads.IsLoadStopped becomes steps_in_pairs bytes out_of_order keys old new
+  -- the iterator gave some keys and then one that is refused with this error, and new has those
+  -- before it behind those of old; the last key is known where there is one before it
+  abbrev pub IsLoadStopped : LoadError → I → KeySet → KeySet → Type 0
+  IsLoadStopped e keys old new =
+      loads.IsLoadStopped becomes steps_in_pairs bytes e keys old new

@@ -15,6 +15,7 @@ ghost use Rattle.patricia_core.specs.Writings.{Means, TooDeep};
 
 mod bulk;
 mod changes;
+mod collects;
 mod cursors;
 mod debug;
 mod ends;

@@ -13,6 +13,7 @@ ghost use Rattle.patricia_tree.specs.Siblings.{keys_of};
 
 mod bulk;
 mod changes;
+mod collects;
 mod debug;
 mod ends;
 mod iterators;

@@ -1,3 +1,4 @@
+mod collecting;
 mod cursor_examples;
 mod helpers;
 mod listings;

@@ -7,8 +7,8 @@ ghost use Rattle.std.specs.Option.{option_map};
 ghost use Rattle.std.specs.FinMap as map;
 ghost use Rattle.std.specs.declared.cmp.Ordering.TheVariants.{Less};
 ghost use Rattle.patricia_core.specs.Keys.{key_cmp};
-ghost use Rattle.patricia_tree.specs.Loads.{EndsNotBefore, IsLoadStopped, Loads};
-ghost use Rattle.patricia_tree.specs.declared.map.sorted.LoadError.TheVariants.{NotInOrder};
+ghost use Rattle.patricia_tree.specs.Loads.{EndsBefore, EndsNotBefore, IsLoadRefusal};
+ghost use Rattle.patricia_tree.specs.Loads.{IsLoadStopped, Loads};
 
 use super::GenericPatriciaMap;
 use patricia_core::keys::{BorrowedBytes, Bytes};
@@ -55,10 +55,12 @@ impl<K: Bytes, V: Drop> GenericPatriciaMap<K, V> {
     ) -> Result<bool, AllocError>
         requires { IfSome last (λ last. option_map (λ e. e.0) (last_or None (map.entries self.now))
             ≡ Some (Q.key last)) }
-        ensures before { IfOk result (λ b. IsTrue b → (last : List ℕ × V)
-            → last_or None (map.entries self.now) ≡ Some last → key_cmp last.0 (Q.key key) ≡ Less) }
+        ensures before { IfOk result (λ b. IsTrue b
+            → EndsBefore (Q.key key) (map.entries self.now)) }
         ensures not_before { IfOk result (λ b. b ≢ true
             → EndsNotBefore (Q.key key) (map.entries self.now)) }
+        ensures err_only_nonempty { OnErr result (map.entries self.now ≢ []) }
+        ensures only_unknown { OnErr result (last ≡ None) }
     {
         if let Some(last) = last {
             return Ok(comes_before(last.as_bytes(), key.as_bytes()));
@@ -81,8 +83,8 @@ impl<K: Bytes, V: Drop> GenericPatriciaMap<K, V> {
         ensures behind { OnOk result
             (map.entries self.new ≡ map.entries self.old ++ (Q.key key, value) ∷ []) }
         ensures unchanged { OnErr result (self.new ≡ self.old) }
-        ensures order { IfErr result (λ e. e ≡ NotInOrder
-            → EndsNotBefore (Q.key key) (map.entries self.old)) }
+        ensures refusal { IfErr result (λ e.
+            IsLoadRefusal e (last ≢ None) (Q.key key) (map.entries self.old)) }
     {
         if !self.ends_before(last, key)? {
             return Err(LoadError::NotInOrder);
@@ -101,8 +103,10 @@ impl<K: Bytes, V: Drop> GenericPatriciaMap<K, V> {
     ///
     /// # Errors
     ///
-    /// `NotInOrder` at a key that does not come after the last one, `Memory` where memory ran out:
-    /// the pairs before it are inserted; it and the rest are dropped.
+    /// `NotInOrder` at a key that does not come after the last one. `Memory` where memory ran out
+    /// for a new nonempty key that does; at the first pair also for a copy of the last key of the
+    /// map, before the two are compared. The pairs before it are inserted; it and the rest are
+    /// dropped.
     ///
     /// # Examples
     ///
@@ -123,7 +127,7 @@ impl<K: Bytes, V: Drop> GenericPatriciaMap<K, V> {
         ensures ok { OnOk result
             (Loads I.into_iter_gives I.IntoIter.next_gives Q.key pairs self.old self.new) }
         ensures err { IfErr result (λ e. IsLoadStopped I.into_iter_gives I.IntoIter.next_gives Q.key
-            (e ≡ NotInOrder) pairs self.old self.new) }
+            e pairs self.old self.new) }
     {
         let before = self.len();
         let mut rest = pairs.into_iter();

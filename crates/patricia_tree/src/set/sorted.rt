@@ -1,12 +1,12 @@
 //! Elements in order, put behind those of a set.
-ghost use Rattle.std.specs.Prelude.{◌≡◌, ◌++◌, ◌∷◌, [], None, Some, IfErr, IfSome, OnErr, OnOk};
+ghost use Rattle.std.specs.Prelude.{◌≡◌, ◌≢◌, ◌++◌, ◌∷◌, [], None, Some, IfErr, IfSome};
+ghost use Rattle.std.specs.Prelude.{OnErr, OnOk};
 ghost use Rattle.std.specs.FinMap as map;
 ghost use Rattle.std.specs.Iterator.{IsFiniteIterable};
 ghost use Rattle.std.specs.List.{last_or};
 ghost use Rattle.std.specs.Option.{option_map};
-ghost use Rattle.patricia_tree.specs.Loads.{EndsNotBefore};
+ghost use Rattle.patricia_tree.specs.Loads.{IsLoadRefusal};
 ghost use Rattle.patricia_tree.specs.Sets.{IsLoadStopped, Loads};
-ghost use Rattle.patricia_tree.specs.declared.map.sorted.LoadError.TheVariants.{NotInOrder};
 
 use super::GenericPatriciaSet;
 use crate::map::LoadError;
@@ -25,8 +25,8 @@ impl<T: Bytes> GenericPatriciaSet<T> {
         ensures behind { OnOk result
             (map.entries self.new ≡ map.entries self.old ++ (Q.key element, tt) ∷ []) }
         ensures unchanged { OnErr result (self.new ≡ self.old) }
-        ensures order { IfErr result (λ e. e ≡ NotInOrder
-            → EndsNotBefore (Q.key element) (map.entries self.old)) }
+        ensures refusal { IfErr result (λ e.
+            IsLoadRefusal e (last ≢ None) (Q.key element) (map.entries self.old)) }
     {
         self.map.load(last, element, ())
     }
@@ -39,8 +39,9 @@ impl<T: Bytes> GenericPatriciaSet<T> {
     ///
     /// # Errors
     ///
-    /// `NotInOrder` at an element that does not come after the last one, `Memory` where memory ran
-    /// out: those before it are inserted; it and the rest are dropped.
+    /// `NotInOrder` at an element that does not come after the last one. `Memory` where memory ran
+    /// out for a new nonempty element that does; at the first one also for a copy of the last of the
+    /// set, before the two are compared. Those before it are inserted; it and the rest are dropped.
     ///
     /// # Examples
     ///
@@ -61,7 +62,7 @@ impl<T: Bytes> GenericPatriciaSet<T> {
         ensures ok { OnOk result
             (Loads I.into_iter_gives I.IntoIter.next_gives Q.key elements self.old self.new) }
         ensures err { IfErr result (λ e. IsLoadStopped I.into_iter_gives I.IntoIter.next_gives Q.key
-            (e ≡ NotInOrder) elements self.old self.new) }
+            e elements self.old self.new) }
     {
         let before = self.len();
         let mut rest = elements.into_iter();

@@ -1,4 +1,4 @@
-use Rattle.std.proofs.Common.{◌≡◌, ◌++◌, None, Some}
+use Rattle.std.proofs.Common.{◌≡◌, ◌++◌, [], None, Some}
 use Rattle.std.specs.Prelude.{IfSome}
 use Rattle.std.specs.List.{last_or}
 use Rattle.std.specs.Option.{option_map}
@@ -9,5 +9,6 @@ use Rattle.patricia_tree.proofs.map.GenericPatriciaMap.sorted_load.Given as goal
 abbrev pub invariant-loop-key : goal.invariant-loop-key
 invariant-loop-key g l = record {
   behind : map.entries l.self ≡ map.entries l.initial.self ++ by_bytes g.Q.BorrowedBytes.key l.yielded;
+  known : l.last ≡ None → l.yielded ≡ [];
   last : IfSome l.last (λ last. option_map (λ e. e.0) (last_or None (map.entries l.self)) ≡ Some (g.Q.BorrowedBytes.key last));
 }

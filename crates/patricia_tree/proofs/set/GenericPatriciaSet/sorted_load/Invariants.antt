@@ -1,4 +1,4 @@
-use Rattle.std.proofs.Common.{◌≡◌, ◌++◌, None, Some}
+use Rattle.std.proofs.Common.{◌≡◌, ◌++◌, [], None, Some}
 use Rattle.std.specs.Prelude.{IfSome}
 use Rattle.std.specs.List.{last_or}
 use Rattle.std.specs.Option.{option_map}
@@ -10,5 +10,6 @@ use Rattle.patricia_tree.proofs.set.GenericPatriciaSet.sorted_load.Given as goal
 abbrev pub invariant-loop-element : goal.invariant-loop-element
 invariant-loop-element g l = record {
   behind : map.entries l.self ≡ map.entries l.initial.self ++ by_bytes g.Q.BorrowedBytes.key (in_pairs l.yielded);
+  known : l.last ≡ None → l.yielded ≡ [];
   last : IfSome l.last (λ last. option_map (λ e. e.0) (last_or None (map.entries l.self)) ≡ Some (g.Q.BorrowedBytes.key last));
 }
