@@ -1,4 +1,4 @@
--- Lists of numbers that are an order, and items that are put in it.
+-- Lists of numbers that are an order, and items that are laid in it.
 use Rattle.std.proofs.Common.{◌≡◌, ◌≢◌, ℕ, zero, suc, ◌+◌, ◌<◌, ◌≤◌, inl, inr, List, [], ◌∷◌, length}
 use Rattle.std.proofs.Common.{set, swap, get_or, Option, Some, slice_get, refl, sym, ap, ◌∙◌, arith}
 use Rattle.std.proofs.Common.{length-set}

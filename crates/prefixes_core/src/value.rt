@@ -9,7 +9,7 @@ use std::marker::Model;
 // How many bytes stand in the value itself.
 const INLINE: usize = 16;
 
-/// What stands beside a name in a list: any bytes. Up to 16 of them take no memory of their own.
+/// What stands beside a name in a list: any bytes. Up to 16 of them stand in it, and do not allocate.
 #[derive(Debug, Drop)]
 pub struct Payload {
     bytes: SmallVec<u8, INLINE>,

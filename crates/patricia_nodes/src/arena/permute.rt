@@ -1,4 +1,4 @@
-//! Items that are put in another order where they lie.
+//! Items that are laid in another order where they are.
 //!
 //! An order is a list of numbers: the item with the first number comes first. Beside it stands its
 //! inverse, which says of each item at which place it comes.
