@@ -6,10 +6,11 @@ use smallvec::SmallVec;
 use std::alloc::{AllocError, Global};
 use std::marker::Model;
 
-// How many bytes stand in the value itself.
+// How many bytes stand in a value itself.
 const INLINE: usize = 16;
 
-/// What stands beside a name in a list: any bytes. Up to 16 of them stand in it, and do not allocate.
+/// What stands beside a name in a list: any bytes. Up to 16 of them stand in the value itself, which
+/// does not allocate then.
 #[derive(Debug, Drop)]
 pub struct Payload {
     bytes: SmallVec<u8, INLINE>,
