@@ -18,7 +18,7 @@ pub loop-rest-preserved : goal.loop-rest-preserved
 loop-rest-preserved c =
     let value = c.in-Some.value.now in
     let items = c.loop-rest.values.items in
-    let pushed = c.in_ok-push.ensures.items ∙ ap (λ v. items ++ v ∷ []) c.in_ok-new.ensures in
+    let pushed = c.in_ok-push.ensures.items ∙ ap (λ v. items ++ v ∷ []) c.in_ok-new.ensures.bytes in
     record {
       joined = ap (λ l. concat (list_map counted l) ++ c.in-Some.later.now) pushed
           ∙ values_more items value c.loop-rest.rest.now c.in-Some.later.now c.args.bytes.now
