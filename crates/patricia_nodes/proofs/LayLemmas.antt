@@ -12,7 +12,7 @@ use Rattle.patricia_nodes.specs.Internal.Plans.{LaidOut, IsSound, plan_at}
 use Rattle.patricia_nodes.specs.Internal.Growth.{tops, numbered_siblings, laid, IsTopRow, IsLaid}
 use Rattle.patricia_nodes.specs.Internal.Growth.{TakesRow, TakesBelow, count_below}
 use Rattle.patricia_nodes.specs.Internal.Growth.{size_below}
-use Rattle.patricia_nodes.proofs.PlanLemmas.{below_le, below_in, plan_is, node_is}
+use Rattle.patricia_nodes.proofs.PlanLemmas.{below_le, below_in, plan_is, node_is, below_out}
 use Rattle.patricia_nodes.proofs.WriteLemmas.{get-set_same, get-set_other}
 use Rattle.patricia_nodes.proofs.GrowthLemmas.{takes_none, takes_same, takes_more}
 use Rattle.patricia_nodes.specs.Internal.Relocation.{Mix, flat, news}
@@ -24,10 +24,6 @@ use Rattle.patricia_nodes.proofs.RelayLemmas.{moved-opened, row-step, size-step,
 use Rattle.patricia_nodes.proofs.RelayLemmas.{step-moves, open_exists, opens_at, open_within}
 use Rattle.patricia_nodes.proofs.RelayLemmas.{top_row, tops_within, moved-step, moved-same, lies-opened}
 use Rattle.patricia_nodes.proofs.RelayLemmas.{length-laid, lies-step, lies_done}
-
--- a number that is not below a length counts as none below it
-below_out : (n at : ℕ) → n ≤ at → below n at ≡ 0
-below_out n at h = grind (arith, nat_tests)
 
 -- no mark
 abbrev pub unmarked : ℕ → Bool

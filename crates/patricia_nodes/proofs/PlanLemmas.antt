@@ -21,6 +21,10 @@ below_le n at = grind (arith, nat_tests)
 pub below_in : (n at : ℕ) → at < n → below n at ≡ 1
 below_in n at h = grind (arith, nat_tests)
 
+-- from the bound on it is not counted
+pub below_out : (n at : ℕ) → n ≤ at → below n at ≡ 0
+below_out n at h = grind (arith, nat_tests)
+
 module _ {V : Type 0} where
   -- nodes that stand for a plan are read as that plan
   read-stands : (nodes : List (Node V)) (p : Plan V) (n : ℕ) → LaidOut nodes p → size p ≤ n

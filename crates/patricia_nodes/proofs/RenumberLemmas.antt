@@ -15,16 +15,12 @@ use Rattle.patricia_nodes.specs.Internal.Renumbering.{place_of, moved, renumbere
 use Rattle.patricia_nodes.specs.Internal.Order.{Lists}
 use Rattle.patricia_nodes.proofs.OrderLemmas.{times-append}
 use Rattle.patricia_nodes.proofs.PermuteLemmas.{counts_at}
-use Rattle.patricia_nodes.proofs.PlanLemmas.{one-same, below_le, below_in}
+use Rattle.patricia_nodes.proofs.PlanLemmas.{one-same, below_le, below_in, below_out}
 use Rattle.patricia_nodes.proofs.WriteLemmas.{get-set_same, get-set_other, stands-keep}
 
 -- what was written behind a loan of a whole list is there
 pub written_back : {X : Type 0} (n : ℕ) (xs ys : List X) → n ≡ length xs → take n (xs ++ ys) ≡ xs
 written_back n xs ys e = rw e (take-append_seam xs ys)
-
--- from the bound on nothing is counted
-below_out : (n at : ℕ) → n ≤ at → below n at ≡ 0
-below_out n at h = grind (arith, nat_tests)
 
 module _ {V : Type 0} where
   -- the nodes up to a number have new links
