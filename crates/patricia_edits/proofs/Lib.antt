@@ -1,4 +1,5 @@
 pub mod AddLemmas
+pub mod AlongLemmas
 pub mod CopyLemmas
 pub mod CountLemmas
 pub mod KeptLemmas

@@ -18,10 +18,11 @@ use Rattle.patricia_nodes.specs.Internal.Plans.{Plan, Nil, Cell, linked, head, r
 use Rattle.patricia_nodes.specs.Internal.Plans.{IsWellFormed, siblings_of}
 use Rattle.patricia_nodes.specs.Internal.Places.{Frame, InChild, InSibling, fill, Matches}
 use Rattle.patricia_nodes.specs.Internal.Writes.{HasRoomFor, HasLinkRef}
+use Rattle.patricia_nodes.specs.Internal.Trails.{KeepsAround}
 use Rattle.patricia_nodes.specs.Internal.Writes.{Puts}
 use Rattle.patricia_edits.specs.Internal.Inserts.{AddsNode, AddsLeaf, HasCell, SplitsNode}
 use Rattle.patricia_nodes.proofs.SeekLemmas.{Sought, Opened, opened, head_within, focus_plan_at}
-use Rattle.patricia_nodes.proofs.ValueLemmas.{place_holds, focus_ok, puts}
+use Rattle.patricia_nodes.proofs.ValueLemmas.{place_holds, focus_ok, puts_around}
 use Rattle.patricia_model.proofs.GetLemmas.{compared_less}
 use Rattle.patricia_model.proofs.InsertLemmas.{single, put_before}
 use Rattle.patricia_model.proofs.DivideLemmas.{Divides, divides_label, ends_at_cut, put_at_cut}
@@ -56,6 +57,10 @@ module _ {item : List ℕ → Type 0} {V : Type 0} {s : NodeArena V} {key : List
     (sought : Sought item s key link_ref at rest matched) where
   open sought use {kind, whole, canonical as ok, place as p}
 
+  -- the value was inserted at the key, and what is around its place is kept
+  abbrev PutsAround : NodeArena V → V → Type 0
+  PutsAround new x = Puts item s new key x × KeepsAround p.frames new
+
   -- the spot of a place is that of some place
   pub place_link_ref : HasLinkRef s link_ref
   place_link_ref = (p.frames, p.focus, p.link_ref_is, place_holds sought)
@@ -63,11 +68,11 @@ module _ {item : List ℕ → Type 0} {V : Type 0} {s : NodeArena V} {key : List
   -- a new leaf between two nodes inserts the value at the key
   pub puts_first : (new : NodeArena V) (x : V) (leaf : Node V) (k : ℕ) → matched ≡ Absent
       → IsValid item rest → leaf.label ≡ rest → leaf.value ≡ Some x → leaf.child ≡ None
-      → leaf.sibling ≡ at → AddsNode s new link_ref leaf k → Puts item s new key x
+      → leaf.sibling ≡ at → AddsNode s new link_ref leaf k → PutsAround new x
   puts_first new x leaf k is valid label value child sibling adds =
       let is_match = subst (λ k. Matches item p.focus rest k) is p.is_match in
       let holds = (adds p.frames Nil p.focus p.focus p.link_ref_is (inr (refl, refl)) child (sibling ∙ p.at_is) (place_holds sought)).0 in
-      puts sought new x (Cell k rest (Some x) Nil p.focus) (rw (← label, ← value) holds)
+      puts_around sought new x (Cell k rest (Some x) Nil p.focus) (rw (← label, ← value) holds)
       (row_first item kind x k p.focus (focus_ok sought) rest is_match valid p.rest_nonempty)
       (put_first item kind x k p.focus (focus_ok sought) rest is_match)
 
@@ -121,13 +126,13 @@ module _ {item : List ℕ → Type 0} {V : Type 0} {s : NodeArena V} {key : List
         puts_there : (new : NodeArena V) (x : V) (focus : Plan V) → Holds new (fill p.frames focus)
             → IsCanonical item (row focus)
             → entries (row focus) ≡ put key_cmp rest x (entries (node r.label r.value (row there.child) (row there.sibling)))
-            → Puts item s new key x
-        puts_there new x focus holds canonical put_is = puts sought new x focus holds canonical
+            → PutsAround new x
+        puts_there new x focus holds canonical put_is = puts_around sought new x focus holds canonical
             (put_is ∙ ap (λ (q : Plan V). put key_cmp rest x (entries (row q))) (sym there.is))
 
         -- where the key ends at the cut, the upper node takes the value, and the key has it
         pub puts_cut : (new : NodeArena V) (x : V) (lower : List ℕ) (k : ℕ) → lower ≡ drop n r.label
-            → drop n rest ≡ [] → SplitsNode s new id n lower (Some x) k → Puts item s new key x
+            → drop n rest ≡ [] → SplitsNode s new id n lower (Some x) k → PutsAround new x
         puts_cut new x lower k label none splits =
             puts_there new x (Cell id (take n r.label) (Some x) (Cell k (drop n r.label) r.value there.child Nil) there.sibling)
             (rw (← label) (splits p.frames r.label r.value there.child there.sibling there_holds).0)
@@ -167,7 +172,7 @@ module _ {item : List ℕ → Type 0} {V : Type 0} {s : NodeArena V} {key : List
               (leaf_value : leaf.value ≡ Some x) (leaf_child : leaf.child ≡ None) where
             -- the new node comes before the lower one
             puts_before : ComparesFirst item (drop n rest) (drop n r.label) Less
-                → leaf.sibling ≡ Some k → AddsNode mid new (Child id) leaf j → Puts item s new key x
+                → leaf.sibling ≡ Some k → AddsNode mid new (Child id) leaf j → PutsAround new x
             puts_before compared sibling adds =
                 let before = compared_less item (drop n rest) (drop n r.label) nonempty div.label_nonempty compared in
                 puts_there new x (Cell id (take n r.label) None (Cell j (drop n rest) (Some x) Nil low) there.sibling)
@@ -181,7 +186,7 @@ module _ {item : List ℕ → Type 0} {V : Type 0} {s : NodeArena V} {key : List
             -- or the new node comes behind it
             puts_after : (o : Ordering) → ComparesFirst item (drop n rest) (drop n r.label) o
                 → (o ≡ Less → ⊥) → leaf.sibling ≡ None
-                → AddsNode mid new (Sibling k (Some id)) leaf j → Puts item s new key x
+                → AddsNode mid new (Sibling k (Some id)) leaf j → PutsAround new x
             puts_after o compared not_less sibling adds =
                 let after = past_cut item kind x r.label r.value (row there.child)
                 (row there.sibling) there_ok rest (take n r.label) (drop n rest)
@@ -201,7 +206,7 @@ module _ {item : List ℕ → Type 0} {V : Type 0} {s : NodeArena V} {key : List
           pub puts_leaf : (new : NodeArena V) (x : V) (j : ℕ) (o : Ordering) {more : List ℕ}
               → more ≡ drop n rest → drop n rest ≢ []
               → ComparesFirst item (drop n rest) (drop n r.label) o
-              → AddsLeaf mid new id k o more x j → Puts item s new key x
+              → AddsLeaf mid new id k o more x j → PutsAround new x
           puts_leaf new x j Less {more} is some compared adds =
               puts_before new x (linked more (Some x) None (Some k)) j some is refl refl compared refl (adds.0 refl)
           puts_leaf new x j Equal {more} is some compared adds =

@@ -1,6 +1,6 @@
 //! Putting a value in at a key.
 ghost use Rattle.std.specs.Prelude.{◌≡◌, ◌≢◌, ◌≤◌, ◌<◌, [], Some, None, drop, length, IfOk, OnOk};
-ghost use Rattle.std.specs.Prelude.{IfErr, OnErr, vec_len, vec_capacity};
+ghost use Rattle.std.specs.Prelude.{IfErr, IfSome, OnErr, vec_len, vec_capacity};
 ghost use Rattle.std.specs.FinMap.{find};
 ghost use Rattle.patricia_keys.specs.Keys.{key_cmp};
 ghost use Rattle.patricia_model.specs.Siblings.{IsCanonical};
@@ -8,6 +8,7 @@ ghost use Rattle.patricia_nodes.specs.declared.arena.seek.LinkRef.TheVariants.{C
 ghost use Rattle.patricia_nodes.specs.declared.arena.seek.Match.TheVariants.{Absent, InsideLabel};
 ghost use Rattle.patricia_nodes.specs.Internal.Plans.{IsWellFormed, siblings_of, entries_of};
 ghost use Rattle.patricia_nodes.specs.Internal.Places.{node_of};
+ghost use Rattle.patricia_nodes.specs.Internal.Trails.{IsTrail};
 ghost use Rattle.patricia_nodes.specs.Internal.Writes.{HasRoomFor, Reuses, HasLinkRef, Ready};
 ghost use Rattle.patricia_nodes.specs.Internal.Writes.{IsPut};
 ghost use Rattle.patricia_edits.specs.Internal.Inserts.{MakesNode, AddsNode, AddsLeaf, HasCell};
@@ -241,5 +242,40 @@ pub fn insert<V: Drop, Q: BorrowedBytes>(
         return Err(Refused { value });
     }
     let place = arena.seek(key);
+    insert_at(arena, alloc, &place, value)
+}
+
+/// Puts the value in at a nonempty key, and gives the old one. The look-up goes on from the trail of
+/// the last key, and the trail is that of this key then. Free nodes are used first, and each node
+/// stays where it is.
+pub fn insert_along<V: Drop, Q: BorrowedBytes>(
+    arena: &mut NodeArena<V>,
+    trail: &mut Vec<(NodeId, usize)>,
+    alloc: Global,
+    last: Option<Q>,
+    key: Q,
+    value: V,
+) -> Result<Option<V>, Refused<V>>
+    requires whole { IsWellFormed arena.old }
+    requires row { IsCanonical Q.Owned.item (siblings_of arena.old) }
+    requires nonempty { Q.key key ≢ [] }
+    requires trail { IfSome last (λ last.
+        IsTrail Q.Owned.item arena.old (Q.key last) trail.old.items) }
+    ensures whole { IsWellFormed arena.new }
+    ensures row { IsCanonical Q.Owned.item (siblings_of arena.new) }
+    ensures old { IfOk result (λ old. old ≡ find key_cmp (Q.key key) (entries_of arena.old)) }
+    ensures ok { OnOk result (IsPut arena.old arena.new (Q.key key) value) }
+    ensures refused { IfErr result (λ r. r.value ≡ value) }
+    ensures unchanged { OnErr result (siblings_of arena.new ≡ siblings_of arena.old) }
+    ensures only_new { OnErr result (find key_cmp (Q.key key) (entries_of arena.old) ≡ None) }
+    ensures trail { IsTrail Q.Owned.item arena.new (Q.key key) trail.new.items }
+{
+    let place = arena.seek_along(trail, last, key);
+    if place.here().is_some() || arena.has_room() {
+        return insert_at(arena, alloc, &place, value);
+    }
+    if arena.extend().is_err() {
+        return Err(Refused { value });
+    }
     insert_at(arena, alloc, &place, value)
 }

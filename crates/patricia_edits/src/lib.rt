@@ -9,6 +9,6 @@ mod removal;
 mod splitting;
 
 pub use copying::{copy, copy_value};
-pub use insertion::insert;
+pub use insertion::{insert, insert_along};
 pub use removal::remove;
 pub use splitting::{Taken, split};

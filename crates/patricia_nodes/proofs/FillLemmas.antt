@@ -42,7 +42,7 @@ module _ {V : Type 0} where
   plan_within nodes root at fs q w e = record { stands = stands-within nodes fs q w.stands; at_is = e; fits = omega (arith, w.fits, size-fill fs q) }
 
 -- more behind a label is more than nothing
-passed_filled : (item : List ℕ → Type 0) (k l t : List ℕ) → Passes item k l t → t ≢ [] → k ≢ []
+pub passed_filled : (item : List ℕ → Type 0) (k l t : List ℕ) → Passes item k l t → t ≢ [] → k ≢ []
 passed_filled item k [] t p nonempty none = nonempty (p.splits ∙ none)
 passed_filled item k (b ∷ l) t p nonempty none = let e = p.splits in absurd (cc)
 

@@ -12,6 +12,8 @@ pub mod PermuteLemmas
 pub mod PlanLemmas
 pub mod RelayLemmas
 pub mod RenumberLemmas
+pub mod ResumeLemmas
 pub mod SeekLemmas
+pub mod TrailLemmas
 pub mod ValueLemmas
 pub mod WriteLemmas

@@ -37,7 +37,7 @@ module _ {item : List ℕ → Type 0} {V : Type 0} {s : NodeArena V} {key : List
   found_writes w =
       subst (λ new. Puts item s new key w)
       (ap (λ v. record s { nodes = v }) (lent_write s.nodes id id refl found_within n reads w))
-      (puts_here sought id is n reads (record s { nodes = with_item s.nodes id (record n { value = Some w }) }) w (Some w) refl refl refl refl)
+      (puts_here sought id is n reads (record s { nodes = with_item s.nodes id (record n { value = Some w }) }) w (Some w) refl refl refl refl).0
 
   -- the node has the key's value
   pub has_node : is_some n.value ≡ true → HasValueNode item s key id

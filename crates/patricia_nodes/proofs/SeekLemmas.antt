@@ -2,6 +2,7 @@
 use Rattle.std.proofs.Common.{◌≡◌, ◌≢◌, ℕ, suc, ◌+◌, ◌<◌, List, [], ◌∷◌, length, get_or, Option}
 use Rattle.std.proofs.Common.{Some, None, refl, sym, ap, subst, ◌∙◌, arith}
 use Rattle.std.proofs.lemmas.Option.{slice_get_within}
+use Rattle.std.specs.Prelude.{reverse}
 use Rattle.std.specs.FinMap.{find}
 use Rattle.patricia_nodes.specs.declared.arena.Node.{Node}
 use Rattle.patricia_nodes.specs.declared.arena.NodeArena.{NodeArena}
@@ -19,16 +20,19 @@ use Rattle.patricia_nodes.specs.Internal.Plans.{IsWellFormed, plan_at, siblings_
 use Rattle.patricia_nodes.specs.Internal.Places.{Frame, InChild, InSibling, fill, above_of}
 use Rattle.patricia_nodes.specs.Internal.Places.{link_ref_of, node_above, node_of, Leads, Matches}
 use Rattle.patricia_nodes.specs.Internal.Places.{MatchesAt, Placed, IsSeekResult}
+use Rattle.patricia_nodes.specs.Internal.Trails.{AreAbove, PlacedBehind}
 use Rattle.patricia_nodes.specs.Internal.Writes.{Ready}
+use Rattle.patricia_nodes.proofs.TrailLemmas.{above_deeper}
 use Rattle.patricia_nodes.proofs.PlanLemmas.{plan_is, plan_read, node_is}
 use Rattle.patricia_nodes.proofs.FillLemmas.{plan_within, row-within, find-fill, counted-fill}
 use Rattle.patricia_model.proofs.GetLemmas.{find_before, find_within, find_here}
 use Rattle.patricia_model.proofs.CountLemmas.{counted_end, counted_before, counted_within}
 use Rattle.patricia_model.proofs.CountLemmas.{counted_here}
 
--- the walk has come so far, with a step for each frame
+-- the walk has come so far, with a step for each frame, past these nodes and maybe others
 pub record Walks (item : List ℕ → Type 0) {V : Type 0} (s : NodeArena V) (key : List ℕ)
-    (link_ref : LinkRef) (at : Option ℕ) (rest : List ℕ) (start now : ℕ) : Type 0 where
+    (link_ref : LinkRef) (at : Option ℕ) (rest : List ℕ) (trail : List (ℕ × ℕ)) (start now : ℕ)
+    : Type 0 where
   pub frames : List (Frame V)
   pub focus : Plan V
   pub fills : fill frames focus ≡ plan_at s.nodes.items s.root
@@ -36,6 +40,7 @@ pub record Walks (item : List ℕ → Type 0) {V : Type 0} (s : NodeArena V) (ke
   pub at_is : at ≡ head focus
   pub leads : Leads item frames key rest
   pub rest_nonempty : rest ≢ []
+  pub above : AreAbove (reverse trail) frames
   pub ticked : now ≡ start + length frames
 
 -- nodes of a key kind, and the place of a key among them
@@ -136,7 +141,7 @@ module _ (item : List ℕ → Type 0) (kind : IsKeyKind item) {V : Type 0} where
 module _ {item : List ℕ → Type 0} (kind : IsKeyKind item) {V : Type 0} {s : NodeArena V}
     {key : List ℕ} (whole : IsWellFormed s) (ok : IsCanonical item (siblings_of s)) where
   -- at first the walk is at the top, with all of the key left
-  pub walks_root : (start : ℕ) → key ≢ [] → Walks item s key Root s.root key start start
+  pub walks_root : (start : ℕ) → key ≢ [] → Walks item s key Root s.root key [] start start
   walks_root start some = record {
     frames = [];
     focus = plan_at s.nodes.items s.root;
@@ -145,10 +150,11 @@ module _ {item : List ℕ → Type 0} (kind : IsKeyKind item) {V : Type 0} {s : 
     at_is = (whole_plan s whole).at_is;
     leads = refl;
     rest_nonempty = some;
+    above = tt;
     ticked = omega arith;
   }
 
-  module _ {link_ref : LinkRef} {at : Option ℕ} {rest : List ℕ} {start now : ℕ} (w : Walks item s key link_ref at rest start now) where
+  module _ {link_ref : LinkRef} {at : Option ℕ} {rest : List ℕ} {trail : List (ℕ × ℕ)} {start now : ℕ} (w : Walks item s key link_ref at rest trail start now) where
     -- what is read from the link that is reached is the plan in the place
     focus_plan : IsPlan s.nodes.items at w.focus
     focus_plan = plan_within s.nodes.items s.root at w.frames w.focus (rw w.fills (whole_plan s whole)) w.at_is
@@ -175,6 +181,23 @@ module _ {item : List ℕ → Type 0} (kind : IsKeyKind item) {V : Type 0} {s : 
       is_match = h;
     }
 
+    -- and the nodes that it has passed are above that
+    pub placed_behind : (matched : Match) → Matches item w.focus rest matched
+        → PlacedBehind item s key link_ref at rest matched trail
+    placed_behind matched h = record {
+      come = record {
+        frames = w.frames;
+        focus = w.focus;
+        fills = w.fills;
+        link_ref_is = w.link_ref_is;
+        at_is = w.at_is;
+        leads = w.leads;
+        rest_nonempty = w.rest_nonempty;
+        above = w.above;
+      };
+      is_match = h;
+    }
+
     -- the steps are as many as the nodes that a look-up of the key meets
     counted : (matched : Match) → Matches item w.focus rest matched → (m : ℕ)
         → m ≡ now + ticks w.focus → IsCounted item (siblings_of s) key start m
@@ -191,6 +214,10 @@ module _ {item : List ℕ → Type 0} (kind : IsKeyKind item) {V : Type 0} {s : 
     -- past the last node the key has its place, at which no node is
     pub ends_placed : at ≡ None → Placed item s key link_ref at rest Absent
     ends_placed e = let nil = nothing w.focus focus_plan e in placed Absent (rw nil refl)
+
+    -- the nodes that it has passed are above that
+    pub ends_behind : at ≡ None → PlacedBehind item s key link_ref at rest Absent trail
+    ends_behind e = let nil = nothing w.focus focus_plan e in placed_behind Absent (rw nil refl)
 
     -- and no step more is counted there
     pub ends_counted : at ≡ None → IsCounted item (siblings_of s) key start now
@@ -216,6 +243,11 @@ module _ {item : List ℕ → Type 0} (kind : IsKeyKind item) {V : Type 0} {s : 
             → Placed item s key link_ref at rest matched
         stops_placed matched h = placed matched (rw opens.is h)
 
+        -- behind the nodes that the walk has passed
+        pub stops_behind : (matched : Match) → MatchesAt item id n.label rest matched
+            → PlacedBehind item s key link_ref at rest matched trail
+        stops_behind matched h = placed_behind matched (rw opens.is h)
+
         -- its steps are those that the row allows
         pub stops_counted : (matched : Match) → MatchesAt item id n.label rest matched → (m : ℕ)
             → m ≡ now + 1 → IsCounted item (siblings_of s) key start m
@@ -224,7 +256,7 @@ module _ {item : List ℕ → Type 0} (kind : IsKeyKind item) {V : Type 0} {s : 
         -- past a node that comes before the key, the walk is at the sibling
         pub walks_next : (m : ℕ) → m ≡ now + 1 → (above : Option ℕ) → above ≡ node_above link_ref
             → IsBefore item n.label rest
-            → Walks item s key (Sibling id above) n.sibling rest start m
+            → Walks item s key (Sibling id above) n.sibling rest trail start m
         walks_next m e above a h = record {
           frames = InSibling id n.label n.value opens.child ∷ w.frames;
           focus = opens.sibling;
@@ -233,12 +265,13 @@ module _ {item : List ℕ → Type 0} (kind : IsKeyKind item) {V : Type 0} {s : 
           at_is = opens.sibling_plan.at_is;
           leads = (h, w.leads);
           rest_nonempty = w.rest_nonempty;
+          above = above_deeper (reverse trail) (InSibling id n.label n.value opens.child ∷ []) w.frames w.above;
           ticked = omega (arith, w.ticked);
         }
 
         -- through a node whose label the key passes, the walk is at the children
         pub walks_down : (m : ℕ) → m ≡ now + 1 → (left : List ℕ) → Passes item rest n.label left
-            → left ≢ [] → Walks item s key (Child id) n.child left start m
+            → left ≢ [] → Walks item s key (Child id) n.child left trail start m
         walks_down m e left h some = record {
           frames = InChild id n.label n.value opens.sibling ∷ w.frames;
           focus = opens.child;
@@ -247,6 +280,7 @@ module _ {item : List ℕ → Type 0} (kind : IsKeyKind item) {V : Type 0} {s : 
           at_is = opens.child_plan.at_is;
           leads = (rest, h, some, w.leads);
           rest_nonempty = some;
+          above = above_deeper (reverse trail) (InChild id n.label n.value opens.sibling ∷ []) w.frames w.above;
           ticked = omega (arith, w.ticked);
         }
 

@@ -9,6 +9,7 @@ use Rattle.patricia_keys.specs.Keys.{key_cmp}
 use Rattle.patricia_model.specs.Siblings.{entries, IsCanonical}
 use Rattle.patricia_nodes.specs.Internal.Plans.{Plan, Cell, linked, row, Holds, plan_at}
 use Rattle.patricia_nodes.specs.Internal.Places.{fill, node_of, Matches}
+use Rattle.patricia_nodes.specs.Internal.Trails.{KeepsAround}
 use Rattle.patricia_nodes.specs.Internal.Writes.{Puts}
 use Rattle.patricia_nodes.proofs.PlanLemmas.{plan_is}
 use Rattle.patricia_nodes.proofs.FillLemmas.{put-fill, row-within}
@@ -45,6 +46,16 @@ module _ {item : List ℕ → Type 0} {V : Type 0} {s : NodeArena V} {key : List
         put_is = ap (λ (q : Plan V). entries (row q)) same ∙ w.1 ∙ ap (λ (q : Plan V). put key_cmp key x (entries (row q))) p.fills;
       }
 
+  -- and it keeps what is around the place
+  pub puts_around : (new : NodeArena V) (x : V) (focus : Plan V) → Holds new (fill p.frames focus)
+      → IsCanonical item (row focus)
+      → entries (row focus) ≡ put key_cmp rest x (entries (row p.focus))
+      → Puts item s new key x × KeepsAround p.frames new
+  puts_around new x focus holds canonical put_is = (
+    puts new x focus holds canonical put_is,
+    (focus, sym (plan_is new.nodes.items new.root (fill p.frames focus) holds.1.plan_ok)),
+  )
+
   -- at the node of the key
   module _ (id : ℕ) (is : node_of matched ≡ Some id) (r : Node V) (reads : r ≡ get_or s.nodes.items id r) where
     -- the node of the key as it is read, with the plans of its children and of its siblings
@@ -54,14 +65,15 @@ module _ {item : List ℕ → Type 0} {V : Type 0} {s : NodeArena V} {key : List
     -- a value written there is inserted at the key
     pub puts_here : (new : NodeArena V) (x : V) (v : Option V) → v ≡ Some x
         → new.nodes.items ≡ set s.nodes.items id (linked r.label v r.child r.sibling)
-        → new.root ≡ s.root → new.free ≡ s.free → Puts item s new key x
+        → new.root ≡ s.root → new.free ≡ s.free
+        → Puts item s new key x × KeepsAround p.frames new
     puts_here new x v written nodes_is root_is free_is =
         let o = here in
         let inner = subst (λ (q : Plan V). IsCanonical item (row q)) o.is focus_ok in
         let is_match = subst (λ (q : Plan V). Matches item q rest matched) o.is p.is_match in
         let holds = holds_write s id r reads p.frames r.label r.label r.value v o.child o.sibling
         (subst (λ (q : Plan V). Holds s (fill p.frames q)) o.is place_holds) in
-        puts new x (Cell id r.label (Some x) o.child o.sibling)
+        puts_around new x (Cell id r.label (Some x) o.child o.sibling)
         (rw (nodes_is, root_is, free_is, ← written) holds)
         (row_valued item kind x r.label r.value (row o.child) (row o.sibling) inner)
         (put_through item kind x r.label r.value (row o.child) (row o.sibling) inner rest []

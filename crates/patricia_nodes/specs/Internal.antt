@@ -12,4 +12,5 @@ pub mod Places
 pub mod Plans
 pub mod Relocation
 pub mod Renumbering
+pub mod Trails
 pub mod Writes

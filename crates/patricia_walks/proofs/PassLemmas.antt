@@ -1,10 +1,8 @@
 -- Rows that begin with the first bytes of the path are passed.
-use Rattle.std.proofs.Common.{◌≡◌, ◌≢◌, ℕ, ◌+◌, ◌-◌, ◌<◌, ◌≤◌, List, [], ◌∷◌, ◌++◌, length, take, drop}
-use Rattle.std.proofs.Common.{slice_get}
+use Rattle.std.proofs.Common.{◌≡◌, ◌≢◌, ℕ, ◌+◌, ◌<◌, ◌≤◌, List, [], ◌∷◌, ◌++◌, length, take, drop}
 use Rattle.std.proofs.Common.{Option, Some, None, inl, inr, min, refl, sym, ap, subst, ◌∙◌, arith}
 use Rattle.std.proofs.lemmas.List.{append_assoc, append-nil, length-drop, length-take, map-append}
-use Rattle.std.proofs.lemmas.List.{take-take, take-append-drop, take_all, take_more}
-use Rattle.std.proofs.lemmas.Option.{slice_get_within, slice_get-get_or, get_or_from_slice_get}
+use Rattle.std.proofs.lemmas.List.{take-take, take-append-drop, take_all}
 use Rattle.std.specs.Option.{option_map}
 use Rattle.std.proofs.lemmas.Bool.{cases_lt}
 use Rattle.patricia_keys.specs.Keys.{Begins, IsFloor, IsKeyKind, IsValid}
@@ -25,20 +23,6 @@ use Rattle.patricia_walks.specs.Internal.Positions.{row_at, rows_at, count_all, 
 use Rattle.patricia_walks.proofs.AfterLemmas.{after-front, drop-take_front}
 use Rattle.patricia_walks.proofs.PositionLemmas.{row_none, all_plans-last, count_all-snoc}
 use Rattle.patricia_walks.proofs.WaitingLemmas.{WaitsWithin-front}
-
--- a list with a last element is what comes before that, and that
-pub last_split : {X : Type 0} (xs : List X) (x : X) → slice_get xs (length xs - 1) ≡ Some x
-    → xs ≡ take (length xs - 1) xs ++ x ∷ []
-last_split xs x is =
-    let k = length xs - 1 in
-    let within = slice_get_within xs k x is in
-    sym (take_all (k + 1) xs (omega (arith, within))) ∙ take_more xs k x within
-    ∙ ap (λ y. take k xs ++ y ∷ []) (get_or_from_slice_get xs k x x is)
-
--- a list without one is empty
-pub last_none : {X : Type 0} (xs : List X) → slice_get xs (length xs - 1) ≡ None → xs ≡ []
-last_none [] is = refl
-last_none (x ∷ xs) is = let some = slice_get-get_or (x ∷ xs) (length (x ∷ xs) - 1) x (omega arith) in absurd (cc)
 
 module _ {V : Type 0} where
   -- rows of which all have a prefix and rows of which none has it are cut by it

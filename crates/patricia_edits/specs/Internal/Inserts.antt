@@ -13,6 +13,7 @@ use Rattle.patricia_keys.specs.Keys.{key_cmp}
 use Rattle.patricia_nodes.specs.Internal.Plans.{Plan, Nil, Cell, linked, one, below, times, first}
 use Rattle.patricia_nodes.specs.Internal.Plans.{head, IsChain, Holds, entries_of}
 use Rattle.patricia_nodes.specs.Internal.Places.{Frame, fill, link_ref_of, IsSeekResult}
+use Rattle.patricia_nodes.specs.Internal.Trails.{KeepsAround}
 use Rattle.patricia_nodes.specs.Internal.Writes.{IsFree, HasRoomFor, Puts}
 
 module _ {V : Type 0} where
@@ -82,4 +83,5 @@ FindsAt item key_of s place found =
 abbrev pub PutsAt : (List ℕ → Type 0) → {V Q : Type 0} → (Q → List ℕ) → NodeArena V → NodeArena V
     → SeekResult Q → V → Type 0
 PutsAt item key_of old new place x =
-    (key : List ℕ) → IsSeekResult item key_of old key place → Puts item old new key x
+    (key : List ℕ) → (p : IsSeekResult item key_of old key place)
+    → Puts item old new key x × KeepsAround p.frames new

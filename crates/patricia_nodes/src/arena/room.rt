@@ -31,8 +31,8 @@ impl<V: Drop> NodeArena<V> {
         }
     }
 
-    // Whether there is room for two more nodes.
-    fn has_room(&self) -> bool
+    /// Whether there is room for two more nodes.
+    pub fn has_room(&self) -> bool
         requires { IsWellFormed self.now }
         ensures { IsTrue result → HasRoomFor self.now 2 }
     {
@@ -90,6 +90,16 @@ impl<V: Drop> NodeArena<V> {
         self.edits = 0;
     }
 
+    /// Makes room for two more nodes, and leaves each node at its number.
+    pub fn extend(&mut self) -> Result<(), AllocError>
+        requires { IsWellFormed self.old }
+        ensures stays { Stays self.old self.new }
+        ensures room { OnOk result (HasRoomFor self.new 2) }
+    {
+        let more = self.nodes.len() / 2 + 4;
+        self.nodes.reserve_exact(more)
+    }
+
     /// Makes room for two more nodes, and relocates the nodes for their order. They may have other
     /// numbers then. No memory for the order is no error.
     pub fn reserve_two(&mut self, alloc: Global) -> Result<(), AllocError>
@@ -101,8 +111,7 @@ impl<V: Drop> NodeArena<V> {
         ensures unchanged { OnErr result (Stays self.old self.new) }
     {
         if !self.has_room() {
-            let more = self.nodes.len() / 2 + 4;
-            self.nodes.reserve_exact(more)?;
+            self.extend()?;
         }
         self.try_relocate(alloc);
         Ok(())

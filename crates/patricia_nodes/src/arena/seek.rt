@@ -11,6 +11,8 @@ ghost use Rattle.patricia_nodes.specs.Internal.Plans.{IsWellFormed, siblings_of,
 ghost use Rattle.patricia_nodes.specs.Internal.Places.{IsSeekResult, node_of, node_under};
 ghost use Rattle.patricia_nodes.specs.Internal.Places.{node_above};
 
+mod trail;
+
 use crate::arena::NodeArena;
 use crate::link::{Link, NodeId};
 use crate::steps::Steps;

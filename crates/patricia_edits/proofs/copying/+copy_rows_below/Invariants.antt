@@ -1,4 +1,4 @@
-use Rattle.std.proofs.Common.{◌≡◌, ◌≤◌, ◌-◌, ℕ, Bool, false, List, [], vec_len}
+use Rattle.std.proofs.Common.{◌≡◌, ◌≤◌, ◌-◌, ℕ, Bool, false, [], vec_len}
 use Rattle.std.specs.Vec.{vec_capacity}
 use Rattle.patricia_nodes.specs.Internal.Plans.{Plan, head}
 use Rattle.patricia_nodes.specs.Internal.Growth.{numbered_siblings}

@@ -12,7 +12,7 @@ pub returns-then-is_some-clause-whole : goal.returns-then-is_some-clause-whole
 returns-then-is_some-clause-whole g c =
     (put_or_same g.Q.Owned.Bytes.item c.insert_at.result c.args.arena.now c.insert_at.new.arena (g.Q.BorrowedBytes.key c.args.key) c.args.value
     (on_ok_weaker c.insert_at.result
-    (λ puts. puts (g.Q.BorrowedBytes.key c.args.key) c.seek-place.ensures)
+    (λ puts. (puts (g.Q.BorrowedBytes.key c.args.key) c.seek-place.ensures).0)
     c.insert_at.ensures.ok) c.insert_at.ensures.unchanged
     c.requires.whole c.requires.row).0
 
@@ -20,9 +20,22 @@ pub returns-then-is_some-clause-row : goal.returns-then-is_some-clause-row
 returns-then-is_some-clause-row g c =
     (put_or_same g.Q.Owned.Bytes.item c.insert_at.result c.args.arena.now c.insert_at.new.arena (g.Q.BorrowedBytes.key c.args.key) c.args.value
     (on_ok_weaker c.insert_at.result
-    (λ puts. puts (g.Q.BorrowedBytes.key c.args.key) c.seek-place.ensures)
+    (λ puts. (puts (g.Q.BorrowedBytes.key c.args.key) c.seek-place.ensures).0)
     c.insert_at.ensures.ok) c.insert_at.ensures.unchanged
     c.requires.whole c.requires.row).1
+
+pub returns-then-is_some-clause-ok : goal.returns-then-is_some-clause-ok
+returns-then-is_some-clause-ok g c =
+    on_ok_weaker c.insert_at.result
+    (λ puts. (puts (g.Q.BorrowedBytes.key c.args.key) c.seek-place.ensures).0.put_is)
+    c.insert_at.ensures.ok
+
+pub returns-clause-ok : goal.returns-clause-ok
+returns-clause-ok g c =
+    rw (← c.reserve_two.ensures.row)
+    (on_ok_weaker c.insert_at-2.result
+    (λ puts. (puts (g.Q.BorrowedBytes.key c.args.key) c.seek-place-2.ensures).0.put_is)
+    c.insert_at-2.ensures.ok)
 
 pub returns-then-is_some-clause-only_new : goal.returns-then-is_some-clause-only_new
 returns-then-is_some-clause-only_new g c =
@@ -41,14 +54,14 @@ pub returns-clause-whole : goal.returns-clause-whole
 returns-clause-whole g c =
     let ok = subst (IsCanonical g.Q.Owned.Bytes.item) (sym c.reserve_two.ensures.row) c.requires.row in
     (put_or_same g.Q.Owned.Bytes.item c.insert_at-2.result c.reserve_two.new.self c.insert_at-2.new.arena (g.Q.BorrowedBytes.key c.args.key) c.args.value
-    (on_ok_weaker c.insert_at-2.result (λ puts. puts (g.Q.BorrowedBytes.key c.args.key) c.seek-place-2.ensures) c.insert_at-2.ensures.ok)
+    (on_ok_weaker c.insert_at-2.result (λ puts. (puts (g.Q.BorrowedBytes.key c.args.key) c.seek-place-2.ensures).0) c.insert_at-2.ensures.ok)
     c.insert_at-2.ensures.unchanged c.reserve_two.ensures.whole ok).0
 
 pub returns-clause-row : goal.returns-clause-row
 returns-clause-row g c =
     let ok = subst (IsCanonical g.Q.Owned.Bytes.item) (sym c.reserve_two.ensures.row) c.requires.row in
     (put_or_same g.Q.Owned.Bytes.item c.insert_at-2.result c.reserve_two.new.self c.insert_at-2.new.arena (g.Q.BorrowedBytes.key c.args.key) c.args.value
-    (on_ok_weaker c.insert_at-2.result (λ puts. puts (g.Q.BorrowedBytes.key c.args.key) c.seek-place-2.ensures) c.insert_at-2.ensures.ok)
+    (on_ok_weaker c.insert_at-2.result (λ puts. (puts (g.Q.BorrowedBytes.key c.args.key) c.seek-place-2.ensures).0) c.insert_at-2.ensures.ok)
     c.insert_at-2.ensures.unchanged c.reserve_two.ensures.whole ok).1
 
 pub returns-clause-only_new : goal.returns-clause-only_new

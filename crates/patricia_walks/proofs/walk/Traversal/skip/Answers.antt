@@ -3,7 +3,7 @@ use Rattle.std.specs.List.{slice_get}
 use Rattle.std.specs.Option.{option_copied}
 use Rattle.patricia_walks.specs.Internal.Positions.{lent}
 use Rattle.patricia_walks.proofs.PassLemmas.{pass_here, pass_last, ended_none, ended_below}
-use Rattle.patricia_walks.proofs.PassLemmas.{last_split, last_none}
+use Rattle.patricia_nodes.proofs.TrailLemmas.{last_split, last_none}
 use Rattle.patricia_walks.proofs.walk.Traversal.skip.Goals as goal
 
 pub loop-front-init : goal.loop-front-init
