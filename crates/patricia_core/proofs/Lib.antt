@@ -1,2 +1,3 @@
 pub mod FewRows
 pub mod PointNodes
+pub mod StoreLemmas

@@ -17,9 +17,11 @@ ghost use Rattle.patricia_wire.specs.Writings.{Means, TooDeep};
 ghost use Rattle.patricia_wire.specs.Faults.{IsRefusal};
 
 mod cursors;
+mod loading;
 mod near;
 mod ranges;
 
+pub use loading::Loader;
 pub use patricia_codec::{DecodeError, EncodeError, Narrow, Wide, Width, WireError};
 use patricia_codec::{Decoded, decode, encode};
 use patricia_edits::{copy, copy_value, insert, remove, split};

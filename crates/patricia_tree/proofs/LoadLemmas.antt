@@ -2,7 +2,7 @@
 use Rattle.std.proofs.Common.{◌≡◌, ◌≢◌, ℕ, T, Bool, true, List, [], ◌∷◌, ◌++◌, Option, Some, None, refl, sym, ap, ◌∙◌, subst, append_assoc}
 use Rattle.std.proofs.iter.Next.{Yields-more}
 use Rattle.std.proofs.lemmas.List.{append-nil}
-use Rattle.std.specs.Prelude.{◌↔◌, IsTrue, IfErr, IsErrAnd, Result, Ok, Err}
+use Rattle.std.specs.Prelude.{◌↔◌, IsTrue}
 use Rattle.std.specs.Cmp.Lexicographic.{nat_list_cmp_total}
 use Rattle.std.specs.Iterator.{Yields}
 use Rattle.std.specs.List.{last_or}
@@ -94,17 +94,16 @@ module _ {Q V : Type 0} (bytes : Q → List ℕ) where
   last_is here new pair put = ap (λ rows. option_map (λ e. e.0) (last_or None rows)) put
       ∙ ap (option_map (λ e. e.0)) (last_appended None (map.entries here) (bytes pair.0, pair.1))
 
-  -- the last turn, at which the pair is refused with an error, which is returned; the last key is
-  -- known, unless no pair was given
-  pub load_stops : {I S T : Type 0} (becomes : I → S → Type 0) (steps : S → Option (Q × V) → S → Type 0)
-      (pairs : I) (out : Result T LoadError) (e : LoadError) (known : Type 0) (old here new : FinMap key_cmp V)
-      (start at rest : S) (given : List (Q × V)) (pair : Q × V) → IsErrAnd out (λ x. x ≡ e)
+  -- the last turn, at which the pair is refused with an error; the last key is known, unless no
+  -- pair was given
+  pub load_stops : {I S : Type 0} (becomes : I → S → Type 0) (steps : S → Option (Q × V) → S → Type 0)
+      (pairs : I) (e : LoadError) (known : Type 0) (old here new : FinMap key_cmp V)
+      (start at rest : S) (given : List (Q × V)) (pair : Q × V)
       → becomes pairs start → Yields steps start given at → steps at (Some pair) rest
       → map.entries here ≡ map.entries old ++ by_bytes bytes given → new ≡ here
       → (given ≢ [] → known) → IsLoadRefusal e known (bytes pair.0) (map.entries here)
-      → IfErr out (λ x. IsLoadStopped becomes steps bytes x pairs old new)
-  load_stops becomes steps pairs (Ok x) e known old here new start at rest given pair is is_start gave next so_far same knows why = tt
-  load_stops becomes steps pairs (Err x) e known old here new start at rest given pair is is_start gave next so_far same knows why =
+      → IsLoadStopped becomes steps bytes e pairs old new
+  load_stops becomes steps pairs e known old here new start at rest given pair is_start gave next so_far same knows why =
       let rows : map.entries here ≡ map.entries new = ap map.entries (sym same) in
       record {
         start = start;
@@ -115,8 +114,8 @@ module _ {Q V : Type 0} (bytes : Q → List ℕ) where
         gave = Yields-more steps start given at pair rest gave next;
         behind = ap map.entries same ∙ so_far;
         refusal = record {
-          late = λ late. subst (EndsNotBefore (bytes pair.0)) rows (why.late (sym is ∙ late));
-          nonempty = λ memory none. why.nonempty (sym is ∙ memory) (rows ∙ none);
-          in_order = λ memory some. subst (EndsBefore (bytes pair.0)) rows (why.in_order (sym is ∙ memory) (knows some));
+          late = λ late. subst (EndsNotBefore (bytes pair.0)) rows (why.late late);
+          nonempty = λ memory none. why.nonempty memory (rows ∙ none);
+          in_order = λ memory some. subst (EndsBefore (bytes pair.0)) rows (why.in_order memory (knows some));
         };
       }

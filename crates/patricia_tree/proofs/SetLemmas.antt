@@ -1,7 +1,7 @@
 -- Words of sets, tied to those of maps.
 use Rattle.std.proofs.Common.{◌≡◌, ◌≢◌, ℕ, List, [], ◌∷◌, ◌++◌, Option, Some, None}
 use Rattle.std.proofs.Common.{false, map, refl, sym, ap, ◌∙◌}
-use Rattle.std.specs.Prelude.{is_some, IfErr, IsErrAnd, Result}
+use Rattle.std.specs.Prelude.{is_some}
 use Rattle.std.specs.Iterator.{Yields}
 use Rattle.patricia_tree.specs.Bulk.{insert_all, by_bytes}
 use Rattle.std.specs.FinMap as finmap
@@ -78,12 +78,12 @@ module _ {I S Q : Type 0} (becomes : I → S → Type 0) (steps : S → Option Q
       behind = ap finmap.entries same ∙ so_far;
     }
 
-    pub load_refuses_at : {T : Type 0} (out : Result T LoadError) (e : LoadError) (known : Type 0) {new : KeySet} (key : Q)
-        → IsErrAnd out (λ x. x ≡ e) → steps at (Some key) rest → new ≡ here → (given ≢ [] → known)
+    pub load_refuses_at : (e : LoadError) (known : Type 0) {new : KeySet} (key : Q)
+        → steps at (Some key) rest → new ≡ here → (given ≢ [] → known)
         → IsLoadRefusal e known (bytes key) (finmap.entries here)
-        → IfErr out (λ x. IsLoadStopped becomes steps bytes x keys old new)
-    load_refuses_at out e known key is next same knows why = load_stops bytes becomes (steps_in_pairs becomes steps bytes) keys out e known old here _ start at rest
-        (in_pairs given) (key, tt) is is_start (gave_pairs start given at gave) next so_far same
+        → IsLoadStopped becomes steps bytes e keys old new
+    load_refuses_at e known key next same knows why = load_stops bytes becomes (steps_in_pairs becomes steps bytes) keys e known old here _ start at rest
+        (in_pairs given) (key, tt) is_start (gave_pairs start given at gave) next so_far same
         (λ some. knows (λ none. some (ap in_pairs none))) why
 
 -- one more turn, at which the key is put behind the others

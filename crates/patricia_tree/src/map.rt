@@ -46,6 +46,7 @@ pub use patricia_core::under::PrefixReadCursor;
 pub use patricia_core::value_cursor::ValueCursor;
 pub use patricia_core::walk::ReadCursor;
 pub use sorted::LoadError;
+pub(crate) use sorted::SortedLoad;
 use std::alloc::{AllocError, Global};
 use std::marker::Model;
 use std::sync::ledger::Ledger;

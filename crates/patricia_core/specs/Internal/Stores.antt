@@ -1,11 +1,18 @@
 -- A tree as it is stored.
-use Rattle.std.specs.Prelude.{ℕ, List}
+use Rattle.std.specs.Prelude.{ℕ, List, Option, IfSome}
 use Rattle.patricia_model.specs.Trees.{IsTree}
 use Rattle.patricia_nodes.specs.declared.arena.NodeArena.{NodeArena}
 use Rattle.patricia_nodes.specs.Internal.Plans.{IsWellFormed, siblings_of}
+use Rattle.patricia_nodes.specs.Internal.Trails.{IsTrail}
 
 -- no node is lost, and the row that they stand for is that of a tree
 pub record IsStored {V : Type 0} (item : List ℕ → Type 0) (arena : NodeArena V)
     (count : ℕ) : Type 0 where
   pub whole : IsWellFormed arena
   pub tree : IsTree item (siblings_of arena) count
+
+-- the same, and the trail is that of the last key, where there is one
+pub record IsFilled {Q V : Type 0} (item : List ℕ → Type 0) (key : Q → List ℕ) (arena : NodeArena V)
+    (count : ℕ) (last : Option Q) (trail : List (ℕ × ℕ)) : Type 0 where
+  pub stored : IsStored item arena count
+  pub passed : IfSome last (λ last. IsTrail item arena (key last) trail)

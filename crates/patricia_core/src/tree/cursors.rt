@@ -13,7 +13,7 @@ use std::marker::PhantomData;
 use std::mem;
 
 // A tree made of its parts.
-fn made_of<K: Bytes, V>(parts: TreeParts<V>) -> Tree<K, V>
+pub(super) fn made_of<K: Bytes, V>(parts: TreeParts<V>) -> Tree<K, V>
     requires whole { IsWellFormed parts.arena }
     requires tree { IsTree K.item (siblings_of parts.arena) parts.count }
     ensures { result ≡ map_of parts.value (siblings_of parts.arena) }
@@ -29,7 +29,7 @@ fn made_of<K: Bytes, V>(parts: TreeParts<V>) -> Tree<K, V>
 
 impl<K: Bytes, V: Drop> Tree<K, V> {
     // The parts of a tree.
-    fn into_parts(self) -> TreeParts<V>
+    pub(super) fn into_parts(self) -> TreeParts<V>
         ensures whole { IsWellFormed result.arena }
         ensures tree { IsTree K.item (siblings_of result.arena) result.count }
         ensures map { map_of result.value (siblings_of result.arena) ≡ self }

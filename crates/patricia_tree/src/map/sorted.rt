@@ -12,6 +12,7 @@ ghost use Rattle.patricia_tree.specs.Loads.{IsLoadStopped, Loads};
 
 use super::GenericPatriciaMap;
 use patricia_core::keys::{BorrowedBytes, Bytes};
+use patricia_core::tree::Loader;
 use std::alloc::AllocError;
 use std::cmp::{Ord, Ordering};
 use std::iter::{IntoIterator, Iterator};
@@ -46,60 +47,88 @@ fn comes_before(first: &[u8], second: &[u8]) -> bool
     first.cmp(second) == Ordering::Less
 }
 
-impl<K: Bytes, V: Drop> GenericPatriciaMap<K, V> {
-    // Whether a key comes after the last one of the map, which is passed where it is known.
-    fn ends_before<Q: BorrowedBytes<Owned = K>>(
-        &self,
-        last: Option<Q>,
-        key: Q,
-    ) -> Result<bool, AllocError>
-        requires { IfSome last (λ last. option_map (λ e. e.0) (last_or None (map.entries self.now))
-            ≡ Some (Q.key last)) }
-        ensures before { IfOk result (λ b. IsTrue b
-            → EndsBefore (Q.key key) (map.entries self.now)) }
-        ensures not_before { IfOk result (λ b. b ≢ true
-            → EndsNotBefore (Q.key key) (map.entries self.now)) }
-        ensures err_only_nonempty { OnErr result (map.entries self.now ≢ []) }
-        ensures only_unknown { OnErr result (last ≡ None) }
+// The entries of a map while pairs are put behind them. It is not `Drop`, so that they are given
+// back on each way out.
+pub(crate) struct SortedLoad<Q: BorrowedBytes, V: Drop> {
+    loader: Loader<Q, V>,
+    // the key of the pair that was put last
+    last: Option<Q>,
+}
+
+impl<Q: BorrowedBytes, V: Drop> SortedLoad<Q, V> {
+    // Takes the entries of a map, which is left empty.
+    pub(crate) fn take(owner: &mut GenericPatriciaMap<Q::Owned, V>) -> Self
+        ensures entries { result.loader ≡ owner.old }
+        ensures last { result.last ≡ None }
     {
-        if let Some(last) = last {
+        SortedLoad {
+            loader: Loader::new(owner.tree.take()),
+            last: None,
+        }
+    }
+
+    // Gives the entries back to the map.
+    pub(crate) fn give_back(self, owner: &mut GenericPatriciaMap<Q::Owned, V>)
+        ensures { owner.new ≡ self.loader }
+    {
+        let SortedLoad {
+            loader,
+            last: _last,
+        } = self;
+        owner.tree = loader.into_tree();
+    }
+
+    // Whether a key comes after the last one.
+    fn ends_before(&self, key: Q) -> Result<bool, AllocError>
+        requires { IfSome self.now.last (λ last. option_map (λ e. e.0)
+            (last_or None (map.entries self.now.loader)) ≡ Some (Q.key last)) }
+        ensures before { IfOk result (λ b. IsTrue b
+            → EndsBefore (Q.key key) (map.entries self.now.loader)) }
+        ensures not_before { IfOk result (λ b. b ≢ true
+            → EndsNotBefore (Q.key key) (map.entries self.now.loader)) }
+        ensures err_only_nonempty { OnErr result (map.entries self.now.loader ≢ []) }
+        ensures only_unknown { OnErr result (self.now.last ≡ None) }
+    {
+        if let Some(last) = self.last {
             return Ok(comes_before(last.as_bytes(), key.as_bytes()));
         }
-        match self.last_key_value()? {
+        match self.loader.last()? {
             Some((last, _)) => Ok(comes_before(last.as_bytes(), key.as_bytes())),
             None => Ok(true),
         }
     }
 
-    // Puts a pair behind the entries, of which the last key is passed where it is known.
-    pub(crate) fn load<Q: BorrowedBytes<Owned = K>>(
-        &mut self,
-        last: Option<Q>,
-        key: Q,
-        value: V,
-    ) -> Result<(), LoadError>
-        requires { IfSome last (λ last. option_map (λ e. e.0) (last_or None (map.entries self.old))
-            ≡ Some (Q.key last)) }
-        ensures behind { OnOk result
-            (map.entries self.new ≡ map.entries self.old ++ (Q.key key, value) ∷ []) }
-        ensures unchanged { OnErr result (self.new ≡ self.old) }
+    // Puts a pair behind the entries.
+    pub(crate) fn put(&mut self, key: Q, value: V) -> Result<(), LoadError>
+        requires { IfSome self.old.last (λ last. option_map (λ e. e.0)
+            (last_or None (map.entries self.old.loader)) ≡ Some (Q.key last)) }
+        ensures behind { OnOk result (map.entries self.new.loader
+            ≡ map.entries self.old.loader ++ (Q.key key, value) ∷ []) }
+        ensures last { OnOk result (self.new.last ≡ Some key) }
+        ensures unchanged { OnErr result (self.new.loader ≡ self.old.loader) }
         ensures refusal { IfErr result (λ e.
-            IsLoadRefusal e (last ≢ None) (Q.key key) (map.entries self.old)) }
+            IsLoadRefusal e (self.old.last ≢ None) (Q.key key) (map.entries self.old.loader)) }
     {
-        if !self.ends_before(last, key)? {
+        if !self.ends_before(key)? {
             return Err(LoadError::NotInOrder);
         }
-        match self.insert(key, value) {
-            Ok(_) => Ok(()),
+        match self.loader.insert(key, value) {
+            Ok(_) => {
+                self.last = Some(key);
+                Ok(())
+            }
             Err(_) => Err(LoadError::Memory),
         }
     }
+}
 
+impl<K: Bytes, V: Drop> GenericPatriciaMap<K, V> {
     /// Puts pairs in key order behind the entries: each key must come after those before it, and
     /// after those of the map. The iterator must end.
     ///
-    /// Takes the time of an `insert` for each pair, and once that of `last_key_value`. Where the map
-    /// has more than doubled, its nodes are relocated at the end, if memory is there for it.
+    /// The look-up of each key goes on from the nodes that the key before it has passed. The last
+    /// key of the map is looked up once, as by `last_key_value`. Nodes are relocated at the end
+    /// alone, where the map has more than doubled, if memory is there for it.
     ///
     /// # Errors
     ///
@@ -131,11 +160,14 @@ impl<K: Bytes, V: Drop> GenericPatriciaMap<K, V> {
     {
         let before = self.len();
         let mut rest = pairs.into_iter();
-        let mut last = None;
+        let mut load = SortedLoad::take(self);
         while let Some((key, value)) = rest.next() {
-            self.load(last, key, value)?;
-            last = Some(key);
+            if let Err(error) = load.put(key, value) {
+                load.give_back(self);
+                return Err(error);
+            }
         }
+        load.give_back(self);
         self.settle_since(before);
         Ok(())
     }

@@ -1,41 +1,20 @@
 //! Elements in order, put behind those of a set.
-ghost use Rattle.std.specs.Prelude.{◌≡◌, ◌≢◌, ◌++◌, ◌∷◌, [], None, Some, IfErr, IfSome};
-ghost use Rattle.std.specs.Prelude.{OnErr, OnOk};
-ghost use Rattle.std.specs.FinMap as map;
+ghost use Rattle.std.specs.Prelude.{IfErr, OnOk};
 ghost use Rattle.std.specs.Iterator.{IsFiniteIterable};
-ghost use Rattle.std.specs.List.{last_or};
-ghost use Rattle.std.specs.Option.{option_map};
-ghost use Rattle.patricia_tree.specs.Loads.{IsLoadRefusal};
 ghost use Rattle.patricia_tree.specs.Sets.{IsLoadStopped, Loads};
 
 use super::GenericPatriciaSet;
-use crate::map::LoadError;
+use crate::map::{LoadError, SortedLoad};
 use patricia_core::keys::{BorrowedBytes, Bytes};
 use std::iter::{IntoIterator, Iterator};
 
 impl<T: Bytes> GenericPatriciaSet<T> {
-    // Puts an element behind the others, of which the last is passed where it is known.
-    fn load<Q: BorrowedBytes<Owned = T>>(
-        &mut self,
-        last: Option<Q>,
-        element: Q,
-    ) -> Result<(), LoadError>
-        requires { IfSome last (λ last. option_map (λ e. e.0) (last_or None (map.entries self.old))
-            ≡ Some (Q.key last)) }
-        ensures behind { OnOk result
-            (map.entries self.new ≡ map.entries self.old ++ (Q.key element, tt) ∷ []) }
-        ensures unchanged { OnErr result (self.new ≡ self.old) }
-        ensures refusal { IfErr result (λ e.
-            IsLoadRefusal e (last ≢ None) (Q.key element) (map.entries self.old)) }
-    {
-        self.map.load(last, element, ())
-    }
-
     /// Puts elements in order behind those of the set: each must come after those before it, and
     /// after those of the set. The iterator must end.
     ///
-    /// Takes the time of an `insert` for each element, and once that of `last`. Where the set has
-    /// more than doubled, its nodes are relocated at the end, if memory is there for it.
+    /// The look-up of each element goes on from the nodes that the one before it has passed. The
+    /// last element of the set is looked up once, as by `last`. Nodes are relocated at the end
+    /// alone, where the set has more than doubled, if memory is there for it.
     ///
     /// # Errors
     ///
@@ -66,11 +45,14 @@ impl<T: Bytes> GenericPatriciaSet<T> {
     {
         let before = self.len();
         let mut rest = elements.into_iter();
-        let mut last = None;
+        let mut load = SortedLoad::take(&mut self.map);
         while let Some(element) = rest.next() {
-            self.load(last, element)?;
-            last = Some(element);
+            if let Err(error) = load.put(element, ()) {
+                load.give_back(&mut self.map);
+                return Err(error);
+            }
         }
+        load.give_back(&mut self.map);
         self.settle_since(before);
         Ok(())
     }

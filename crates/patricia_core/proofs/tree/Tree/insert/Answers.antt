@@ -2,8 +2,8 @@ use Rattle.std.proofs.Common.{sym, ◌∙◌, refl, arith}
 use mathlib.Core.Bool.{false≢true}
 use Rattle.patricia_nodes.specs.Internal.Plans.{siblings_of}
 use Rattle.patricia_model.proofs.TreeLemmas.{get_empty, get_filled, insert_empty, insert_filled}
-use Rattle.patricia_model.proofs.TreeLemmas.{length_new, length_old, option_map_none}
-use Rattle.patricia_model.proofs.TreeLemmas.{option_map_not_none}
+use Rattle.patricia_model.proofs.TreeLemmas.{option_map_none, option_map_not_none}
+use Rattle.patricia_core.proofs.StoreLemmas.{stored_new, stored_old}
 use Rattle.patricia_core.proofs.tree.Tree.insert.Goals as goal
 use Rattle.patricia_core.proofs.tree.Tree.insert.Goals.{else-self-via-then-self+else-is_none}
 use Rattle.patricia_core.proofs.tree.Tree.insert.Goals.{else-self-via-else-self}
@@ -28,37 +28,20 @@ invariant_of-self-in-Ok-None g c =
     let new = sym c.in-Ok-None.ensures.old ∙ c.in-Ok-None.field-0-is in
     let none = get_filled g.K.Bytes.item g.met.K.Bytes.lawful _ _ _ c.self.invariant.tree.canonical
     (λ none. absurd (false≢true (c.if-is_empty.ensures.1 none))) ∙ new in
-    record {
-      whole = c.in-Ok-None.ensures.whole;
-      tree = record {
-        canonical = c.in-Ok-None.ensures.row;
-        counted = rw c.self.invariant.tree.counted
-            (sym (length_new g.K.Bytes.item g.met.K.Bytes.lawful (siblings_of c.self.inside.arena)
-            (siblings_of c.insert.new.arena) _ c.args.value c.self.invariant.tree.canonical
-            c.in-Ok-None.ensures.ok new));
-        fits = elim c.else-self.branch [
-          | else-self-via-then-self+else-is_none w ↦ absurd
-              (option_map_not_none (λ x. x.now) w.get.result
-              (rw (← c.self.view_is) at w.get.ensures ∙ none) w.if-is_none.ensures)
-          | else-self-via-else-self w ↦ omega (arith, c.self.invariant.tree.fits)
-        ];
-      };
-    }
+    stored_new g.K.Bytes.item g.met.K.Bytes.lawful _ _ _ c.args.value _ c.self.invariant
+    c.in-Ok-None.ensures.whole c.in-Ok-None.ensures.row c.in-Ok-None.ensures.ok new
+    (elim c.else-self.branch [
+      | else-self-via-then-self+else-is_none w ↦ absurd
+          (option_map_not_none (λ x. x.now) w.get.result
+          (rw (← c.self.view_is) at w.get.ensures ∙ none) w.if-is_none.ensures)
+      | else-self-via-else-self w ↦ omega (arith, c.self.invariant.tree.fits)
+    ])
 
 pub invariant_of-self-in-Ok-Some : goal.invariant_of-self-in-Ok-Some
 invariant_of-self-in-Ok-Some g c =
-    let found = sym c.in-Ok-Some.ensures.old ∙ c.in-Ok-Some.field-0-is in
-    record {
-      whole = c.in-Ok-Some.ensures.whole;
-      tree = record {
-        canonical = c.in-Ok-Some.ensures.row;
-        counted = c.self.invariant.tree.counted ∙ sym
-            (length_old g.K.Bytes.item g.met.K.Bytes.lawful (siblings_of c.self.inside.arena)
-            (siblings_of c.insert.new.arena) _ c.args.value c.in-Ok-Some.old
-            c.self.invariant.tree.canonical c.in-Ok-Some.ensures.ok found);
-        fits = c.self.invariant.tree.fits;
-      };
-    }
+    stored_old g.K.Bytes.item g.met.K.Bytes.lawful _ _ _ c.args.value _ c.self.invariant
+    c.in-Ok-Some.ensures.whole c.in-Ok-Some.old c.in-Ok-Some.ensures.row c.in-Ok-Some.ensures.ok
+    (sym c.in-Ok-Some.ensures.old ∙ c.in-Ok-Some.field-0-is)
 
 pub returns-in-Ok-None-clause-old : goal.returns-in-Ok-None-clause-old
 returns-in-Ok-None-clause-old g c =

@@ -1,24 +1,14 @@
-use Rattle.std.proofs.Common.{◌≡◌, ◌≢◌, ◌++◌, [], None, sym, ap, subst, ◌∙◌}
-use Rattle.std.specs.Prelude.{IfOk, OnErr}
-use Rattle.std.specs.List.{last_or}
-use Rattle.std.specs.FinMap as map
-use Rattle.std.specs.Option.{option_map}
-use Rattle.patricia_model.specs.Siblings.{own, entries}
-use Rattle.patricia_nodes.specs.Internal.Plans.{siblings_of}
-use Rattle.patricia_model.proofs.TreeLemmas.{entries_map}
+use Rattle.patricia_core.proofs.StoreLemmas.{rows_of_parts}
 use Rattle.patricia_core.proofs.tree.Tree.last.Goals as goal
 
 pub returns-clause-entry : goal.returns-clause-entry
 returns-clause-entry g c =
-    let rows = ap (λ v. own v ++ entries (siblings_of c.self.inside.arena)) c.as_ref.ensures.value
-    ∙ sym (entries_map g.K.Bytes.item g.met.K.Bytes.lawful _ _ c.self.invariant.tree.canonical)
-    ∙ ap map.entries c.self.view_is in
-    subst (λ es. IfOk c.last.result (λ entry. option_map (λ e. (g.K.Bytes.key e.0, e.1.now)) entry ≡ last_or None (es)))
-    rows c.last.ensures.entry
+    rw (← rows_of_parts g.K.Bytes.item g.met.K.Bytes.lawful
+    _ _ _ _ c.self.invariant.tree.canonical c.as_ref.ensures.value c.self.view_is)
+    c.last.ensures.entry
 
 pub returns-clause-err_only_nonempty : goal.returns-clause-err_only_nonempty
 returns-clause-err_only_nonempty g c =
-    let rows = ap (λ v. own v ++ entries (siblings_of c.self.inside.arena)) c.as_ref.ensures.value
-    ∙ sym (entries_map g.K.Bytes.item g.met.K.Bytes.lawful _ _ c.self.invariant.tree.canonical)
-    ∙ ap map.entries c.self.view_is in
-    subst (λ es. OnErr c.last.result (es ≢ [])) rows c.last.ensures.err_only_nonempty
+    rw (← rows_of_parts g.K.Bytes.item g.met.K.Bytes.lawful
+    _ _ _ _ c.self.invariant.tree.canonical c.as_ref.ensures.value c.self.view_is)
+    c.last.ensures.err_only_nonempty

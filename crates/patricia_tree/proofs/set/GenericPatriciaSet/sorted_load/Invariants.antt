@@ -9,7 +9,7 @@ use Rattle.patricia_tree.proofs.set.GenericPatriciaSet.sorted_load.Given as goal
 
 abbrev pub invariant-loop-element : goal.invariant-loop-element
 invariant-loop-element g l = record {
-  behind : map.entries l.self ≡ map.entries l.initial.self ++ by_bytes g.Q.BorrowedBytes.key (in_pairs l.yielded);
-  known : l.last ≡ None → l.yielded ≡ [];
-  last : IfSome l.last (λ last. option_map (λ e. e.0) (last_or None (map.entries l.self)) ≡ Some (g.Q.BorrowedBytes.key last));
+  behind : map.entries l.load.loader ≡ map.entries l.initial.load.loader ++ by_bytes g.Q.BorrowedBytes.key (in_pairs l.yielded);
+  known : l.load.last ≡ None → l.yielded ≡ [];
+  last : IfSome l.load.last (λ last. option_map (λ e. e.0) (last_or None (map.entries l.load.loader)) ≡ Some (g.Q.BorrowedBytes.key last));
 }

@@ -1,8 +1,8 @@
 use Rattle.patricia_tree.proofs.LoadLemmas.{loads_behind}
-use Rattle.patricia_tree.proofs.map.GenericPatriciaMap.load.Goals as goal
+use Rattle.patricia_tree.proofs.map.sorted.SortedLoad.put.Goals as goal
 
 pub returns-in-Ok-clause-behind : goal.returns-in-Ok-clause-behind
-returns-in-Ok-clause-behind g c = loads_behind c.args.self.now c.insert.new.self (g.Q.BorrowedBytes.key c.args.key) c.args.value
+returns-in-Ok-clause-behind g c = loads_behind c.args.self.now.loader c.insert.new.self (g.Q.BorrowedBytes.key c.args.key) c.args.value
     (c.in_ok-ends_before.ensures.before cc) c.in-Ok.ensures.ok
 
 pub returns-then-not-branch-clause-refusal : goal.returns-then-not-branch-clause-refusal

@@ -1,0 +1,129 @@
+//! A tree that is filled with keys that are near one another.
+ghost use Rattle.std.specs.Prelude.{◌≡◌, ◌≢◌, [], None, IfOk, OnOk, IfErr, OnErr};
+ghost use Rattle.std.specs.FinMap as map;
+ghost use Rattle.std.specs.List.{last_or};
+ghost use Rattle.std.specs.Option.{option_map};
+
+use super::cursors::made_of;
+use super::{Refused, Tree};
+use patricia_edits::insert_along;
+use patricia_keys::BorrowedBytes;
+use patricia_nodes::link::NodeId;
+use patricia_walks::TreeParts;
+use patricia_walks::last::last;
+use std::alloc::AllocError;
+use std::marker::Model;
+use std::mem;
+
+/// A tree that is filled with keys that are near one another: the look-up of each goes on from
+/// the nodes that the key before it has passed.
+///
+/// Its nodes stay where they are, in the order in which they were made: `settle` relocates them
+/// once it is a tree again.
+#[derive(Drop)]
+pub struct Loader<Q: BorrowedBytes, V> {
+    tree: TreeParts<V>,
+    // the key that was looked up last, where there is a trail
+    last: Option<Q>,
+    // nodes that it has passed, each with how many of its bytes are passed there
+    trail: Vec<(NodeId, usize)>,
+}
+
+impl<Q: BorrowedBytes, V> Model for Loader<Q, V> {
+    ghost use Rattle.std.specs.FinMap as map;
+    ghost use Rattle.std.specs.Coded.{coded_ℕ, coded_list};
+    ghost use Rattle.patricia_keys.specs.Keys.{key_cmp};
+
+    ghost Value = { map.FinMap key_cmp V };
+
+    ghost coded = { map.code (coded_list coded_ℕ) V.code };
+
+    ghost use Rattle.patricia_model.specs.Trees.{map_of};
+    ghost use Rattle.patricia_nodes.specs.Internal.Plans.{siblings_of};
+    ghost use Rattle.patricia_core.specs.Internal.Stores.{IsFilled};
+
+    ghost view = { λ l. map_of l.tree.value (siblings_of l.tree.arena) };
+
+    ghost invariant = { λ l.
+        IsFilled Q.Owned.item Q.key l.tree.arena l.tree.count l.last l.trail.items };
+}
+
+impl<Q: BorrowedBytes, V: Drop> Loader<Q, V> {
+    /// Takes a tree that is to be filled. Does not allocate.
+    pub fn new(tree: Tree<Q::Owned, V>) -> Self
+        ensures { result ≡ tree }
+    {
+        let tree = tree.into_parts();
+        let trail = Vec::new(tree.alloc);
+        Loader {
+            tree,
+            last: None,
+            trail,
+        }
+    }
+
+    /// The tree with all that was inserted.
+    pub fn into_tree(self) -> Tree<Q::Owned, V>
+        ensures { result ≡ self }
+    {
+        made_of(self.tree)
+    }
+
+    /// The last entry. The error is out of memory, and never comes where there is none.
+    pub fn last(&self) -> Result<Option<(Q::Owned, &V)>, AllocError>
+        ensures entry { IfOk result (λ entry. option_map (λ e. (Q.Owned.key e.0, e.1.now)) entry
+            ≡ last_or None (map.entries self.now)) }
+        ensures err_only_nonempty { OnErr result (map.entries self.now ≢ []) }
+    {
+        last(self.tree.alloc, self.tree.value.as_ref(), &self.tree.arena)
+    }
+
+    // Inserts by a look-up from the root. The trail begins anew.
+    fn insert_from_root(&mut self, key: Q, value: V) -> Result<Option<V>, Refused<V>>
+        ensures old { IfOk result (λ old. old ≡ map.get self.old (Q.key key)) }
+        ensures ok { OnOk result (self.new ≡ map.insert self.old (Q.key key) value) }
+        ensures refused { IfErr result (λ r. r.value ≡ value) }
+        ensures unchanged { OnErr result (self.new ≡ self.old) }
+        ensures err_only_nonempty { OnErr result (Q.key key ≢ []) }
+        ensures only_new { OnErr result (map.get self.old (Q.key key) ≡ None) }
+    {
+        let empty = Loader::new(Tree::new(self.tree.alloc));
+        let mut tree = mem::replace(self, empty).into_tree();
+        let outcome = tree.insert(key, value);
+        *self = Loader::new(tree);
+        outcome
+    }
+
+    /// Inserts a value and returns the old one. The error is out of memory, and has the value.
+    pub fn insert(&mut self, key: Q, value: V) -> Result<Option<V>, Refused<V>>
+        ensures old { IfOk result (λ old. old ≡ map.get self.old (Q.key key)) }
+        ensures ok { OnOk result (self.new ≡ map.insert self.old (Q.key key) value) }
+        ensures refused { IfErr result (λ r. r.value ≡ value) }
+        ensures unchanged { OnErr result (self.new ≡ self.old) }
+        ensures err_only_nonempty { OnErr result (Q.key key ≢ []) }
+        ensures only_new { OnErr result (map.get self.old (Q.key key) ≡ None) }
+    {
+        if key.is_empty() {
+            return Ok(self.tree.value.replace(value));
+        }
+        if self.tree.count == usize::MAX - 1 {
+            return self.insert_from_root(key, value);
+        }
+        let last = mem::replace(&mut self.last, Some(key));
+        match insert_along(
+            &mut self.tree.arena,
+            &mut self.trail,
+            self.tree.alloc,
+            last,
+            key,
+            value,
+        ) {
+            Ok(None) => {
+                self.tree.count += 1;
+                Ok(None)
+            }
+            Ok(Some(old)) => Ok(Some(old)),
+            Err(refused) => Err(refused),
+        }
+    }
+}
