@@ -264,8 +264,8 @@ bool patricia_is_text(const uint8_t *bytes, size_t len);
  * what is no character. */
 size_t patricia_text_floor(const uint8_t *bytes, size_t len);
 
-/* As patricia_tree_bytes, for texts: no label is cut inside a character. PATRICIA_NOT_TEXT: some key
- * of the map is not UTF-8. Takes memory and time for a copy of the map. */
+/* As patricia_tree_bytes, for texts: no label is cut inside a character. PATRICIA_NOT_TEXT: some
+ * key of the map is not UTF-8. Takes memory and time for a copy of the map. */
 uint32_t patricia_text_tree_bytes(patricia_map *map, uint8_t *array, size_t size, size_t *len);
 
 /* The same with levels of four bytes. */
@@ -332,6 +332,12 @@ static inline uint32_t patricia_text_longest_common_prefix_len(patricia_map *map
     *common = patricia_text_floor(key, patricia_longest_common_prefix_len(map, key, len));
     return PATRICIA_DONE;
 }
+
+/* Units. A key of 16-bit units is passed as its bytes, the high byte of each unit first. Keys are
+ * then in the order of their units, and with prefixes of whole units all functions answer as for
+ * units, but for two: patricia_longest_common_prefix_len may count one byte of a unit, so that its
+ * answer is to be rounded down to an even number; and tree bytes are those of byte strings, which
+ * may cut a label inside a unit. */
 
 /* Sets. A set is a map with the value 0 at each of its elements: the functions of a map that have
  * no other here, as patricia_len, patricia_split_by_prefix, patricia_iterate and

@@ -426,6 +426,27 @@ static void text_encodings(void)
     patricia_free(&back);
 }
 
+/* Keys of 16-bit units, the high byte of each first. */
+static void units(void)
+{
+    static const uint8_t first[] = {0, 'a', 0, 'b'}, second[] = {0, 'a', 1, 0};
+    static const uint8_t key[] = {0, 'a', 0, 'b', 0, 'c'}, other[] = {0, 'a', 1, 'b'};
+    patricia_map map = PATRICIA_MAP_INIT;
+    uint8_t array[8];
+    uint64_t value = 77;
+    size_t len = 78;
+    CHECK(patricia_insert(&map, second, 4, 2, &value) == PATRICIA_ABSENT);
+    CHECK(patricia_insert(&map, first, 4, 1, &value) == PATRICIA_ABSENT);
+    CHECK(patricia_longest_prefix(&map, key, 6, &len, &value) && len == 4 && value == 1);
+    CHECK(!patricia_longest_prefix(&map, other, 4, &len, &value));
+    CHECK(patricia_longest_common_prefix_len(&map, other, 4) == 3);
+    CHECK(patricia_count_prefix(&map, key, 2, &len) && len == 2);
+    CHECK(patricia_first(&map, array, 8, &len, &value) == PATRICIA_FOUND && value == 1);
+    CHECK(patricia_first_after(&map, key, 6, array, 8, &len, &value) == PATRICIA_FOUND);
+    CHECK(len == 4 && memcmp(array, second, 4) == 0 && value == 2);
+    patricia_free(&map);
+}
+
 int main(void)
 {
     empty_map();
@@ -440,6 +461,7 @@ int main(void)
     sets();
     texts();
     text_encodings();
+    units();
     puts("ok");
     return 0;
 }
