@@ -264,8 +264,8 @@ bool patricia_is_text(const uint8_t *bytes, size_t len);
  * what is no character. */
 size_t patricia_text_floor(const uint8_t *bytes, size_t len);
 
-/* As patricia_tree_bytes, for texts: no label is cut inside a character. PATRICIA_NOT_TEXT: some key
- * of the map is not UTF-8. Takes memory and time for a copy of the map. */
+/* As patricia_tree_bytes, for texts: no label is cut inside a character. PATRICIA_NOT_TEXT: some
+ * key of the map is not UTF-8. Takes memory and time for a copy of the map. */
 uint32_t patricia_text_tree_bytes(patricia_map *map, uint8_t *array, size_t size, size_t *len);
 
 /* The same with levels of four bytes. */
@@ -332,6 +332,84 @@ static inline uint32_t patricia_text_longest_common_prefix_len(patricia_map *map
     *common = patricia_text_floor(key, patricia_longest_common_prefix_len(map, key, len));
     return PATRICIA_DONE;
 }
+
+/* As patricia_split_by_prefix: PATRICIA_DONE, or PATRICIA_NO_MEMORY. */
+static inline uint32_t patricia_text_split_by_prefix(patricia_map *map, const char *text,
+                                                     size_t len, patricia_map *part)
+{
+    const uint8_t *prefix = (const uint8_t *)text;
+    if (!patricia_is_text(prefix, len))
+        return PATRICIA_NOT_TEXT;
+    return patricia_split_by_prefix(map, prefix, len, part) ? PATRICIA_DONE : PATRICIA_NO_MEMORY;
+}
+
+/* As patricia_count_prefix: PATRICIA_DONE, or PATRICIA_NO_MEMORY. */
+static inline uint32_t patricia_text_count_prefix(patricia_map *map, const char *text, size_t len,
+                                                  size_t *count)
+{
+    const uint8_t *prefix = (const uint8_t *)text;
+    if (!patricia_is_text(prefix, len))
+        return PATRICIA_NOT_TEXT;
+    return patricia_count_prefix(map, prefix, len, count) ? PATRICIA_DONE : PATRICIA_NO_MEMORY;
+}
+
+/* As patricia_remove_prefix: PATRICIA_DONE, or PATRICIA_NO_MEMORY. */
+static inline uint32_t patricia_text_remove_prefix(patricia_map *map, const char *text, size_t len,
+                                                   size_t *count)
+{
+    const uint8_t *prefix = (const uint8_t *)text;
+    if (!patricia_is_text(prefix, len))
+        return PATRICIA_NOT_TEXT;
+    return patricia_remove_prefix(map, prefix, len, count) ? PATRICIA_DONE : PATRICIA_NO_MEMORY;
+}
+
+/* As patricia_iterate: PATRICIA_DONE, or PATRICIA_NO_MEMORY. */
+static inline uint32_t patricia_text_iterate(patricia_map *map, const char *text, size_t len,
+                                             patricia_iterator *iterator)
+{
+    const uint8_t *prefix = (const uint8_t *)text;
+    if (!patricia_is_text(prefix, len))
+        return PATRICIA_NOT_TEXT;
+    return patricia_iterate(map, prefix, len, iterator) ? PATRICIA_DONE : PATRICIA_NO_MEMORY;
+}
+
+/* As patricia_cursor_seek: PATRICIA_DONE, or PATRICIA_NO_MEMORY. */
+static inline uint32_t patricia_text_cursor_seek(patricia_cursor *cursor, const char *text,
+                                                 size_t len, size_t common)
+{
+    const uint8_t *key = (const uint8_t *)text;
+    if (!patricia_is_text(key, len))
+        return PATRICIA_NOT_TEXT;
+    return patricia_cursor_seek(cursor, key, len, common) ? PATRICIA_DONE : PATRICIA_NO_MEMORY;
+}
+
+/* As patricia_first_after. */
+static inline uint32_t patricia_text_first_after(patricia_map *map, const char *text, size_t len,
+                                                 uint8_t *array, size_t size, size_t *key_len,
+                                                 uint64_t *value)
+{
+    const uint8_t *key = (const uint8_t *)text;
+    return patricia_is_text(key, len)
+               ? patricia_first_after(map, key, len, array, size, key_len, value)
+               : (uint32_t)PATRICIA_NOT_TEXT;
+}
+
+/* As patricia_last_before. */
+static inline uint32_t patricia_text_last_before(patricia_map *map, const char *text, size_t len,
+                                                 uint8_t *array, size_t size, size_t *key_len,
+                                                 uint64_t *value)
+{
+    const uint8_t *key = (const uint8_t *)text;
+    return patricia_is_text(key, len)
+               ? patricia_last_before(map, key, len, array, size, key_len, value)
+               : (uint32_t)PATRICIA_NOT_TEXT;
+}
+
+/* Units. A key of 16-bit units is passed as its bytes, the high byte of each unit first. Keys are
+ * then in the order of their units, and with prefixes of whole units all functions answer as for
+ * units, but for two: patricia_longest_common_prefix_len may count one byte of a unit, so that its
+ * answer is to be rounded down to an even number; and tree bytes are those of byte strings, which
+ * may cut a label inside a unit. */
 
 /* Sets. A set is a map with the value 0 at each of its elements: the functions of a map that have
  * no other here, as patricia_len, patricia_split_by_prefix, patricia_iterate and

@@ -5,8 +5,18 @@
 # 820,000 and with 1,000,000. Prints a table for each kind of keys, with the least of the three
 # figures of each and the ratio to std's map, or of the calls from C that to the map, and says when
 # the nodes were last relocated.
+#
+# run.sh calls [KEYS] times the map and the map as C calls it alone, forty processes each, over so
+# few keys that all lies in the cache, 2,000 without a number, and prints how many nanoseconds a call
+# from C takes more.
 set -euo pipefail
 cd "$(dirname "$0")/../.."
+calls=
+if [ "${1-}" = calls ]; then
+    calls=1
+    shift
+    if [ $# -eq 0 ]; then set -- 2000; fi
+fi
 if [ $# -eq 0 ]; then set -- 820000 1000000; fi
 room=$(mktemp -d)
 trap 'rm -rf "$room"' EXIT
@@ -16,13 +26,19 @@ if ! (cd crates/bench_tree && rt run) < /dev/null > "$room/log" 2>&1; then
     exit 1
 fi
 cp crates/bench_tree/out/bench_tree "$room/map"
-rustc -O --edition 2021 tests/bench/btree.rs -o "$room/btree"
-programs=(map btree)
-if cc -O2 -o "$room/judy" tests/bench/judy.c -lJudy 2> "$room/log"; then programs+=(judy); fi
+programs=(map)
+if [ -z "$calls" ]; then
+    rustc -O --edition 2021 tests/bench/btree.rs -o "$room/btree"
+    programs+=(btree)
+    if cc -O2 -o "$room/judy" tests/bench/judy.c -lJudy 2> "$room/log"; then programs+=(judy); fi
+fi
 archive=crates/patricia_c/out/libpatricia_c.a
 if [ -e "$archive" ]; then
     cc -O2 -Ibindings/c -o "$room/exports" tests/bench/exports.c bindings/c/heap.c "$archive"
     programs+=(exports)
+elif [ -n "$calls" ]; then
+    echo "$archive is not there: rt lib in crates/patricia_c makes it" >&2
+    exit 1
 fi
 
 # The lines of the counts that two programs print with the same names are the same.
@@ -84,6 +100,35 @@ table() { # kind, number of keys
         }' "$room/figures"
     echo
 }
+
+# The least figure of each line of the two programs, and by how much that of C is greater.
+measure_calls() { # number of keys
+    local program
+    python3 tests/bench/keys.py titles $((2 * $1)) 1 > "$room/keys"
+    for program in "${programs[@]}"; do "$room/$program" < "$room/keys" > "$room/$program.answers"; done
+    same_answers exports
+    for _ in $(seq 40); do
+        for program in "${programs[@]}"; do
+            "$room/$program" times < "$room/keys" | sed "s/^/$program /"
+        done
+    done > "$room/figures"
+    awk -v count="$1" '
+        $2 == "keys" || $2 == "share" || $2 == "tree_size" { next }
+        !(($1, $2) in best) { if ($1 == "exports") names[++n] = $2; best[$1, $2] = $3 }
+        $3 < best[$1, $2] { best[$1, $2] = $3 }
+        END {
+            printf "| %d titles | the map | the map from C | more |\n|---|---|---|---|\n", count
+            for (i = 1; i <= n; i++) {
+                name = names[i]
+                printf "| %s | %d | %d | %d |\n", name, best["map", name], best["exports", name], best["exports", name] - best["map", name]
+            }
+        }' "$room/figures"
+}
+
+if [ -n "$calls" ]; then
+    for count in "$@"; do measure_calls "$count"; done
+    exit
+fi
 
 for count in "$@"; do
     for kind in titles domains hex; do

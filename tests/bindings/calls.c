@@ -382,6 +382,58 @@ static void texts(void)
     patricia_free(&map);
 }
 
+/* Prefixes, and keys next to others, that are no texts. */
+static void no_texts(patricia_map *map)
+{
+    patricia_map part = PATRICIA_MAP_INIT;
+    patricia_iterator iterator = PATRICIA_ITERATOR_INIT;
+    patricia_cursor cursor = PATRICIA_CURSOR_INIT;
+    uint8_t array[8] = "unwritte";
+    uint64_t value = 77;
+    size_t len = 78;
+    CHECK(patricia_text_split_by_prefix(map, "\303", 1, &part) == PATRICIA_NOT_TEXT);
+    CHECK(patricia_text_count_prefix(map, "\303", 1, &len) == PATRICIA_NOT_TEXT);
+    CHECK(patricia_text_remove_prefix(map, "\303", 1, &len) == PATRICIA_NOT_TEXT);
+    CHECK(patricia_text_iterate(map, "\303", 1, &iterator) == PATRICIA_NOT_TEXT);
+    CHECK(patricia_text_cursor_seek(&cursor, "\303", 1, 1) == PATRICIA_NOT_TEXT);
+    CHECK(patricia_text_first_after(map, "\303", 1, array, 8, &len, &value) == PATRICIA_NOT_TEXT);
+    CHECK(patricia_text_last_before(map, "\303", 1, array, 8, &len, &value) == PATRICIA_NOT_TEXT);
+    CHECK(len == 78 && value == 77 && memcmp(array, "unwritte", 8) == 0);
+    CHECK(!part.full && !iterator.full && !cursor.full);
+}
+
+static void text_prefixes(void)
+{
+    patricia_map map = PATRICIA_MAP_INIT, part = PATRICIA_MAP_INIT;
+    patricia_iterator iterator = PATRICIA_ITERATOR_INIT;
+    patricia_cursor cursor = PATRICIA_CURSOR_INIT;
+    uint8_t array[8];
+    uint64_t value = 77;
+    size_t len = 78;
+    CHECK(patricia_text_insert(&map, "\303\250", 2, 5, &value) == PATRICIA_ABSENT);
+    CHECK(patricia_text_insert(&map, "\303\251", 2, 6, &value) == PATRICIA_ABSENT);
+    no_texts(&map);
+    CHECK(patricia_text_count_prefix(&map, "", 0, &len) == PATRICIA_DONE && len == 2);
+    CHECK(patricia_text_first_after(&map, "\303\250", 2, array, 8, &len, &value) ==
+          PATRICIA_FOUND);
+    CHECK(len == 2 && value == 6 && memcmp(array, "\303\251", 2) == 0);
+    CHECK(patricia_text_last_before(&map, "\303\250", 2, array, 8, &len, &value) ==
+          PATRICIA_ABSENT);
+    CHECK(patricia_text_iterate(&map, "\303\251", 2, &iterator) == PATRICIA_DONE);
+    CHECK(patricia_iterator_len(&iterator) == 1);
+    CHECK(patricia_text_cursor_seek(&cursor, "\303\251", 2, 2) == PATRICIA_DONE);
+    passes(&cursor, &map, "\303\251", 6);
+    ends(&cursor, &map);
+    CHECK(patricia_text_split_by_prefix(&map, "\303\250", 2, &part) == PATRICIA_DONE);
+    CHECK(patricia_len(&part) == 1 && patricia_len(&map) == 1);
+    CHECK(patricia_text_remove_prefix(&map, "\303\251", 2, &len) == PATRICIA_DONE && len == 1);
+    CHECK(patricia_len(&map) == 0);
+    patricia_free(&map);
+    patricia_free(&part);
+    patricia_iterator_free(&iterator);
+    patricia_cursor_free(&cursor);
+}
+
 /* Two characters that begin with one byte are two labels of texts. */
 static void text_encodings(void)
 {
@@ -426,6 +478,27 @@ static void text_encodings(void)
     patricia_free(&back);
 }
 
+/* Keys of 16-bit units, the high byte of each first. */
+static void units(void)
+{
+    static const uint8_t first[] = {0, 'a', 0, 'b'}, second[] = {0, 'a', 1, 0};
+    static const uint8_t key[] = {0, 'a', 0, 'b', 0, 'c'}, other[] = {0, 'a', 1, 'b'};
+    patricia_map map = PATRICIA_MAP_INIT;
+    uint8_t array[8];
+    uint64_t value = 77;
+    size_t len = 78;
+    CHECK(patricia_insert(&map, second, 4, 2, &value) == PATRICIA_ABSENT);
+    CHECK(patricia_insert(&map, first, 4, 1, &value) == PATRICIA_ABSENT);
+    CHECK(patricia_longest_prefix(&map, key, 6, &len, &value) && len == 4 && value == 1);
+    CHECK(!patricia_longest_prefix(&map, other, 4, &len, &value));
+    CHECK(patricia_longest_common_prefix_len(&map, other, 4) == 3);
+    CHECK(patricia_count_prefix(&map, key, 2, &len) && len == 2);
+    CHECK(patricia_first(&map, array, 8, &len, &value) == PATRICIA_FOUND && value == 1);
+    CHECK(patricia_first_after(&map, key, 6, array, 8, &len, &value) == PATRICIA_FOUND);
+    CHECK(len == 4 && memcmp(array, second, 4) == 0 && value == 2);
+    patricia_free(&map);
+}
+
 int main(void)
 {
     empty_map();
@@ -439,7 +512,9 @@ int main(void)
     faults();
     sets();
     texts();
+    text_prefixes();
     text_encodings();
+    units();
     puts("ok");
     return 0;
 }

@@ -1,9 +1,11 @@
 #!/usr/bin/env python3
 """Runs the commands of docs/PREFIXES.md and tests/prefixes/borders.md on a program prefixes, in a folder with
 the lists of tests/prefixes/lists and tests/prefixes/data: an indented line that begins with a dollar sign is a command for bash, and the indented lines after
-it are what it writes. It prints each that writes something else, and ends with the number of both."""
+it are what it writes. Besides, it runs the program over a long list with a terminal as its standard error. It prints each
+that writes something else, and ends with the number of both."""
 
 import os
+import pty
 import shutil
 import subprocess
 import sys
@@ -28,6 +30,35 @@ def commands(page):
                 wanted.append(line[4:])
 
 
+def said_to_terminal(program, path):
+    """What the program writes to a terminal while it reads a list."""
+    terminal, errors = pty.openpty()
+    subprocess.run([program, 'complete', path], stdin=subprocess.DEVNULL, stderr=errors, timeout=120)
+    os.close(errors)
+    said = b''
+    try:
+        while part := os.read(terminal, 4096):
+            said += part
+    except OSError:  # nothing more is there
+        pass
+    os.close(terminal)
+    return said.replace(b'\r\n', b'\n')
+
+
+def tells_progress(program):
+    """Whether a terminal has a line for each 100,000 lines of a list, and a file none."""
+    with tempfile.TemporaryDirectory() as room:
+        path = os.path.join(room, 'long')
+        with open(path, 'w', encoding='utf-8') as file:
+            file.writelines('%d\n' % n for n in range(250_000))
+        said = said_to_terminal(program, path)
+        got = subprocess.run([program, 'complete', path], stdin=subprocess.DEVNULL, stderr=subprocess.PIPE, timeout=120)
+    if said == b'prefixes: 100000 lines read\nprefixes: 200000 lines read\n' and got.stderr == b'':
+        return True
+    print('progress: %r on a terminal, %r else' % (said, got.stderr))
+    return False
+
+
 def main(program):
     passed, failed = 0, 0
     for page in PAGES:
@@ -45,6 +76,10 @@ def main(program):
                 else:
                     failed += 1
                     print('%s: %s\n%s' % (os.path.basename(page), command, got.stdout.decode('utf-8', 'replace')))
+    if tells_progress(program):
+        passed += 1
+    else:
+        failed += 1
     print('%d passed, %d failed' % (passed, failed))
     return 1 if failed or not passed else 0
 

@@ -8,7 +8,6 @@ use crate::slab::Slab;
 use crate::tree::{DecodeError, Form, TooDeep, Tree};
 use std::fmt;
 use std::marker::PhantomData;
-use std::ops::Index;
 
 /// A map from keys of one kind to values, in the order of the keys' bytes.
 pub struct GenericPatriciaMap<K, V> {
@@ -358,13 +357,5 @@ impl<'a, K: Key, V> IntoIterator for &'a mut GenericPatriciaMap<K, V> {
 
     fn into_iter(self) -> IterMut<'a, K, V> {
         self.iter_mut()
-    }
-}
-
-impl<K: Key, Q: AsRef<K::Borrowed>, V> Index<Q> for GenericPatriciaMap<K, V> {
-    type Output = V;
-
-    fn index(&self, key: Q) -> &V {
-        self.get(key).expect("no entry for this key")
     }
 }

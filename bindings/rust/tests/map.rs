@@ -49,7 +49,7 @@ fn it_works() {
     assert_eq!(map.insert("foo", 4), Some(1));
     assert_eq!(map.len(), 3);
     assert_eq!(map.get("foo"), Some(&4));
-    assert_eq!(map["bar"], 2);
+    assert_eq!(map.get("bar"), Some(&2));
     assert!(map.contains_key(b"baz"));
     assert!(!map.contains_key("ba"));
     *map.get_mut("bar").unwrap() += 10;
@@ -78,7 +78,7 @@ fn longest_common_prefix() {
         Some((&b"foobar"[..], &2))
     );
     *map.get_longest_common_prefix_mut("foobarbaz").unwrap().1 = 5;
-    assert_eq!(map["foobar"], 5);
+    assert_eq!(map.get("foobar"), Some(&5));
     assert_eq!(map.longest_common_prefix_len("foof"), 3);
     let mut texts = StringPatriciaMap::new();
     texts.insert("é", 1);
@@ -112,10 +112,9 @@ fn split_by_prefix() {
     assert_eq!(map.keys().collect::<Vec<_>>(), ["bash", "erlang"]);
     part.insert("x", 9);
     map.insert("y", 8);
-    assert_eq!(
-        (part["rust"], part["ruby"], part["x"], map["y"], map["bash"]),
-        (1, 2, 9, 8, 3)
-    );
+    assert_eq!((part.get("rust"), part.get("ruby")), (Some(&1), Some(&2)));
+    assert_eq!((part.get("x"), map.get("x")), (Some(&9), None));
+    assert_eq!((map.get("y"), map.get("bash")), (Some(&8), Some(&3)));
     assert_eq!(map.split_by_prefix("").len(), 3);
     assert!(map.is_empty());
 }

@@ -4,11 +4,12 @@ use patricia_tree::{BorrowedBytes, Bytes, GenericPatriciaMap};
 use std::alloc::{AllocError, Global};
 use std::process::Abort;
 
-// Lends the values of a key and of the longest key that begins it, and writes to each.
+// Lends the value of a key, by each of two calls, and that of the longest key that begins it, and
+// writes to each.
 fn call_loans<Q: BorrowedBytes>(
     map: &mut GenericPatriciaMap<Q::Owned, u64>,
     key: Q,
-) -> (bool, bool, bool) {
+) -> (bool, bool, bool, bool) {
     let one = match map.get_mut(key) {
         Some(place) => {
             *place = 1;
@@ -26,7 +27,8 @@ fn call_loans<Q: BorrowedBytes>(
     let three = map.with_longest_common_prefix_mut(key, |_, place| {
         *place = 3;
     });
-    (one, two, three.is_some())
+    let four = map.update(key, |place| *place = 4);
+    (one, four.is_some(), two, three.is_some())
 }
 
 fn lends_no_entry<K: Bytes>(map: &mut GenericPatriciaMap<K, u64>) -> bool {
@@ -58,7 +60,7 @@ fn check_all<Q: BorrowedBytes>(
 ) -> Result<(), AllocError> {
     let mut map = map_of(alloc, stored)?;
     for (key, is_there) in keys {
-        assert!(rt; call_loans(&mut map, *key) == (*is_there, true, true));
+        assert!(rt; call_loans(&mut map, *key) == (*is_there, *is_there, true, true));
         assert!(rt; call_cursors(&mut map, *key));
     }
     Ok(())

@@ -44,7 +44,16 @@ fn count_along_owned<K: Bytes>(
     assert!(rt; values == count);
 }
 
-// The other calls. A walk under a prefix is made here, and not read.
+// Makes iterators and cursors from a key on, up to it, and under it.
+fn make_ranges<Q: BorrowedBytes>(map: &GenericPatriciaMap<Q::Owned, u64>, key: Q) {
+    drop(map.range_from(key));
+    drop(map.range(key, key));
+    drop(map.cursor_from(key));
+    drop(map.cursor_range(key, key));
+    drop(map.cursor_under(key));
+}
+
+// The other calls. A walk under a prefix is made here, and not read, and so are ranges.
 fn call_others<Q: BorrowedBytes>(
     rt: &impl Abort,
     map: &GenericPatriciaMap<Q::Owned, u64>,
@@ -54,6 +63,7 @@ fn call_others<Q: BorrowedBytes>(
     assert_eq!(rt; map.get_longest_common_prefix(key).is_some(), count > 0);
     assert!(rt; map.longest_common_prefix_len(key) <= key.as_bytes().len());
     drop(map.iter_prefix(key));
+    make_ranges(map, key);
 }
 
 // Makes an owned key of each key, and then the calls where that is asked.

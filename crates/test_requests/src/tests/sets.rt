@@ -25,6 +25,15 @@ fn set_of<Q: BorrowedBytes>(
     Ok(set)
 }
 
+// Makes iterators and cursors from an element on, up to it, and under it.
+fn make_ranges<Q: BorrowedBytes>(set: &GenericPatriciaSet<Q::Owned>, element: Q) {
+    drop(set.range_from(element));
+    drop(set.range(element, element));
+    drop(set.cursor_from(element));
+    drop(set.cursor_range(element, element));
+    drop(set.cursor_under(element));
+}
+
 // Questions about an element of the set, or about what is none.
 fn ask<Q: BorrowedBytes>(
     rt: &impl Abort,
@@ -36,6 +45,7 @@ fn ask<Q: BorrowedBytes>(
     assert!(rt; set.get_longest_common_prefix(element).is_some());
     assert!(rt; set.longest_common_prefix_len(element) <= element.as_bytes().len());
     drop(set.iter_prefix(element));
+    make_ranges(set, element);
 }
 
 /// Whether an insert is done, where the element was there or was not.

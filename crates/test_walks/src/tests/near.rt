@@ -1,7 +1,7 @@
-//! Keys that are few edits apart, and cursors over them. `.ci/run` runs `refused_in_turn` with the
-//! Nth memory request refused, for each N.
+//! Keys that are few edits apart, and cursors over them. `.ci/run` runs the tests that end with
+//! `refused_in_turn` with the Nth memory request refused, for each N.
 use super::helpers::map_of;
-use patricia_tree::{BorrowedBytes, GenericPatriciaMap, is_within};
+use patricia_tree::{BorrowedBytes, GenericPatriciaMap, GenericPatriciaSet, is_within};
 use std::alloc::{AllocError, Global};
 
 // Whether so many edits are between two keys, and not fewer.
@@ -45,6 +45,25 @@ fn found<Q: BorrowedBytes>(
         }
     }
     Some(map.len())
+}
+
+// How many elements one over a set lends.
+fn found_in_set<Q: BorrowedBytes>(
+    set: &GenericPatriciaSet<Q::Owned>,
+    sought: Q,
+    limit: u32,
+) -> Option<usize> {
+    let Ok(mut cursor) = set.within(sought, limit) else {
+        return None;
+    };
+    for count in 0..set.len() {
+        match cursor.advance() {
+            Ok(true) => {}
+            Ok(false) => return Some(count),
+            Err(_) => return None,
+        }
+    }
+    Some(set.len())
 }
 
 // How many of some keys are so near.
@@ -103,11 +122,39 @@ fn lends_each_near_key(rt: HostRuntime) -> Result<(), AllocError> {
     Ok(())
 }
 
+// Whether one of two calls is not refused, and each that is not finds two.
+fn are_two(first: Option<usize>, again: Option<usize>) -> bool {
+    (first.is_some() || again.is_some()) && first.unwrap_or(2) == 2 && again.unwrap_or(2) == 2
+}
+
 #[test]
-fn refused_in_turn(rt: HostRuntime) -> Result<(), AllocError> {
+fn entries_refused_in_turn(rt: HostRuntime) -> Result<(), AllocError> {
     let map = map_of(rt.alloc(), &ROWS)?;
     let first = found(&map, b"abe".as_slice(), 1);
     let again = found(&map, b"abe".as_slice(), 1);
-    assert!(rt; matches!((first, again), (Some(2), _) | (_, Some(2))));
+    assert!(rt; are_two(first, again));
+    Ok(())
+}
+
+// A set of the keys of these entries. An insert that is refused is tried once more.
+fn set_of<Q: BorrowedBytes>(
+    alloc: Global,
+    rows: &[(Q, u32)],
+) -> Result<GenericPatriciaSet<Q::Owned>, AllocError> {
+    let mut set = GenericPatriciaSet::new(alloc);
+    for (key, _) in rows {
+        if set.insert(*key).is_err() {
+            set.insert(*key)?;
+        }
+    }
+    Ok(set)
+}
+
+#[test]
+fn elements_refused_in_turn(rt: HostRuntime) -> Result<(), AllocError> {
+    let set = set_of(rt.alloc(), &ROWS)?;
+    let first = found_in_set(&set, b"abe".as_slice(), 1);
+    let again = found_in_set(&set, b"abe".as_slice(), 1);
+    assert!(rt; are_two(first, again));
     Ok(())
 }

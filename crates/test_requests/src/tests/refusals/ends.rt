@@ -4,6 +4,7 @@ use super::choices::{ROWS, SHORT};
 use super::maps::make;
 use super::tally::{Tally, has, has_among};
 use patricia_tree::StringPatriciaMap;
+use patricia_tree::map::{Range, RangeReadCursor};
 use std::alloc::{AllocError, Global};
 use std::process::Abort;
 
@@ -11,13 +12,13 @@ type Map = StringPatriciaMap<u64>;
 
 const NEW: &str = "another beginning that is longer than a node keeps";
 
-// Whether a call answers so, where it is refused the same call after it.
+// Whether a call answers so, and the same call after it, but where they are refused.
 fn finds(tally: &mut Tally, first: Option<u64>, again: Option<u64>, wanted: u64) -> bool {
-    if first.is_none() {
+    if first.is_none() || again.is_none() {
         tally.add();
-        return again == Some(wanted);
     }
-    first == Some(wanted)
+    let is_one_found = first.is_some() || again.is_some();
+    is_one_found && first.unwrap_or(wanted) == wanted && again.unwrap_or(wanted) == wanted
 }
 
 // The value of an entry.
@@ -36,10 +37,10 @@ fn count(map: &Map, prefix: &str) -> Option<u64> {
     }
 }
 
-// How many entries an iterator gives between two keys.
-fn given(map: &Map, from: &str, to: &str) -> Option<u64> {
+// How many entries an iterator over a range gives.
+fn given(range: Range<'_, &str, u64>) -> Option<u64> {
     let mut count: u64 = 0;
-    for entry in map.range(from, to) {
+    for entry in range {
         if entry.is_err() {
             return None;
         }
@@ -48,11 +49,10 @@ fn given(map: &Map, from: &str, to: &str) -> Option<u64> {
     Some(count)
 }
 
-// How many entries a cursor lends between two keys.
-fn lent(map: &Map, from: &str, to: &str) -> Option<u64> {
+// How many entries a cursor over a range lends, of at most so many.
+fn lent(mut cursor: RangeReadCursor<'_, &str, u64>, most: usize) -> Option<u64> {
     let mut count: u64 = 0;
-    let mut cursor = map.cursor_range(from, to);
-    for _ in 0..=map.len() {
+    for _ in 0..=most {
         match cursor.advance() {
             Ok(true) => count = count.saturating_add(1),
             Ok(false) => return Some(count),
@@ -70,56 +70,56 @@ fn same(map: &Map, other: &Map) -> Option<u64> {
     }
 }
 
+// Whether the ends are found.
+fn finds_ends(map: &Map, tally: &mut Tally) -> bool {
+    let (first, again) = (value(map.first_key_value()), value(map.first_key_value()));
+    let is_first = finds(tally, first, again, 1);
+    let (last, again) = (value(map.last_key_value()), value(map.last_key_value()));
+    is_first && finds(tally, last, again, 5)
+}
+
+// Whether the entries next to a key are.
+fn finds_neighbours(map: &Map, tally: &mut Tally) -> bool {
+    let (after, again) = (value(map.first_after("bar")), value(map.first_after("bar")));
+    let is_after = finds(tally, after, again, 5);
+    let (before, again) = (value(map.last_before("bar")), value(map.last_before("bar")));
+    is_after && finds(tally, before, again, 3)
+}
+
+// Whether the entries of ranges are given.
+fn gives_ranges(map: &Map, tally: &mut Tally) -> bool {
+    let (some, again) = (given(map.range("a", "baz")), given(map.range("a", "baz")));
+    let are_some = finds(tally, some, again, 3);
+    let (rest, again) = (given(map.range_from("b")), given(map.range_from("b")));
+    are_some && finds(tally, rest, again, 2)
+}
+
+// Whether they are lent.
+fn lends_ranges(map: &Map, tally: &mut Tally) -> bool {
+    let some = lent(map.cursor_range("a", "baz"), 5);
+    let again = lent(map.cursor_range("a", "baz"), 5);
+    let are_some = finds(tally, some, again, 3);
+    let rest = lent(map.cursor_from("b"), 5);
+    let again = lent(map.cursor_from("b"), 5);
+    are_some && finds(tally, rest, again, 2)
+}
+
+// Whether entries are counted, and a map is equal to itself.
+fn counts_and_equals(map: &Map, tally: &mut Tally) -> bool {
+    let is_counted = finds(tally, count(map, "a"), count(map, "a"), 2);
+    is_counted && finds(tally, same(map, map), same(map, map), 1)
+}
+
 #[test]
 fn read_refused_in_turn(rt: HostRuntime) -> Result<(), AllocError> {
     let mut tally = Tally::new();
     let map = make(rt.alloc(), ROWS.as_slice(), &mut tally)?;
-    let first = finds(
-        &mut tally,
-        value(map.first_key_value()),
-        value(map.first_key_value()),
-        1,
-    );
-    assert!(rt; first);
-    let last = finds(
-        &mut tally,
-        value(map.last_key_value()),
-        value(map.last_key_value()),
-        5,
-    );
-    assert!(rt; last);
-    let after = finds(
-        &mut tally,
-        value(map.first_after("bar")),
-        value(map.first_after("bar")),
-        5,
-    );
-    assert!(rt; after);
-    let before = finds(
-        &mut tally,
-        value(map.last_before("bar")),
-        value(map.last_before("bar")),
-        3,
-    );
-    assert!(rt; before);
-    let counted = finds(&mut tally, count(&map, "a"), count(&map, "a"), 2);
-    assert!(rt; counted);
-    let ranged = finds(
-        &mut tally,
-        given(&map, "a", "baz"),
-        given(&map, "a", "baz"),
-        3,
-    );
-    assert!(rt; ranged);
-    let passed = finds(
-        &mut tally,
-        lent(&map, "a", "baz"),
-        lent(&map, "a", "baz"),
-        3,
-    );
-    assert!(rt; passed);
-    let equal = finds(&mut tally, same(&map, &map), same(&map, &map), 1);
-    assert!(rt; equal && has(&map, ROWS.as_slice()));
+    assert!(rt; finds_ends(&map, &mut tally));
+    assert!(rt; finds_neighbours(&map, &mut tally));
+    assert!(rt; gives_ranges(&map, &mut tally));
+    assert!(rt; lends_ranges(&map, &mut tally));
+    assert!(rt; counts_and_equals(&map, &mut tally));
+    assert!(rt; has(&map, ROWS.as_slice()));
     tally.check(&rt, 1);
     Ok(())
 }
@@ -226,6 +226,28 @@ fn merge(alloc: Global, map: &mut Map, rows: &[(&str, u64)]) -> Result<bool, All
     Ok(merged.is_ok())
 }
 
+// The rows that a refused merge into a map of the first two has left: all from the second on, which
+// both have, or where that one was merged those that are not there. `None` where the map is as no
+// refusal leaves it.
+fn unmerged<'a>(map: &Map, rows: &'a [(&'a str, u64)]) -> Option<&'a [(&'a str, u64)]> {
+    let len = map.len();
+    if map.get(SHORT) == Some(&4) {
+        rows.get(len..)
+    } else if map.get(SHORT) == Some(&2) && len == 2 {
+        rows.get(1..)
+    } else {
+        None
+    }
+}
+
+// Merges what a refused merge has left. Returns whether it is done.
+fn merge_rest(alloc: Global, map: &mut Map) -> Result<bool, AllocError> {
+    match unmerged(map, ROWS.as_slice()) {
+        Some(left) => merge(alloc, map, left),
+        None => Ok(false),
+    }
+}
+
 #[test]
 fn merges_refused_in_turn(rt: HostRuntime) -> Result<(), AllocError> {
     let mut tally = Tally::new();
@@ -233,16 +255,7 @@ fn merges_refused_in_turn(rt: HostRuntime) -> Result<(), AllocError> {
     let merged = merge(rt.alloc(), &mut map, &ROWS[1..]);
     if merged.ok() != Some(true) {
         tally.add();
-        // the first row of the two that both have was merged, or nothing
-        let once = map.get(SHORT) == Some(&4);
-        assert!(rt; once || map.len() == 2 && map.get(SHORT) == Some(&2));
-        let len = map.len();
-        assert!(rt; len <= 5);
-        let rest = if once { len } else { 1 };
-        let Some(left) = ROWS.get(rest..) else {
-            return Ok(());
-        };
-        assert!(rt; merge(rt.alloc(), &mut map, left).ok() == Some(true));
+        assert!(rt; merge_rest(rt.alloc(), &mut map).ok() == Some(true));
     }
     assert!(rt; map.len() == 5 && map.get("") == Some(&1) && map.get(SHORT) == Some(&4));
     assert!(rt; has_among(&map, &ROWS[2..]));

@@ -1,5 +1,6 @@
 //! Calls over two sets, of which one may be refused: what it is called on stays, and it is made
 //! once more.
+use super::tally::Tally;
 use patricia_tree::{BorrowedBytes, GenericPatriciaSet};
 use std::alloc::{AllocError, Global};
 
@@ -15,8 +16,8 @@ const BOTH: [&str; 2] = ["baz", "foo"];
 
 const REST: [&str; 2] = ["", "bar"];
 
-// Whether a set has these elements, which differ, and no other. It does not allocate.
-fn holds<Q: BorrowedBytes>(set: &Set<Q::Owned>, elements: &[Q]) -> bool {
+/// Whether a set has these elements, which differ, and no other. It does not allocate.
+pub(super) fn holds<Q: BorrowedBytes>(set: &Set<Q::Owned>, elements: &[Q]) -> bool {
     for element in elements {
         if !set.contains(*element) {
             return false;
@@ -25,12 +26,17 @@ fn holds<Q: BorrowedBytes>(set: &Set<Q::Owned>, elements: &[Q]) -> bool {
     set.len() == elements.len()
 }
 
-// A set of these elements, made once more where it is refused.
-fn set_of<Q: BorrowedBytes>(alloc: Global, elements: &[Q]) -> Result<Set<Q::Owned>, AllocError> {
-    match Set::from_iter(alloc, elements.iter().copied()) {
-        Ok(set) => Ok(set),
-        Err(_) => Set::from_iter(alloc, elements.iter().copied()),
+/// A set of these elements, made once more where it is refused.
+pub(super) fn set_of<Q: BorrowedBytes>(
+    alloc: Global,
+    elements: &[Q],
+    tally: &mut Tally,
+) -> Result<Set<Q::Owned>, AllocError> {
+    if let Ok(set) = Set::from_iter(alloc, elements.iter().copied()) {
+        return Ok(set);
     }
+    tally.add();
+    Set::from_iter(alloc, elements.iter().copied())
 }
 
 // Whether the union has these elements, where it is not refused.
@@ -57,32 +63,86 @@ fn parts<Q: BorrowedBytes>(one: &Set<Q::Owned>, two: &Set<Q::Owned>, rest: &[Q])
     }
 }
 
-// Whether two sets with elements of their own are told from each other, where it is not refused.
-fn differ<Q: BorrowedBytes>(one: &Set<Q::Owned>, two: &Set<Q::Owned>) -> Option<bool> {
-    match (one.equals(two), one.is_subset(two), one.is_disjoint(two)) {
-        (Ok(same), Ok(within), Ok(apart)) => Some(!same && !within && !apart),
+// Whether two sets are told to be equal, or not to be.
+fn are_equal<Q: BorrowedBytes>(
+    one: &Set<Q::Owned>,
+    two: &Set<Q::Owned>,
+    wanted: bool,
+) -> Option<bool> {
+    match one.equals(two) {
+        Ok(same) => Some(same == wanted),
+        Err(_) => None,
+    }
+}
+
+// Whether two sets that share elements, each with some of its own, are told so.
+fn overlap<Q: BorrowedBytes>(one: &Set<Q::Owned>, two: &Set<Q::Owned>) -> Option<bool> {
+    match (one.is_subset(two), one.is_disjoint(two)) {
+        (Ok(within), Ok(apart)) => Some(!within && !apart),
         _ => None,
     }
 }
 
-// The same answer, asked once more where it was refused.
-fn is_so(answer: Option<bool>, again: Option<bool>) -> bool {
-    answer != Some(false) && again == Some(true) || answer == Some(true) && again != Some(false)
+/// Whether a call answers as it should, and the same call after it, but where they are refused.
+pub(super) fn is_so(tally: &mut Tally, first: Option<bool>, again: Option<bool>) -> bool {
+    if first.is_none() || again.is_none() {
+        tally.add();
+    }
+    let is_one_done = first.is_some() || again.is_some();
+    is_one_done && first.unwrap_or(true) && again.unwrap_or(true)
+}
+
+// Whether the sets made of two are as they should be.
+fn makes_each<Q: BorrowedBytes>(
+    one: &Set<Q::Owned>,
+    two: &Set<Q::Owned>,
+    all: &[Q],
+    both: &[Q],
+    tally: &mut Tally,
+) -> bool {
+    is_so(tally, unites(one, two, all), unites(one, two, all))
+        && is_so(tally, meets(one, two, both), meets(one, two, both))
+}
+
+// Whether two sets are told from each other, and one is equal to itself.
+fn tells_each<Q: BorrowedBytes>(
+    one: &Set<Q::Owned>,
+    two: &Set<Q::Owned>,
+    tally: &mut Tally,
+) -> bool {
+    let (differ, again) = (
+        are_equal::<Q>(one, two, false),
+        are_equal::<Q>(one, two, false),
+    );
+    let are_told = is_so(tally, differ, again);
+    let (same, again) = (
+        are_equal::<Q>(one, one, true),
+        are_equal::<Q>(one, one, true),
+    );
+    are_told && is_so(tally, same, again)
 }
 
 #[test]
 fn sets_refused_in_turn(rt: HostRuntime) -> Result<(), AllocError> {
-    let one = set_of(rt.alloc(), ONE.as_slice())?;
-    let two = set_of(rt.alloc(), TWO.as_slice())?;
-    let united = is_so(unites(&one, &two, &ALL), unites(&two, &one, &ALL));
-    assert!(rt; united);
-    let met = is_so(meets(&one, &two, &BOTH), meets(&two, &one, &BOTH));
-    assert!(rt; met);
-    let parted = is_so(parts(&one, &two, &REST), parts(&one, &two, &REST));
+    let mut tally = Tally::new();
+    let one = set_of(rt.alloc(), ONE.as_slice(), &mut tally)?;
+    let two = set_of(rt.alloc(), TWO.as_slice(), &mut tally)?;
+    assert!(rt; makes_each(&one, &two, &ALL, &BOTH, &mut tally));
+    assert!(rt; makes_each(&two, &one, &ALL, &BOTH, &mut tally));
+    let parted = is_so(
+        &mut tally,
+        parts(&one, &two, &REST),
+        parts(&one, &two, &REST),
+    );
     assert!(rt; parted);
-    let told = is_so(differ::<&str>(&one, &two), differ::<&str>(&two, &one));
+    let told = is_so(
+        &mut tally,
+        overlap::<&str>(&one, &two),
+        overlap::<&str>(&two, &one),
+    );
     assert!(rt; told);
-    let kept = holds(&one, ONE.as_slice()) && holds(&two, TWO.as_slice());
-    assert!(rt; kept);
+    assert!(rt; tells_each::<&str>(&one, &two, &mut tally));
+    assert!(rt; holds(&one, ONE.as_slice()) && holds(&two, TWO.as_slice()));
+    tally.check(&rt, 1);
     Ok(())
 }
