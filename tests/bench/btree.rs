@@ -49,14 +49,17 @@ fn from_ten(map: &Map, keys: &[&[u8]]) -> u64 {
     bytes
 }
 
-// The entries under the first half of each key.
+// How many entries are counted under one prefix at the most.
+const MOST_UNDER: usize = 1000;
+
+// The entries under the first half of each key, `MOST_UNDER` of each at the most.
 fn under(map: &Map, keys: &[&[u8]]) -> u64 {
     let mut entries = 0;
     for key in keys {
         let prefix = &key[..key.len() / 2];
         let from = (Bound::Included(prefix), Bound::Unbounded);
         let rows = map.range::<[u8], _>(from).take_while(|(key, _)| key.starts_with(prefix));
-        for (key, _) in rows {
+        for (key, _) in rows.take(MOST_UNDER) {
             // the map answers a key of its own, too
             drop(key.clone());
             entries += 1;

@@ -51,7 +51,10 @@ fn from_ten<Q: BorrowedBytes>(
     Ok(bytes)
 }
 
-// How many entries there are under a prefix.
+// How many entries are counted under one prefix at the most.
+const MOST_UNDER: u64 = 1000;
+
+// How many entries there are under a prefix, `MOST_UNDER` at the most.
 fn under<Q: BorrowedBytes>(
     map: &GenericPatriciaMap<Q::Owned, u64>,
     prefix: Q,
@@ -59,6 +62,9 @@ fn under<Q: BorrowedBytes>(
     let mut entries: u64 = 0;
     for entry in map.iter_prefix(prefix) {
         entries = entries.wrapping_add(one(entry)?);
+        if entries == MOST_UNDER {
+            break;
+        }
     }
     Ok(entries)
 }
