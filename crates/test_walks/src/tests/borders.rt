@@ -1,5 +1,5 @@
-//! The entries next to a key, those from it on and those under it, at keys that begin each other and
-//! at the ends of a map, over byte and text keys.
+//! The entries next to a key, those from it on and those under it, at keys that begin each other
+//! and at the ends of a map, over byte and text keys.
 use super::helpers::map_of;
 use patricia_tree::{BorrowedBytes, Bytes, GenericPatriciaMap};
 use std::alloc::{AllocError, Global};
