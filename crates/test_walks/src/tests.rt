@@ -1,3 +1,4 @@
+mod borders;
 mod counts;
 mod cursors;
 mod drops;

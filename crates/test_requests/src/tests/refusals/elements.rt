@@ -134,8 +134,8 @@ fn pops_refused_in_turn(rt: HostRuntime) -> Result<(), AllocError> {
     Ok(())
 }
 
-// Removes the elements that begin with a prefix, once more where it is refused. Returns whether they
-// are so many.
+// Removes the elements that begin with a prefix, once more where it is refused. Returns whether
+// they are so many.
 fn removes(set: &mut Set, prefix: &str, wanted: usize, tally: &mut Tally) -> bool {
     if let Ok(count) = set.remove_prefix(prefix) {
         return count == wanted;
