@@ -106,8 +106,17 @@ def owner_in(head):
             rest = rest[at + 1:].split(' where ')[0].strip()
             break
     trait, _, of = rest.rpartition(' for ')
-    trait, _, given = trait.strip().partition('<')
-    return type_name(of) + ('' if trait == 'Drop' else trait + ''.join(re.findall(r'(\w+)<', given)))
+    trait, _, given = trait.strip().removesuffix('>').partition('<')
+    return type_name(of) + ('' if trait == 'Drop' else trait + name_given(given))
+
+
+def name_given(given):
+    """What the prover adds to a trait's name for the type that the trait is given: nothing for a type parameter, which
+    has one letter here."""
+    if given.startswith('('):
+        return 'Tuple%d' % (given.count(',') + 1)
+    name = given.partition('<')[0].split('::')[-1]
+    return name[:1].upper() + name[1:] if len(name) > 1 else ''
 
 
 def function_at(file, lines, number):
