@@ -48,7 +48,7 @@ fn comes_before(first: &[u8], second: &[u8]) -> bool
 }
 
 // The entries of a map while pairs are put behind them. It is not `Drop`, so that they are given
-// back on each way out.
+// back at every return.
 pub(crate) struct SortedLoad<Q: BorrowedBytes, V: Drop> {
     loader: Loader<Q, V>,
     // the key of the pair that was put last
