@@ -79,6 +79,45 @@ fn longest(map: &Map, keys: &[&[u8]]) -> u64 {
     bytes
 }
 
+// For how many keys there is an entry after them.
+fn entries_after(map: &Map, keys: &[&[u8]]) -> u64 {
+    let mut entries = 0;
+    for key in keys {
+        let from = (Bound::Excluded(*key), Bound::Unbounded);
+        // the map answers a key of its own, too
+        let entry = map.range::<[u8], _>(from).next().map(|(key, value)| (key.clone(), value));
+        entries += u64::from(entry.is_some());
+    }
+    entries
+}
+
+// For how many keys there is an entry before them.
+fn entries_before(map: &Map, keys: &[&[u8]]) -> u64 {
+    let mut entries = 0;
+    for key in keys {
+        let to = (Bound::Unbounded, Bound::Excluded(*key));
+        let entry = map.range::<[u8], _>(to).next_back().map(|(key, value)| (key.clone(), value));
+        entries += u64::from(entry.is_some());
+    }
+    entries
+}
+
+// How many entries have a key that begins with a prefix.
+fn count(map: &Map, prefix: &[u8]) -> u64 {
+    let from = (Bound::Included(prefix), Bound::Unbounded);
+    map.range::<[u8], _>(from).take_while(|(key, _)| key.starts_with(prefix)).count() as u64
+}
+
+// Removes the first entry and the last one by turns, and counts them.
+fn popped(map: &mut Map) -> u64 {
+    let mut count = 0;
+    for i in 0..map.len() {
+        let entry = if i % 2 == 0 { map.pop_first() } else { map.pop_last() };
+        count += u64::from(entry.is_some());
+    }
+    count
+}
+
 // The first key after all those that begin with a prefix.
 fn end(prefix: &[u8]) -> Option<Vec<u8>> {
     let last = prefix.iter().rposition(|byte| *byte < 255)?;
@@ -198,6 +237,8 @@ fn time_copies(times: bool, map: &Map, prefix: &[u8]) {
     let mut copy = map.clone();
     report(times, "clone", start, map.len(), copy.len() as u64);
     let start = Instant::now();
+    report(times, "equals", start, map.len(), u64::from(*map == copy));
+    let start = Instant::now();
     let part = split_by_prefix(&mut copy, prefix);
     report(times, "split_by_prefix", start, part.len(), part.len() as u64);
     println!("share {}", part.len() * 1000 / map.len().max(1));
@@ -208,6 +249,9 @@ fn time_copies(times: bool, map: &Map, prefix: &[u8]) {
     let start = Instant::now();
     copy.retain(|_, value| *value & 1 == 0);
     report(times, "retain", start, map.len(), copy.len() as u64);
+    let start = Instant::now();
+    let count = popped(&mut copy);
+    report(times, "pops", start, count as usize, count);
 }
 
 // Takes half of the keys out and puts them in again, and then the other half.
@@ -242,13 +286,21 @@ fn load(times: bool, keys: &[&[u8]]) {
     report(times, "sorted_load", start, keys.len(), map.len() as u64);
 }
 
-// Makes the union of two sets.
+// Makes the union of two sets, and the other sets of it and the second one.
 fn unite(times: bool, first: &[&[u8]], second: &[&[u8]]) {
     let first: BTreeSet<Vec<u8>> = first.iter().map(|key| key.to_vec()).collect();
     let second: BTreeSet<Vec<u8>> = second.iter().map(|key| key.to_vec()).collect();
     let start = Instant::now();
     let union: BTreeSet<Vec<u8>> = first.union(&second).cloned().collect();
     report(times, "union", start, union.len(), union.len() as u64);
+    let start = Instant::now();
+    let both: BTreeSet<Vec<u8>> = union.intersection(&second).cloned().collect();
+    report(times, "intersection", start, second.len(), both.len() as u64);
+    let start = Instant::now();
+    let rest: BTreeSet<Vec<u8>> = union.difference(&second).cloned().collect();
+    report(times, "difference", start, union.len(), rest.len() as u64);
+    let start = Instant::now();
+    report(times, "is_subset", start, second.len(), u64::from(second.is_subset(&union)));
 }
 
 fn measure(times: bool, present: &mut [&[u8]], absent: &[&[u8]], prefix: &[u8]) {
@@ -278,6 +330,13 @@ fn measure(times: bool, present: &mut [&[u8]], absent: &[&[u8]], prefix: &[u8]) 
     report(times, "under", start, some.len(), under(&map, some));
     let start = Instant::now();
     report(times, "longest", start, some.len(), longest(&map, some));
+    let start = Instant::now();
+    report(times, "first_after", start, some.len(), entries_after(&map, some));
+    let start = Instant::now();
+    report(times, "last_before", start, some.len(), entries_before(&map, some));
+    let start = Instant::now();
+    let counted = count(&map, prefix);
+    report(times, "count", start, counted as usize, counted);
     time_tree(times, &map);
     let (count, start) = (map.len(), Instant::now());
     report(times, "values_mut", start, count, raised(&mut map));

@@ -12,6 +12,8 @@ pub(super) enum Each {
     From,
     Under,
     Longest,
+    After,
+    Before,
     Take,
 }
 
@@ -77,6 +79,24 @@ fn longest<Q: BorrowedBytes>(map: &GenericPatriciaMap<Q::Owned, u64>, key: Q) ->
     }
 }
 
+// Whether there is an entry after a key, as a number.
+fn after<Q: BorrowedBytes>(
+    map: &GenericPatriciaMap<Q::Owned, u64>,
+    key: Q,
+) -> Result<u64, AllocError> {
+    let entry = map.first_after(key)?;
+    Ok(u64::from(entry.is_some()))
+}
+
+// Whether there is an entry before a key, as a number.
+fn before<Q: BorrowedBytes>(
+    map: &GenericPatriciaMap<Q::Owned, u64>,
+    key: Q,
+) -> Result<u64, AllocError> {
+    let entry = map.last_before(key)?;
+    Ok(u64::from(entry.is_some()))
+}
+
 // Whether a key that is removed was there, as a number.
 fn taken<Q: BorrowedBytes>(
     map: &mut GenericPatriciaMap<Q::Owned, u64>,
@@ -99,6 +119,8 @@ fn call_one<Q: BorrowedBytes>(
         Each::From => from_ten(map, key),
         Each::Under => under(map, key),
         Each::Longest => Ok(longest(map, key)),
+        Each::After => after(map, key),
+        Each::Before => before(map, key),
         Each::Take => taken(map, key),
     }
 }
@@ -122,13 +144,16 @@ pub(super) enum Whole {
     Walk,
     Lend,
     Values,
+    Count,
     Raise,
     Write,
     Read,
     Copy,
+    Equals,
     Split,
     Merge,
     Retain,
+    Pop,
 }
 
 /// A map, and what calls make of it.
@@ -250,6 +275,14 @@ fn copied<K: Bytes>(
     Ok(copy.len() as u64)
 }
 
+// Whether a map and its copy are equal, as a number.
+fn equal<K: Bytes>(
+    map: &GenericPatriciaMap<K, u64>,
+    copy: &GenericPatriciaMap<K, u64>,
+) -> Result<u64, AllocError> {
+    Ok(u64::from(map.equals(copy)?))
+}
+
 // Takes the entries out that begin with a prefix, and counts them.
 fn parted<Q: BorrowedBytes>(
     map: &mut GenericPatriciaMap<Q::Owned, u64>,
@@ -275,8 +308,22 @@ fn retained<K: Bytes>(map: &mut GenericPatriciaMap<K, u64>) -> Result<u64, Alloc
     Ok(map.len() as u64)
 }
 
-/// What the call answers on the map, on its copy for `Split`, `Merge` and `Retain`. What it makes
-/// is kept.
+// Removes the first entry and the last one by turns, and counts them.
+fn popped<K: Bytes>(map: &mut GenericPatriciaMap<K, u64>) -> Result<u64, AllocError> {
+    let mut count: u64 = 0;
+    for i in 0..map.len() {
+        let entry = if i % 2 == 0 {
+            map.pop_first()?
+        } else {
+            map.pop_last()?
+        };
+        count = count.wrapping_add(u64::from(entry.is_some()));
+    }
+    Ok(count)
+}
+
+/// What the call answers on the map, on its copy for `Split`, `Merge`, `Retain` and `Pop`. What it
+/// makes is kept.
 pub(super) fn call_whole<Q: BorrowedBytes>(
     maps: &mut Maps<Q::Owned>,
     call: Whole,
@@ -286,6 +333,7 @@ pub(super) fn call_whole<Q: BorrowedBytes>(
         Whole::Walk => walked(&maps.map),
         Whole::Lend => lent(&maps.map),
         Whole::Values => summed(&maps.map),
+        Whole::Count => Ok(maps.map.count_prefix(prefix)? as u64),
         Whole::Raise => raised(&mut maps.map),
         Whole::Write => written(&maps.map, &mut maps.tree),
         Whole::Read => {
@@ -293,12 +341,14 @@ pub(super) fn call_whole<Q: BorrowedBytes>(
             read(maps.alloc, &maps.tree, values, &mut maps.copy)
         }
         Whole::Copy => copied(&maps.map, &mut maps.copy),
+        Whole::Equals => equal(&maps.map, &maps.copy),
         Whole::Split => parted(&mut maps.copy, prefix, &mut maps.part),
         Whole::Merge => {
             let part = mem::replace(&mut maps.part, GenericPatriciaMap::new(maps.alloc));
             merged(&mut maps.copy, part)
         }
         Whole::Retain => retained(&mut maps.copy),
+        Whole::Pop => popped(&mut maps.copy),
     }
 }
 

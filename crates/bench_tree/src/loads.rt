@@ -1,6 +1,6 @@
-//! Keys that are loaded in their order, and sets that are united.
+//! Keys that are loaded in their order, and sets that are made of two.
 use crate::lines::{Sheet, report};
-use patricia_tree::{BorrowedBytes, GenericPatriciaMap, GenericPatriciaSet};
+use patricia_tree::{BorrowedBytes, Bytes, GenericPatriciaMap, GenericPatriciaSet};
 use std::alloc::{AllocError, Global};
 use std::io;
 use std::rt::Clock;
@@ -25,7 +25,24 @@ pub(super) fn time_load<R: AllocGlobal + Clock + Print, Q: BorrowedBytes>(
     report(sheet, "sorted_load", start, keys.len(), answer)
 }
 
-/// Makes the union of two sets.
+// Compares two sets of which the first has all elements of the second, and makes sets of them.
+fn time_parts<R: Clock + Print, T: Bytes>(
+    sheet: &Sheet<'_, R>,
+    all: &GenericPatriciaSet<T>,
+    part: &GenericPatriciaSet<T>,
+) -> io::Result<()> {
+    let start = Instant::now(sheet.rt)?;
+    let both = all.intersection(part)?;
+    report(sheet, "intersection", start, part.len(), both.len() as u64)?;
+    let start = Instant::now(sheet.rt)?;
+    let rest = all.difference(part)?;
+    report(sheet, "difference", start, all.len(), rest.len() as u64)?;
+    let start = Instant::now(sheet.rt)?;
+    let is_part = part.is_subset(all)?;
+    report(sheet, "is_subset", start, part.len(), u64::from(is_part))
+}
+
+/// Makes the union of two sets, and the other sets of it and the second one.
 pub(super) fn time_union<R: AllocGlobal + Clock + Print, Q: BorrowedBytes>(
     sheet: &Sheet<'_, R>,
     first: &[Q],
@@ -35,5 +52,6 @@ pub(super) fn time_union<R: AllocGlobal + Clock + Print, Q: BorrowedBytes>(
     let second = set_of(sheet.rt.alloc(), second)?;
     let start = Instant::now(sheet.rt)?;
     let union = first.union(&second)?;
-    report(sheet, "union", start, union.len(), union.len() as u64)
+    report(sheet, "union", start, union.len(), union.len() as u64)?;
+    time_parts(sheet, &union, &second)
 }

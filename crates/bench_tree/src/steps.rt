@@ -38,7 +38,7 @@ enum Step {
     Between(Between),
 }
 
-const STEPS: [(&str, Step); 30] = [
+const STEPS: [(&str, Step); 35] = [
     ("get", Step::Each(Each::Get, Part::Present)),
     ("get_absent", Step::Each(Each::Get, Part::Absent)),
     ("walk", Step::Whole(Whole::Walk)),
@@ -47,6 +47,9 @@ const STEPS: [(&str, Step); 30] = [
     ("range", Step::Each(Each::From, Part::Few)),
     ("under", Step::Each(Each::Under, Part::Halves)),
     ("longest", Step::Each(Each::Longest, Part::Few)),
+    ("first_after", Step::Each(Each::After, Part::Few)),
+    ("last_before", Step::Each(Each::Before, Part::Few)),
+    ("count", Step::Whole(Whole::Count)),
     ("tree_bytes", Step::Whole(Whole::Write)),
     ("tree_size", Step::Between(Between::Size)),
     ("", Step::Between(Between::Collect)),
@@ -54,10 +57,12 @@ const STEPS: [(&str, Step); 30] = [
     ("", Step::Between(Between::Forget)),
     ("values_mut", Step::Whole(Whole::Raise)),
     ("clone", Step::Whole(Whole::Copy)),
+    ("equals", Step::Whole(Whole::Equals)),
     ("split_by_prefix", Step::Whole(Whole::Split)),
     ("share", Step::Between(Between::Share)),
     ("merge", Step::Whole(Whole::Merge)),
     ("retain", Step::Whole(Whole::Retain)),
+    ("pops", Step::Whole(Whole::Pop)),
     ("", Step::Between(Between::Forget)),
     ("remove", Step::Each(Each::Take, Part::Present)),
     ("", Step::Between(Between::Refill)),
@@ -97,9 +102,9 @@ pub(super) fn time_each<R: Clock + Print, Q: BorrowedBytes>(
 }
 
 // Over how many entries a call goes that answers a number.
-fn entries_of<K: Bytes>(maps: &Maps<K>, call: Whole) -> usize {
+fn entries_of<K: Bytes>(maps: &Maps<K>, call: Whole, answer: u64) -> usize {
     match call {
-        Whole::Split => maps.part.len(),
+        Whole::Count | Whole::Split | Whole::Pop => answer as usize,
         _ => maps.map.len(),
     }
 }
@@ -114,7 +119,7 @@ fn time_whole<R: Clock + Print, Q: BorrowedBytes>(
 ) -> io::Result<()> {
     let start = Instant::now(sheet.rt)?;
     let answer = call_whole(maps, call, prefix)?;
-    report(sheet, name, start, entries_of(maps, call), answer)
+    report(sheet, name, start, entries_of(maps, call, answer), answer)
 }
 
 // A line on what a split removed.
