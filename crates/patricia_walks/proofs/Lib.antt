@@ -1,5 +1,6 @@
 pub mod AfterLemmas
 pub mod AlongLemmas
+pub mod DepthLemmas
 pub mod HeldTreeLemmas
 pub mod HolderLemmas
 pub mod HolderWriteLemmas

@@ -1,5 +1,5 @@
 -- The node under which the rows of a prefix stand.
-use Rattle.std.proofs.Common.{◌≡◌, ◌≢◌, ℕ, ◌+◌, ◌-◌, Bool, true, false, List, [], ◌++◌, length}
+use Rattle.std.proofs.Common.{◌≡◌, ◌≢◌, ℕ, ◌+◌, ◌-◌, ◌≤◌, Bool, true, false, List, [], ◌++◌, length}
 use Rattle.std.proofs.Common.{take, Option, Some, None, refl, sym, ap, subst, ◌∙◌, arith}
 use Rattle.std.specs.Prelude.{nat_eq, IfSome, IfNone}
 use Rattle.std.proofs.lemmas.Bool.{eq-eqb, eqb-true}
@@ -22,6 +22,7 @@ use Rattle.patricia_nodes.specs.Internal.Places.{Matches, Placed, fill, node_und
 use Rattle.patricia_nodes.proofs.PlanLemmas.{plan_is, below_le}
 use Rattle.patricia_nodes.proofs.FillLemmas.{plan_within, row-within, count-fill}
 use Rattle.patricia_nodes.proofs.SeekLemmas.{whole_plan}
+use Rattle.patricia_walks.specs.Internal.Depths.{first_label}
 use Rattle.patricia_walks.specs.Internal.Positions.{IsTop, row_at, rows_below}
 use Rattle.patricia_walks.specs.declared.under.UnderStart.{UnderStart}
 use Rattle.patricia_walks.specs.Internal.Starts.{IsStartUnder, IsUnderWalk, rows_from, rows_left}
@@ -75,6 +76,18 @@ module _ (item : List ℕ → Type 0) (kind : IsKeyKind item) {V : Type 0} where
       (λ b. let long = h.1.common.greatest (length rest) (omega arith) (rw all valid) (rw all b) in other (omega arith))
       (λ b. let long = common_whole item rest l n ok.valid h.1.common b in absurd (omega arith))
   stop_none (Cell i l v c d) ok rest valid (Exact k) h e = absurd (cc)
+
+-- the key ends within the label of the topmost node
+stop_label : (item : List ℕ → Type 0) {V : Type 0} (focus : Plan V) (rest : List ℕ) (matched : Match)
+    → Matches item focus rest matched → (id : ℕ) → node_under rest matched ≡ Some id
+    → length rest ≤ length (first_label (row focus))
+stop_label item Nil rest matched h id e = absurd (let f = rw h at e in cc)
+stop_label item (Cell i l v c d) rest Absent h id e = absurd (cc)
+stop_label item (Cell i l v c d) rest (InsideLabel k n) h id e =
+    let same = within_node k id n rest e in
+    omega (arith, same.1, h.1.short)
+stop_label item (Cell i l v c d) rest (Exact k) h id e =
+    omega (arith, ap length h.1.splits, length-append l [])
 
 module _ (item : List ℕ → Type 0) (kind : IsKeyKind item) {V : Type 0} (s : NodeArena V)
     (whole : IsWellFormed s) (ok : IsCanonical item (siblings_of s)) (key : List ℕ)
@@ -137,6 +150,17 @@ module _ (item : List ℕ → Type 0) (kind : IsKeyKind item) {V : Type 0} (s : 
             ));
         canonical = rw focus_is focus_row;
       }
+
+      -- the key ends within its label
+      pub place_label :
+          length key ≤ front + length (first_label (row_at s.nodes.items (Some id)))
+      place_label = rw focus_is
+          (omega (
+            arith,
+            front_is,
+            long,
+            stop_label item p.focus rest matched p.is_match id e,
+          ))
 
       -- and its rows are those under the key
       pub place_rows :

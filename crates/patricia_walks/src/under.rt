@@ -1,15 +1,20 @@
 //! The rows under a prefix.
-ghost use Rattle.std.specs.Prelude.{◌≡◌, ◌≢◌, ◌++◌, [], Some, IfOk, IfSome, IfNone, take};
+ghost use Rattle.std.specs.Prelude.{◌≡◌, ◌≢◌, ◌++◌, ◌+◌, ◌≤◌, [], Some, IfOk, IfSome, IfNone};
+ghost use Rattle.std.specs.Prelude.{length, take};
 ghost use Rattle.std.specs.Option.{option_copied};
 ghost use Rattle.patricia_model.specs.Prefixes.{under};
 ghost use Rattle.patricia_model.specs.Siblings.{own, entries, IsCanonical};
 ghost use Rattle.patricia_model.specs.Walks.{YieldsOrErr};
 ghost use Rattle.patricia_nodes.specs.Internal.Plans.{IsWellFormed, siblings_of, entries_of};
+ghost use Rattle.patricia_walks.specs.Internal.Depths.{first_label};
+ghost use Rattle.patricia_walks.specs.Internal.Positions.{row_at};
 ghost use Rattle.patricia_walks.specs.Internal.Starts.{IsStartUnder, rows_from};
 
+mod counting;
 mod reading;
 
 use crate::walk::Walk;
+pub use counting::count_under;
 use patricia_keys::{BorrowedBytes, Bytes};
 use patricia_nodes::arena::NodeArena;
 use patricia_nodes::link::NodeId;
@@ -36,6 +41,8 @@ fn find_start<'a, Q: BorrowedBytes, V>(
     requires nonempty { Q.key prefix ≢ [] }
     ensures some { IfSome result (λ s. IsStartUnder Q.Owned.item Q.key s
         × (rows_from Q.key s ≡ under (Q.key prefix) (entries_of arena.now))) }
+    ensures label { IfSome result (λ s. length (Q.key prefix)
+        ≤ s.front + length (first_label (row_at s.arena.now.nodes.items (Some s.top)))) }
     ensures none { IfNone result (under (Q.key prefix) (entries_of arena.now) ≡ []) }
 {
     let place = arena.seek(prefix);

@@ -1,6 +1,6 @@
 use Rattle.std.proofs.Common.{sym, ap, arith, length, ◌∙◌, ◌-◌}
 use Rattle.patricia_walks.proofs.PlaceLemmas.{rest_within}
-use Rattle.patricia_walks.proofs.UnderLemmas.{place_top, place_rows, place_nothing, if_none}
+use Rattle.patricia_walks.proofs.UnderLemmas.{place_top, place_label, place_rows, place_nothing, if_none}
 use Rattle.patricia_walks.proofs.under.find_start.Goals as goal
 
 pub overflow_sub-front : goal.overflow_sub-front
@@ -26,3 +26,11 @@ returns-clause-some g c =
       },
       place_rows _ g.met.Q.Owned.Bytes.lawful _ c.requires.whole c.requires.row _ _ _ _ _ c.seek-place.ensures _ front _ at,
     )
+
+pub returns-clause-label : goal.returns-clause-label
+returns-clause-label g c =
+    let front = ap (λ n. n - length c.as_bytes-2.result.now) (ap length c.as_bytes.ensures.value) ∙
+    ap (λ n. length (g.Q.BorrowedBytes.key c.args.prefix) - n)
+    (ap length c.as_bytes-2.ensures.value) in
+    let at = sym c.under.ensures ∙ c.in_ok-top.was in
+    place_label _ g.met.Q.Owned.Bytes.lawful _ c.requires.whole c.requires.row _ _ _ _ _ c.seek-place.ensures _ front _ at
