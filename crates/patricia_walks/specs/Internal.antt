@@ -8,6 +8,7 @@ pub mod Lends
 pub mod Lowers
 pub mod Positions
 pub mod SearchCodes
+pub mod SearchGauges
 pub mod Skips
 pub mod Starts
 pub mod Trails
