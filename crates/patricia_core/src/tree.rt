@@ -1,6 +1,6 @@
 //! A tree of keys, seen as a finite map.
 ghost use Rattle.std.specs.Prelude.{◌≡◌, ◌≢◌, ◌↔◌, ◌+◌, ◌*◌, ◌<◌, ◌≤◌, ℕ, List, [], length, None};
-ghost use Rattle.std.specs.Prelude.{IsTrue, IfSome, IfOk, OnOk, IfErr, OnErr};
+ghost use Rattle.std.specs.Prelude.{Any, IsTrue, IfSome, IfNone, IfOk, OnOk, IfErr, OnErr};
 ghost use Rattle.std.specs.Borrow.{sem};
 ghost use Rattle.std.specs.Option.{option_copied, option_copied_mut, option_map};
 ghost use Rattle.std.specs.FinMap as map;
@@ -32,7 +32,7 @@ pub use patricia_nodes::arena::Refused;
 use patricia_walks::along::{Along, AlongOwned};
 use patricia_walks::into_walk::IntoWalk;
 use patricia_walks::reach::reach;
-use patricia_walks::under::{PrefixReadCursor, Under};
+use patricia_walks::under::{PrefixReadCursor, Under, count_under};
 use patricia_walks::value_walk::ValueWalk;
 use patricia_walks::walk::{ReadCursor, Walk};
 use std::alloc::{AllocError, Global};
@@ -333,6 +333,20 @@ impl<K: Bytes, V: Drop> Tree<K, V> {
         ensures { IsReach K.item (map.keys self.now) (Q.key key) result }
     {
         reach(&self.arena, key)
+    }
+
+    /// How many keys begin with a prefix. `None` only where one of them has more than 64 bytes
+    /// behind it. Does not allocate.
+    pub fn count_under<Q: BorrowedBytes<Owned = K>>(&self, prefix: Q) -> Option<usize>
+        ensures some { IfSome result (λ n.
+            n ≡ length (under (Q.key prefix) (map.entries self.now))) }
+        ensures none { IfNone result (Any (λ e. length (Q.key prefix) + 64 < length e.0)
+            (under (Q.key prefix) (map.entries self.now))) }
+    {
+        if prefix.is_empty() {
+            return Some(self.len());
+        }
+        count_under(&self.arena, prefix)
     }
 
     /// A walk over the entries whose key begins with a prefix. Making it does not allocate.
