@@ -104,8 +104,10 @@ impl<Q: BorrowedBytes> SeekResult<Q> {
 }
 
 impl<V> NodeArena<V> {
-    // How a key meets the label of a node. Where their first bytes differ, the node is not read.
-    fn compare<Q: BorrowedBytes>(&self, id: NodeId, key: Q) -> LabelCmp<Q>
+    // How a key meets the label of a node that stands there. The first node of a row below another
+    // is read at once, and those beside it only where their first byte is that of the key: so a
+    // look-up waits for the first node of a row and for the heads of the row at once.
+    fn compare<Q: BorrowedBytes>(&self, link_ref: LinkRef, id: NodeId, key: Q) -> LabelCmp<Q>
         requires within { id < vec_len self.now.nodes }
         requires valid { ReadsNode self.now.nodes id (λ n. IsValid Q.Owned.item n.label) }
         requires nonempty { ReadsNode self.now.nodes id (λ n. n.label ≢ []) }
@@ -113,6 +115,9 @@ impl<V> NodeArena<V> {
         ensures { ReadsNode self.now.nodes id
             (λ n. ComparesLabel Q.Owned.item Q.key (Q.key key) n.label result) }
     {
+        if let LinkRef::Child(_) = link_ref {
+            return compare_label(key, self.nodes[id.index()].label.as_slice());
+        }
         let first = key.as_bytes()[0];
         let other = self.nodes.first_byte(id);
         if first < other {
@@ -145,7 +150,7 @@ impl<V> NodeArena<V> {
                 break Match::Absent;
             };
             steps.tick();
-            match self.compare(id, rest) {
+            match self.compare(link_ref, id, rest) {
                 LabelCmp::Before => break Match::Absent,
                 LabelCmp::After => {
                     link_ref = LinkRef::Sibling(id, link_ref.above());
