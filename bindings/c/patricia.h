@@ -149,7 +149,8 @@ bool patricia_split_by_prefix(patricia_map *map, const uint8_t *prefix, size_t p
 
 /* Writes the number of entries whose key begins with the prefix to *count, and returns true, in
  * time in proportion to them and to the length of the prefix. Returns false where memory runs out,
- * which is never so where there is no such entry. *count is written with true alone. */
+ * which is only so where the key of some such entry has more than 64 bytes behind the prefix: else
+ * no memory is asked for. *count is written with true alone. */
 bool patricia_count_prefix(patricia_map *map, const uint8_t *prefix, size_t prefix_len,
                            size_t *count);
 

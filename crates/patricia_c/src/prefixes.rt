@@ -1,5 +1,5 @@
 //! The calls that ask which keys and a key begin alike.
-ghost use Rattle.std.specs.Prelude.{◌≡◌, ◌≢◌, [], length, None, true, false};
+ghost use Rattle.std.specs.Prelude.{◌≡◌, ◌≢◌, ◌+◌, ◌<◌, [], length, Any, None, true, false};
 ghost use Rattle.std.specs.FinMap as map;
 ghost use Rattle.patricia_tree.specs.ByteKind.{IsByteItem};
 ghost use Rattle.patricia_tree.specs.Prefixes.{IsReach, longest, under, outside};
@@ -105,6 +105,8 @@ pub extern "C" fn patricia_count_prefix(at: &mut MapPlace, prefix: &[u8], count:
         ≡ length (under prefix.now (map.entries (map_of at.old.pointer.stored))) }
     ensures refused { result ≡ false →
         under prefix.now (map.entries (map_of at.old.pointer.stored)) ≢ [] }
+    ensures refused_only_long { result ≡ false → Any (λ e. length prefix.now + 64 < length e.0)
+        (under prefix.now (map.entries (map_of at.old.pointer.stored))) }
     ensures unwritten { result ≡ false → count.new ≡ count.old }
 {
     let Some(stored) = at.take() else {

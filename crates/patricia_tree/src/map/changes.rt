@@ -1,6 +1,6 @@
 //! Values changed in place, and entries counted and removed by their prefix.
 ghost use Rattle.std.specs.Prelude.{◌≡◌, ◌≢◌, [], None, true, false, not, MatchOption};
-ghost use Rattle.std.specs.Prelude.{length, IfOk, OnOk, OnErr};
+ghost use Rattle.std.specs.Prelude.{◌+◌, ◌<◌, length, Any, IfOk, OnOk, OnErr};
 ghost use Rattle.std.specs.FinMap as map;
 ghost use Rattle.patricia_core.specs.Prefixes.{outside, under};
 
@@ -12,11 +12,12 @@ impl<K: Bytes, V: Drop> GenericPatriciaMap<K, V> {
     ghost use Rattle.patricia_tree.specs.Changes.{TakesValueAt, RunsAt, PutsMade};
 
     /// Returns the number of entries whose key begins with the prefix, in time in proportion to
-    /// them and to a look-up.
+    /// them and to a look-up, and for the empty prefix at once.
     ///
     /// # Errors
     ///
-    /// Out of memory for the path of the walk, never where there is no such entry.
+    /// Out of memory for the path of the walk, only where some such key has more than 64 bytes
+    /// behind the prefix. Where none has, nothing is allocated.
     ///
     /// # Examples
     ///
@@ -29,7 +30,12 @@ impl<K: Bytes, V: Drop> GenericPatriciaMap<K, V> {
             n ≡ length (under (Q.key prefix) (map.entries self.now))) }
         ensures err_only_if_matched { OnErr result
             (under (Q.key prefix) (map.entries self.now) ≢ []) }
+        ensures err_only_long { OnErr result (Any (λ e. length (Q.key prefix) + 64 < length e.0)
+            (under (Q.key prefix) (map.entries self.now))) }
     {
+        if let Some(counted) = self.tree.count_under(prefix) {
+            return Ok(counted);
+        }
         let mut cursor = self.cursor_under(prefix);
         let mut count = 0;
         for _ in 0..self.len() {

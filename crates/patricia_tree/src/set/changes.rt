@@ -1,5 +1,5 @@
 //! Elements counted and removed by their prefix.
-ghost use Rattle.std.specs.Prelude.{◌≡◌, ◌≢◌, [], length, IfOk, OnOk, OnErr};
+ghost use Rattle.std.specs.Prelude.{◌≡◌, ◌≢◌, ◌+◌, ◌<◌, [], length, Any, IfOk, OnOk, OnErr};
 ghost use Rattle.std.specs.FinMap as map;
 ghost use Rattle.patricia_tree.specs.Prefixes.{outside, under};
 
@@ -9,11 +9,12 @@ use std::alloc::AllocError;
 
 impl<T: Bytes> GenericPatriciaSet<T> {
     /// Returns the number of elements that begin with the prefix, in time in proportion to them and
-    /// to a look-up.
+    /// to a look-up, and for the empty prefix at once.
     ///
     /// # Errors
     ///
-    /// Out of memory for the path of the walk, never where there is no such element.
+    /// Out of memory for the path of the walk, only where some such element has more than 64 bytes
+    /// behind the prefix. Where none has, nothing is allocated.
     ///
     /// # Examples
     ///
@@ -26,6 +27,8 @@ impl<T: Bytes> GenericPatriciaSet<T> {
             n ≡ length (under (Q.key prefix) (map.entries self.now))) }
         ensures err_only_if_matched { OnErr result
             (under (Q.key prefix) (map.entries self.now) ≢ []) }
+        ensures err_only_long { OnErr result (Any (λ e. length (Q.key prefix) + 64 < length e.0)
+            (under (Q.key prefix) (map.entries self.now))) }
     {
         self.map.count_prefix(prefix)
     }

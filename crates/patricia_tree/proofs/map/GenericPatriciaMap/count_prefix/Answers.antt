@@ -1,4 +1,8 @@
-use Rattle.std.proofs.Common.{arith}
+use Rattle.std.proofs.Common.{◌+◌, ◌<◌, arith, length, subst}
+use Rattle.std.specs.Prelude.{Any}
+use Rattle.std.specs.FinMap as map
+use Rattle.patricia_core.specs.Prefixes.{under}
+use Rattle.patricia_model.proofs.WalkLemmas.{on_err}
 use Rattle.patricia_tree.proofs.AfterLemmas.{under_len, nothing_left}
 use Rattle.patricia_tree.proofs.map.GenericPatriciaMap.count_prefix.Goals as goal
 use Rattle.patricia_tree.proofs.map.GenericPatriciaMap.count_prefix.Goals.{else-loop-test, then-loop-test+in_ok-advance+then-not-branch}
@@ -12,3 +16,10 @@ returns-clause-count g c = elim c.loop-test.branch [
       let none = nothing_left c.loop.cursor.left w.in_ok-advance.field-0 w.if-not-branch.true w.in_ok-advance.ensures.found in
       omega (arith, none, c.loop.invariant.left)
 ]
+
+pub returns-in_err-advance-clause-err_only_long : goal.returns-in_err-advance-clause-err_only_long
+returns-in_err-advance-clause-err_only_long g c =
+    let key = g.Q.BorrowedBytes.key c.args.prefix in
+    on_err _
+    (subst (λ m. Any (λ e. length key + 64 < length e.0) (under key (map.entries m))) c.self.view_is
+    c.in_default.ensures.none)
