@@ -104,10 +104,10 @@ impl<Q: BorrowedBytes> SeekResult<Q> {
 }
 
 impl<V> NodeArena<V> {
-    // How a key meets the label of a node that stands there. The first node of a row below another
-    // is read at once, and those beside it only where their first byte is that of the key: so a
-    // look-up waits for the first node of a row and for the heads of the row at once.
-    fn compare<Q: BorrowedBytes>(&self, link_ref: LinkRef, id: NodeId, key: Q) -> LabelCmp<Q>
+    // How a key meets the label of a node. The first node of a row below another is read at once, and
+    // those beside it only where their first byte is that of the key: so a look-up waits for the
+    // first node of a row and for the heads of the row at the same time.
+    fn compare<Q: BorrowedBytes>(&self, is_first: bool, id: NodeId, key: Q) -> LabelCmp<Q>
         requires within { id < vec_len self.now.nodes }
         requires valid { ReadsNode self.now.nodes id (λ n. IsValid Q.Owned.item n.label) }
         requires nonempty { ReadsNode self.now.nodes id (λ n. n.label ≢ []) }
@@ -115,7 +115,7 @@ impl<V> NodeArena<V> {
         ensures { ReadsNode self.now.nodes id
             (λ n. ComparesLabel Q.Owned.item Q.key (Q.key key) n.label result) }
     {
-        if let LinkRef::Child(_) = link_ref {
+        if is_first {
             return compare_label(key, self.nodes[id.index()].label.as_slice());
         }
         let first = key.as_bytes()[0];
@@ -145,16 +145,18 @@ impl<V> NodeArena<V> {
         let mut link_ref = LinkRef::Root;
         let mut at = self.root;
         let mut rest = key;
+        let mut is_first = false;
         let matched = loop {
             let Some(id) = at.get() else {
                 break Match::Absent;
             };
             steps.tick();
-            match self.compare(link_ref, id, rest) {
+            match self.compare(is_first, id, rest) {
                 LabelCmp::Before => break Match::Absent,
                 LabelCmp::After => {
                     link_ref = LinkRef::Sibling(id, link_ref.above());
                     at = self.nodes.sibling(id);
+                    is_first = false;
                 }
                 LabelCmp::Partial(n) => break Match::InsideLabel(id, n),
                 LabelCmp::Full(left) => {
@@ -164,6 +166,7 @@ impl<V> NodeArena<V> {
                     link_ref = LinkRef::Child(id);
                     at = self.nodes[id.index()].child;
                     rest = left;
+                    is_first = true;
                 }
             }
         };

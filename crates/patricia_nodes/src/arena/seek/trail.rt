@@ -85,15 +85,17 @@ impl<V> NodeArena<V> {
     {
         self.cut_trail(trail, last, key);
         let (mut link_ref, mut at, mut rest) = self.resume(trail, key);
+        let mut is_first = false;
         let matched = loop {
             let Some(id) = at.get() else {
                 break Match::Absent;
             };
-            match self.compare(link_ref, id, rest) {
+            match self.compare(is_first, id, rest) {
                 LabelCmp::Before => break Match::Absent,
                 LabelCmp::After => {
                     link_ref = LinkRef::Sibling(id, link_ref.above());
                     at = self.nodes.sibling(id);
+                    is_first = false;
                 }
                 LabelCmp::Partial(n) => break Match::InsideLabel(id, n),
                 LabelCmp::Full(left) => {
@@ -104,6 +106,7 @@ impl<V> NodeArena<V> {
                     link_ref = LinkRef::Child(id);
                     at = self.nodes[id.index()].child;
                     rest = left;
+                    is_first = true;
                 }
             }
         };
