@@ -142,10 +142,8 @@ impl<V> NodeArena<V> {
         ensures counted { IsCounted Q.Owned.item
             (siblings_of self.now) (Q.key key) steps.old steps.new }
     {
-        let mut link_ref = LinkRef::Root;
-        let mut at = self.root;
-        let mut rest = key;
-        let mut is_first = false;
+        let (mut link_ref, mut at) = (LinkRef::Root, self.root);
+        let (mut rest, mut is_first) = (key, false);
         let matched = loop {
             let Some(id) = at.get() else {
                 break Match::Absent;

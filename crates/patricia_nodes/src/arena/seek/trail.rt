@@ -85,17 +85,15 @@ impl<V> NodeArena<V> {
     {
         self.cut_trail(trail, last, key);
         let (mut link_ref, mut at, mut rest) = self.resume(trail, key);
-        let mut is_first = false;
         let matched = loop {
             let Some(id) = at.get() else {
                 break Match::Absent;
             };
-            match self.compare(is_first, id, rest) {
+            match self.compare(false, id, rest) {
                 LabelCmp::Before => break Match::Absent,
                 LabelCmp::After => {
                     link_ref = LinkRef::Sibling(id, link_ref.above());
                     at = self.nodes.sibling(id);
-                    is_first = false;
                 }
                 LabelCmp::Partial(n) => break Match::InsideLabel(id, n),
                 LabelCmp::Full(left) => {
@@ -106,7 +104,6 @@ impl<V> NodeArena<V> {
                     link_ref = LinkRef::Child(id);
                     at = self.nodes[id.index()].child;
                     rest = left;
-                    is_first = true;
                 }
             }
         };
