@@ -25,6 +25,11 @@ fn walked(map: &Map) -> u64 {
     map.iter().map(|(key, _)| key.len() as u64).sum()
 }
 
+// Adds the last byte of each key.
+fn scanned(map: &Map) -> u64 {
+    map.iter().filter_map(|(key, _)| key.last()).map(|last| u64::from(*last)).sum()
+}
+
 fn summed(map: &Map) -> u64 {
     map.values().sum()
 }
@@ -321,6 +326,8 @@ fn measure(times: bool, present: &mut [&[u8]], absent: &[&[u8]], prefix: &[u8]) 
     report(times, "walk", start, map.len(), walked(&map));
     let start = Instant::now();
     report(times, "lend", start, map.len(), walked(&map));
+    let start = Instant::now();
+    report(times, "scan", start, map.len(), scanned(&map));
     let start = Instant::now();
     report(times, "values", start, map.len(), summed(&map));
     let some = &absent[..absent.len().min(100_000)];

@@ -143,6 +143,7 @@ pub(super) fn call_each<Q: BorrowedBytes>(
 pub(super) enum Whole {
     Walk,
     Lend,
+    Scan,
     Values,
     Count,
     Raise,
@@ -204,6 +205,19 @@ fn lent<K: Bytes>(map: &GenericPatriciaMap<K, u64>) -> Result<u64, AllocError> {
         }
     }
     Ok(bytes)
+}
+
+// Adds the last byte of each key, which a cursor lends.
+fn scanned<K: Bytes>(map: &GenericPatriciaMap<K, u64>) -> Result<u64, AllocError> {
+    let mut sum: u64 = 0;
+    let mut cursor = map.cursor();
+    for _ in 0..map.len() {
+        cursor.advance()?;
+        if let Some(last) = cursor.key().and_then(|key| key.last()) {
+            sum = sum.wrapping_add(u64::from(*last));
+        }
+    }
+    Ok(sum)
 }
 
 // Adds all values.
@@ -332,6 +346,7 @@ pub(super) fn call_whole<Q: BorrowedBytes>(
     match call {
         Whole::Walk => walked(&maps.map),
         Whole::Lend => lent(&maps.map),
+        Whole::Scan => scanned(&maps.map),
         Whole::Values => summed(&maps.map),
         Whole::Count => Ok(maps.map.count_prefix(prefix)? as u64),
         Whole::Raise => raised(&mut maps.map),

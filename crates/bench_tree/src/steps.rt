@@ -38,11 +38,12 @@ enum Step {
     Between(Between),
 }
 
-const STEPS: [(&str, Step); 35] = [
+const STEPS: [(&str, Step); 36] = [
     ("get", Step::Each(Each::Get, Part::Present)),
     ("get_absent", Step::Each(Each::Get, Part::Absent)),
     ("walk", Step::Whole(Whole::Walk)),
     ("lend", Step::Whole(Whole::Lend)),
+    ("scan", Step::Whole(Whole::Scan)),
     ("values", Step::Whole(Whole::Values)),
     ("range", Step::Each(Each::From, Part::Few)),
     ("under", Step::Each(Each::Under, Part::Halves)),
