@@ -1,5 +1,5 @@
 //! Tests whose memory requests `.ci/run` counts: maps, removals and walks, the key traits,
-//! prefixes, loans, and sets.
+//! prefixes, loans, sets, and searches by edits.
 #![tactic(auto)]
 
 #[cfg(test)]

@@ -5,6 +5,7 @@ mod helpers;
 mod keys;
 mod loans;
 mod maps;
+mod near;
 mod prefixes;
 mod refusals;
 mod removals;

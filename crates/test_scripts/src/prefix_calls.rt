@@ -162,7 +162,7 @@ fn add_near<Q: BorrowedBytes>(
     limit: u32,
     out: &mut String,
 ) -> Result<(), AllocError> {
-    let mut cursor = map.within(key, limit)?;
+    let mut cursor = map.within(key, limit);
     for _ in 0..map.len() {
         if !cursor.advance()? {
             break;

@@ -167,7 +167,7 @@ fn pop_last(rt: HostRuntime) -> anyhow::Result<()> {
 fn within(rt: HostRuntime) -> anyhow::Result<()> {
     // example: map within
     let map = StringPatriciaMap::from_iter(rt.alloc(), [("bar", 1), ("baz", 2), ("foo", 3)])?;
-    let mut cursor = map.within("bat", 1)?;
+    let mut cursor = map.within("bat", 1);
     assert!(rt; cursor.advance()?);
     assert_eq!(rt; (cursor.text(), cursor.value()), (Some("bar"), Some(&1)));
     assert!(rt; cursor.advance()?);

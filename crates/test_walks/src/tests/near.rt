@@ -34,9 +34,7 @@ fn found<Q: BorrowedBytes>(
     sought: Q,
     limit: u32,
 ) -> Option<usize> {
-    let Ok(mut cursor) = map.within(sought, limit) else {
-        return None;
-    };
+    let mut cursor = map.within(sought, limit);
     for count in 0..map.len() {
         match cursor.advance() {
             Ok(true) => {}
@@ -53,9 +51,7 @@ fn found_in_set<Q: BorrowedBytes>(
     sought: Q,
     limit: u32,
 ) -> Option<usize> {
-    let Ok(mut cursor) = set.within(sought, limit) else {
-        return None;
-    };
+    let mut cursor = set.within(sought, limit);
     for count in 0..set.len() {
         match cursor.advance() {
             Ok(true) => {}
