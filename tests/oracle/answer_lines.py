@@ -76,6 +76,92 @@ def map_answers(m, call, words):
     return None
 
 
+def one_of(entries, at, shown_entry):
+    """The first entry or the last one, or that there is none."""
+    return shown_entry(entries[at]) if entries else 'none'
+
+
+def folded(is_set, entries):
+    """A number that tells in which order the values are met, or of a set the lengths of its elements."""
+    number = 0
+    for key, value in entries:
+        number = (number * 31 + (len(key) if is_set else value)) % 2 ** 64
+    return number
+
+
+def order_answers(m, call, words, shown_entry=row):
+    """The answers to a question about the order of the keys, or None for another call."""
+    entries = rows(m)
+    if call == 'range':
+        start, ends = words[0], words[1:]
+        return [shown_entry(e) for e in entries if start <= e[0] and all(e[0] < end for end in ends)]
+    if call == 'ends':
+        return [one_of(entries, 0, shown_entry), one_of(entries, -1, shown_entry)]
+    if call == 'count':
+        return [str(sum(e[0].startswith(prefix) for e in entries)) for prefix in words]
+    if call == 'fold':
+        return [str(folded(shown_entry is element, [e for e in entries if e[0].startswith(p)])) for p in words]
+    if call == 'beside':
+        return [answer for key in words
+                for answer in (one_of([e for e in entries if e[0] < key], -1, shown_entry),
+                               one_of([e for e in entries if e[0] > key], 0, shown_entry))]
+    return None
+
+
+def loaded(m, pairs):
+    """The pairs up to the first whose key is not behind each key that is there by then."""
+    last, found = max(m, default=None), []
+    for key, value in pairs:
+        if last is not None and key <= last:
+            break
+        found.append((key, value))
+        last = key
+    return found
+
+
+def taking_answers(m, call, words, shown_entry=row):
+    """The answers to a call that takes entries by their place or their prefix, or None for another call."""
+    if call in ('pop_first', 'pop_last'):
+        at = 0 if call == 'pop_first' else -1
+        taken = rows(m)[at:][:1] if m else []
+    elif call == 'cut':
+        taken = [e for e in rows(m) if e[0].startswith(words[0])]
+    else:
+        return None
+    for key, _ in taken:
+        del m[key]
+    return [str(len(taken))] if call == 'cut' else [one_of(taken, 0, shown_entry)]
+
+
+def made_answers(m, call, words):
+    """The answers to a call that makes values for keys that are new or old alone, or None for another call."""
+    if call not in ('fill', 'update'):
+        return None
+    answers = []
+    for key, value in zip(words[::2], map(int, words[1::2])):
+        answers.append(truth(key not in m) if call == 'fill' else shown(m.get(key)))
+        if (key in m) == (call == 'update'):
+            m[key] = value
+    return answers
+
+
+def merging_answers(m, call, words):
+    """The answers to a call of a map with another one or with pairs in order, or None for another call."""
+    if call == 'retain':
+        kept = [e for e in rows(m) if e[1] >= int(words[0])]
+        m.clear()
+        m.update(kept)
+        return list(map(row, kept))
+    if call not in ('merge', 'load', 'same'):
+        return None
+    pairs = list(zip(words[::2], map(int, words[1::2])))
+    if call == 'same':
+        return [truth(rows(m) == rows(dict(pairs)))]
+    for key, value in loaded(m, pairs) if call == 'load' else dict(pairs).items():
+        m[key] = max(m.get(key, 0), value)
+    return list(map(row, rows(m)))
+
+
 def whole_answers(m, call, words, shown_entry=row):
     """The answers to a call that makes a part or the whole anew, or None for another call."""
     if call not in ('split', 'split_off', 'clone'):
@@ -231,6 +317,29 @@ def changed_set(m, call, words):
     return None
 
 
+def two_sets(m, call, words):
+    """The answers to a call of a set with another one, or None for another call."""
+    other = set(words)
+    made = {'union': other.union(m), 'intersection': other.intersection(m), 'difference': set(m) - other}
+    told = {'subset': set(m) <= other, 'disjoint': not other.intersection(m), 'same': set(m) == other}
+    if call in made:
+        return list(map(written, sorted(made[call])))
+    return [truth(told[call])] if call in told else None
+
+
+def sifted_set(m, call, words):
+    """The answers to a call that keeps some elements or loads some in order, or None for another call."""
+    if call == 'retain':
+        kept = [key for key in m if len(key) >= int(words[0])]
+        m.clear()
+        m.update((key, 0) for key in kept)
+        return listed(m)
+    if call == 'load':
+        m.update(loaded(m, [(word, 0) for word in words]))
+        return listed(m)
+    return None
+
+
 def asked_set(m, kind, call, words):
     """The answers to a question about a set."""
     if call in ('len', 'empty', 'iter'):
@@ -250,8 +359,12 @@ def asked_set(m, kind, call, words):
 def set_answers(m, kind, call, words):
     """The answers to a call on a set, which it changes."""
     found = changed_set(m, call, words)
-    if found is None:
-        found = whole_answers(m, call, words, element)
+    for tried in (sifted_set, two_sets):
+        if found is None:
+            found = tried(m, call, words)
+    for tried in (whole_answers, order_answers, taking_answers):
+        if found is None:
+            found = tried(m, call, words, element)
     if found is None:
         found = tree_answers(m, kind, call, words)
     if found is None:
@@ -264,8 +377,9 @@ def answers(m, kind, call, words):
     if kind.endswith('_set'):
         return set_answers(m, kind, call, words)
     found = map_answers(m, call, words)
-    if found is None:
-        found = whole_answers(m, call, words)
+    for tried in (whole_answers, order_answers, taking_answers, made_answers, merging_answers):
+        if found is None:
+            found = tried(m, call, words)
     if found is None:
         found = tree_answers(m, kind, call, words)
     if found is None:

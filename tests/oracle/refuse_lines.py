@@ -132,6 +132,15 @@ TREE = written(
     + b'\x03\x06\0\x05dddddd\x03\x01\0\x03d\x0f\x03\0\x01\xe3\x81\x82\x03\x03\0\x02\xe3\x81\xae'
 )
 
+# Keys that are asked for: before, at, between and behind those of WALKED, and what begins some.
+ASKED = ['', 'ba', 'bar', 'bar-' * 10, 'foo-' * 9, 'foo-' * 9 + 'foo', 'x', 'zebra', 'zoo']
+
+# Questions about the order of keys.
+ORDERED = [
+    'ends', 'range *', *['range ' + word for word in texts(ASKED)], 'range bar ' + texts(['foo-' * 9 + 'foo'])[0],
+    'range x bar', 'fold ' + ' '.join(texts(ASKED)), *['beside ' + word for word in texts(ASKED)], 'count ' + ' '.join(texts(ASKED)),
+]
+
 MAP_SCRIPTS = [
     [*one_by_one('insert', numbered(CUT)), 'take', 'len'],
     ['extend ' + pairs(CUT), *['insert ' + word for word in numbered(MANY)], 'len', 'iter'],
@@ -149,6 +158,12 @@ MAP_SCRIPTS = [
     ['tree', *['insert %s 1' % word for word in DEEP], 'tree', 'tree', 'iter'],
     ['insert x 1', 'read %s 1 2 3 4 5 6 7' % TREE, 'read %s 8 9 10 11 12 13 14' % TREE, 'read %s 1 2 3 4 5 6' % TREE,
      'iter'],
+    ['from_iter ' + pairs(WALKED), *ORDERED, 'same ' + pairs(WALKED), 'same ' + pairs(WALKED[1:]), 'pop_first',
+     'pop_last', 'pop_first', 'cut bar', 'cut ' + texts(['foo-' * 9 + 'ba'])[0], 'cut zzz', 'iter', 'cut *', 'ends',
+     'range *', 'pop_first'],
+    ['from_iter ' + pairs(COPIED), 'merge ' + pairs(PUT), 'merge ' + pairs(COPIED), 'retain 5', 'load %E3%82%93 9',
+     'load *', 'fill %E3%82%93 1', 'fill %E3%82%8F 2', 'update %E3%82%8F 3', 'update w 4', 'fill * 5', 'iter'],
+    ['from_iter ' + pairs(JOINED), 'retain 7', 'retain 11', 'same ' + pairs(JOINED)],
 ]
 
 SET_SCRIPTS = [
@@ -159,6 +174,12 @@ SET_SCRIPTS = [
     ['extend ' + ' '.join(texts(WRITTEN)), 'debug', 'debug'],
     ['extend ' + ' '.join(DEEP), 'tree', 'tree', 'iter'],
     ['insert x', 'read %s 7' % TREE, 'read %s 7' % TREE, 'read %s 6' % TREE, 'iter'],
+    ['from_iter ' + ' '.join(texts(WALKED)), *ORDERED, 'pop_first', 'pop_last', 'cut bar', 'iter', 'load %E3%82%93',
+     'cut *', 'ends', 'range *', 'pop_last'],
+    ['from_iter ' + ' '.join(texts(ELEMENTS)),
+     *[call + ' ' + ' '.join(texts(WALKED[8:] + ELEMENTS[:3])) for call in ('union', 'intersection', 'difference')],
+     *[call + ' ' + ' '.join(texts(ELEMENTS[2:])) for call in ('subset', 'disjoint', 'same', 'union', 'intersection')],
+     'same ' + ' '.join(texts(ELEMENTS)), 'retain 37', 'iter'],
 ]
 
 # The kinds of keys, and the scripts for each.
@@ -170,10 +191,17 @@ def text_of(answered):
     return ''.join(' ' + word for word in answered) or ' '
 
 
+# The calls whose answers are the entries of a map or the elements of a set.
+LISTING = 'iter', 'extend', 'from_iter', 'merge', 'retain', 'load', 'union', 'intersection', 'difference'
+
+# The calls of a set with another one, and of a map with one.
+OF_TWO = 'union', 'intersection', 'difference', 'subset', 'disjoint', 'same'
+
+
 def lists(call, answered):
     """Where in the answers of a call a map is listed: from which one and to which."""
     is_read = call == 'read' and not any(' ' in word for word in answered)
-    if is_read or call in ('iter', 'extend', 'from_iter'):
+    if is_read or call in LISTING:
         return [(0, len(answered))]
     if call in ('split', 'split_off', 'clone'):
         n = answered.index('and')
@@ -198,11 +226,54 @@ def stops(m, kind, call, words):
     return found
 
 
+def merged_in_part(m, kind, words):
+    """The maps that a merge may leave where it is refused: with the first entries of the other one merged."""
+    found, made = [dict(m)], dict(m)
+    for key, value in rows(dict(put_in(kind, words))):
+        made[key] = max(made.get(key, 0), value)
+        found.append(dict(made))
+    return found
+
+
+def retained_in_part(m, kind, words):
+    """What may be left where some entries are to go: a map without the first of them, or a whole set."""
+    gone = [key for key, value in rows(m) if value < int(words[0])]
+    if kind.endswith('_set'):
+        return [m]
+    return [{key: m[key] for key in m if key not in gone[:n]} for n in range(max(len(gone), 1))]
+
+
+def is_asked_past(m, call, answered, n):
+    """Whether a question about the order of keys may find no memory at one of its answers."""
+    if call == 'beside':
+        # the way to the entry behind a key may be refused where there is none
+        return any(m) if n % 2 else answered[n] != 'none'
+    return answered[n] not in ('0', 'none')
+
+
+def ordered_behind(m, kind, call, words, answered):
+    """The same as left_behind gives, for calls about the order of keys, and those with another map or set."""
+    if call == 'range':
+        # an error may come where no entry is left
+        return [(answered[:n], m, answered) for n in range(len(answered) + 1)]
+    if call in ('ends', 'beside', 'count', 'fold'):
+        return [(answered[:n], m, answered) for n in range(len(answered)) if is_asked_past(m, call, answered, n)]
+    if call == 'merge':
+        return [([], left, answered) for left in merged_in_part(m, kind, words)]
+    if call == 'retain':
+        return [([], left, answered) for left in retained_in_part(m, kind, words)]
+    if call in ('pop_first', 'pop_last'):
+        return [([], m, answered)] if m else []
+    # loads of one pair alone, since what is loaded in part is not loaded again
+    is_due = call in OF_TWO and (m or words) or call == 'load' and words or call == 'fill' and answered == ['true']
+    return [([], m, answered)] if is_due else []
+
+
 def is_due(m, kind, call, words):
     """Whether a call that is no walk and puts no pairs in may find no memory."""
     if call == 'remove':
         return joins(m, words[0], kind.split('_')[0])
-    if call in ('split', 'split_off'):
+    if call in ('split', 'split_off', 'cut'):
         return words[0] != b'' and any(key.startswith(words[0]) for key in m)
     if call == 'clone':
         return any(m)
@@ -225,7 +296,9 @@ def left_behind(m, kind, call, words, answered):
         return [([], left, answered) for left in stops(m, kind, call, words)]
     if call == 'copy':
         return [(answered[:n], m, answered) for n, word in enumerate(words) if word and is_valid(word, kind)]
-    return [([], m, answered)] if is_due(m, kind, call, words) else []
+    if is_due(m, kind, call, words):
+        return [([], m, answered)]
+    return ordered_behind(m, kind, call, words, answered)
 
 
 def refused(m, kind, call, words, answered):

@@ -7,4 +7,5 @@ mod helpers;
 mod reload;
 mod router;
 mod serve;
+mod unit_keys;
 mod units;

@@ -16,8 +16,10 @@ mod calls;
 mod key_calls;
 mod map_calls;
 mod map_queries;
+mod order_calls;
 mod prefix_calls;
 mod set_calls;
+mod set_pairs;
 mod set_queries;
 
 use answering::write_answers;

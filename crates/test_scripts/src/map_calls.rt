@@ -8,7 +8,7 @@ use crate::answering::{Answering, Listed, add_entries, add_refusal};
 use crate::answers::{Answers, is_still_whole, outcome};
 use crate::calls::{self, Readable};
 use crate::map_queries;
-use patricia_tree::{BorrowedBytes, Bytes, GenericPatriciaMap};
+use patricia_tree::{BorrowedBytes, Bytes, GenericPatriciaMap, LoadError};
 use std::alloc::{AllocError, Global};
 use std::fmt::Debug;
 use std::mem;
@@ -65,10 +65,18 @@ where
         match call {
             "insert" => add_inserts::<Q>(self, arguments, out),
             "remove" => add_removals::<Q>(&mut self.map, arguments, out),
-            "extend" | "from_iter" => {
-                put_pairs::<Q>(alloc, &mut self.map, arguments, call == "extend")?;
+            "fill" | "update" => add_made::<Q>(&mut self.map, call == "fill", arguments, out),
+            "extend" | "from_iter" | "merge" | "load" => {
+                put_pairs::<Q>(alloc, &mut self.map, arguments, call)?;
                 add_entries(self, out)
             }
+            "retain" => {
+                retain(&mut self.map, arguments)?;
+                add_entries(self, out)
+            }
+            "pop_first" | "pop_last" => add_popped(&mut self.map, call == "pop_first", out),
+            "cut" => add_cut::<Q>(&mut self.map, arguments, out),
+            "same" => add_same::<Q>(alloc, &self.map, arguments, out),
             "read" => add_read(alloc, self, arguments, out),
             "take" => add_taken(
                 mem::replace(&mut self.map, GenericPatriciaMap::new(alloc)),
@@ -115,14 +123,83 @@ fn put_pairs<'a, Q: Readable<'a>>(
     alloc: Global,
     map: &mut Map<Q::Owned>,
     arguments: &'a [Vec<u8>],
-    is_kept: bool,
+    call: &str,
 ) -> Result<(), AllocError> {
     let pairs = pairs_again::<Q>(alloc, arguments)?;
-    if is_kept {
-        return map.extend(pairs);
+    match call {
+        "extend" => map.extend(pairs),
+        "merge" => merge(map, GenericPatriciaMap::from_iter(alloc, pairs)?),
+        "load" => load(map, pairs),
+        _ => {
+            *map = GenericPatriciaMap::from_iter(alloc, pairs)?;
+            Ok(())
+        }
     }
-    *map = GenericPatriciaMap::from_iter(alloc, pairs)?;
-    Ok(())
+}
+
+// Merges another map in. Of two values for one key the greater stays.
+fn merge<K: Bytes>(map: &mut Map<K>, other: Map<K>) -> Result<(), AllocError> {
+    map.merge_with(other, |value, new| *value = (*value).max(new))
+}
+
+// Loads pairs up to the first that is not in order.
+fn load<Q: BorrowedBytes>(map: &mut Map<Q::Owned>, pairs: Vec<(Q, u64)>) -> Result<(), AllocError> {
+    match map.sorted_load(pairs) {
+        Ok(()) | Err(LoadError::NotInOrder) => Ok(()),
+        Err(LoadError::Memory) => Err(AllocError),
+    }
+}
+
+// Keeps the entries whose value is at least a number.
+fn retain<K: Bytes>(map: &mut Map<K>, arguments: &[Vec<u8>]) -> Result<(), AllocError> {
+    let least = match arguments {
+        [least, ..] => calls::number(least) as u64,
+        [] => 0,
+    };
+    map.retain(|_, value| *value >= least)
+}
+
+// Takes the first entry, or the last one.
+fn add_popped<K: Bytes>(
+    map: &mut Map<K>,
+    is_first: bool,
+    out: &mut String,
+) -> Result<(), AllocError> {
+    let entry = if is_first {
+        map.pop_first()?
+    } else {
+        map.pop_last()?
+    };
+    match entry {
+        Some((key, value)) => out.add_row(key.as_bytes(), value),
+        None => out.add("none"),
+    }
+}
+
+// Removes what begins with a prefix.
+fn add_cut<'a, Q: Readable<'a>>(
+    map: &mut Map<Q::Owned>,
+    arguments: &'a [Vec<u8>],
+    out: &mut String,
+) -> Result<(), AllocError> {
+    if let [prefix] = arguments
+        && let Some(prefix) = Q::read(prefix)
+    {
+        return out.add_number(map.remove_prefix(prefix)? as u64);
+    }
+    out.add("unknown")
+}
+
+// Whether the map has these pairs and no other.
+fn add_same<'a, Q: Readable<'a>>(
+    alloc: Global,
+    map: &Map<Q::Owned>,
+    arguments: &'a [Vec<u8>],
+    out: &mut String,
+) -> Result<(), AllocError> {
+    let pairs = pairs_again::<Q>(alloc, arguments)?;
+    let other = GenericPatriciaMap::from_iter(alloc, pairs)?;
+    out.add_bool(map.equals(&other)?)
 }
 
 fn add_inserts<'a, Q: Readable<'a>>(
@@ -166,6 +243,36 @@ fn add_last_insert<Q: BorrowedBytes>(
         Ok(old) => out.add_value(old),
         Err(_) => Err(AllocError),
     }
+}
+
+// Makes the values of new keys, or puts others in the place of those that are there.
+fn add_made<'a, Q: Readable<'a>>(
+    map: &mut Map<Q::Owned>,
+    is_new: bool,
+    arguments: &'a [Vec<u8>],
+    out: &mut String,
+) -> Result<(), AllocError> {
+    for pair in arguments.chunks(2) {
+        if let [key, value] = pair
+            && let Some(key) = Q::read(key)
+        {
+            add_one_made(map, is_new, key, calls::number(value) as u64, out)?;
+        }
+    }
+    Ok(())
+}
+
+fn add_one_made<Q: BorrowedBytes>(
+    map: &mut Map<Q::Owned>,
+    is_new: bool,
+    key: Q,
+    value: u64,
+    out: &mut String,
+) -> Result<(), AllocError> {
+    if is_new {
+        return out.add_bool(map.insert_with(key, || value)?);
+    }
+    out.add_value(map.update(key, |there| mem::replace(there, value)))
 }
 
 fn add_removals<'a, Q: Readable<'a>>(

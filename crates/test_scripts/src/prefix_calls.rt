@@ -2,7 +2,7 @@
 
 use crate::answers::{Answers, is_still_whole, outcome};
 use crate::calls::{self, Readable};
-use crate::{key_calls, map_queries};
+use crate::{map_queries, order_calls};
 use patricia_tree::{BorrowedBytes, Bytes, GenericPatriciaMap};
 use std::alloc::{AllocError, Global};
 
@@ -22,7 +22,7 @@ pub(super) fn answer<'a, Q: Readable<'a>>(
             add_walk::<Q>(alloc, map, call, arguments, out)
         }
         "within" => add_within::<Q>(map, arguments, out),
-        _ => key_calls::answer::<Q>(alloc, call, arguments, out),
+        _ => order_calls::answer::<Q>(alloc, map, call, arguments, out),
     }
 }
 

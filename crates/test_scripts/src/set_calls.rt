@@ -7,8 +7,8 @@ ghost use Rattle.test_scripts.specs.Answers.{keys_text};
 use crate::answering::{Answering, Listed, add_entries};
 use crate::answers::{Answers, is_still_whole, outcome};
 use crate::calls::{self, Readable};
-use crate::set_queries;
-use patricia_tree::{BorrowedBytes, Bytes, GenericPatriciaSet};
+use crate::{set_pairs, set_queries};
+use patricia_tree::{BorrowedBytes, Bytes, GenericPatriciaSet, LoadError};
 use std::alloc::{AllocError, Global};
 use std::fmt::Debug;
 use std::mem;
@@ -69,9 +69,18 @@ where
                 arguments,
                 out,
             ),
-            "extend" | "from_iter" => {
-                put::<Q>(alloc, &mut self.set, arguments, call == "extend")?;
+            "extend" | "from_iter" | "load" => {
+                put::<Q>(alloc, &mut self.set, arguments, call)?;
                 add_entries(self, out)
+            }
+            "retain" => {
+                retain(&mut self.set, arguments)?;
+                add_entries(self, out)
+            }
+            "pop_first" | "pop_last" => add_popped(&mut self.set, call == "pop_first", out),
+            "cut" => add_cut::<Q>(&mut self.set, arguments, out),
+            "union" | "intersection" | "difference" | "subset" | "disjoint" | "same" => {
+                add_two::<Q>(alloc, &self.set, call, arguments, out)
             }
             "read" => add_read(alloc, self, arguments, out),
             "take" => add_taken(
@@ -146,14 +155,83 @@ fn put<'a, Q: Readable<'a>>(
     alloc: Global,
     set: &mut Set<Q::Owned>,
     arguments: &'a [Vec<u8>],
-    is_kept: bool,
+    call: &str,
 ) -> Result<(), AllocError> {
     let elements = elements_again::<Q>(alloc, arguments)?;
-    if is_kept {
-        return set.extend(elements);
+    match call {
+        "extend" => set.extend(elements),
+        "load" => load(set, elements),
+        _ => {
+            *set = GenericPatriciaSet::from_iter(alloc, elements)?;
+            Ok(())
+        }
     }
-    *set = GenericPatriciaSet::from_iter(alloc, elements)?;
-    Ok(())
+}
+
+// Loads elements up to the first that is not in order.
+fn load<Q: BorrowedBytes>(set: &mut Set<Q::Owned>, elements: Vec<Q>) -> Result<(), AllocError> {
+    match set.sorted_load(elements) {
+        Ok(()) | Err(LoadError::NotInOrder) => Ok(()),
+        Err(LoadError::Memory) => Err(AllocError),
+    }
+}
+
+// Keeps the elements that have at least so many bytes.
+fn retain<K: Bytes>(set: &mut Set<K>, arguments: &[Vec<u8>]) -> Result<(), AllocError> {
+    let least = match arguments {
+        [least, ..] => calls::number(least),
+        [] => 0,
+    };
+    set.retain(|element| element.len() >= least)
+}
+
+// Takes the first element, or the last one.
+fn add_popped<K: Bytes>(
+    set: &mut Set<K>,
+    is_first: bool,
+    out: &mut String,
+) -> Result<(), AllocError> {
+    let element = if is_first {
+        set.pop_first()?
+    } else {
+        set.pop_last()?
+    };
+    set_queries::add_found(element, out)
+}
+
+// Removes what begins with a prefix.
+fn add_cut<'a, Q: Readable<'a>>(
+    set: &mut Set<Q::Owned>,
+    arguments: &'a [Vec<u8>],
+    out: &mut String,
+) -> Result<(), AllocError> {
+    if let [prefix] = arguments
+        && let Some(prefix) = Q::read(prefix)
+    {
+        return out.add_number(set.remove_prefix(prefix)? as u64);
+    }
+    out.add("unknown")
+}
+
+// What a call makes of the set and another one, or tells of them. The arguments are the elements of
+// the other one.
+fn add_two<'a, Q: Readable<'a>>(
+    alloc: Global,
+    set: &Set<Q::Owned>,
+    call: &str,
+    arguments: &'a [Vec<u8>],
+    out: &mut String,
+) -> Result<(), AllocError> {
+    let elements = elements_again::<Q>(alloc, arguments)?;
+    let other = GenericPatriciaSet::from_iter(alloc, elements)?;
+    match call {
+        "subset" | "disjoint" | "same" => set_pairs::add_told(set, &other, call, out),
+        _ => add_made(set_pairs::made(set, &other, call)?, out),
+    }
+}
+
+fn add_made<K: Bytes>(set: Set<K>, out: &mut String) -> Result<(), AllocError> {
+    add_entries(&SetCalls { set }, out)
 }
 
 // So many times `()`, which does not allocate.

@@ -2,6 +2,7 @@
 //! once more. `.ci/run` runs them with the Nth memory request refused, for each N.
 
 mod choices;
+mod collects;
 mod counts;
 mod elements;
 mod ends;

@@ -1,0 +1,142 @@
+//! The traits by which std extends maps and sets, and collects into a map, of which one call may be
+//! refused. The values of the maps count how many of them there are.
+use super::choices::ROWS;
+use super::tally::Tally;
+use super::whole::holds;
+use patricia_tree::{StringPatriciaMap, StringPatriciaSet};
+use std::alloc::{AllocError, Global};
+use std::cell::Cell;
+use std::iter::{Extend, Iterator};
+
+// A number that is counted as long as it is there.
+struct Counted<'a> {
+    number: u64,
+    count: &'a Cell<usize>,
+}
+
+impl Drop for Counted<'_> {
+    fn drop(self) {
+        let Counted { number: _, count } = self;
+        count.set(count.get().wrapping_sub(1));
+    }
+}
+
+fn make_counted<'a>(number: u64, count: &'a Cell<usize>) -> Counted<'a> {
+    count.set(count.get().wrapping_add(1));
+    Counted { number, count }
+}
+
+type Map<'a> = StringPatriciaMap<Counted<'a>>;
+
+// Whether a map has these entries and no other, and there are no other values.
+fn has(map: &Map<'_>, rows: &[(&str, u64)], count: &Cell<usize>) -> bool {
+    for (key, number) in rows {
+        let found = match map.get(*key) {
+            Some(value) => value.number == *number,
+            None => false,
+        };
+        if !found {
+            return false;
+        }
+    }
+    map.len() == rows.len() && count.get() == rows.len()
+}
+
+// Extends a map by all rows, and counts those that it takes. Returns whether it is done.
+fn extend<'a>(map: &mut Map<'a>, count: &'a Cell<usize>, taken: &mut usize) -> bool {
+    let pairs = ROWS.iter().map(|(key, number)| {
+        *taken = taken.saturating_add(1);
+        (*key, make_counted(*number, count))
+    });
+    Extend::extend(map, pairs).is_ok()
+}
+
+// The same, once more where it is refused: the last row taken is the refused one, and those before
+// it are there.
+fn extends<'a>(map: &mut Map<'a>, count: &'a Cell<usize>, tally: &mut Tally) -> bool {
+    let mut taken = 0;
+    if extend(map, count, &mut taken) {
+        return taken == ROWS.len();
+    }
+    tally.add();
+    let Some(there) = ROWS.get(..taken.saturating_sub(1)) else {
+        return false;
+    };
+    has(map, there, count) && extend(map, count, &mut taken)
+}
+
+#[test]
+fn map_extends_refused_in_turn(rt: HostRuntime) -> Result<(), AllocError> {
+    let (mut tally, count) = (Tally::new(), Cell::new(0));
+    let mut map = Map::new(rt.alloc());
+    assert!(rt; extends(&mut map, &count, &mut tally));
+    assert!(rt; has(&map, &ROWS, &count));
+    drop(map);
+    assert!(rt; count.get() == 0);
+    tally.check(&rt, 1);
+    Ok(())
+}
+
+// A map that the rows are collected into, or none where that is refused.
+fn collected<'a>(alloc: Global, count: &'a Cell<usize>) -> Option<Map<'a>> {
+    ROWS.iter()
+        .map(|(key, number)| (*key, make_counted(*number, count)))
+        .collect(alloc)
+        .ok()
+}
+
+#[test]
+fn map_collects_refused_in_turn(rt: HostRuntime) -> Result<(), AllocError> {
+    let (mut tally, count) = (Tally::new(), Cell::new(0));
+    let mut map = collected(rt.alloc(), &count);
+    if map.is_none() {
+        tally.add();
+        assert!(rt; count.get() == 0);
+        map = collected(rt.alloc(), &count);
+    }
+    assert!(rt; map.is_some_and(|map| has(&map, &ROWS, &count)));
+    assert!(rt; count.get() == 0);
+    tally.check(&rt, 1);
+    Ok(())
+}
+
+// Elements in order, of which the first begins the second.
+const ELEMENTS: [&str; 4] = [
+    "a beginning that is longer than a node keeps",
+    "a beginning that is longer than a node keeps, and that of another",
+    "bar",
+    "baz",
+];
+
+// Extends a set by all elements, and counts those that it takes. Returns whether it is done.
+fn extend_set(set: &mut StringPatriciaSet, taken: &mut usize) -> bool {
+    let elements = ELEMENTS.iter().map(|element| {
+        *taken = taken.saturating_add(1);
+        *element
+    });
+    Extend::extend(set, elements).is_ok()
+}
+
+// The same, once more where it is refused: the last one taken is the refused one, and those before
+// it are there.
+fn extends_set(set: &mut StringPatriciaSet, tally: &mut Tally) -> bool {
+    let mut taken = 0;
+    if extend_set(set, &mut taken) {
+        return taken == ELEMENTS.len();
+    }
+    tally.add();
+    let Some(there) = ELEMENTS.get(..taken.saturating_sub(1)) else {
+        return false;
+    };
+    holds(set, there) && extend_set(set, &mut taken)
+}
+
+#[test]
+fn set_extends_refused_in_turn(rt: HostRuntime) -> Result<(), AllocError> {
+    let mut tally = Tally::new();
+    let mut set = StringPatriciaSet::new(rt.alloc());
+    assert!(rt; extends_set(&mut set, &mut tally));
+    assert!(rt; holds(&set, ELEMENTS.as_slice()));
+    tally.check(&rt, 1);
+    Ok(())
+}
