@@ -104,10 +104,8 @@ impl<Q: BorrowedBytes> SeekResult<Q> {
 }
 
 impl<V> NodeArena<V> {
-    // How a key meets the label of a node. The first node of a row below another is read at once, and
-    // those beside it only where their first byte is that of the key: so a look-up waits for the
-    // first node of a row and for the heads of the row at the same time.
-    fn compare<Q: BorrowedBytes>(&self, is_first: bool, id: NodeId, key: Q) -> LabelCmp<Q>
+    // How a key meets the label of a node. Where their first bytes differ, the node is not read.
+    fn compare<Q: BorrowedBytes>(&self, id: NodeId, key: Q) -> LabelCmp<Q>
         requires within { id < vec_len self.now.nodes }
         requires valid { ReadsNode self.now.nodes id (λ n. IsValid Q.Owned.item n.label) }
         requires nonempty { ReadsNode self.now.nodes id (λ n. n.label ≢ []) }
@@ -115,9 +113,6 @@ impl<V> NodeArena<V> {
         ensures { ReadsNode self.now.nodes id
             (λ n. ComparesLabel Q.Owned.item Q.key (Q.key key) n.label result) }
     {
-        if is_first {
-            return compare_label(key, self.nodes[id.index()].label.as_slice());
-        }
         let first = key.as_bytes()[0];
         let other = self.nodes.first_byte(id);
         if first < other {
@@ -142,19 +137,19 @@ impl<V> NodeArena<V> {
         ensures counted { IsCounted Q.Owned.item
             (siblings_of self.now) (Q.key key) steps.old steps.new }
     {
-        let (mut link_ref, mut at) = (LinkRef::Root, self.root);
-        let (mut rest, mut is_first) = (key, false);
+        let mut link_ref = LinkRef::Root;
+        let mut at = self.root;
+        let mut rest = key;
         let matched = loop {
             let Some(id) = at.get() else {
                 break Match::Absent;
             };
             steps.tick();
-            match self.compare(is_first, id, rest) {
+            match self.compare(id, rest) {
                 LabelCmp::Before => break Match::Absent,
                 LabelCmp::After => {
                     link_ref = LinkRef::Sibling(id, link_ref.above());
                     at = self.nodes.sibling(id);
-                    is_first = false;
                 }
                 LabelCmp::Partial(n) => break Match::InsideLabel(id, n),
                 LabelCmp::Full(left) => {
@@ -164,7 +159,6 @@ impl<V> NodeArena<V> {
                     link_ref = LinkRef::Child(id);
                     at = self.nodes[id.index()].child;
                     rest = left;
-                    is_first = true;
                 }
             }
         };

@@ -89,7 +89,7 @@ impl<V> NodeArena<V> {
             let Some(id) = at.get() else {
                 break Match::Absent;
             };
-            match self.compare(false, id, rest) {
+            match self.compare(id, rest) {
                 LabelCmp::Before => break Match::Absent,
                 LabelCmp::After => {
                     link_ref = LinkRef::Sibling(id, link_ref.above());
