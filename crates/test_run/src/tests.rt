@@ -7,5 +7,3 @@ mod helpers;
 mod reload;
 mod router;
 mod serve;
-mod unit_keys;
-mod units;
