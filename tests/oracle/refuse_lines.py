@@ -179,7 +179,7 @@ SET_SCRIPTS = [
     ['from_iter ' + ' '.join(texts(ELEMENTS)),
      *[call + ' ' + ' '.join(texts(WALKED[8:] + ELEMENTS[:3])) for call in ('union', 'intersection', 'difference')],
      *[call + ' ' + ' '.join(texts(ELEMENTS[2:])) for call in ('subset', 'disjoint', 'same', 'union', 'intersection')],
-     'same ' + ' '.join(texts(ELEMENTS)), 'retain 37', 'iter'],
+     'difference ' + ' '.join(texts(ELEMENTS[:3])), 'same ' + ' '.join(texts(ELEMENTS)), 'retain 37', 'iter'],
 ]
 
 # The kinds of keys, and the scripts for each.

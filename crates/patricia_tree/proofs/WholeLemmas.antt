@@ -1,6 +1,6 @@
 -- Maps and sets compared, and sets made of two.
 use Rattle.std.proofs.Common.{◌≡◌, ◌≢◌, ◌≤◌, ℕ, T, Bool, true, false, not, cond, List, [], ◌∷◌, ◌++◌, length}
-use Rattle.std.proofs.Common.{Option, Some, None, refl, sym, ap, subst, ◌∙◌, arith}
+use Rattle.std.proofs.Common.{Option, Some, None, drop, slice_get, refl, sym, ap, subst, ◌∙◌, arith}
 use Rattle.std.proofs.lemmas.List.{nil_from_length}
 use Rattle.std.specs.Prelude.{Result, Ok, Err, IfOk, OnErr}
 use Rattle.std.specs.Prelude.{◌↔◌, ◌&&◌, ◌||◌, IsTrue, is_some, nat_eq, filter}
@@ -13,8 +13,9 @@ use Rattle.std.specs.declared.cmp.Ordering.{Ordering}
 use Rattle.std.specs.declared.cmp.Ordering.TheVariants.{Less, Equal, Greater}
 use Rattle.std.specs.FinMap as map
 use Rattle.std.specs.FinMap.{FinMap, find, is_sorted, entries_sorted, get-entries, get-empty, get-insert}
-use Rattle.std.specs.FinMap.{get-retain_keys, same_map, same_entries_map, contains_key-keys, len-entries}
+use Rattle.std.specs.FinMap.{get-remove, get-retain_keys, same_map, same_entries_map, contains_key-keys, len-entries}
 use Rattle.std.specs.FinMap.Entries.{below_all, is_sorted-where_key, find-where_key}
+use Rattle.patricia_core.specs.Cursors.{ReadCursorView, advanced}
 use Rattle.patricia_core.specs.Keys.{key_cmp}
 use Rattle.patricia_model.proofs.ListLemmas.{key_cmp-equal}
 use Rattle.patricia_model.proofs.TestLemmas.{first_part, second_part, less_so}
@@ -125,6 +126,13 @@ pub filled_too : {V W : Type 0} (m : FinMap key_cmp V) (n : FinMap key_cmp W) �
 filled_too m n most some none =
     some (nil_from_length (map.entries m) (omega (arith, len-entries m, len-entries n, ap length none)))
 
+-- of two maps with rows together the one that is no shorter has rows
+pub filled_longer : {V : Type 0} (m n : FinMap key_cmp V) → map.len n ≤ map.len m
+    → map.entries m ++ map.entries n ≢ [] → map.entries m ≢ []
+filled_longer m n most some none =
+    let none_too = nil_from_length (map.entries n) (omega (arith, len-entries m, len-entries n, ap length none, most)) in
+    some (subst (λ rows. rows ++ map.entries n ≡ []) (sym none) none_too)
+
 -- the same elements, inserted the other way round
 pub all_turned : (s t : FinMap key_cmp (Unit {0})) → insert_all s (map.entries t) ≡ insert_all t (map.entries s)
 all_turned s t = same_map nat_list_cmp_total key_cmp-equal _ _ (λ q.
@@ -155,6 +163,57 @@ both_turned s t = same_map nat_list_cmp_total key_cmp-equal _ _ (λ q.
     at : (m n : FinMap key_cmp (Unit {0})) (q : List ℕ)
         → map.get (map.retain_keys m (map.contains_key n)) q ≡ cond (is_some (map.get n q)) (map.get m q) None
     at m n q = get-retain_keys m (map.contains_key n) q (λ x tie. ap (map.contains_key n) (sym (key_cmp-equal q x tie)))
+
+module _ {V W : Type 0} where
+  -- what is left of a map where the keys of rows are removed
+  abbrev pub without_keys : FinMap key_cmp V → List (List ℕ × W) → FinMap key_cmp V
+  without_keys m rows = map.retain_keys m (λ k. not (is_some (find key_cmp k rows)))
+
+  get-without_keys : (m : FinMap key_cmp V) (rows : List (List ℕ × W)) (q : List ℕ)
+      → map.get (without_keys m rows) q ≡ cond (not (is_some (find key_cmp q rows))) (map.get m q) None
+  get-without_keys m rows q = get-retain_keys m (λ k. not (is_some (find key_cmp k rows))) q
+      (λ x tie. ap (λ k. not (is_some (find key_cmp k rows))) (sym (key_cmp-equal q x tie)))
+
+  pub without_none : (m : FinMap key_cmp V) (rows : List (List ℕ × W)) → rows ≡ [] → without_keys m rows ≡ m
+  without_none m [] none = same_map nat_list_cmp_total key_cmp-equal _ _ (λ q. get-without_keys m [] q)
+  without_none m (e ∷ rows) none = absurd (cc)
+
+  -- a key that was removed already need not be any more
+  without_one : (m : FinMap key_cmp V) (e : List ℕ × W) (rows : List (List ℕ × W))
+      → without_keys (map.remove m e.0) rows ≡ without_keys m (e ∷ rows)
+  without_one m e rows = same_map nat_list_cmp_total key_cmp-equal _ _ (λ q.
+      get-without_keys (map.remove m e.0) rows q
+      ∙ ap (λ o. cond (not (is_some (find key_cmp q rows))) o None) (get-remove nat_list_cmp_total m e.0 q)
+      ∙ by (map.get m q) (eq_by_cmp key_cmp q e.0) (find key_cmp q rows)
+      ∙ sym (get-without_keys m (e ∷ rows) q))
+    where
+      by : (v : Option V) (b : Bool) (o : Option W)
+          → cond (not (is_some o)) (cond b None v) None ≡ cond (not (is_some (cond b (Some e.1) o))) v None
+      by v true None = refl
+      by v true (Some w) = refl
+      by v false o = refl
+
+  -- where a cursor advances, the key at which it stands then is removed
+  pub without_on : (made mid : FinMap key_cmp V) (c d : ReadCursorView W) → d ≡ advanced c → c.left ≢ []
+      → ((e : List ℕ × W) → d.at ≡ Some e → mid ≡ map.remove made e.0) → without_keys mid d.left ≡ without_keys made c.left
+  without_on made mid c d is some gone =
+      subst (λ left. without_keys mid left ≡ without_keys made c.left) (sym (ap (λ (v : ReadCursorView W). v.left) is))
+      (by c.left some (λ e at. gone e (ap (λ (v : ReadCursorView W). v.at) is ∙ at)))
+    where
+      by : (left : List (List ℕ × W)) → left ≢ []
+          → ((e : List ℕ × W) → slice_get left 0 ≡ Some e → mid ≡ map.remove made e.0)
+          → without_keys mid (drop 1 left) ≡ without_keys made left
+      by [] some gone = absurd (some refl)
+      by (e ∷ left) some gone = ap (λ m. without_keys m left) (gone e refl) ∙ without_one made e left
+
+  -- the keys of all entries are those that the other map has
+  pub without_entries : (m : FinMap key_cmp V) (n : FinMap key_cmp W)
+      → without_keys m (map.entries n) ≡ map.retain_keys m (λ k. not (map.contains_key n k))
+  without_entries m n = same_map nat_list_cmp_total key_cmp-equal _ _ (λ q.
+      get-without_keys m (map.entries n) q
+      ∙ ap (λ o. cond (not (is_some o)) (map.get m q) None) (sym (get-entries n q))
+      ∙ sym (get-retain_keys m (λ k. not (map.contains_key n k)) q
+      (λ x tie. ap (λ k. not (map.contains_key n k)) (sym (key_cmp-equal q x tie)))))
 
 module _ {B : Type 0} where
   -- one of a list passes one of two tests where one passes the first, or one the second

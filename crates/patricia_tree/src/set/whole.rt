@@ -43,6 +43,20 @@ fn insert_at<T: Bytes>(
     Ok(())
 }
 
+// Removes the element at which a cursor stands, where the set has it.
+fn remove_at<T: Bytes>(
+    set: &mut GenericPatriciaSet<T>,
+    cursor: &ReadCursor<'_, T, ()>,
+) -> Result<(), AllocError>
+    ensures { OnOk result ((e : List ℕ × Unit {0}) → cursor.now.at ≡ Some e
+        → set.new ≡ map.remove set.old e.0) }
+{
+    if let Some(bytes) = cursor.key() {
+        set.remove(KeyBytes::<T>::new(bytes))?;
+    }
+    Ok(())
+}
+
 // The key of the element at which a cursor stands.
 fn key_at<'a, T: Bytes>(cursor: &'a ReadCursor<'_, T, ()>) -> &'a [u8]
     requires { IsSome cursor.now.at }
@@ -99,6 +113,21 @@ impl<T: Bytes> GenericPatriciaSet<T> {
         let mut cursor = other.cursor();
         while cursor.advance()? {
             insert_at(&mut made, &cursor)?;
+        }
+        Ok(made)
+    }
+
+    // A copy with the elements of the other set removed.
+    fn without_all(&self, other: &Self) -> Result<Self, AllocError>
+        ensures rest { IfOk result (λ s.
+            s ≡ map.retain_keys self.now (λ k. not (map.contains_key other.now k))) }
+        ensures err_only_nonempty { OnErr result
+            (map.entries self.now ++ map.entries other.now ≢ []) }
+    {
+        let mut made = self.clone()?;
+        let mut cursor = other.cursor();
+        while cursor.advance()? {
+            remove_at(&mut made, &cursor)?;
         }
         Ok(made)
     }
@@ -250,8 +279,10 @@ impl<T: Bytes> GenericPatriciaSet<T> {
 
     /// Returns the set of the elements that are in this set and not in the other one.
     ///
-    /// Takes a walk over this set, with a look-up in the other one for each element, and an
-    /// `insert` for each element of the result.
+    /// Where the other set has at most half as many elements, this takes the time of a copy of this
+    /// set, and of a `remove` for each element of the other one. Else it takes a walk over this set,
+    /// with a look-up in the other one for each element, and an `insert` for each element of the
+    /// result.
     ///
     /// # Errors
     ///
@@ -271,7 +302,11 @@ impl<T: Bytes> GenericPatriciaSet<T> {
             s ≡ map.retain_keys self.now (λ k. not (map.contains_key other.now k))) }
         ensures err_only_nonempty { OnErr result (map.entries self.now ≢ []) }
     {
-        self.chosen(other, false)
+        if other.len() <= self.len() / 2 {
+            self.without_all(other)
+        } else {
+            self.chosen(other, false)
+        }
     }
 
     // The elements at which a test returns true.

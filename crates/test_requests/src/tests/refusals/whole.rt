@@ -16,6 +16,10 @@ const BOTH: [&str; 2] = ["baz", "foo"];
 
 const REST: [&str; 2] = ["", "bar"];
 
+const FEW: [&str; 2] = ["baz", "x"];
+
+const OTHERS: [&str; 3] = ["foo", "foobar", "quux"];
+
 /// Whether a set has these elements, which differ, and no other. It does not allocate.
 pub(super) fn holds<Q: BorrowedBytes>(set: &Set<Q::Owned>, elements: &[Q]) -> bool {
     for element in elements {
@@ -135,6 +139,13 @@ fn sets_refused_in_turn(rt: HostRuntime) -> Result<(), AllocError> {
         parts(&one, &two, &REST),
     );
     assert!(rt; parted);
+    let few = set_of(rt.alloc(), FEW.as_slice(), &mut tally)?;
+    let parted = is_so(
+        &mut tally,
+        parts(&two, &few, &OTHERS),
+        parts(&two, &few, &OTHERS),
+    );
+    assert!(rt; parted && holds(&few, FEW.as_slice()));
     let told = is_so(
         &mut tally,
         overlap::<&str>(&one, &two),

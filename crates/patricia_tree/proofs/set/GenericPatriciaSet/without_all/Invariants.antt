@@ -1,0 +1,13 @@
+use Rattle.std.proofs.Common.{◌≡◌, ◌≢◌, [], length}
+use Rattle.std.specs.FinMap as map
+use Rattle.patricia_tree.proofs.WholeLemmas.{without_keys}
+use Rattle.patricia_tree.proofs.set.GenericPatriciaSet.without_all.Given as goal
+
+abbrev pub invariant-loop-cursor : goal.invariant-loop-cursor
+invariant-loop-cursor g l = record {
+  same : without_keys l.made l.cursor.left ≡ without_keys l.fn.self (map.entries l.fn.other);
+  some : l.cursor.left ≢ [] → map.entries l.fn.other ≢ [];
+}
+
+abbrev pub decreases-loop-cursor : goal.decreases-loop-cursor
+decreases-loop-cursor g l = length l.cursor.left
