@@ -11,7 +11,8 @@ ghost use Rattle.patricia_nodes.specs.Internal.Plans.{plan_at, IsSound, IsWellFo
 ghost use Rattle.patricia_nodes.specs.Internal.Growth.{IsLaid, IsTopRow, tops, laid};
 ghost use Rattle.patricia_nodes.specs.Internal.Growth.{numbered_siblings};
 ghost use Rattle.patricia_model.specs.Clones.{CloneIsSame};
-ghost use Rattle.patricia_edits.specs.Internal.Copies.{RowKept, EntriesKept, AwaitsFrom, CopiesFrom};
+ghost use Rattle.patricia_edits.specs.Internal.Copies.{RowKept, EntriesKept};
+ghost use Rattle.patricia_edits.specs.Internal.Copies.{AwaitsFrom, CopiesFrom};
 
 use patricia_nodes::arena::node_vec::NodeVec;
 use patricia_nodes::arena::{DEPTH_FIRST, Node, NodeArena};
@@ -93,9 +94,9 @@ fn copy_row<V: Clone>(
     })
 }
 
-// Copies what is below the nodes of a new vector from one on behind them, what is below each of them
-// before what is below the next. They have the old numbers of their children. What lies deeper than
-// `depth` rows below them is copied row by row.
+// Copies what is below the nodes of a new vector from one on behind them, what is below each of
+// them before what is below the next. They have the old numbers of their children. What lies deeper
+// than `depth` rows below them is copied row by row.
 fn copy_rows_below<V: Clone>(
     alloc: Global,
     from: &[Node<V>],
@@ -126,8 +127,8 @@ fn copy_rows_below<V: Clone>(
     Ok(())
 }
 
-// Copies what is below the nodes of a new vector behind them, depth first. They have the old numbers
-// of their children.
+// Copies what is below the nodes of a new vector behind them, depth first. They have the old
+// numbers of their children.
 fn copy_below<V: Clone>(
     alloc: Global,
     from: &[Node<V>],

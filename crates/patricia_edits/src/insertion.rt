@@ -245,9 +245,9 @@ pub fn insert<V: Drop, Q: BorrowedBytes>(
     insert_at(arena, alloc, &place, value)
 }
 
-/// Puts the value in at a nonempty key, and gives the old one. The look-up goes on from the trail of
-/// the last key, and the trail is that of this key then. Free nodes are used first, and each node
-/// stays where it is.
+/// Puts the value in at a nonempty key, and gives the old one. The look-up goes on from the trail
+/// of the last key, and the trail is that of this key then. Free nodes are used first, and each
+/// node stays where it is.
 pub fn insert_along<V: Drop, Q: BorrowedBytes>(
     arena: &mut NodeArena<V>,
     trail: &mut Vec<(NodeId, usize)>,

@@ -2,9 +2,9 @@
 //! the JSON of tree bytes and values.
 //!
 //! `tree_bytes` of a map or a set gives its tree bytes. Beside the values, in key order, they are
-//! all that a map is, and `from_wire` makes it of them again. Each level takes two bytes of them, so
-//! none is deeper than 65,535, as in the encoding of the Rust crate. `wide_tree_bytes` gives four
-//! bytes to each, and `from_wide_wire` reads these. Neither call reads the other's encoding.
+//! all that a map is, and `from_wire` makes it of them again. Each level takes two bytes of them,
+//! so none is deeper than 65,535, as in the encoding of the Rust crate. `wide_tree_bytes` gives
+//! four bytes to each, and `from_wide_wire` reads these. Neither call reads the other's encoding.
 
 pub mod laws;
 

@@ -9,8 +9,8 @@ use std::marker::Model;
 // How many bytes stand in a value itself.
 const INLINE: usize = 16;
 
-/// What stands beside a name in a list: any bytes. Up to 16 of them stand in the value itself, which
-/// does not allocate then.
+/// What stands beside a name in a list: any bytes. Up to 16 of them stand in the value itself,
+/// which does not allocate then.
 #[derive(Debug, Drop)]
 pub struct Payload {
     bytes: SmallVec<u8, INLINE>,

@@ -3,7 +3,8 @@ use Rattle.std.specs.Prelude.{◌≡◌, ℕ, ◌+◌, ◌≤◌, Bool, true, fa
 use Rattle.std.specs.Prelude.{length, Option, Some, None, slice_get}
 use Rattle.patricia_nodes.specs.declared.arena.Node.{Node}
 use Rattle.patricia_nodes.specs.declared.arena.NodeArena.{NodeArena}
-use Rattle.patricia_nodes.specs.Internal.Plans.{Plan, Nil, Cell, linked, head, row, size, count, one}
+use Rattle.patricia_nodes.specs.Internal.Plans.{Plan, Nil, Cell, linked, head, row, size, count}
+use Rattle.patricia_nodes.specs.Internal.Plans.{one}
 use Rattle.patricia_nodes.specs.Internal.Plans.{below, LaidOut}
 use Rattle.patricia_nodes.specs.Internal.Growth.{TakesNodes, count_below, size_below}
 use Rattle.patricia_nodes.specs.Internal.Growth.{numbered_siblings}

@@ -6,7 +6,8 @@ use Rattle.patricia_nodes.specs.declared.arena.seek.LinkRef.{LinkRef}
 use Rattle.patricia_nodes.specs.declared.arena.seek.LinkRef.TheVariants.{Child}
 use Rattle.patricia_nodes.specs.declared.arena.seek.Match.{Match}
 use Rattle.patricia_nodes.specs.Internal.Plans.{Plan, head, plan_at}
-use Rattle.patricia_nodes.specs.Internal.Places.{Frame, InChild, InSibling, fill, link_ref_of, Leads}
+use Rattle.patricia_nodes.specs.Internal.Places.{Frame, InChild, InSibling, fill, link_ref_of}
+use Rattle.patricia_nodes.specs.Internal.Places.{Leads}
 use Rattle.patricia_nodes.specs.Internal.Places.{Matches}
 
 module _ {V : Type 0} where
@@ -16,8 +17,8 @@ module _ {V : Type 0} where
   path_of (InChild id label value sibling ∷ fs) = path_of fs ++ label
   path_of (InSibling id label value child ∷ fs) = path_of fs
 
-  -- these nodes stand above a place, the innermost first, each with the length of the path to the end
-  -- of its label
+  -- these nodes stand above a place, the innermost first, each with the length of the path to the
+  -- end of its label
   abbrev pub AreAbove : List (ℕ × ℕ) → List (Frame V) → Type 0
   AreAbove [] frames = Unit {0}
   AreAbove (e ∷ es) frames =
@@ -71,4 +72,5 @@ MayKeep old e new = (new ≡ old ++ e ∷ []) ⊎ (new ≡ old)
 
 -- what stands above a place and beside the way to it is as it was
 abbrev pub KeepsAround : {V : Type 0} → List (Frame V) → NodeArena V → Type 0
-KeepsAround {V} frames new = (focus : Plan V) × (fill frames focus ≡ plan_at new.nodes.items new.root)
+KeepsAround {V} frames new =
+  (focus : Plan V) × (fill frames focus ≡ plan_at new.nodes.items new.root)

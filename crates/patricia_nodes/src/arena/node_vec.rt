@@ -22,8 +22,9 @@ use std::marker::Model;
 use std::mem;
 use std::ops::Index;
 
-// Where the sibling of a node stands, in four bytes: 0 for none, 1 for the next node of the vector, a
-// number below `FAR` is 2 more than that of the node, and `FAR` says that the number is in the node.
+// Where the sibling of a node stands, in four bytes: 0 for none, 1 for the next node of the vector,
+// a number below `FAR` is 2 more than that of the node, and `FAR` says that the number is in the
+// node.
 #[derive(Clone, Copy)]
 struct Beside([u8; 4]);
 
@@ -180,8 +181,8 @@ impl<V> NodeVec<V> {
         self.heads[id.index()].first
     }
 
-    /// The sibling of a node. Does not read the node, but where its sibling is one of the nodes past
-    /// the first four billion and does not come next.
+    /// The sibling of a node. Does not read the node, but where its sibling is one of the nodes
+    /// past the first four billion and does not come next.
     pub fn sibling(&self, id: NodeId) -> Link
         requires { id < vec_len self.now }
         ensures { ReadsNode self.now id (λ n. result ≡ n.sibling) }

@@ -14,8 +14,8 @@ impl<K: Bytes, V: Drop> GenericPatriciaMap<K, V> {
     /// Inserts pairs, one after the other: of two values for one key the later stays. The iterator
     /// must end.
     ///
-    /// Takes the time of an `insert` for each pair. Where the map has more than doubled, its nodes are
-    /// relocated at the end, if memory is there for it.
+    /// Takes the time of an `insert` for each pair. Where the map has more than doubled, its nodes
+    /// are relocated at the end, if memory is there for it.
     ///
     /// # Errors
     ///
@@ -34,7 +34,9 @@ impl<K: Bytes, V: Drop> GenericPatriciaMap<K, V> {
         &mut self,
         pairs: I,
     ) -> Result<(), AllocError>
-        requires { IsFiniteIterable I.into_iter_gives I.IntoIter.can_next I.IntoIter.remaining pairs }
+        requires {
+            IsFiniteIterable I.into_iter_gives I.IntoIter.can_next I.IntoIter.remaining pairs
+        }
         ensures ok { OnOk result
             (Extends I.into_iter_gives I.IntoIter.next_gives Q.key pairs self.old self.new) }
         ensures err { OnErr result
@@ -80,7 +82,9 @@ impl<K: Bytes, V: Drop> GenericPatriciaMap<K, V> {
         alloc: Global,
         pairs: I,
     ) -> Result<Self, AllocError>
-        requires { IsFiniteIterable I.into_iter_gives I.IntoIter.can_next I.IntoIter.remaining pairs }
+        requires {
+            IsFiniteIterable I.into_iter_gives I.IntoIter.can_next I.IntoIter.remaining pairs
+        }
         ensures ok { IfOk result
             (λ made. Extends I.into_iter_gives I.IntoIter.next_gives Q.key pairs map.empty made) }
         ensures err { OnErr result ((left : map.FinMap key_cmp V)

@@ -19,8 +19,9 @@ impl<T: Bytes> GenericPatriciaSet<T> {
     /// # Errors
     ///
     /// `NotInOrder` at an element that does not come after the last one. `Memory` where memory ran
-    /// out for a new nonempty element that does; at the first one also for a copy of the last of the
-    /// set, before the two are compared. Those before it are inserted; it and the rest are dropped.
+    /// out for a new nonempty element that does; at the first one also for a copy of the last of
+    /// the set, before the two are compared. Those before it are inserted; it and the rest are
+    /// dropped.
     ///
     /// # Examples
     ///
@@ -37,7 +38,9 @@ impl<T: Bytes> GenericPatriciaSet<T> {
         &mut self,
         elements: I,
     ) -> Result<(), LoadError>
-        requires { IsFiniteIterable I.into_iter_gives I.IntoIter.can_next I.IntoIter.remaining elements }
+        requires {
+            IsFiniteIterable I.into_iter_gives I.IntoIter.can_next I.IntoIter.remaining elements
+        }
         ensures ok { OnOk result
             (Loads I.into_iter_gives I.IntoIter.next_gives Q.key elements self.old self.new) }
         ensures err { IfErr result (λ e. IsLoadStopped I.into_iter_gives I.IntoIter.next_gives Q.key

@@ -280,9 +280,9 @@ impl<T: Bytes> GenericPatriciaSet<T> {
     /// Returns the set of the elements that are in this set and not in the other one.
     ///
     /// Where the other set has at most half as many elements, this takes the time of a copy of this
-    /// set, and of a `remove` for each element of the other one. Else it takes a walk over this set,
-    /// with a look-up in the other one for each element, and an `insert` for each element of the
-    /// result.
+    /// set, and of a `remove` for each element of the other one. Else it takes a walk over this
+    /// set, with a look-up in the other one for each element, and an `insert` for each element of
+    /// the result.
     ///
     /// # Errors
     ///

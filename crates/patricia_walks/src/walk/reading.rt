@@ -81,9 +81,9 @@ impl<'a, K: Bytes, V> ReadCursor<'a, K, V> {
         }
     }
 
-    /// Passes the entries that are left and whose key begins with the first `len` bytes of the key at
-    /// which the cursor stands, or with as many of these as are whole items. The cursor still stands
-    /// at that key; where it stands at none, nothing is passed. Does not allocate.
+    /// Passes the entries that are left and whose key begins with the first `len` bytes of the key
+    /// at which the cursor stands, or with as many of these as are whole items. The cursor still
+    /// stands at that key; where it stands at none, nothing is passed. Does not allocate.
     ///
     /// Takes time in proportion to the key and to the nodes on its path, however many entries are
     /// passed.

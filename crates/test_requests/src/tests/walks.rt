@@ -49,8 +49,8 @@ fn gives_all<W: Walk>(mut walk: W, len: usize, past: bool) -> bool {
     gives_each && (!past || !walk.gives())
 }
 
-// Whether a cursor finds an entry, and past it what begins with its first byte is skipped where that
-// is asked.
+// Whether a cursor finds an entry, and past it what begins with its first byte is skipped where
+// that is asked.
 fn skips<K: Bytes>(map: &GenericPatriciaMap<K, u64>, past: bool) -> bool {
     let mut cursor = map.cursor();
     let found = cursor.gives();

@@ -1,6 +1,6 @@
-//! Three encodings, with levels of each width, of which each byte is each other byte in turn, and of
-//! which each proper prefix is read. What is read is compared with what the plain reader of these
-//! tests reads.
+//! Three encodings, with levels of each width, of which each byte is each other byte in turn, and
+//! of which each proper prefix is read. What is read is compared with what the plain reader of
+//! these tests reads.
 use super::levels::Levels;
 use super::reader::{Kind, Row, read};
 use patricia_tree::{DecodeError, GenericPatriciaMap, PatriciaMap};

@@ -67,9 +67,9 @@ impl<V> NodeArena<V> {
         }
     }
 
-    /// The place of a nonempty key. The look-up goes on below the last node that the last key passes
-    /// too, as its trail says, or at the top where no key is given. The trail is that of this key
-    /// then: the nodes that it passes, as far as memory is there for them.
+    /// The place of a nonempty key. The look-up goes on below the last node that the last key
+    /// passes too, as its trail says, or at the top where no key is given. The trail is that of
+    /// this key then: the nodes that it passes, as far as memory is there for them.
     pub fn seek_along<Q: BorrowedBytes>(
         &self,
         trail: &mut Vec<(NodeId, usize)>,

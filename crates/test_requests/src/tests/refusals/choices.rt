@@ -10,8 +10,8 @@ type Map = StringPatriciaMap<u64>;
 /// A key that begins another one.
 pub(super) const SHORT: &str = "a beginning that is longer than a node keeps";
 
-/// Entries in key order, of which the second key begins the third one, with which it is joined if it
-/// goes.
+/// Entries in key order, of which the second key begins the third one, with which it is joined if
+/// it goes.
 pub(super) const ROWS: [(&str, u64); 5] = [
     ("", 1),
     (SHORT, 2),

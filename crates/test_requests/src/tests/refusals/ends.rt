@@ -219,7 +219,8 @@ fn removals_refused_in_turn(rt: HostRuntime) -> Result<(), AllocError> {
     Ok(())
 }
 
-// Merges rows into a map: where both have a key, their sum stays. Returns whether it is not refused.
+// Merges rows into a map: where both have a key, their sum stays. Returns whether it is not
+// refused.
 fn merge(alloc: Global, map: &mut Map, rows: &[(&str, u64)]) -> Result<bool, AllocError> {
     let other = Map::from_iter(alloc, rows.iter().copied())?;
     let merged = map.merge_with(other, |value, new| *value = (*value).wrapping_add(new));
