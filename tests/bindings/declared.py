@@ -1,7 +1,4 @@
-#!/usr/bin/env python3
 """Compares what patricia.h, library.rs of the Rust crate and patricia.py declare with what patricia_c exports.
-
-    tests/bindings/declared.py
 
 Each parameter is brought to one form: a number by its width, a pointer by what it points to. The types of patricia_c
 are the measure: `Global` has no bytes, so C passes nothing for it, and a slice is a pointer and a length. The Rust
@@ -9,9 +6,10 @@ crate and the Python module may declare fewer functions, and Python, whose point
 """
 import os
 import re
-import sys
+from tests.support import ROOT
 
-ROOT = os.path.dirname(os.path.dirname(os.path.dirname(os.path.abspath(__file__))))
+# How many functions are exported.
+COUNT = 32
 EXPORT = re.compile(r'#\[unsafe\(no_mangle\)\]\npub extern "C" fn (\w+)\(([^)]*)\)(?: -> (\w+))?')
 EXPORTED = {
     'Global': (), 'u64': ('u64',), '&mut u64': ('*u64',), '&mut usize': ('*usize',),
@@ -93,21 +91,16 @@ def without_types(of):
     return tuple(bare.get(x, x) for x in types), result
 
 
-def main():
+def faults():
+    """What is declared in another way than it is exported."""
     exports = exported()
-    faults = [] if len(exports) == 32 else ['%d functions are exported' % len(exports)]
-    for where, found, form in (('patricia.h', in_c(), lambda x: x), ('library.rs', in_rust(), lambda x: x),
-                               ('patricia.py', in_python(), without_types)):
-        for name in exports if where == 'patricia.h' else found:
-            if name not in found or name not in exports or found[name] != form(exports[name]):
-                faults.append('%s: %s is declared as %s, and exported as %s'
-                              % (where, name, found.get(name), name in exports and form(exports[name])))
+    found = [] if len(exports) == COUNT else ['%d functions are exported' % len(exports)]
+    for where, declared, form in (('patricia.h', in_c(), lambda x: x), ('library.rs', in_rust(), lambda x: x),
+                                  ('patricia.py', in_python(), without_types)):
+        for name in exports if where == 'patricia.h' else declared:
+            if name not in declared or name not in exports or declared[name] != form(exports[name]):
+                found.append('%s: %s is declared as %s, and exported as %s'
+                             % (where, name, declared.get(name), name in exports and form(exports[name])))
         if where == 'patricia.h':
-            faults += ['%s: %s is not exported' % (where, x) for x in found if x not in exports]
-        print('%s: %d functions' % (where, len(found)))
-    if faults:
-        sys.exit('\n'.join(faults))
-
-
-if __name__ == '__main__':
-    main()
+            found += ['%s: %s is not exported' % (where, x) for x in declared if x not in exports]
+    return found

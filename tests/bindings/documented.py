@@ -1,15 +1,12 @@
-#!/usr/bin/env python3
-"""Runs the examples of docs/BINDINGS.md, and compares what they print with what the page says.
-
-    tests/bindings/documented.py FOLDER FLAGS    programs are made in the folder; FLAGS are those of pkg-config
-"""
+"""Runs the examples of docs/BINDINGS.md. Programs are made in a folder, with the flags of pkg-config."""
 import os
 import re
 import shutil
 import subprocess
 import sys
+from tests.support import ROOT
 
-ROOT = os.path.dirname(os.path.dirname(os.path.dirname(os.path.abspath(__file__))))
+NAMES = 'words.c', 'words.py', 'main.rs'
 EXAMPLE = re.compile(r'`(words\.c|words\.py|main\.rs)`:\n\n((?:    .*\n|\n)+)It prints:\n\n((?:    .*\n)+)')
 
 
@@ -21,8 +18,11 @@ def run(*words, **more):
     return subprocess.run(words, stdout=subprocess.PIPE, encoding='utf-8', check=True, **more).stdout
 
 
-def printed(name, folder, flags):
+def printed(name, text, folder, flags):
+    """What an example with this code prints."""
     path = os.path.join(folder, name)
+    with open(path, 'w', encoding='utf-8') as file:
+        file.write(text)
     if name == 'words.c':
         run('cc', '-std=c11', '-Wall', '-Wextra', '-Wpedantic', '-Werror', '-o', path + '.run', path, *flags)
         return run(path + '.run')
@@ -41,21 +41,7 @@ def printed(name, folder, flags):
     return run('cargo', 'run', '--offline', '--quiet', cwd=crate, env=place)
 
 
-def main():
-    folder, flags = sys.argv[1], sys.argv[2].split()
+def examples():
+    """Each example's name, its code, and what it prints."""
     with open(os.path.join(ROOT, 'docs', 'BINDINGS.md'), encoding='utf-8') as file:
-        examples = EXAMPLE.findall(file.read())
-    if [name for name, _, _ in examples] != ['words.c', 'words.py', 'main.rs']:
-        sys.exit('docs/BINDINGS.md: not the three examples that it had')
-    for name, block, wanted in examples:
-        if name == 'main.rs' and shutil.which('cargo') is None:
-            continue
-        with open(os.path.join(folder, name), 'w', encoding='utf-8') as file:
-            file.write(code(block))
-        got = printed(name, folder, flags)
-        if got != code(wanted):
-            sys.exit('docs/BINDINGS.md: %s prints\n%s' % (name, got))
-
-
-if __name__ == '__main__':
-    main()
+        return {name: (code(block), code(wanted)) for name, block, wanted in EXAMPLE.findall(file.read())}

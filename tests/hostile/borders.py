@@ -1,24 +1,19 @@
 """Runs `ptree` at its borders: streams that are closed, full or not files, input and output that end early, a line
 of 100 MB, and little memory.
 
-    python3 -B tests/hostile/borders.py PROGRAM
-
 Each run must end by itself with the status and the error line of docs/PTREE.md. What a run wrote before its output
-failed must be a prefix of the right output, which is that of tests/oracle/model.py. The last line says how many runs
-there were.
+failed must be a prefix of the right output, which is that of tests/oracle/model.py. tests/test_hostile.py runs each
+part on both builds.
 """
 import os
 import resource
 import subprocess
-import sys
 import tempfile
+from tests.oracle.model import answer
+from tests.oracle.refuse_commands import is_allowed
+from tests.support import MOST_SECONDS
 
-TESTS = os.path.dirname(os.path.dirname(os.path.abspath(__file__)))
-sys.path.insert(0, os.path.join(TESTS, 'oracle'))
-from model import answer  # noqa: E402
-from refuse_commands import is_allowed  # noqa: E402
-
-MOST_SECONDS = 300
+PARTS = 'inputs', 'full_disk', 'no_reader', 'cut_output', 'long_lines', 'little_memory'
 MIB = 2 ** 20
 
 READ_FAILED = (1, b'ptree: read failed\n')
@@ -160,15 +155,3 @@ def check_little_memory(runs):
             assert got in (READ_FAILED, NO_MEMORY) and output == b'', '%r in %d bytes' % (got, space)
             met.add(got)
     check(met, {READ_FAILED, NO_MEMORY, 0, 1}, 'ends in little memory')
-
-
-def main(program):
-    runs = Runs(program)
-    for part in (check_inputs, check_full_disk, check_no_reader, check_cut_output, check_long_lines,
-                 check_little_memory):
-        part(runs)
-    print('%s: passed %d runs at its borders' % (program, runs.count))
-
-
-if __name__ == '__main__':
-    main(*sys.argv[1:])

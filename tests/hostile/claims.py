@@ -1,7 +1,7 @@
 """Reads random damaged encodings, and asks that no call of `from_wire` or
 `from_wide_wire` asks for more memory than is stated.
 
-    python3 -B tests/hostile/claims.py PROGRAM [--inputs N]
+    python3 -B -m tests.hostile.claims PROGRAM [--inputs N]
 
 PROGRAM is crates/test_wire/out/test_wire_tests. Its test reads N encodings, a million unless another number is
 given, and tells the shim tests/hostile/live.c by requests that are refused where each call begins, with how many bytes,
@@ -17,44 +17,43 @@ is the first room for records that are due.
 import argparse
 import os
 import re
-import resource
 import subprocess
 import tempfile
+from tests.support import limits, shim
 
-HERE = os.path.dirname(os.path.abspath(__file__))
 TEST = 'tests::hostile::no_claim_is_believed'
-MOST_SECONDS = 300
+MOST_INPUTS = 1000000
 EACH = 57
 FIXED = 128
-
-
-def limit():
-    resource.setrlimit(resource.RLIMIT_CPU, (MOST_SECONDS, MOST_SECONDS))
 
 
 def counted(program, inputs):
     """The line of the shim about the calls, as names and numbers."""
     with tempfile.TemporaryDirectory() as folder:
-        shim, log = os.path.join(folder, 'live.so'), os.path.join(folder, 'log')
-        subprocess.run(['cc', '-O1', '-shared', '-fPIC', '-o', shim, os.path.join(HERE, 'live.c')], check=True)
-        env = {**os.environ, 'LD_PRELOAD': shim, 'LIVE_LOG': log, 'LIVE_EACH': str(EACH),
+        log = os.path.join(folder, 'log')
+        env = {**os.environ, 'LD_PRELOAD': shim('hostile/live.c'), 'LIVE_LOG': log, 'LIVE_EACH': str(EACH),
                'HOSTILE_INPUTS': str(inputs)}
-        subprocess.run([program, TEST], env=env, preexec_fn=limit, check=True, stdout=subprocess.DEVNULL)
+        subprocess.run([program, TEST], env=env, preexec_fn=limits(), check=True, stdout=subprocess.DEVNULL)
         with open(log, encoding='ascii') as file:
             line = next(line for line in file if line.startswith('calls='))
     return {name: float(number) for name, number in re.findall(r'(\w+)=(\S+)', line)}
 
 
+def check(program, inputs):
+    """Asserts what the calls over so many encodings ask for."""
+    got = counted(program, inputs)
+    print('%(calls)d calls asked for %(most)d bytes at the most, and for %(multiple).2f times what was given; '
+          'the worst for %(over)d more than' % got, '%d times that' % EACH)
+    assert got['calls'] == inputs, 'not each input was a call'
+    assert got['over'] <= FIXED, 'more than %d bytes and %d for each byte given' % (FIXED, EACH)
+
+
 def main():
     parser = argparse.ArgumentParser()
     parser.add_argument('program')
-    parser.add_argument('--inputs', type=int, default=1000000)
+    parser.add_argument('--inputs', type=int, default=MOST_INPUTS)
     words = parser.parse_args()
-    got = counted(words.program, words.inputs)
-    print('%(calls)d calls asked for %(most)d bytes at the most, and for %(multiple).2f times what was given; '
-          'the worst for %(over)d more than' % got, '%d times that' % EACH)
-    assert got['calls'] == words.inputs, 'not each input was a call'
-    assert got['over'] <= FIXED, 'more than %d bytes and %d for each byte given' % (FIXED, EACH)
+    check(words.program, words.inputs)
 
 
 if __name__ == '__main__':

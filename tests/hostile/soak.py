@@ -1,6 +1,6 @@
 """Gives `ptree bytes` millions of random commands in one run, and asks that it holds on to no more memory at the end.
 
-    python3 -B tests/hostile/soak.py PROGRAM [--commands N] [--lose N]
+    python3 -B -m tests.hostile.soak PROGRAM [--commands N] [--lose N]
 
 The commands are inserts, look-ups and removals of keys of a fixed set of 100,000, of which about half are there at any
 time, and among them splits, copies, swaps, reloads, and clears of the second map. Each reply is held against
@@ -19,12 +19,9 @@ import argparse
 import os
 import random
 import subprocess
-import sys
 import tempfile
-
-HERE = os.path.dirname(os.path.abspath(__file__))
-sys.path.insert(0, os.path.join(os.path.dirname(HERE), 'oracle'))
-from model import Maps, line_answer  # noqa: E402
+from tests.oracle.model import Maps, line_answer
+from tests.support import shim
 
 KEY_COUNT = 100000
 TENTHS = 10
@@ -134,9 +131,9 @@ def room(length):
 
 def run(program, folder, data, lose):
     """Runs the program under the shim. Gives the path of what it wrote, what was live at each mark, and at the end."""
-    shim, log, output = (os.path.join(folder, name) for name in ('live.so', 'log', 'out'))
-    subprocess.run(['cc', '-O1', '-shared', '-fPIC', '-o', shim, os.path.join(HERE, 'live.c')], check=True)
-    env = {**os.environ, 'LD_PRELOAD': shim, 'LIVE_LOG': log, 'LIVE_MARK': str(MARK), 'LIVE_LOSE': str(lose)}
+    log, output = (os.path.join(folder, name) for name in ('log', 'out'))
+    env = {**os.environ, 'LD_PRELOAD': shim('hostile/live.c'), 'LIVE_LOG': log, 'LIVE_MARK': str(MARK),
+           'LIVE_LOSE': str(lose)}
     with open(data, 'rb') as given, open(output, 'wb') as taken:
         subprocess.run([program, 'bytes'], stdin=given, stdout=taken, env=env, check=True)
     with open(log, encoding='ascii') as file:

@@ -1,13 +1,13 @@
 """What `test_scripts` must answer, by the plain model of model.py.
 
-    python3 -B tests/oracle/answer_lines.py < crates/test_scripts/stdin > crates/test_scripts/stdout
+    python3 -B -m tests.oracle.answer_lines < crates/test_scripts/stdin > crates/test_scripts/stdout
 """
 import sys
 import unicodedata
 from urllib.parse import unquote_to_bytes
-from answer_readings import read
-from answer_wire import tree_bytes
-from model import common, first_item, floor_boundary, is_valid, rows
+from tests.oracle.answer_readings import read
+from tests.oracle.answer_wire import tree_bytes
+from tests.oracle.model import common, first_item, floor_boundary, is_valid, rows
 
 KINDS = 'bytes', 'text', 'bytes_set', 'text_set'
 

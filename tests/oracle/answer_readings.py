@@ -1,6 +1,6 @@
 """What `test_vectors` must answer of tree bytes, by what a whole tree is and by the table of faults.
 
-    python3 -B tests/oracle/answer_readings.py < crates/test_vectors/stdin >> crates/test_vectors/stdout
+    python3 -B -m tests.oracle.answer_readings < crates/test_vectors/stdin >> crates/test_vectors/stdout
 
 Bytes are first taken apart to records. Whether records are a whole tree, and which fault stands at
 one, is asked of the records before it each time, with no state kept from one to the next. What a map
@@ -11,8 +11,8 @@ import sys
 from functools import lru_cache
 from typing import NamedTuple
 from zlib import crc32
-from answer_wire import NARROW, WIDE, decimals, tree_bytes
-from model import first_item, is_valid
+from tests.oracle.answer_wire import NARROW, WIDE, decimals, tree_bytes
+from tests.oracle.model import first_item, is_valid
 
 VALUE, CHILD, SIBLING = 2, 8, 32
 

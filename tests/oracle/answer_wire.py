@@ -1,7 +1,7 @@
 """What `test_vectors` must answer of maps and sets, by what the written form is, over dictionaries
 and sets.
 
-    python3 -B tests/oracle/answer_wire.py < crates/test_vectors/stdin > crates/test_vectors/stdout
+    python3 -B -m tests.oracle.answer_wire < crates/test_vectors/stdin > crates/test_vectors/stdout
 
 A tree has a node for each prefix that its keys share, and no other. First come the root and then
 the nodes in key order. Then each label is cut into pieces of at most 255 bytes, and each piece is a
@@ -10,7 +10,7 @@ record.
 import json
 import sys
 from itertools import groupby
-from model import common, first_item, floor_boundary, is_valid, rows
+from tests.oracle.model import common, first_item, floor_boundary, is_valid, rows
 
 # how many bytes a level takes in what a call asks for
 NARROW, WIDE = 2, 4

@@ -1,6 +1,6 @@
 """Makes the random cases of `ptree`, and what it must answer to all cases.
 
-    python3 -B tests/oracle/make_cases.py tests/cases
+    python3 -B -m tests.oracle.make_cases tests/cases
 
 For each kind of keys and each shape of SHAPES one random script KIND_SHAPE.in, from one seed, and
 from another a short one of all words but those of tree bytes, KIND_two_maps.in, and for each shape of
@@ -11,8 +11,8 @@ NAME.in of the folder the answers NAME.out by model.py. A case with a NAME.statu
 import os
 import random
 import sys
-from model import answer
-from scripts import RELOAD_WEIGHTS, SHAPES, WIDE_WEIGHTS, WIRE_WEIGHTS, script, script_of_all
+from tests.oracle.model import answer
+from tests.oracle.scripts import RELOAD_WEIGHTS, SHAPES, WIDE_WEIGHTS, WIRE_WEIGHTS, script, script_of_all
 
 SEED = 15
 SEED_OF_ALL = 14

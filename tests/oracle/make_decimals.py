@@ -1,6 +1,6 @@
 """Makes calls over the decimal texts below ten thousand, which `test_scripts` reads.
 
-    python3 -B tests/oracle/make_decimals.py > FILE
+    python3 -B -m tests.oracle.make_decimals > FILE
 
 The even numbers are inserted, and then the odd ones. The even ones are removed, each asked for
 twice, and inserted again. Then each walk gives all entries. What must be answered is what

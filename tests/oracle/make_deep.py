@@ -1,6 +1,6 @@
 """Makes the inputs that are deep and wide, and what `ptree` must answer to them.
 
-    python3 -B tests/oracle/make_deep.py FOLDER
+    python3 -B -m tests.oracle.make_deep FOLDER
 
 bytes.in has 8,000 keys, each a prefix of the next, and text.in 30,000 keys of one character.
 They are inserted from the last to the first, looked up, asked for what is under and along the last,
@@ -13,8 +13,8 @@ Each NAME.out is the answer by model.py.
 """
 import os
 import sys
-from model import answer
-from make_cases import write
+from tests.oracle.model import answer
+from tests.oracle.make_cases import write
 
 NESTED = [b'a' * n for n in range(1, 8001)]
 CHARACTERS = [chr(0x4E00 + n).encode() for n in range(30000)]

@@ -1,6 +1,6 @@
 """Makes calls over labels of each length that matters, which `test_scripts` reads.
 
-    python3 -B tests/oracle/make_labels.py > FILE
+    python3 -B -m tests.oracle.make_labels > FILE
 
 A label of at most 30 bytes stands in its node, and a longer one in memory of its own. Labels of 1
 to 33 bytes, and of about 255, are linked before, behind and below others, cut, joined again, looked

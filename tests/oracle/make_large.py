@@ -1,6 +1,6 @@
 """Makes inputs over some 200,000 keys, and what the programs must answer to them.
 
-    python3 -B tests/oracle/make_large.py FOLDER
+    python3 -B -m tests.oracle.make_large FOLDER
 
 No contract can tell an allocation failure that did not happen. A body that gives up past a number of
 entries would meet its contract, so these inputs make each command and each call that may allocate on
@@ -12,10 +12,10 @@ the plain models, model.py and answer_lines.py.
 """
 import os
 import sys
-from answer_lines import answers, calls, written
-from answer_wire import tree_bytes
-from make_cases import write
-from model import answer
+from tests.oracle.answer_lines import answers, calls, written
+from tests.oracle.answer_wire import tree_bytes
+from tests.oracle.make_cases import write
+from tests.oracle.model import answer
 
 COUNT = 200000
 UNDER = 150000

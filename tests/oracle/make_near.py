@@ -1,6 +1,6 @@
 """Makes searches for keys that are few edits from another one, which `test_scripts` reads.
 
-    python3 -B tests/oracle/make_near.py > FILE
+    python3 -B -m tests.oracle.make_near > FILE
 
 Maps of random keys over three items, among them keys that begin each other and the empty one, change
 between the searches. Most keys that are sought are a stored one with some edits. What must be

@@ -1,6 +1,6 @@
 """Makes calls about the order of keys, over two maps and over two sets, which `test_scripts` reads.
 
-    python3 -B tests/oracle/make_order.py > FILE
+    python3 -B -m tests.oracle.make_order > FILE
 
 The maps and sets have random keys over three items, among them keys that begin each other and the empty
 one. They change between the questions: entries are taken at the ends and by a prefix, merged, kept in

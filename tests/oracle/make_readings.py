@@ -1,13 +1,13 @@
 """Makes the lines of tree bytes and values with which the input of `test_vectors` ends.
 
-    python3 -B tests/oracle/make_readings.py >> crates/test_vectors/stdin
+    python3 -B -m tests.oracle.make_readings >> crates/test_vectors/stdin
 
 First the lines that somebody thought of, then encodings by chance, whole ones and damaged ones, from a
 fixed seed. What must be answered is what answer_readings.py says.
 """
 import random
-from answer_wire import NARROW, WIDE, decimals, siblings, tree_bytes
-from model import common, first_item
+from tests.oracle.answer_wire import NARROW, WIDE, decimals, siblings, tree_bytes
+from tests.oracle.model import common, first_item
 
 ROOT = [12, 0, 0, 0]
 A, B = ord('a'), ord('b')

@@ -1,6 +1,6 @@
 """Makes the lines of maps and sets with which the input of `test_vectors` begins.
 
-    python3 -B tests/oracle/make_wire.py > crates/test_vectors/stdin
+    python3 -B -m tests.oracle.make_wire > crates/test_vectors/stdin
 
 First the lines that somebody thought of, then some by chance, from a fixed seed. What must be
 answered is what answer_wire.py says.

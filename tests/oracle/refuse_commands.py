@@ -1,16 +1,12 @@
 """Runs `ptree` with the Nth memory request refused, for N = 1, 2, .. until none is refused.
 
-    python3 -B tests/oracle/refuse_commands.py PROGRAM SHIM
-
-PROGRAM is `ptree`, and SHIM is tests/refusal/refuse.c as a shared library. For each kind of keys
-and each of SCRIPTS a run either writes nothing and ends with status 1 and a line that says why, or
-it writes what the plain model allows: its own answer, in which at most one command, if it may ask
-for memory, is answered `no memory` and changes nothing. With no request refused, the answer is the
-model's own. The last line says how many runs there were.
+For each kind of keys and each of SCRIPTS a run either writes nothing and ends with status 1 and a line
+that says why, or it writes what the plain model allows: its own answer, in which at most one command, if
+it may ask for memory, is answered `no memory` and changes nothing. With no request refused, the answer
+is the model's own.
 """
-import sys
-from model import Maps, along, answer, joins, line_answer, lines, read_key, rows, under
-from refused_run import run
+from tests.oracle.model import Maps, along, answer, joins, line_answer, lines, read_key, rows, under
+from tests.support import in_turn
 
 LONG = b'bcd' * 20
 
@@ -37,8 +33,6 @@ SCRIPTS = [
 ]
 
 ERRORS = [b'ptree: read failed\n', b'ptree: out of memory\n']
-
-MOST_REQUESTS = 5000
 
 
 def may_be_refused(m, kind, line):
@@ -89,26 +83,15 @@ def spelled(kind, data):
     return b''.join(b'\t'.join(line) + b'\n' for line in fields)
 
 
-def check(program, shim, kind, data):
-    """Runs until no request is refused, and gives how many were."""
-    for n in range(1, MOST_REQUESTS):
-        status, output, errors, is_refused = run([program, kind], shim, data, n)
-        told = '%s, request %d: status %d, %r, %r' % (kind, n, status, output, errors)
-        if not is_refused:
-            assert (status, output, errors) == (0, answer(kind, data), b''), told
-            return n - 1
-        if status == 0:
-            assert is_allowed(kind, data, output) and errors == b'', told
+def check(program, kind, script):
+    """Runs a script until no request is refused, and asserts what each run writes."""
+    data = spelled(kind, script)
+    for at, ran in in_turn([program, kind], data):
+        told = '%s, request %d: %r' % (kind, at, ran)
+        if not ran.is_refused:
+            assert (ran.returncode, ran.stdout, ran.stderr) == (0, answer(kind, data), b''), told
+            assert at > 1, 'no request'
+        elif ran.returncode == 0:
+            assert is_allowed(kind, data, ran.stdout) and ran.stderr == b'', told
         else:
-            assert status == 1 and output == b'' and errors in ERRORS, told
-    raise AssertionError('no end')
-
-
-def main(program, shim):
-    counts = [check(program, shim, kind, spelled(kind, data)) for kind in ('bytes', 'text', 'units') for data in SCRIPTS]
-    assert min(counts) > 0, 'no request'
-    print('%s: passed with each of %s requests refused' % (program, ', '.join(map(str, counts))))
-
-
-if __name__ == '__main__':
-    main(*sys.argv[1:])
+            assert ran.returncode == 1 and ran.stdout == b'' and ran.stderr in ERRORS, told

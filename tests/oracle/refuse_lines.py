@@ -1,9 +1,6 @@
 """Runs a program with the Nth memory request refused, for N = 1, 2, .. until none is refused.
 
-    python3 -B tests/oracle/refuse_lines.py PROGRAM SHIM maps|sets
-
-PROGRAM is `test_scripts`, which answers calls of maps and of sets.
-SHIM is tests/refusal/refuse.c as a shared library. Each script is run alone. At first a run may end
+The program is `test_scripts`, which answers calls of maps and of sets. Each script is run alone. At first a run may end
 with a status that is not 0 and no answers, since the program reads its input to its end before it
 answers. From the first call on that is refused, each run ends with 0. Such a run writes the answers of
 the plain model, and in at most one of its lines a refusal may stand, at a place where the model allows
@@ -13,12 +10,9 @@ entries it left, and is made again, with the answer of one that was not refused.
 pairs in is refused at one of them, and leaves those before it: in some run one is left. With no request
 refused the answers are the model's own.
 """
-import sys
-from answer_lines import answers, calls, element, row, written
-from model import is_valid, joins, rows
-from refused_run import run
-
-MOST_REQUESTS = 10000
+from tests.oracle.answer_lines import answers, calls, element, row, written
+from tests.oracle.model import is_valid, joins, rows
+from tests.support import in_turn
 
 # A key that is copied, of more than 30 bytes.
 LONG = 'bcd' * 20
@@ -335,34 +329,24 @@ def is_kept(lines, seen):
     return any(got.startswith(line + ': refused ') and not got.startswith(line + ': refused again') for got in seen)
 
 
-def check(program, shim, kind, script):
-    """Runs until no request is refused, and gives how many were, and how many in a call."""
-    lines = ['%s %s' % (kind, line) for line in script]
-    data = ''.join(line + '\n' for line in lines).encode()
-    seen = []
-    for n in range(1, MOST_REQUESTS):
-        status, output, errors, is_refused = run([program], shim, data, n)
-        told = '%s, request %d: status %d, %r, %r' % (kind, n, status, output.decode()[-2000:], errors)
-        if status == 0:
-            assert is_allowed(lines, kind, output, is_refused) and errors == b'', told
-            if not is_refused:
-                assert is_kept(list(calls(lines, kind)), seen), 'nothing was kept of ' + lines[0]
-                return n - 1, len(seen)
-            seen += [line for line in output.decode().split('\n') if ' refused' in line]
-        else:
-            assert is_refused and not seen and output == b'', told
-    raise AssertionError('no end')
-
-
-def main(program, shim, name):
+def check(program, name):
+    """Runs each script of maps or of sets, once for each kind of keys, until no request is refused."""
     kinds, scripts = SCRIPTS[name]
-    counts = [check(program, shim, kind, script) for kind in kinds for script in scripts]
-    assert min(answering for _, answering in counts) > 0, 'no request of a call'
-    print(
-        '%s: passed with each of %d requests refused, %d of them in calls'
-        % (program, sum(count for count, _ in counts), sum(answering for _, answering in counts))
-    )
+    for kind in kinds:
+        for script in scripts:
+            check_script(program, kind, script)
 
 
-if __name__ == '__main__':
-    main(*sys.argv[1:])
+def check_script(program, kind, script):
+    """Asserts what each run of a script writes, and that in some run a call is refused."""
+    lines = ['%s %s' % (kind, line) for line in script]
+    data, seen = ''.join(line + '\n' for line in lines).encode(), []
+    for at, ran in in_turn([program], data):
+        told = '%s, request %d: %r' % (kind, at, ran._replace(stdout=ran.stdout[-2000:]))
+        if ran.returncode == 0:
+            assert is_allowed(lines, kind, ran.stdout, ran.is_refused) and ran.stderr == b'', told
+            seen += [line for line in ran.stdout.decode().split('\n') if ' refused' in line]
+        else:
+            assert ran.is_refused and not seen and ran.stdout == b'', told
+    assert is_kept(list(calls(lines, kind)), seen), 'nothing was kept of ' + lines[0]
+    assert seen, 'no request of a call'

@@ -1,0 +1,65 @@
+"""The cases of `ptree`, the calls of `test_scripts`, and both on many keys, against the independent model."""
+import os
+import shutil
+from tests.support import ROOT, Case, each, folder, made, pairs, read, run
+
+CASES = sorted(name[:-3] for name in os.listdir(os.path.join(ROOT, 'tests', 'cases')) if name.endswith('.in'))
+# Each is made by a script of tests/oracle of this name.
+CALLS = 'labels', 'decimals', 'near', 'order'
+
+
+def case(name):
+    """The words, the input, the output, the errors and the status of a case."""
+    of = lambda end, otherwise: otherwise if (there := read('tests', 'cases', name + end)) is None else there
+    words = of('.args', b'bytes\n').split(b'\n')[:-1]
+    return words, of('.in', b''), of('.out', b''), of('.err', None), int(of('.status', b'0'))
+
+
+class Cases(Case):
+    """`ptree` writes of each case what tests/cases has of it."""
+
+    @each(*pairs(CASES))
+    def case(self, name, build):
+        words, data, output, errors, status = case(name)
+        ran = run([self.program('ptree', build), *words], data)
+        self.assert_ends(ran, output, ran.stderr if errors is None else errors, status)
+
+
+class Calls(Case):
+    """`test_scripts` answers as the model does."""
+
+    @each(*pairs(CALLS))
+    def made_calls(self, name, build):
+        lines = made('make_' + name)
+        self.assertGreater(lines.count(b'\n'), 10)
+        self.assert_ends(run([self.program('test_scripts', build)], lines), made('answer_lines', data=lines))
+
+
+class Large(Case):
+    """No command and no call is out of memory on 200,000 keys where there is memory enough."""
+
+    @classmethod
+    def setUpClass(cls):
+        cls.room = folder(cls.addClassCleanup)
+        made('make_large', cls.room)
+
+    @each(('ptree', 'ptree', 'bytes'), ('test_scripts', 'maps'), ('test_scripts', 'sets'))
+    def keys(self, program, name, *words):
+        data, output = (read(self.room, name + end) for end in ('.in', '.out'))
+        self.assert_ends(run([self.program(program), *words], data), output)
+
+
+class Files(Case):
+    """The files that the gate compares with are those that the model makes."""
+
+    def test_cases_are_those_of_the_model(self):
+        room = os.path.join(folder(self.addCleanup), 'cases')
+        shutil.copytree(os.path.join(ROOT, 'tests', 'cases'), room)
+        made('make_cases', room)
+        self.assertEqual(sorted(os.listdir(room)), sorted(os.listdir(os.path.join(ROOT, 'tests', 'cases'))))
+        for name in os.listdir(room):
+            self.assertEqual(read(room, name), read('tests', 'cases', name), name)
+
+    def test_answers_to_scripts_are_those_of_the_model(self):
+        calls = read('crates', 'test_scripts', 'stdin')
+        self.assertEqual(made('answer_lines', data=calls), read('crates', 'test_scripts', 'stdout'))
