@@ -2,6 +2,7 @@
 //! closures count how often they are called.
 use super::maps::make;
 use super::tally::{Tally, has, has_among};
+use crate::tests::asserts::{done, holds};
 use patricia_tree::{LoadError, StringPatriciaMap, StringPatriciaSet};
 use std::alloc::AllocError;
 
@@ -62,16 +63,16 @@ fn retain_refused_in_turn(rt: HostRuntime) -> Result<(), AllocError> {
     let mut tally = Tally::new();
     let mut map = make(rt.alloc(), ROWS.as_slice(), &mut tally)?;
     match keep(&mut map) {
-        Ok(calls) => assert!(rt; calls == 5),
+        Ok(calls) => holds!(rt; calls == 5),
         Err(calls) => {
             tally.add();
             let uncalled = calls == 0 && has(&map, ROWS.as_slice());
             let stopped = calls == 2 && has(&map, TOUCHED.as_slice());
-            assert!(rt; uncalled || stopped);
-            assert!(rt; keep(&mut map) == Ok(5));
+            holds!(rt; uncalled || stopped);
+            holds!(rt; keep(&mut map) == Ok(5));
         }
     }
-    assert!(rt; has(&map, KEPT.as_slice()));
+    holds!(rt; has(&map, KEPT.as_slice()));
     tally.check(&rt, 1);
     Ok(())
 }
@@ -108,15 +109,14 @@ fn visits(map: &Map, prefix: &str, made: u64, calls: usize, tally: &mut Tally) -
 }
 
 #[test]
-fn visits_refused_in_turn(rt: HostRuntime) -> Result<(), AllocError> {
+fn visits_refused_in_turn(rt: HostRuntime) {
     let mut tally = Tally::new();
-    let map = make(rt.alloc(), ROWS.as_slice(), &mut tally)?;
-    assert!(rt; visits(&map, "", 12345, 5, &mut tally));
-    assert!(rt; visits(&map, "ba", 45, 2, &mut tally));
-    assert!(rt; visits(&map, SHORT, 23, 2, &mut tally));
-    assert!(rt; visits(&map, "x", 0, 0, &mut tally));
+    let map = done(&rt, make(rt.alloc(), ROWS.as_slice(), &mut tally));
+    holds!(rt; visits(&map, "", 12345, 5, &mut tally));
+    holds!(rt; visits(&map, "ba", 45, 2, &mut tally));
+    holds!(rt; visits(&map, SHORT, 23, 2, &mut tally));
+    holds!(rt; visits(&map, "x", 0, 0, &mut tally));
     tally.check(&rt, 1);
-    Ok(())
 }
 
 // Loads rows that are in order, and the rest of them where one is refused. Returns whether all are
@@ -150,17 +150,16 @@ fn is_refused(map: &mut Map, key: &str, tally: &mut Tally) -> bool {
 }
 
 #[test]
-fn loads_refused_in_turn(rt: HostRuntime) -> Result<(), AllocError> {
+fn loads_refused_in_turn(rt: HostRuntime) {
     let mut tally = Tally::new();
     let mut map = Map::new(rt.alloc());
-    assert!(rt; loads(&mut map, ROWS.as_slice(), &mut tally));
-    assert!(rt; is_refused(&mut map, "baz", &mut tally));
-    assert!(rt; is_refused(&mut map, "bay", &mut tally));
-    assert!(rt; has(&map, ROWS.as_slice()));
-    assert!(rt; loads(&mut map, [("c", 6)].as_slice(), &mut tally));
-    assert!(rt; map.len() == 6);
+    holds!(rt; loads(&mut map, ROWS.as_slice(), &mut tally));
+    holds!(rt; is_refused(&mut map, "baz", &mut tally));
+    holds!(rt; is_refused(&mut map, "bay", &mut tally));
+    holds!(rt; has(&map, ROWS.as_slice()));
+    holds!(rt; loads(&mut map, [("c", 6)].as_slice(), &mut tally));
+    holds!(rt; map.len() == 6);
     tally.check(&rt, 1);
-    Ok(())
 }
 
 // Loads elements into a set, and calls a closure at each. Returns how many bytes they have.
@@ -178,13 +177,12 @@ fn load_and_visit(set: &mut StringPatriciaSet) -> Option<usize> {
 }
 
 #[test]
-fn sets_refused_in_turn(rt: HostRuntime) -> Result<(), AllocError> {
+fn sets_refused_in_turn(rt: HostRuntime) {
     let mut set = StringPatriciaSet::new(rt.alloc());
     let mut bytes = load_and_visit(&mut set);
     if bytes.is_none() {
         set.clear();
         bytes = load_and_visit(&mut set);
     }
-    assert!(rt; bytes == Some(15));
-    Ok(())
+    holds!(rt; bytes == Some(15));
 }

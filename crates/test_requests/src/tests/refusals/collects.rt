@@ -3,6 +3,7 @@
 use super::choices::ROWS;
 use super::tally::Tally;
 use super::whole::holds;
+use crate::tests::asserts::holds;
 use patricia_tree::{StringPatriciaMap, StringPatriciaSet};
 use std::alloc::{AllocError, Global};
 use std::cell::Cell;
@@ -66,15 +67,14 @@ fn extends<'a>(map: &mut Map<'a>, count: &'a Cell<usize>, tally: &mut Tally) -> 
 }
 
 #[test]
-fn map_extends_refused_in_turn(rt: HostRuntime) -> Result<(), AllocError> {
+fn map_extends_refused_in_turn(rt: HostRuntime) {
     let (mut tally, count) = (Tally::new(), Cell::new(0));
     let mut map = Map::new(rt.alloc());
-    assert!(rt; extends(&mut map, &count, &mut tally));
-    assert!(rt; has(&map, &ROWS, &count));
+    holds!(rt; extends(&mut map, &count, &mut tally));
+    holds!(rt; has(&map, &ROWS, &count));
     drop(map);
-    assert!(rt; count.get() == 0);
+    holds!(rt; count.get() == 0);
     tally.check(&rt, 1);
-    Ok(())
 }
 
 // A map that the rows are collected into, or none where that is refused.
@@ -86,18 +86,17 @@ fn collected<'a>(alloc: Global, count: &'a Cell<usize>) -> Option<Map<'a>> {
 }
 
 #[test]
-fn map_collects_refused_in_turn(rt: HostRuntime) -> Result<(), AllocError> {
+fn map_collects_refused_in_turn(rt: HostRuntime) {
     let (mut tally, count) = (Tally::new(), Cell::new(0));
     let mut map = collected(rt.alloc(), &count);
     if map.is_none() {
         tally.add();
-        assert!(rt; count.get() == 0);
+        holds!(rt; count.get() == 0);
         map = collected(rt.alloc(), &count);
     }
-    assert!(rt; map.is_some_and(|map| has(&map, &ROWS, &count)));
-    assert!(rt; count.get() == 0);
+    holds!(rt; map.is_some_and(|map| has(&map, &ROWS, &count)));
+    holds!(rt; count.get() == 0);
     tally.check(&rt, 1);
-    Ok(())
 }
 
 // Elements in order, of which the first begins the second.
@@ -132,11 +131,10 @@ fn extends_set(set: &mut StringPatriciaSet, tally: &mut Tally) -> bool {
 }
 
 #[test]
-fn set_extends_refused_in_turn(rt: HostRuntime) -> Result<(), AllocError> {
+fn set_extends_refused_in_turn(rt: HostRuntime) {
     let mut tally = Tally::new();
     let mut set = StringPatriciaSet::new(rt.alloc());
-    assert!(rt; extends_set(&mut set, &mut tally));
-    assert!(rt; holds(&set, ELEMENTS.as_slice()));
+    holds!(rt; extends_set(&mut set, &mut tally));
+    holds!(rt; holds(&set, ELEMENTS.as_slice()));
     tally.check(&rt, 1);
-    Ok(())
 }

@@ -1,6 +1,7 @@
 //! Counts of nested keys that lie deeper than a call counts without memory, of which one may be
 //! refused: the map or the set is as it was, and is counted once more.
 use super::tally::Tally;
+use crate::tests::asserts::holds;
 use patricia_tree::{PatriciaMap, PatriciaSet};
 use std::alloc::AllocError;
 
@@ -36,33 +37,31 @@ fn count_once(first: Result<usize, AllocError>, again: Option<usize>, tally: &mu
 }
 
 #[test]
-fn maps_refused_in_turn(rt: HostRuntime) -> Result<(), AllocError> {
+fn maps_refused_in_turn(rt: HostRuntime) {
     let mut tally = Tally::new();
     let mut map: PatriciaMap<u64> = PatriciaMap::new(rt.alloc());
     for len in 1..=LETTERS.len() {
         let key = LETTERS.get(..len).unwrap_or(&[]);
-        assert!(rt; put(&mut map, key, &mut tally));
+        holds!(rt; put(&mut map, key, &mut tally));
     }
     let first = map.count_prefix(b"a".as_slice());
-    assert!(rt; map.len() == 100);
+    holds!(rt; map.len() == 100);
     let again = map.count_prefix(b"a".as_slice()).ok();
-    assert!(rt; count_once(first, again, &mut tally) == 100);
+    holds!(rt; count_once(first, again, &mut tally) == 100);
     tally.check(&rt, 1);
-    Ok(())
 }
 
 #[test]
-fn sets_refused_in_turn(rt: HostRuntime) -> Result<(), AllocError> {
+fn sets_refused_in_turn(rt: HostRuntime) {
     let mut tally = Tally::new();
     let mut set: PatriciaSet = PatriciaSet::new(rt.alloc());
     for len in 1..=LETTERS.len() {
         let element = LETTERS.get(..len).unwrap_or(&[]);
-        assert!(rt; put_element(&mut set, element, &mut tally));
+        holds!(rt; put_element(&mut set, element, &mut tally));
     }
     let first = set.count_prefix(b"a".as_slice());
-    assert!(rt; set.len() == 100);
+    holds!(rt; set.len() == 100);
     let again = set.count_prefix(b"a".as_slice()).ok();
-    assert!(rt; count_once(first, again, &mut tally) == 100);
+    holds!(rt; count_once(first, again, &mut tally) == 100);
     tally.check(&rt, 1);
-    Ok(())
 }

@@ -3,6 +3,7 @@
 use super::choices::SHORT;
 use super::tally::Tally;
 use super::whole::{holds, is_so, set_of};
+use crate::tests::asserts::{done, holds};
 use patricia_tree::StringPatriciaSet;
 use patricia_tree::set::{ElementRange, RangeReadCursor};
 use std::alloc::{AllocError, Global};
@@ -92,17 +93,17 @@ fn counts(set: &Set, prefix: &str, wanted: usize) -> Option<bool> {
 }
 
 #[test]
-fn read_refused_in_turn(rt: HostRuntime) -> Result<(), AllocError> {
+fn read_refused_in_turn(rt: HostRuntime) {
     let mut tally = Tally::new();
-    let set = set_of(rt.alloc(), ELEMENTS.as_slice(), &mut tally)?;
-    assert!(rt; finds_ends(&set, &mut tally));
-    assert!(rt; finds_neighbours(&set, &mut tally));
-    assert!(rt; gives_ranges(&set, &mut tally));
-    assert!(rt; lends_ranges(&set, &mut tally));
+    let set = done(&rt, set_of(rt.alloc(), ELEMENTS.as_slice(), &mut tally));
+    holds!(rt; finds_ends(&set, &mut tally));
+    holds!(rt; finds_neighbours(&set, &mut tally));
+    holds!(rt; gives_ranges(&set, &mut tally));
+    holds!(rt; lends_ranges(&set, &mut tally));
     let counted = is_so(&mut tally, counts(&set, "a", 2), counts(&set, "a", 2));
-    assert!(rt; counted && holds(&set, ELEMENTS.as_slice()));
+    holds!(rt; counted);
+    holds!(rt; holds(&set, ELEMENTS.as_slice()));
     tally.check(&rt, 1);
-    Ok(())
 }
 
 // Takes the first element, or the last one, and returns whether it is the one that is wanted.
@@ -124,14 +125,13 @@ fn pops(set: &mut Set, last: bool, before: &[&str], wanted: &str, tally: &mut Ta
 }
 
 #[test]
-fn pops_refused_in_turn(rt: HostRuntime) -> Result<(), AllocError> {
+fn pops_refused_in_turn(rt: HostRuntime) {
     let mut tally = Tally::new();
-    let mut set = set_of(rt.alloc(), ELEMENTS.as_slice(), &mut tally)?;
-    assert!(rt; pops(&mut set, false, &ELEMENTS, SHORT, &mut tally));
-    assert!(rt; pops(&mut set, true, &ELEMENTS[1..], "foo", &mut tally));
-    assert!(rt; holds(&set, &ELEMENTS[1..4]));
+    let mut set = done(&rt, set_of(rt.alloc(), ELEMENTS.as_slice(), &mut tally));
+    holds!(rt; pops(&mut set, false, &ELEMENTS, SHORT, &mut tally));
+    holds!(rt; pops(&mut set, true, &ELEMENTS[1..], "foo", &mut tally));
+    holds!(rt; holds(&set, &ELEMENTS[1..4]));
     tally.check(&rt, 1);
-    Ok(())
 }
 
 // Removes the elements that begin with a prefix, once more where it is refused. Returns whether
@@ -169,23 +169,21 @@ fn keeps(set: &mut Set, tally: &mut Tally) -> bool {
 }
 
 #[test]
-fn removals_refused_in_turn(rt: HostRuntime) -> Result<(), AllocError> {
+fn removals_refused_in_turn(rt: HostRuntime) {
     let mut tally = Tally::new();
-    let mut set = set_of(rt.alloc(), ELEMENTS.as_slice(), &mut tally)?;
-    assert!(rt; removes(&mut set, "a", 2, &mut tally));
-    assert!(rt; holds(&set, &ELEMENTS[2..]));
+    let mut set = done(&rt, set_of(rt.alloc(), ELEMENTS.as_slice(), &mut tally));
+    holds!(rt; removes(&mut set, "a", 2, &mut tally));
+    holds!(rt; holds(&set, &ELEMENTS[2..]));
     tally.check(&rt, 1);
-    Ok(())
 }
 
 #[test]
-fn retain_refused_in_turn(rt: HostRuntime) -> Result<(), AllocError> {
+fn retain_refused_in_turn(rt: HostRuntime) {
     let mut tally = Tally::new();
-    let mut set = set_of(rt.alloc(), ELEMENTS.as_slice(), &mut tally)?;
-    assert!(rt; keeps(&mut set, &mut tally));
-    assert!(rt; holds(&set, &ELEMENTS[1..]));
+    let mut set = done(&rt, set_of(rt.alloc(), ELEMENTS.as_slice(), &mut tally));
+    holds!(rt; keeps(&mut set, &mut tally));
+    holds!(rt; holds(&set, &ELEMENTS[1..]));
     tally.check(&rt, 1);
-    Ok(())
 }
 
 // A set that the elements are collected into, or none where that is refused.
@@ -194,14 +192,13 @@ fn collected(alloc: Global) -> Option<Set> {
 }
 
 #[test]
-fn collect_refused_in_turn(rt: HostRuntime) -> Result<(), AllocError> {
+fn collect_refused_in_turn(rt: HostRuntime) {
     let mut tally = Tally::new();
     let mut set = collected(rt.alloc());
     if set.is_none() {
         tally.add();
         set = collected(rt.alloc());
     }
-    assert!(rt; set.is_some_and(|set| holds(&set, ELEMENTS.as_slice())));
+    holds!(rt; set.is_some_and(|set| holds(&set, ELEMENTS.as_slice())));
     tally.check(&rt, 1);
-    Ok(())
 }

@@ -1,6 +1,7 @@
 //! The script of a map.
 use super::tally::{Tally, has, has_among};
 use super::walks::{add_ten, read_each};
+use crate::tests::asserts::holds;
 use patricia_tree::{BorrowedBytes, Bytes, DecodeError, GenericPatriciaMap, WireError};
 use std::alloc::{AllocError, Global};
 use std::process::Abort;
@@ -65,9 +66,9 @@ pub(super) fn is_put<Q: BorrowedBytes>(
 
 // Inserts of the empty key and of a key that is there. They do not allocate.
 fn replace<Q: BorrowedBytes>(rt: &impl Abort, map: &mut Map<Q::Owned>, script: &Script<'_, Q>) {
-    assert!(rt; is_put(map, script.empty, 6, None));
-    assert!(rt; is_put(map, script.rust, 7, Some(1)));
-    assert!(rt; has(map, script.whole));
+    holds!(rt; is_put(map, script.empty, 6, None));
+    holds!(rt; is_put(map, script.rust, 7, Some(1)));
+    holds!(rt; has(map, script.whole));
 }
 
 // Removes a key. Returns the value that it had, or `None` where memory ran out.
@@ -88,7 +89,7 @@ fn remove<Q: BorrowedBytes>(
     let mut old = removed(map, key);
     if old.is_none() {
         tally.add();
-        assert!(rt; has(map, before));
+        holds!(rt; has(map, before));
         old = removed(map, key);
     }
     old
@@ -108,7 +109,8 @@ fn insert<Q: BorrowedBytes>(
         Ok(old) => old.is_none(),
         Err(refused) => {
             tally.add();
-            assert!(rt; refused.value == value && has(map, before));
+            holds!(rt; refused.value == value);
+            holds!(rt; has(map, before));
             is_put(map, key, refused.value, None)
         }
     }
@@ -121,10 +123,10 @@ fn out_and_in<Q: BorrowedBytes>(
     script: &Script<'_, Q>,
     tally: &mut Tally,
 ) {
-    assert!(rt; remove(rt, map, script.ruby, script.whole, tally) == Some(2));
-    assert!(rt; has(map, script.without_ruby));
-    assert!(rt; insert(rt, map, script.ruby, 2, script.without_ruby, tally));
-    assert!(rt; has(map, script.whole));
+    holds!(rt; remove(rt, map, script.ruby, script.whole, tally) == Some(2));
+    holds!(rt; has(map, script.without_ruby));
+    holds!(rt; insert(rt, map, script.ruby, 2, script.without_ruby, tally));
+    holds!(rt; has(map, script.whole));
 }
 
 fn split<Q: BorrowedBytes>(
@@ -137,7 +139,7 @@ fn split<Q: BorrowedBytes>(
         return Ok(part);
     }
     tally.add();
-    assert!(rt; has(map, script.whole));
+    holds!(rt; has(map, script.whole));
     map.split_by_prefix(script.e)
 }
 
@@ -151,7 +153,7 @@ fn copy<Q: BorrowedBytes>(
         return Ok(copy);
     }
     tally.add();
-    assert!(rt; has(map, script.kept));
+    holds!(rt; has(map, script.kept));
     map.clone()
 }
 
@@ -199,7 +201,7 @@ fn extend<Q: BorrowedBytes>(
     if !put(map, script.added, &mut taken) {
         tally.add();
         let count = taken.saturating_sub(1);
-        assert!(rt; is_extended(map, script.kept, script.added, count));
+        holds!(rt; is_extended(map, script.kept, script.added, count));
     }
 }
 
@@ -268,13 +270,14 @@ fn run_rest<Q: BorrowedBytes>(
     tally: &mut Tally,
 ) -> Result<(), AllocError> {
     let part = split(rt, map, script, tally)?;
-    assert!(rt; has(map, script.kept));
+    holds!(rt; has(map, script.kept));
     let mut copied = copy(rt, map, script, tally)?;
     extend(rt, &mut copied, script, tally);
     add_ten(rt, map, script.kept, tally);
     read_each(rt, map, script.more, script.ru, script.under, tally);
-    assert!(rt; is_encoded(alloc, map, script, tally)?);
-    assert!(rt; has(&part, script.split) && is_whole_copy(&copied, script));
+    holds!(rt; is_encoded(alloc, map, script, tally)?);
+    holds!(rt; has(&part, script.split));
+    holds!(rt; is_whole_copy(&copied, script));
     Ok(())
 }
 
@@ -287,7 +290,7 @@ fn run<Q: BorrowedBytes>(
 ) -> Result<(), AllocError> {
     let mut tally = Tally::new();
     let mut map = make(alloc, script.first, &mut tally)?;
-    assert!(rt; has(&map, script.first));
+    holds!(rt; has(&map, script.first));
     replace(rt, &mut map, script);
     out_and_in(rt, &mut map, script, &mut tally);
     run_rest(rt, alloc, &mut map, script, &mut tally)?;

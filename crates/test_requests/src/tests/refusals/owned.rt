@@ -2,6 +2,7 @@
 use super::maps::make;
 use super::reading::is_taken;
 use super::tally::Tally;
+use crate::tests::asserts::holds;
 use patricia_tree::BorrowedBytes;
 use std::alloc::{AllocError, Global};
 use std::process::Abort;
@@ -14,7 +15,7 @@ fn check<Q: BorrowedBytes>(
 ) -> Result<(), AllocError> {
     let mut tally = Tally::new();
     let map = make(alloc, rows, &mut tally)?;
-    assert!(rt; is_taken(map.into_iter(), rows, &mut tally));
+    holds!(rt; is_taken(map.into_iter(), rows, &mut tally));
     tally.check(rt, most);
     Ok(())
 }

@@ -1,6 +1,7 @@
 //! The script of a set.
 use super::reading::{Outcome, is_taken, read};
 use super::tally::Tally;
+use crate::tests::asserts::holds;
 use crate::tests::sets::{is_put, is_removed};
 use patricia_tree::{BorrowedBytes, Bytes, DecodeError, GenericPatriciaSet, WireError};
 use std::alloc::{AllocError, Global};
@@ -62,9 +63,9 @@ fn make<Q: BorrowedBytes>(
 
 // Inserts of the empty element and of one that is there. They do not allocate.
 fn replace<Q: BorrowedBytes>(rt: &impl Abort, set: &mut Set<Q::Owned>, script: &Script<'_, Q>) {
-    assert!(rt; is_put(set, script.empty, true));
-    assert!(rt; is_put(set, script.rust, false));
-    assert!(rt; has(set, script.whole));
+    holds!(rt; is_put(set, script.empty, true));
+    holds!(rt; is_put(set, script.rust, false));
+    holds!(rt; has(set, script.whole));
 }
 
 fn remove<Q: BorrowedBytes>(
@@ -78,8 +79,8 @@ fn remove<Q: BorrowedBytes>(
         return;
     }
     tally.add();
-    assert!(rt; has(set, before));
-    assert!(rt; is_removed(set, element, true));
+    holds!(rt; has(set, before));
+    holds!(rt; is_removed(set, element, true));
 }
 
 fn insert<Q: BorrowedBytes>(
@@ -93,8 +94,8 @@ fn insert<Q: BorrowedBytes>(
         return;
     }
     tally.add();
-    assert!(rt; has(set, before));
-    assert!(rt; is_put(set, element, true));
+    holds!(rt; has(set, before));
+    holds!(rt; is_put(set, element, true));
 }
 
 // Removes an element, which joins labels, and inserts it again.
@@ -105,9 +106,9 @@ fn out_and_in<Q: BorrowedBytes>(
     tally: &mut Tally,
 ) {
     remove(rt, set, script.ruby, script.whole, tally);
-    assert!(rt; has(set, script.without_ruby));
+    holds!(rt; has(set, script.without_ruby));
     insert(rt, set, script.ruby, script.without_ruby, tally);
-    assert!(rt; has(set, script.whole));
+    holds!(rt; has(set, script.whole));
 }
 
 fn split<Q: BorrowedBytes>(
@@ -120,7 +121,7 @@ fn split<Q: BorrowedBytes>(
         return Ok(part);
     }
     tally.add();
-    assert!(rt; has(set, script.whole));
+    holds!(rt; has(set, script.whole));
     set.split_by_prefix(script.e)
 }
 
@@ -134,7 +135,7 @@ fn copy<Q: BorrowedBytes>(
         return Ok(copy);
     }
     tally.add();
-    assert!(rt; has(set, script.kept));
+    holds!(rt; has(set, script.kept));
     set.clone()
 }
 
@@ -182,7 +183,7 @@ fn extend<Q: BorrowedBytes>(
     if !put(set, script.added, &mut taken) {
         tally.add();
         let count = taken.saturating_sub(1);
-        assert!(rt; is_extended(set, script.kept, script.added, count));
+        holds!(rt; is_extended(set, script.kept, script.added, count));
     }
 }
 
@@ -208,7 +209,7 @@ fn read_each<Q: BorrowedBytes>(
             tally.add();
             came = walk(set, *is_whole, script);
         }
-        assert!(rt; came == Outcome::Right);
+        holds!(rt; came == Outcome::Right);
     }
 }
 
@@ -272,8 +273,9 @@ fn check_parts<Q: BorrowedBytes>(
     script: &Script<'_, Q>,
     tally: &mut Tally,
 ) {
-    assert!(rt; has(&part, script.split) && is_whole_copy(copied, script));
-    assert!(rt; is_taken(part.into_iter(), script.split, tally));
+    holds!(rt; has(&part, script.split));
+    holds!(rt; is_whole_copy(copied, script));
+    holds!(rt; is_taken(part.into_iter(), script.split, tally));
 }
 
 // The calls from the split on. What was split off is kept to the end.
@@ -285,11 +287,11 @@ fn run_rest<Q: BorrowedBytes>(
     tally: &mut Tally,
 ) -> Result<(), AllocError> {
     let part = split(rt, set, script, tally)?;
-    assert!(rt; has(set, script.kept));
+    holds!(rt; has(set, script.kept));
     let mut copied = copy(rt, set, script, tally)?;
     extend(rt, &mut copied, script, tally);
     read_each(rt, set, script, tally);
-    assert!(rt; is_encoded(alloc, set, script, tally));
+    holds!(rt; is_encoded(alloc, set, script, tally));
     check_parts(rt, part, &copied, script, tally);
     Ok(())
 }
@@ -303,7 +305,7 @@ fn run<Q: BorrowedBytes>(
 ) -> Result<(), AllocError> {
     let mut tally = Tally::new();
     let mut set = make(alloc, script.first, &mut tally)?;
-    assert!(rt; has(&set, script.first));
+    holds!(rt; has(&set, script.first));
     replace(rt, &mut set, script);
     out_and_in(rt, &mut set, script, &mut tally);
     run_rest(rt, alloc, &mut set, script, &mut tally)?;

@@ -1,4 +1,5 @@
 //! How many calls were refused, and what a map holds.
+use crate::tests::asserts::holds;
 use patricia_tree::{BorrowedBytes, GenericPatriciaMap};
 use std::process::Abort;
 
@@ -20,7 +21,7 @@ impl Tally {
 
     /// Asserts that no more calls were refused than may be.
     pub(super) fn check(&self, rt: &impl Abort, most: usize) {
-        assert!(rt; self.refused <= most);
+        holds!(rt; self.refused <= most);
     }
 }
 

@@ -1,6 +1,7 @@
 //! The walks over a map, and a cursor that writes to each value.
 use super::reading::{Outcome, judged, read};
 use super::tally::Tally;
+use crate::tests::asserts::holds;
 use patricia_tree::map::IterMut;
 use patricia_tree::{BorrowedBytes, Bytes, GenericPatriciaMap};
 use std::process::Abort;
@@ -56,7 +57,7 @@ pub(super) fn read_each<Q: BorrowedBytes>(
             tally.add();
             came = walk(map, *over, rows, prefix, under);
         }
-        assert!(rt; came == Outcome::Right);
+        holds!(rt; came == Outcome::Right);
     }
 }
 
@@ -93,7 +94,7 @@ fn step_on<K: Bytes>(
         tally.add();
         came = step(cursor, key, due);
     }
-    assert!(rt; came == Outcome::Right);
+    holds!(rt; came == Outcome::Right);
 }
 
 /// Adds ten to each value by a cursor. The rows are the entries in key order.
@@ -107,5 +108,5 @@ pub(super) fn add_ten<Q: BorrowedBytes>(
     for (key, due) in rows {
         step_on(rt, &mut cursor, key.as_bytes(), *due, tally);
     }
-    assert!(rt; is_at_end(&mut cursor));
+    holds!(rt; is_at_end(&mut cursor));
 }

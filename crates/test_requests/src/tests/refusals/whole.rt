@@ -1,6 +1,7 @@
 //! Calls over two sets, of which one may be refused: what it is called on stays, and it is made
 //! once more.
 use super::tally::Tally;
+use crate::tests::asserts::{done, holds};
 use patricia_tree::{BorrowedBytes, GenericPatriciaSet};
 use std::alloc::{AllocError, Global};
 
@@ -127,33 +128,34 @@ fn tells_each<Q: BorrowedBytes>(
 }
 
 #[test]
-fn sets_refused_in_turn(rt: HostRuntime) -> Result<(), AllocError> {
+fn sets_refused_in_turn(rt: HostRuntime) {
     let mut tally = Tally::new();
-    let one = set_of(rt.alloc(), ONE.as_slice(), &mut tally)?;
-    let two = set_of(rt.alloc(), TWO.as_slice(), &mut tally)?;
-    assert!(rt; makes_each(&one, &two, &ALL, &BOTH, &mut tally));
-    assert!(rt; makes_each(&two, &one, &ALL, &BOTH, &mut tally));
+    let one = done(&rt, set_of(rt.alloc(), ONE.as_slice(), &mut tally));
+    let two = done(&rt, set_of(rt.alloc(), TWO.as_slice(), &mut tally));
+    holds!(rt; makes_each(&one, &two, &ALL, &BOTH, &mut tally));
+    holds!(rt; makes_each(&two, &one, &ALL, &BOTH, &mut tally));
     let parted = is_so(
         &mut tally,
         parts(&one, &two, &REST),
         parts(&one, &two, &REST),
     );
-    assert!(rt; parted);
-    let few = set_of(rt.alloc(), FEW.as_slice(), &mut tally)?;
+    holds!(rt; parted);
+    let few = done(&rt, set_of(rt.alloc(), FEW.as_slice(), &mut tally));
     let parted = is_so(
         &mut tally,
         parts(&two, &few, &OTHERS),
         parts(&two, &few, &OTHERS),
     );
-    assert!(rt; parted && holds(&few, FEW.as_slice()));
+    holds!(rt; parted);
+    holds!(rt; holds(&few, FEW.as_slice()));
     let told = is_so(
         &mut tally,
         overlap::<&str>(&one, &two),
         overlap::<&str>(&two, &one),
     );
-    assert!(rt; told);
-    assert!(rt; tells_each::<&str>(&one, &two, &mut tally));
-    assert!(rt; holds(&one, ONE.as_slice()) && holds(&two, TWO.as_slice()));
+    holds!(rt; told);
+    holds!(rt; tells_each::<&str>(&one, &two, &mut tally));
+    holds!(rt; holds(&one, ONE.as_slice()));
+    holds!(rt; holds(&two, TWO.as_slice()));
     tally.check(&rt, 1);
-    Ok(())
 }
