@@ -49,8 +49,8 @@ fn ask<Q: BorrowedBytes>(
     make_ranges(set, element);
 }
 
-/// Whether an insert is done, where the element was there or was not.
-pub(super) fn is_put<Q: BorrowedBytes>(
+// Whether an insert is done, where the element was there or was not.
+fn is_put<Q: BorrowedBytes>(
     set: &mut GenericPatriciaSet<Q::Owned>,
     element: Q,
     is_new: bool,
@@ -61,8 +61,8 @@ pub(super) fn is_put<Q: BorrowedBytes>(
     }
 }
 
-/// Whether a removal is done, where the element was there or was not.
-pub(super) fn is_removed<Q: BorrowedBytes>(
+// Whether a removal is done, where the element was there or was not.
+fn is_removed<Q: BorrowedBytes>(
     set: &mut GenericPatriciaSet<Q::Owned>,
     element: Q,
     is_there: bool,

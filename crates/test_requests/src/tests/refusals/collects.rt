@@ -1,11 +1,10 @@
-//! The traits by which std extends maps and sets, and collects into a map, of which one call may be
+//! The traits by which std extends maps and sets and collects into them, of which one call may be
 //! refused. The values of the maps count how many of them there are.
 use super::choices::ROWS;
-use super::tally::Tally;
-use super::whole::holds;
-use crate::tests::asserts::holds;
+use super::tally::{Tally, has_elements};
+use crate::tests::asserts::{holds, same};
 use patricia_tree::{StringPatriciaMap, StringPatriciaSet};
-use std::alloc::{AllocError, Global};
+use std::alloc::Global;
 use std::cell::Cell;
 use std::iter::{Extend, Iterator};
 
@@ -73,7 +72,7 @@ fn map_extends_refused_in_turn(rt: HostRuntime) {
     holds!(rt; extends(&mut map, &count, &mut tally));
     holds!(rt; has(&map, &ROWS, &count));
     drop(map);
-    holds!(rt; count.get() == 0);
+    same!(rt; count.get(), 0);
     tally.check(&rt, 1);
 }
 
@@ -91,11 +90,11 @@ fn map_collects_refused_in_turn(rt: HostRuntime) {
     let mut map = collected(rt.alloc(), &count);
     if map.is_none() {
         tally.add();
-        holds!(rt; count.get() == 0);
+        same!(rt; count.get(), 0);
         map = collected(rt.alloc(), &count);
     }
     holds!(rt; map.is_some_and(|map| has(&map, &ROWS, &count)));
-    holds!(rt; count.get() == 0);
+    same!(rt; count.get(), 0);
     tally.check(&rt, 1);
 }
 
@@ -127,7 +126,7 @@ fn extends_set(set: &mut StringPatriciaSet, tally: &mut Tally) -> bool {
     let Some(there) = ELEMENTS.get(..taken.saturating_sub(1)) else {
         return false;
     };
-    holds(set, there) && extend_set(set, &mut taken)
+    has_elements(set, there) && extend_set(set, &mut taken)
 }
 
 #[test]
@@ -135,6 +134,23 @@ fn set_extends_refused_in_turn(rt: HostRuntime) {
     let mut tally = Tally::new();
     let mut set = StringPatriciaSet::new(rt.alloc());
     holds!(rt; extends_set(&mut set, &mut tally));
-    holds!(rt; holds(&set, ELEMENTS.as_slice()));
+    holds!(rt; has_elements(&set, ELEMENTS.as_slice()));
+    tally.check(&rt, 1);
+}
+
+// A set that the elements are collected into, or none where that is refused.
+fn collected_set(alloc: Global) -> Option<StringPatriciaSet> {
+    ELEMENTS.iter().copied().collect(alloc).ok()
+}
+
+#[test]
+fn set_collects_refused_in_turn(rt: HostRuntime) {
+    let mut tally = Tally::new();
+    let mut set = collected_set(rt.alloc());
+    if set.is_none() {
+        tally.add();
+        set = collected_set(rt.alloc());
+    }
+    holds!(rt; set.is_some_and(|set| has_elements(&set, ELEMENTS.as_slice())));
     tally.check(&rt, 1);
 }

@@ -1,6 +1,5 @@
 //! An insert that is refused, and one of a key that is there, which does not allocate. `.ci/run`
 //! counts the memory requests of `made`, and refuses the next one of `called`, which says so.
-use super::maps::is_put;
 use crate::tests::asserts::{done, holds};
 use patricia_tree::{BorrowedBytes, GenericPatriciaMap};
 use std::alloc::{AllocError, Global};
@@ -15,6 +14,19 @@ fn map_of_one<Q: BorrowedBytes>(
     match map.insert(key, 1) {
         Ok(_) => Ok(map),
         Err(_) => Err(AllocError),
+    }
+}
+
+// Whether an insert is done, where this value was.
+fn is_put<Q: BorrowedBytes>(
+    map: &mut GenericPatriciaMap<Q::Owned, u64>,
+    key: Q,
+    value: u64,
+    old: Option<u64>,
+) -> bool {
+    match map.insert(key, value) {
+        Ok(found) => found == old,
+        Err(_) => false,
     }
 }
 

@@ -44,11 +44,9 @@ fn made(rt: HostRuntime) {
 fn called(rt: HostRuntime) {
     let mut map = done(&rt, filled(rt.alloc()));
     for number in 0..COUNT {
-        let is_done = is_replaced(&mut map, number);
-        holds!(rt; is_done);
+        holds!(rt; is_replaced(&mut map, number));
     }
     for number in 0..COUNT {
-        let is_found = is_there(&map, number);
-        holds!(rt; is_found);
+        holds!(rt; is_there(&map, number));
     }
 }
