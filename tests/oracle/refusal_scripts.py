@@ -150,14 +150,14 @@ NAMED = [
 ]
 
 # Keys in order, of which the second begins the third, with which it is joined if it goes.
-FRONT = 'a beginning that is longer than a node keeps'
+FRONT = 'a prefix that is longer than what a node keeps'
 LINED_UP = ['', FRONT, FRONT + ', and that of another', 'bar', 'baz']
 
 # The same without the empty one, and one more.
 LINED_UP_ELEMENTS = [*LINED_UP[1:], 'foo']
 
 # A new key.
-NEW = elements(['another beginning that is longer than a node keeps'])
+NEW = elements(['another prefix that is longer than what a node keeps'])
 
 # Questions about these.
 ASKED_IN_LINE = [

@@ -65,8 +65,8 @@ def shown(kind, m):
 
 # ---- Calls that may leave a part of what they do ----------------------------
 
-# Of each the answers before the refusal, and the map then. Where a call goes on in place of
-# beginning anew, its last answers stand behind them.
+# Of each the answers before the refusal, and the map then. Where a call goes on and is not made
+# anew, its last answers stand behind them.
 
 
 def put_in_part(m, kind, call, words):
