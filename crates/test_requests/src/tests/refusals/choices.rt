@@ -1,4 +1,4 @@
-//! A `retain` that may be refused at an entry that it removes. Its closure writes to each value, and
+//! A `retain` that may be refused at an entry that it removes. Its closure writes to each value and
 //! counts how often it is called.
 use super::tally::{Tally, has, make};
 use crate::tests::asserts::{done, holds, same};
