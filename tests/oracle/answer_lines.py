@@ -7,9 +7,12 @@ import unicodedata
 from urllib.parse import unquote_to_bytes
 from tests.oracle.answer_readings import read
 from tests.oracle.answer_wire import tree_bytes
-from tests.oracle.model import common, first_item, floor_boundary, is_valid, rows
+from tests.oracle.model import MAX_VALUE, common, first_item, floor_boundary, is_valid, rows
 
 KINDS = 'bytes', 'text', 'bytes_set', 'text_set'
+
+# What a load answers that comes to a key which is not behind the last one.
+OUT_OF_ORDER = 'key out of order'
 
 # Characters that a Debug text writes with a letter.
 ESCAPES = {'"': '\\"', '\\': '\\\\', '\t': '\\t', '\n': '\\n', '\r': '\\r', '\0': '\\0'}
@@ -50,10 +53,11 @@ def map_answers(m, call, words):
             m[key] = int(value)
         return answers
     if call in ('extend', 'from_iter'):
+        taken = [str(len(words) // 2)] if call == 'extend' else []
         if call == 'from_iter':
             m.clear()
         m.update(zip(words[::2], map(int, words[1::2])))
-        return [row(e) for e in rows(m)]
+        return [*taken, *map(row, rows(m))]
     if call == 'get':
         return [shown(m.get(k)) for k in words]
     if call == 'contains':
@@ -68,9 +72,9 @@ def map_answers(m, call, words):
         return [written(k) for k, _ in rows(m)]
     if call == 'values':
         return [str(v) for _, v in rows(m)]
-    if call in ('iter', 'take', 'clear'):
+    if call in ('iter', 'cursor', 'take', 'clear'):
         answers = [row(e) for e in rows(m)] if call != 'clear' else []
-        if call != 'iter':
+        if call in ('take', 'clear'):
             m.clear()
         return answers
     return None
@@ -92,7 +96,7 @@ def folded(is_set, entries):
 def order_answers(m, call, words, shown_entry=row):
     """The answers to a question about the order of the keys, or None for another call."""
     entries = rows(m)
-    if call == 'range':
+    if call in ('range', 'cursor_range'):
         start, ends = words[0], words[1:]
         return [shown_entry(e) for e in entries if start <= e[0] and all(e[0] < end for end in ends)]
     if call == 'ends':
@@ -119,6 +123,15 @@ def loaded(m, pairs):
     return found
 
 
+def load_answers(m, pairs, shown_entry):
+    """How many pairs a load takes, whether one was out of order, and what is there then."""
+    found = loaded(m, pairs)
+    m.update(found)
+    is_whole = len(found) == len(pairs)
+    taken = [str(len(found))] if is_whole else [str(len(found) + 1), OUT_OF_ORDER]
+    return [*taken, *map(shown_entry, rows(m))]
+
+
 def taking_answers(m, call, words, shown_entry=row):
     """The answers to a call that takes entries by their place or their prefix, or None for another call."""
     if call in ('pop_first', 'pop_last'):
@@ -134,11 +147,19 @@ def taking_answers(m, call, words, shown_entry=row):
 
 
 def made_answers(m, call, words):
-    """The answers to a call that makes values for keys that are new or old alone, or None for another call."""
-    if call not in ('fill', 'update'):
+    """The answers to a call that makes or changes values, or None for another call."""
+    if call == 'raise':
+        before = rows(m)
+        m.update((key, min(value + int(words[0]), MAX_VALUE)) for key, value in before)
+        return list(map(row, before))
+    if call not in ('fill', 'update', 'get_or_insert'):
         return None
     answers = []
     for key, value in zip(words[::2], map(int, words[1::2])):
+        if call == 'get_or_insert':
+            answers.append(str(m.get(key, 0)))
+            m[key] = value
+            continue
         answers.append(truth(key not in m) if call == 'fill' else shown(m.get(key)))
         if (key in m) == (call == 'update'):
             m[key] = value
@@ -148,18 +169,23 @@ def made_answers(m, call, words):
 def merging_answers(m, call, words):
     """The answers to a call of a map with another one or with pairs in order, or None for another call."""
     if call == 'retain':
-        kept = [e for e in rows(m) if e[1] >= int(words[0])]
+        count, kept = len(m), [e for e in rows(m) if e[1] >= int(words[0])]
         m.clear()
         m.update(kept)
-        return list(map(row, kept))
+        return [str(count), *map(row, kept)]
+    if call == 'itself':
+        return ['true']
     if call not in ('merge', 'load', 'same'):
         return None
     pairs = list(zip(words[::2], map(int, words[1::2])))
     if call == 'same':
         return [truth(rows(m) == rows(dict(pairs)))]
-    for key, value in loaded(m, pairs) if call == 'load' else dict(pairs).items():
+    if call == 'load':
+        return load_answers(m, pairs, row)
+    shared = sum(key in m for key in dict(pairs))
+    for key, value in dict(pairs).items():
         m[key] = max(m.get(key, 0), value)
-    return list(map(row, rows(m)))
+    return [str(shared), *map(row, rows(m))]
 
 
 def whole_answers(m, call, words, shown_entry=row):
@@ -178,9 +204,9 @@ def prefix_answers(m, kind, call, words):
     """The answers to a call about prefixes of keys, or None for another call."""
     if call == 'reach':
         return [str(max((common(key, k, kind) for k in m), default=0)) for key in words]
-    if call not in ('longest', 'along', 'along_values', 'along_owned', 'under'):
+    if call not in ('longest', 'along', 'along_values', 'along_owned', 'under', 'cursor_under'):
         return None
-    if call == 'under':
+    if call in ('under', 'cursor_under'):
         return [row(e) for e in rows(m) if e[0].startswith(words[0])]
     along = [[e for e in rows(m) if key.startswith(e[0])] for key in words]
     if call == 'longest':
@@ -298,10 +324,11 @@ def listed(m):
 def changed_set(m, call, words):
     """The answers to a call that changes a set element by element, or None for another call."""
     if call in ('extend', 'from_iter'):
+        taken = [str(len(words))] if call == 'extend' else []
         if call == 'from_iter':
             m.clear()
         m.update((word, 0) for word in words)
-        return listed(m)
+        return [*taken, *listed(m)]
     answers = []
     if call == 'insert':
         for word in words:
@@ -330,20 +357,19 @@ def two_sets(m, call, words):
 def sifted_set(m, call, words):
     """The answers to a call that keeps some elements or loads some in order, or None for another call."""
     if call == 'retain':
-        kept = [key for key in m if len(key) >= int(words[0])]
+        count, kept = len(m), [key for key in m if len(key) >= int(words[0])]
         m.clear()
         m.update((key, 0) for key in kept)
-        return listed(m)
-    if call == 'load':
-        m.update(loaded(m, [(word, 0) for word in words]))
-        return listed(m)
-    return None
+        return [str(count), *listed(m)]
+    return load_answers(m, [(word, 0) for word in words], element) if call == 'load' else None
 
 
 def asked_set(m, kind, call, words):
     """The answers to a question about a set."""
-    if call in ('len', 'empty', 'iter'):
-        return {'len': [str(len(m))], 'empty': [truth(not m)], 'iter': listed(m)}[call]
+    if call in ('len', 'empty', 'itself'):
+        return {'len': [str(len(m))], 'empty': [truth(not m)], 'itself': ['true']}[call]
+    if call in ('iter', 'cursor'):
+        return listed(m)
     if call == 'contains':
         return [truth(word in m) for word in words]
     if call == 'reach':
@@ -351,7 +377,7 @@ def asked_set(m, kind, call, words):
     if call == 'longest':
         along = [[k for k in m if key.startswith(k)] for key in words]
         return [written(max(found, key=len)) if found else 'none' for found in along]
-    if call == 'under':
+    if call in ('under', 'cursor_under'):
         return [element(e) for prefix in words for e in rows(m) if e[0].startswith(prefix)]
     return ['unknown' for _ in words]
 

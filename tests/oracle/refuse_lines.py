@@ -2,182 +2,19 @@
 
 The program is `test_scripts`, which answers calls of maps and of sets. Each script is run alone. At first a run may end
 with a status that is not 0 and no answers, since the program reads its input to its end before it
-answers. From the first call on that is refused, each run ends with 0. Such a run writes the answers of
-the plain model, and in at most one of its lines a refusal may stand, at a place where the model allows
-it, behind what the call had answered before: a walk of some entries may be refused before its last, and
-a Debug text before its end. A list in an answer is then made once more. Any other call says what
-entries it left, and is made again, with the answer of one that was not refused. A call that puts many
-pairs in is refused at one of them, and leaves those before it: in some run one is left. With no request
-refused the answers are the model's own.
+answers. From the first call on that is refused, each run ends with 0. Such a run writes the answers
+of the plain model, and in at most one of its lines a refusal may stand, at a place where the model
+allows it, behind what the call had answered before: a walk of some entries may be refused before
+its last, and a Debug text before its end. A list in an answer is then made once more. Any other
+call says what entries it left, and is made again, with the answer of one that was not refused. A
+call that puts many pairs in is refused at one of them, and leaves those before it: in some run one
+is left. With no request refused the answers are the model's own.
 """
-from tests.oracle.answer_lines import answers, calls, element, row, written
+import re
+from tests.oracle.answer_lines import OUT_OF_ORDER, answers, calls, element, folded, loaded, row
 from tests.oracle.model import is_valid, joins, rows
+from tests.oracle.refusal_scripts import SCRIPTS
 from tests.support import in_turn
-
-# A key that is copied, of more than 30 bytes.
-LONG = 'bcd' * 20
-
-
-def texts(keys):
-    """Keys as the words of a line."""
-    return [written(key.encode()) or '*' for key in keys]
-
-
-def numbered(keys):
-    """The same, each with its value behind it."""
-    return ['%s %d' % (word, n) for n, word in enumerate(texts(keys), 1)]
-
-
-def pairs(keys):
-    """The same in a line."""
-    return ' '.join(numbered(keys))
-
-
-def one_by_one(call, words):
-    """A line for each word, and a list behind it."""
-    for word in words:
-        yield '%s %s' % (call, word)
-        yield 'iter'
-
-
-# The first has a label of 76 bytes, which the second cuts to two of more than 30. The third cuts
-# the rest once more. The others meet labels of more than 30 bytes before and within them.
-CUT = [
-    'foo-' * 10 + 'bar-' * 9,
-    'foo-' * 9,
-    'foo-' * 10 + 'baz-' * 9 + 'baz',
-    'foo-' * 9 + 'a-' * 17 + 'a',
-    'foo-' * 7,
-    'bar-' * 9 + 'bar',
-    'bar-' * 10 + 'foo-' * 8 + 'foo',
-    '',
-]
-
-# So many that the vector of nodes grows more than once.
-MANY = (
-    'g c fa fox z ga gb gc za zab zabc zabd e d h i j k l m n o p q r s t u v w x y '
-    'ha hb ia ib ja jb ka kb'
-).split()
-
-# Of texts four removals join labels to one of more than 30 bytes: the third and the ninth that of
-# a leaf that is left alone, the fourth that of an only child, the sixth that of a node with children.
-JOINED = [
-    'あいうえおかきくけこさ',
-    'いろいろいろ',
-    'いろいろいろはははははは',
-    'x' * 20,
-    '',
-    'あいうえおかきくけこさいいいいいいいいいいい',
-    'いろいろいろいいいいいい',
-    'あいうえおかきくけこさううううううううううう',
-    'あいうえおかきくけこさうううううううううううあ',
-    'x' * 20 + 'y' * 20,
-    'y',
-    'あいうえおかきくけこさうううううううううううい',
-]
-
-# Keys of labels of at most 30 bytes and of more, and some that begin the next.
-WALKED = [
-    '', 'bar', 'bar-' * 9 + 'bar', 'bar-' * 10 + 'a', 'bar-' * 10 + 'a-b', 'bar-' * 10 + 'a-b-c',
-    'baz', 'bazaar', 'foo-' * 9 + 'bar-' * 9 + 'bar', 'foo-' * 9 + 'baz-' * 9 + 'baz',
-    'foo-' * 9 + 'foo', 'x', 'xy', 'zebra',
-]
-
-# The empty one, one at a node without value and one at a node with one, two that end inside a
-# label of at most 30 bytes and inside a longer one, two below a long label, and two with nothing
-# under them.
-PREFIXES = [
-    '', 'ba', 'bar', 'baza', 'foo-foo-f', 'foo-' * 9 + 'baz-baz', 'foo-' * 9 + 'ba', 'foo-foo-bar',
-    'zebras',
-]
-
-# Two part behind 20 bytes, and the last goes on behind 48.
-SPLIT = ['', 'a', 'ab', 'x' * 20 + 'y' * 20, 'x' * 20 + 'z' * 20, 'い' * 16, 'い' * 16 + 'ろ']
-
-# The empty one, one of a row, one with nothing under it, one that leaves one of two children, so
-# that labels are joined to one of 40 bytes, one inside a label of 48 bytes, and one below it.
-PARTING = ['', 'ab', 'b', 'x' * 20 + 'y', 'い' * 12, 'い' * 16 + 'ろ']
-
-# Two labels have more than 30 bytes.
-COPIED = ['', 'foo', 'foo-' * 9 + 'foo', 'foo-' * 10 + 'bar-' * 8 + 'bar', 'foobar', 'x']
-
-# Long labels are cut and joined, and the first four begin with あ.
-ELEMENTS = [
-    'あ' * 12 + 'い', 'あ' * 12, 'あ', 'あ' * 12 + 'いろはにほへとちりぬるを', '',
-    'x' * 20 + 'y' * 20, 'x' * 20 + 'z' * 20, 'x' * 20 + 'y' * 20 + 'zz',
-]
-
-# Some are escaped in a Debug text.
-WRITTEN = ['a"\\', 'あ\n', '', 'foo', 'bar']
-
-# So many that the vector of nodes grows more than once. Two labels have more than 30 bytes.
-PUT = [
-    'foobar', 'foobaz', '', 'あいうえおかきくけこさしすせそ', 'x', 'あいうえおかきくけこさ', 'y',
-    'いろはにほへとちりぬるを', 'い', 'z',
-]
-
-# So deep that the rows that wait ask for memory more than once.
-DEEP = 'abcdef abcd あ abcde a * の ab abc'.split()
-
-# The records of a, and of the first 30 d, have no value and one child, so labels are joined, and one
-# to more than 30 bytes. It has seven keys.
-TREE = written(
-    b'\x0f\0\0\0<\x01\0\x01a\x0f\x01\0\x02b?\x01\0\x03c\x0c\x1e\0\x04' + b'd' * 30
-    + b'\x03\x06\0\x05dddddd\x03\x01\0\x03d\x0f\x03\0\x01\xe3\x81\x82\x03\x03\0\x02\xe3\x81\xae'
-)
-
-# Keys that are asked for: before, at, between and behind those of WALKED, and what begins some.
-ASKED = ['', 'ba', 'bar', 'bar-' * 10, 'foo-' * 9, 'foo-' * 9 + 'foo', 'x', 'zebra', 'zoo']
-
-# Questions about the order of keys.
-ORDERED = [
-    'ends', 'range *', *['range ' + word for word in texts(ASKED)], 'range bar ' + texts(['foo-' * 9 + 'foo'])[0],
-    'range x bar', 'fold ' + ' '.join(texts(ASKED)), *['beside ' + word for word in texts(ASKED)], 'count ' + ' '.join(texts(ASKED)),
-]
-
-MAP_SCRIPTS = [
-    [*one_by_one('insert', numbered(CUT)), 'take', 'len'],
-    ['extend ' + pairs(CUT), *['insert ' + word for word in numbered(MANY)], 'len', 'iter'],
-    ['from_iter ' + pairs(JOINED), 'remove い z', 'insert x 7', *one_by_one('remove', texts(JOINED)),
-     'remove x', 'len'],
-    ['from_iter ' + pairs(WALKED), 'iter', 'keys', 'values', *['under ' + word for word in texts(PREFIXES)],
-     'along_owned bazaars', 'copy あい ' + LONG, 'take', 'iter'],
-    [line for word in texts(PARTING) for line in ('from_iter ' + pairs(SPLIT), 'split ' + word)],
-    ['from_iter ' + pairs(SPLIT), 'split_off ' + 'x' * 20, 'iter', 'insert * 1', 'split_off *', 'clone',
-     'clear', 'clone'],
-    ['from_iter ' + pairs(COPIED), 'clone', 'clone', 'remove foo', 'clone', 'iter'],
-    ['extend ' + pairs(PUT), 'iter', 'extend x 20 foobar 21', 'extend x 30 xa 31 xb 32 y 33 xaz 34 い 35', 'iter',
-     'from_iter ' + pairs(PUT[3:]), 'iter'],
-    ['extend ' + pairs(WRITTEN), 'debug', 'debug'],
-    ['tree', *['insert %s 1' % word for word in DEEP], 'tree', 'tree', 'iter'],
-    ['insert x 1', 'read %s 1 2 3 4 5 6 7' % TREE, 'read %s 8 9 10 11 12 13 14' % TREE, 'read %s 1 2 3 4 5 6' % TREE,
-     'iter'],
-    ['from_iter ' + pairs(WALKED), *ORDERED, 'same ' + pairs(WALKED), 'same ' + pairs(WALKED[1:]), 'pop_first',
-     'pop_last', 'pop_first', 'cut bar', 'cut ' + texts(['foo-' * 9 + 'ba'])[0], 'cut zzz', 'iter', 'cut *', 'ends',
-     'range *', 'pop_first'],
-    ['from_iter ' + pairs(COPIED), 'merge ' + pairs(PUT), 'merge ' + pairs(COPIED), 'retain 5', 'load %E3%82%93 9',
-     'load *', 'fill %E3%82%93 1', 'fill %E3%82%8F 2', 'update %E3%82%8F 3', 'update w 4', 'fill * 5', 'iter'],
-    ['from_iter ' + pairs(JOINED), 'retain 7', 'retain 11', 'same ' + pairs(JOINED)],
-]
-
-SET_SCRIPTS = [
-    [*one_by_one('insert', texts(ELEMENTS)), 'insert あ', 'remove い', *one_by_one('remove', texts(ELEMENTS)), 'len'],
-    ['extend ' + ' '.join(texts(ELEMENTS)), 'iter', 'clone', 'split あ', 'split x', 'split *', 'clone',
-     'from_iter ' + ' '.join(texts(ELEMENTS)), 'extend y あ ya yb yc yd ye', 'split_off ' + 'x' * 20, 'iter'],
-    ['extend ' + ' '.join(texts(WALKED)), 'iter', *['under ' + word for word in texts(PREFIXES)], 'take', 'iter'],
-    ['extend ' + ' '.join(texts(WRITTEN)), 'debug', 'debug'],
-    ['extend ' + ' '.join(DEEP), 'tree', 'tree', 'iter'],
-    ['insert x', 'read %s 7' % TREE, 'read %s 7' % TREE, 'read %s 6' % TREE, 'iter'],
-    ['from_iter ' + ' '.join(texts(WALKED)), *ORDERED, 'pop_first', 'pop_last', 'cut bar', 'iter', 'load %E3%82%93',
-     'cut *', 'ends', 'range *', 'pop_last'],
-    ['from_iter ' + ' '.join(texts(ELEMENTS)),
-     *[call + ' ' + ' '.join(texts(WALKED[8:] + ELEMENTS[:3])) for call in ('union', 'intersection', 'difference')],
-     *[call + ' ' + ' '.join(texts(ELEMENTS[2:])) for call in ('subset', 'disjoint', 'same', 'union', 'intersection')],
-     'difference ' + ' '.join(texts(ELEMENTS[:3])), 'same ' + ' '.join(texts(ELEMENTS)), 'retain 37', 'iter'],
-]
-
-# The kinds of keys, and the scripts for each.
-SCRIPTS = {'maps': (('bytes', 'text'), MAP_SCRIPTS), 'sets': (('bytes_set', 'text_set'), SET_SCRIPTS)}
 
 
 def text_of(answered):
@@ -186,7 +23,10 @@ def text_of(answered):
 
 
 # The calls whose answers are the entries of a map or the elements of a set.
-LISTING = 'iter', 'extend', 'from_iter', 'merge', 'retain', 'load', 'union', 'intersection', 'difference'
+LISTING = 'iter', 'from_iter', 'union', 'intersection', 'difference'
+
+# The same behind how many pairs the call took, or how often it called its closure.
+COUNTING = 'extend', 'merge', 'retain', 'load'
 
 # The calls of a set with another one, and of a map with one.
 OF_TWO = 'union', 'intersection', 'difference', 'subset', 'disjoint', 'same'
@@ -197,6 +37,8 @@ def lists(call, answered):
     is_read = call == 'read' and not any(' ' in word for word in answered)
     if is_read or call in LISTING:
         return [(0, len(answered))]
+    if call in COUNTING:
+        return [(2 if OUT_OF_ORDER in answered[1:2] else 1, len(answered))]
     if call in ('split', 'split_off', 'clone'):
         n = answered.index('and')
         return [(0, n), (n + 1, len(answered))]
@@ -210,31 +52,92 @@ def put_in(kind, words):
     return [(key, int(value)) for key, value in zip(words[::2], words[1::2])]
 
 
-def stops(m, kind, call, words):
-    """The maps that a call which puts pairs in may leave where it is refused at one of them."""
+def shown(kind, m):
+    """How the entries of a map or the elements of a set are written."""
+    return list(map(element if kind.endswith('_set') else row, rows(m)))
+
+
+# ---- Calls that may leave a part of what they do ----------------------------
+
+# Of each the answers before the refusal, and the map then. Where a call goes on and is not made
+# anew, its last answers stand behind them.
+
+
+def put_in_part(m, kind, call, words):
+    """A call that puts pairs in is refused at one of them."""
     made, found = {} if call == 'from_iter' else dict(m), []
-    for key, value in put_in(kind, words):
+    for taken, (key, value) in enumerate(put_in(kind, words), 1):
         if key and key not in made:
-            found.append(m if call == 'from_iter' else dict(made))
+            before = [str(taken)] if call == 'extend' else []
+            found.append((before, m if call == 'from_iter' else dict(made)))
+        made[key] = value
+    return found
+
+
+def loaded_in_part(m, kind, words):
+    """A load is refused at a pair, and goes on with this one."""
+    pairs, found, made = put_in(kind, words), [], dict(m)
+    in_order = loaded(m, pairs)
+    is_whole = len(in_order) == len(pairs)
+    whole = shown(kind, {**m, **dict(in_order)})
+    for n, (key, value) in enumerate(in_order):
+        left = len(in_order) - n
+        last = [str(left)] if is_whole else [str(left + 1), OUT_OF_ORDER]
+        found.append(([str(n + 1)], dict(made), last + whole))
         made[key] = value
     return found
 
 
 def merged_in_part(m, kind, words):
-    """The maps that a merge may leave where it is refused: with the first entries of the other one merged."""
-    found, made = [dict(m)], dict(m)
+    """A merge is refused before there is another map, or behind some of its entries."""
+    found, made, shared = [([], dict(m)), (['0'], dict(m))], dict(m), 0
     for key, value in rows(dict(put_in(kind, words))):
+        shared += key in m
         made[key] = max(made.get(key, 0), value)
-        found.append(dict(made))
+        found.append(([str(shared)], dict(made)))
     return found
 
 
 def retained_in_part(m, kind, words):
-    """What may be left where some entries are to go: a map without the first of them, or a whole set."""
-    gone = [key for key, value in rows(m) if value < int(words[0])]
+    """A call that keeps some entries is refused before the first, or at one that is to go. A set
+    is whole then, whichever element it was."""
     if kind.endswith('_set'):
-        return [m]
-    return [{key: m[key] for key in m if key not in gone[:n]} for n in range(max(len(gone), 1))]
+        return [([str(n)], m) for n in range(len(m))]
+    found, made = [(['0'], m)], dict(m)
+    for n, (key, value) in enumerate(rows(m), 1):
+        if value < int(words[0]):
+            found.append(([str(n)], dict(made)))
+            del made[key]
+    return found
+
+
+def left_behind(m, kind, call, words, answered):
+    """What a call may have answered where it is refused, and the map then."""
+    if call == 'take':
+        return [(answered[:n], {}) for n in range(len(answered))]
+    if call in ('insert', 'extend', 'from_iter'):
+        return put_in_part(m, kind, call, words)
+    if call == 'load':
+        return loaded_in_part(m, kind, words)
+    if call == 'merge':
+        return merged_in_part(m, kind, words)
+    if call == 'retain':
+        return retained_in_part(m, kind, words)
+    return [(before, m) for before in answered_before(m, kind, call, words, answered)]
+
+
+# ---- Calls that leave the map as it was where they are refused --------------
+
+
+def folded_in_part(m, kind, words, answered):
+    """A closure was called at the first entries under a prefix alone."""
+    found = []
+    for n, prefix in enumerate(words):
+        under = [entry for entry in rows(m) if entry[0].startswith(prefix)]
+        for count in range(len(under)):
+            number = folded(kind.endswith('_set'), under[:count])
+            found.append([*answered[:n], str(number)])
+    return found
 
 
 def is_asked_past(m, call, answered, n):
@@ -245,54 +148,50 @@ def is_asked_past(m, call, answered, n):
     return answered[n] not in ('0', 'none')
 
 
-def ordered_behind(m, kind, call, words, answered):
-    """The same as left_behind gives, for calls about the order of keys, and those with another map or set."""
-    if call == 'range':
-        # an error may come where no entry is left
-        return [(answered[:n], m, answered) for n in range(len(answered) + 1)]
-    if call in ('ends', 'beside', 'count', 'fold'):
-        return [(answered[:n], m, answered) for n in range(len(answered)) if is_asked_past(m, call, answered, n)]
-    if call == 'merge':
-        return [([], left, answered) for left in merged_in_part(m, kind, words)]
-    if call == 'retain':
-        return [([], left, answered) for left in retained_in_part(m, kind, words)]
-    if call in ('pop_first', 'pop_last'):
-        return [([], m, answered)] if m else []
-    # loads of one pair alone, since what is loaded in part is not loaded again
-    is_due = call in OF_TWO and (m or words) or call == 'load' and words or call == 'fill' and answered == ['true']
-    return [([], m, answered)] if is_due else []
-
-
-def is_due(m, kind, call, words):
-    """Whether a call that is no walk and puts no pairs in may find no memory."""
+def is_due(m, kind, call, words, answered):
+    """Whether a call that has answered nothing before may find no memory."""
     if call == 'remove':
         return joins(m, words[0], kind.split('_')[0])
     if call in ('split', 'split_off', 'cut'):
         return words[0] != b'' and any(key.startswith(words[0]) for key in m)
-    if call == 'clone':
+    if call in ('clone', 'itself'):
         return any(m)
+    if call in ('pop_first', 'pop_last'):
+        return bool(m)
     if call == 'read':
         return len(words[0]) > 4
-    if call == 'tree':
-        return True
-    return call in ('copy', 'along_owned') and any(words) and all(is_valid(word, kind) for word in words)
+    if call == 'fill':
+        return answered == ['true']
+    if call == 'get_or_insert':
+        return words[0] != b'' and words[0] not in m
+    if call == 'along_owned':
+        return any(words) and is_valid(words[0], kind)
+    return call == 'tree'
 
 
-def left_behind(m, kind, call, words, answered):
-    """What a call may have answered where it is refused, the map then, and its last answers."""
-    if call in ('keys', 'values', 'under'):
-        return [(answered[:n], m, answered) for n in range(len(answered))]
+def answered_before(m, kind, call, words, answered):
+    """What such a call may have answered before it is refused."""
+    if call in ('keys', 'values', 'under', 'cursor', 'cursor_under'):
+        return [answered[:n] for n in range(len(answered))]
+    if call in ('range', 'cursor_range'):
+        # an error may come where no entry is left
+        return [answered[:n] for n in range(len(answered) + 1)]
     if call == 'debug':
-        return [([answered[0][:n]], m, answered) for n in range(len(answered[0]))]
-    if call == 'take':
-        return [(answered[:n], {}, []) for n in range(len(answered))]
-    if call in ('insert', 'extend', 'from_iter'):
-        return [([], left, answered) for left in stops(m, kind, call, words)]
+        return [[answered[0][:n]] for n in range(len(answered[0]))]
     if call == 'copy':
-        return [(answered[:n], m, answered) for n, word in enumerate(words) if word and is_valid(word, kind)]
-    if is_due(m, kind, call, words):
-        return [([], m, answered)]
-    return ordered_behind(m, kind, call, words, answered)
+        return [answered[:n] for n, word in enumerate(words) if word and is_valid(word, kind)]
+    if call == 'fold':
+        return folded_in_part(m, kind, words, answered)
+    if call in ('ends', 'beside', 'count'):
+        places = range(len(answered))
+        return [answered[:n] for n in places if is_asked_past(m, call, answered, n)]
+    if call in OF_TWO:
+        # there was no other one, or it is as it was
+        return [[], shown(kind, dict(put_in(kind, words)))] if m or words else []
+    return [[]] if is_due(m, kind, call, words, answered) else []
+
+
+# ---- A run ------------------------------------------------------------------
 
 
 def refused(m, kind, call, words, answered):
@@ -300,9 +199,13 @@ def refused(m, kind, call, words, answered):
     for first, last in lists(call, answered):
         for n in range(first, last):
             yield [*answered[:n], 'refused', *answered[first:]]
-    one = element if kind.endswith('_set') else row
-    for before, left, again in left_behind(m, kind, call, words, answered):
-        yield [*before, 'refused', *map(one, rows(left)), 'again', *again]
+    if call == 'raise':
+        # a cursor that writes goes on at the entry that was due
+        for n in range(len(answered)):
+            yield [*answered[:n], 'refused', *answered[n:]]
+    for before, left, *last in left_behind(m, kind, call, words, answered):
+        again = last[0] if last else answers(dict(left), kind, call, words)
+        yield [*before, 'refused', *shown(kind, left), 'again', *again]
 
 
 def is_allowed(lines, kind, output, is_refused):
@@ -316,7 +219,9 @@ def is_allowed(lines, kind, output, is_refused):
             continue
         refusals += 1
         allowed = refused(before, kind, call, words, answered)
-        if not is_refused or refusals > 1 or got not in [line + ':' + text_of(each) for each in allowed]:
+        if not is_refused or refusals > 1:
+            return False
+        if got not in [line + ':' + text_of(each) for each in allowed]:
             return False
     return written_lines == ['']
 
@@ -326,7 +231,8 @@ def is_kept(lines, seen):
     line, call, words = lines[0]
     if call != 'extend' or len(words) < 8:
         return True
-    return any(got.startswith(line + ': refused ') and not got.startswith(line + ': refused again') for got in seen)
+    kept = re.compile(re.escape(line) + r': \d+ refused (?!again)')
+    return any(kept.match(got) for got in seen)
 
 
 def check(program, name):

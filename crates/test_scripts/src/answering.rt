@@ -1,10 +1,5 @@
 //! Maps and sets that answer calls.
 
-ghost use Rattle.std.specs.Prelude.{◌≡◌, ◌<◌, ◌⊎◌, ◌++◌, List, ℕ, codes, length, IsOk, OnOk};
-ghost use Rattle.std.specs.String.{string_bytes};
-ghost use Rattle.test_scripts.specs.Answers.{Ends};
-ghost use Rattle.test_scripts.specs.Calls.{NoneOf};
-
 use crate::answers::Answers;
 use crate::calls::{Call, Readable};
 use std::alloc::{AllocError, Global};
@@ -12,23 +7,14 @@ use std::{io, mem};
 
 /// A map or a set whose entries are listed.
 pub trait Listed: Drop {
-    // it has no keys
-    ghost IsEmpty: { Self → Type 0 };
-
-    // its entries as they are written
-    ghost listing: { Self → List ℕ };
-
     /// One with no keys.
-    fn empty(alloc: Global) -> Self
-        ensures { IsEmpty result };
+    fn empty(alloc: Global) -> Self;
 
     /// A copy.
     fn copied(&self) -> Result<Self, AllocError>;
 
-    /// Adds the entries. A refused step ends the walk.
-    fn add_walked(&self, out: &mut String) -> Result<(), AllocError>
-        ensures listed { OnOk result (string_bytes out.new ≡ string_bytes out.old ++ listing self.now) }
-        ensures bare { IsEmpty self.now → IsOk result × (string_bytes out.new ≡ string_bytes out.old) };
+    /// Adds the entries up to a refused step.
+    fn add_walked(&self, out: &mut String) -> Result<(), AllocError>;
 }
 
 /// One that answers calls on its keys.
@@ -47,10 +33,7 @@ pub trait Answering<'a, Q: Readable<'a>>: Listed {
 }
 
 /// Adds the entries, and once more behind `refused` where a step is refused.
-pub fn add_entries<A: Listed>(asked: &A, out: &mut String) -> Result<(), AllocError>
-    ensures listed { OnOk result (Ends (A.listing asked.now) (string_bytes out.new)) }
-    ensures bare { A.IsEmpty asked.now → IsOk result × (string_bytes out.new ≡ string_bytes out.old) }
-{
+pub fn add_entries<A: Listed>(asked: &A, out: &mut String) -> Result<(), AllocError> {
     if asked.add_walked(out).is_ok() {
         return Ok(());
     }
@@ -59,11 +42,7 @@ pub fn add_entries<A: Listed>(asked: &A, out: &mut String) -> Result<(), AllocEr
 }
 
 /// Adds what a refused call left.
-pub fn add_refusal<A: Listed>(asked: &A, out: &mut String) -> Result<(), AllocError>
-    ensures listed { OnOk result (Ends (A.listing asked.now ++ codes " again") (string_bytes out.new)) }
-    ensures bare { A.IsEmpty asked.now → OnOk result (string_bytes out.new
-        ≡ string_bytes out.old ++ codes " refused" ++ codes " again") }
-{
+pub fn add_refusal<A: Listed>(asked: &A, out: &mut String) -> Result<(), AllocError> {
     out.add("refused")?;
     add_entries(asked, out)?;
     out.add("again")
@@ -145,9 +124,7 @@ fn write_answer<'a, Q: Readable<'a>, A: Answering<'a, Q>>(
     asked: &mut A,
     call: &'a Call<'_>,
     out: &mut String,
-) -> io::Result<()>
-    ensures { OnOk result (0 < length (string_bytes out.new)) }
-{
+) -> io::Result<()> {
     out.clear();
     answer_again::<Q, A>(asked, alloc, call, out)?;
     if out.is_empty() {
@@ -163,10 +140,7 @@ pub fn write_answers<'a, Q: Readable<'a>, A: Answering<'a, Q>>(
     kind: &str,
     calls: &'a [Call<'_>],
     out: &mut String,
-) -> io::Result<()>
-    ensures none { NoneOf kind.now calls.now → IsOk result × (string_bytes out.new ≡ string_bytes out.old) }
-    ensures some { OnOk result (NoneOf kind.now calls.now ⊎ (0 < length (string_bytes out.new))) }
-{
+) -> io::Result<()> {
     let mut asked = A::empty(alloc);
     for call in calls {
         if call.kind == kind {

@@ -1,22 +1,16 @@
 //! How answers are written, each behind a space.
 
-ghost use Rattle.std.specs.Prelude.{◌≡◌, ◌<◌, ◌++◌, ◌&&◌, List, ℕ, codes, is_ok, if◌then◌else◌};
-ghost use Rattle.std.specs.Prelude.{IfOk, OnOk};
-ghost use Rattle.std.specs.String.{string_bytes};
-ghost use Rattle.test_scripts.specs.Answers.{escaped, hexadecimal, key_text, row_text};
-
 use patricia_tree::wire::{DecodeError, WireError};
 use std::alloc::AllocError;
-use std::fmt::{Debug, Write};
+use std::fmt::{Debug, Display, Write};
 
 /// A line that answers are added to.
 pub trait Answers {
-    // what was written
-    ghost text: { Self → List ℕ };
-
     /// Adds a word.
-    fn add(&mut self, answer: &str) -> Result<(), AllocError>
-        ensures { OnOk result (text self.new ≡ text self.old ++ codes " " ++ answer.now) };
+    fn add(&mut self, answer: &str) -> Result<(), AllocError>;
+
+    /// Adds what a value is written as.
+    fn add_text<D: Display>(&mut self, value: &D) -> Result<(), AllocError>;
 
     /// Adds a number.
     fn add_number(&mut self, number: u64) -> Result<(), AllocError>;
@@ -28,12 +22,10 @@ pub trait Answers {
     fn add_value(&mut self, value: Option<u64>) -> Result<(), AllocError>;
 
     /// Adds the bytes of a key, written with letters, digits and escapes.
-    fn add_key(&mut self, bytes: &[u8]) -> Result<(), AllocError>
-        ensures { OnOk result (text self.new ≡ text self.old ++ key_text bytes.now) };
+    fn add_key(&mut self, bytes: &[u8]) -> Result<(), AllocError>;
 
     /// Adds an entry, as its key and its value.
-    fn add_row(&mut self, key: &[u8], value: u64) -> Result<(), AllocError>
-        ensures { OnOk result (text self.new ≡ text self.old ++ row_text key.now value) };
+    fn add_row(&mut self, key: &[u8], value: u64) -> Result<(), AllocError>;
 
     /// Adds tree bytes, or why there are none.
     fn add_tree(&mut self, tree: Result<Vec<u8>, WireError>) -> Result<(), AllocError>;
@@ -46,9 +38,7 @@ pub trait Answers {
 }
 
 // The hexadecimal digit of a value below 16.
-fn hexadecimal(value: u8) -> char
-    ensures { value < 16 → result ≡ hexadecimal value }
-{
+fn hexadecimal(value: u8) -> char {
     match value {
         0..=9 => char::from(b'0' + value),
         10..=15 => char::from(b'A' + (value - 10)),
@@ -57,9 +47,7 @@ fn hexadecimal(value: u8) -> char
 }
 
 // Writes a byte of a key: a letter or a digit as it is, any other with two hexadecimal digits.
-fn push_escaped(out: &mut String, byte: u8) -> Result<(), AllocError>
-    ensures { OnOk result (string_bytes out.new ≡ string_bytes out.old ++ escaped byte) }
-{
+fn push_escaped(out: &mut String, byte: u8) -> Result<(), AllocError> {
     if byte.is_ascii_alphanumeric() {
         return out.push(char::from(byte));
     }
@@ -69,16 +57,18 @@ fn push_escaped(out: &mut String, byte: u8) -> Result<(), AllocError>
 }
 
 impl Answers for String {
-    ghost text = { λ s. string_bytes s };
-
     fn add(&mut self, answer: &str) -> Result<(), AllocError> {
         self.push(' ')?;
         self.push_str(answer)
     }
 
-    fn add_number(&mut self, number: u64) -> Result<(), AllocError> {
+    fn add_text<D: Display>(&mut self, value: &D) -> Result<(), AllocError> {
         self.push(' ')?;
-        write!(self, "{number}")
+        write!(self, "{value}")
+    }
+
+    fn add_number(&mut self, number: u64) -> Result<(), AllocError> {
+        self.add_text(&number)
     }
 
     fn add_bool(&mut self, is_true: bool) -> Result<(), AllocError> {
@@ -110,10 +100,7 @@ impl Answers for String {
         match tree {
             Ok(bytes) => self.add_key(&bytes),
             Err(WireError::Memory) => Err(AllocError),
-            Err(fault) => {
-                self.push(' ')?;
-                write!(self, "{fault}")
-            }
+            Err(fault) => self.add_text(&fault),
         }
     }
 
@@ -121,8 +108,7 @@ impl Answers for String {
         if fault == DecodeError::Memory {
             return Err(AllocError);
         }
-        self.push(' ')?;
-        write!(self, "{fault}")
+        self.add_text(&fault)
     }
 
     fn add_debug<D: Debug>(&mut self, value: &D, is_wide: bool) -> Result<(), AllocError> {
@@ -132,27 +118,4 @@ impl Answers for String {
         }
         write!(self, "{value:?}")
     }
-}
-
-/// Whether a walk was refused no step, with one more. That it goes on past a refused one is told.
-pub fn is_still_whole(
-    is_whole: bool,
-    step: Result<(), AllocError>,
-    out: &mut String,
-) -> Result<bool, AllocError>
-    ensures whole { IfOk result (λ is_so. is_so ≡ (is_whole && is_ok step)) }
-    ensures told { OnOk result (string_bytes out.new
-        ≡ if is_whole then string_bytes out.old else string_bytes out.old ++ codes " more") }
-{
-    if !is_whole {
-        out.add("more")?;
-    }
-    Ok(is_whole && step.is_ok())
-}
-
-/// What a walk comes to that is whole, or is not.
-pub fn outcome(is_whole: bool) -> Result<(), AllocError>
-    ensures { is_ok result ≡ is_whole }
-{
-    if is_whole { Ok(()) } else { Err(AllocError) }
 }

@@ -3,11 +3,6 @@
 //! In an argument `%` and two hexadecimal digits stand for a byte, and `*` and a number at its end
 //! say how often the rest is repeated, so that `*` alone is the empty key.
 
-ghost use Rattle.std.specs.Prelude.{◌≡◌, ◌++◌, ◌==◌, map, IfOk, OnOk};
-ghost use Rattle.std.specs.List.{slice_split};
-ghost use Rattle.std.specs.Str.Lines.{lines};
-ghost use Rattle.test_scripts.specs.Calls.{told, told_by, call_of, calls_of, IsNumber, value_of};
-
 use patricia_tree::BorrowedBytes;
 use std::alloc::{AllocError, Global};
 use std::str;
@@ -89,10 +84,7 @@ fn push_call<'t>(
     calls: &mut Vec<Call<'t>>,
     line: &'t str,
     words: &[&'t str],
-) -> Result<(), AllocError>
-    ensures { OnOk result (told calls.new.items
-        ≡ told calls.old.items ++ told_by line.now (map (λ w. w.now) words.now)) }
-{
+) -> Result<(), AllocError> {
     if let [kind, name, words @ ..] = words {
         let arguments = arguments(alloc, words)?;
         calls.push(Call {
@@ -106,31 +98,26 @@ fn push_call<'t>(
 }
 
 // The words of a line.
-fn words<'t>(alloc: Global, line: &'t str) -> Result<Vec<&'t str>, AllocError>
-    ensures { IfOk result (λ v.
-        map (λ w. w.now) v.items ≡ slice_split (λ b. b == 32) line.now) }
-{
+fn words<'t>(alloc: Global, line: &'t str) -> Result<Vec<&'t str>, AllocError> {
     line.split(' ').collect(alloc)
 }
 
 // Adds the call that a line is, if it is one.
-fn push_line<'t>(alloc: Global, calls: &mut Vec<Call<'t>>, line: &'t str) -> Result<(), AllocError>
-    ensures { OnOk result (told calls.new.items ≡ told calls.old.items ++ call_of line.now) }
-{
+fn push_line<'t>(
+    alloc: Global,
+    calls: &mut Vec<Call<'t>>,
+    line: &'t str,
+) -> Result<(), AllocError> {
     let words = words(alloc, line)?;
     push_call(alloc, calls, line, &words)
 }
 
-fn lines<'t>(alloc: Global, text: &'t str) -> Result<Vec<&'t str>, AllocError>
-    ensures { IfOk result (λ v. map (λ line. line.now) v.items ≡ lines text.now) }
-{
+fn lines<'t>(alloc: Global, text: &'t str) -> Result<Vec<&'t str>, AllocError> {
     text.lines().collect(alloc)
 }
 
 /// The calls among the lines of a text.
-pub fn calls<'t>(alloc: Global, text: &'t str) -> Result<Vec<Call<'t>>, AllocError>
-    ensures { IfOk result (λ calls. told calls.items ≡ calls_of text.now) }
-{
+pub fn calls<'t>(alloc: Global, text: &'t str) -> Result<Vec<Call<'t>>, AllocError> {
     let lines = lines(alloc, text)?;
     let mut calls = Vec::new(alloc);
     for line in &lines {
@@ -139,11 +126,16 @@ pub fn calls<'t>(alloc: Global, text: &'t str) -> Result<Vec<Call<'t>>, AllocErr
     Ok(calls)
 }
 
+/// The number that the first argument is, or 0.
+pub fn first_number(arguments: &[Vec<u8>]) -> usize {
+    match arguments {
+        [digits, ..] => number(digits),
+        [] => 0,
+    }
+}
+
 /// The number that some digits write, or 0.
-pub fn number(digits: &[u8]) -> usize
-    ensures written { IsNumber digits.now → result ≡ value_of digits.now }
-    ensures other { ¬ (IsNumber digits.now) → result ≡ 0 }
-{
+pub fn number(digits: &[u8]) -> usize {
     let Ok(text) = str::from_utf8(digits) else {
         return 0;
     };

@@ -7,20 +7,24 @@
 //!
 //! A call that finds no memory answers `refused` and what the map or the set then has, and behind
 //! `again` what it answers when it is made once more. A list of entries that is refused is written
-//! once more behind `refused` alone.
+//! once more behind `refused` alone, and a cursor that writes goes on behind it.
 #![tactic(auto)]
 
 mod answering;
 mod answers;
 mod calls;
 mod key_calls;
+mod map_bulk;
 mod map_calls;
 mod map_queries;
+mod map_values;
 mod order_calls;
 mod prefix_calls;
+mod set_bulk;
 mod set_calls;
 mod set_pairs;
 mod set_queries;
+mod walks;
 
 use answering::write_answers;
 use map_calls::MapCalls;

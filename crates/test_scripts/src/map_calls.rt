@@ -1,16 +1,14 @@
 //! The calls of a map.
 
-ghost use Rattle.std.specs.Prelude.{◌≡◌, []};
-ghost use Rattle.std.specs.FinMap as map;
-ghost use Rattle.test_scripts.specs.Answers.{rows_text};
-
 use crate::answering::{Answering, Listed, add_entries, add_refusal};
-use crate::answers::{Answers, is_still_whole, outcome};
+use crate::answers::Answers;
 use crate::calls::{self, Readable};
-use crate::map_queries;
-use patricia_tree::{BorrowedBytes, Bytes, GenericPatriciaMap, LoadError};
+use crate::walks::add_walk;
+use crate::{map_bulk, map_queries, map_values};
+use patricia_tree::{BorrowedBytes, Bytes, GenericPatriciaMap};
 use std::alloc::{AllocError, Global};
 use std::fmt::Debug;
+use std::iter::IntoIterator;
 use std::mem;
 
 type Map<K> = GenericPatriciaMap<K, u64>;
@@ -18,14 +16,10 @@ type Map<K> = GenericPatriciaMap<K, u64>;
 /// A map that answers calls.
 #[derive(Drop)]
 pub(super) struct MapCalls<K: Bytes> {
-    map: Map<K>,
+    pub(super) map: Map<K>,
 }
 
 impl<K: Bytes> Listed for MapCalls<K> {
-    ghost IsEmpty = { λ calls. map.entries calls.map ≡ [] };
-
-    ghost listing = { λ calls. rows_text (map.entries calls.map) };
-
     fn empty(alloc: Global) -> Self {
         MapCalls {
             map: GenericPatriciaMap::new(alloc),
@@ -38,11 +32,7 @@ impl<K: Bytes> Listed for MapCalls<K> {
     }
 
     fn add_walked(&self, out: &mut String) -> Result<(), AllocError> {
-        let mut is_whole = true;
-        for entry in &self.map {
-            is_whole = is_still_whole(is_whole, map_queries::add_entry(entry, out), out)?;
-        }
-        outcome(is_whole)
+        add_walk((&self.map).into_iter(), self.map.len(), out)
     }
 }
 
@@ -65,18 +55,12 @@ where
         match call {
             "insert" => add_inserts::<Q>(self, arguments, out),
             "remove" => add_removals::<Q>(&mut self.map, arguments, out),
-            "fill" | "update" => add_made::<Q>(&mut self.map, call == "fill", arguments, out),
-            "extend" | "from_iter" | "merge" | "load" => {
-                put_pairs::<Q>(alloc, &mut self.map, arguments, call)?;
-                add_entries(self, out)
+            "extend" | "from_iter" | "merge" | "load" | "same" => {
+                map_bulk::answer::<Q>(alloc, self, call, arguments, out)
             }
-            "retain" => {
-                retain(&mut self.map, arguments)?;
-                add_entries(self, out)
-            }
+            "retain" => add_retained(self, calls::first_number(arguments) as u64, out),
             "pop_first" | "pop_last" => add_popped(&mut self.map, call == "pop_first", out),
             "cut" => add_cut::<Q>(&mut self.map, arguments, out),
-            "same" => add_same::<Q>(alloc, &self.map, arguments, out),
             "read" => add_read(alloc, self, arguments, out),
             "take" => add_taken(
                 mem::replace(&mut self.map, GenericPatriciaMap::new(alloc)),
@@ -86,77 +70,30 @@ where
                 self.map.clear();
                 Ok(())
             }
+            "fill" | "update" | "get_or_insert" | "raise" => {
+                map_values::answer::<Q>(&mut self.map, call, arguments, out)
+            }
             _ => map_queries::answer::<Q>(alloc, &self.map, call, arguments, out),
         }
     }
 }
 
-// The arguments are keys, each with its value after it.
-fn pairs<'a, Q: Readable<'a>>(
-    alloc: Global,
-    arguments: &'a [Vec<u8>],
-) -> Result<Vec<(Q, u64)>, AllocError> {
-    let mut pairs = Vec::new(alloc);
-    for pair in arguments.chunks(2) {
-        if let [key, value] = pair
-            && let Some(key) = Q::read(key)
-        {
-            pairs.push((key, calls::number(value) as u64))?;
-        }
-    }
-    Ok(pairs)
-}
-
-// The same. What is refused here is none of the library's, and asked for once more.
-fn pairs_again<'a, Q: Readable<'a>>(
-    alloc: Global,
-    arguments: &'a [Vec<u8>],
-) -> Result<Vec<(Q, u64)>, AllocError> {
-    match pairs::<Q>(alloc, arguments) {
-        Ok(pairs) => Ok(pairs),
-        Err(_) => pairs::<Q>(alloc, arguments),
-    }
-}
-
-// Puts pairs into the map, or makes it anew of them.
-fn put_pairs<'a, Q: Readable<'a>>(
-    alloc: Global,
-    map: &mut Map<Q::Owned>,
-    arguments: &'a [Vec<u8>],
-    call: &str,
+// Keeps the entries whose value is at least a number. Adds how often the closure was called, too.
+fn add_retained<K: Bytes>(
+    asked: &mut MapCalls<K>,
+    least: u64,
+    out: &mut String,
 ) -> Result<(), AllocError> {
-    let pairs = pairs_again::<Q>(alloc, arguments)?;
-    match call {
-        "extend" => map.extend(pairs),
-        "merge" => merge(map, GenericPatriciaMap::from_iter(alloc, pairs)?),
-        "load" => load(map, pairs),
-        _ => {
-            *map = GenericPatriciaMap::from_iter(alloc, pairs)?;
-            Ok(())
-        }
+    let mut count: u64 = 0;
+    let retained = asked.map.retain(|_, value| {
+        count = count.saturating_add(1);
+        *value >= least
+    });
+    out.add_number(count)?;
+    match retained {
+        Ok(()) => add_entries(asked, out),
+        Err(error) => Err(error),
     }
-}
-
-// Merges another map in. Of two values for one key the greater stays.
-fn merge<K: Bytes>(map: &mut Map<K>, other: Map<K>) -> Result<(), AllocError> {
-    map.merge_with(other, |value, new| *value = (*value).max(new))
-}
-
-// Loads pairs up to the first that is not in order.
-fn load<Q: BorrowedBytes>(map: &mut Map<Q::Owned>, pairs: Vec<(Q, u64)>) -> Result<(), AllocError> {
-    match map.sorted_load(pairs) {
-        Ok(()) | Err(LoadError::NotInOrder) => Ok(()),
-        Err(LoadError::Memory) => Err(AllocError),
-    }
-}
-
-// Keeps the entries whose value is at least a number.
-fn retain<K: Bytes>(map: &mut Map<K>, arguments: &[Vec<u8>]) -> Result<(), AllocError> {
-    let least = match arguments {
-        [least, ..] => calls::number(least) as u64,
-        [] => 0,
-    };
-    map.retain(|_, value| *value >= least)
 }
 
 // Takes the first entry, or the last one.
@@ -165,14 +102,15 @@ fn add_popped<K: Bytes>(
     is_first: bool,
     out: &mut String,
 ) -> Result<(), AllocError> {
-    let entry = if is_first {
-        map.pop_first()?
+    let popped = if is_first {
+        map.pop_first()
     } else {
-        map.pop_last()?
+        map.pop_last()
     };
-    match entry {
-        Some((key, value)) => out.add_row(key.as_bytes(), value),
-        None => out.add("none"),
+    match popped {
+        Ok(Some((key, value))) => out.add_row(key.as_bytes(), value),
+        Ok(None) => out.add("none"),
+        Err(error) => Err(error),
     }
 }
 
@@ -188,18 +126,6 @@ fn add_cut<'a, Q: Readable<'a>>(
         return out.add_number(map.remove_prefix(prefix)? as u64);
     }
     out.add("unknown")
-}
-
-// Whether the map has these pairs and no other.
-fn add_same<'a, Q: Readable<'a>>(
-    alloc: Global,
-    map: &Map<Q::Owned>,
-    arguments: &'a [Vec<u8>],
-    out: &mut String,
-) -> Result<(), AllocError> {
-    let pairs = pairs_again::<Q>(alloc, arguments)?;
-    let other = GenericPatriciaMap::from_iter(alloc, pairs)?;
-    out.add_bool(map.equals(&other)?)
 }
 
 fn add_inserts<'a, Q: Readable<'a>>(
@@ -245,36 +171,6 @@ fn add_last_insert<Q: BorrowedBytes>(
     }
 }
 
-// Makes the values of new keys, or puts others in the place of those that are there.
-fn add_made<'a, Q: Readable<'a>>(
-    map: &mut Map<Q::Owned>,
-    is_new: bool,
-    arguments: &'a [Vec<u8>],
-    out: &mut String,
-) -> Result<(), AllocError> {
-    for pair in arguments.chunks(2) {
-        if let [key, value] = pair
-            && let Some(key) = Q::read(key)
-        {
-            add_one_made(map, is_new, key, calls::number(value) as u64, out)?;
-        }
-    }
-    Ok(())
-}
-
-fn add_one_made<Q: BorrowedBytes>(
-    map: &mut Map<Q::Owned>,
-    is_new: bool,
-    key: Q,
-    value: u64,
-    out: &mut String,
-) -> Result<(), AllocError> {
-    if is_new {
-        return out.add_bool(map.insert_with(key, || value)?);
-    }
-    out.add_value(map.update(key, |there| mem::replace(there, value)))
-}
-
 fn add_removals<'a, Q: Readable<'a>>(
     map: &mut Map<Q::Owned>,
     keys: &'a [Vec<u8>],
@@ -282,10 +178,21 @@ fn add_removals<'a, Q: Readable<'a>>(
 ) -> Result<(), AllocError> {
     for key in keys {
         if let Some(key) = Q::read(key) {
-            out.add_value(map.remove(key)?)?;
+            add_removal(map, key, out)?;
         }
     }
     Ok(())
+}
+
+fn add_removal<Q: BorrowedBytes>(
+    map: &mut Map<Q::Owned>,
+    key: Q,
+    out: &mut String,
+) -> Result<(), AllocError> {
+    match map.remove(key) {
+        Ok(old) => out.add_value(old),
+        Err(error) => Err(error),
+    }
 }
 
 // The arguments are numbers.
@@ -326,17 +233,6 @@ fn add_read<K: Bytes>(
 
 // A refused step drops the entries that are left.
 fn add_taken<K: Bytes>(map: Map<K>, out: &mut String) -> Result<(), AllocError> {
-    let mut is_whole = true;
-    for entry in map {
-        is_whole = is_still_whole(is_whole, add_owned(entry, out), out)?;
-    }
-    outcome(is_whole)
-}
-
-fn add_owned<K: Bytes>(
-    entry: Result<(K, u64), AllocError>,
-    out: &mut String,
-) -> Result<(), AllocError> {
-    let (key, value) = entry?;
-    out.add_row(key.as_bytes(), value)
+    let len = map.len();
+    add_walk(map.into_iter(), len, out)
 }

@@ -1,9 +1,9 @@
 //! The calls of a map about the order of its keys, and how many begin with a prefix.
 
-use crate::answers::{Answers, is_still_whole, outcome};
+use crate::answers::Answers;
 use crate::calls::Readable;
-use crate::{key_calls, map_queries};
-use patricia_tree::map::Range;
+use crate::key_calls;
+use crate::walks::add_walk;
 use patricia_tree::{BorrowedBytes, Bytes, GenericPatriciaMap};
 use std::alloc::{AllocError, Global};
 
@@ -18,7 +18,7 @@ pub(super) fn answer<'a, Q: Readable<'a>>(
     out: &mut String,
 ) -> Result<(), AllocError> {
     match call {
-        "range" => add_range::<Q>(map, arguments, out),
+        "range" | "cursor_range" => add_range::<Q>(map, call == "range", arguments, out),
         "ends" => add_ends(map, out),
         "beside" | "count" | "fold" => add_each::<Q>(map, call, arguments, out),
         _ => key_calls::answer::<Q>(alloc, call, arguments, out),
@@ -28,33 +28,50 @@ pub(super) fn answer<'a, Q: Readable<'a>>(
 // The entries from one key on, and before another one where there are two.
 fn add_range<'a, Q: Readable<'a>>(
     map: &Map<Q::Owned>,
+    is_iterator: bool,
     arguments: &'a [Vec<u8>],
     out: &mut String,
 ) -> Result<(), AllocError> {
     if let [start] = arguments
         && let Some(start) = Q::read(start)
     {
-        return add_entries(map.range_from(start), out);
+        return add_from(map, is_iterator, start, out);
     }
     if let [start, end] = arguments
         && let Some(start) = Q::read(start)
         && let Some(end) = Q::read(end)
     {
-        return add_entries(map.range(start, end), out);
+        return add_between(map, is_iterator, start, end, out);
     }
     out.add("unknown")
 }
 
-// A refused step ends the walk, so that nothing is added behind it.
-fn add_entries<Q: BorrowedBytes>(
-    range: Range<'_, Q, u64>,
+// An iterator gives them, or a cursor lends them.
+fn add_from<Q: BorrowedBytes>(
+    map: &Map<Q::Owned>,
+    is_iterator: bool,
+    start: Q,
     out: &mut String,
 ) -> Result<(), AllocError> {
-    let mut is_whole = true;
-    for entry in range {
-        is_whole = is_still_whole(is_whole, map_queries::add_entry(entry, out), out)?;
+    if is_iterator {
+        add_walk(map.range_from(start), map.len(), out)
+    } else {
+        add_walk(map.cursor_from(start), map.len(), out)
     }
-    outcome(is_whole)
+}
+
+fn add_between<Q: BorrowedBytes>(
+    map: &Map<Q::Owned>,
+    is_iterator: bool,
+    start: Q,
+    end: Q,
+    out: &mut String,
+) -> Result<(), AllocError> {
+    if is_iterator {
+        add_walk(map.range(start, end), map.len(), out)
+    } else {
+        add_walk(map.cursor_range(start, end), map.len(), out)
+    }
 }
 
 // An entry that a call found, or `none`.
@@ -109,7 +126,8 @@ fn add_beside<Q: BorrowedBytes>(
     add_found(map.first_after(key)?, out)
 }
 
-// A number that tells in which order a closure is called at the values under a prefix.
+// A number that tells in which order a closure is called at the values under a prefix, also where
+// that is refused.
 fn add_folded<Q: BorrowedBytes>(
     map: &Map<Q::Owned>,
     prefix: Q,
@@ -117,10 +135,11 @@ fn add_folded<Q: BorrowedBytes>(
 ) -> Result<(), AllocError> {
     let mut folded: u64 = 0;
     let mut step = |_: &[u8], value: &u64| folded = folded.wrapping_mul(31).wrapping_add(*value);
-    if prefix.is_empty() {
-        map.for_each(&mut step)?;
+    let visited = if prefix.is_empty() {
+        map.for_each(&mut step)
     } else {
-        map.for_each_under(prefix, &mut step)?;
-    }
-    out.add_number(folded)
+        map.for_each_under(prefix, &mut step)
+    };
+    out.add_number(folded)?;
+    visited
 }

@@ -1,8 +1,9 @@
 //! The calls of a map about prefixes of keys, and about keys that are few edits apart.
 
-use crate::answers::{Answers, is_still_whole, outcome};
+use crate::answers::Answers;
 use crate::calls::{self, Readable};
-use crate::{map_queries, order_calls};
+use crate::order_calls;
+use crate::walks::add_walk;
 use patricia_tree::{BorrowedBytes, Bytes, GenericPatriciaMap};
 use std::alloc::{AllocError, Global};
 
@@ -18,8 +19,8 @@ pub(super) fn answer<'a, Q: Readable<'a>>(
 ) -> Result<(), AllocError> {
     match call {
         "longest" | "reach" => add_each::<Q>(map, call == "longest", arguments, out),
-        "along" | "along_values" | "along_owned" | "under" => {
-            add_walk::<Q>(alloc, map, call, arguments, out)
+        "along" | "along_values" | "along_owned" | "under" | "cursor_under" => {
+            add_about::<Q>(alloc, map, call, arguments, out)
         }
         "within" => add_within::<Q>(map, arguments, out),
         _ => order_calls::answer::<Q>(alloc, map, call, arguments, out),
@@ -58,7 +59,7 @@ fn add_one<Q: BorrowedBytes>(
 }
 
 // The answers of a walk, whose argument is one key.
-fn add_walk<'a, Q: Readable<'a>>(
+fn add_about<'a, Q: Readable<'a>>(
     alloc: Global,
     map: &Map<Q::Owned>,
     call: &str,
@@ -85,7 +86,8 @@ fn add_walked<Q: BorrowedBytes>(
         "along" => add_along(map, key, out),
         "along_values" => add_along_values(map, key, out),
         "along_owned" => add_along_a_copy(alloc, map, key, out),
-        _ => add_under(map, key, out),
+        "under" => add_walk(map.iter_prefix(key), map.len(), out),
+        _ => add_walk(map.cursor_under(key), map.len(), out),
     }
 }
 
@@ -128,19 +130,6 @@ fn add_along_owned<K: Bytes>(map: &Map<K>, key: K, out: &mut String) -> Result<(
     Ok(())
 }
 
-// A refused step ends the walk, so that nothing is added behind it.
-fn add_under<Q: BorrowedBytes>(
-    map: &Map<Q::Owned>,
-    prefix: Q,
-    out: &mut String,
-) -> Result<(), AllocError> {
-    let mut is_whole = true;
-    for entry in map.iter_prefix(prefix) {
-        is_whole = is_still_whole(is_whole, map_queries::add_entry(entry, out), out)?;
-    }
-    outcome(is_whole)
-}
-
 // The entries whose key is at most so many edits from a key.
 fn add_within<'a, Q: Readable<'a>>(
     map: &Map<Q::Owned>,
@@ -151,25 +140,7 @@ fn add_within<'a, Q: Readable<'a>>(
         && let Some(key) = Q::read(key)
     {
         let limit = u32::try_from(calls::number(limit)).unwrap_or(u32::MAX);
-        return add_near(map, key, limit, out);
+        return add_walk(map.within(key, limit), map.len(), out);
     }
     out.add("unknown")
-}
-
-fn add_near<Q: BorrowedBytes>(
-    map: &Map<Q::Owned>,
-    key: Q,
-    limit: u32,
-    out: &mut String,
-) -> Result<(), AllocError> {
-    let mut cursor = map.within(key, limit);
-    for _ in 0..map.len() {
-        if !cursor.advance()? {
-            break;
-        }
-        if let (Some(key), Some(value)) = (cursor.key(), cursor.value()) {
-            out.add_row(key, *value)?;
-        }
-    }
-    Ok(())
 }

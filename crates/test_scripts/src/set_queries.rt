@@ -1,12 +1,8 @@
 //! The calls that leave a set as it is.
 
-ghost use Rattle.std.specs.Prelude.{◌≡◌, ◌++◌, IsOkAnd, OnOk};
-ghost use Rattle.std.specs.String.{string_bytes};
-ghost use Rattle.test_scripts.specs.Answers.{key_text};
-
-use crate::answers::{Answers, is_still_whole, outcome};
+use crate::answers::Answers;
 use crate::calls::Readable;
-use patricia_tree::set::ElementRange;
+use crate::walks::add_walk;
 use patricia_tree::{BorrowedBytes, Bytes, GenericPatriciaSet};
 use std::alloc::AllocError;
 use std::fmt::Debug;
@@ -28,7 +24,9 @@ where
         "empty" => out.add_bool(set.is_empty()),
         "tree" => out.add_tree(set.tree_bytes()),
         "debug" | "wide" => out.add_debug(set, call == "wide"),
-        "range" => add_range::<Q>(set, arguments, out),
+        "cursor" => add_walk(set.cursor(), set.len(), out),
+        "itself" => out.add_bool(set.equals(set)?),
+        "range" | "cursor_range" => add_range::<Q>(set, call == "range", arguments, out),
         "ends" => add_ends(set, out),
         _ => add_questions::<Q>(set, call, arguments, out),
     }
@@ -59,7 +57,8 @@ fn add_question<Q: BorrowedBytes>(
         "contains" => out.add_bool(set.contains(argument)),
         "reach" => out.add_number(set.longest_common_prefix_len(argument) as u64),
         "longest" => add_longest(set, argument, out),
-        "under" => add_under(set, argument, out),
+        "under" => add_walk(set.iter_prefix(argument), set.len(), out),
+        "cursor_under" => add_walk(set.cursor_under(argument), set.len(), out),
         "beside" => add_beside(set, argument, out),
         "fold" => add_folded(set, argument, out),
         "count" => out.add_number(set.count_prefix(argument)? as u64),
@@ -79,60 +78,53 @@ fn add_longest<Q: BorrowedBytes>(
     }
 }
 
-/// Adds an element that a walk gives.
-pub(super) fn add_element<K: Bytes>(
-    element: Result<K, AllocError>,
-    out: &mut String,
-) -> Result<(), AllocError>
-    ensures { OnOk result (IsOkAnd element (λ k. string_bytes out.new
-        ≡ string_bytes out.old ++ key_text (K.key k))) }
-{
-    out.add_key(element?.as_bytes())
-}
-
-// A refused step ends the walk.
-fn add_under<Q: BorrowedBytes>(
-    set: &Set<Q::Owned>,
-    prefix: Q,
-    out: &mut String,
-) -> Result<(), AllocError> {
-    let mut is_whole = true;
-    for element in set.iter_prefix(prefix) {
-        is_whole = is_still_whole(is_whole, add_element(element, out), out)?;
-    }
-    outcome(is_whole)
-}
-
 // The elements from one on, and before another one where there are two.
 fn add_range<'a, Q: Readable<'a>>(
     set: &Set<Q::Owned>,
+    is_iterator: bool,
     arguments: &'a [Vec<u8>],
     out: &mut String,
 ) -> Result<(), AllocError> {
     if let [start] = arguments
         && let Some(start) = Q::read(start)
     {
-        return add_elements(set.range_from(start), out);
+        return add_from(set, is_iterator, start, out);
     }
     if let [start, end] = arguments
         && let Some(start) = Q::read(start)
         && let Some(end) = Q::read(end)
     {
-        return add_elements(set.range(start, end), out);
+        return add_between(set, is_iterator, start, end, out);
     }
     out.add("unknown")
 }
 
-// A refused step ends the walk.
-fn add_elements<Q: BorrowedBytes>(
-    range: ElementRange<'_, Q>,
+// An iterator gives them, or a cursor lends them.
+fn add_from<Q: BorrowedBytes>(
+    set: &Set<Q::Owned>,
+    is_iterator: bool,
+    start: Q,
     out: &mut String,
 ) -> Result<(), AllocError> {
-    let mut is_whole = true;
-    for element in range {
-        is_whole = is_still_whole(is_whole, add_element(element, out), out)?;
+    if is_iterator {
+        add_walk(set.range_from(start), set.len(), out)
+    } else {
+        add_walk(set.cursor_from(start), set.len(), out)
     }
-    outcome(is_whole)
+}
+
+fn add_between<Q: BorrowedBytes>(
+    set: &Set<Q::Owned>,
+    is_iterator: bool,
+    start: Q,
+    end: Q,
+    out: &mut String,
+) -> Result<(), AllocError> {
+    if is_iterator {
+        add_walk(set.range(start, end), set.len(), out)
+    } else {
+        add_walk(set.cursor_range(start, end), set.len(), out)
+    }
 }
 
 /// Adds an element that a call found, or `none`.
@@ -159,7 +151,8 @@ fn add_beside<Q: BorrowedBytes>(
     add_found(set.first_after(key)?, out)
 }
 
-// A number that tells in which order a closure is called at the elements under a prefix.
+// A number that tells in which order a closure is called at the elements under a prefix, also where
+// that is refused.
 fn add_folded<Q: BorrowedBytes>(
     set: &Set<Q::Owned>,
     prefix: Q,
@@ -169,10 +162,11 @@ fn add_folded<Q: BorrowedBytes>(
     let mut step = |element: &[u8]| folded = folded
         .wrapping_mul(31)
         .wrapping_add(element.len() as u64);
-    if prefix.is_empty() {
-        set.for_each(&mut step)?;
+    let visited = if prefix.is_empty() {
+        set.for_each(&mut step)
     } else {
-        set.for_each_under(prefix, &mut step)?;
-    }
-    out.add_number(folded)
+        set.for_each_under(prefix, &mut step)
+    };
+    out.add_number(folded)?;
+    visited
 }

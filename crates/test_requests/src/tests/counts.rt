@@ -1,4 +1,5 @@
 // Entries and elements counted under prefixes behind which no key has more than 64 bytes.
+use crate::tests::asserts::{done, holds};
 use patricia_tree::{
     BorrowedBytes, GenericPatriciaMap, GenericPatriciaSet, PatriciaMap, PatriciaSet,
 };
@@ -72,15 +73,13 @@ const PREFIXES: [(&str, usize); 10] = [
 ];
 
 #[test]
-fn texts_made(rt: HostRuntime) -> Result<(), AllocError> {
-    assert!(rt; counts(rt.alloc(), &TEXTS, &[])?);
-    Ok(())
+fn texts_made(rt: HostRuntime) {
+    holds!(rt; done(&rt, counts(rt.alloc(), &TEXTS, &[])));
 }
 
 #[test]
-fn texts_called(rt: HostRuntime) -> Result<(), AllocError> {
-    assert!(rt; counts(rt.alloc(), &TEXTS, &PREFIXES)?);
-    Ok(())
+fn texts_called(rt: HostRuntime) {
+    holds!(rt; done(&rt, counts(rt.alloc(), &TEXTS, &PREFIXES)));
 }
 
 const LETTERS: [u8; 66] = [b'a'; 66];
@@ -99,14 +98,12 @@ fn counts_nested(alloc: Global, prefixes: &[(&[u8], usize)]) -> Result<bool, All
 }
 
 #[test]
-fn nested_made(rt: HostRuntime) -> Result<(), AllocError> {
-    assert!(rt; counts_nested(rt.alloc(), &[])?);
-    Ok(())
+fn nested_made(rt: HostRuntime) {
+    holds!(rt; done(&rt, counts_nested(rt.alloc(), &[])));
 }
 
 #[test]
-fn nested_called(rt: HostRuntime) -> Result<(), AllocError> {
+fn nested_called(rt: HostRuntime) {
     let prefixes: [(&[u8], usize); 3] = [(b"aa", 65), (b"aaaa", 63), (b"", 66)];
-    assert!(rt; counts_nested(rt.alloc(), &prefixes)?);
-    Ok(())
+    holds!(rt; done(&rt, counts_nested(rt.alloc(), &prefixes)));
 }

@@ -1,4 +1,5 @@
 // The functions of the key traits, but `from_bytes`.
+use crate::tests::asserts::holds;
 use patricia_tree::{BorrowedBytes, Bytes};
 use std::alloc::{AllocError, Global};
 use std::cmp::Ordering;
@@ -7,9 +8,9 @@ use std::process::Abort;
 // The functions on bytes, each of which may end inside an item, and those on the key itself.
 fn call_alone<Q: BorrowedBytes>(rt: &impl Abort, owned: &Q::Owned, key: Q, bytes: &[u8]) {
     let floor = Q::Owned::floor_boundary(bytes);
-    assert!(rt; Q::Owned::is_valid_bytes(bytes) == (floor == bytes.len()));
-    assert!(rt; owned.as_bytes() == key.as_bytes());
-    assert!(rt; key.is_empty() == key.as_bytes().is_empty());
+    holds!(rt; Q::Owned::is_valid_bytes(bytes) == (floor == bytes.len()));
+    holds!(rt; owned.as_bytes() == key.as_bytes());
+    holds!(rt; key.is_empty() == key.as_bytes().is_empty());
 }
 
 // The functions that part a key after its first bytes, where these are whole items.
@@ -18,8 +19,8 @@ fn call_halves<Q: BorrowedBytes>(rt: &impl Abort, key: Q, n: usize) {
         return;
     };
     if Q::Owned::is_valid_bytes(front) {
-        assert!(rt; key.keep_n_prefix(n).is_empty() == (n == 0));
-        assert!(rt; key.strip_n_prefix(n).is_empty() == (n == key.as_bytes().len()));
+        holds!(rt; key.keep_n_prefix(n).is_empty() == (n == 0));
+        holds!(rt; key.strip_n_prefix(n).is_empty() == (n == key.as_bytes().len()));
     }
 }
 
@@ -27,11 +28,11 @@ fn call_halves<Q: BorrowedBytes>(rt: &impl Abort, key: Q, n: usize) {
 fn call_beside<Q: BorrowedBytes>(rt: &impl Abort, key: Q, bytes: &[u8]) {
     let (rest, len) = key.strip_common_prefix_and_len(bytes);
     let again = key.strip_common_prefix(bytes);
-    assert!(rt; rest.as_bytes() == again.as_bytes());
+    holds!(rt; rest.as_bytes() == again.as_bytes());
     call_halves(rt, key, len);
     if Q::Owned::is_valid_bytes(bytes) {
         let is_equal = len > 0 || (key.is_empty() && bytes.is_empty());
-        assert!(rt; (key.cmp_first_item(bytes) == Ordering::Equal) == is_equal);
+        holds!(rt; (key.cmp_first_item(bytes) == Ordering::Equal) == is_equal);
     }
 }
 

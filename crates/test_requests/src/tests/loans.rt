@@ -1,5 +1,6 @@
 // The calls that lend one value, and cursors that take no step.
 use super::helpers::map_of;
+use crate::tests::asserts::holds;
 use patricia_tree::{BorrowedBytes, Bytes, GenericPatriciaMap};
 use std::alloc::{AllocError, Global};
 use std::process::Abort;
@@ -60,8 +61,8 @@ fn check_all<Q: BorrowedBytes>(
 ) -> Result<(), AllocError> {
     let mut map = map_of(alloc, stored)?;
     for (key, is_there) in keys {
-        assert!(rt; call_loans(&mut map, *key) == (*is_there, *is_there, true, true));
-        assert!(rt; call_cursors(&mut map, *key));
+        holds!(rt; call_loans(&mut map, *key) == (*is_there, *is_there, true, true));
+        holds!(rt; call_cursors(&mut map, *key));
     }
     Ok(())
 }

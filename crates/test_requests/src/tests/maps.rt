@@ -1,6 +1,7 @@
 ghost use Rattle.std.specs.Prelude.{◌≡◌, ◌<◌};
 
 use super::helpers::map_of;
+use crate::tests::asserts::holds;
 use patricia_tree::{BorrowedBytes, Bytes, GenericPatriciaMap, Steps};
 use std::alloc::{AllocError, Global};
 use std::iter;
@@ -162,9 +163,9 @@ fn remove_each<Q: BorrowedBytes>(
     map: &mut GenericPatriciaMap<Q::Owned, u64>,
     keys: &Keys<'_, Q>,
 ) {
-    assert!(rt; are_removed(map, keys.absent, false));
-    assert!(rt; are_removed(map, keys.removed, true));
-    assert!(rt; are_removed(map, keys.removed, false));
+    holds!(rt; are_removed(map, keys.absent, false));
+    holds!(rt; are_removed(map, keys.removed, true));
+    holds!(rt; are_removed(map, keys.removed, false));
 }
 
 fn change_each<Q: BorrowedBytes>(
@@ -172,10 +173,10 @@ fn change_each<Q: BorrowedBytes>(
     map: &mut GenericPatriciaMap<Q::Owned, u64>,
     keys: &Keys<'_, Q>,
 ) {
-    assert!(rt; are_put(map, keys.stored, true));
+    holds!(rt; are_put(map, keys.stored, true));
     remove_each(rt, map, keys);
-    assert!(rt; are_put(map, keys.empty, false));
-    assert!(rt; has_left(map, keys));
+    holds!(rt; are_put(map, keys.empty, false));
+    holds!(rt; has_left(map, keys));
 }
 
 // Whether a split by a prefix under which there is nothing is made. One that begins a key is left
@@ -233,8 +234,8 @@ fn take_whole<Q: BorrowedBytes>(
     empty: &[Q],
 ) -> Result<(), AllocError> {
     for key in empty {
-        assert!(rt; is_handed_over(map, *key)?);
-        assert!(rt; is_made_of_pairs(alloc, *key)?);
+        holds!(rt; is_handed_over(map, *key)?);
+        holds!(rt; is_made_of_pairs(alloc, *key)?);
     }
     Ok(())
 }
@@ -246,10 +247,10 @@ fn take_each<Q: BorrowedBytes>(
     map: &mut GenericPatriciaMap<Q::Owned, u64>,
     keys: &Keys<'_, Q>,
 ) -> Result<(), AllocError> {
-    assert!(rt; are_split(map, keys.absent));
+    holds!(rt; are_split(map, keys.absent));
     extend_all(map, keys.stored)?;
     take_whole(rt, alloc, map, keys.empty)?;
-    assert!(rt; map.len() == keys.stored.len());
+    holds!(rt; map.len() == keys.stored.len());
     Ok(())
 }
 
@@ -285,8 +286,8 @@ fn call_all<Q: BorrowedBytes>(
     keys: &Keys<'_, Q>,
 ) -> Result<(), AllocError> {
     call_one(rt, alloc, keys)?;
-    assert!(rt; is_cleared(map_of(alloc, keys.stored)?));
-    assert!(rt; is_empty_each_way(GenericPatriciaMap::<Q::Owned, u64>::new(alloc)));
+    holds!(rt; is_cleared(map_of(alloc, keys.stored)?));
+    holds!(rt; is_empty_each_way(GenericPatriciaMap::<Q::Owned, u64>::new(alloc)));
     Ok(())
 }
 
@@ -302,7 +303,7 @@ fn make<Q: BorrowedBytes>(
     keys: &Keys<'_, Q>,
 ) -> Result<(), AllocError> {
     let len = made_len(alloc, keys.stored)?;
-    assert!(rt; made_len(alloc, keys.stored)? == len);
+    holds!(rt; made_len(alloc, keys.stored)? == len);
     Ok(())
 }
 

@@ -2,6 +2,7 @@
 //! many of them: `.ci/run` asks that the search in `called` makes as many requests over many as
 //! over few.
 use super::helpers::map_of;
+use crate::tests::asserts::{done, holds, same};
 use patricia_tree::map::NearCursor;
 use patricia_tree::{
     BorrowedBytes, GenericPatriciaMap, GenericPatriciaSet, PatriciaMap, PatriciaSet,
@@ -73,59 +74,51 @@ fn finds_near<V>(mut search: NearCursor<'_, &[u8], V>) -> Result<bool, AllocErro
 }
 
 #[test]
-fn map_few_made(rt: HostRuntime) -> Result<(), AllocError> {
-    let map = far_map(rt.alloc(), FEW)?;
-    assert_eq!(rt; map.len(), FEW + NEAR.len());
-    Ok(())
+fn map_few_made(rt: HostRuntime) {
+    let map = done(&rt, far_map(rt.alloc(), FEW));
+    same!(rt; map.len(), FEW + NEAR.len());
 }
 
 #[test]
-fn map_few_called(rt: HostRuntime) -> Result<(), AllocError> {
-    let map = far_map(rt.alloc(), FEW)?;
-    assert!(rt; finds_near(map.within(SOUGHT, 1))?);
-    Ok(())
+fn map_few_called(rt: HostRuntime) {
+    let map = done(&rt, far_map(rt.alloc(), FEW));
+    holds!(rt; done(&rt, finds_near(map.within(SOUGHT, 1))));
 }
 
 #[test]
-fn map_many_made(rt: HostRuntime) -> Result<(), AllocError> {
-    let map = far_map(rt.alloc(), MANY)?;
-    assert_eq!(rt; map.len(), MANY + NEAR.len());
-    Ok(())
+fn map_many_made(rt: HostRuntime) {
+    let map = done(&rt, far_map(rt.alloc(), MANY));
+    same!(rt; map.len(), MANY + NEAR.len());
 }
 
 #[test]
-fn map_many_called(rt: HostRuntime) -> Result<(), AllocError> {
-    let map = far_map(rt.alloc(), MANY)?;
-    assert!(rt; finds_near(map.within(SOUGHT, 1))?);
-    Ok(())
+fn map_many_called(rt: HostRuntime) {
+    let map = done(&rt, far_map(rt.alloc(), MANY));
+    holds!(rt; done(&rt, finds_near(map.within(SOUGHT, 1))));
 }
 
 #[test]
-fn set_few_made(rt: HostRuntime) -> Result<(), AllocError> {
-    let set = far_set(rt.alloc(), FEW)?;
-    assert_eq!(rt; set.len(), FEW + NEAR.len());
-    Ok(())
+fn set_few_made(rt: HostRuntime) {
+    let set = done(&rt, far_set(rt.alloc(), FEW));
+    same!(rt; set.len(), FEW + NEAR.len());
 }
 
 #[test]
-fn set_few_called(rt: HostRuntime) -> Result<(), AllocError> {
-    let set = far_set(rt.alloc(), FEW)?;
-    assert!(rt; finds_near(set.within(SOUGHT, 1))?);
-    Ok(())
+fn set_few_called(rt: HostRuntime) {
+    let set = done(&rt, far_set(rt.alloc(), FEW));
+    holds!(rt; done(&rt, finds_near(set.within(SOUGHT, 1))));
 }
 
 #[test]
-fn set_many_made(rt: HostRuntime) -> Result<(), AllocError> {
-    let set = far_set(rt.alloc(), MANY)?;
-    assert_eq!(rt; set.len(), MANY + NEAR.len());
-    Ok(())
+fn set_many_made(rt: HostRuntime) {
+    let set = done(&rt, far_set(rt.alloc(), MANY));
+    same!(rt; set.len(), MANY + NEAR.len());
 }
 
 #[test]
-fn set_many_called(rt: HostRuntime) -> Result<(), AllocError> {
-    let set = far_set(rt.alloc(), MANY)?;
-    assert!(rt; finds_near(set.within(SOUGHT, 1))?);
-    Ok(())
+fn set_many_called(rt: HostRuntime) {
+    let set = done(&rt, far_set(rt.alloc(), MANY));
+    holds!(rt; done(&rt, finds_near(set.within(SOUGHT, 1))));
 }
 
 // Makes a search for each key among keys, and takes no step of it.
@@ -179,25 +172,21 @@ const BYTES: [&[u8]; 4] = [
 const TEXTS: [&str; 4] = ["", "あ", "あいうえおかきくけこさしす", "いいいいいいいいいいい"];
 
 #[test]
-fn bytes_made(rt: HostRuntime) -> Result<(), AllocError> {
-    assert!(rt; is_done(rt.alloc(), &BYTES, false)?);
-    Ok(())
+fn bytes_made(rt: HostRuntime) {
+    holds!(rt; done(&rt, is_done(rt.alloc(), &BYTES, false)));
 }
 
 #[test]
-fn bytes_called(rt: HostRuntime) -> Result<(), AllocError> {
-    assert!(rt; is_done(rt.alloc(), &BYTES, true)?);
-    Ok(())
+fn bytes_called(rt: HostRuntime) {
+    holds!(rt; done(&rt, is_done(rt.alloc(), &BYTES, true)));
 }
 
 #[test]
-fn texts_made(rt: HostRuntime) -> Result<(), AllocError> {
-    assert!(rt; is_done(rt.alloc(), &TEXTS, false)?);
-    Ok(())
+fn texts_made(rt: HostRuntime) {
+    holds!(rt; done(&rt, is_done(rt.alloc(), &TEXTS, false)));
 }
 
 #[test]
-fn texts_called(rt: HostRuntime) -> Result<(), AllocError> {
-    assert!(rt; is_done(rt.alloc(), &TEXTS, true)?);
-    Ok(())
+fn texts_called(rt: HostRuntime) {
+    holds!(rt; done(&rt, is_done(rt.alloc(), &TEXTS, true)));
 }

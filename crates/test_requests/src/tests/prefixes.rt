@@ -1,5 +1,6 @@
 // The calls about prefixes of keys, with each walk along a key read to its end.
 use super::helpers::map_of;
+use crate::tests::asserts::{holds, same};
 use patricia_tree::{BorrowedBytes, Bytes, GenericPatriciaMap};
 use std::alloc::{AllocError, Global};
 use std::process::Abort;
@@ -15,7 +16,7 @@ fn count_along<Q: BorrowedBytes>(
     for _ in map.common_prefixes(key) {
         entries = entries.saturating_add(1);
     }
-    assert!(rt; entries == count);
+    holds!(rt; entries == count);
 }
 
 fn count_values_along<Q: BorrowedBytes>(
@@ -28,7 +29,7 @@ fn count_values_along<Q: BorrowedBytes>(
     for _ in map.common_prefix_values(key) {
         values = values.saturating_add(1);
     }
-    assert!(rt; values == count);
+    holds!(rt; values == count);
 }
 
 fn count_along_owned<K: Bytes>(
@@ -41,7 +42,7 @@ fn count_along_owned<K: Bytes>(
     for _ in map.common_prefix_values_owned(key) {
         values = values.saturating_add(1);
     }
-    assert!(rt; values == count);
+    holds!(rt; values == count);
 }
 
 // Makes iterators and cursors from a key on, up to it, and under it.
@@ -60,8 +61,8 @@ fn call_others<Q: BorrowedBytes>(
     key: Q,
     count: usize,
 ) {
-    assert_eq!(rt; map.get_longest_common_prefix(key).is_some(), count > 0);
-    assert!(rt; map.longest_common_prefix_len(key) <= key.as_bytes().len());
+    same!(rt; map.get_longest_common_prefix(key).is_some(), count > 0);
+    holds!(rt; map.longest_common_prefix_len(key) <= key.as_bytes().len());
     drop(map.iter_prefix(key));
     make_ranges(map, key);
 }

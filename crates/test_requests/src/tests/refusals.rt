@@ -1,17 +1,10 @@
-//! Scripts of calls of which one may be refused: what it leaves is looked at, and the call is made
-//! once more. `.ci/run` runs them with the Nth memory request refused, for each N.
+//! Calls of which one may be refused, where lines for `test_scripts` do not say enough: what it
+//! leaves is looked at, and the call is made once more. The runner runs those whose names end with
+//! `refused_in_turn` with the Nth memory request refused, for each N.
 
 mod choices;
 mod collects;
-mod counts;
-mod elements;
-mod ends;
 mod insert;
-mod maps;
 mod owned;
-mod reading;
-mod sets;
 mod tally;
-mod walks;
-mod whole;
 mod worn;

@@ -1,6 +1,7 @@
 // Of three removals the third alone joins labels. The joined label has more than 30 bytes, so it
 // asks for memory, once.
 use super::helpers::map_of;
+use crate::tests::asserts::holds;
 use patricia_tree::{BorrowedBytes, GenericPatriciaMap};
 use std::alloc::{AllocError, Global};
 use std::process::Abort;
@@ -41,8 +42,8 @@ fn remove_some<Q: BorrowedBytes>(
     removed: &[Q],
 ) -> Result<(), AllocError> {
     let mut map = map_of(alloc, keys)?;
-    assert!(rt; map.len() == keys.len());
-    assert!(rt; are_removed(&mut map, removed));
+    holds!(rt; map.len() == keys.len());
+    holds!(rt; are_removed(&mut map, removed));
     Ok(())
 }
 

@@ -1,4 +1,5 @@
 // Calls of a set.
+use crate::tests::asserts::{done, holds};
 use patricia_tree::{BorrowedBytes, Bytes, GenericPatriciaSet};
 use std::alloc::{AllocError, Global};
 use std::iter;
@@ -41,15 +42,15 @@ fn ask<Q: BorrowedBytes>(
     element: Q,
     is_there: bool,
 ) {
-    assert!(rt; set.contains(element) == is_there);
-    assert!(rt; set.get_longest_common_prefix(element).is_some());
-    assert!(rt; set.longest_common_prefix_len(element) <= element.as_bytes().len());
+    holds!(rt; set.contains(element) == is_there);
+    holds!(rt; set.get_longest_common_prefix(element).is_some());
+    holds!(rt; set.longest_common_prefix_len(element) <= element.as_bytes().len());
     drop(set.iter_prefix(element));
     make_ranges(set, element);
 }
 
-/// Whether an insert is done, where the element was there or was not.
-pub(super) fn is_put<Q: BorrowedBytes>(
+// Whether an insert is done, where the element was there or was not.
+fn is_put<Q: BorrowedBytes>(
     set: &mut GenericPatriciaSet<Q::Owned>,
     element: Q,
     is_new: bool,
@@ -60,8 +61,8 @@ pub(super) fn is_put<Q: BorrowedBytes>(
     }
 }
 
-/// Whether a removal is done, where the element was there or was not.
-pub(super) fn is_removed<Q: BorrowedBytes>(
+// Whether a removal is done, where the element was there or was not.
+fn is_removed<Q: BorrowedBytes>(
     set: &mut GenericPatriciaSet<Q::Owned>,
     element: Q,
     is_there: bool,
@@ -92,10 +93,10 @@ fn change<Q: BorrowedBytes>(
     there: Q,
     absent: Q,
 ) {
-    assert!(rt; is_put(set, there, false));
-    assert!(rt; is_removed(set, absent, false));
-    assert!(rt; is_extended(set, there));
-    assert!(rt; splits_nothing(set, absent));
+    holds!(rt; is_put(set, there, false));
+    holds!(rt; is_removed(set, absent, false));
+    holds!(rt; is_extended(set, there));
+    holds!(rt; splits_nothing(set, absent));
 }
 
 // Whether a copy of a set is empty.
@@ -113,15 +114,15 @@ fn gives_none<K: Bytes>(set: &GenericPatriciaSet<K>) -> bool {
 
 // A copy of an empty set, and a walk over it.
 fn look_at_none<K: Bytes>(rt: &impl Abort, set: &GenericPatriciaSet<K>) {
-    assert!(rt; set.is_empty());
-    assert!(rt; is_copy_empty(set));
-    assert!(rt; gives_none(set));
+    holds!(rt; set.is_empty());
+    holds!(rt; is_copy_empty(set));
+    holds!(rt; gives_none(set));
 }
 
 // The empty element goes into an empty set and out of it.
 fn in_and_out<Q: BorrowedBytes>(rt: &impl Abort, set: &mut GenericPatriciaSet<Q::Owned>, none: Q) {
-    assert!(rt; is_put(set, none, true));
-    assert!(rt; is_removed(set, none, true));
+    holds!(rt; is_put(set, none, true));
+    holds!(rt; is_removed(set, none, true));
 }
 
 // A set of the empty element alone, and a walk over it that is not begun.
@@ -133,7 +134,7 @@ fn make_one<Q: BorrowedBytes>(alloc: Global, none: Q) -> Result<(), AllocError> 
 
 fn clear<K: Bytes>(rt: &impl Abort, mut set: GenericPatriciaSet<K>) {
     set.clear();
-    assert!(rt; set.len() == 0);
+    holds!(rt; set.len() == 0);
 }
 
 // Calls on a set that the empty prefix leaves empty.
@@ -150,7 +151,7 @@ fn empty<Q: BorrowedBytes>(
 
 // A walk that takes an empty set.
 fn walk_out<K: Bytes>(rt: &impl Abort, set: GenericPatriciaSet<K>) {
-    assert!(rt; set.into_iter().next().is_none());
+    holds!(rt; set.into_iter().next().is_none());
 }
 
 // Questions about each element of the set and changes, and questions about what is none.
@@ -175,10 +176,9 @@ const TEXTS: [&str; 4] = ["", "あい", "あいろ", "xxxxxxxxxxxxxxxxxxxxyyyyyy
 const ABSENT: [&str; 3] = ["あ", "xxxxxxxxxxxxxxxxxxxxyyyyyyyyyyyyyyyyyyyyz", "y"];
 
 #[test]
-fn texts_made(rt: HostRuntime) -> Result<(), AllocError> {
-    let set = set_of(rt.alloc(), &TEXTS)?;
-    assert!(rt; set.len() == 4);
-    Ok(())
+fn texts_made(rt: HostRuntime) {
+    let set = done(&rt, set_of(rt.alloc(), &TEXTS));
+    holds!(rt; set.len() == 4);
 }
 
 #[test]

@@ -1,5 +1,6 @@
 // Walks to the end, and calls of `next` past it, over labels of at most 30 bytes and of more.
 use super::helpers::map_of;
+use crate::tests::asserts::{done, holds};
 use patricia_tree::map::{IntoIter, Iter, Keys, ReadCursor, Values};
 use patricia_tree::{BorrowedBytes, Bytes, GenericPatriciaMap};
 use std::alloc::{AllocError, Global};
@@ -87,25 +88,21 @@ const BYTES: [&[u8]; 4] = [
 const TEXTS: [&str; 4] = ["", "あ", "あいうえおかきくけこさしす", "いいいいいいいいいいい"];
 
 #[test]
-fn bytes_made(rt: HostRuntime) -> Result<(), AllocError> {
-    assert!(rt; gives_each(rt.alloc(), &BYTES, false)?);
-    Ok(())
+fn bytes_made(rt: HostRuntime) {
+    holds!(rt; done(&rt, gives_each(rt.alloc(), &BYTES, false)));
 }
 
 #[test]
-fn bytes_called(rt: HostRuntime) -> Result<(), AllocError> {
-    assert!(rt; gives_each(rt.alloc(), &BYTES, true)?);
-    Ok(())
+fn bytes_called(rt: HostRuntime) {
+    holds!(rt; done(&rt, gives_each(rt.alloc(), &BYTES, true)));
 }
 
 #[test]
-fn texts_made(rt: HostRuntime) -> Result<(), AllocError> {
-    assert!(rt; gives_each(rt.alloc(), &TEXTS, false)?);
-    Ok(())
+fn texts_made(rt: HostRuntime) {
+    holds!(rt; done(&rt, gives_each(rt.alloc(), &TEXTS, false)));
 }
 
 #[test]
-fn texts_called(rt: HostRuntime) -> Result<(), AllocError> {
-    assert!(rt; gives_each(rt.alloc(), &TEXTS, true)?);
-    Ok(())
+fn texts_called(rt: HostRuntime) {
+    holds!(rt; done(&rt, gives_each(rt.alloc(), &TEXTS, true)));
 }

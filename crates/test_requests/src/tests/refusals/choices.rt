@@ -1,9 +1,8 @@
-//! Calls that pass entries to a closure, and loads in key order, of which one may be refused. The
-//! closures count how often they are called.
-use super::maps::make;
-use super::tally::{Tally, has, has_among};
-use patricia_tree::{LoadError, StringPatriciaMap, StringPatriciaSet};
-use std::alloc::AllocError;
+//! A `retain` that may be refused at an entry that it removes. Its closure writes to each value and
+//! counts how often it is called.
+use super::tally::{Tally, has, make};
+use crate::tests::asserts::{done, holds, same};
+use patricia_tree::StringPatriciaMap;
 
 type Map = StringPatriciaMap<u64>;
 
@@ -58,133 +57,19 @@ fn keep(map: &mut Map) -> Result<usize, usize> {
 }
 
 #[test]
-fn retain_refused_in_turn(rt: HostRuntime) -> Result<(), AllocError> {
+fn retain_refused_in_turn(rt: HostRuntime) {
     let mut tally = Tally::new();
-    let mut map = make(rt.alloc(), ROWS.as_slice(), &mut tally)?;
+    let mut map = done(&rt, make(rt.alloc(), ROWS.as_slice(), &mut tally));
     match keep(&mut map) {
-        Ok(calls) => assert!(rt; calls == 5),
+        Ok(calls) => same!(rt; calls, 5),
         Err(calls) => {
             tally.add();
             let uncalled = calls == 0 && has(&map, ROWS.as_slice());
             let stopped = calls == 2 && has(&map, TOUCHED.as_slice());
-            assert!(rt; uncalled || stopped);
-            assert!(rt; keep(&mut map) == Ok(5));
+            holds!(rt; uncalled || stopped);
+            holds!(rt; keep(&mut map) == Ok(5));
         }
     }
-    assert!(rt; has(&map, KEPT.as_slice()));
+    holds!(rt; has(&map, KEPT.as_slice()));
     tally.check(&rt, 1);
-    Ok(())
-}
-
-// Calls a closure at each entry under a prefix, and returns what it made of their values in turn
-// and how often it was called, or that it is refused.
-fn visit(map: &Map, prefix: &str) -> Result<(u64, usize), usize> {
-    let (mut made, mut calls): (u64, usize) = (0, 0);
-    let mut step = |_: &[u8], value: &u64| {
-        made = made.wrapping_mul(10).wrapping_add(*value);
-        calls = calls.saturating_add(1);
-    };
-    let visited = if prefix.is_empty() {
-        map.for_each(&mut step)
-    } else {
-        map.for_each_under(prefix, &mut step)
-    };
-    if visited.is_ok() {
-        Ok((made, calls))
-    } else {
-        Err(calls)
-    }
-}
-
-// Visits the entries, once more where it is refused, and whether it saw these.
-fn visits(map: &Map, prefix: &str, made: u64, calls: usize, tally: &mut Tally) -> bool {
-    match visit(map, prefix) {
-        Ok(seen) => seen == (made, calls),
-        Err(before) => {
-            tally.add();
-            before < calls && visit(map, prefix) == Ok((made, calls))
-        }
-    }
-}
-
-#[test]
-fn visits_refused_in_turn(rt: HostRuntime) -> Result<(), AllocError> {
-    let mut tally = Tally::new();
-    let map = make(rt.alloc(), ROWS.as_slice(), &mut tally)?;
-    assert!(rt; visits(&map, "", 12345, 5, &mut tally));
-    assert!(rt; visits(&map, "ba", 45, 2, &mut tally));
-    assert!(rt; visits(&map, SHORT, 23, 2, &mut tally));
-    assert!(rt; visits(&map, "x", 0, 0, &mut tally));
-    tally.check(&rt, 1);
-    Ok(())
-}
-
-// Loads rows that are in order, and the rest of them where one is refused. Returns whether all are
-// there.
-fn loads(map: &mut Map, rows: &[(&str, u64)], tally: &mut Tally) -> bool {
-    let before = map.len();
-    match map.sorted_load(rows.iter().copied()) {
-        Ok(()) => has_among(map, rows),
-        Err(LoadError::NotInOrder) => false,
-        Err(LoadError::Memory) => {
-            tally.add();
-            let loaded = map.len().saturating_sub(before);
-            let Some((there, left)) = rows.split_at_checked(loaded) else {
-                return false;
-            };
-            has_among(map, there) && map.sorted_load(left.iter().copied()).is_ok()
-        }
-    }
-}
-
-// Whether a pair is refused for its order, once more where memory ran out.
-fn is_refused(map: &mut Map, key: &str, tally: &mut Tally) -> bool {
-    match map.sorted_load([(key, 7)]) {
-        Ok(()) => false,
-        Err(LoadError::NotInOrder) => true,
-        Err(LoadError::Memory) => {
-            tally.add();
-            map.sorted_load([(key, 7)]) == Err(LoadError::NotInOrder)
-        }
-    }
-}
-
-#[test]
-fn loads_refused_in_turn(rt: HostRuntime) -> Result<(), AllocError> {
-    let mut tally = Tally::new();
-    let mut map = Map::new(rt.alloc());
-    assert!(rt; loads(&mut map, ROWS.as_slice(), &mut tally));
-    assert!(rt; is_refused(&mut map, "baz", &mut tally));
-    assert!(rt; is_refused(&mut map, "bay", &mut tally));
-    assert!(rt; has(&map, ROWS.as_slice()));
-    assert!(rt; loads(&mut map, [("c", 6)].as_slice(), &mut tally));
-    assert!(rt; map.len() == 6);
-    tally.check(&rt, 1);
-    Ok(())
-}
-
-// Loads elements into a set, and calls a closure at each. Returns how many bytes they have.
-fn load_and_visit(set: &mut StringPatriciaSet) -> Option<usize> {
-    let mut bytes: usize = 0;
-    set.sorted_load(["bar", "foobar"]).ok()?;
-    set.for_each(&mut |element| bytes = bytes.saturating_add(element.len()))
-        .ok()?;
-    set.for_each_under(
-        "f",
-        &mut |element| bytes = bytes.saturating_add(element.len()),
-    )
-    .ok()?;
-    Some(bytes)
-}
-
-#[test]
-fn sets_refused_in_turn(rt: HostRuntime) -> Result<(), AllocError> {
-    let mut set = StringPatriciaSet::new(rt.alloc());
-    let mut bytes = load_and_visit(&mut set);
-    if bytes.is_none() {
-        set.clear();
-        bytes = load_and_visit(&mut set);
-    }
-    assert!(rt; bytes == Some(15));
-    Ok(())
 }

@@ -1,10 +1,10 @@
-//! The traits by which std extends maps and sets, and collects into a map, of which one call may be
+//! The traits by which std extends maps and sets and collects into them, of which one call may be
 //! refused. The values of the maps count how many of them there are.
 use super::choices::ROWS;
-use super::tally::Tally;
-use super::whole::holds;
+use super::tally::{Tally, has_elements};
+use crate::tests::asserts::{holds, same};
 use patricia_tree::{StringPatriciaMap, StringPatriciaSet};
-use std::alloc::{AllocError, Global};
+use std::alloc::Global;
 use std::cell::Cell;
 use std::iter::{Extend, Iterator};
 
@@ -66,15 +66,14 @@ fn extends<'a>(map: &mut Map<'a>, count: &'a Cell<usize>, tally: &mut Tally) -> 
 }
 
 #[test]
-fn map_extends_refused_in_turn(rt: HostRuntime) -> Result<(), AllocError> {
+fn map_extends_refused_in_turn(rt: HostRuntime) {
     let (mut tally, count) = (Tally::new(), Cell::new(0));
     let mut map = Map::new(rt.alloc());
-    assert!(rt; extends(&mut map, &count, &mut tally));
-    assert!(rt; has(&map, &ROWS, &count));
+    holds!(rt; extends(&mut map, &count, &mut tally));
+    holds!(rt; has(&map, &ROWS, &count));
     drop(map);
-    assert!(rt; count.get() == 0);
+    same!(rt; count.get(), 0);
     tally.check(&rt, 1);
-    Ok(())
 }
 
 // A map that the rows are collected into, or none where that is refused.
@@ -86,18 +85,17 @@ fn collected<'a>(alloc: Global, count: &'a Cell<usize>) -> Option<Map<'a>> {
 }
 
 #[test]
-fn map_collects_refused_in_turn(rt: HostRuntime) -> Result<(), AllocError> {
+fn map_collects_refused_in_turn(rt: HostRuntime) {
     let (mut tally, count) = (Tally::new(), Cell::new(0));
     let mut map = collected(rt.alloc(), &count);
     if map.is_none() {
         tally.add();
-        assert!(rt; count.get() == 0);
+        same!(rt; count.get(), 0);
         map = collected(rt.alloc(), &count);
     }
-    assert!(rt; map.is_some_and(|map| has(&map, &ROWS, &count)));
-    assert!(rt; count.get() == 0);
+    holds!(rt; map.is_some_and(|map| has(&map, &ROWS, &count)));
+    same!(rt; count.get(), 0);
     tally.check(&rt, 1);
-    Ok(())
 }
 
 // Elements in order, of which the first begins the second.
@@ -128,15 +126,31 @@ fn extends_set(set: &mut StringPatriciaSet, tally: &mut Tally) -> bool {
     let Some(there) = ELEMENTS.get(..taken.saturating_sub(1)) else {
         return false;
     };
-    holds(set, there) && extend_set(set, &mut taken)
+    has_elements(set, there) && extend_set(set, &mut taken)
 }
 
 #[test]
-fn set_extends_refused_in_turn(rt: HostRuntime) -> Result<(), AllocError> {
+fn set_extends_refused_in_turn(rt: HostRuntime) {
     let mut tally = Tally::new();
     let mut set = StringPatriciaSet::new(rt.alloc());
-    assert!(rt; extends_set(&mut set, &mut tally));
-    assert!(rt; holds(&set, ELEMENTS.as_slice()));
+    holds!(rt; extends_set(&mut set, &mut tally));
+    holds!(rt; has_elements(&set, ELEMENTS.as_slice()));
     tally.check(&rt, 1);
-    Ok(())
+}
+
+// A set that the elements are collected into, or none where that is refused.
+fn collected_set(alloc: Global) -> Option<StringPatriciaSet> {
+    ELEMENTS.iter().copied().collect(alloc).ok()
+}
+
+#[test]
+fn set_collects_refused_in_turn(rt: HostRuntime) {
+    let mut tally = Tally::new();
+    let mut set = collected_set(rt.alloc());
+    if set.is_none() {
+        tally.add();
+        set = collected_set(rt.alloc());
+    }
+    holds!(rt; set.is_some_and(|set| has_elements(&set, ELEMENTS.as_slice())));
+    tally.check(&rt, 1);
 }

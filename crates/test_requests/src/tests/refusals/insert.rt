@@ -1,10 +1,9 @@
 //! An insert that is refused, and one of a key that is there, which does not allocate. `.ci/run`
 //! counts the memory requests of `made`, and refuses the next one of `called`, which says so.
-use super::maps::is_put;
+use crate::tests::asserts::{done, holds};
 use patricia_tree::{BorrowedBytes, GenericPatriciaMap};
 use std::alloc::{AllocError, Global};
 use std::process::Abort;
-use std::test::Fail;
 
 // A map of one key.
 fn map_of_one<Q: BorrowedBytes>(
@@ -18,6 +17,19 @@ fn map_of_one<Q: BorrowedBytes>(
     }
 }
 
+// Whether an insert is done, where this value was.
+fn is_put<Q: BorrowedBytes>(
+    map: &mut GenericPatriciaMap<Q::Owned, u64>,
+    key: Q,
+    value: u64,
+    old: Option<u64>,
+) -> bool {
+    match map.insert(key, value) {
+        Ok(found) => found == old,
+        Err(_) => false,
+    }
+}
+
 // Inserts another key, and then the key that is there. Returns whether the first was refused.
 fn is_refused<Q: BorrowedBytes>(
     rt: &impl Abort,
@@ -26,12 +38,14 @@ fn is_refused<Q: BorrowedBytes>(
     other: Q,
 ) -> bool {
     let Err(refused) = map.insert(other, 2) else {
-        assert!(rt; map.len() == 2 && map.get(other).copied() == Some(2));
+        holds!(rt; map.len() == 2);
+        holds!(rt; map.get(other).copied() == Some(2));
         return false;
     };
-    assert!(rt; refused.value == 2);
-    assert!(rt; map.len() == 1 && map.get(other).is_none());
-    assert!(rt; is_put(map, key, 5, Some(1)));
+    holds!(rt; refused.value == 2);
+    holds!(rt; map.len() == 1);
+    holds!(rt; map.get(other).is_none());
+    holds!(rt; is_put(map, key, 5, Some(1)));
     true
 }
 
@@ -56,15 +70,16 @@ fn len_of_one<Q: BorrowedBytes>(alloc: Global, key: Q) -> Result<usize, AllocErr
 const BARS: &[u8] = b"bar bar bar bar bar bar bar bar bar";
 
 #[test]
-fn made(rt: HostRuntime) -> Result<(), AllocError> {
-    assert!(rt; len_of_one(rt.alloc(), b"foo".as_slice())? == 1);
-    Ok(())
+fn made(rt: HostRuntime) {
+    holds!(rt; done(&rt, len_of_one(rt.alloc(), b"foo".as_slice())) == 1);
 }
 
 #[test]
-fn called(rt: HostRuntime) -> Result<(), Fail> {
-    if is_refused_anew(&rt, rt.alloc(), b"foo".as_slice(), BARS)? {
-        println!(rt; "the insert was refused")?;
+fn called(rt: HostRuntime) {
+    if done(
+        &rt,
+        is_refused_anew(&rt, rt.alloc(), b"foo".as_slice(), BARS),
+    ) {
+        done(&rt, println!(rt; "the insert was refused"));
     }
-    Ok(())
 }

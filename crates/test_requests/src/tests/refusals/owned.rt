@@ -1,22 +1,44 @@
 //! A map that a walk takes, of which a step may be refused.
-use super::maps::make;
-use super::reading::is_taken;
-use super::tally::Tally;
-use patricia_tree::BorrowedBytes;
-use std::alloc::{AllocError, Global};
+use super::tally::{Tally, make};
+use crate::tests::asserts::{done, holds};
+use patricia_tree::map::IntoIter;
+use patricia_tree::{BorrowedBytes, Bytes};
+use std::alloc::Global;
 use std::process::Abort;
 
-fn check<Q: BorrowedBytes>(
-    rt: &impl Abort,
-    alloc: Global,
+// Whether a step is refused, or `None` where it does not give the entry that is due.
+fn is_refused<K: Bytes>(walk: &mut IntoIter<K, u64>, key: &[u8], due: u64) -> Option<bool> {
+    match walk.next() {
+        Some(Ok((found, value))) if found.as_bytes() == key && value == due => Some(false),
+        Some(Err(_)) => Some(true),
+        _ => None,
+    }
+}
+
+// Whether a walk gives these rows, or the first of them and then an error, and nothing behind that.
+fn is_taken<Q: BorrowedBytes>(
+    mut walk: IntoIter<Q::Owned, u64>,
     rows: &[(Q, u64)],
-    most: usize,
-) -> Result<(), AllocError> {
+    tally: &mut Tally,
+) -> bool {
+    for (key, due) in rows {
+        match is_refused(&mut walk, key.as_bytes(), *due) {
+            Some(false) => {}
+            Some(true) => {
+                tally.add();
+                break;
+            }
+            None => return false,
+        }
+    }
+    walk.next().is_none() && walk.next().is_none()
+}
+
+fn check<Q: BorrowedBytes>(rt: &impl Abort, alloc: Global, rows: &[(Q, u64)], most: usize) {
     let mut tally = Tally::new();
-    let map = make(alloc, rows, &mut tally)?;
-    assert!(rt; is_taken(map.into_iter(), rows, &mut tally));
+    let map = done(rt, make(alloc, rows, &mut tally));
+    holds!(rt; is_taken(map.into_iter(), rows, &mut tally));
     tally.check(rt, most);
-    Ok(())
 }
 
 const ROWS: [(&[u8], u64); 7] = [
@@ -30,11 +52,11 @@ const ROWS: [(&[u8], u64); 7] = [
 ];
 
 #[test]
-fn none_is_refused(rt: HostRuntime) -> Result<(), AllocError> {
-    check(&rt, rt.alloc(), &ROWS, 0)
+fn none_is_refused(rt: HostRuntime) {
+    check(&rt, rt.alloc(), &ROWS, 0);
 }
 
 #[test]
-fn refused_in_turn(rt: HostRuntime) -> Result<(), AllocError> {
-    check(&rt, rt.alloc(), &ROWS, 1)
+fn refused_in_turn(rt: HostRuntime) {
+    check(&rt, rt.alloc(), &ROWS, 1);
 }

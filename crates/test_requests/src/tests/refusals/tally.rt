@@ -1,5 +1,7 @@
-//! How many calls were refused, and what a map holds.
-use patricia_tree::{BorrowedBytes, GenericPatriciaMap};
+//! How many calls were refused, and what a map or a set has.
+use crate::tests::asserts::holds;
+use patricia_tree::{BorrowedBytes, GenericPatriciaMap, GenericPatriciaSet};
+use std::alloc::{AllocError, Global};
 use std::process::Abort;
 
 /// Counts the calls that ran out of memory.
@@ -20,20 +22,32 @@ impl Tally {
 
     /// Asserts that no more calls were refused than may be.
     pub(super) fn check(&self, rt: &impl Abort, most: usize) {
-        assert!(rt; self.refused <= most);
+        holds!(rt; self.refused <= most);
     }
+}
+
+fn make_once<Q: BorrowedBytes>(
+    alloc: Global,
+    rows: &[(Q, u64)],
+) -> Result<GenericPatriciaMap<Q::Owned, u64>, AllocError> {
+    GenericPatriciaMap::from_iter(alloc, rows.iter().copied())
+}
+
+/// Makes a map, once more where it is refused.
+pub(super) fn make<Q: BorrowedBytes>(
+    alloc: Global,
+    rows: &[(Q, u64)],
+    tally: &mut Tally,
+) -> Result<GenericPatriciaMap<Q::Owned, u64>, AllocError> {
+    if let Ok(map) = make_once(alloc, rows) {
+        return Ok(map);
+    }
+    tally.add();
+    make_once(alloc, rows)
 }
 
 /// Whether a map has these entries, whose keys differ, and no other. It does not allocate.
 pub(super) fn has<Q: BorrowedBytes>(
-    map: &GenericPatriciaMap<Q::Owned, u64>,
-    rows: &[(Q, u64)],
-) -> bool {
-    has_among(map, rows) && map.len() == rows.len()
-}
-
-/// Whether a map has these entries, and it may have others.
-pub(super) fn has_among<Q: BorrowedBytes>(
     map: &GenericPatriciaMap<Q::Owned, u64>,
     rows: &[(Q, u64)],
 ) -> bool {
@@ -42,5 +56,18 @@ pub(super) fn has_among<Q: BorrowedBytes>(
             return false;
         }
     }
-    true
+    map.len() == rows.len()
+}
+
+/// The same of a set and its elements.
+pub(super) fn has_elements<Q: BorrowedBytes>(
+    set: &GenericPatriciaSet<Q::Owned>,
+    elements: &[Q],
+) -> bool {
+    for element in elements {
+        if !set.contains(*element) {
+            return false;
+        }
+    }
+    set.len() == elements.len()
 }

@@ -1,5 +1,6 @@
 //! An insert that relocates the nodes for their order alone, which is done without memory for that,
 //! too. `.ci/run` counts the memory requests of `made`, and refuses the next one of `called`.
+use crate::tests::asserts::{done, holds};
 use patricia_tree::PatriciaMap;
 use std::alloc::{AllocError, Global};
 
@@ -34,22 +35,18 @@ fn is_there(map: &PatriciaMap<u64>, number: u16) -> bool {
 }
 
 #[test]
-fn made(rt: HostRuntime) -> Result<(), AllocError> {
-    let map = filled(rt.alloc())?;
-    assert!(rt; map.len() == usize::from(COUNT));
-    Ok(())
+fn made(rt: HostRuntime) {
+    let map = done(&rt, filled(rt.alloc()));
+    holds!(rt; map.len() == usize::from(COUNT));
 }
 
 #[test]
-fn called(rt: HostRuntime) -> Result<(), AllocError> {
-    let mut map = filled(rt.alloc())?;
+fn called(rt: HostRuntime) {
+    let mut map = done(&rt, filled(rt.alloc()));
     for number in 0..COUNT {
-        let is_done = is_replaced(&mut map, number);
-        assert!(rt; is_done);
+        holds!(rt; is_replaced(&mut map, number));
     }
     for number in 0..COUNT {
-        let is_found = is_there(&map, number);
-        assert!(rt; is_found);
+        holds!(rt; is_there(&map, number));
     }
-    Ok(())
 }
