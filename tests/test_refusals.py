@@ -8,11 +8,8 @@ from tests.support import ROOT, Case, each, folder, in_turn, pairs, refused
 # Tests of crates: each passes whichever of its memory requests is refused.
 REFUSED = {
     'test_requests': ['refusals::%s_refused_in_turn' % name for name in (
-        'maps::short_labels', 'maps::long_labels', 'sets::bytes', 'sets::texts', 'whole::sets', 'choices::retain',
-        'choices::visits', 'choices::loads', 'choices::sets', 'counts::maps', 'counts::sets', 'collects::map_extends',
-        'collects::map_collects', 'collects::set_extends', 'ends::read', 'ends::pops', 'ends::values',
-        'ends::removals', 'ends::merges', 'elements::read', 'elements::pops', 'elements::removals', 'elements::retain',
-        'elements::collect')] + ['refusals::owned::refused_in_turn'],
+        'choices::retain', 'collects::map_extends', 'collects::map_collects', 'collects::set_extends',
+        'collects::set_collects')] + ['refusals::owned::refused_in_turn'],
     'test_run': ['reload::refused_in_turn', 'answers::refused_in_turn', 'serve::refused_in_turn',
                  'router::bytes_refused_in_turn', 'router::texts_refused_in_turn'],
     'test_walks': ['cursors::refusals::cursors_refused_in_turn', 'near::entries_refused_in_turn',

@@ -1,7 +1,7 @@
 """Runs a program with the Nth memory request refused, for N = 1, 2, .. until none is refused.
 
-The program is `test_scripts`, which answers calls of maps and of sets. Each script is run alone. At first a run may end
-with a status that is not 0 and no answers, since the program reads its input to its end before it
+The program is `test_scripts`, which answers calls of maps and of sets. Each script is run alone. At
+first a run may end with a status that is not 0 and no answers, since the program reads its input to its end before it
 answers. From the first call on that is refused, each run ends with 0. Such a run writes the answers
 of the plain model, and in at most one of its lines a refusal may stand, at a place where the model
 allows it, behind what the call had answered before: a walk of some entries may be refused before
