@@ -6,7 +6,8 @@
 
 An example is code between two comments, '// example: MODULE NAME' and '// end'. It stands in the doc comment of the
 function of this name, in a file of CALLS or of a folder of CALLS, as the last section. Each public function of these
-files has one, but for HAS_NONE.
+files has one, but for HAS_NONE. Where the tests call `done`, `same!` and `holds!` (asserts.rt), which are quick to
+prove, an example has `?`, `assert_eq!` and `assert!`.
 """
 import os
 import re
@@ -36,6 +37,13 @@ CALLS = {
 }
 # what does nothing at run time
 HAS_NONE = 'keys_are_valid', 'packed_is_one_list'
+# calls of the tests, and what an example has for them
+WRITTEN = {
+    r'\bdone\(\s*&rt,\s*': '%s?',
+    r'\bsame!\(rt;\s*': 'assert_eq!(rt; %s)',
+    r'\bholds!\(rt;\s*': 'assert!(rt; %s)',
+}
+LITERAL = re.compile(r'"(?:\\.|[^"\\])*"|\'(?:\\[^\']+|[^\'\\])\'')
 REGION = re.compile(r'^ *// example: (\w+ \w+)\n(.*?)^ *// end$', re.M | re.S)
 CALL = re.compile(r'^( *)pub fn (\w+)', re.M)
 SECTION = '///\n/// # Examples\n///\n/// ```\n'
@@ -53,9 +61,37 @@ def files(path):
     return ['%s/%s' % (path, x) for x in sorted(os.listdir(os.path.join(CRATES, path)))]
 
 
+def inside(text, at):
+    """What stands from a place on up to the bracket that closes there, and the place behind that."""
+    end, depth = at, 0
+    while depth >= 0:
+        literal = LITERAL.match(text, end)
+        depth += 0 if literal else (text[end] in '([{') - (text[end] in ')]}')
+        end = literal.end() if literal else end + 1
+    return text[at:end - 1].strip().removesuffix(','), end
+
+
+def as_written(code):
+    """The code with `?` and std's assertions in place of what the tests call for them."""
+    for called, written in WRITTEN.items():
+        while found := re.search(called, code):
+            text, end = inside(code, found.end())
+            if '\n' in found[0]:
+                text = text.replace('\n    ', '\n')
+            code = code[:found.start()] + written % text + code[end:]
+    return code
+
+
+def words(section):
+    """The words and signs of a section: lines may break elsewhere, with a comma before the bracket that closes."""
+    code = re.sub('^ *///', '', section or '', flags=re.M)
+    found = re.findall(LITERAL.pattern + r'|\w+|[^\w\s]', code)
+    return [x for x, behind in zip(found, [*found[1:], '']) if x != ',' or behind not in (')', ']', '}')]
+
+
 def comment(code):
     """The section of a doc comment that has this code."""
-    lines = textwrap.dedent(code).rstrip().split('\n')
+    lines = textwrap.dedent(as_written(code)).rstrip().split('\n')
     return SECTION + ''.join(('/// ' + x).rstrip() + '\n' for x in [*lines, '```'])
 
 
@@ -76,9 +112,10 @@ def main():
                     kept, mark, _ = text.rpartition(textwrap.indent(SECTION, call[1]))
                     is_its_own = mark and re.fullmatch('( *///.*\n)*', text[len(kept) + len(mark):])
                     has = text[len(kept):] if is_its_own else ''
-                    if has != section:
+                    differs = words(has) != words(section)
+                    if differs:
                         wrong.append('%s: %s has %s' % (path, call[2], 'another example' if section else 'none'))
-                    if writes and section:
+                    if writes and section and differs:
                         text = text[:len(text) - len(has)] + section
                 text += part
             if writes:

@@ -1,3 +1,4 @@
+mod asserts;
 mod collecting;
 mod cursor_examples;
 mod helpers;

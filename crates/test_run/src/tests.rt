@@ -2,6 +2,7 @@
 //! memory.
 
 mod answers;
+mod asserts;
 mod bench;
 mod helpers;
 mod reload;

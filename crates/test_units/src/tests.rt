@@ -1,5 +1,6 @@
 //! Tests of calls over a kind of keys that the library itself does not have, and of what no
 //! contract says of these keys.
 
+mod asserts;
 mod calls;
 mod units;

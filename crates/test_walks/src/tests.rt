@@ -1,3 +1,4 @@
+mod asserts;
 mod borders;
 mod counts;
 mod cursors;

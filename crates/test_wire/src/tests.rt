@@ -1,5 +1,6 @@
 //! Tests of deep trees, of damaged encodings, of many keys, of inputs that claim much, and of JSON.
 
+mod asserts;
 mod chains;
 mod claims;
 mod damage;

@@ -1,89 +1,103 @@
 //! The examples of cursors, as the documentation has them.
+
+use crate::tests::asserts::{done, same};
 use patricia_tree::{BorrowedBytes, GenericPatriciaMap, StringPatriciaMap};
 use std::alloc::AllocError;
 
 #[test]
-fn iter_mut(rt: HostRuntime) -> anyhow::Result<()> {
+fn iter_mut(rt: HostRuntime) {
     // example: map iter_mut
-    let mut map = StringPatriciaMap::from_iter(rt.alloc(), [("foo", 1), ("bar", 2)])?;
+    let mut map = done(
+        &rt,
+        StringPatriciaMap::from_iter(rt.alloc(), [("foo", 1), ("bar", 2)]),
+    );
     let mut cursor = map.iter_mut();
-    assert_eq!(rt; cursor.advance()?.as_deref(), Some("bar"));
+    same!(rt; done(&rt, cursor.advance()).as_deref(), Some("bar"));
     if let Some(value) = cursor.value() {
         *value = 5;
     }
     drop(cursor);
-    assert_eq!(rt; map.get("bar"), Some(&5));
+    same!(rt; map.get("bar"), Some(&5));
     // end
-    Ok(())
 }
 
 #[test]
-fn advance(rt: HostRuntime) -> anyhow::Result<()> {
+fn advance(rt: HostRuntime) {
     // example: cursor advance
-    let mut map = StringPatriciaMap::from_iter(rt.alloc(), [("foo", 1), ("bar", 2)])?;
+    let mut map = done(
+        &rt,
+        StringPatriciaMap::from_iter(rt.alloc(), [("foo", 1), ("bar", 2)]),
+    );
     let mut cursor = map.iter_mut();
-    assert_eq!(rt; cursor.advance()?.as_deref(), Some("bar"));
-    assert_eq!(rt; cursor.advance()?.as_deref(), Some("foo"));
-    assert_eq!(rt; cursor.advance()?, None);
+    same!(rt; done(&rt, cursor.advance()).as_deref(), Some("bar"));
+    same!(rt; done(&rt, cursor.advance()).as_deref(), Some("foo"));
+    same!(rt; done(&rt, cursor.advance()), None);
     // end
-    Ok(())
 }
 
 #[test]
-fn value(rt: HostRuntime) -> anyhow::Result<()> {
+fn value(rt: HostRuntime) {
     // example: cursor value
-    let mut map = StringPatriciaMap::from_iter(rt.alloc(), [("foo", 1), ("bar", 2)])?;
+    let mut map = done(
+        &rt,
+        StringPatriciaMap::from_iter(rt.alloc(), [("foo", 1), ("bar", 2)]),
+    );
     let mut cursor = map.iter_mut();
-    assert_eq!(rt; cursor.value(), None);
-    cursor.advance()?;
-    assert_eq!(rt; cursor.value(), Some(&mut 2));
+    same!(rt; cursor.value(), None);
+    done(&rt, cursor.advance());
+    same!(rt; cursor.value(), Some(&mut 2));
     // end
-    Ok(())
 }
 
 #[test]
-fn next(rt: HostRuntime) -> anyhow::Result<()> {
+fn next(rt: HostRuntime) {
     // example: cursor next
-    let mut map = StringPatriciaMap::from_iter(rt.alloc(), [("foo", 1), ("bar", 2)])?;
+    let mut map = done(
+        &rt,
+        StringPatriciaMap::from_iter(rt.alloc(), [("foo", 1), ("bar", 2)]),
+    );
     let mut cursor = map.iter_mut();
-    if let Some((key, value)) = cursor.next()? {
-        assert_eq!(rt; key.as_str(), "bar");
+    if let Some((key, value)) = done(&rt, cursor.next()) {
+        same!(rt; key.as_str(), "bar");
         *value = 5;
     }
     drop(cursor);
-    assert_eq!(rt; map.get("bar"), Some(&5));
+    same!(rt; map.get("bar"), Some(&5));
     // end
-    Ok(())
 }
 
 #[test]
-fn next_with(rt: HostRuntime) -> anyhow::Result<()> {
+fn next_with(rt: HostRuntime) {
     // example: cursor next_with
-    let mut map = StringPatriciaMap::from_iter(rt.alloc(), [("foo", 1), ("bar", 2)])?;
+    let mut map = done(
+        &rt,
+        StringPatriciaMap::from_iter(rt.alloc(), [("foo", 1), ("bar", 2)]),
+    );
     let len = map.len();
     let mut cursor = map.iter_mut();
     for _ in 0..len {
-        cursor.next_with(|key, value| *value = key.len())?;
+        done(&rt, cursor.next_with(|key, value| *value = key.len()));
     }
     drop(cursor);
-    assert_eq!(rt; map.get("bar"), Some(&3));
+    same!(rt; map.get("bar"), Some(&3));
     // end
-    Ok(())
 }
 
 #[test]
-fn values_mut(rt: HostRuntime) -> anyhow::Result<()> {
+fn values_mut(rt: HostRuntime) {
     // example: map values_mut
-    let mut map = StringPatriciaMap::from_iter(rt.alloc(), [("foo", 1), ("bar", 2)])?;
+    let mut map = done(
+        &rt,
+        StringPatriciaMap::from_iter(rt.alloc(), [("foo", 1), ("bar", 2)]),
+    );
     let len = map.len();
     let mut cursor = map.values_mut();
     for _ in 0..len {
-        cursor.next_with(|value| *value = 7)?;
+        done(&rt, cursor.next_with(|value| *value = 7));
     }
     drop(cursor);
-    assert_eq!(rt; map.get("foo"), Some(&7));
+    same!(rt; map.get("foo"), Some(&7));
     // end
-    Ok(())
 }
 
 // example: map iter_prefix_mut
@@ -102,10 +116,12 @@ fn clear_values<Q: BorrowedBytes>(
 // end
 
 #[test]
-fn iter_prefix_mut(rt: HostRuntime) -> anyhow::Result<()> {
-    let mut map = StringPatriciaMap::from_iter(rt.alloc(), [("foo", 1), ("bar", 2)])?;
-    clear_values(&mut map, "f")?;
-    assert_eq!(rt; map.get("foo"), Some(&0));
-    assert_eq!(rt; map.get("bar"), Some(&2));
-    Ok(())
+fn iter_prefix_mut(rt: HostRuntime) {
+    let mut map = done(
+        &rt,
+        StringPatriciaMap::from_iter(rt.alloc(), [("foo", 1), ("bar", 2)]),
+    );
+    done(&rt, clear_values(&mut map, "f"));
+    same!(rt; map.get("foo"), Some(&0));
+    same!(rt; map.get("bar"), Some(&2));
 }

@@ -4,6 +4,7 @@ ghost use Rattle.std.specs.FinMap as map;
 ghost use Rattle.std.specs.Vec.Iter.{into_iter_items};
 ghost use Rattle.patricia_tree.specs.Prefixes.{along, under};
 
+use crate::tests::asserts::{holds, same};
 use patricia_tree::{BorrowedBytes, Bytes, GenericPatriciaMap};
 use std::alloc::{AllocError, Global};
 use std::process::Abort;
@@ -134,7 +135,7 @@ fn check_len<T: Drop>(
     list: Result<Vec<T>, AllocError>,
     len: usize,
 ) -> Result<(), AllocError> {
-    assert_eq!(rt; list?.len(), len);
+    same!(rt; list?.len(), len);
     Ok(())
 }
 
@@ -144,7 +145,7 @@ fn check_values(
     list: Result<Vec<u32>, AllocError>,
     values: &[u32],
 ) -> Result<(), AllocError> {
-    assert!(rt; list?.as_slice() == values);
+    holds!(rt; list?.as_slice() == values);
     Ok(())
 }
 

@@ -1,5 +1,7 @@
 //! Loans of the value of a key.
+
 use super::helpers::{has_values, two};
+use crate::tests::asserts::{done, holds};
 use patricia_tree::{BorrowedBytes, GenericPatriciaMap};
 use std::alloc::{AllocError, Global};
 
@@ -34,14 +36,12 @@ fn writes<Q: BorrowedBytes>(
 }
 
 #[test]
-fn texts(rt: HostRuntime) -> Result<(), AllocError> {
-    assert!(rt; writes(rt.alloc(), "", "ほげ", "ほ")?);
-    Ok(())
+fn texts(rt: HostRuntime) {
+    holds!(rt; done(&rt, writes(rt.alloc(), "", "ほげ", "ほ")));
 }
 
 #[test]
-fn bytes(rt: HostRuntime) -> Result<(), AllocError> {
+fn bytes(rt: HostRuntime) {
     let (foo, foobar, empty): (&[u8], &[u8], &[u8]) = (b"foo", b"foobar", b"");
-    assert!(rt; writes(rt.alloc(), foo, foobar, empty)?);
-    Ok(())
+    holds!(rt; done(&rt, writes(rt.alloc(), foo, foobar, empty)));
 }

@@ -1,4 +1,5 @@
 use super::helpers::put;
+use crate::tests::asserts::holds;
 use patricia_tree::{BorrowedBytes, GenericPatriciaMap, StringPatriciaMap};
 use std::alloc::{AllocError, Global};
 use std::process::Abort;
@@ -12,8 +13,8 @@ fn put_one<Q: BorrowedBytes>(
 ) -> Result<(), AllocError> {
     put(map, key)?;
     let len = key.as_bytes().len() as u64;
-    assert!(rt; map.get(key).copied() == Some(len));
-    assert!(rt; !map.contains_key(longer));
+    holds!(rt; map.get(key).copied() == Some(len));
+    holds!(rt; !map.contains_key(longer));
     Ok(())
 }
 
@@ -54,7 +55,7 @@ fn put_each_width(
 ) -> Result<(), AllocError> {
     for (character, len) in &CHARACTERS {
         put_long_texts(rt, alloc, map, character)?;
-        assert!(rt; map.len() == *len);
+        holds!(rt; map.len() == *len);
     }
     Ok(())
 }

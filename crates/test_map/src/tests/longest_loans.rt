@@ -1,5 +1,7 @@
 //! Loans of the value of the longest key that begins a key.
+
 use super::helpers::{has_values, two};
+use crate::tests::asserts::{done, holds};
 use patricia_tree::{BorrowedBytes, GenericPatriciaMap};
 use std::alloc::{AllocError, Global};
 use std::mem;
@@ -69,15 +71,13 @@ fn writes_both<Q: BorrowedBytes>(
 }
 
 #[test]
-fn texts_by_loan(rt: HostRuntime) -> Result<(), AllocError> {
+fn texts_by_loan(rt: HostRuntime) {
     let (keys, others) = (("foo", "foobar"), ("fooba", "foobarbaz", "fo"));
-    assert!(rt; writes_both(rt.alloc(), true, keys, others)?);
-    Ok(())
+    holds!(rt; done(&rt, writes_both(rt.alloc(), true, keys, others)));
 }
 
 #[test]
-fn texts_by_closure(rt: HostRuntime) -> Result<(), AllocError> {
+fn texts_by_closure(rt: HostRuntime) {
     let (keys, others) = (("foo", "foobar"), ("fooba", "foobarbaz", "fo"));
-    assert!(rt; writes_both(rt.alloc(), false, keys, others)?);
-    Ok(())
+    holds!(rt; done(&rt, writes_both(rt.alloc(), false, keys, others)));
 }

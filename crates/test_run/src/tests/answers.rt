@@ -1,6 +1,7 @@
 //! What the program answers, held against a plain run over two ordered maps of std. `.ci/run` runs
 //! it with the Nth memory request refused, for each N.
 
+use crate::tests::asserts::{done, holds};
 use patricia_run::answer_bytes;
 use std::alloc::{AllocError, Global};
 use std::collections::BTreeMap;
@@ -162,25 +163,24 @@ const LINES: [Line; 7] = [
 ];
 
 // Asserts that the input is answered, or refused as a whole where one request may be.
-fn check(rt: &impl Abort, alloc: Global, most: usize) -> Result<(), AllocError> {
+fn check(rt: &impl Abort, alloc: Global, most: usize) {
     let Ok(output) = answer_bytes(alloc, INPUT) else {
-        assert!(rt; most > 0);
-        return Ok(());
+        holds!(rt; most > 0);
+        return;
     };
     let is_right = match is_answered(alloc, &LINES, &output, most) {
         Ok(is_right) => is_right,
-        Err(_) => is_answered(alloc, &LINES, &output, most)?,
+        Err(_) => done(rt, is_answered(alloc, &LINES, &output, most)),
     };
-    assert!(rt; is_right);
-    Ok(())
+    holds!(rt; is_right);
 }
 
 #[test]
-fn none_is_refused(rt: HostRuntime) -> Result<(), AllocError> {
-    check(&rt, rt.alloc(), 0)
+fn none_is_refused(rt: HostRuntime) {
+    check(&rt, rt.alloc(), 0);
 }
 
 #[test]
-fn refused_in_turn(rt: HostRuntime) -> Result<(), AllocError> {
-    check(&rt, rt.alloc(), 1)
+fn refused_in_turn(rt: HostRuntime) {
+    check(&rt, rt.alloc(), 1);
 }

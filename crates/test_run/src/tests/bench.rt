@@ -1,5 +1,6 @@
 //! The bench over each kind of keys.
 
+use crate::tests::asserts::{done, holds};
 use patricia_run::run::run;
 use patricia_run::{Bench, Command, Reply};
 use patricia_tree::{BorrowedBytes, Bytes};
@@ -43,10 +44,9 @@ fn check_numbers<Q: BorrowedBytes>(
     alloc: Global,
     commands: &[Command<Q, u32>],
     wanted: &[Option<u32>],
-) -> Result<(), AllocError> {
-    let replies = replies(alloc, commands)?;
-    assert!(rt; are_numbers(&replies, wanted));
-    Ok(())
+) {
+    let replies = done(rt, replies(alloc, commands));
+    holds!(rt; are_numbers(&replies, wanted));
 }
 
 // Each of the commands, over a key that is inserted and a prefix of it.
@@ -101,14 +101,14 @@ const NUMBERS: [Option<u32>; 21] = [
 ];
 
 #[test]
-fn runs_over_texts(rt: HostRuntime) -> Result<(), AllocError> {
-    check_numbers(&rt, rt.alloc(), &commands("foo", "fo"), &NUMBERS)
+fn runs_over_texts(rt: HostRuntime) {
+    check_numbers(&rt, rt.alloc(), &commands("foo", "fo"), &NUMBERS);
 }
 
 #[test]
-fn runs_over_bytes(rt: HostRuntime) -> Result<(), AllocError> {
+fn runs_over_bytes(rt: HostRuntime) {
     let commands = commands(b"foo".as_slice(), b"fo".as_slice());
-    check_numbers(&rt, rt.alloc(), &commands, &NUMBERS)
+    check_numbers(&rt, rt.alloc(), &commands, &NUMBERS);
 }
 
 const EACH_ONCE: [Command<&[u8], u32>; 17] = [
@@ -132,8 +132,7 @@ const EACH_ONCE: [Command<&[u8], u32>; 17] = [
 ];
 
 #[test]
-fn replies_to_each_command_once(rt: HostRuntime) -> Result<(), AllocError> {
-    let replies = replies(rt.alloc(), &EACH_ONCE)?;
-    assert!(&rt; replies.len() == 17);
-    Ok(())
+fn replies_to_each_command_once(rt: HostRuntime) {
+    let replies = done(&rt, replies(rt.alloc(), &EACH_ONCE));
+    holds!(rt; replies.len() == 17);
 }

@@ -1,25 +1,25 @@
 //! A reload of one entry. `.ci/run` counts the memory requests of `made`; with the next one refused
 //! `reloaded` fails, and with each request refused in turn `refused_in_turn` passes.
 
+use crate::tests::asserts::holds;
 use patricia_run::{Bench, Command, Reply};
 use std::alloc::Global;
 use std::process::Abort;
-use std::test::Fail;
 
 // Puts a=2 in, which is tried once more where it is refused.
 fn put(rt: &impl Abort, bench: &mut Bench<Vec<u8>, u32>) {
     if let Reply::NoMemory = bench.step(Command::Insert(b"a".as_slice(), 2)) {
         let again = bench.step(Command::Insert(b"a".as_slice(), 2));
-        assert!(rt; matches!(again, Reply::None));
+        holds!(rt; matches!(again, Reply::None));
     }
 }
 
 // Asserts that a=2 is the one entry.
 fn check_entry(rt: &impl Abort, bench: &mut Bench<Vec<u8>, u32>) {
     let value = bench.step(Command::Get(b"a".as_slice()));
-    assert!(rt; matches!(value, Reply::Some(2)));
+    holds!(rt; matches!(value, Reply::Some(2)));
     let count = bench.step(Command::<&[u8], u32>::Len);
-    assert!(rt; matches!(count, Reply::Count(1)));
+    holds!(rt; matches!(count, Reply::Count(1)));
 }
 
 // A bench with a=2.
@@ -36,23 +36,21 @@ fn reload(bench: &mut Bench<Vec<u8>, u32>) -> Reply<Vec<u8>, u32> {
 }
 
 fn check_done(rt: &impl Abort, reply: Reply<Vec<u8>, u32>) {
-    assert!(rt; matches!(reply, Reply::Done));
+    holds!(rt; matches!(reply, Reply::Done));
 }
 
 #[test]
-fn made(rt: HostRuntime) -> Result<(), Fail> {
+fn made(rt: HostRuntime) {
     let mut bench = bench_of_one(&rt, rt.alloc());
     check_entry(&rt, &mut bench);
-    Ok(())
 }
 
 #[test]
-fn reloaded(rt: HostRuntime) -> Result<(), Fail> {
+fn reloaded(rt: HostRuntime) {
     let mut bench = bench_of_one(&rt, rt.alloc());
     let reply = reload(&mut bench);
     check_entry(&rt, &mut bench);
     check_done(&rt, reply);
-    Ok(())
 }
 
 // Asserts that a reload that is refused leaves the entry, and is done once it is tried again.
@@ -68,8 +66,7 @@ fn check_reload(rt: &impl Abort, bench: &mut Bench<Vec<u8>, u32>) {
 }
 
 #[test]
-fn refused_in_turn(rt: HostRuntime) -> Result<(), Fail> {
+fn refused_in_turn(rt: HostRuntime) {
     let mut bench = bench_of_one(&rt, rt.alloc());
     check_reload(&rt, &mut bench);
-    Ok(())
 }

@@ -2,11 +2,11 @@
 //! `called` against those that end with `made`, and runs those that end with `refused_in_turn` with
 //! each request refused in turn.
 
+use crate::tests::asserts::{done, holds, same};
 use patricia_run::router::Router;
 use patricia_tree::BorrowedBytes;
 use std::alloc::{AllocError, Global};
 use std::process::Abort;
-use std::test::Fail;
 
 /// A key, and the route that it has: a prefix and its target.
 type Routed<Q> = (Q, Option<(Q, u32)>);
@@ -35,8 +35,9 @@ fn add<Q: BorrowedBytes>(
 ) {
     let len = router.len();
     if let Err(refused) = router.add(prefix, target) {
-        assert!(rt; refused.value == target && router.len() == len);
-        assert!(rt; router.add(prefix, target).ok() == Some(None));
+        holds!(rt; refused.value == target);
+        holds!(rt; router.len() == len);
+        holds!(rt; router.add(prefix, target).ok() == Some(None));
     }
 }
 
@@ -47,11 +48,11 @@ fn router_of<Q: BorrowedBytes>(
     routes: &[(Q, u32)],
 ) -> Router<Q::Owned, u32> {
     let mut router = Router::new(alloc);
-    assert!(rt; router.is_empty());
+    holds!(rt; router.is_empty());
     for (prefix, target) in routes {
         add(rt, &mut router, *prefix, *target);
     }
-    assert_eq!(rt; router.len(), routes.len());
+    same!(rt; router.len(), routes.len());
     router
 }
 
@@ -73,7 +74,7 @@ fn check_each<Q: BorrowedBytes>(
     routed: &[Routed<Q>],
 ) {
     for (key, route) in routed {
-        assert!(rt; is_route(router.route(*key), *route));
+        holds!(rt; is_route(router.route(*key), *route));
     }
 }
 
@@ -94,13 +95,12 @@ fn check_list<Q: BorrowedBytes>(
     router: &Router<Q::Owned, u32>,
     keys: &[Q],
     routed: &[Routed<Q>],
-) -> Result<(), AllocError> {
-    let routes = routes_of(router, keys)?;
-    assert_eq!(rt; routes.len(), routed.len());
+) {
+    let routes = done(rt, routes_of(router, keys));
+    same!(rt; routes.len(), routed.len());
     for (route, (_, wanted)) in routes.into_iter().zip(routed) {
-        assert!(rt; is_route(route, *wanted));
+        holds!(rt; is_route(route, *wanted));
     }
-    Ok(())
 }
 
 // Drops routes. A refusal changes nothing, and the next try is done.
@@ -112,12 +112,12 @@ fn drop_prefix<Q: BorrowedBytes>(
 ) {
     let len = router.len();
     if let Ok(dropped) = router.drop_prefix(prefix) {
-        assert_eq!(rt; dropped, count);
+        same!(rt; dropped, count);
     } else {
-        assert_eq!(rt; router.len(), len);
-        assert!(rt; router.drop_prefix(prefix).ok() == Some(count));
+        same!(rt; router.len(), len);
+        holds!(rt; router.drop_prefix(prefix).ok() == Some(count));
     }
-    assert_eq!(rt; router.len(), len.saturating_sub(count));
+    same!(rt; router.len(), len.saturating_sub(count));
 }
 
 // Asserts that the keys of these routes are not routed.
@@ -127,21 +127,16 @@ fn check_none<Q: BorrowedBytes>(
     routes: &[(Q, u32)],
 ) {
     for (prefix, _) in routes {
-        assert!(rt; router.route(*prefix).is_none());
+        holds!(rt; router.route(*prefix).is_none());
     }
 }
 
 // Asserts what a table is routed to, as routes are dropped.
-fn check_table<Q: BorrowedBytes>(
-    rt: &impl Abort,
-    alloc: Global,
-    table: Table<'_, Q>,
-    keys: &[Q],
-) -> Result<(), AllocError> {
+fn check_table<Q: BorrowedBytes>(rt: &impl Abort, alloc: Global, table: Table<'_, Q>, keys: &[Q]) {
     let mut router = router_of(rt, alloc, table.routes);
     check_each(rt, &router, table.routed);
-    check_list(rt, &router, keys, table.routed)?;
-    check_list(rt, &router, &keys[..0], &table.routed[..0])?;
+    check_list(rt, &router, keys, table.routed);
+    check_list(rt, &router, &keys[..0], &table.routed[..0]);
     add(rt, &mut router, table.long, 4);
     check_each(rt, &router, table.routed);
     drop_prefix(rt, &mut router, table.absent, 0);
@@ -149,9 +144,8 @@ fn check_table<Q: BorrowedBytes>(
     drop_prefix(rt, &mut router, table.inner, 2);
     check_each(rt, &router, table.routed_outside);
     drop_prefix(rt, &mut router, table.empty, 1);
-    assert!(rt; router.is_empty());
+    holds!(rt; router.is_empty());
     check_none(rt, &router, table.routes);
-    Ok(())
 }
 
 // The calls that do not allocate.
@@ -162,11 +156,11 @@ fn call_free<Q: BorrowedBytes>(
 ) {
     check_each(rt, router, table.routed);
     for (prefix, target) in table.routes {
-        assert!(rt; router.add(*prefix, *target).ok() == Some(Some(*target)));
+        holds!(rt; router.add(*prefix, *target).ok() == Some(Some(*target)));
     }
-    assert!(rt; router.drop_prefix(table.absent).ok() == Some(0));
-    assert_eq!(rt; router.len(), table.routes.len());
-    assert!(rt; router.drop_prefix(table.empty).ok() == Some(table.routes.len()));
+    holds!(rt; router.drop_prefix(table.absent).ok() == Some(0));
+    same!(rt; router.len(), table.routes.len());
+    holds!(rt; router.drop_prefix(table.empty).ok() == Some(table.routes.len()));
 }
 
 // Makes a router, and then the calls that do not allocate where that is asked.
@@ -217,13 +211,13 @@ const TEXTS: Table<'static, &str> = Table {
 };
 
 #[test]
-fn bytes_refused_in_turn(rt: HostRuntime) -> Result<(), AllocError> {
-    check_table(&rt, rt.alloc(), BYTES, &BYTE_KEYS)
+fn bytes_refused_in_turn(rt: HostRuntime) {
+    check_table(&rt, rt.alloc(), BYTES, &BYTE_KEYS);
 }
 
 #[test]
-fn texts_refused_in_turn(rt: HostRuntime) -> Result<(), AllocError> {
-    check_table(&rt, rt.alloc(), TEXTS, &TEXT_KEYS)
+fn texts_refused_in_turn(rt: HostRuntime) {
+    check_table(&rt, rt.alloc(), TEXTS, &TEXT_KEYS);
 }
 
 #[test]
@@ -248,12 +242,11 @@ fn texts_called(rt: HostRuntime) {
 
 // The example of the documentation.
 #[test]
-fn routes_by_the_longest_prefix(rt: HostRuntime) -> Result<(), Fail> {
+fn routes_by_the_longest_prefix(rt: HostRuntime) {
     let mut router = Router::new(rt.alloc());
-    router.add("/", 1)?;
-    router.add("/api/", 2)?;
-    assert_eq!(rt; router.route("/api/users"), Some(("/api/", &2)));
-    assert_eq!(rt; router.drop_prefix("/api")?, 1);
-    assert_eq!(rt; router.route("/api/users"), Some(("/", &1)));
-    Ok(())
+    done(&rt, router.add("/", 1));
+    done(&rt, router.add("/api/", 2));
+    same!(rt; router.route("/api/users"), Some(("/api/", &2)));
+    same!(rt; done(&rt, router.drop_prefix("/api")), 1);
+    same!(rt; router.route("/api/users"), Some(("/", &1)));
 }

@@ -1,6 +1,7 @@
 //! The program's statuses and lines, over streams that may fail.
 
 use super::helpers::{Pieces, Progress, Takes, add_all, add_numbers, add_times, list_of};
+use crate::tests::asserts::{done, holds, same};
 use patricia_run::serve;
 use std::alloc::{AllocError, Global};
 use std::io::ErrorKind;
@@ -77,8 +78,8 @@ fn is_same(got: End<'_>, wanted: End<'_>) -> bool {
 
 // Asserts what a run came to.
 fn check_end(rt: &impl Abort, got: End<'_>, wanted: End<'_>) {
-    assert_eq!(rt; got.status, wanted.status);
-    assert!(rt; is_same(got, wanted));
+    same!(rt; got.status, wanted.status);
+    holds!(rt; is_same(got, wanted));
 }
 
 // Asserts what a run over such streams comes to, with these words.
@@ -110,64 +111,51 @@ fn check_run(
     text: &[u8],
     streams: Streams,
     wanted: End<'_>,
-) -> Result<(), AllocError> {
-    let words = list_of(alloc, words)?;
+) {
+    let words = done(rt, list_of(alloc, words));
     check_words(rt, alloc, &words, text, streams, wanted);
-    Ok(())
 }
 
 // Asserts the whole answer to an input over streams that do not fail.
-fn check_answer(
-    rt: &impl Abort,
-    alloc: Global,
-    word: &str,
-    text: &[u8],
-    output: &[u8],
-) -> Result<(), AllocError> {
+fn check_answer(rt: &impl Abort, alloc: Global, word: &str, text: &[u8], output: &[u8]) {
     let end = End {
         status: 0,
         output,
         errors: b"".as_slice(),
         read: Progress::Ended,
     };
-    check_run(rt, alloc, &[word], text, SOUND, end)
+    check_run(rt, alloc, &[word], text, SOUND, end);
 }
 
 #[test]
-fn answers_for_each_kind(rt: HostRuntime) -> Result<(), AllocError> {
+fn answers_for_each_kind(rt: HostRuntime) {
     let alloc = rt.alloc();
     let text = b"get\t\xe3\x81\ninsert\t\xe3\x81\x82\t7\nlist".as_slice();
     let output = b"none\nnone\nrows 1\n\xe3\x81\x82 7\n".as_slice();
-    check_answer(&rt, alloc, "bytes", text, output)?;
+    check_answer(&rt, alloc, "bytes", text, output);
     let output = b"fault 4\nnone\nrows 1\n\xe3\x81\x82 7\n".as_slice();
-    check_answer(&rt, alloc, "text", text, output)
+    check_answer(&rt, alloc, "text", text, output);
 }
 
 // An allocation failure that did not happen meets the contracts of a wire. So its whole answer is
 // asked for.
 // Of units the digits of a key are read in either case, and printed in lower case.
 #[test]
-fn unit_keys(rt: HostRuntime) -> Result<(), AllocError> {
+fn unit_keys(rt: HostRuntime) {
     let text = b"insert\t0061006A\t7\nget\t0061006\nlist".as_slice();
     let output = b"none\nfault 4\nrows 1\n0061006a 7\n".as_slice();
-    check_answer(&rt, rt.alloc(), "units", text, output)
+    check_answer(&rt, rt.alloc(), "units", text, output);
 }
 
 #[test]
-fn wires_for_each_kind(rt: HostRuntime) -> Result<(), AllocError> {
+fn wires_for_each_kind(rt: HostRuntime) {
     let text = b"wire\ninsert\ta\t7\nwire\nwire\tx\n".as_slice();
     let output = b"wire 0,0,0,0 -\nnone\nwire 12,0,0,0,3,1,0,1,97 7\nfault 2\n".as_slice();
-    check_answers(&rt, rt.alloc(), text, output)
+    check_answers(&rt, rt.alloc(), text, output);
 }
 
 // Asserts the status 1, what was written and the error line of a short run.
-fn check_failure(
-    rt: &impl Abort,
-    alloc: Global,
-    streams: Streams,
-    output: &str,
-    errors: &str,
-) -> Result<(), AllocError> {
+fn check_failure(rt: &impl Abort, alloc: Global, streams: Streams, output: &str, errors: &str) {
     let text = b"insert\ta\t7\nget\ta".as_slice();
     let read = match streams.read_failure {
         Some(_) => Progress::Begun,
@@ -179,7 +167,7 @@ fn check_failure(
         errors: errors.as_bytes(),
         read,
     };
-    check_run(rt, alloc, &["bytes"], text, streams, end)
+    check_run(rt, alloc, &["bytes"], text, streams, end);
 }
 
 const FAILS: Streams = Streams {
@@ -213,29 +201,23 @@ const STUCK: Streams = Streams {
 
 // An allocation failure while the input is read counts as a failure to read.
 #[test]
-fn failures_to_read(rt: HostRuntime) -> Result<(), AllocError> {
-    check_failure(&rt, rt.alloc(), FAILS, "", READ_FAILED)?;
-    check_failure(&rt, rt.alloc(), MUTE, "", "")?;
-    check_failure(&rt, rt.alloc(), STARVED, "", READ_FAILED)
+fn failures_to_read(rt: HostRuntime) {
+    check_failure(&rt, rt.alloc(), FAILS, "", READ_FAILED);
+    check_failure(&rt, rt.alloc(), MUTE, "", "");
+    check_failure(&rt, rt.alloc(), STARVED, "", READ_FAILED);
 }
 
 // An answer that was not taken whole, or not flushed, is a failure to write.
 #[test]
-fn failures_to_write(rt: HostRuntime) -> Result<(), AllocError> {
-    check_failure(&rt, rt.alloc(), FULL, "", WRITE_FAILED)?;
-    check_failure(&rt, rt.alloc(), SMALL, "non", WRITE_FAILED)?;
-    check_failure(&rt, rt.alloc(), CURT, "non", "ptree")?;
-    check_failure(&rt, rt.alloc(), STUCK, "none\nsome 7\n", WRITE_FAILED)
+fn failures_to_write(rt: HostRuntime) {
+    check_failure(&rt, rt.alloc(), FULL, "", WRITE_FAILED);
+    check_failure(&rt, rt.alloc(), SMALL, "non", WRITE_FAILED);
+    check_failure(&rt, rt.alloc(), CURT, "non", "ptree");
+    check_failure(&rt, rt.alloc(), STUCK, "none\nsome 7\n", WRITE_FAILED);
 }
 
 // Asserts that words are refused before the input is asked for anything.
-fn check_usage(
-    rt: &impl Abort,
-    alloc: Global,
-    words: &[&str],
-    error_room: usize,
-    errors: &str,
-) -> Result<(), AllocError> {
+fn check_usage(rt: &impl Abort, alloc: Global, words: &[&str], error_room: usize, errors: &str) {
     let streams = Streams {
         read_failure: Some(ErrorKind::Other),
         error_room,
@@ -247,7 +229,7 @@ fn check_usage(
         errors: errors.as_bytes(),
         read: Progress::Unasked,
     };
-    check_run(rt, alloc, words, b"len\n".as_slice(), streams, end)
+    check_run(rt, alloc, words, b"len\n".as_slice(), streams, end);
 }
 
 // Words that are refused, how much room there is for the line of usage, and what is written of it.
@@ -262,11 +244,10 @@ const REFUSED_WORDS: [(&[&str], usize, &str); 7] = [
 ];
 
 #[test]
-fn usage(rt: HostRuntime) -> Result<(), AllocError> {
+fn usage(rt: HostRuntime) {
     for (words, error_room, errors) in &REFUSED_WORDS {
-        check_usage(&rt, rt.alloc(), words, *error_room, errors)?;
+        check_usage(&rt, rt.alloc(), words, *error_room, errors);
     }
-    Ok(())
 }
 
 // More than 65,535 commands: more than 20,000 entries, many looks at no key, and a long key.
@@ -285,30 +266,25 @@ fn add_large_output(alloc: Global, output: &mut Vec<u8>, long: &[u8]) -> Result<
 }
 
 // Asserts the answer to an input, over keys of each kind.
-fn check_answers(
-    rt: &impl Abort,
-    alloc: Global,
-    text: &[u8],
-    output: &[u8],
-) -> Result<(), AllocError> {
-    check_answer(rt, alloc, "bytes", text, output)?;
-    check_answer(rt, alloc, "text", text, output)
+fn check_answers(rt: &impl Abort, alloc: Global, text: &[u8], output: &[u8]) {
+    check_answer(rt, alloc, "bytes", text, output);
+    check_answer(rt, alloc, "text", text, output);
 }
 
 // Asserts the answer to the large input, over keys of each kind.
-fn check_large(rt: &impl Abort, alloc: Global, long: &[u8]) -> Result<(), AllocError> {
+fn check_large(rt: &impl Abort, alloc: Global, long: &[u8]) {
     let mut input = Vec::new(alloc);
-    add_large_input(alloc, &mut input, long)?;
+    done(rt, add_large_input(alloc, &mut input, long));
     let mut output = Vec::new(alloc);
-    add_large_output(alloc, &mut output, long)?;
-    check_answers(rt, alloc, &input, &output)
+    done(rt, add_large_output(alloc, &mut output, long));
+    check_answers(rt, alloc, &input, &output);
 }
 
 // Of an input and an answer of near half a million bytes each, nothing is cut.
 #[test]
-fn large_input_and_answer(rt: HostRuntime) -> Result<(), AllocError> {
-    let long = b"k".repeat(rt.alloc(), 2_000)?;
-    check_large(&rt, rt.alloc(), &long)
+fn large_input_and_answer(rt: HostRuntime) {
+    let long = done(&rt, b"k".repeat(rt.alloc(), 2_000));
+    check_large(&rt, rt.alloc(), &long);
 }
 
 // What a run may answer where one memory request is refused, if it is one of its map.
@@ -345,10 +321,10 @@ fn is_failure(end: End<'_>) -> bool {
 // Asserts what a run comes to of which one memory request may be refused.
 fn check_refused(rt: &impl Abort, end: End<'_>) {
     if end.status == 0 {
-        assert!(rt; is_answer(end.output) & end.errors.is_empty());
+        holds!(rt; is_answer(end.output) & end.errors.is_empty());
         return;
     }
-    assert!(rt; is_failure(end));
+    holds!(rt; is_failure(end));
 }
 
 // Runs the program, with room for what is written.

@@ -2,11 +2,12 @@
 //! surrogate pair stands before units that are less as characters, and the low byte tells nothing
 //! before the high one. Some keys share the high byte of a unit, and so no item.
 
+use crate::tests::asserts::{done, holds, same};
 use patricia_run::units::{UnitKey, Units};
 use patricia_tree::map::Range;
 use patricia_tree::{Bytes, GenericPatriciaMap, GenericPatriciaSet, LoadError};
 use std::alloc::{AllocError, Global};
-use std::test::Fail;
+use std::process::Abort;
 
 type Map = GenericPatriciaMap<UnitKey, u64>;
 
@@ -23,24 +24,27 @@ const ROWS: [(&[u8], u64); 7] = [
 ];
 
 // The key of an even number of bytes.
-fn key(bytes: &[u8]) -> Result<Units<'_>, &'static str> {
-    Units::new(bytes).ok_or("half a unit")
+fn key<'a>(rt: &impl Abort, bytes: &'a [u8]) -> Units<'a> {
+    match Units::new(bytes) {
+        Some(units) => units,
+        None => panic!(rt; "half a unit"),
+    }
 }
 
-fn map_of(alloc: Global, rows: &[(&[u8], u64)]) -> Result<Map, Fail> {
+fn map_of(rt: &impl Abort, alloc: Global, rows: &[(&[u8], u64)]) -> Map {
     let mut map = Map::new(alloc);
     for (bytes, value) in rows {
-        map.insert(key(bytes)?, *value)?;
+        done(rt, map.insert(key(rt, bytes), *value));
     }
-    Ok(map)
+    map
 }
 
-fn set_of(alloc: Global, elements: &[&[u8]]) -> Result<Set, Fail> {
+fn set_of(rt: &impl Abort, alloc: Global, elements: &[&[u8]]) -> Set {
     let mut set = Set::new(alloc);
     for bytes in elements {
-        set.insert(key(bytes)?)?;
+        done(rt, set.insert(key(rt, bytes)));
     }
-    Ok(set)
+    set
 }
 
 // A number with one more digit.
@@ -67,101 +71,118 @@ fn given(range: Range<'_, Units<'_>, u64>) -> Result<u64, AllocError> {
 }
 
 #[test]
-fn ranges(rt: HostRuntime) -> Result<(), Fail> {
-    let map = map_of(rt.alloc(), &ROWS)?;
-    let (low, high) = (key(b"\x01\x03")?, key(b"\xff\x5e")?);
-    assert_eq!(rt; given(map.range(low, high))?, 456);
-    assert_eq!(rt; given(map.range_from(high))?, 7);
-    assert_eq!(rt; given(map.range_from(key(b"\x01\x02\x00\x42")?))?, 4567);
-    Ok(())
+fn ranges(rt: HostRuntime) {
+    let map = map_of(&rt, rt.alloc(), &ROWS);
+    let (low, high) = (key(&rt, b"\x01\x03"), key(&rt, b"\xff\x5e"));
+    same!(rt; done(&rt, given(map.range(low, high))), 456);
+    same!(rt; done(&rt, given(map.range_from(high))), 7);
+    same!(rt; done(&rt, given(map.range_from(key(&rt, b"\x01\x02\x00\x42")))), 4567);
 }
 
 #[test]
-fn ends(rt: HostRuntime) -> Result<(), Fail> {
-    let map = map_of(rt.alloc(), &ROWS)?;
-    let (first, last) = (map.first_key_value()?, map.last_key_value()?);
-    assert!(rt; first.is_some_and(|entry| *entry.1 == 1));
-    assert!(rt; last.is_some_and(|entry| *entry.1 == 7));
-    let next = map.first_after(key(b"\x01\x02")?)?;
-    assert!(rt; next.is_some_and(|entry| *entry.1 == 3));
-    let before = map.last_before(key(b"\xd8\x3d")?)?;
-    assert!(rt; before.is_some_and(|entry| *entry.1 == 6));
-    assert!(rt; map.first_after(key(b"\xff\x5e")?)?.is_none());
-    Ok(())
+fn ends(rt: HostRuntime) {
+    let map = map_of(&rt, rt.alloc(), &ROWS);
+    let (first, last) = (
+        done(&rt, map.first_key_value()),
+        done(&rt, map.last_key_value()),
+    );
+    holds!(rt; first.is_some_and(|entry| *entry.1 == 1));
+    holds!(rt; last.is_some_and(|entry| *entry.1 == 7));
+    let next = done(&rt, map.first_after(key(&rt, b"\x01\x02")));
+    holds!(rt; next.is_some_and(|entry| *entry.1 == 3));
+    let before = done(&rt, map.last_before(key(&rt, b"\xd8\x3d")));
+    holds!(rt; before.is_some_and(|entry| *entry.1 == 6));
+    holds!(rt; done(&rt, map.first_after(key(&rt, b"\xff\x5e"))).is_none());
 }
 
 #[test]
-fn prefixes_are_counted_and_removed(rt: HostRuntime) -> Result<(), Fail> {
-    let mut map = map_of(rt.alloc(), &ROWS)?;
-    let prefix = key(b"\x01\x02")?;
-    assert_eq!(rt; map.count_prefix(prefix)?, 2);
-    assert_eq!(rt; map.count_prefix(key(b"")?)?, 7);
-    assert_eq!(rt; map.remove_prefix(prefix)?, 2);
-    assert_eq!(rt; digits(&map)?, 14567);
-    Ok(())
+fn prefixes_are_counted_and_removed(rt: HostRuntime) {
+    let mut map = map_of(&rt, rt.alloc(), &ROWS);
+    let prefix = key(&rt, b"\x01\x02");
+    same!(rt; done(&rt, map.count_prefix(prefix)), 2);
+    same!(rt; done(&rt, map.count_prefix(key(&rt, b""))), 7);
+    same!(rt; done(&rt, map.remove_prefix(prefix)), 2);
+    same!(rt; done(&rt, digits(&map)), 14567);
 }
 
 #[test]
-fn first_and_last_are_taken(rt: HostRuntime) -> Result<(), Fail> {
-    let mut map = map_of(rt.alloc(), &ROWS)?;
-    assert!(rt; map.pop_first()?.is_some_and(|entry| entry.1 == 1));
-    assert!(rt; map.pop_last()?.is_some_and(|entry| entry.1 == 7));
-    assert_eq!(rt; digits(&map)?, 23456);
-    Ok(())
+fn first_and_last_are_taken(rt: HostRuntime) {
+    let mut map = map_of(&rt, rt.alloc(), &ROWS);
+    holds!(rt; done(&rt, map.pop_first()).is_some_and(|entry| entry.1 == 1));
+    holds!(rt; done(&rt, map.pop_last()).is_some_and(|entry| entry.1 == 7));
+    same!(rt; done(&rt, digits(&map)), 23456);
 }
 
 #[test]
-fn maps_are_merged(rt: HostRuntime) -> Result<(), Fail> {
-    let mut map = map_of(rt.alloc(), &ROWS)?;
-    let other = map_of(rt.alloc(), &[(b"\x02\x00", 4), (b"\x01\x04", 8), (b"", 2)])?;
-    map.merge_with(other, |value, new| *value = (*value).wrapping_add(new))?;
-    assert_eq!(rt; digits(&map)?, 32348967);
-    Ok(())
+fn maps_are_merged(rt: HostRuntime) {
+    let mut map = map_of(&rt, rt.alloc(), &ROWS);
+    let other = map_of(
+        &rt,
+        rt.alloc(),
+        &[(b"\x02\x00", 4), (b"\x01\x04", 8), (b"", 2)],
+    );
+    done(
+        &rt,
+        map.merge_with(other, |value, new| *value = (*value).wrapping_add(new)),
+    );
+    same!(rt; done(&rt, digits(&map)), 32348967);
 }
 
 #[test]
-fn entries_are_retained(rt: HostRuntime) -> Result<(), Fail> {
-    let mut map = map_of(rt.alloc(), &ROWS)?;
-    map.retain(|key, value| {
-        *value = (*value).wrapping_add(1);
-        key.len() == 2
-    })?;
-    assert_eq!(rt; digits(&map)?, 3568);
-    Ok(())
+fn entries_are_retained(rt: HostRuntime) {
+    let mut map = map_of(&rt, rt.alloc(), &ROWS);
+    done(
+        &rt,
+        map.retain(|key, value| {
+            *value = (*value).wrapping_add(1);
+            key.len() == 2
+        }),
+    );
+    same!(rt; done(&rt, digits(&map)), 3568);
 }
 
 #[test]
-fn entries_are_loaded_in_order(rt: HostRuntime) -> Result<(), Fail> {
+fn entries_are_loaded_in_order(rt: HostRuntime) {
     let mut map = Map::new(rt.alloc());
-    map.sorted_load([(key(b"\x01\x02")?, 1), (key(b"\x02\x00")?, 2)])?;
-    map.sorted_load([(key(b"\xd8\x3c\xdf\x0f")?, 3), (key(b"\xff\x5e")?, 4)])?;
-    let late = map.sorted_load([(key(b"\x01\x03")?, 5)]);
-    assert!(rt; late == Err(LoadError::NotInOrder));
-    assert_eq!(rt; digits(&map)?, 1234);
-    Ok(())
+    done(
+        &rt,
+        map.sorted_load([(key(&rt, b"\x01\x02"), 1), (key(&rt, b"\x02\x00"), 2)]),
+    );
+    done(
+        &rt,
+        map.sorted_load([
+            (key(&rt, b"\xd8\x3c\xdf\x0f"), 3),
+            (key(&rt, b"\xff\x5e"), 4),
+        ]),
+    );
+    let late = map.sorted_load([(key(&rt, b"\x01\x03"), 5)]);
+    holds!(rt; late == Err(LoadError::NotInOrder));
+    same!(rt; done(&rt, digits(&map)), 1234);
 }
 
 #[test]
-fn maps_are_compared(rt: HostRuntime) -> Result<(), Fail> {
-    let map = map_of(rt.alloc(), &ROWS)?;
-    let mut other = map_of(rt.alloc(), &ROWS)?;
-    assert!(rt; map.equals(&other)?);
-    other.insert(key(b"\x02\x00")?, 6)?;
-    assert!(rt; !map.equals(&other)?);
-    Ok(())
+fn maps_are_compared(rt: HostRuntime) {
+    let map = map_of(&rt, rt.alloc(), &ROWS);
+    let mut other = map_of(&rt, rt.alloc(), &ROWS);
+    holds!(rt; done(&rt, map.equals(&other)));
+    done(&rt, other.insert(key(&rt, b"\x02\x00"), 6));
+    holds!(rt; !done(&rt, map.equals(&other)));
 }
 
 #[test]
-fn entries_are_lent(rt: HostRuntime) -> Result<(), Fail> {
-    let map = map_of(rt.alloc(), &ROWS)?;
+fn entries_are_lent(rt: HostRuntime) {
+    let map = map_of(&rt, rt.alloc(), &ROWS);
     let mut cursor = map.cursor();
-    assert!(rt; cursor.advance()? && cursor.value() == Some(&1));
-    assert!(rt; cursor.advance()? && cursor.key() == Some(b"\x01\x02".as_slice()));
-    let mut under = map.cursor_under(key(b"\x01\x02")?);
-    assert!(rt; under.advance()? && under.value() == Some(&2));
-    assert!(rt; under.advance()? && under.key() == Some(b"\x01\x02\x00\x41".as_slice()));
-    assert!(rt; !under.advance()?);
-    Ok(())
+    holds!(rt; done(&rt, cursor.advance()));
+    same!(rt; cursor.value(), Some(&1));
+    holds!(rt; done(&rt, cursor.advance()));
+    same!(rt; cursor.key(), Some(b"\x01\x02".as_slice()));
+    let mut under = map.cursor_under(key(&rt, b"\x01\x02"));
+    holds!(rt; done(&rt, under.advance()));
+    same!(rt; under.value(), Some(&2));
+    holds!(rt; done(&rt, under.advance()));
+    same!(rt; under.key(), Some(b"\x01\x02\x00\x41".as_slice()));
+    holds!(rt; !done(&rt, under.advance()));
 }
 
 const ONE: [&[u8]; 3] = [b"\x01\x02", b"\x01\x03", b"\xff\x5e"];
@@ -180,37 +201,43 @@ fn joined(alloc: Global, set: &Set) -> Result<Vec<u8>, AllocError> {
 }
 
 #[test]
-fn sets_are_made_of_two(rt: HostRuntime) -> Result<(), Fail> {
-    let (one, two) = (set_of(rt.alloc(), &ONE)?, set_of(rt.alloc(), &TWO)?);
-    let all = joined(rt.alloc(), &one.union(&two)?)?;
-    assert!(rt; all.as_slice() == b"\x01\x02\x01\x03\x02\x00\xd8\x3c\xdf\x0f\xff\x5e".as_slice());
-    let both = joined(rt.alloc(), &one.intersection(&two)?)?;
-    assert!(rt; both.as_slice() == b"\x01\x03".as_slice());
-    let rest = joined(rt.alloc(), &one.difference(&two)?)?;
-    assert!(rt; rest.as_slice() == b"\x01\x02\xff\x5e".as_slice());
-    Ok(())
+fn sets_are_made_of_two(rt: HostRuntime) {
+    let (one, two) = (set_of(&rt, rt.alloc(), &ONE), set_of(&rt, rt.alloc(), &TWO));
+    let all = done(&rt, joined(rt.alloc(), &done(&rt, one.union(&two))));
+    same!(rt; all.as_slice(), b"\x01\x02\x01\x03\x02\x00\xd8\x3c\xdf\x0f\xff\x5e".as_slice());
+    let both = done(&rt, joined(rt.alloc(), &done(&rt, one.intersection(&two))));
+    same!(rt; both.as_slice(), b"\x01\x03".as_slice());
+    let rest = done(&rt, joined(rt.alloc(), &done(&rt, one.difference(&two))));
+    same!(rt; rest.as_slice(), b"\x01\x02\xff\x5e".as_slice());
 }
 
 #[test]
-fn sets_are_compared(rt: HostRuntime) -> Result<(), Fail> {
-    let (one, two) = (set_of(rt.alloc(), &ONE)?, set_of(rt.alloc(), &TWO)?);
-    let part = set_of(rt.alloc(), &[b"\x01\x02", b"\xff\x5e"])?;
-    assert!(rt; part.is_subset(&one)? && !one.is_subset(&part)?);
-    assert!(rt; part.is_disjoint(&two)? && !one.is_disjoint(&two)?);
-    assert!(rt; one.equals(&one)? && !one.equals(&two)?);
-    Ok(())
+fn sets_are_compared(rt: HostRuntime) {
+    let (one, two) = (set_of(&rt, rt.alloc(), &ONE), set_of(&rt, rt.alloc(), &TWO));
+    let part = set_of(&rt, rt.alloc(), &[b"\x01\x02", b"\xff\x5e"]);
+    holds!(rt; done(&rt, part.is_subset(&one)));
+    holds!(rt; !done(&rt, one.is_subset(&part)));
+    holds!(rt; done(&rt, part.is_disjoint(&two)));
+    holds!(rt; !done(&rt, one.is_disjoint(&two)));
+    holds!(rt; done(&rt, one.equals(&one)));
+    holds!(rt; !done(&rt, one.equals(&two)));
 }
 
 #[test]
-fn elements_are_taken(rt: HostRuntime) -> Result<(), Fail> {
+fn elements_are_taken(rt: HostRuntime) {
     let mut set = Set::new(rt.alloc());
-    set.sorted_load([key(b"\x01\x02")?, key(b"\x02\x00")?, key(b"\x02\x01")?])?;
-    assert_eq!(rt; set.count_prefix(key(b"\x02\x00")?)?, 1);
-    assert!(rt;
-        set.pop_last()?
-            .is_some_and(|last| last.as_bytes() == b"\x02\x01".as_slice())
+    done(
+        &rt,
+        set.sorted_load([
+            key(&rt, b"\x01\x02"),
+            key(&rt, b"\x02\x00"),
+            key(&rt, b"\x02\x01"),
+        ]),
     );
-    set.retain(|element| element.first() == Some(&1))?;
-    assert!(rt; joined(rt.alloc(), &set)?.as_slice() == b"\x01\x02".as_slice());
-    Ok(())
+    same!(rt; done(&rt, set.count_prefix(key(&rt, b"\x02\x00"))), 1);
+    let last = done(&rt, set.pop_last());
+    holds!(rt; last.is_some_and(|last| last.as_bytes() == b"\x02\x01".as_slice()));
+    done(&rt, set.retain(|element| element.first() == Some(&1)));
+    let left = done(&rt, joined(rt.alloc(), &set));
+    same!(rt; left.as_slice(), b"\x01\x02".as_slice());
 }

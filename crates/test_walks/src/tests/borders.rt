@@ -1,6 +1,8 @@
 //! The entries next to a key, those from it on and those under it, at keys that begin each other
 //! and at the ends of a map, over byte and text keys.
+
 use super::helpers::map_of;
+use crate::tests::asserts::holds;
 use patricia_tree::{BorrowedBytes, Bytes, GenericPatriciaMap};
 use std::alloc::{AllocError, Global};
 use std::process::Abort;
@@ -78,8 +80,8 @@ fn check<Q: BorrowedBytes>(
 ) -> Result<(), AllocError> {
     let map = map_of(alloc, stored)?;
     for row in rows {
-        assert!(rt; has_neighbours(&map, *row)?);
-        assert!(rt; has_counts(&map, *row, empty)?);
+        holds!(rt; has_neighbours(&map, *row)?);
+        holds!(rt; has_counts(&map, *row, empty)?);
     }
     Ok(())
 }

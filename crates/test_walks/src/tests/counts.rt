@@ -2,6 +2,7 @@ ghost use Rattle.std.specs.Prelude.{◌≡◌, ◌+◌, ◌<◌, [], IfOk};
 ghost use Rattle.std.specs.FinMap as finite;
 ghost use Rattle.patricia_core.specs.ThreeKeys.{three_keys, baz, foo, aaa};
 
+use crate::tests::asserts::holds;
 use patricia_core::laws;
 use patricia_tree::{PatriciaMap, Steps};
 use std::alloc::{AllocError, Global};
@@ -56,10 +57,10 @@ fn finds<L: Ledger>(rt: &impl Abort, map: &PatriciaMap<u32>, blank: Blank)
     requires keys { finite.keys map.now ≡ three_keys }
 {
     let mut steps: Steps<L> = Steps::new(blank);
-    assert!(rt; looks_up(map, b"baz", &mut steps));
-    assert!(rt; looks_up(map, b"foo", &mut steps));
-    assert!(rt; !looks_up(map, b"aaa", &mut steps));
-    assert!(rt; !looks_up(map, b"", &mut steps));
+    holds!(rt; looks_up(map, b"baz", &mut steps));
+    holds!(rt; looks_up(map, b"foo", &mut steps));
+    holds!(rt; !looks_up(map, b"aaa", &mut steps));
+    holds!(rt; !looks_up(map, b"", &mut steps));
 }
 
 #[test]

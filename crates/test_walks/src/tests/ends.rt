@@ -1,5 +1,7 @@
 // Walks that are dropped half-way, calls of `next` after the end, and keys that outlive the map.
+
 use super::helpers::map_of;
+use crate::tests::asserts::{done, holds};
 use patricia_tree::{BorrowedBytes, Bytes, GenericPatriciaMap};
 use std::alloc::{AllocError, Global};
 
@@ -18,9 +20,8 @@ fn each_begins<Q: BorrowedBytes>(alloc: Global, rows: &[(Q, u32)]) -> Result<boo
 }
 
 #[test]
-fn drops_walks(rt: HostRuntime) -> Result<(), AllocError> {
-    assert!(rt; each_begins(rt.alloc(), &TWO)?);
-    Ok(())
+fn drops_walks(rt: HostRuntime) {
+    holds!(rt; done(&rt, each_begins(rt.alloc(), &TWO)));
 }
 
 // Whether a walk gives two items and then ends for good.
@@ -34,9 +35,8 @@ fn two_are_given<Q: BorrowedBytes>(alloc: Global, rows: &[(Q, u32)]) -> Result<b
 }
 
 #[test]
-fn ends_for_good(rt: HostRuntime) -> Result<(), AllocError> {
-    assert!(rt; two_are_given(rt.alloc(), &TWO)?);
-    Ok(())
+fn ends_for_good(rt: HostRuntime) {
+    holds!(rt; done(&rt, two_are_given(rt.alloc(), &TWO)));
 }
 
 // Whether a walk along a key, or under a prefix, gives one item and then ends for good.
@@ -78,9 +78,8 @@ fn gives_one_each<Q: BorrowedBytes>(
 }
 
 #[test]
-fn ends_at_prefixes_for_good(rt: HostRuntime) -> Result<(), AllocError> {
-    assert!(rt; gives_one_each(rt.alloc(), &TWO, b"barn", b"bar")?);
-    Ok(())
+fn ends_at_prefixes_for_good(rt: HostRuntime) {
+    holds!(rt; done(&rt, gives_one_each(rt.alloc(), &TWO, b"barn", b"bar")));
 }
 
 // The longest key that begins a key, and the shortest.
@@ -123,7 +122,6 @@ fn keeps_prefixes<Q: BorrowedBytes>(
 const NESTED: [(&[u8], u32); 2] = [(b"foo", 1), (b"foobar", 2)];
 
 #[test]
-fn keeps_prefixes_of_a_dropped_map(rt: HostRuntime) -> Result<(), AllocError> {
-    assert!(rt; keeps_prefixes(rt.alloc(), &NESTED, b"foobarbaz")?);
-    Ok(())
+fn keeps_prefixes_of_a_dropped_map(rt: HostRuntime) {
+    holds!(rt; done(&rt, keeps_prefixes(rt.alloc(), &NESTED, b"foobarbaz")));
 }

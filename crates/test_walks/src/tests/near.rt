@@ -1,6 +1,8 @@
 //! Keys that are few edits apart, and cursors over them. `.ci/run` runs the tests that end with
 //! `refused_in_turn` with the Nth memory request refused, for each N.
+
 use super::helpers::map_of;
+use crate::tests::asserts::{done, holds};
 use patricia_tree::{BorrowedBytes, GenericPatriciaMap, GenericPatriciaSet, is_within};
 use std::alloc::{AllocError, Global};
 
@@ -21,11 +23,11 @@ fn known_distances(rt: HostRuntime) {
         && is_distance(alloc, "saturday", "sunday", 3)
         && is_distance(alloc, "intention", "execution", 5)
         && is_distance(alloc, "rosettacode", "raisethysword", 8);
-    assert!(rt; words);
+    holds!(rt; words);
     let characters = is_distance(alloc, "あいう", "いう", 1) && is_distance(alloc, "", "あい", 2);
-    assert!(rt; characters);
+    holds!(rt; characters);
     let bytes = is_distance(alloc, "あいう".as_bytes(), "いう".as_bytes(), 3);
-    assert!(rt; bytes);
+    holds!(rt; bytes);
 }
 
 // How many entries a cursor lends, or none where it is refused.
@@ -99,13 +101,13 @@ fn agrees<Q: BorrowedBytes>(
 }
 
 #[test]
-fn lends_each_near_key(rt: HostRuntime) -> Result<(), AllocError> {
-    let map = map_of(rt.alloc(), &ROWS)?;
+fn lends_each_near_key(rt: HostRuntime) {
+    let map = done(&rt, map_of(rt.alloc(), &ROWS));
     for limit in 0..4 {
         let short = agrees(rt.alloc(), &map, &ROWS, b"ab".as_slice(), limit);
-        assert!(rt; short);
+        holds!(rt; short);
         let middle = agrees(rt.alloc(), &map, &ROWS, b"kitten".as_slice(), limit);
-        assert!(rt; middle);
+        holds!(rt; middle);
         let none = agrees(
             rt.alloc(),
             &map,
@@ -113,9 +115,8 @@ fn lends_each_near_key(rt: HostRuntime) -> Result<(), AllocError> {
             b"far from each of the keys".as_slice(),
             limit,
         );
-        assert!(rt; none);
+        holds!(rt; none);
     }
-    Ok(())
 }
 
 // Whether one of two calls is not refused, and each that is not finds two.
@@ -124,12 +125,11 @@ fn are_two(first: Option<usize>, again: Option<usize>) -> bool {
 }
 
 #[test]
-fn entries_refused_in_turn(rt: HostRuntime) -> Result<(), AllocError> {
-    let map = map_of(rt.alloc(), &ROWS)?;
+fn entries_refused_in_turn(rt: HostRuntime) {
+    let map = done(&rt, map_of(rt.alloc(), &ROWS));
     let first = found(&map, b"abe".as_slice(), 1);
     let again = found(&map, b"abe".as_slice(), 1);
-    assert!(rt; are_two(first, again));
-    Ok(())
+    holds!(rt; are_two(first, again));
 }
 
 // A set of the keys of these entries. An insert that is refused is tried once more.
@@ -147,10 +147,9 @@ fn set_of<Q: BorrowedBytes>(
 }
 
 #[test]
-fn elements_refused_in_turn(rt: HostRuntime) -> Result<(), AllocError> {
-    let set = set_of(rt.alloc(), &ROWS)?;
+fn elements_refused_in_turn(rt: HostRuntime) {
+    let set = done(&rt, set_of(rt.alloc(), &ROWS));
     let first = found_in_set(&set, b"abe".as_slice(), 1);
     let again = found_in_set(&set, b"abe".as_slice(), 1);
-    assert!(rt; are_two(first, again));
-    Ok(())
+    holds!(rt; are_two(first, again));
 }

@@ -1,236 +1,238 @@
 //! The examples of the calls of sets, as the documentation has them.
+
+use crate::tests::asserts::{done, holds, same};
 use patricia_tree::{DecodeError, PatriciaSet, StringPatriciaSet, WireError};
 use std::alloc::AllocError;
 use std::vec::Vec;
 
 #[test]
-fn new(rt: HostRuntime) -> Result<(), AllocError> {
+fn new(rt: HostRuntime) {
     // example: set new
     let set = PatriciaSet::new(rt.alloc());
-    assert!(rt; set.is_empty());
+    holds!(rt; set.is_empty());
     // end
-    Ok(())
 }
 
 #[test]
-fn len(rt: HostRuntime) -> Result<(), AllocError> {
+fn len(rt: HostRuntime) {
     // example: set len
     let mut set = StringPatriciaSet::new(rt.alloc());
-    set.insert("foo")?;
-    set.insert("foo")?;
-    assert_eq!(rt; set.len(), 1);
+    done(&rt, set.insert("foo"));
+    done(&rt, set.insert("foo"));
+    same!(rt; set.len(), 1);
     // end
-    Ok(())
 }
 
 #[test]
-fn is_empty(rt: HostRuntime) -> Result<(), AllocError> {
+fn is_empty(rt: HostRuntime) {
     // example: set is_empty
     let mut set = StringPatriciaSet::new(rt.alloc());
-    assert!(rt; set.is_empty());
-    set.insert("")?;
-    assert!(rt; !set.is_empty());
+    holds!(rt; set.is_empty());
+    done(&rt, set.insert(""));
+    holds!(rt; !set.is_empty());
     // end
-    Ok(())
 }
 
 #[test]
-fn clear(rt: HostRuntime) -> Result<(), AllocError> {
+fn clear(rt: HostRuntime) {
     // example: set clear
     let mut set = StringPatriciaSet::new(rt.alloc());
-    set.insert("foo")?;
+    done(&rt, set.insert("foo"));
     set.clear();
-    assert!(rt; set.is_empty());
+    holds!(rt; set.is_empty());
     // end
-    Ok(())
 }
 
 #[test]
-fn contains(rt: HostRuntime) -> Result<(), AllocError> {
+fn contains(rt: HostRuntime) {
     // example: set contains
     let mut set = StringPatriciaSet::new(rt.alloc());
-    set.insert("foo")?;
-    assert!(rt; set.contains("foo"));
-    assert!(rt; !set.contains("bar"));
+    done(&rt, set.insert("foo"));
+    holds!(rt; set.contains("foo"));
+    holds!(rt; !set.contains("bar"));
     // end
-    Ok(())
 }
 
 #[test]
-fn get_longest_common_prefix(rt: HostRuntime) -> Result<(), AllocError> {
+fn get_longest_common_prefix(rt: HostRuntime) {
     // example: set get_longest_common_prefix
     let mut set = StringPatriciaSet::new(rt.alloc());
-    set.insert("foo")?;
-    set.insert("foobar")?;
-    assert_eq!(rt; set.get_longest_common_prefix("foobaz"), Some("foo"));
-    assert_eq!(rt; set.get_longest_common_prefix("bar"), None);
+    done(&rt, set.insert("foo"));
+    done(&rt, set.insert("foobar"));
+    same!(rt; set.get_longest_common_prefix("foobaz"), Some("foo"));
+    same!(rt; set.get_longest_common_prefix("bar"), None);
     // end
-    Ok(())
 }
 
 #[test]
-fn longest_common_prefix_len(rt: HostRuntime) -> Result<(), AllocError> {
+fn longest_common_prefix_len(rt: HostRuntime) {
     // example: set longest_common_prefix_len
     let mut set = StringPatriciaSet::new(rt.alloc());
-    set.insert("foobar")?;
-    assert_eq!(rt; set.longest_common_prefix_len("foobaz"), 5);
+    done(&rt, set.insert("foobar"));
+    same!(rt; set.longest_common_prefix_len("foobaz"), 5);
     // end
-    Ok(())
 }
 
 #[test]
-fn insert(rt: HostRuntime) -> Result<(), AllocError> {
+fn insert(rt: HostRuntime) {
     // example: set insert
     let mut set = StringPatriciaSet::new(rt.alloc());
-    assert!(rt; set.insert("foo")?);
-    assert!(rt; !set.insert("foo")?);
+    holds!(rt; done(&rt, set.insert("foo")));
+    holds!(rt; !done(&rt, set.insert("foo")));
     // end
-    Ok(())
 }
 
 #[test]
-fn remove(rt: HostRuntime) -> Result<(), AllocError> {
+fn remove(rt: HostRuntime) {
     // example: set remove
     let mut set = StringPatriciaSet::new(rt.alloc());
-    set.insert("foo")?;
-    assert!(rt; set.remove("foo")?);
-    assert!(rt; !set.remove("foo")?);
+    done(&rt, set.insert("foo"));
+    holds!(rt; done(&rt, set.remove("foo")));
+    holds!(rt; !done(&rt, set.remove("foo")));
     // end
-    Ok(())
 }
 
 #[test]
-fn clone(rt: HostRuntime) -> Result<(), AllocError> {
+fn clone(rt: HostRuntime) {
     // example: set clone
     let mut set = StringPatriciaSet::new(rt.alloc());
-    set.insert("foo")?;
-    let copy = set.clone()?;
+    done(&rt, set.insert("foo"));
+    let copy = done(&rt, set.clone());
     set.clear();
-    assert!(rt; copy.contains("foo"));
+    holds!(rt; copy.contains("foo"));
     // end
-    Ok(())
 }
 
 #[test]
-fn split_by_prefix(rt: HostRuntime) -> Result<(), AllocError> {
+fn split_by_prefix(rt: HostRuntime) {
     // example: set split_by_prefix
-    let mut set = StringPatriciaSet::from_iter(rt.alloc(), ["rust", "ruby", "python"])?;
-    let split = set.split_by_prefix("ru")?;
-    assert_eq!(rt; split.len(), 2);
-    assert!(rt; split.contains("rust"));
-    assert!(rt; set.contains("python"));
-    // end
-    Ok(())
-}
-
-#[test]
-fn tree_bytes(rt: HostRuntime) -> Result<(), WireError> {
-    // example: set tree_bytes
-    let set = StringPatriciaSet::from_iter(rt.alloc(), ["a"])?;
-    assert_eq!(rt;
-        set.tree_bytes()?.as_slice(),
-        [12, 0, 0, 0, 3, 1, 0, 1, 97].as_slice()
+    let mut set = done(
+        &rt,
+        StringPatriciaSet::from_iter(rt.alloc(), ["rust", "ruby", "python"]),
     );
+    let split = done(&rt, set.split_by_prefix("ru"));
+    same!(rt; split.len(), 2);
+    holds!(rt; split.contains("rust"));
+    holds!(rt; set.contains("python"));
     // end
-    Ok(())
 }
 
 #[test]
-fn from_wire(rt: HostRuntime) -> Result<(), DecodeError> {
+fn tree_bytes(rt: HostRuntime) {
+    // example: set tree_bytes
+    let set = done(&rt, StringPatriciaSet::from_iter(rt.alloc(), ["a"]));
+    same!(rt; done(&rt, set.tree_bytes()).as_slice(), [12, 0, 0, 0, 3, 1, 0, 1, 97].as_slice());
+    // end
+}
+
+#[test]
+fn from_wire(rt: HostRuntime) {
     // example: set from_wire
     let bytes = [12, 0, 0, 0, 3, 1, 0, 1, 97];
-    let values = Vec::from_slice(rt.alloc(), &[()])?;
-    let set = StringPatriciaSet::from_wire(rt.alloc(), &bytes, values)?;
-    assert!(rt; set.contains("a"));
+    let values = done(&rt, Vec::from_slice(rt.alloc(), &[()]));
+    let set = done(
+        &rt,
+        StringPatriciaSet::from_wire(rt.alloc(), &bytes, values),
+    );
+    holds!(rt; set.contains("a"));
     // end
-    Ok(())
 }
 
 #[test]
-fn wide_tree_bytes(rt: HostRuntime) -> Result<(), WireError> {
+fn wide_tree_bytes(rt: HostRuntime) {
     // example: set wide_tree_bytes
-    let set = StringPatriciaSet::from_iter(rt.alloc(), ["a"])?;
-    assert_eq!(rt;
-        set.wide_tree_bytes()?.as_slice(),
+    let set = done(&rt, StringPatriciaSet::from_iter(rt.alloc(), ["a"]));
+    same!(rt;
+        done(&rt, set.wide_tree_bytes()).as_slice(),
         [12, 0, 0, 0, 0, 0, 3, 1, 0, 0, 0, 1, 97].as_slice()
     );
     // end
-    Ok(())
 }
 
 #[test]
-fn from_wide_wire(rt: HostRuntime) -> Result<(), DecodeError> {
+fn from_wide_wire(rt: HostRuntime) {
     // example: set from_wide_wire
     let bytes = [12, 0, 0, 0, 0, 0, 3, 1, 0, 0, 0, 1, 97];
-    let values = Vec::from_slice(rt.alloc(), &[()])?;
-    let set = StringPatriciaSet::from_wide_wire(rt.alloc(), &bytes, values)?;
-    assert!(rt; set.contains("a"));
+    let values = done(&rt, Vec::from_slice(rt.alloc(), &[()]));
+    let set = done(
+        &rt,
+        StringPatriciaSet::from_wide_wire(rt.alloc(), &bytes, values),
+    );
+    holds!(rt; set.contains("a"));
     // end
-    Ok(())
 }
 
 #[test]
-fn extend(rt: HostRuntime) -> Result<(), AllocError> {
+fn extend(rt: HostRuntime) {
     // example: set extend
     let mut set = StringPatriciaSet::new(rt.alloc());
-    set.extend(["foo", "bar", "foo"])?;
-    assert_eq!(rt; set.len(), 2);
+    done(&rt, set.extend(["foo", "bar", "foo"]));
+    same!(rt; set.len(), 2);
     // end
-    Ok(())
 }
 
 #[test]
-fn from_iter(rt: HostRuntime) -> Result<(), AllocError> {
+fn from_iter(rt: HostRuntime) {
     // example: set from_iter
-    let set = StringPatriciaSet::from_iter(rt.alloc(), ["foo", "bar"])?;
-    assert!(rt; set.contains("bar"));
+    let set = done(
+        &rt,
+        StringPatriciaSet::from_iter(rt.alloc(), ["foo", "bar"]),
+    );
+    holds!(rt; set.contains("bar"));
     // end
-    Ok(())
 }
 
 #[test]
-fn iter(rt: HostRuntime) -> Result<(), AllocError> {
+fn iter(rt: HostRuntime) {
     // example: set iter
-    let set = StringPatriciaSet::from_iter(rt.alloc(), ["foo", "bar"])?;
+    let set = done(
+        &rt,
+        StringPatriciaSet::from_iter(rt.alloc(), ["foo", "bar"]),
+    );
     let mut elements = set.iter();
-    assert_eq!(rt; elements.next().transpose()?.as_deref(), Some("bar"));
-    assert_eq!(rt; elements.next().transpose()?.as_deref(), Some("foo"));
-    assert!(rt; elements.next().is_none());
+    same!(rt; done(&rt, elements.next().transpose()).as_deref(), Some("bar"));
+    same!(rt; done(&rt, elements.next().transpose()).as_deref(), Some("foo"));
+    holds!(rt; elements.next().is_none());
     // end
-    Ok(())
 }
 
 #[test]
-fn iter_prefix(rt: HostRuntime) -> Result<(), AllocError> {
+fn iter_prefix(rt: HostRuntime) {
     // example: set iter_prefix
-    let set = StringPatriciaSet::from_iter(rt.alloc(), ["foo", "bar", "baz"])?;
+    let set = done(
+        &rt,
+        StringPatriciaSet::from_iter(rt.alloc(), ["foo", "bar", "baz"]),
+    );
     let mut elements = set.iter_prefix("ba");
-    assert_eq!(rt; elements.next().transpose()?.as_deref(), Some("bar"));
-    assert_eq!(rt; elements.next().transpose()?.as_deref(), Some("baz"));
-    assert!(rt; elements.next().is_none());
+    same!(rt; done(&rt, elements.next().transpose()).as_deref(), Some("bar"));
+    same!(rt; done(&rt, elements.next().transpose()).as_deref(), Some("baz"));
+    holds!(rt; elements.next().is_none());
     // end
-    Ok(())
 }
 
 #[test]
-fn cursor(rt: HostRuntime) -> Result<(), AllocError> {
+fn cursor(rt: HostRuntime) {
     // example: set cursor
-    let set = StringPatriciaSet::from_iter(rt.alloc(), ["foo", "bar"])?;
+    let set = done(
+        &rt,
+        StringPatriciaSet::from_iter(rt.alloc(), ["foo", "bar"]),
+    );
     let mut cursor = set.cursor();
-    assert!(rt; cursor.advance()?);
-    assert_eq!(rt; cursor.text(), Some("bar"));
+    holds!(rt; done(&rt, cursor.advance()));
+    same!(rt; cursor.text(), Some("bar"));
     // end
-    Ok(())
 }
 
 #[test]
-fn cursor_under(rt: HostRuntime) -> Result<(), AllocError> {
+fn cursor_under(rt: HostRuntime) {
     // example: set cursor_under
-    let set = StringPatriciaSet::from_iter(rt.alloc(), ["foo", "bar", "baz"])?;
+    let set = done(
+        &rt,
+        StringPatriciaSet::from_iter(rt.alloc(), ["foo", "bar", "baz"]),
+    );
     let mut cursor = set.cursor_under("f");
-    assert!(rt; cursor.advance()?);
-    assert_eq!(rt; cursor.text(), Some("foo"));
-    assert!(rt; !cursor.advance()?);
+    holds!(rt; done(&rt, cursor.advance()));
+    same!(rt; cursor.text(), Some("foo"));
+    holds!(rt; !done(&rt, cursor.advance()));
     // end
-    Ok(())
 }

@@ -1,10 +1,11 @@
 // Nodes that removals and splits free are used again, so that the vector of nodes grows no further.
 // A copy has no free node.
+
+use crate::tests::asserts::{done, holds, same};
 use patricia_core::keys::{BorrowedBytes, Bytes};
 use patricia_core::tree::Tree;
 use std::alloc::AllocError;
 use std::process::Abort;
-use std::test::Fail;
 
 // Inserts a key, and returns whether it is new.
 fn is_put<Q: BorrowedBytes>(
@@ -25,7 +26,7 @@ fn put_all<Q: BorrowedBytes>(
     keys: &[Q],
 ) -> Result<(), AllocError> {
     for (n, key) in keys.iter().enumerate() {
-        assert!(rt; is_put(tree, *key, n)?);
+        holds!(rt; is_put(tree, *key, n)?);
     }
     Ok(())
 }
@@ -37,7 +38,7 @@ fn remove_all<Q: BorrowedBytes>(
     keys: &[Q],
 ) -> Result<(), AllocError> {
     for (n, key) in keys.iter().enumerate() {
-        assert_eq!(rt; tree.remove(*key)?, Some(n));
+        same!(rt; tree.remove(*key)?, Some(n));
     }
     Ok(())
 }
@@ -49,7 +50,7 @@ fn put_and_remove<Q: BorrowedBytes>(
     keys: &[Q],
 ) -> Result<(), AllocError> {
     put_all(rt, tree, keys)?;
-    assert!(rt; tree.len() == keys.len());
+    holds!(rt; tree.len() == keys.len());
     remove_all(rt, tree, keys)
 }
 
@@ -63,17 +64,16 @@ fn repeat<Q: BorrowedBytes>(
 ) -> Result<(), AllocError> {
     for _ in 0..rounds {
         put_and_remove(rt, tree, keys)?;
-        assert!(rt; tree.is_empty() & (tree.slots() == slots));
+        holds!(rt; tree.is_empty() & (tree.slots() == slots));
     }
     Ok(())
 }
 
 #[test]
-fn one_node(rt: HostRuntime) -> Result<(), Fail> {
+fn one_node(rt: HostRuntime) {
     let mut tree = Tree::new(rt.alloc());
-    assert_eq!(rt; tree.slots(), 0);
-    repeat(&rt, &mut tree, &[b"foo".as_slice()], 10_000, 1)?;
-    Ok(())
+    same!(rt; tree.slots(), 0);
+    done(&rt, repeat(&rt, &mut tree, &[b"foo".as_slice()], 10_000, 1));
 }
 
 // The node that the second key divides is joined again, and the keys of a row are freed from its
@@ -83,10 +83,9 @@ const KEYS: [&str; 11] = [
 ];
 
 #[test]
-fn many_nodes(rt: HostRuntime) -> Result<(), Fail> {
+fn many_nodes(rt: HostRuntime) {
     let mut tree = Tree::new(rt.alloc());
-    repeat(&rt, &mut tree, &KEYS, 1_000, 12)?;
-    Ok(())
+    done(&rt, repeat(&rt, &mut tree, &KEYS, 1_000, 12));
 }
 
 // Takes those under a prefix out at once, and answers into how many nodes.
@@ -107,7 +106,7 @@ fn split_out<Q: BorrowedBytes>(
     slots: usize,
 ) -> Result<(), AllocError> {
     put_all(rt, tree, keys)?;
-    assert!(rt; split_slots(tree, prefix)? == slots);
+    holds!(rt; split_slots(tree, prefix)? == slots);
     Ok(())
 }
 
@@ -122,7 +121,7 @@ fn split_and_remove<Q: BorrowedBytes>(
     for _ in 0..1_000 {
         split_out(rt, tree, keys, prefix, 3)?;
         remove_all(rt, tree, first)?;
-        assert!(rt; tree.is_empty());
+        holds!(rt; tree.is_empty());
     }
     Ok(())
 }
@@ -148,17 +147,16 @@ fn split_often<Q: BorrowedBytes>(
     prefix: Q,
 ) -> Result<(), AllocError> {
     split_and_remove(rt, tree, keys, prefix)?;
-    assert!(rt; tree.slots() == 4);
+    holds!(rt; tree.slots() == 4);
     split_and_clear(rt, tree, keys, prefix)?;
-    assert!(rt; tree.slots() <= 4);
+    holds!(rt; tree.slots() <= 4);
     Ok(())
 }
 
 #[test]
-fn split_nodes(rt: HostRuntime) -> Result<(), Fail> {
+fn split_nodes(rt: HostRuntime) {
     let mut tree = Tree::new(rt.alloc());
-    split_often(&rt, &mut tree, &["x", "abc", "abd"], "ab")?;
-    Ok(())
+    done(&rt, split_often(&rt, &mut tree, &["x", "abc", "abd"], "ab"));
 }
 
 // How many nodes a copy has.
@@ -176,8 +174,8 @@ fn check_copy<Q: BorrowedBytes>(
     slots: usize,
 ) -> Result<(), AllocError> {
     put_all(rt, tree, keys)?;
-    assert!(rt; tree.remove(removed)?.is_some());
-    assert!(rt; copy_slots(tree)? == slots);
+    holds!(rt; tree.remove(removed)?.is_some());
+    holds!(rt; copy_slots(tree)? == slots);
     tree.clear();
     Ok(())
 }
@@ -189,8 +187,7 @@ fn check_copies(rt: &impl Abort, tree: &mut Tree<String, usize>) -> Result<(), A
 }
 
 #[test]
-fn copied_nodes(rt: HostRuntime) -> Result<(), Fail> {
+fn copied_nodes(rt: HostRuntime) {
     let mut tree = Tree::new(rt.alloc());
-    check_copies(&rt, &mut tree)?;
-    Ok(())
+    done(&rt, check_copies(&rt, &mut tree));
 }

@@ -1,23 +1,25 @@
 //! Trees as deep as can be written. `.ci/run` runs these tests under a call stack of 512 KiB, too.
+
 use super::helpers::{chain, numbers};
 use super::levels::Levels;
 use super::reader::{end_of, records_of};
+use crate::tests::asserts::{done, holds, same};
 use patricia_tree::{
     BorrowedBytes, Bytes, DecodeError, GenericPatriciaMap, PatriciaMap, WireError,
 };
-use std::alloc::{AllocError, Global};
+use std::alloc::Global;
 use std::process::Abort;
-use std::test::Fail;
 
 // A byte map of a chain, with these values.
 fn map_of_chain(
+    rt: &impl Abort,
     alloc: Global,
     flags: u8,
     last: u8,
     values: Vec<u64>,
-) -> Result<PatriciaMap<u64>, Fail> {
-    let tree = chain(alloc, flags, last)?;
-    Ok(PatriciaMap::from_wire(alloc, &tree, values)?)
+) -> PatriciaMap<u64> {
+    let tree = done(rt, chain(alloc, flags, last));
+    done(rt, PatriciaMap::from_wire(alloc, &tree, values))
 }
 
 // Whether a map has so many keys, and one of them with a value.
@@ -53,21 +55,19 @@ fn check_joined<Q: BorrowedBytes>(
     alloc: Global,
     map: &GenericPatriciaMap<Q::Owned, u64>,
     key: Q,
-) -> Result<(), WireError> {
-    assert!(rt; has(map, 1, key, 9));
-    assert!(rt; tree_len(map)? == 66_567);
-    assert!(rt; written(alloc, map)? == (258, 66_567));
-    Ok(())
+) {
+    holds!(rt; has(map, 1, key, 9));
+    holds!(rt; done(rt, tree_len(map)) == 66_567);
+    holds!(rt; done(rt, written(alloc, map)) == (258, 66_567));
 }
 
 // The written form has the root and 257 pieces of 255 bytes, in place of a record for each byte.
 #[test]
-fn lone_children_are_joined(rt: HostRuntime) -> Result<(), Fail> {
-    let values = Vec::from_slice(rt.alloc(), &[9])?;
-    let map = map_of_chain(rt.alloc(), 12, 3, values)?;
-    let key = b"a".repeat(rt.alloc(), 65_535)?;
-    check_joined(&rt, rt.alloc(), &map, key.as_slice())?;
-    Ok(())
+fn lone_children_are_joined(rt: HostRuntime) {
+    let values = done(&rt, Vec::from_slice(rt.alloc(), &[9]));
+    let map = map_of_chain(&rt, rt.alloc(), 12, 3, values);
+    let key = done(&rt, b"a".repeat(rt.alloc(), 65_535));
+    check_joined(&rt, rt.alloc(), &map, key.as_slice());
 }
 
 // A key of each length up to 65,535 is there, with its length as its value.
@@ -75,10 +75,9 @@ fn check_filled<Q: BorrowedBytes>(
     rt: &impl Abort,
     map: &GenericPatriciaMap<Q::Owned, u64>,
     last: Q,
-) -> Result<(), WireError> {
-    assert!(rt; has(map, 65_535, last, 65_535));
-    assert!(rt; tree_len(map)? == 327_679);
-    Ok(())
+) {
+    holds!(rt; has(map, 65_535, last, 65_535));
+    holds!(rt; done(rt, tree_len(map)) == 327_679);
 }
 
 // One more goes in, and then the map is too deep to be written.
@@ -89,22 +88,18 @@ fn check_longer<Q: BorrowedBytes>(
 ) {
     let is_new = map.get(longer).is_none();
     let is_put = map.insert(longer, 65_536).is_ok();
-    assert!(rt; is_new & is_put & has(map, 65_536, longer, 65_536));
-    assert!(rt; tree_len(map).err() == Some(WireError::TooDeep));
+    holds!(rt; is_new & is_put & has(map, 65_536, longer, 65_536));
+    holds!(rt; tree_len(map).err() == Some(WireError::TooDeep));
 }
 
 // The map is written with wide levels, and read again.
-fn check_wide<K: Bytes>(
-    rt: &impl Abort,
-    alloc: Global,
-    map: &GenericPatriciaMap<K, u64>,
-) -> Result<(), Fail> {
-    let tree = map.wide_tree_bytes()?;
-    assert!(rt; tree.len() == 458_758);
-    assert!(rt; tree.ends_with(&[3, 1, 0, 1, 0, 0, b'a']));
-    let read = GenericPatriciaMap::<K, u64>::from_wide_wire(alloc, &tree, numbers(alloc, 65_536)?)?;
-    assert!(rt; read.len() == 65_536);
-    Ok(())
+fn check_wide<K: Bytes>(rt: &impl Abort, alloc: Global, map: &GenericPatriciaMap<K, u64>) {
+    let tree = done(rt, map.wide_tree_bytes());
+    holds!(rt; tree.len() == 458_758);
+    holds!(rt; tree.ends_with(&[3, 1, 0, 1, 0, 0, b'a']));
+    let values = done(rt, numbers(alloc, 65_536));
+    let read = GenericPatriciaMap::<K, u64>::from_wide_wire(alloc, &tree, values);
+    holds!(rt; done(rt, read).len() == 65_536);
 }
 
 // Whether this is what is split from a map of 65,536 keys by a prefix of 1,000 bytes.
@@ -118,10 +113,9 @@ fn check_split<Q: BorrowedBytes>(
     map: &mut GenericPatriciaMap<Q::Owned, u64>,
     prefix: Q,
     longer: Q,
-) -> Result<(), AllocError> {
-    let is_right = is_part(map.split_by_prefix(prefix)?, longer);
-    assert!(rt; is_right & (map.len() == 999));
-    Ok(())
+) {
+    let is_right = is_part(done(rt, map.split_by_prefix(prefix)), longer);
+    holds!(rt; is_right & (map.len() == 999));
 }
 
 // A copy is split, and the map stays as it is.
@@ -130,11 +124,10 @@ fn check_parted<Q: BorrowedBytes>(
     map: &GenericPatriciaMap<Q::Owned, u64>,
     prefix: Q,
     longer: Q,
-) -> Result<(), AllocError> {
-    let mut copy = map.clone()?;
-    check_split(rt, &mut copy, prefix, longer)?;
-    assert!(rt; map.len() == 65_536);
-    Ok(())
+) {
+    let mut copy = done(rt, map.clone());
+    check_split(rt, &mut copy, prefix, longer);
+    holds!(rt; map.len() == 65_536);
 }
 
 // The first so many bytes.
@@ -142,51 +135,37 @@ fn front(bytes: &[u8], len: usize) -> &[u8] {
     bytes.get(..len).unwrap_or(bytes)
 }
 
-fn check_levels(
-    rt: &impl Abort,
-    alloc: Global,
-    map: &mut PatriciaMap<u64>,
-    longer: &[u8],
-) -> Result<(), Fail> {
-    check_filled(rt, map, front(longer, 65_535))?;
+fn check_levels(rt: &impl Abort, alloc: Global, map: &mut PatriciaMap<u64>, longer: &[u8]) {
+    check_filled(rt, map, front(longer, 65_535));
     check_longer(rt, map, longer);
-    check_wide(rt, alloc, map)?;
-    check_parted(rt, map, front(longer, 1_000), longer)?;
-    Ok(())
+    check_wide(rt, alloc, map);
+    check_parted(rt, map, front(longer, 1_000), longer);
 }
 
 #[test]
-fn a_key_at_each_level(rt: HostRuntime) -> Result<(), Fail> {
-    let values = numbers(rt.alloc(), 65_535)?;
-    let mut map = map_of_chain(rt.alloc(), 15, 3, values)?;
-    let longer = b"a".repeat(rt.alloc(), 65_536)?;
-    check_levels(&rt, rt.alloc(), &mut map, &longer)
+fn a_key_at_each_level(rt: HostRuntime) {
+    let values = done(&rt, numbers(rt.alloc(), 65_535));
+    let mut map = map_of_chain(&rt, rt.alloc(), 15, 3, values);
+    let longer = done(&rt, b"a".repeat(rt.alloc(), 65_536));
+    check_levels(&rt, rt.alloc(), &mut map, &longer);
 }
 
 // Asserts the fault of a byte map that is read with the numbers from 1 on.
-fn check_fault(
-    rt: &impl Abort,
-    alloc: Global,
-    tree: &[u8],
-    count: u64,
-    wanted: DecodeError,
-) -> Result<(), AllocError> {
-    let values = numbers(alloc, count)?;
+fn check_fault(rt: &impl Abort, alloc: Global, tree: &[u8], count: u64, wanted: DecodeError) {
+    let values = done(rt, numbers(alloc, count));
     let fault = PatriciaMap::from_wire(alloc, tree, values).err();
-    assert_eq!(rt; fault, Some(wanted));
-    Ok(())
+    same!(rt; fault, Some(wanted));
 }
 
-fn check_below(rt: &impl Abort, alloc: Global, tree: &mut Vec<u8>) -> Result<(), AllocError> {
-    check_fault(rt, alloc, tree, 65_535, DecodeError::Truncated(327_679))?;
-    tree.extend_from_slice(&[3, 1, 0, 0, b'a'])?;
-    check_fault(rt, alloc, tree, 65_536, DecodeError::Level(327_679))
+fn check_below(rt: &impl Abort, alloc: Global, tree: &mut Vec<u8>) {
+    check_fault(rt, alloc, tree, 65_535, DecodeError::Truncated(327_679));
+    done(rt, tree.extend_from_slice(&[3, 1, 0, 0, b'a']));
+    check_fault(rt, alloc, tree, 65_536, DecodeError::Level(327_679));
 }
 
 // The last record has a child, which is missing, or at a level that can't be written.
 #[test]
-fn a_child_below_the_last_level(rt: HostRuntime) -> Result<(), Fail> {
-    let mut tree = chain(rt.alloc(), 15, 15)?;
-    check_below(&rt, rt.alloc(), &mut tree)?;
-    Ok(())
+fn a_child_below_the_last_level(rt: HostRuntime) {
+    let mut tree = done(&rt, chain(rt.alloc(), 15, 15));
+    check_below(&rt, rt.alloc(), &mut tree);
 }

@@ -1,9 +1,10 @@
 //! Inputs that claim much and hold little. `.ci/run` asks that no request of this test is large.
+
 use super::levels::Levels;
+use crate::tests::asserts::{done, same};
 use patricia_tree::DecodeError;
 use std::alloc::{AllocError, Global};
 use std::process::Abort;
-use std::test::Fail;
 
 // A million times `()`, which does not allocate.
 fn nothings(alloc: Global) -> Result<Vec<()>, AllocError> {
@@ -41,25 +42,17 @@ const WIDE_CLAIMS: [(&[u8], DecodeError); 4] = [
 ];
 
 // Asserts how a set is refused that is read with a million values.
-fn check_claim(
-    rt: &impl Abort,
-    alloc: Global,
-    levels: Levels,
-    tree: &[u8],
-    fault: DecodeError,
-) -> Result<(), AllocError> {
-    let read = levels.read_set::<Vec<u8>>(alloc, tree, nothings(alloc)?);
-    assert_eq!(rt; read.err(), Some(fault));
-    Ok(())
+fn check_claim(rt: &impl Abort, alloc: Global, levels: Levels, tree: &[u8], fault: DecodeError) {
+    let read = levels.read_set::<Vec<u8>>(alloc, tree, done(rt, nothings(alloc)));
+    same!(rt; read.err(), Some(fault));
 }
 
 #[test]
-fn little_is_asked_for(rt: HostRuntime) -> Result<(), Fail> {
+fn little_is_asked_for(rt: HostRuntime) {
     for (tree, fault) in &CLAIMS {
-        check_claim(&rt, rt.alloc(), Levels::Narrow, tree, *fault)?;
+        check_claim(&rt, rt.alloc(), Levels::Narrow, tree, *fault);
     }
     for (tree, fault) in &WIDE_CLAIMS {
-        check_claim(&rt, rt.alloc(), Levels::Wide, tree, *fault)?;
+        check_claim(&rt, rt.alloc(), Levels::Wide, tree, *fault);
     }
-    Ok(())
 }

@@ -1,12 +1,13 @@
 //! Three encodings, with levels of each width, of which each byte is each other byte in turn, and
 //! of which each proper prefix is read. What is read is compared with what the plain reader of
 //! these tests reads.
+
 use super::levels::Levels;
 use super::reader::{Kind, Row, read};
+use crate::tests::asserts::{done, same};
 use patricia_tree::{DecodeError, GenericPatriciaMap, PatriciaMap};
 use std::alloc::{AllocError, Global};
 use std::process::Abort;
-use std::test::Fail;
 
 // The keys bar, baz and foo.
 const THREE: [u8; 27] = [
@@ -103,16 +104,13 @@ fn check_changes<K: Kind>(
     levels: Levels,
     tree: &[u8],
     values: &[u64],
-) -> Result<(), AllocError> {
+) {
     for at in 0..tree.len() {
         for byte in 0..=u8::MAX {
-            assert!(rt;
-                is_change_right::<K>(alloc, levels, tree, values, at, byte)?,
-                "{byte} at {at}"
-            );
+            let is_right = is_change_right::<K>(alloc, levels, tree, values, at, byte);
+            assert!(rt; done(rt, is_right), "{byte} at {at}");
         }
     }
-    Ok(())
 }
 
 // The first so many bytes.
@@ -150,14 +148,14 @@ fn check_cuts<K: Kind>(
     tree: &[u8],
     values: &[u64],
     starts: &[usize],
-) -> Result<(), AllocError> {
+) {
     for len in 0..tree.len() {
         let cut = front(tree, len);
         let wanted = DecodeError::Truncated(greatest_up_to(starts, len));
-        assert_eq!(rt; fault_of::<K>(alloc, levels, cut, values)?, Some(wanted));
-        assert!(rt; agrees::<K>(alloc, levels, cut, values)?, "cut to {len}");
+        same!(rt; done(rt, fault_of::<K>(alloc, levels, cut, values)), Some(wanted));
+        let agrees = agrees::<K>(alloc, levels, cut, values);
+        assert!(rt; done(rt, agrees), "cut to {len}");
     }
-    Ok(())
 }
 
 // Each change of one byte, and each proper prefix. The records begin at these places.
@@ -168,9 +166,9 @@ fn check_damage<K: Kind>(
     tree: &[u8],
     values: &[u64],
     starts: &[usize],
-) -> Result<(), AllocError> {
-    check_changes::<K>(rt, alloc, levels, tree, values)?;
-    check_cuts::<K>(rt, alloc, levels, tree, values, starts)
+) {
+    check_changes::<K>(rt, alloc, levels, tree, values);
+    check_cuts::<K>(rt, alloc, levels, tree, values, starts);
 }
 
 // Asserts that a map has these keys alone, each with its value.
@@ -181,9 +179,9 @@ fn check_keys<K: Kind>(
     values: &[u64],
 ) {
     for (key, value) in keys.iter().zip(values) {
-        assert_eq!(rt; K::value_at(map, key), Some(*value));
+        same!(rt; K::value_at(map, key), Some(*value));
     }
-    assert_eq!(rt; map.len(), keys.len());
+    same!(rt; map.len(), keys.len());
 }
 
 // Asserts that an encoding has these keys.
@@ -194,60 +192,44 @@ fn check_whole<K: Kind>(
     tree: &[u8],
     keys: &[&[u8]],
     values: &[u64],
-) -> Result<(), DecodeError> {
-    let owned = Vec::from_slice(alloc, values)?;
-    let map = levels.read_map::<K>(alloc, tree, owned)?;
+) {
+    let owned = done(rt, Vec::from_slice(alloc, values));
+    let map = done(rt, levels.read_map::<K>(alloc, tree, owned));
     check_keys(rt, &map, keys, values);
-    Ok(())
 }
 
 // Asserts what the keys bar, baz and foo are read as, and with damage. The records begin at these
 // places.
-fn check_three(
-    rt: &impl Abort,
-    alloc: Global,
-    levels: Levels,
-    tree: &[u8],
-    starts: &[usize],
-) -> Result<(), DecodeError> {
+fn check_three(rt: &impl Abort, alloc: Global, levels: Levels, tree: &[u8], starts: &[usize]) {
     let keys: [&[u8]; 3] = [b"bar", b"baz", b"foo"];
-    check_whole::<Vec<u8>>(rt, alloc, levels, tree, &keys, &THREE_VALUES)?;
-    check_damage::<Vec<u8>>(rt, alloc, levels, tree, &THREE_VALUES, starts)?;
-    Ok(())
+    check_whole::<Vec<u8>>(rt, alloc, levels, tree, &keys, &THREE_VALUES);
+    check_damage::<Vec<u8>>(rt, alloc, levels, tree, &THREE_VALUES, starts);
 }
 
 #[test]
-fn three_keys(rt: HostRuntime) -> Result<(), Fail> {
-    check_three(&rt, rt.alloc(), Levels::Narrow, &THREE, &[0, 4, 10, 15, 20])?;
+fn three_keys(rt: HostRuntime) {
+    check_three(&rt, rt.alloc(), Levels::Narrow, &THREE, &[0, 4, 10, 15, 20]);
     check_three(
         &rt,
         rt.alloc(),
         Levels::Wide,
         &WIDE_THREE,
         &[0, 6, 14, 21, 28],
-    )?;
-    Ok(())
+    );
 }
 
 // The same of the empty key and a.
-fn check_two(
-    rt: &impl Abort,
-    alloc: Global,
-    levels: Levels,
-    tree: &[u8],
-) -> Result<(), DecodeError> {
+fn check_two(rt: &impl Abort, alloc: Global, levels: Levels, tree: &[u8]) {
     let keys: [&[u8]; 2] = [b"", b"a"];
-    check_whole::<Vec<u8>>(rt, alloc, levels, tree, &keys, &TWO_VALUES)?;
+    check_whole::<Vec<u8>>(rt, alloc, levels, tree, &keys, &TWO_VALUES);
     let starts = [0, levels.head()];
-    check_damage::<Vec<u8>>(rt, alloc, levels, tree, &TWO_VALUES, &starts)?;
-    Ok(())
+    check_damage::<Vec<u8>>(rt, alloc, levels, tree, &TWO_VALUES, &starts);
 }
 
 #[test]
-fn an_empty_key(rt: HostRuntime) -> Result<(), Fail> {
-    check_two(&rt, rt.alloc(), Levels::Narrow, &EMPTY_AND_A)?;
-    check_two(&rt, rt.alloc(), Levels::Wide, &WIDE_EMPTY_AND_A)?;
-    Ok(())
+fn an_empty_key(rt: HostRuntime) {
+    check_two(&rt, rt.alloc(), Levels::Narrow, &EMPTY_AND_A);
+    check_two(&rt, rt.alloc(), Levels::Wide, &WIDE_EMPTY_AND_A);
 }
 
 // The key with which the third encoding begins.
@@ -258,25 +240,18 @@ fn long_key(alloc: Global) -> Result<Vec<u8>, AllocError> {
 }
 
 // The same of the third encoding.
-fn check_long(
-    rt: &impl Abort,
-    alloc: Global,
-    levels: Levels,
-    starts: &[usize],
-) -> Result<(), DecodeError> {
-    let tree = long_text(alloc, levels)?;
-    let long = long_key(alloc)?;
+fn check_long(rt: &impl Abort, alloc: Global, levels: Levels, starts: &[usize]) {
+    let tree = done(rt, long_text(alloc, levels));
+    let long = done(rt, long_key(alloc));
     let keys: [&[u8]; 2] = [&long, b"b"];
-    check_whole::<String>(rt, alloc, levels, &tree, &keys, &TWO_VALUES)?;
-    check_damage::<String>(rt, alloc, levels, &tree, &TWO_VALUES, starts)?;
-    Ok(())
+    check_whole::<String>(rt, alloc, levels, &tree, &keys, &TWO_VALUES);
+    check_damage::<String>(rt, alloc, levels, &tree, &TWO_VALUES, starts);
 }
 
 #[test]
-fn a_long_text(rt: HostRuntime) -> Result<(), Fail> {
-    check_long(&rt, rt.alloc(), Levels::Narrow, &[0, 4, 262, 272])?;
-    check_long(&rt, rt.alloc(), Levels::Wide, &[0, 6, 266, 278])?;
-    Ok(())
+fn a_long_text(rt: HostRuntime) {
+    check_long(&rt, rt.alloc(), Levels::Narrow, &[0, 4, 262, 272]);
+    check_long(&rt, rt.alloc(), Levels::Wide, &[0, 6, 266, 278]);
 }
 
 // Another byte at a place of the first encoding, and what is wrong then.
@@ -318,16 +293,12 @@ fn check_change(
     levels: Levels,
     tree: &[u8],
     wanted: Option<DecodeError>,
-) -> Result<(), DecodeError> {
-    assert_eq!(rt;
-        fault_of::<Vec<u8>>(alloc, levels, tree, &THREE_VALUES)?,
-        wanted
-    );
+) {
+    same!(rt; done(rt, fault_of::<Vec<u8>>(alloc, levels, tree, &THREE_VALUES)), wanted);
     if wanted.is_none() {
         let keys: [&[u8]; 3] = [b"bar", b"baz", b"foo"];
-        check_whole::<Vec<u8>>(rt, alloc, levels, tree, &keys, &THREE_VALUES)?;
+        check_whole::<Vec<u8>>(rt, alloc, levels, tree, &keys, &THREE_VALUES);
     }
-    Ok(())
 }
 
 // Asserts what is wrong with each of some changes.
@@ -337,17 +308,15 @@ fn check_each(
     levels: Levels,
     tree: &[u8],
     changes: &[(usize, u8, Option<DecodeError>)],
-) -> Result<(), DecodeError> {
+) {
     for (at, byte, wanted) in changes {
-        let tree = changed(alloc, tree, *at, *byte)?;
-        check_change(rt, alloc, levels, &tree, *wanted)?;
+        let tree = done(rt, changed(alloc, tree, *at, *byte));
+        check_change(rt, alloc, levels, &tree, *wanted);
     }
-    Ok(())
 }
 
 #[test]
-fn one_byte(rt: HostRuntime) -> Result<(), Fail> {
-    check_each(&rt, rt.alloc(), Levels::Narrow, &THREE, &CHANGES)?;
-    check_each(&rt, rt.alloc(), Levels::Wide, &WIDE_THREE, &WIDE_CHANGES)?;
-    Ok(())
+fn one_byte(rt: HostRuntime) {
+    check_each(&rt, rt.alloc(), Levels::Narrow, &THREE, &CHANGES);
+    check_each(&rt, rt.alloc(), Levels::Wide, &WIDE_THREE, &WIDE_CHANGES);
 }

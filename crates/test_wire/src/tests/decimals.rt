@@ -1,4 +1,6 @@
 //! Ten thousand keys, through tree bytes, JSON and back.
+
+use crate::tests::asserts::holds;
 use patricia_tree::wire::{WireError, pair_from_json, pair_to_json};
 use patricia_tree::{Bytes, GenericPatriciaMap, PatriciaMap};
 use serde_json::Value;
@@ -100,7 +102,7 @@ fn is_right(alloc: Global, map: &PatriciaMap<Value>, tree: &[u8]) -> Result<bool
 // Asserts that a JSON has the decimals in this tree.
 fn check_json(rt: &impl Abort, alloc: Global, text: &str, tree: &[u8]) -> Result<(), Fail> {
     let read = map_of_json(alloc, text)?;
-    assert!(rt; is_right(alloc, &read, tree)?);
+    holds!(rt; is_right(alloc, &read, tree)?);
     Ok(())
 }
 

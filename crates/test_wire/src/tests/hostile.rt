@@ -7,11 +7,11 @@ mod trees;
 
 use super::helpers::numbers;
 use super::levels::Levels;
+use crate::tests::asserts::{done, holds};
 use chance::Chance;
 use patricia_tree::{Bytes, DecodeError};
 use std::alloc::{AllocError, Global};
 use std::process::Abort;
-use std::test::Fail;
 
 // How many encodings are read where the environment's HOSTILE_INPUTS names no number.
 const INPUTS: u32 = 20_000;
@@ -34,7 +34,7 @@ struct Calls {
 fn tell(rt: &impl Abort, calls: Calls, bytes: usize) {
     if calls.are_counted {
         let refused = Vec::<u8>::with_capacity(calls.alloc, bytes);
-        assert!(rt; refused.is_err());
+        holds!(rt; refused.is_err());
     }
 }
 
@@ -60,7 +60,7 @@ fn read_map<K: Bytes>(
     let read = levels.read_map::<K>(calls.alloc, tree, values);
     tell(rt, calls, ENDS);
     let fault = read.err();
-    assert!(rt; fault != Some(DecodeError::Memory));
+    holds!(rt; fault != Some(DecodeError::Memory));
     Ok(fault.is_none())
 }
 
@@ -77,7 +77,7 @@ fn read_set<K: Bytes>(
     let read = levels.read_set::<K>(calls.alloc, tree, values);
     tell(rt, calls, ENDS);
     let fault = read.err();
-    assert!(rt; fault != Some(DecodeError::Memory));
+    holds!(rt; fault != Some(DecodeError::Memory));
     Ok(fault.is_none())
 }
 
@@ -133,15 +133,14 @@ fn number(text: Option<String>) -> Option<u32> {
 }
 
 #[test]
-fn no_claim_is_believed(rt: HostRuntime) -> Result<(), Fail> {
+fn no_claim_is_believed(rt: HostRuntime) {
     let asked = number(std::env::var(&rt, "HOSTILE_INPUTS").ok());
     let calls = Calls {
         alloc: rt.alloc(),
         are_counted: asked.is_some(),
     };
     let inputs = asked.unwrap_or(INPUTS);
-    let count = count_read(&rt, calls, inputs)?;
+    let count = done(&rt, count_read(&rt, calls, inputs));
     // some are not damaged, or in a place that says nothing
-    assert!(rt; (count > inputs / 8) & (count < inputs / 2));
-    Ok(())
+    holds!(rt; (count > inputs / 8) & (count < inputs / 2));
 }

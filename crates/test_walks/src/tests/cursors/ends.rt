@@ -1,5 +1,7 @@
 //! Cursors that are dropped before they have lent all, or anything.
+
 use super::helpers::{add, has_more};
+use crate::tests::asserts::{done, holds};
 use crate::tests::helpers::map_of;
 use patricia_tree::{BorrowedBytes, Bytes, GenericPatriciaMap};
 use std::alloc::AllocError;
@@ -38,19 +40,17 @@ fn lends_one<Q: BorrowedBytes>(
 }
 
 #[test]
-fn before_a_step(rt: HostRuntime) -> Result<(), AllocError> {
+fn before_a_step(rt: HostRuntime) {
     let rows = [("bar", 2), ("baz", 3)];
-    let mut map = map_of(rt.alloc(), &rows)?;
-    assert!(rt; lends_nothing(&mut map, "ba"));
-    assert!(rt; has_more(&map, "none", &rows));
-    Ok(())
+    let mut map = done(&rt, map_of(rt.alloc(), &rows));
+    holds!(rt; lends_nothing(&mut map, "ba"));
+    holds!(rt; has_more(&map, "none", &rows));
 }
 
 #[test]
-fn after_a_step(rt: HostRuntime) -> Result<(), AllocError> {
+fn after_a_step(rt: HostRuntime) {
     let rows = [("bar", 2), ("baz", 3)];
-    let mut map = map_of(rt.alloc(), &rows)?;
-    assert!(rt; lends_one(&mut map, "bar", 2)?);
-    assert!(rt; has_more(&map, "bar", &rows));
-    Ok(())
+    let mut map = done(&rt, map_of(rt.alloc(), &rows));
+    holds!(rt; done(&rt, lends_one(&mut map, "bar", 2)));
+    holds!(rt; has_more(&map, "bar", &rows));
 }

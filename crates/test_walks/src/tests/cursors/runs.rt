@@ -1,5 +1,7 @@
 //! Runs of cursors over maps, each of whose steps may be refused and is then made once more.
+
 use super::helpers::{add, has_more};
+use crate::tests::asserts::holds;
 use crate::tests::helpers::map_of;
 use patricia_tree::map::{IterMut, IterPrefixMut, ValuesMut};
 use patricia_tree::{BorrowedBytes, Bytes, GenericPatriciaMap};
@@ -324,10 +326,10 @@ pub(super) fn check_all<Q: BorrowedBytes>(
     most: usize,
 ) -> Result<(), AllocError> {
     for how in &HOWS {
-        assert!(rt; is_run(alloc, rows, Over::Entries, *how, all, most)?);
-        assert!(rt; is_run(alloc, rows, Over::Values, *how, all, most)?);
+        holds!(rt; is_run(alloc, rows, Over::Entries, *how, all, most)?);
+        holds!(rt; is_run(alloc, rows, Over::Values, *how, all, most)?);
         for prefix in prefixes {
-            assert!(rt; is_run(alloc, rows, Over::Prefix, *how, *prefix, most)?);
+            holds!(rt; is_run(alloc, rows, Over::Prefix, *how, *prefix, most)?);
         }
     }
     Ok(())

@@ -1,7 +1,9 @@
 //! Walks and cursors that are dropped after one or two items.
+
 use super::helpers::{
     Counted, KEYS, TREE, are_dropped, cells, chain, has_all, keys_of_chain, map_of,
 };
+use crate::tests::asserts::{done, holds};
 use patricia_tree::{BorrowedBytes, Bytes, GenericPatriciaMap};
 use std::alloc::{AllocError, Global};
 use std::cell::Cell;
@@ -34,21 +36,21 @@ fn check_two<K: Bytes>(
     cells: &[Cell<u32>],
 ) {
     let (first, second) = first_two(map);
-    assert!(rt; are_dropped(cells, 2, cells.len()));
-    assert!(rt; is_item(&first, 0, 1) && is_item(&second, 1, 2));
+    holds!(rt; are_dropped(cells, 2, cells.len()));
+    holds!(rt; is_item(&first, 0, 1));
+    holds!(rt; is_item(&second, 1, 2));
     drop(first);
     drop(second);
-    assert!(rt; are_dropped(cells, 0, cells.len()));
+    holds!(rt; are_dropped(cells, 0, cells.len()));
 }
 
 // A key of each length up to 65,535.
 #[test]
-fn two_of_a_deep_map(rt: HostRuntime) -> Result<(), Fail> {
-    let cells = cells(rt.alloc(), 65_535)?;
-    let tree = chain(rt.alloc(), u16::MAX, 3)?;
-    let map = map_of::<Vec<u8>>(rt.alloc(), &tree, &cells)?;
+fn two_of_a_deep_map(rt: HostRuntime) {
+    let cells = done(&rt, cells(rt.alloc(), 65_535));
+    let tree = done(&rt, chain(rt.alloc(), u16::MAX, 3));
+    let map = done(&rt, map_of::<Vec<u8>>(rt.alloc(), &tree, &cells));
     check_two(&rt, map, &cells);
-    Ok(())
 }
 
 // Whether each of these gives one item. Then it is dropped.
@@ -103,8 +105,10 @@ fn check_iterators<Q: BorrowedBytes>(
     keys: &[Q],
     prefix: Q,
 ) {
-    assert!(rt; gives_entry(map) && has_all(map, keys));
-    assert!(rt; gives_under(map, prefix) && has_all(map, keys));
+    holds!(rt; gives_entry(map));
+    holds!(rt; has_all(map, keys));
+    holds!(rt; gives_under(map, prefix));
+    holds!(rt; has_all(map, keys));
 }
 
 // Asserts the same of cursors.
@@ -114,9 +118,12 @@ fn check_cursors<Q: BorrowedBytes>(
     keys: &[Q],
     prefix: Q,
 ) {
-    assert!(rt; lends_entry(map) && has_all(map, keys));
-    assert!(rt; lends_value(map) && has_all(map, keys));
-    assert!(rt; lends_under(map, prefix) && has_all(map, keys));
+    holds!(rt; lends_entry(map));
+    holds!(rt; has_all(map, keys));
+    holds!(rt; lends_value(map));
+    holds!(rt; has_all(map, keys));
+    holds!(rt; lends_under(map, prefix));
+    holds!(rt; has_all(map, keys));
 }
 
 // Asserts that no value is dropped by these, and each by dropping the map.
@@ -127,20 +134,19 @@ fn check_one<Q: BorrowedBytes>(
     keys: &[Q],
     prefix: Q,
 ) {
-    assert!(rt; has_all(&map, keys));
+    holds!(rt; has_all(&map, keys));
     check_iterators(rt, &map, keys, prefix);
     check_cursors(rt, &mut map, keys, prefix);
-    assert!(rt; are_dropped(cells, 0, 0));
+    holds!(rt; are_dropped(cells, 0, 0));
     drop(map);
-    assert!(rt; are_dropped(cells, 0, cells.len()));
+    holds!(rt; are_dropped(cells, 0, cells.len()));
 }
 
 #[test]
-fn one_of_four(rt: HostRuntime) -> Result<(), Fail> {
-    let cells = cells(rt.alloc(), 4)?;
-    let map = map_of::<Vec<u8>>(rt.alloc(), &TREE, &cells)?;
+fn one_of_four(rt: HostRuntime) {
+    let cells = done(&rt, cells(rt.alloc(), 4));
+    let map = done(&rt, map_of::<Vec<u8>>(rt.alloc(), &TREE, &cells));
     check_one(&rt, map, &cells, &KEYS, b"ba");
-    Ok(())
 }
 
 // Asserts the same of a map with each key that begins a long one.

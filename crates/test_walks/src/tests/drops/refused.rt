@@ -1,9 +1,10 @@
 //! Values that are refused with the tree bytes that they were read with.
+
 use super::helpers::{TREE, are_dropped, cells, chain, map_of};
+use crate::tests::asserts::{done, holds, same};
 use patricia_tree::DecodeError;
 use std::alloc::{AllocError, Global};
 use std::process::Abort;
-use std::test::Fail;
 
 // Asserts how tree bytes are refused with so many values, and that each of these is dropped.
 fn check_refused(
@@ -14,8 +15,8 @@ fn check_refused(
     wanted: DecodeError,
 ) -> Result<(), AllocError> {
     let cells = cells(alloc, count)?;
-    assert_eq!(rt; map_of::<Vec<u8>>(alloc, tree, &cells).err(), Some(wanted));
-    assert!(rt; are_dropped(&cells, 0, count));
+    same!(rt; map_of::<Vec<u8>>(alloc, tree, &cells).err(), Some(wanted));
+    holds!(rt; are_dropped(&cells, 0, count));
     Ok(())
 }
 
@@ -40,33 +41,37 @@ const FAULTS: [(usize, u8, usize, DecodeError); 6] = [
 ];
 
 #[test]
-fn faulty_trees(rt: HostRuntime) -> Result<(), Fail> {
+fn faulty_trees(rt: HostRuntime) {
     for (at, byte, count, wanted) in &FAULTS {
-        let tree = changed(rt.alloc(), *at, *byte)?;
-        check_refused(&rt, rt.alloc(), &tree, *count, *wanted)?;
+        let tree = done(&rt, changed(rt.alloc(), *at, *byte));
+        done(&rt, check_refused(&rt, rt.alloc(), &tree, *count, *wanted));
     }
-    Ok(())
 }
 
 // Behind 65,535 values a child is due, or a byte is left.
 #[test]
-fn deep_faulty_trees(rt: HostRuntime) -> Result<(), Fail> {
-    let cut = chain(rt.alloc(), u16::MAX, 15)?;
-    check_refused(
+fn deep_faulty_trees(rt: HostRuntime) {
+    let cut = done(&rt, chain(rt.alloc(), u16::MAX, 15));
+    done(
         &rt,
-        rt.alloc(),
-        &cut,
-        65_535,
-        DecodeError::Truncated(327_679),
-    )?;
-    let mut longer = chain(rt.alloc(), u16::MAX, 3)?;
-    longer.push(0)?;
-    check_refused(
+        check_refused(
+            &rt,
+            rt.alloc(),
+            &cut,
+            65_535,
+            DecodeError::Truncated(327_679),
+        ),
+    );
+    let mut longer = done(&rt, chain(rt.alloc(), u16::MAX, 3));
+    done(&rt, longer.push(0));
+    done(
         &rt,
-        rt.alloc(),
-        &longer,
-        65_535,
-        DecodeError::TrailingBytes(327_679),
-    )?;
-    Ok(())
+        check_refused(
+            &rt,
+            rt.alloc(),
+            &longer,
+            65_535,
+            DecodeError::TrailingBytes(327_679),
+        ),
+    );
 }

@@ -1,10 +1,11 @@
 //! Maps that are dropped, cleared or split.
+
 use super::helpers::{Counted, TREE, are_dropped, cells, chain, map_of};
+use crate::tests::asserts::{done, holds};
 use patricia_tree::{BorrowedBytes, Bytes, GenericPatriciaMap};
 use std::alloc::AllocError;
 use std::cell::Cell;
 use std::process::Abort;
-use std::test::Fail;
 
 // Asserts that a map is dropped with all values.
 fn check_dropped<K: Bytes>(
@@ -12,9 +13,9 @@ fn check_dropped<K: Bytes>(
     map: GenericPatriciaMap<K, Counted<'_>>,
     cells: &[Cell<u32>],
 ) {
-    assert!(rt; are_dropped(cells, 0, 0));
+    holds!(rt; are_dropped(cells, 0, 0));
     drop(map);
-    assert!(rt; are_dropped(cells, 0, cells.len()));
+    holds!(rt; are_dropped(cells, 0, cells.len()));
 }
 
 // Asserts that the values are dropped where a map is cleared, and not once more with it.
@@ -24,9 +25,10 @@ fn check_cleared<K: Bytes>(
     cells: &[Cell<u32>],
 ) {
     map.clear();
-    assert!(rt; map.is_empty() && are_dropped(cells, 0, cells.len()));
+    holds!(rt; map.is_empty());
+    holds!(rt; are_dropped(cells, 0, cells.len()));
     drop(map);
-    assert!(rt; are_dropped(cells, 0, cells.len()));
+    holds!(rt; are_dropped(cells, 0, cells.len()));
 }
 
 // Asserts that a split drops no value, and each part those of the keys that it has: what is split
@@ -39,53 +41,54 @@ fn check_split<Q: BorrowedBytes>(
     (from, to): (usize, usize),
 ) -> Result<(), AllocError> {
     let part = map.split_by_prefix(prefix)?;
-    assert!(rt; are_dropped(cells, 0, 0));
+    holds!(rt; are_dropped(cells, 0, 0));
     drop(part);
-    assert!(rt; are_dropped(cells, from, to));
+    holds!(rt; are_dropped(cells, from, to));
     drop(map);
-    assert!(rt; are_dropped(cells, 0, cells.len()));
+    holds!(rt; are_dropped(cells, 0, cells.len()));
     Ok(())
 }
 
 #[test]
-fn four_values(rt: HostRuntime) -> Result<(), Fail> {
-    let dropped = cells(rt.alloc(), 4)?;
+fn four_values(rt: HostRuntime) {
+    let dropped = done(&rt, cells(rt.alloc(), 4));
     check_dropped(
         &rt,
-        map_of::<Vec<u8>>(rt.alloc(), &TREE, &dropped)?,
+        done(&rt, map_of::<Vec<u8>>(rt.alloc(), &TREE, &dropped)),
         &dropped,
     );
-    let cleared = cells(rt.alloc(), 4)?;
+    let cleared = done(&rt, cells(rt.alloc(), 4));
     check_cleared(
         &rt,
-        map_of::<Vec<u8>>(rt.alloc(), &TREE, &cleared)?,
+        done(&rt, map_of::<Vec<u8>>(rt.alloc(), &TREE, &cleared)),
         &cleared,
     );
-    let split = cells(rt.alloc(), 4)?;
-    let map = map_of::<Vec<u8>>(rt.alloc(), &TREE, &split)?;
-    check_split(&rt, map, &split, b"ba".as_slice(), (1, 3))?;
-    Ok(())
+    let split = done(&rt, cells(rt.alloc(), 4));
+    let map = done(&rt, map_of::<Vec<u8>>(rt.alloc(), &TREE, &split));
+    done(&rt, check_split(&rt, map, &split, b"ba".as_slice(), (1, 3)));
 }
 
 // A key of each length up to 65,535.
 #[test]
-fn values_of_a_deep_map(rt: HostRuntime) -> Result<(), Fail> {
-    let tree = chain(rt.alloc(), u16::MAX, 3)?;
-    let dropped = cells(rt.alloc(), 65_535)?;
+fn values_of_a_deep_map(rt: HostRuntime) {
+    let tree = done(&rt, chain(rt.alloc(), u16::MAX, 3));
+    let dropped = done(&rt, cells(rt.alloc(), 65_535));
     check_dropped(
         &rt,
-        map_of::<Vec<u8>>(rt.alloc(), &tree, &dropped)?,
+        done(&rt, map_of::<Vec<u8>>(rt.alloc(), &tree, &dropped)),
         &dropped,
     );
-    let cleared = cells(rt.alloc(), 65_535)?;
+    let cleared = done(&rt, cells(rt.alloc(), 65_535));
     check_cleared(
         &rt,
-        map_of::<Vec<u8>>(rt.alloc(), &tree, &cleared)?,
+        done(&rt, map_of::<Vec<u8>>(rt.alloc(), &tree, &cleared)),
         &cleared,
     );
-    let split = cells(rt.alloc(), 65_535)?;
-    let map = map_of::<Vec<u8>>(rt.alloc(), &tree, &split)?;
-    let prefix = b"a".repeat(rt.alloc(), 1_000)?;
-    check_split(&rt, map, &split, prefix.as_slice(), (999, 65_535))?;
-    Ok(())
+    let split = done(&rt, cells(rt.alloc(), 65_535));
+    let map = done(&rt, map_of::<Vec<u8>>(rt.alloc(), &tree, &split));
+    let prefix = done(&rt, b"a".repeat(rt.alloc(), 1_000));
+    done(
+        &rt,
+        check_split(&rt, map, &split, prefix.as_slice(), (999, 65_535)),
+    );
 }

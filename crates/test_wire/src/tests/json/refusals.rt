@@ -4,11 +4,11 @@ ghost use Rattle.std.specs.Prelude.{IfOk};
 ghost use Rattle.patricia_json.specs.Pairs.{HaveNoFloat};
 
 use super::helpers::{are_values, values_of};
+use crate::tests::asserts::{done, holds, same};
 use patricia_json::{JsonError, pair_from_json, pair_to_json};
 use serde_json::Value;
 use std::alloc::{AllocError, Global};
 use std::process::Abort;
-use std::test::Fail;
 
 const TEXT: &str = "[[3,0,0,0,255],[18446744073709551615,null,7,8,9]]";
 
@@ -41,7 +41,7 @@ fn text_again(alloc: Global, values: Vec<Value>) -> Result<(String, usize), Allo
 fn write_again(rt: &impl Abort, alloc: Global) -> Result<usize, AllocError> {
     let (values, refusals) = values_again(alloc)?;
     let (text, more) = text_again(alloc, values)?;
-    assert_eq!(rt; text.as_str(), TEXT);
+    same!(rt; text.as_str(), TEXT);
     Ok(refusals.saturating_add(more))
 }
 
@@ -56,11 +56,11 @@ fn read_again(rt: &impl Abort, alloc: Global) -> Result<usize, JsonError> {
     let (holds, refusals) = match is_right(alloc) {
         Ok(holds) => (holds, 0),
         Err(fault) => {
-            assert_eq!(rt; fault, JsonError::Memory);
+            same!(rt; fault, JsonError::Memory);
             (is_right(alloc)?, 1)
         }
     };
-    assert!(rt; holds);
+    holds!(rt; holds);
     Ok(refusals)
 }
 
@@ -75,16 +75,15 @@ fn refuse_again(rt: &impl Abort, alloc: Global) -> usize {
     if first == Some(JsonError::Json) {
         return 0;
     }
-    assert_eq!(rt; first, Some(JsonError::Memory));
-    assert_eq!(rt; fault(alloc), Some(JsonError::Json));
+    same!(rt; first, Some(JsonError::Memory));
+    same!(rt; fault(alloc), Some(JsonError::Json));
     1
 }
 
 #[test]
-fn texts_refused_in_turn(rt: HostRuntime) -> Result<(), Fail> {
-    let written = write_again(&rt, rt.alloc())?;
-    let read = read_again(&rt, rt.alloc())?;
+fn texts_refused_in_turn(rt: HostRuntime) {
+    let written = done(&rt, write_again(&rt, rt.alloc()));
+    let read = done(&rt, read_again(&rt, rt.alloc()));
     let refused = refuse_again(&rt, rt.alloc());
-    assert!(rt; written.saturating_add(read).saturating_add(refused) <= 1);
-    Ok(())
+    holds!(rt; written.saturating_add(read).saturating_add(refused) <= 1);
 }

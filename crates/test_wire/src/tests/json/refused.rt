@@ -1,8 +1,9 @@
 //! Texts that are no pair, and the texts of errors.
+
+use crate::tests::asserts::{done, same};
 use patricia_json::{JsonError, pair_from_json};
 use std::alloc::{AllocError, Global};
 use std::process::Abort;
-use std::test::Fail;
 
 // Asserts that a text is no pair.
 fn check_no_pair(rt: &impl Abort, alloc: Global, text: &str) {
@@ -47,16 +48,9 @@ const FLOATS: [&str; 8] = [
 ];
 
 // Asserts that a floating-point number between two texts makes no pair.
-fn check_float(
-    rt: &impl Abort,
-    alloc: Global,
-    before: &str,
-    float: &str,
-    after: &str,
-) -> Result<(), AllocError> {
-    let text = format!(in alloc; "{before}{float}{after}")?;
+fn check_float(rt: &impl Abort, alloc: Global, before: &str, float: &str, after: &str) {
+    let text = done(rt, format!(in alloc; "{before}{float}{after}"));
     check_no_pair(rt, alloc, &text);
-    Ok(())
 }
 
 // As a byte, as a value, and within a value.
@@ -66,19 +60,17 @@ const PLACES: [(&str, &str); 3] = [
     ("[[1],[[{\"k\":[", "]}],2]]"),
 ];
 
-fn check_places(rt: &impl Abort, alloc: Global, float: &str) -> Result<(), AllocError> {
+fn check_places(rt: &impl Abort, alloc: Global, float: &str) {
     for (before, after) in &PLACES {
-        check_float(rt, alloc, before, float, after)?;
+        check_float(rt, alloc, before, float, after);
     }
-    Ok(())
 }
 
 #[test]
-fn floats_as_bytes_and_in_values(rt: HostRuntime) -> Result<(), Fail> {
+fn floats_as_bytes_and_in_values(rt: HostRuntime) {
     for float in FLOATS {
-        check_places(&rt, rt.alloc(), float)?;
+        check_places(&rt, rt.alloc(), float);
     }
-    Ok(())
 }
 
 // A pair with a value of so many nested arrays.
@@ -89,44 +81,30 @@ fn nested(alloc: Global, depth: usize) -> Result<String, AllocError> {
 }
 
 // Asserts how so many nested arrays are refused.
-fn check_nested(
-    rt: &impl Abort,
-    alloc: Global,
-    depth: usize,
-    fault: Option<JsonError>,
-) -> Result<(), AllocError> {
-    let text = nested(alloc, depth)?;
-    assert_eq!(rt; pair_from_json(alloc, &text).err(), fault);
-    Ok(())
+fn check_nested(rt: &impl Abort, alloc: Global, depth: usize, fault: Option<JsonError>) {
+    let text = done(rt, nested(alloc, depth));
+    same!(rt; pair_from_json(alloc, &text).err(), fault);
 }
 
 #[test]
-fn nested_too_deep(rt: HostRuntime) -> Result<(), Fail> {
-    check_nested(&rt, rt.alloc(), 125, None)?;
-    check_nested(&rt, rt.alloc(), 126, Some(JsonError::Json))?;
-    Ok(())
+fn nested_too_deep(rt: HostRuntime) {
+    check_nested(&rt, rt.alloc(), 125, None);
+    check_nested(&rt, rt.alloc(), 126, Some(JsonError::Json));
 }
 
 // Asserts the text of an error.
-fn check_text(
-    rt: &impl Abort,
-    alloc: Global,
-    fault: JsonError,
-    wanted: &str,
-) -> Result<(), AllocError> {
-    let text = fault.to_string(alloc)?;
-    assert_eq!(rt; text.as_str(), wanted);
-    Ok(())
+fn check_text(rt: &impl Abort, alloc: Global, fault: JsonError, wanted: &str) {
+    let text = done(rt, fault.to_string(alloc));
+    same!(rt; text.as_str(), wanted);
 }
 
 #[test]
-fn texts_of_errors(rt: HostRuntime) -> Result<(), Fail> {
-    check_text(&rt, rt.alloc(), JsonError::Memory, "out of memory")?;
+fn texts_of_errors(rt: HostRuntime) {
+    check_text(&rt, rt.alloc(), JsonError::Memory, "out of memory");
     check_text(
         &rt,
         rt.alloc(),
         JsonError::Json,
         "not the JSON of a wire pair",
-    )?;
-    Ok(())
+    );
 }

@@ -1,5 +1,7 @@
 //! Pairs that are written and read.
+
 use super::helpers::{are_values, values_of};
+use crate::tests::asserts::{done, holds, same};
 use patricia_json::{JsonError, pair_from_json, pair_to_json};
 use std::alloc::{AllocError, Global};
 use std::process::Abort;
@@ -41,32 +43,23 @@ fn written(alloc: Global, bytes: &[u8], items: &[Option<u64>]) -> Result<String,
 }
 
 // Asserts that the bytes and the values are written as a text, and read from it.
-fn check_pair(
-    rt: &impl Abort,
-    alloc: Global,
-    text: &str,
-    bytes: &[u8],
-    items: &[Option<u64>],
-) -> Result<(), Fail> {
-    let json = written(alloc, bytes, items)?;
-    assert_eq!(rt; json.as_str(), text);
-    assert!(rt; is_read_as(alloc, text, bytes, items)?);
-    Ok(())
+fn check_pair(rt: &impl Abort, alloc: Global, text: &str, bytes: &[u8], items: &[Option<u64>]) {
+    let json = done(rt, written(alloc, bytes, items));
+    same!(rt; json.as_str(), text);
+    holds!(rt; done(rt, is_read_as(alloc, text, bytes, items)));
 }
 
 #[test]
-fn written_and_read(rt: HostRuntime) -> Result<(), Fail> {
+fn written_and_read(rt: HostRuntime) {
     for (text, bytes, items) in &PAIRS {
-        check_pair(&rt, rt.alloc(), text, bytes, items)?;
+        check_pair(&rt, rt.alloc(), text, bytes, items);
     }
-    Ok(())
 }
 
 #[test]
-fn read_with_spaces(rt: HostRuntime) -> Result<(), Fail> {
+fn read_with_spaces(rt: HostRuntime) {
     let text = " [\n\t[ 1 , 2 ] , [ 3, null ]\r\n] ";
-    assert!(rt; is_read_as(rt.alloc(), text, &[1, 2], &[Some(3), None])?);
-    Ok(())
+    holds!(rt; done(&rt, is_read_as(rt.alloc(), text, &[1, 2], &[Some(3), None])));
 }
 
 // Reads a text and writes what was read.
@@ -78,7 +71,7 @@ fn rewritten(alloc: Global, text: &str) -> Result<String, Fail> {
 // Asserts what a text is written as once it is read.
 fn check_rewritten(rt: &impl Abort, alloc: Global, text: &str, wanted: &str) -> Result<(), Fail> {
     let json = rewritten(alloc, text)?;
-    assert_eq!(rt; json.as_str(), wanted);
+    same!(rt; json.as_str(), wanted);
     Ok(())
 }
 
@@ -96,6 +89,5 @@ fn values_of_each_kind(rt: HostRuntime) -> Result<(), Fail> {
 #[test]
 fn the_later_of_two_members_stays(rt: HostRuntime) -> Result<(), Fail> {
     let text = "[[],[{\"b\":1,\"a\":2,\"b\":3}]]";
-    check_rewritten(&rt, rt.alloc(), text, "[[],[{\"a\":2,\"b\":3}]]")?;
-    Ok(())
+    check_rewritten(&rt, rt.alloc(), text, "[[],[{\"a\":2,\"b\":3}]]")
 }
