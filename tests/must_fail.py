@@ -10,8 +10,9 @@
                                                    meanwhile, each crate once the log says that it is
                                                    proved; else over those that rt left in out/
 
-The edits of the crates that users name are due at each commit. Of those of each other crate every third is due,
-counted on from the number of commits modulo three.
+Every third edit of each crate is due, counted on from the number of commits modulo three, and each that turns a file,
+or is one, which the last three commits changed: so each edit is tried after a change of what it turns, and all are
+within three commits. '--all' tries all.
 
 It tries the edits of crates/*/must-fail, those of different functions in one check.
 A function is proved from its own code and from the promises of those that it calls. So an edit of code opens
@@ -28,10 +29,15 @@ named by what the edit brought in. So where an edit has no other, the prover mus
 false, or the right body must have a goal of that name; an edit with neither is listed at the end, to be read.
 The last line sums all: 'N passed, M failed'.
 
+What a good edit came to is kept in KEPT, by the sum of all that its check read: the toolchain, the crate's files, the
+libraries below it as they were built, the edit and this script. It is told again, and not tried, where all are the
+same; '--anew' tries it. On a machine with nothing kept each is tried.
+
 What a check of the crate as it stands proves is kept, and each check with edits begins with a copy of it, so that
 it proves again only what the edits turn. A crate with one such check alone has no copy made.
 """
 import argparse
+import hashlib
 import os
 import re
 import shutil
@@ -44,10 +50,10 @@ from concurrent.futures import ThreadPoolExecutor
 from typing import NamedTuple
 
 ROOT = os.path.dirname(os.path.dirname(os.path.abspath(__file__)))
-SIDE_BY_SIDE = 4
-MOST_IN_ONE = 16
-MOST_WITHOUT_SEED = 3
-NAMED_BY_USERS = 'patricia_tree', 'patricia_run', 'prefixes_core', 'patricia_c'
+SIDE_BY_SIDE = os.cpu_count()
+MOST_IN_ONE = 64
+KEPT = os.path.join(os.environ.get('XDG_CACHE_HOME') or os.path.expanduser('~/.cache'), 'patricia-must-fail')
+MOST_WITHOUT_SEED = 5
 PARTS_OF_EDITS = 3
 HEAD = 9
 TO_READ = 'TO READ:'
@@ -405,15 +411,12 @@ def judged(words, pack, functions, texts, crate):
     """Says of each edit of a pack which goals it leaves open, and why it is no good, if it is none."""
     check = checked(words, crate, texts, functions)
     found = [(edit, check.goals(marks_of(edit.functions(crate)))) for edit in pack]
-    asked = {x for edit, goals in found if goals and all(goal.is_open for goal in goals)
-             for x in edit.functions(crate)}
-    right = right_goals(words, crate, asked) if asked else {}
     for edit, goals in found:
         alone = edit.applied({}, crate)
         if alone is None:
             yield edit, [], 'DOES NOT APPLY'
         elif goals:
-            yield edit, goals, doubt(edit.functions(crate), goals, right)
+            yield edit, goals, None
         elif len(pack) > 1:
             yield from judged(words, [edit], edit.functions(crate), alone, crate)
         else:
@@ -434,6 +437,10 @@ class Libraries:
         if name in self.crates:
             return os.path.join(self.folder, 'crates', name, 'out', 'rlib', name + '.rlib')
         return '%s/rlibs/%s.rlib' % (self.kit, name)
+
+    def are_made(self):
+        """Whether no rt ci makes them any more."""
+        return not self.log or bool(re.search('^rt ci has ended$', read(self.log), re.M))
 
     def are_known(self, crate):
         """Whether it is known by now if a crate is proved."""
@@ -459,17 +466,46 @@ class Libraries:
         return [*words, '--incremental', kept]
 
 
+class Kept:
+    """What good edits came to in earlier runs, each in a file whose name is the sum of all that its check read."""
+
+    def __init__(self, libraries, is_anew):
+        self.libraries = libraries
+        self.is_anew = is_anew
+
+    def path(self, crate, edit):
+        sum_ = hashlib.sha256(read(self.libraries.kit + '/KIT-ID').encode())
+        formats = [read(self.libraries.built(x) + '/format') for x in sorted(crate.below(self.libraries.crates))]
+        for text in (read(__file__), *formats, repr(sorted(crate.texts.items())), edit.name, repr(edit.changes)):
+            sum_.update(hashlib.sha256(text.encode()).digest())
+        return os.path.join(KEPT, sum_.hexdigest())
+
+    def told(self, crate, edit):
+        path = self.path(crate, edit)
+        return None if self.is_anew or not os.path.isfile(path) else read(path)
+
+    def keep(self, crate, edit, line):
+        os.makedirs(KEPT, exist_ok=True)
+        with tempfile.NamedTemporaryFile('w', dir=KEPT, delete=False, encoding='utf-8') as file:
+            file.write(line)
+        os.replace(file.name, self.path(crate, edit))
+
+
 class Work:
     """What is tried of a crate: lists of packs of edits, and lines."""
 
-    def __init__(self, crate, edits, libraries, room):
+    def __init__(self, crate, edits, libraries, room, kept, archive):
         self.crate = crate
         self.libraries = libraries
+        self.kept = kept
+        self.archive = archive if crate.is_static else None
         self.seed = os.path.join(room, crate.name)
         self.packs = packs(edits, crate)
         self.held = list(crate.held_lines())
-        # a check of the crate as it stands is worth its time from the third on
-        self.is_seeded = len(self.packs) < MOST_WITHOUT_SEED
+        # a check of the crate as it stands is worth its time from the fifth on
+        self.is_seeded = len(self.packs) < MOST_WITHOUT_SEED and not self.archive
+        # what the packs' checks say, until all are done
+        self.judgements, self.left, self.taking = [], len(self.packs), threading.Lock()
         os.mkdir(self.seed)
 
     def jobs(self):
@@ -484,10 +520,18 @@ class Work:
 
     def begin(self):
         """Proves the crate as it stands: what is kept of that is the seed."""
-        if self.libraries.are_there(self.crate):
-            Check(self.libraries.words(self.crate, self.seed), self.crate, {}, ())
+        is_new = not all(self.is_kept(x) for pack in self.packs for x in pack[0])
+        if self.libraries.are_there(self.crate) and (is_new or self.archive):
+            words = self.libraries.words(self.crate, self.seed)
+            if self.archive:
+                words[words.index('check')] = 'build'
+                words += ['--toolchain', self.libraries.kit + '/toolchain', '--backend', 'llvm', '-o', self.archive]
+            Check(words, self.crate, {}, ())
         self.is_seeded = True
         return []
+
+    def is_kept(self, edit):
+        return self.kept.told(self.crate, edit) is not None
 
     def told(self, those):
         """Tries packs of edits in turn, and says of each edit whether it is good."""
@@ -495,8 +539,28 @@ class Work:
             return [say(self.crate, x.name, 'ITS CRATE IS NOT PROVED') for pack, _, _ in those for x in pack]
         with tempfile.TemporaryDirectory(prefix='must-fail-') as room:
             words = self.libraries.words(self.crate, linked(self.seed, os.path.join(room, 'kept')))
-            judgements = [x for pack in those for x in judged(words, *pack, self.crate)]
-        return [say(self.crate, edit.name, why, goals) for edit, goals, why in judgements]
+            # a pack whose edits were all tried before, on these texts, is not tried again
+            new = [x for x in those if not all(map(self.is_kept, x[0]))]
+            told = [Told(line, True, False) for pack in those if pack not in new for x in pack[0]
+                    for line in [self.kept.told(self.crate, x)]]
+            print(*('%s (kept)' % x.line for x in told), sep='\n', end='\n' if told else '', flush=True)
+            judgements = [x for pack in new for x in judged(words, *pack, self.crate)]
+            with self.taking:
+                self.judgements += judgements
+                self.left -= len(those)
+                return told + (self.told_of_all(words) if self.left == 0 else [])
+
+    def told_of_all(self, words):
+        """Says of each edit whether it is good. The goals that right bodies have are asked for once."""
+        asked = {x for edit, goals, why in self.judgements if not why and goals and all(x.is_open for x in goals)
+                 for x in edit.functions(self.crate)}
+        right = right_goals(words, self.crate, asked) if asked else {}
+        told = [say(self.crate, edit.name, why or doubt(edit.functions(self.crate), goals, right), goals)
+                for edit, goals, why in self.judgements]
+        for (edit, _, _), one in zip(self.judgements, told):
+            if one.is_good:
+                self.kept.keep(self.crate, edit, one.line)
+        return told
 
     def told_of_lines(self):
         """Makes code of each of the lines by itself, and says of each whether it breaks the rules of borrows."""
@@ -523,12 +587,16 @@ def say(crate, what, why, goals=()):
     return Told(told, not why, bool(why) and why.startswith(TO_READ))
 
 
-def done(jobs):
-    """Does all jobs, some side by side, each as soon as it may begin, and returns what they tell."""
+def done(jobs, are_made):
+    """Does all jobs, some side by side, each as soon as it may begin, and returns what they tell. Beside an rt ci, which
+    takes all processors, it is one at a time: with two checks on a processor each takes up to twice the seconds."""
     told, waiting, taking = [], list(jobs), threading.Lock()
 
-    def work():
+    def work(number):
         while waiting:
+            if number > 0 and not are_made():
+                time.sleep(2)
+                continue
             with taking:
                 ready = next((x for x in waiting if x[0]()), None)
                 if ready:
@@ -539,14 +607,16 @@ def done(jobs):
                 time.sleep(2)
 
     with ThreadPoolExecutor(SIDE_BY_SIDE) as pool:
-        for ended in [pool.submit(work) for _ in range(SIDE_BY_SIDE)]:
+        for ended in [pool.submit(work, x) for x in range(SIDE_BY_SIDE)]:
             ended.result()
     return told
 
 
-def is_due(crate, at, count):
-    """Whether the edit at this place of a crate's edits is due at a number of commits."""
-    return crate.name in NAMED_BY_USERS or at % PARTS_OF_EDITS == count % PARTS_OF_EDITS
+def due(crate, count, differ):
+    """The edits of a crate that are due at a number of commits, of which the last changed these files."""
+    changed = {x.name for x in crate.edits_since(differ)}
+    return [x for at, x in enumerate(crate.edits())
+            if at % PARTS_OF_EDITS == count % PARTS_OF_EDITS or x.name in changed]
 
 
 def commits():
@@ -560,19 +630,21 @@ def main():
     parser = argparse.ArgumentParser(description='Tries the must-fail edits.')
     parser.add_argument('--all', action='store_true', help='those of all crates')
     parser.add_argument('--since', metavar='COMMIT', help='those of files that differ from it')
+    parser.add_argument('--archive', metavar='FILE', help='where the seed of patricia_c is built as a static library')
+    parser.add_argument('--anew', action='store_true', help='also those that an earlier run on this machine tried')
     parser.add_argument('--beside', nargs=2, metavar=('FOLDER', 'LOG'), default=[ROOT], help='where rt ci runs')
     parser.add_argument('crates', nargs='*', metavar='CRATE')
     asked = parser.parse_args()
     crates = all_crates()
     libraries = Libraries(crates, *asked.beside)
-    count = None if asked.all or asked.crates else commits()
-    differ = differing(asked.since) if asked.since else None
-    tried = {name: crate.edits_since(differ) if asked.since else
-             [x for at, x in enumerate(crate.edits()) if count is None or is_due(crate, at, count)]
+    count = None if asked.all or asked.crates or asked.since else commits()
+    differ = differing(asked.since or 'HEAD~%d' % min(PARTS_OF_EDITS, count - 1)) if asked.since or count else None
+    tried = {name: crate.edits_since(differ) if asked.since else due(crate, count, differ) if count else crate.edits()
              for name, crate in crates.items() if name in (asked.crates or crates)}
     with tempfile.TemporaryDirectory(prefix='must-fail-') as room:
-        works = [Work(crates[name], edits, libraries, room) for name, edits in tried.items()]
-        said = done(job for work in works for job in work.jobs())
+        kept = Kept(libraries, asked.anew)
+        works = [Work(crates[name], edits, libraries, room, kept, asked.archive) for name, edits in tried.items()]
+        said = done([job for work in works for job in work.jobs()], libraries.are_made)
     good = [x.is_good or x.is_to_read for x in said]
     print('to be read: %d' % sum(x.is_to_read for x in said), *(x.line for x in said if x.is_to_read), sep='\n')
     print('%d passed, %d failed' % (sum(good), len(good) - sum(good)))
