@@ -1,0 +1,222 @@
+"""The order of the work: which crate is tried when, how many at a time, and what is told of each edit."""
+import os
+import re
+import tempfile
+import threading
+import time
+from concurrent.futures import ThreadPoolExecutor
+from typing import NamedTuple
+
+import crates as listing
+from mutants.checks import BORROWED_TWICE
+from mutants.edits import Edit, Line, packs, read
+from mutants.keeping import linked
+
+# a check of the crate as it stands, over which packs begin, saves more than it costs with so many packs
+LEAST_WITH_SEED = 5
+
+
+class Told(NamedTuple):
+    """What is told of an edit, and whether the edit is good."""
+    line: str
+    is_good: bool
+
+
+class Beside:
+    """The log of an rt ci that makes the libraries meanwhile, or none."""
+
+    def __init__(self, log=None):
+        self.log = log
+
+    def says(self, pattern):
+        return bool(re.search(pattern, read(self.log), re.M)) if self.log else True
+
+    def has_ended(self):
+        return self.says('^rt ci has ended$')
+
+    def knows(self, crate):
+        """Whether it is known by now if a crate is proved."""
+        return self.says(r'^rt: %s (proved|is kept: .*|NOT PROVED.*)$|^rt ci has ended$' % crate.name)
+
+    def has_proved(self, crate):
+        return self.says(r'^rt: %s (proved$|is kept: )' % crate.name)
+
+
+class Queue:
+    """What is to be done, as calls that give what they tell, each with a call that says if it may begin."""
+
+    def __init__(self, beside):
+        self.beside = beside
+        self.waiting, self.left, self.told, self.taking = [], 0, [], threading.Lock()
+
+    def add(self, is_ready, call):
+        with self.taking:
+            self.waiting.append((is_ready, call))
+            self.left += 1
+
+    def take(self):
+        """The first call that may begin, or None."""
+        with self.taking:
+            ready = next((x for x in self.waiting if x[0]()), None)
+            if ready:
+                self.waiting.remove(ready)
+        return ready and ready[1]
+
+    def work(self, number):
+        """Does one call after another. Beside an rt ci, which takes all processors, only the first worker works:
+        with two checks on a processor each takes up to twice its seconds."""
+        while self.left:
+            call = self.take() if number == 0 or self.beside.has_ended() else None
+            if call is None:
+                time.sleep(1)
+                continue
+            try:
+                self.told += call()
+            finally:
+                with self.taking:
+                    self.left -= 1
+
+    def done(self):
+        """Does all, and returns what is told."""
+        with ThreadPoolExecutor(listing.processors()) as pool:
+            for ended in [pool.submit(self.work, x) for x in range(listing.processors())]:
+                ended.result()
+        return self.told
+
+
+class Work:
+    """What is tried of a crate: edits, its lines that comments hold, and for C its archive."""
+
+    def __init__(self, sources, edits, fresh, kept, room):
+        self.sources = sources
+        self.edits = edits
+        # the names of those whose goals are asked for in the right bodies too
+        self.fresh = fresh
+        self.kept = kept
+        self.prover = kept.prover
+        self.archive = None
+        self.work = os.path.join(room, sources.crate.name)
+
+    def add_to(self, queue):
+        """Has a queue do it, once it is known if the crate is proved."""
+        if self.archive or self.edits or list(self.sources.lines()):
+            queue.add(lambda: queue.beside.knows(self.sources.crate), lambda: self.begin(queue))
+
+    def begin(self, queue):
+        """Tells what is kept, and tries the rest: in turn, or each pack by itself over a check of the crate."""
+        tried = [*self.sources.lines(), *self.edits]
+        if not queue.beside.has_proved(self.sources.crate):
+            return [self.say(x.name, 'ITS CRATE IS NOT PROVED') for x in tried]
+        kept = [(x, self.kept.told(self.sources, x)) for x in tried]
+        told = [Told(line, True) for _, line in kept if line]
+        print(*['%s (kept)' % x.line for x in told], sep='\n', end='\n' * bool(told), flush=True)
+        new = [x for x, line in kept if not line]
+        made = packs([x for x in new if isinstance(x, Edit)], self.sources, self.turned)
+        if new or self.archive:
+            begun(self.work, self.sources)
+        told += [self.line_told(x) for x in new if isinstance(x, Line)]
+        if self.archive:
+            told.append(self.archived())
+        elif len(made) >= LEAST_WITH_SEED:
+            self.prover.check(self.sources, {}, self.work)
+        else:
+            return told + self.packs_told(made, self.work)
+        for pack in made:
+            queue.add(lambda: True, lambda pack=pack: self.pack_told_apart(pack))
+        return told
+
+    def turned(self, edit):
+        """By what it is told from the other edits of its pack."""
+        if not edit.goal or not edit.is_apart(self.sources):
+            return set()
+        return {edit.goal.function, *edit.turns(self.sources)}
+
+    def say(self, what, why, told=''):
+        line = 'must-fail %s/%s: %s' % (self.sources.crate.name, what, why or told)
+        print(line, flush=True)
+        return Told(line, not why)
+
+    def archived(self):
+        """Builds the library for C. What that proves is what its packs begin with."""
+        said = self.prover.archive(self.sources, self.work, self.archive)
+        why = None if os.path.exists(self.archive) else 'NOT BUILT: %s' % said.text()
+        return self.say(os.path.basename(self.archive), why, 'built')
+
+    def line_told(self, line):
+        """Tries a line as code, which is to break the rules of borrows."""
+        check = self.prover.check(self.sources, line.texts(self.sources), self.work)
+        errors = [x for x in check.lines if x.startswith((line.file, './' + line.file)) and BORROWED_TWICE in x]
+        told = self.say(line.name, None if errors else 'NOT REFUSED', 'refused: %s' % errors[:1])
+        if told.is_good:
+            self.kept.keep(self.sources, line, told.line)
+        return told
+
+    def pack_told_apart(self, pack):
+        """Tries a pack over a copy of what the crate's check left."""
+        with tempfile.TemporaryDirectory(prefix='must-fail-') as room:
+            return self.packs_told([pack], linked(self.work, os.path.join(room, 'work')))
+
+    def packs_told(self, made, work):
+        """Tries packs in turn, and says of each edit whether it is good. An edit that is fresh, or whose function is, has
+        to leave open a goal that its function has as it stands, or one that is shown to be false."""
+        judged = [x for pack in made for x in self.judged(pack, work)]
+        asked = {edit.goal.function for edit, failures, _ in judged if edit.name in self.fresh and are_open(failures)}
+        right = self.prover.goals(self.sources, work, asked) if asked else {}
+        told = []
+        for edit, failures, why in judged:
+            if edit.goal and edit.goal.function in asked and are_open(failures):
+                why = why or doubt(edit.goal, right)
+            told.append(self.say(edit.name, why, 'refused: %s' % '; '.join(map(str, failures))))
+            if not why:
+                self.kept.keep(self.sources, edit, told[-1].line)
+        return told
+
+    def judged(self, pack, work):
+        """The edits of a pack, with the failures of the goal of each, and why it is no good, if it is none."""
+        edits = [x for x in pack.edits if x.goal and x.texts(self.sources, {})]
+        for edit in pack.edits:
+            if edit not in edits:
+                yield edit, [], 'DOES NOT APPLY' if edit.goal else 'HAS NO GOAL: tests/must_fail.py --write-goals'
+        check = edits and self.prover.check(self.sources, pack.texts, work, {x.goal.function for x in edits})
+        if len(edits) > 1 and not check.ended:
+            half = len(edits) // 2
+            for part in packs(edits[:half], self.sources, self.turned) + packs(edits[half:], self.sources, self.turned):
+                yield from self.judged(part, work)
+            return
+        for edit in edits:
+            failures = [x for x in check.of(edit.goal) if not x.is_by_name]
+            if failures or len(edits) == 1:
+                yield edit, failures, None if failures else missed(check, edit.goal)
+            else:
+                yield from self.judged(packs([edit], self.sources, self.turned)[0], work)
+
+
+def begun(work, sources):
+    """Makes a folder of work, which begins with what a check of the crate left, if one did."""
+    left = os.path.join(sources.folder, 'out', 'incremental')
+    if os.path.isdir(left):
+        linked(left, work)
+    else:
+        os.makedirs(work, exist_ok=True)
+
+
+def are_open(failures):
+    return bool(failures) and all(x.is_open for x in failures)
+
+
+def doubt(goal, right):
+    """Why a goal that a search leaves open says little, if the function as it stands has no such goal. A goal of several
+    clauses is told clause by clause, or as one."""
+    whole = {x.partition('-clause-')[0] for x in right.get(goal.function, ())}
+    return None if goal.name.partition('-clause-')[0] in whole else 'THE RIGHT BODY HAS NO GOAL %s' % goal.name
+
+
+def missed(check, goal):
+    """Why an edit is no good whose goal does not fail by its meaning."""
+    if not check.ended:
+        return 'NOT TRIED: %s' % check.text()
+    if not check.is_refused:
+        return 'NOT REFUSED: %s' % check.text()
+    if check.of(goal):
+        return 'REFUSED BY NAMES ALONE: it says little of the contract: %s' % check.of(goal)[0]
+    return 'THE GOAL %s DOES NOT FAIL, but: %s' % (goal, '; '.join(map(str, check.failures[:3])) or check.text())
