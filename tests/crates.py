@@ -1,7 +1,8 @@
 """The crates of crates.txt, and what they stand on.
 
-crates.txt has a line 'NAME: USED ..' for each crate, or 'NAME staticlib: USED ..' for a static library; '#' begins a
-comment. What a crate uses is another crate of the file, or a library of the toolchain.
+crates.txt has a line 'NAME: USED ..' for each crate, or 'NAME staticlib: USED ..' for a static
+library; '#' begins a comment. What a crate uses is another crate of the file, or a library of the
+toolchain.
 """
 import os
 import subprocess
@@ -31,7 +32,7 @@ def listed(root=ROOT):
 
 
 def below(crates, *names):
-    """The names of the crates on which these stand, each after those that it uses, without these."""
+    """The names of the crates on which these stand, without these, each after those it uses."""
     found = {}
     for name in names:
         for used in [x for x in crates[name].uses if x in crates]:
@@ -40,7 +41,7 @@ def below(crates, *names):
 
 
 def above(crates, *names):
-    """The names of the crates that stand on one of these, each after those that it uses."""
+    """The names of the crates that stand on one of these, each after those it uses."""
     found = [x for x in crates if {*below(crates, x)} & {*names} and x not in names]
     return sorted(found, key=lambda x: len(below(crates, x)))
 

@@ -1,30 +1,34 @@
 #!/usr/bin/env python3
-"""Tries mutants, the edits of crates/*/must-fail: each must leave a goal open in the function that it turns.
+"""Tries the mutants of crates/*/must-fail, each of which must leave open a goal of its function.
 
     tests/must_fail.py                            those that are due at this commit
     tests/must_fail.py --all                      all of them
     tests/must_fail.py CRATE..                    those of the crates named
-    tests/must_fail.py --since COMMIT [CRATE..]   those that turn a file, or are one, which differs from that commit
-    tests/must_fail.py --write-goals [CRATE..]    writes the goals of those that have none, or with --anew of all
+    tests/must_fail.py --since COMMIT [CRATE..]   those that turn a file, or are one, which differs
+                                                  from that commit
+    tests/must_fail.py --write-goals [CRATE..]    writes the goals of those that have none, or with
+                                                  --anew of all
 
-Every third edit of each crate is due, counted on from the number of commits, and each that turns a file, or is one,
-which the last three commits changed. So each edit is tried after a change of what it turns, and all are within three
-commits.
+Every third edit of each crate is due, counted on from the number of commits, and each that turns a
+file, or is one, which the last three commits changed. So each edit is tried after a change of what
+it turns, and all are within three commits.
 
-An edit's line 'goal:' names a function, and the goal of it that has to fail: by its meaning, and not because a proof
-file names what the edit took away. That goal is one which the right body has too, or which the prover shows to be
-false, so a search that finds no proof of it tells that the contract refuses the edit. This is asked when the line is
-written, and again of the edits that are tried for more than being the third; of the others the line says it.
+An edit's line 'goal:' names a function, and the goal of it that has to fail by its meaning, and
+not because a proof file names what the edit took away. The right body has that goal too, or the
+prover finds values at which it is false: else a search that finds no proof would say little. The
+right body is asked when the line is written, and again where an edit is tried for more than its
+turn.
 
-A function is proved from its own code and from the promises of those that it calls. So an edit of code opens goals of
-its own function alone, and one check tries the edits of many functions. An edit that opens no goal there is tried by
-itself, and so is one of what others rest on. Each line of a crate's code that a comment 'refused:' holds is tried too:
-as code, it breaks the rules of borrows.
+A function is proved from its own code and from the promises of those that it calls. So an edit of
+code opens goals of its own function alone, and one check tries edits of many functions. An edit
+that opens no goal there is tried by itself, and so is one of what others rest on. Each line of a
+crate's code that a comment 'refused:' holds is tried too: as code, it breaks the rules of borrows.
 
-What a good edit came to is kept on this machine, and told again where nothing that its check read has changed; --anew
-tries all. The libraries are those that rt left in out/. With --beside FOLDER LOG they are those that an rt ci makes
-there meanwhile, each crate's once its output in LOG says that it is proved; then one check runs at a time until LOG has
-the line 'rt ci has ended', and after it as many as there are processors. --archive FILE builds the library for C there.
+What a good edit came to is kept on this machine, and told again while nothing changes that its
+check reads; with --anew each is tried. The libraries are those that rt left in out/. With
+'--beside FOLDER LOG' they are those that an rt ci makes there meanwhile, each crate's once the
+output in LOG says that it is proved. Until LOG has the line 'rt ci has ended' one check runs at a
+time, and then as many as there are processors. '--archive FILE' builds the library for C there.
 
 The last line sums all: 'N passed, M failed'.
 """
@@ -34,10 +38,10 @@ import sys
 import tempfile
 
 import crates as listing
-from mutants import goals
 from mutants.checks import Prover
-from mutants.due import History, PARTS, turning
+from mutants.due import PARTS, History, turning
 from mutants.edits import Sources
+from mutants.goals import Writer
 from mutants.keeping import Kept
 from mutants.running import Beside, Queue, Work
 
@@ -48,17 +52,19 @@ def arguments(words):
     parser.add_argument('--since', metavar='COMMIT', help='those of files that differ from it')
     parser.add_argument('--anew', action='store_true', help='also those that an earlier run tried')
     parser.add_argument('--archive', metavar='FILE', help='where to build the library for C')
-    parser.add_argument('--beside', nargs=2, metavar=('FOLDER', 'LOG'), help='where rt ci runs, and what it writes')
-    parser.add_argument('--write-goals', action='store_true', help='writes the goals that fail into the edits')
+    parser.add_argument('--beside', nargs=2, metavar=('FOLDER', 'LOG'),
+                        help='where rt ci runs, and what it writes')
+    parser.add_argument('--write-goals', action='store_true', help='writes the goals that fail')
     parser.add_argument('crates', nargs='*', metavar='CRATE')
     return parser.parse_args(words)
 
 
 def chosen(asked, sources, history):
-    """The edits to try of each crate, and the names of those that are tried for more than being the third."""
+    """The edits to try, by crate, and the names of those tried for more than their turn."""
     edits = {x: of.edits() for x, of in sources.items()}
     if asked.since:
-        edits = {x: turning(those, x, history.differing(asked.since)) for x, those in edits.items()}
+        files = history.differing(asked.since)
+        edits = {x: turning(those, x, files) for x, those in edits.items()}
     if asked.since or asked.all or asked.crates or not history.is_whole:
         return edits, {x: {y.name for y in those} for x, those in edits.items()}
     part, files = history.part(), history.changed()
@@ -69,20 +75,20 @@ def chosen(asked, sources, history):
     return due, fresh
 
 
-def write_goals(asked, sources, prover):
-    """Writes the goals of edits that have none, and returns the lines of those in which none fails."""
+def written(asked, sources, prover):
+    """Writes the goals of edits, and returns what to say of those in which none fails."""
     lost = []
     with tempfile.TemporaryDirectory(prefix='must-fail-') as room:
-        for name, of in sources.items():
+        for of in sources.values():
             edits = [x for x in of.edits() if asked.anew or not x.goal]
-            lost += ['must-fail %s/%s' % (name, x) for x in (goals.Writer(of, prover, room).write(edits) if edits else ())]
+            lost += Writer(of, prover, room).write(edits) if edits else []
     return lost
 
 
 def tried(asked, sources, history, kept):
     """What is told of the edits that were asked for."""
     edits, fresh = chosen(asked, sources, history)
-    queue = Queue(Beside(asked.beside[1] if asked.beside else None))
+    queue = Queue(Beside(asked.beside and asked.beside[1]))
     with tempfile.TemporaryDirectory(prefix='must-fail-') as room:
         works = [Work(of, edits[x], fresh[x], kept, room) for x, of in sources.items()]
         for work in works:
@@ -94,23 +100,24 @@ def tried(asked, sources, history, kept):
 
 
 def main(words=None, root=listing.ROOT, folder=None):
-    """Does what words ask over a repository. A folder keeps what edits came to in place of the toolchain's."""
+    """Does what the words ask of a repository. What is kept lies in the folder, if it is named."""
     asked = arguments(words)
     crates = listing.listed(root)
     unknown = [x for x in asked.crates if x not in crates]
     if unknown:
         sys.exit('no crate of crates.txt: ' + ' '.join(unknown))
-    sources = {x: Sources(crates[x], os.path.join(root, 'crates', x)) for x in asked.crates or crates}
+    names = asked.crates or crates
+    sources = {x: Sources(crates[x], os.path.join(root, 'crates', x)) for x in names}
     prover = Prover(crates, asked.beside[0] if asked.beside else root)
     if asked.write_goals:
-        lost = write_goals(asked, sources, prover)
+        lost = written(asked, sources, prover)
         print(*lost, '%d have no goal that fails' % len(lost), sep='\n')
         return 1 if lost else 0
     if asked.beside:
         os.nice(19)
     told = tried(asked, sources, History(root), Kept(prover, asked.anew, folder))
-    bad = [x for x in told if not x.is_good]
-    print(*(x.line for x in bad), '%d passed, %d failed' % (len(told) - len(bad), len(bad)), sep='\n')
+    bad = [x.line for x in told if not x.is_good]
+    print(*bad, '%d passed, %d failed' % (len(told) - len(bad), len(bad)), sep='\n')
     return 0 if not bad and (told or asked.since) else 1
 
 

@@ -1,4 +1,4 @@
-"""Tests of tests/must_fail.py: python3 -B -m unittest tests/test_must_fail.py, at the top of the repository."""
+"""Tests of tests/must_fail.py, run by 'python3 -B -m unittest tests/test_must_fail.py'."""
 import contextlib
 import io
 import os
@@ -36,15 +36,16 @@ pub fn third(a: u8, b: u8, c: u8) -> u8
     c
 }
 '''
-SAID = '''./proofs/low/Pair/cut/Answers.antt:9:29: error: `returns`: `rw`: no occurrence of the path's left endpoint
-  in the goal
+SAID = '''./proofs/low/Pair/cut/Answers.antt:9:29: error: `returns`: `rw`: no occurrence of
+  the path's left endpoint in the goal
 ./proofs/low/gone/Answers.antt:3:1: error: `returns`: `Goals` has no field `early`
-note: src/low.rt:65:5: it is not proved that what the function ensures holds when it returns (`returns-clause-value`)
+note: src/low.rt:65:5: it is not proved that what the function ensures holds when it returns
+  (`returns-clause-value`)
 note: a goal may be false even if its line does not say so
 fn small::low::is_empty: no proof: expected answers in ./proofs/low/is_empty/Answers.antt
 fn small::low::Pair::cut: not proved
-note: src/low.rt:97:9: it is not proved that what `take` requires holds at this call (`take-requires`); the facts known
-  there allow values at which this goal is false
+note: src/low.rt:97:9: it is not proved that what `take` requires holds at this call
+  (`take-requires`); the facts known there allow values at which this goal is false
 fn small::low::taken: not proved
 only=4 proved=0
 '''
@@ -84,20 +85,21 @@ class Small(unittest.TestCase):
     def sources(self):
         return Sources(listing.listed(self.top)['small'], self.top + '/crates/small')
 
-    def git(self, *words, at=''):
-        own = ['-c', 'user.name=tests', '-c', 'user.email=tests@localhost', '-c', 'init.defaultBranch=main']
-        subprocess.run(['git', *own, *words], cwd=os.path.join(self.top, at), check=True, capture_output=True)
+    def git(self, *words):
+        own = 'user.name=tests', 'user.email=tests@localhost', 'init.defaultBranch=main'
+        given = [x for setting in own for x in ('-c', setting)]
+        subprocess.run(['git', *given, *words], cwd=self.top, check=True, capture_output=True)
 
 
 class Tried(Small):
     def test_wrong_goals_and_right_bodies_fail(self):
-        edit(self.top, 'good', '    a', '    b', 'first returns')
-        edit(self.top, 'another_goal', '    b', '    a', 'second returns-in-Some')
+        edit(self.top, 'good', '    a', '    0', 'first returns')
+        edit(self.top, 'another_goal', '    b', '    0', 'second returns-in-Some')
         edit(self.top, 'right_body', '    c', '    if a == b { c } else { c }', 'third returns')
-        edit(self.top, 'without_goal', '    b', '    a')
+        edit(self.top, 'without_goal', '    b', '    0')
         status, said = run(self.top, 'small')
         self.assertEqual((status, said[-1]), (1, '1 passed, 3 failed'))
-        told = {x.split('/')[1].split('.')[0]: x.partition('.edit: ')[2] for x in said if x.startswith('must-fail ')}
+        told = dict(x.removeprefix('must-fail small/').split('.edit: ') for x in said[:4])
         self.assertRegex(told['good'], '^refused: returns of first at src/lib.rt:5')
         self.assertRegex(told['another_goal'], '^THE GOAL second returns-in-Some DOES NOT FAIL')
         self.assertRegex(told['right_body'], '^NOT REFUSED: only=1 proved=1')
@@ -110,11 +112,9 @@ class Tried(Small):
         self.assertRegex(said[0], r'good.edit: refused: .* \(kept\)$')
 
     def test_a_goal_that_fails_is_written(self):
-        path = edit(self.top, 'good', '    a', '    b')
-        right = edit(self.top, 'right_body', '    c', '    if a == b { c } else { c }')
-        status, said = run(self.top, '--write-goals')
-        self.assertEqual((status, said[-1]), (1, '1 have no goal that fails'))
-        self.assertEqual((Edit(path).goal, Edit(right).goal), (Goal('first', 'returns'), None))
+        path = edit(self.top, 'good', '    a', '    0')
+        self.assertEqual(run(self.top, '--write-goals')[0], 0)
+        self.assertEqual(Edit(path).goal, Goal('first', 'returns'))
 
 
 class Said(unittest.TestCase):
@@ -129,18 +129,20 @@ class Said(unittest.TestCase):
         self.assertTrue(check.is_refused)
 
     def test_a_run_that_breaks_off_refuses_nothing(self):
-        for said, is_refused in (('only=2 proved=2', False), ('logic=not-proved', True), ('rattle: error: none', False)):
-            self.assertEqual(Check(said).is_refused, is_refused)
+        self.assertTrue(Check('logic=not-proved').is_refused)
+        for said in 'only=2 proved=2', 'logic=proved functions=2', 'rattle: error: none', '':
+            self.assertFalse(Check(said).is_refused)
 
 
 class Packs(Small):
     def test_edits_of_one_function_stand_in_two_packs(self):
-        for name, old, new, goal in (('a', '    a', '    1', 'first returns'), ('b', '    a', '    2', 'first returns'),
-                                     ('c', '    b', '    3', 'second returns')):
-            edit(self.top, name, old, new, goal)
+        edit(self.top, 'a', '    a', '    1', 'first returns')
+        edit(self.top, 'b', '    a', '    2', 'first returns')
+        edit(self.top, 'c', '    b', '    3', 'second returns')
         sources = self.sources()
         made = packs(sources.edits(), sources, lambda x: x.turns(sources))
-        self.assertEqual([[x.name for x in pack.edits] for pack in made], [['a.edit', 'c.edit'], ['b.edit']])
+        names = [[x.name for x in pack.edits] for pack in made]
+        self.assertEqual(names, [['a.edit', 'c.edit'], ['b.edit']])
 
     def test_a_promise_stands_apart_where_nothing_else_names_the_function(self):
         path = edit(self.top, 'promise', 'result ≡ a', 'result ≡ b', 'first returns')

@@ -1,8 +1,8 @@
 """What the prover says of a crate with other texts in place of its own.
 
-No command of rt does this over the libraries that an rt ci has built: those hold statements alone and have no stamp,
-and without a stamp each other command of rt builds, and so proves, all libraries anew. So the prover is called as
-'rattle check --help' has it, in this file alone.
+No command of rt says it over the libraries that an rt ci has built. Those hold statements alone
+and have no stamp, and without a stamp each other command of rt builds, and so proves, them all
+anew. So the prover is called here, and here alone, by words that 'rattle check --help' explains.
 """
 import os
 import re
@@ -11,24 +11,27 @@ import tempfile
 from typing import NamedTuple
 
 import crates as listing
-from mutants.edits import NO_FUNCTION
+from mutants.edits import NO_FUNCTION, read
 
 SEARCHED = 'it is not proved that'
 SHOWN_FALSE = 'allow values at which this goal is false'
-NAMES = re.compile(r'has no field|\(nearest: |is not in scope|has no `|was not admitted|is no name|operand is missing'
-                   '|expected the end|cannot continue')
 NO_PROOF = '`search`: no proof of'
+GONE = re.compile(r'has no field|\(nearest: |is not in scope|has no `|was not admitted|is no name'
+                  '|operand is missing|expected the end|cannot continue')
 NOTE = re.compile(r'note: (?:\./)?(\S+?:\d+):\d+: (.*)')
 ERROR = re.compile(r'(?:\./)?(\S+?:\d+):\d+: error: (.*)')
-VERDICT = re.compile(r'fn \w+::(\S+): (.*)')
+VERDICT = re.compile(r'fn \w+::(\S+): ')
 ENDED = re.compile(r'only=(\d+) proved=(\d+)|logic=(proved|not-proved)\b')
 ASKED_FOR = re.compile(r'^pub (\S+) : goal\.', re.M)
-BORROWED_TWICE = 'error[borrow-e0499]'
+NAMED = re.compile(r'.*?\(`([^`]*)`\)|`([^`]*)`')
 
 
 class Failure(NamedTuple):
-    """A goal that fails: its function, its name, and where. A search that leaves a goal open may have missed a proof,
-    and a proof file that names what is gone says nothing of the goal."""
+    """A goal that fails: its function, its name, and where.
+
+    A search that leaves a goal open may have missed a proof, and an error at a name that is gone
+    says nothing of the goal.
+    """
     function: str
     name: str
     place: str
@@ -51,8 +54,8 @@ class Check:
         self.failures = list(self.failing())
 
     def failing(self):
-        """The goals that fail. A note stands above the verdict on its function, and an error in a proof file in the
-        folder of its function."""
+        """The goals that fail. A note stands above the verdict on its function, and an error in a
+        proof file lies in the folder of its function."""
         notes = []
         for line in self.lines:
             note, error, verdict = (x.match(line) for x in (NOTE, ERROR, VERDICT))
@@ -69,27 +72,27 @@ class Check:
         return [x for x in self.failures if (x.function, x.name) == goal]
 
     def text(self):
-        """What it said at its end, and of what it refused first."""
+        """What it refused first, and its last line."""
         refused = [x for x in self.lines if ERROR.match(x) or x.startswith('error')]
         return '; '.join([x[:160] for x in [*refused[:2], self.lines[-1]]])
 
 
 def failure(function, said, is_open):
-    """The failure of which a message tells. It names the goal in brackets, or first."""
+    """The failure of which a message tells. It names the goal in brackets, or else first."""
     place, text = said.groups()
-    name = re.search(r'\(`([^`]*)`\)', text) or re.match('`([^`]*)`', text)
-    is_by_name = bool(NAMES.search(text)) and NO_PROOF not in text
-    return Failure(function, name[1] if name else '?', place, is_open, is_by_name)
+    name = NAMED.match(text)
+    is_by_name = bool(GONE.search(text)) and NO_PROOF not in text
+    return Failure(function, (name[1] or name[2]) if name else '?', place, is_open, is_by_name)
 
 
 def function_of(folder):
-    """The function whose proof stands in a folder, also if it is that of a cycle of calls."""
+    """The function whose proof stands in a folder. That of a cycle of calls begins with '+'."""
     names = [x.removeprefix('+') for x in folder.split('/')]
     return '::'.join(names[1:]) or NO_FUNCTION
 
 
 class Prover:
-    """The prover, over the libraries that lie in a folder's crates/*/out, or in the toolchain."""
+    """The prover, over the libraries in a folder's crates/*/out and those of the toolchain."""
 
     def __init__(self, crates, folder):
         self.crates = crates
@@ -97,6 +100,7 @@ class Prover:
         self.kit = listing.kit()
 
     def library(self, name):
+        """Where a library lies as it was built."""
         if name in self.crates:
             return os.path.join(self.folder, 'crates', name, 'out', 'rlib', name + '.rlib')
         return '%s/rlibs/%s.rlib' % (self.kit, name)
@@ -122,21 +126,24 @@ class Prover:
                 with open(os.path.join(room, path), 'w', encoding='utf-8') as file:
                     file.write(text)
             words = [self.kit + '/bin/rattle', verb, *self.words(sources), *more]
-            return subprocess.run(words, cwd=room, stdin=subprocess.DEVNULL, stdout=subprocess.PIPE,
-                                  stderr=subprocess.STDOUT, encoding='utf-8', errors='replace', check=False).stdout
+            ran = subprocess.run(words, cwd=room, stdin=subprocess.DEVNULL, check=False,
+                                 stdout=subprocess.PIPE, stderr=subprocess.STDOUT,
+                                 encoding='utf-8', errors='replace')
+        return ran.stdout
 
     def check(self, sources, texts, work, functions=()):
-        """A check of these functions, or of all, over the work that lies in a folder."""
-        only = [x for function in sorted({*functions} - {NO_FUNCTION}) for x in ('--only', function)]
+        """A check of these functions, or of all, over what earlier ones left in a folder."""
+        named = sorted({*functions} - {NO_FUNCTION})
+        only = [x for function in named for x in ('--only', function)]
         return Check(self.run('check', sources, texts, '--incremental', work, *only))
 
     def archive(self, sources, work, path):
-        """Builds a static library, which has its name once it is whole, and returns what the build said."""
-        parts = path + '.part'
-        said = self.run('build', sources, {}, '--incremental', work, '--toolchain', self.kit + '/toolchain',
-                        '--backend', 'llvm', '-o', parts)
-        if os.path.exists(parts):
-            os.replace(parts, path)
+        """Builds a static library, which has its name once it is whole. Returns what was said."""
+        part = path + '.part'
+        said = self.run('build', sources, {}, '--incremental', work, '--backend', 'llvm',
+                        '--toolchain', self.kit + '/toolchain', '-o', part)
+        if os.path.exists(part):
+            os.replace(part, path)
         return Check(said)
 
     def goals(self, sources, work, functions):
@@ -147,7 +154,7 @@ class Prover:
             self.run('check', sources, {}, '--incremental', work, *started, '--generated', room)
             top = os.path.join(room, 'Rattle-%s-proofs' % sources.crate.name)
             for at, _, files in os.walk(top):
-                with_goals = [open(os.path.join(at, x), encoding='utf-8').read() for x in files]
-                names = {name for text in with_goals for name in ASKED_FOR.findall(text)}
-                found[function_of(os.path.relpath(at, os.path.dirname(top)))] = names
+                texts = [read(os.path.join(at, x)) for x in files]
+                found[function_of(os.path.relpath(at, room))] = {
+                    name for text in texts for name in ASKED_FOR.findall(text)}
         return found

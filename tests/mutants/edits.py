@@ -1,11 +1,13 @@
-"""The edits of crates/*/must-fail, the sources that they turn, and which of them one check can try.
+"""The edits of crates/*/must-fail, what they turn, and which of them one check can try.
 
-An edit is a file with lines 'file:', 'old:' and 'new:', as rt reads them, and one line of this repository's own:
+An edit is a file with lines 'file:', 'old:' and 'new:', as rt reads them, and a line that rt
+passes over:
 
     goal: FUNCTION GOAL
 
-It names a function as a check does after 'fn', without the crate's name, and the goal of it that fails with the edit.
-'goal: - LEMMA' names what is proved in a file right in proofs/, and all of the crate is checked.
+It names a function as a check does after 'fn', without the crate's name, and the goal of it that
+fails with the edit. 'goal: - LEMMA' is for what is proved in a file right in proofs/, where no
+function has its folder: all of the crate is checked.
 """
 import os
 import re
@@ -80,7 +82,8 @@ class Sources:
         return words[-1] if words else None
 
     def namings(self, word, function):
-        """How often the texts name a word, but for the lines that define it, and the proof of this function."""
+        """How often the texts name a word, but for the lines that define it, and for the proof of
+        this function."""
         own, defined = '/%s/' % function, re.compile(DEFINES % (word, word), re.M)
         texts = [text for path, text in self.texts.items() if own not in path]
         bare = [defined.sub('', USE.sub('', COMMENT.sub('', x))) for x in texts]
@@ -120,7 +123,8 @@ class Edit:
         return texts
 
     def turns(self, sources):
-        """The files and names of the functions whose code it turns, or none if it turns anything else."""
+        """The files and names of the functions whose code it turns, or none if it turns anything
+        else."""
         found = set()
         for file, old, _ in self.changes:
             text = sources.texts.get(file, '')
@@ -129,14 +133,15 @@ class Edit:
         return found if all(name for _, name in found) else set()
 
     def is_apart(self, sources):
-        """Whether it opens goals of its own function alone. Code does, and so does the promise of a function that
-        nothing else names, and a definition that this promise alone names."""
+        """Whether it opens goals of its own function alone. Code does, and so does the promise of
+        a function that nothing else names, and a definition that this promise alone names."""
+        function = self.goal.function.split('::')[-1]
+        words = {sources.word_at(file, old) for file, old, _ in self.changes}
         if self.turns(sources):
             return True
-        function = self.goal.function.split('::')[-1]
-        words = {word for file, old, _ in self.changes for word in [sources.word_at(file, old)]}
-        return words <= {None} and sources.namings(function, function) == 0 or \
-            all(x and sources.namings(x, function) <= 1 for x in words)
+        if words == {None}:
+            return sources.namings(function, function) == 0
+        return all(x and sources.namings(x, function) == 1 for x in words)
 
 
 class Line(NamedTuple):

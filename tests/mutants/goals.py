@@ -1,4 +1,4 @@
-"""Writes the lines 'goal:' of edits: which goal of which function fails with an edit by its meaning."""
+"""Writes the lines 'goal:' of edits: which goal of which function fails with an edit."""
 import os
 
 from mutants.edits import Goal, packs
@@ -14,39 +14,45 @@ class Writer:
         self.work = os.path.join(room, sources.crate.name)
 
     def write(self, edits):
-        """Writes the goals of these edits, and returns the names of those that have none."""
+        """Writes the goals of edits, and returns what to say of those in which none fails."""
         begun(self.work, self.sources)
-        lost = []
-        for pack in packs(edits, self.sources, lambda x: x.turns(self.sources)):
-            lost += self.write_pack(pack)
-        return lost
+        return [lost for pack in self.packs(edits) for lost in self.write_pack(pack)]
+
+    def packs(self, edits):
+        return packs(edits, self.sources, lambda x: x.turns(self.sources))
 
     def write_pack(self, pack):
-        """Tries a pack with all of the crate, and writes what it finds of each edit. What is found of none is tried
-        alone."""
+        """Tries a pack with all of the crate, and by itself each edit of which that says nothing.
+        A goal counts that fails by its meaning, and that a search does not leave open where the
+        right body has no such goal."""
         check = self.prover.check(self.sources, pack.texts, self.work)
-        found = {x: [y for y in check.failures if is_of(y, x.turns(self.sources)) and not y.is_by_name] for x in pack.edits}
-        asked = {y.function for those in found.values() if are_open(those) for y in those}
+        found = {x: failures_of(x.turns(self.sources), check) for x in pack.edits}
+        asked = {x.function for failures in found.values() if are_open(failures) for x in failures}
         right = self.prover.goals(self.sources, self.work, asked) if asked else {}
-        lost = []
         for edit, failures in found.items():
             sure = [x for x in failures if not x.is_open or not doubt(x, right)]
             if sure:
-                write(edit, Goal(*min(sure, key=lambda x: x.is_open)[:2]))
+                first = min(sure, key=lambda x: x.is_open)
+                write(edit, Goal(first.function, first.name))
             elif len(pack.edits) > 1:
-                lost += self.write_pack(packs([edit], self.sources, lambda x: x.turns(self.sources))[0])
+                yield from self.write_pack(self.packs([edit])[0])
             else:
-                lost.append('%s: %s' % (edit.name, '; '.join(map(str, failures[:3])) or check.text()))
-        return lost
+                told = '; '.join(map(str, failures[:3])) or check.text()
+                yield 'must-fail %s/%s: %s' % (self.sources.crate.name, edit.name, told)
 
 
-def is_of(failure, turned):
-    """Whether a failure is one of these functions, each a file and a name, or any where there are none."""
-    def is_one(file, name):
-        module = [x for x in os.path.splitext(file)[0].split('/')[1:] if x not in ('lib', 'main')]
-        path = failure.function.split('::')
-        return path[-1] == name and path[:len(module)] == module
-    return not turned or any(is_one(*x) for x in turned)
+def failures_of(turned, check):
+    """The goals that fail by their meaning of these functions, each a file and a name, or of any
+    where there are none."""
+    named = [x for x in check.failures if x.name != '?' and not x.is_by_name]
+    return [x for x in named if not turned or any(is_of(x, *those) for those in turned)]
+
+
+def is_of(failure, file, name):
+    """Whether a failure is of a function of this name in the module of this file."""
+    module = [x for x in os.path.splitext(file)[0].split('/')[1:] if x not in ('lib', 'main')]
+    path = failure.function.split('::')
+    return path[-1] == name and path[:len(module)] == module
 
 
 def write(edit, goal):

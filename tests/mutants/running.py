@@ -1,4 +1,4 @@
-"""The order of the work: which crate is tried when, how many at a time, and what is told of each edit."""
+"""Which crate is tried when, how many checks run at a time, and what is told of each edit."""
 import os
 import re
 import tempfile
@@ -8,12 +8,13 @@ from concurrent.futures import ThreadPoolExecutor
 from typing import NamedTuple
 
 import crates as listing
-from mutants.checks import BORROWED_TWICE
 from mutants.edits import Edit, Line, packs, read
 from mutants.keeping import linked
 
-# a check of the crate as it stands, over which packs begin, saves more than it costs with so many packs
+# with so many packs a check of the crate as it stands, over which each begins, saves more than
+# it takes
 LEAST_WITH_SEED = 5
+BORROWED_TWICE = 'error[borrow-e0499]'
 
 
 class Told(NamedTuple):
@@ -36,14 +37,16 @@ class Beside:
 
     def knows(self, crate):
         """Whether it is known by now if a crate is proved."""
-        return self.says(r'^rt: %s (proved|is kept: .*|NOT PROVED.*)$|^rt ci has ended$' % crate.name)
+        proved = r'^rt: %s (proved|is kept: .*|NOT PROVED.*)$' % crate.name
+        return self.has_ended() or self.says(proved)
 
     def has_proved(self, crate):
         return self.says(r'^rt: %s (proved$|is kept: )' % crate.name)
 
 
 class Queue:
-    """What is to be done, as calls that give what they tell, each with a call that says if it may begin."""
+    """What is to be done: calls that return what they tell, each with a call that says if it may
+    begin."""
 
     def __init__(self, beside):
         self.beside = beside
@@ -63,8 +66,8 @@ class Queue:
         return ready and ready[1]
 
     def work(self, number):
-        """Does one call after another. Beside an rt ci, which takes all processors, only the first worker works:
-        with two checks on a processor each takes up to twice its seconds."""
+        """Does one call after another. Beside an rt ci, which takes all processors, the first
+        worker works alone: of two checks on a processor each takes up to twice its seconds."""
         while self.left:
             call = self.take() if number == 0 or self.beside.has_ended() else None
             if call is None:
@@ -78,19 +81,22 @@ class Queue:
 
     def done(self):
         """Does all, and returns what is told."""
-        with ThreadPoolExecutor(listing.processors()) as pool:
-            for ended in [pool.submit(self.work, x) for x in range(listing.processors())]:
+        workers = range(listing.processors())
+        with ThreadPoolExecutor(len(workers)) as pool:
+            for ended in [pool.submit(self.work, x) for x in workers]:
                 ended.result()
         return self.told
 
 
 class Work:
-    """What is tried of a crate: edits, its lines that comments hold, and for C its archive."""
+    """What is tried of a crate: edits, the lines that its comments hold, and its archive for C.
+
+    The goals of fresh edits, given by their names, are looked for in the right bodies too.
+    """
 
     def __init__(self, sources, edits, fresh, kept, room):
         self.sources = sources
         self.edits = edits
-        # the names of those whose goals are asked for in the right bodies too
         self.fresh = fresh
         self.kept = kept
         self.prover = kept.prover
@@ -103,13 +109,14 @@ class Work:
             queue.add(lambda: queue.beside.knows(self.sources.crate), lambda: self.begin(queue))
 
     def begin(self, queue):
-        """Tells what is kept, and tries the rest: in turn, or each pack by itself over a check of the crate."""
+        """Tells what is kept, and tries the rest: in turn, or over a check of the crate as it
+        stands, each pack a call of its own."""
         tried = [*self.sources.lines(), *self.edits]
         if not queue.beside.has_proved(self.sources.crate):
             return [self.say(x.name, 'ITS CRATE IS NOT PROVED') for x in tried]
         kept = [(x, self.kept.told(self.sources, x)) for x in tried]
         told = [Told(line, True) for _, line in kept if line]
-        print(*['%s (kept)' % x.line for x in told], sep='\n', end='\n' * bool(told), flush=True)
+        print(*['%s (kept)\n' % x.line for x in told], sep='', end='', flush=True)
         new = [x for x, line in kept if not line]
         made = packs([x for x in new if isinstance(x, Edit)], self.sources, self.turned)
         if new or self.archive:
@@ -126,69 +133,80 @@ class Work:
         return told
 
     def turned(self, edit):
-        """By what it is told from the other edits of its pack."""
+        """By what an edit is told from the others of its pack, or nothing where it has to stand
+        alone."""
         if not edit.goal or not edit.is_apart(self.sources):
             return set()
         return {edit.goal.function, *edit.turns(self.sources)}
 
     def say(self, what, why, told=''):
+        """Tells what a thing came to: why it is no good, or else this."""
         line = 'must-fail %s/%s: %s' % (self.sources.crate.name, what, why or told)
         print(line, flush=True)
         return Told(line, not why)
 
     def archived(self):
-        """Builds the library for C. What that proves is what its packs begin with."""
-        said = self.prover.archive(self.sources, self.work, self.archive)
-        why = None if os.path.exists(self.archive) else 'NOT BUILT: %s' % said.text()
+        """Builds the library for C. Its packs begin with what that proves."""
+        check = self.prover.archive(self.sources, self.work, self.archive)
+        why = None if os.path.exists(self.archive) else 'NOT BUILT: ' + check.text()
         return self.say(os.path.basename(self.archive), why, 'built')
 
     def line_told(self, line):
         """Tries a line as code, which is to break the rules of borrows."""
         check = self.prover.check(self.sources, line.texts(self.sources), self.work)
-        errors = [x for x in check.lines if x.startswith((line.file, './' + line.file)) and BORROWED_TWICE in x]
+        errors = [x for x in check.lines if line.file in x and BORROWED_TWICE in x]
         told = self.say(line.name, None if errors else 'NOT REFUSED', 'refused: %s' % errors[:1])
         if told.is_good:
             self.kept.keep(self.sources, line, told.line)
         return told
 
     def pack_told_apart(self, pack):
-        """Tries a pack over a copy of what the crate's check left."""
+        """Tries a pack over a copy of what the check of the crate left."""
         with tempfile.TemporaryDirectory(prefix='must-fail-') as room:
             return self.packs_told([pack], linked(self.work, os.path.join(room, 'work')))
 
     def packs_told(self, made, work):
-        """Tries packs in turn, and says of each edit whether it is good. An edit that is fresh, or whose function is, has
-        to leave open a goal that its function has as it stands, or one that is shown to be false."""
+        """Tries packs in turn, and says of each edit whether it is good."""
         judged = [x for pack in made for x in self.judged(pack, work)]
-        asked = {edit.goal.function for edit, failures, _ in judged if edit.name in self.fresh and are_open(failures)}
+        asked = {edit.goal.function for edit, failures, _ in judged
+                 if edit.name in self.fresh and are_open(failures)}
         right = self.prover.goals(self.sources, work, asked) if asked else {}
         told = []
         for edit, failures, why in judged:
-            if edit.goal and edit.goal.function in asked and are_open(failures):
-                why = why or doubt(edit.goal, right)
-            told.append(self.say(edit.name, why, 'refused: %s' % '; '.join(map(str, failures))))
+            if edit.name in self.fresh and are_open(failures):
+                why = doubt(edit.goal, right)
+            told.append(self.say(edit.name, why, 'refused: ' + '; '.join(map(str, failures))))
             if not why:
                 self.kept.keep(self.sources, edit, told[-1].line)
         return told
 
     def judged(self, pack, work):
-        """The edits of a pack, with the failures of the goal of each, and why it is no good, if it is none."""
+        """The edits of a pack, with the failures of the goal of each, and why it is no good, if
+        it is none."""
         edits = [x for x in pack.edits if x.goal and x.texts(self.sources, {})]
         for edit in pack.edits:
             if edit not in edits:
-                yield edit, [], 'DOES NOT APPLY' if edit.goal else 'HAS NO GOAL: tests/must_fail.py --write-goals'
-        check = edits and self.prover.check(self.sources, pack.texts, work, {x.goal.function for x in edits})
-        if len(edits) > 1 and not check.ended:
-            half = len(edits) // 2
-            for part in packs(edits[:half], self.sources, self.turned) + packs(edits[half:], self.sources, self.turned):
-                yield from self.judged(part, work)
+                yield edit, [], 'DOES NOT APPLY' if edit.goal else 'HAS NO GOAL: see --write-goals'
+        if not edits:
+            return
+        functions = {x.goal.function for x in edits}
+        check = self.prover.check(self.sources, pack.texts, work, functions)
+        half = len(edits) // 2
+        if half and not check.ended:
+            for part in edits[:half], edits[half:]:
+                yield from self.judged_anew(part, work)
             return
         for edit in edits:
             failures = [x for x in check.of(edit.goal) if not x.is_by_name]
-            if failures or len(edits) == 1:
-                yield edit, failures, None if failures else missed(check, edit.goal)
+            if half and not failures:
+                yield from self.judged_anew([edit], work)
             else:
-                yield from self.judged(packs([edit], self.sources, self.turned)[0], work)
+                yield edit, failures, None if failures else missed(check, edit.goal)
+
+    def judged_anew(self, edits, work):
+        """The same of some edits of a pack, in a check of their own."""
+        for pack in packs(edits, self.sources, self.turned):
+            yield from self.judged(pack, work)
 
 
 def begun(work, sources):
@@ -197,26 +215,29 @@ def begun(work, sources):
     if os.path.isdir(left):
         linked(left, work)
     else:
-        os.makedirs(work, exist_ok=True)
+        os.makedirs(work)
 
 
 def are_open(failures):
+    """Whether there are failures, and a search left each open."""
     return bool(failures) and all(x.is_open for x in failures)
 
 
 def doubt(goal, right):
-    """Why a goal that a search leaves open says little, if the function as it stands has no such goal. A goal of several
-    clauses is told clause by clause, or as one."""
-    whole = {x.partition('-clause-')[0] for x in right.get(goal.function, ())}
-    return None if goal.name.partition('-clause-')[0] in whole else 'THE RIGHT BODY HAS NO GOAL %s' % goal.name
+    """Why a goal that a search leaves open says little, if the function as it stands has no such
+    goal. One of several clauses is told clause by clause, or as a whole."""
+    names = {x.partition('-clause-')[0] for x in right.get(goal.function, ())}
+    is_there = goal.name.partition('-clause-')[0] in names
+    return None if is_there else 'THE RIGHT BODY HAS NO GOAL ' + goal.name
 
 
 def missed(check, goal):
     """Why an edit is no good whose goal does not fail by its meaning."""
     if not check.ended:
-        return 'NOT TRIED: %s' % check.text()
+        return 'NOT TRIED: ' + check.text()
     if not check.is_refused:
-        return 'NOT REFUSED: %s' % check.text()
+        return 'NOT REFUSED: ' + check.text()
     if check.of(goal):
         return 'REFUSED BY NAMES ALONE: it says little of the contract: %s' % check.of(goal)[0]
-    return 'THE GOAL %s DOES NOT FAIL, but: %s' % (goal, '; '.join(map(str, check.failures[:3])) or check.text())
+    told = '; '.join(map(str, check.failures[:3])) or check.text()
+    return 'THE GOAL %s DOES NOT FAIL, but: %s' % (str(goal), told)
