@@ -25,7 +25,7 @@ that opens no goal there is tried by itself, and so is one of what others rest o
 crate's code that a comment 'refused:' holds is tried too: as code, it breaks the rules of borrows.
 
 What a good edit came to is kept on this machine, and told again while nothing changes that its
-check reads; with --anew each is tried. The libraries are those that rt left in out/. With
+check reads, and so is the archive; with --anew all is done. The libraries are those that rt left in out/. With
 '--beside FOLDER LOG' they are those that an rt ci makes there meanwhile, each crate's once the
 output in LOG says that it is proved. Until LOG has the line 'rt ci has ended' one check runs at a
 time, and then as many as there are processors. '--archive FILE' builds the library for C there.

@@ -140,6 +140,8 @@ class Prover:
     def archive(self, sources, work, path):
         """Builds a static library, which has its name once it is whole. Returns what was said."""
         part = path + '.part'
+        for old in [x for x in (part, path) if os.path.exists(x)]:
+            os.remove(old)
         said = self.run('build', sources, {}, '--incremental', work, '--backend', 'llvm',
                         '--toolchain', self.kit + '/toolchain', '-o', part)
         if os.path.exists(part):

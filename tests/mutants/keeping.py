@@ -13,6 +13,7 @@ import tempfile
 import crates as listing
 from mutants.edits import read
 
+ARCHIVE = 'archive'
 SCRIPTS = os.path.dirname(os.path.abspath(__file__))
 
 
@@ -37,25 +38,42 @@ class Kept:
             self.sums[name] = sum_of(parts)
         return self.sums[name]
 
-    def path(self, sources, edit):
-        """Where it is kept what an edit came to."""
-        return os.path.join(self.folder, sum_of((self.base(sources), edit.name, edit.text)))
+    def path(self, sources, name, text=''):
+        """Where something of a crate is kept, an edit by its name and its text."""
+        return os.path.join(self.folder, sum_of((self.base(sources), name, text)))
 
     def told(self, sources, edit):
         """What is kept of an edit, or None."""
-        path = self.path(sources, edit)
+        path = self.path(sources, edit.name, edit.text)
         return None if self.is_anew or not os.path.isfile(path) else read(path)
 
     def keep(self, sources, edit, line):
-        """Keeps what a good edit came to. Who reads it meanwhile finds all of it or nothing."""
+        """Keeps what a good edit came to."""
+        self.put(self.path(sources, edit.name, edit.text), line.encode())
+
+    def gives(self, sources, archive):
+        """Whether an archive is kept, which then has this path."""
+        path = self.path(sources, ARCHIVE)
+        if self.is_anew or not os.path.isfile(path):
+            return False
+        shutil.copyfile(path, archive + '.part')
+        os.replace(archive + '.part', archive)
+        return True
+
+    def keep_archive(self, sources, archive):
+        """Keeps an archive."""
+        with open(archive, 'rb') as file:
+            self.put(self.path(sources, ARCHIVE), file.read())
+
+    def put(self, path, data):
+        """Writes a file. Who reads it meanwhile finds all of it or nothing."""
         try:
             os.makedirs(self.folder, exist_ok=True)
-            how = {'mode': 'w', 'encoding': 'utf-8', 'dir': self.folder, 'delete': False}
-            with tempfile.NamedTemporaryFile(**how) as file:
-                file.write(line)
-            os.replace(file.name, self.path(sources, edit))
+            with tempfile.NamedTemporaryFile(dir=self.folder, delete=False) as file:
+                file.write(data)
+            os.replace(file.name, path)
         except OSError as error:
-            print('must-fail: %s is not kept: %s' % (edit.name, error.strerror), flush=True)
+            print('must-fail: nothing is kept: %s' % error, flush=True)
 
 
 def sum_of(parts):

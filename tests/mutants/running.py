@@ -119,10 +119,11 @@ class Work:
         print(*['%s (kept)\n' % x.line for x in told], sep='', end='', flush=True)
         new = [x for x, line in kept if not line]
         made = packs([x for x in new if isinstance(x, Edit)], self.sources, self.turned)
-        if new or self.archive:
+        is_built = self.archive and self.kept.gives(self.sources, self.archive)
+        if new or self.archive and not is_built:
             begun(self.work, self.sources)
         told += [self.line_told(x) for x in new if isinstance(x, Line)]
-        if self.archive:
+        if self.archive and not is_built:
             told.append(self.archived())
         elif len(made) >= LEAST_WITH_SEED:
             self.prover.check(self.sources, {}, self.work)
@@ -148,8 +149,10 @@ class Work:
     def archived(self):
         """Builds the library for C. Its packs begin with what that proves."""
         check = self.prover.archive(self.sources, self.work, self.archive)
-        why = None if os.path.exists(self.archive) else 'NOT BUILT: ' + check.text()
-        return self.say(os.path.basename(self.archive), why, 'built')
+        if not os.path.exists(self.archive):
+            return self.say(os.path.basename(self.archive), 'NOT BUILT: ' + check.text())
+        self.kept.keep_archive(self.sources, self.archive)
+        return self.say(os.path.basename(self.archive), None, 'built')
 
     def line_told(self, line):
         """Tries a line as code, which is to break the rules of borrows."""
