@@ -5,6 +5,8 @@ import os
 import subprocess
 import sys
 import tempfile
+import threading
+import time
 import unittest
 
 sys.path.insert(0, os.path.dirname(os.path.abspath(__file__)))
@@ -13,6 +15,7 @@ import must_fail  # noqa: E402
 from mutants.checks import Check  # noqa: E402
 from mutants.due import History  # noqa: E402
 from mutants.edits import Edit, Goal, Sources, packs  # noqa: E402
+from mutants.running import Beside, Queue  # noqa: E402
 
 SOURCE = '''#![tactic(auto)]
 
@@ -149,6 +152,49 @@ class Packs(Small):
         self.assertTrue(Edit(path).is_apart(self.sources()))
         written(self.top, 'crates/small/src/lib.rt', SOURCE + 'fn other() { first(1, 2); }\n')
         self.assertFalse(Edit(path).is_apart(self.sources()))
+
+
+class Queued(Small):
+    """The order of calls beside an rt ci."""
+
+    def setUp(self):
+        super().setUp()
+        self.at_once, self.most, self.taking = 0, [], threading.Lock()
+
+    def call(self):
+        with self.taking:
+            self.at_once += 1
+            self.most.append(self.at_once)
+        time.sleep(0.2)
+        with self.taking:
+            self.at_once -= 1
+        return ['told']
+
+    def test_one_call_at_a_time_until_rt_ci_has_ended(self):
+        log = written(self.top, 'log', 'rt: small proved\n')
+        queue = Queue(Beside(log))
+        for _ in range(3):
+            queue.add(lambda: True, self.call)
+
+        def end():
+            written(self.top, 'log', 'rt: small proved\nrt ci has ended\n')
+            for _ in range(4 * listing.processors()):
+                queue.add(lambda: True, self.call)
+            return []
+        queue.add(lambda: True, end)
+        self.assertEqual(len(queue.done()), 3 + 4 * listing.processors())
+        self.assertEqual(max(self.most[:3]), 1)
+        self.assertEqual(max(self.most), listing.processors())
+
+    def test_a_crate_is_tried_once_rt_ci_says_that_it_is_proved(self):
+        crate = listing.listed(self.top)['small']
+        for text, is_known, is_proved in (('', False, False), ('rt: small proved\n', True, True),
+                                          ('rt: small is kept: an earlier run\n', True, True),
+                                          ('rt: small NOT PROVED\n', True, False),
+                                          ('rt: smaller proved\n', False, False),
+                                          ('rt ci has ended\n', True, False)):
+            beside = Beside(written(self.top, 'log', text))
+            self.assertEqual((beside.knows(crate), beside.has_proved(crate)), (is_known, is_proved))
 
 
 class Due(Small):
