@@ -19,14 +19,20 @@ class Writer:
         return [lost for pack in self.packs(edits) for lost in self.write_pack(pack)]
 
     def packs(self, edits):
-        return packs(edits, self.sources, lambda x: x.turns(self.sources))
+        """Edits in packs. Those of functions of one name stand in several, since the path of a
+        function is that of its type, and so tells nothing of its file."""
+        return packs(edits, self.sources, self.names)
+
+    def names(self, edit):
+        """The names of the functions that an edit turns, or none where it turns anything else."""
+        return {name for _, name in edit.turns(self.sources)}
 
     def write_pack(self, pack):
         """Tries a pack with all of the crate, and by itself each edit of which that says nothing.
         A goal counts that fails by its meaning, and that a search does not leave open where the
         right body has no such goal."""
         check = self.prover.check(self.sources, pack.texts, self.work)
-        found = {x: failures_of(x.turns(self.sources), check) for x in pack.edits}
+        found = {x: failures_of(self.names(x), check) for x in pack.edits}
         asked = {x.function for failures in found.values() if are_open(failures) for x in failures}
         right = self.prover.goals(self.sources, self.work, asked) if asked else {}
         for edit, failures in found.items():
@@ -41,18 +47,11 @@ class Writer:
                 yield 'must-fail %s/%s: %s' % (self.sources.crate.name, edit.name, told)
 
 
-def failures_of(turned, check):
-    """The goals that fail by their meaning of these functions, each a file and a name, or of any
-    where there are none."""
-    named = [x for x in check.failures if x.name != '?' and not x.is_by_name]
-    return [x for x in named if not turned or any(is_of(x, *those) for those in turned)]
-
-
-def is_of(failure, file, name):
-    """Whether a failure is of a function of this name in the module of this file."""
-    module = [x for x in os.path.splitext(file)[0].split('/')[1:] if x not in ('lib', 'main')]
-    path = failure.function.split('::')
-    return path[-1] == name and path[:len(module)] == module
+def failures_of(names, check):
+    """The goals that fail by their meaning of functions of these names, or of any where there are
+    none."""
+    failures = [x for x in check.failures if x.name != '?' and not x.is_by_name]
+    return [x for x in failures if not names or x.function.split('::')[-1] in names]
 
 
 def write(edit, goal):
