@@ -24,11 +24,12 @@ code opens goals of its own function alone, and one check tries edits of many fu
 that opens no goal there is tried by itself, and so is one of what others rest on. Each line of a
 crate's code that a comment 'refused:' holds is tried too: as code, it breaks the rules of borrows.
 
-What a good edit came to is kept on this machine, and told again while nothing changes that its
-check reads, and so is the archive; with --anew all is done. The libraries are those that rt left in out/. With
-'--beside FOLDER LOG' they are those that an rt ci makes there meanwhile, each crate's once the
-output in LOG says that it is proved. Until LOG has the line 'rt ci has ended' one check runs at a
-time, and then as many as there are processors. '--archive FILE' builds the library for C there.
+The libraries are those that rt left in out/. With '--beside FOLDER LOG' they are those that an
+rt ci makes there meanwhile, each crate's once the output in LOG says that it is proved. Until LOG
+has the line 'rt ci has ended' one check runs at a time, and then as many as there are processors.
+'--archive FILE' builds the library for C there. What a good edit came to is kept on this machine,
+and told again while nothing changes that its check reads, and so is that library; with --anew all
+is done.
 
 The last line sums all: 'N passed, M failed'.
 """
@@ -36,6 +37,7 @@ import argparse
 import os
 import sys
 import tempfile
+from concurrent.futures import ThreadPoolExecutor
 
 import crates as listing
 from mutants.checks import Prover
@@ -77,12 +79,12 @@ def chosen(asked, sources, history):
 
 def written(asked, sources, prover):
     """Writes the goals of edits, and returns what to say of those in which none fails."""
-    lost = []
-    with tempfile.TemporaryDirectory(prefix='must-fail-') as room:
-        for of in sources.values():
-            edits = [x for x in of.edits() if asked.anew or not x.goal]
-            lost += Writer(of, prover, room).write(edits) if edits else []
-    return lost
+    edits = {x: [y for y in of.edits() if asked.anew or not y.goal] for x, of in sources.items()}
+    with tempfile.TemporaryDirectory(prefix='must-fail-') as room, \
+            ThreadPoolExecutor(listing.processors()) as pool:
+        runs = [pool.submit(Writer(of, prover, room).write, edits[x])
+                for x, of in sources.items() if edits[x]]
+        return [lost for ran in runs for lost in ran.result()]
 
 
 def tried(asked, sources, history, kept):

@@ -194,7 +194,8 @@ class Queued(Small):
                                           ('rt: smaller proved\n', False, False),
                                           ('rt ci has ended\n', True, False)):
             beside = Beside(written(self.top, 'log', text))
-            self.assertEqual((beside.knows(crate), beside.has_proved(crate)), (is_known, is_proved))
+            self.assertEqual(beside.knows(crate), is_known)
+            self.assertEqual(beside.has_proved(crate), is_proved)
 
 
 class Due(Small):

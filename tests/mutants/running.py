@@ -8,7 +8,7 @@ from concurrent.futures import ThreadPoolExecutor
 from typing import NamedTuple
 
 import crates as listing
-from mutants.edits import Edit, Line, packs, read
+from mutants.edits import Line, packs, read
 from mutants.keeping import linked
 
 # with so many packs a check of the crate as it stands, over which each begins, saves more than
@@ -109,20 +109,19 @@ class Work:
             queue.add(lambda: queue.beside.knows(self.sources.crate), lambda: self.begin(queue))
 
     def begin(self, queue):
-        """Tells what is kept, and tries the rest: in turn, or over a check of the crate as it
+        """Tells what is known, and tries the rest: in turn, or over a check of the crate as it
         stands, each pack a call of its own."""
-        tried = [*self.sources.lines(), *self.edits]
+        lines = list(self.sources.lines())
         if not queue.beside.has_proved(self.sources.crate):
-            return [self.say(x.name, 'ITS CRATE IS NOT PROVED') for x in tried]
-        kept = [(x, self.kept.told(self.sources, x)) for x in tried]
-        told = [Told(line, True) for _, line in kept if line]
-        print(*['%s (kept)\n' % x.line for x in told], sep='', end='', flush=True)
-        new = [x for x, line in kept if not line]
-        made = packs([x for x in new if isinstance(x, Edit)], self.sources, self.turned)
+            return [self.say(x.name, 'ITS CRATE IS NOT PROVED') for x in [*lines, *self.edits]]
+        told, new = self.told_at_once([*lines, *self.edits])
         is_built = self.archive and self.kept.gives(self.sources, self.archive)
+        if is_built:
+            told.append(self.say(os.path.basename(self.archive), None, 'built (kept)'))
         if new or self.archive and not is_built:
             begun(self.work, self.sources)
-        told += [self.line_told(x) for x in new if isinstance(x, Line)]
+        told += [self.line_told(x) for x in new if x in lines]
+        made = packs([x for x in new if x not in lines], self.sources, self.turned)
         if self.archive and not is_built:
             told.append(self.archived())
         elif len(made) >= LEAST_WITH_SEED:
@@ -133,15 +132,35 @@ class Work:
             queue.add(lambda: True, lambda pack=pack: self.pack_told_apart(pack))
         return told
 
+    def told_at_once(self, tried):
+        """What is told of edits and lines that need no check, and the others."""
+        told, new = [], []
+        for one in tried:
+            fault, kept = self.fault(one), self.kept.told(self.sources, one)
+            if fault:
+                told.append(self.say(one.name, fault))
+            elif kept:
+                told.append(self.say(one.name, None, kept + ' (kept)'))
+            else:
+                new.append(one)
+        return told, new
+
+    def fault(self, edit):
+        """Why an edit cannot be tried, or None."""
+        if isinstance(edit, Line):
+            return None
+        if not edit.goal:
+            return 'HAS NO GOAL: see --write-goals'
+        return None if edit.texts(self.sources, {}) else 'DOES NOT APPLY'
+
     def turned(self, edit):
         """By what an edit is told from the others of its pack, or nothing where it has to stand
         alone."""
-        if not edit.goal or not edit.is_apart(self.sources):
-            return set()
-        return {edit.goal.function, *edit.turns(self.sources)}
+        is_apart = edit.is_apart(self.sources)
+        return {edit.goal.function, *edit.turns(self.sources)} if is_apart else set()
 
     def say(self, what, why, told=''):
-        """Tells what a thing came to: why it is no good, or else this."""
+        """Tells what something came to: why it is no good, or else this."""
         line = 'must-fail %s/%s: %s' % (self.sources.crate.name, what, why or told)
         print(line, flush=True)
         return Told(line, not why)
@@ -158,10 +177,10 @@ class Work:
         """Tries a line as code, which is to break the rules of borrows."""
         check = self.prover.check(self.sources, line.texts(self.sources), self.work)
         errors = [x for x in check.lines if line.file in x and BORROWED_TWICE in x]
-        told = self.say(line.name, None if errors else 'NOT REFUSED', 'refused: %s' % errors[:1])
-        if told.is_good:
-            self.kept.keep(self.sources, line, told.line)
-        return told
+        if not errors:
+            return self.say(line.name, 'NOT REFUSED: ' + check.text())
+        self.kept.keep(self.sources, line, 'refused: ' + errors[0])
+        return self.say(line.name, None, 'refused: ' + errors[0])
 
     def pack_told_apart(self, pack):
         """Tries a pack over a copy of what the check of the crate left."""
@@ -178,28 +197,23 @@ class Work:
         for edit, failures, why in judged:
             if edit.name in self.fresh and are_open(failures):
                 why = doubt(edit.goal, right)
-            told.append(self.say(edit.name, why, 'refused: ' + '; '.join(map(str, failures))))
+            line = 'refused: ' + '; '.join(map(str, failures))
+            told.append(self.say(edit.name, why, line))
             if not why:
-                self.kept.keep(self.sources, edit, told[-1].line)
+                self.kept.keep(self.sources, edit, line)
         return told
 
     def judged(self, pack, work):
         """The edits of a pack, with the failures of the goal of each, and why it is no good, if
         it is none."""
-        edits = [x for x in pack.edits if x.goal and x.texts(self.sources, {})]
-        for edit in pack.edits:
-            if edit not in edits:
-                yield edit, [], 'DOES NOT APPLY' if edit.goal else 'HAS NO GOAL: see --write-goals'
-        if not edits:
-            return
-        functions = {x.goal.function for x in edits}
+        functions = {x.goal.function for x in pack.edits}
         check = self.prover.check(self.sources, pack.texts, work, functions)
-        half = len(edits) // 2
+        half = len(pack.edits) // 2
         if half and not check.ended:
-            for part in edits[:half], edits[half:]:
+            for part in pack.edits[:half], pack.edits[half:]:
                 yield from self.judged_anew(part, work)
             return
-        for edit in edits:
+        for edit in pack.edits:
             failures = [x for x in check.of(edit.goal) if not x.is_by_name]
             if half and not failures:
                 yield from self.judged_anew([edit], work)
@@ -213,7 +227,7 @@ class Work:
 
 
 def begun(work, sources):
-    """Makes a folder of work, which begins with what a check of the crate left, if one did."""
+    """Makes a folder of work, which begins with what checks of the crate left, if any did."""
     left = os.path.join(sources.folder, 'out', 'incremental')
     if os.path.isdir(left):
         linked(left, work)
