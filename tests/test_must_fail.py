@@ -154,6 +154,15 @@ class Packs(Small):
         self.assertFalse(Edit(path).is_apart(self.sources()))
 
 
+class Read(Small):
+    def test_a_line_has_a_function_a_goal_and_a_mark(self):
+        for line, goal, is_read in (('first returns', Goal('first', 'returns'), False),
+                                    ('first returns read', Goal('first', 'returns'), True),
+                                    ('first', None, False)):
+            path = edit(self.top, 'any', '    a', '    0', line)
+            self.assertEqual((Edit(path).goal, Edit(path).is_read), (goal, is_read))
+
+
 class Queued(Small):
     """The order of calls beside an rt ci."""
 

@@ -7,7 +7,8 @@ passes over:
 
 It names a function as a check does after 'fn', without the crate's name, and the goal of it that
 fails with the edit. 'goal: - LEMMA' is for what is proved in a file right in proofs/, where no
-function has its folder: all of the crate is checked.
+function has its folder: all of the crate is checked. With a third word, 'read', someone has read
+why the goal is false: that is for one which the edit itself brings in, as by a branch.
 """
 import os
 import re
@@ -98,7 +99,7 @@ class Edit:
         self.name = os.path.basename(path)
         self.text = read(path)
         self.changes = []
-        self.goal = None
+        self.goal, self.is_read = None, False
         file = old = None
         for line in self.text.split('\n'):
             word, _, rest = line.partition(':')
@@ -109,8 +110,9 @@ class Edit:
                 old = rest
             elif word == 'new':
                 self.changes.append((file, old, rest))
-            elif word == 'goal' and len(rest.split()) == 2:
-                self.goal = Goal(*rest.split())
+            elif word == 'goal' and len(rest.split()) >= 2:
+                function, goal, *marks = rest.split()
+                self.goal, self.is_read = Goal(function, goal), marks == ['read']
 
     def texts(self, sources, texts):
         """These texts of the sources with the change made, or None where it does not apply."""

@@ -190,12 +190,13 @@ class Work:
     def packs_told(self, made, work):
         """Tries packs in turn, and says of each edit whether it is good."""
         judged = [x for pack in made for x in self.judged(pack, work)]
-        asked = {edit.goal.function for edit, failures, _ in judged
-                 if edit.name in self.fresh and are_open(failures)}
-        right = self.prover.goals(self.sources, work, asked) if asked else {}
+        asked = [edit for edit, failures, _ in judged
+                 if edit.name in self.fresh and are_open(failures) and not edit.is_read]
+        functions = {x.goal.function for x in asked}
+        right = self.prover.goals(self.sources, work, functions) if asked else {}
         told = []
         for edit, failures, why in judged:
-            if edit.name in self.fresh and are_open(failures):
+            if edit in asked:
                 why = doubt(edit.goal, right)
             line = 'refused: ' + '; '.join(map(str, failures))
             told.append(self.say(edit.name, why, line))
