@@ -1,0 +1,162 @@
+"""What the prover says of a crate with other texts in place of its own.
+
+No command of rt says it over the libraries that an rt ci has built. Those hold statements alone
+and have no stamp, and without a stamp each other command of rt builds, and so proves, them all
+anew. So the prover is called here, and here alone, by words that 'rattle check --help' explains.
+"""
+import os
+import re
+import subprocess
+import tempfile
+from typing import NamedTuple
+
+import crates as listing
+from mutants.edits import NO_FUNCTION, read
+
+SEARCHED = 'it is not proved that'
+SHOWN_FALSE = 'allow values at which this goal is false'
+NO_PROOF = '`search`: no proof of'
+GONE = re.compile(r'has no field|\(nearest: |is not in scope|has no `|was not admitted|is no name'
+                  '|operand is missing|expected the end|cannot continue')
+NOTE = re.compile(r'note: (?:\./)?(\S+?:\d+):\d+: (.*)')
+ERROR = re.compile(r'(?:\./)?(\S+?:\d+):\d+: error: (.*)')
+VERDICT = re.compile(r'fn \w+::(\S+): ')
+ENDED = re.compile(r'only=(\d+) proved=(\d+)|logic=(proved|not-proved)\b')
+ASKED_FOR = re.compile(r'^pub (\S+) : goal\.', re.M)
+NAMED = re.compile(r'.*?\(`([^`]*)`\)|`([^`]*)`')
+
+
+class Failure(NamedTuple):
+    """A goal that fails: its function, its name, and where.
+
+    A search that leaves a goal open may have missed a proof, and an error at a name that is gone
+    says nothing of the goal.
+    """
+    function: str
+    name: str
+    place: str
+    is_open: bool
+    is_by_name: bool
+
+    def __str__(self):
+        return '%s of %s at %s' % (self.name, self.function, self.place)
+
+
+class Check:
+    """What a check said."""
+
+    def __init__(self, said):
+        # a long message is broken into lines, of which all but the first begin with two spaces
+        self.lines = re.sub('\n {2}(?! )', ' ', said.rstrip()).split('\n')
+        self.ended = ENDED.match(self.lines[-1])
+        asked, proved, whole = self.ended.groups() if self.ended else (None, None, None)
+        self.is_refused = asked != proved or whole == 'not-proved'
+        self.failures = list(self.failing())
+
+    def failing(self):
+        """The goals that fail. A note stands above the verdict on its function, and an error in a
+        proof file lies in the folder of its function."""
+        notes = []
+        for line in self.lines:
+            note, error, verdict = (x.match(line) for x in (NOTE, ERROR, VERDICT))
+            if note and SEARCHED in note[2]:
+                notes.append(note)
+            elif error:
+                yield failure(function_of(os.path.dirname(error[1])), error, False)
+            elif verdict:
+                yield from [failure(verdict[1], x, SHOWN_FALSE not in x[2]) for x in notes]
+                notes = []
+
+    def of(self, goal):
+        """The failures of a goal."""
+        return [x for x in self.failures if (x.function, x.name) == goal]
+
+    def text(self):
+        """What it refused first, and its last line."""
+        refused = [x for x in self.lines if ERROR.match(x) or x.startswith('error')]
+        return '; '.join([x[:160] for x in [*refused[:2], self.lines[-1]]])
+
+
+def failure(function, said, is_open):
+    """The failure of which a message tells. It names the goal in brackets, or else first."""
+    place, text = said.groups()
+    name = NAMED.match(text)
+    is_by_name = bool(GONE.search(text)) and NO_PROOF not in text
+    return Failure(function, (name[1] or name[2]) if name else '?', place, is_open, is_by_name)
+
+
+def function_of(folder):
+    """The function whose proof stands in a folder. That of a cycle of calls begins with '+'."""
+    names = [x.removeprefix('+') for x in folder.split('/')]
+    return '::'.join(names[1:]) or NO_FUNCTION
+
+
+class Prover:
+    """The prover, over the libraries in a folder's crates/*/out and those of the toolchain."""
+
+    def __init__(self, crates, folder):
+        self.crates = crates
+        self.folder = folder
+        self.kit = listing.kit()
+
+    def library(self, name):
+        """Where a library lies as it was built."""
+        if name in self.crates:
+            return os.path.join(self.folder, 'crates', name, 'out', 'rlib', name + '.rlib')
+        return '%s/rlibs/%s.rlib' % (self.kit, name)
+
+    def words(self, sources):
+        """What it is told of a crate."""
+        crate = sources.crate
+        libraries = [self.library(x) for x in listing.below(self.crates, crate.name)]
+        words = ['--crate-name', crate.name, sources.root()]
+        for name in ['std', *crate.uses]:
+            words += ['--extern', '%s=%s' % (name, self.library(name))]
+        for there in [self.kit + '/rlibs', *map(os.path.dirname, libraries)]:
+            words += ['-L', 'dependency=' + there]
+        words += ['--crate-type', 'staticlib'] * crate.is_static
+        words += ['--antt-project', self.kit + '/rattle/logic/antt-project.json']
+        return [*words, '--logic-built', self.kit + '/logic_built', '--jobs', '1']
+
+    def run(self, verb, sources, texts, *more):
+        """What it says of a crate with these texts in place of its own."""
+        with tempfile.TemporaryDirectory(prefix='must-fail-') as room:
+            for path, text in {**sources.texts, **texts}.items():
+                os.makedirs(os.path.dirname(os.path.join(room, path)), exist_ok=True)
+                with open(os.path.join(room, path), 'w', encoding='utf-8') as file:
+                    file.write(text)
+            words = [self.kit + '/bin/rattle', verb, *self.words(sources), *more]
+            ran = subprocess.run(words, cwd=room, stdin=subprocess.DEVNULL, check=False,
+                                 stdout=subprocess.PIPE, stderr=subprocess.STDOUT,
+                                 encoding='utf-8', errors='replace')
+        return ran.stdout
+
+    def check(self, sources, texts, work, functions=()):
+        """A check of these functions, or of all, over what earlier ones left in a folder."""
+        named = sorted({*functions} - {NO_FUNCTION})
+        only = [x for function in named for x in ('--only', function)]
+        return Check(self.run('check', sources, texts, '--incremental', work, *only))
+
+    def archive(self, sources, work, path):
+        """Builds a static library, which has its name once it is whole. Returns what was said."""
+        part = path + '.part'
+        for old in [x for x in (part, path) if os.path.exists(x)]:
+            os.remove(old)
+        said = self.run('build', sources, {}, '--incremental', work, '--backend', 'llvm',
+                        '--toolchain', self.kit + '/toolchain', '-o', part)
+        if os.path.exists(part):
+            os.replace(part, path)
+        return Check(said)
+
+    def goals(self, sources, work, functions):
+        """The names of the goals that functions have as they stand, by function."""
+        started = [x for function in sorted(functions) for x in ('--start', function)]
+        found = {}
+        with tempfile.TemporaryDirectory(prefix='must-fail-') as room:
+            self.run('check', sources, {}, '--incremental', work, *started, '--generated', room)
+            top = os.path.join(room, 'Rattle-%s-proofs' % sources.crate.name)
+            for at, _, files in os.walk(top):
+                texts = [read(os.path.join(at, x)) for x in files]
+                found[function_of(os.path.relpath(at, room))] = {
+                    name for text in texts for name in ASKED_FOR.findall(text)}
+        return found

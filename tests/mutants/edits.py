@@ -1,0 +1,200 @@
+"""The edits of crates/*/must-fail, what they turn, and which of them one check can try.
+
+An edit is a file with lines 'file:', 'old:' and 'new:', as rt reads them, and a line that rt
+passes over:
+
+    goal: FUNCTION GOAL
+
+It names a function as a check does after 'fn', without the crate's name, and the goal of it that
+fails with the edit. 'goal: - LEMMA' is for what is proved in a file right in proofs/, where no
+function has its folder: all of the crate is checked. With a third word, 'read', someone has read
+why the goal is false: that is for one which the edit itself brings in, as by a branch.
+"""
+import os
+import re
+from typing import NamedTuple
+
+MOST_IN_ONE = 64
+PARTS = 'src', 'specs', 'proofs'
+NO_FUNCTION = '-'
+REFUSED = '// refused: '
+COMMENT = re.compile('//.*|(?<![^ ])-- .*')
+USE = re.compile(r'\buse\s[^;{}]*\{[^}]*\}')
+DEFINITION = re.compile(r'^ *(?:abbrev )?(?:pub )?(\w+) : ', re.M)
+DEFINES = r'^ *((abbrev|pub) )*%s\b|\bfn %s\b'
+FUNCTION = re.compile(r'^( *)(?:pub(?:\([a-z]+\))? )?(?:extern "C" )?fn (\w+)')
+# the line at which a body begins where the function's first line does not end with it
+BODY = re.compile(r' *(\).*)?\{$')
+
+
+class Goal(NamedTuple):
+    """A goal of a function's proof."""
+    function: str
+    name: str
+
+    def __str__(self):
+        return '%s %s' % self
+
+
+class Sources:
+    """The files of a crate that a check reads, by their paths in its folder."""
+
+    def __init__(self, crate, folder):
+        self.crate = crate
+        self.folder = folder
+        self.texts = {}
+        for part in PARTS:
+            for at, _, files in os.walk(os.path.join(folder, part)):
+                paths = [os.path.join(at, x) for x in files]
+                self.texts.update({os.path.relpath(x, folder): read(x) for x in paths})
+
+    def root(self):
+        """The file with which the crate begins."""
+        return 'src/main.rt' if 'src/main.rt' in self.texts else 'src/lib.rt'
+
+    def edits(self):
+        """The edits of its folder must-fail, where nothing else stands but pages to be read."""
+        there = os.path.join(self.folder, 'must-fail')
+        names = sorted(os.listdir(there)) if os.path.isdir(there) else []
+        return [Edit(os.path.join(there, x)) for x in names if not x.endswith('.md')]
+
+    def lines(self):
+        """Its lines of code that a comment 'refused:' holds."""
+        for file, text in sorted(self.texts.items()):
+            for at, line in enumerate(text.split('\n')):
+                if file.startswith('src/') and REFUSED in line:
+                    yield Line(file, at + 1)
+
+    def function_at(self, file, number):
+        """The name of the function of which a line of a file is code, or None."""
+        name = is_code = None
+        for line in self.texts[file].split('\n')[:number] if file.startswith('src/') else []:
+            head = FUNCTION.match(line)
+            if head:
+                name, is_code = head[2], line.endswith('{')
+            elif name and BODY.match(line):
+                is_code = True
+        return name if is_code else None
+
+    def word_at(self, file, old):
+        """The word of specs/ in whose definition a text stands, or None."""
+        text = self.texts.get(file, '')
+        words = DEFINITION.findall(text[:text.find(old)]) if file.startswith('specs/') else []
+        return words[-1] if words else None
+
+    def namings(self, word, function):
+        """How often the texts name a word, but for the lines that define it, and for the proof of
+        this function."""
+        own, defined = '/%s/' % function, re.compile(DEFINES % (word, word), re.M)
+        texts = [text for path, text in self.texts.items() if own not in path]
+        bare = [defined.sub('', USE.sub('', COMMENT.sub('', x))) for x in texts]
+        return sum(len(re.findall(r'\b%s\b' % word, x)) for x in bare)
+
+
+class Edit:
+    """A change of lines: the file of each, what is there, and what is put there."""
+
+    def __init__(self, path):
+        self.path = path
+        self.name = os.path.basename(path)
+        self.text = read(path)
+        self.changes = []
+        self.goal, self.is_read = None, False
+        file = old = None
+        for line in self.text.split('\n'):
+            word, _, rest = line.partition(':')
+            rest = rest.removeprefix(' ')
+            if word == 'file':
+                file = rest.strip()
+            elif word == 'old':
+                old = rest
+            elif word == 'new':
+                self.changes.append((file, old, rest))
+            elif word == 'goal' and len(rest.split()) >= 2:
+                function, goal, *marks = rest.split()
+                self.goal, self.is_read = Goal(function, goal), marks == ['read']
+
+    def texts(self, sources, texts):
+        """These texts of the sources with the change made, or None where it does not apply."""
+        texts = dict(texts)
+        for file, old, new in self.changes:
+            text = texts[file] if file in texts else sources.texts.get(file, '')
+            if not old or text.count(old) != 1:
+                return None
+            texts[file] = text.replace(old, new)
+        return texts
+
+    def turns(self, sources):
+        """The files and names of the functions whose code it turns, or none if it turns anything
+        else."""
+        found = set()
+        for file, old, _ in self.changes:
+            text = sources.texts.get(file, '')
+            name = sources.function_at(file, text[:text.find(old) + len(old)].count('\n') + 1)
+            found.add((file, name))
+        return found if all(name for _, name in found) else set()
+
+    def is_apart(self, sources):
+        """Whether it opens goals of its own function alone. Code does, and so does the promise of
+        a function that nothing else names, and a definition that this promise alone names."""
+        function = self.goal.function.split('::')[-1]
+        words = {sources.word_at(file, old) for file, old, _ in self.changes}
+        if self.turns(sources):
+            return True
+        if words == {None}:
+            return sources.namings(function, function) == 0
+        return all(x and sources.namings(x, function) == 1 for x in words)
+
+
+class Line(NamedTuple):
+    """A line of code that a comment holds."""
+    file: str
+    number: int
+
+    @property
+    def name(self):
+        return 'line %d of %s' % (self.number, self.file)
+
+    @property
+    def text(self):
+        return self.name
+
+    def texts(self, sources):
+        """The text of its file with it as code."""
+        lines = sources.texts[self.file].split('\n')
+        lines[self.number - 1] = lines[self.number - 1].replace(REFUSED, '')
+        return {self.file: '\n'.join(lines)}
+
+
+class Pack:
+    """Edits that one check tries, and the texts with all of them made."""
+
+    def __init__(self, edits=(), texts=(), turned=()):
+        self.edits = list(edits)
+        self.texts = dict(texts)
+        self.turned = {*turned}
+
+    def takes(self, edit, sources, turned):
+        """Adds an edit that turns these, if none of the others turns them too."""
+        both = edit.texts(sources, self.texts)
+        if len(self.edits) == MOST_IN_ONE or turned & self.turned or both is None:
+            return False
+        self.edits.append(edit)
+        self.texts = both
+        self.turned |= turned
+        return True
+
+
+def packs(edits, sources, turned):
+    """Edits in packs. Those that turn nothing, by this function, stand alone."""
+    made = []
+    for edit in edits:
+        those = turned(edit)
+        if not those or not any(x.turned and x.takes(edit, sources, those) for x in made):
+            made.append(Pack([edit], edit.texts(sources, {}) or {}, those))
+    return made
+
+
+def read(path):
+    with open(path, encoding='utf-8') as file:
+        return file.read()

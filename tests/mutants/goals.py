@@ -1,0 +1,62 @@
+"""Writes the lines 'goal:' of edits: which goal of which function fails with an edit."""
+import os
+
+from mutants.edits import Goal, packs
+from mutants.running import are_open, begun, doubt
+
+
+class Writer:
+    """Writes the goals of a crate's edits."""
+
+    def __init__(self, sources, prover, room):
+        self.sources = sources
+        self.prover = prover
+        self.work = os.path.join(room, sources.crate.name)
+
+    def write(self, edits):
+        """Writes the goals of edits, and returns what to say of those in which none fails."""
+        begun(self.work, self.sources)
+        return [lost for pack in self.packs(edits) for lost in self.write_pack(pack)]
+
+    def packs(self, edits):
+        """Edits in packs. Those of functions of one name stand in several, since the path of a
+        function is that of its type, and so tells nothing of its file."""
+        return packs(edits, self.sources, self.names)
+
+    def names(self, edit):
+        """The names of the functions that an edit turns, or none where it turns anything else."""
+        return {name for _, name in edit.turns(self.sources)}
+
+    def write_pack(self, pack):
+        """Tries a pack with all of the crate, and by itself each edit of which that says nothing.
+        A goal counts that fails by its meaning, and that a search does not leave open where the
+        right body has no such goal."""
+        check = self.prover.check(self.sources, pack.texts, self.work)
+        found = {x: failures_of(self.names(x), check) for x in pack.edits}
+        asked = {x.function for failures in found.values() if are_open(failures) for x in failures}
+        right = self.prover.goals(self.sources, self.work, asked) if asked else {}
+        for edit, failures in found.items():
+            sure = [x for x in failures if not x.is_open or not doubt(x, right)]
+            if sure:
+                first = min(sure, key=lambda x: x.is_open)
+                write(edit, Goal(first.function, first.name))
+            elif len(pack.edits) > 1:
+                yield from self.write_pack(self.packs([edit])[0])
+            else:
+                told = '; '.join(map(str, failures[:3])) or check.text()
+                yield 'must-fail %s/%s: %s' % (self.sources.crate.name, edit.name, told)
+
+
+def failures_of(names, check):
+    """The goals that fail by their meaning of functions of these names, or of any where there are
+    none."""
+    failures = [x for x in check.failures if x.name != '?' and not x.is_by_name]
+    return [x for x in failures if not names or x.function.split('::')[-1] in names]
+
+
+def write(edit, goal):
+    """Gives an edit's file its line, in place of another."""
+    lines = [x for x in edit.text.rstrip('\n').split('\n') if not x.startswith('goal:')]
+    with open(edit.path, 'w', encoding='utf-8') as file:
+        file.write('\n'.join([*lines, 'goal: ' + str(goal), '']))
+    print('%s: goal: %s' % (edit.name, str(goal)), flush=True)

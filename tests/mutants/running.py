@@ -1,0 +1,261 @@
+"""Which crate is tried when, how many checks run at a time, and what is told of each edit."""
+import os
+import re
+import tempfile
+import threading
+import time
+from concurrent.futures import ThreadPoolExecutor
+from typing import NamedTuple
+
+import crates as listing
+from mutants.edits import Line, packs, read
+from mutants.keeping import linked
+
+# with so many packs a check of the crate as it stands, over which each begins, saves more than
+# it takes
+LEAST_WITH_SEED = 5
+BORROWED_TWICE = 'error[borrow-e0499]'
+
+
+class Told(NamedTuple):
+    """What is told of an edit, and whether the edit is good."""
+    line: str
+    is_good: bool
+
+
+class Beside:
+    """The log of an rt ci that makes the libraries meanwhile, or none."""
+
+    def __init__(self, log=None):
+        self.log = log
+
+    def says(self, pattern):
+        return bool(re.search(pattern, read(self.log), re.M)) if self.log else True
+
+    def has_ended(self):
+        return self.says('^rt ci has ended$')
+
+    def knows(self, crate):
+        """Whether it is known by now if a crate is proved."""
+        proved = r'^rt: %s (proved|is kept: .*|NOT PROVED.*)$' % crate.name
+        return self.has_ended() or self.says(proved)
+
+    def has_proved(self, crate):
+        return self.says(r'^rt: %s (proved$|is kept: )' % crate.name)
+
+
+class Queue:
+    """What is to be done: calls that return what they tell, each with a call that says if it may
+    begin."""
+
+    def __init__(self, beside):
+        self.beside = beside
+        self.waiting, self.left, self.told, self.taking = [], 0, [], threading.Lock()
+
+    def add(self, is_ready, call):
+        with self.taking:
+            self.waiting.append((is_ready, call))
+            self.left += 1
+
+    def take(self):
+        """The first call that may begin, or None."""
+        with self.taking:
+            ready = next((x for x in self.waiting if x[0]()), None)
+            if ready:
+                self.waiting.remove(ready)
+        return ready and ready[1]
+
+    def work(self, number):
+        """Does one call after another. Beside an rt ci, which takes all processors, the first
+        worker works alone: of two checks on a processor each takes up to twice its seconds."""
+        while self.left:
+            call = self.take() if number == 0 or self.beside.has_ended() else None
+            if call is None:
+                time.sleep(1)
+                continue
+            try:
+                self.told += call()
+            finally:
+                with self.taking:
+                    self.left -= 1
+
+    def done(self):
+        """Does all, and returns what is told."""
+        workers = range(listing.processors())
+        with ThreadPoolExecutor(len(workers)) as pool:
+            for ended in [pool.submit(self.work, x) for x in workers]:
+                ended.result()
+        return self.told
+
+
+class Work:
+    """What is tried of a crate: edits, the lines that its comments hold, and its archive for C.
+
+    The goals of fresh edits, given by their names, are looked for in the right bodies too.
+    """
+
+    def __init__(self, sources, edits, fresh, kept, room):
+        self.sources = sources
+        self.edits = edits
+        self.fresh = fresh
+        self.kept = kept
+        self.prover = kept.prover
+        self.archive = None
+        self.work = os.path.join(room, sources.crate.name)
+
+    def add_to(self, queue):
+        """Has a queue do it, once it is known if the crate is proved."""
+        if self.archive or self.edits or list(self.sources.lines()):
+            queue.add(lambda: queue.beside.knows(self.sources.crate), lambda: self.begin(queue))
+
+    def begin(self, queue):
+        """Tells what is known, and tries the rest: in turn, or over a check of the crate as it
+        stands, each pack a call of its own."""
+        lines = list(self.sources.lines())
+        if not queue.beside.has_proved(self.sources.crate):
+            return [self.say(x.name, 'ITS CRATE IS NOT PROVED') for x in [*lines, *self.edits]]
+        told, new = self.told_at_once([*lines, *self.edits])
+        is_built = self.archive and self.kept.gives(self.sources, self.archive)
+        if is_built:
+            told.append(self.say(os.path.basename(self.archive), None, 'built (kept)'))
+        if new or self.archive and not is_built:
+            begun(self.work, self.sources)
+        told += [self.line_told(x) for x in new if x in lines]
+        made = packs([x for x in new if x not in lines], self.sources, self.turned)
+        if self.archive and not is_built:
+            told.append(self.archived())
+        elif len(made) >= LEAST_WITH_SEED:
+            self.prover.check(self.sources, {}, self.work)
+        else:
+            return told + self.packs_told(made, self.work)
+        for pack in made:
+            queue.add(lambda: True, lambda pack=pack: self.pack_told_apart(pack))
+        return told
+
+    def told_at_once(self, tried):
+        """What is told of edits and lines that need no check, and the others."""
+        told, new = [], []
+        for one in tried:
+            fault, kept = self.fault(one), self.kept.told(self.sources, one)
+            if fault:
+                told.append(self.say(one.name, fault))
+            elif kept:
+                told.append(self.say(one.name, None, kept + ' (kept)'))
+            else:
+                new.append(one)
+        return told, new
+
+    def fault(self, edit):
+        """Why an edit cannot be tried, or None."""
+        if isinstance(edit, Line):
+            return None
+        if not edit.goal:
+            return 'HAS NO GOAL: see --write-goals'
+        return None if edit.texts(self.sources, {}) else 'DOES NOT APPLY'
+
+    def turned(self, edit):
+        """By what an edit is told from the others of its pack, or nothing where it has to stand
+        alone."""
+        is_apart = edit.is_apart(self.sources)
+        return {edit.goal.function, *edit.turns(self.sources)} if is_apart else set()
+
+    def say(self, what, why, told=''):
+        """Tells what something came to: why it is no good, or else this."""
+        line = 'must-fail %s/%s: %s' % (self.sources.crate.name, what, why or told)
+        print(line, flush=True)
+        return Told(line, not why)
+
+    def archived(self):
+        """Builds the library for C. Its packs begin with what that proves."""
+        check = self.prover.archive(self.sources, self.work, self.archive)
+        if not os.path.exists(self.archive):
+            return self.say(os.path.basename(self.archive), 'NOT BUILT: ' + check.text())
+        self.kept.keep_archive(self.sources, self.archive)
+        return self.say(os.path.basename(self.archive), None, 'built')
+
+    def line_told(self, line):
+        """Tries a line as code, which is to break the rules of borrows."""
+        check = self.prover.check(self.sources, line.texts(self.sources), self.work)
+        errors = [x for x in check.lines if line.file in x and BORROWED_TWICE in x]
+        if not errors:
+            return self.say(line.name, 'NOT REFUSED: ' + check.text())
+        self.kept.keep(self.sources, line, 'refused: ' + errors[0])
+        return self.say(line.name, None, 'refused: ' + errors[0])
+
+    def pack_told_apart(self, pack):
+        """Tries a pack over a copy of what the check of the crate left."""
+        with tempfile.TemporaryDirectory(prefix='must-fail-') as room:
+            return self.packs_told([pack], linked(self.work, os.path.join(room, 'work')))
+
+    def packs_told(self, made, work):
+        """Tries packs in turn, and says of each edit whether it is good."""
+        judged = [x for pack in made for x in self.judged(pack, work)]
+        asked = [edit for edit, failures, _ in judged
+                 if edit.name in self.fresh and are_open(failures) and not edit.is_read]
+        functions = {x.goal.function for x in asked}
+        right = self.prover.goals(self.sources, work, functions) if asked else {}
+        told = []
+        for edit, failures, why in judged:
+            if edit in asked:
+                why = doubt(edit.goal, right)
+            line = 'refused: ' + '; '.join(map(str, failures))
+            told.append(self.say(edit.name, why, line))
+            if not why:
+                self.kept.keep(self.sources, edit, line)
+        return told
+
+    def judged(self, pack, work):
+        """The edits of a pack, with the failures of the goal of each, and why it is no good, if
+        it is none."""
+        functions = {x.goal.function for x in pack.edits}
+        check = self.prover.check(self.sources, pack.texts, work, functions)
+        half = len(pack.edits) // 2
+        if half and not check.ended:
+            for part in pack.edits[:half], pack.edits[half:]:
+                yield from self.judged_anew(part, work)
+            return
+        for edit in pack.edits:
+            failures = [x for x in check.of(edit.goal) if not x.is_by_name]
+            if half and not failures:
+                yield from self.judged_anew([edit], work)
+            else:
+                yield edit, failures, None if failures else missed(check, edit.goal)
+
+    def judged_anew(self, edits, work):
+        """The same of some edits of a pack, in a check of their own."""
+        for pack in packs(edits, self.sources, self.turned):
+            yield from self.judged(pack, work)
+
+
+def begun(work, sources):
+    """Makes a folder of work, which begins with what checks of the crate left, if any did."""
+    left = os.path.join(sources.folder, 'out', 'incremental')
+    if os.path.isdir(left):
+        linked(left, work)
+    else:
+        os.makedirs(work)
+
+
+def are_open(failures):
+    """Whether there are failures, and a search left each open."""
+    return bool(failures) and all(x.is_open for x in failures)
+
+
+def doubt(goal, right):
+    """Why a goal that a search leaves open says little, if the function as it stands has no such
+    goal. One of several clauses is told clause by clause, or as a whole."""
+    names = {x.partition('-clause-')[0] for x in right.get(goal.function, ())}
+    is_there = goal.name.partition('-clause-')[0] in names
+    return None if is_there else 'THE RIGHT BODY HAS NO GOAL ' + goal.name
+
+
+def missed(check, goal):
+    """Why an edit is no good whose goal does not fail by its meaning."""
+    if not check.ended:
+        return 'NOT TRIED: ' + check.text()
+    if not check.is_refused:
+        return 'NOT REFUSED: ' + check.text()
+    if check.of(goal):
+        return 'REFUSED BY NAMES ALONE: it says little of the contract: %s' % check.of(goal)[0]
+    told = '; '.join(map(str, check.failures[:3])) or check.text()
+    return 'THE GOAL %s DOES NOT FAIL, but: %s' % (str(goal), told)

@@ -1,0 +1,241 @@
+"""Tests of tests/must_fail.py, run by 'python3 -B -m unittest tests/test_must_fail.py'."""
+import contextlib
+import io
+import os
+import subprocess
+import sys
+import tempfile
+import threading
+import time
+import unittest
+
+sys.path.insert(0, os.path.dirname(os.path.abspath(__file__)))
+import crates as listing  # noqa: E402
+import must_fail  # noqa: E402
+from mutants.checks import Check  # noqa: E402
+from mutants.due import History  # noqa: E402
+from mutants.edits import Edit, Goal, Sources, packs  # noqa: E402
+from mutants.running import Beside, Queue  # noqa: E402
+
+SOURCE = '''#![tactic(auto)]
+
+ghost use Rattle.std.specs.Prelude.{◌≡◌};
+
+pub fn first(a: u8, b: u8) -> u8
+    ensures { result ≡ a }
+{
+    a
+}
+
+pub fn second(a: u8, b: u8) -> u8
+    ensures { result ≡ b }
+{
+    b
+}
+
+pub fn third(a: u8, b: u8, c: u8) -> u8
+    ensures { result ≡ c }
+{
+    c
+}
+'''
+SAID = '''./proofs/low/Pair/cut/Answers.antt:9:29: error: `returns`: `rw`: no occurrence of
+  the path's left endpoint in the goal
+./proofs/low/gone/Answers.antt:3:1: error: `returns`: `Goals` has no field `early`
+note: src/low.rt:65:5: it is not proved that what the function ensures holds when it returns
+  (`returns-clause-value`)
+note: a goal may be false even if its line does not say so
+fn small::low::is_empty: no proof: expected answers in ./proofs/low/is_empty/Answers.antt
+fn small::low::Pair::cut: not proved
+note: src/low.rt:97:9: it is not proved that what `take` requires holds at this call
+  (`take-requires`); the facts known there allow values at which this goal is false
+fn small::low::taken: not proved
+only=4 proved=0
+'''
+
+
+def written(top, path, text):
+    path = os.path.join(top, path)
+    os.makedirs(os.path.dirname(path), exist_ok=True)
+    with open(path, 'w', encoding='utf-8') as file:
+        file.write(text)
+    return path
+
+
+def edit(top, name, old, new, goal=''):
+    text = 'file: src/lib.rt\nold: %s\nnew: %s\n%s' % (old, new, goal and 'goal: %s\n' % goal)
+    return written(top, 'crates/small/must-fail/%s.edit' % name, text)
+
+
+def run(top, *words):
+    """The status and the lines of a run over the repository in a folder."""
+    said = io.StringIO()
+    with contextlib.redirect_stdout(said):
+        status = must_fail.main(list(words), top, os.path.join(top, 'kept'))
+    return status, said.getvalue().rstrip().split('\n')
+
+
+class Small(unittest.TestCase):
+    """A repository of one crate in a temporary folder."""
+
+    def setUp(self):
+        room = tempfile.TemporaryDirectory()
+        self.addCleanup(room.cleanup)
+        self.top = room.name
+        written(self.top, 'crates.txt', 'small:\n')
+        written(self.top, 'crates/small/src/lib.rt', SOURCE)
+
+    def sources(self):
+        return Sources(listing.listed(self.top)['small'], self.top + '/crates/small')
+
+    def git(self, *words):
+        own = 'user.name=tests', 'user.email=tests@localhost', 'init.defaultBranch=main'
+        given = [x for setting in own for x in ('-c', setting)]
+        subprocess.run(['git', *given, *words], cwd=self.top, check=True, capture_output=True)
+
+
+class Tried(Small):
+    def test_wrong_goals_and_right_bodies_fail(self):
+        edit(self.top, 'good', '    a', '    0', 'first returns')
+        edit(self.top, 'another_goal', '    b', '    0', 'second returns-in-Some')
+        edit(self.top, 'right_body', '    c', '    if a == b { c } else { c }', 'third returns')
+        edit(self.top, 'without_goal', '    b', '    0')
+        status, said = run(self.top, 'small')
+        self.assertEqual((status, said[-1]), (1, '1 passed, 3 failed'))
+        told = dict(x.removeprefix('must-fail small/').split('.edit: ') for x in said[:4])
+        self.assertRegex(told['good'], '^refused: returns of first at src/lib.rt:5')
+        self.assertRegex(told['another_goal'], '^THE GOAL second returns-in-Some DOES NOT FAIL')
+        self.assertRegex(told['right_body'], '^NOT REFUSED: only=1 proved=1')
+        self.assertRegex(told['without_goal'], '^HAS NO GOAL')
+        # the good one alone is kept
+        for name in 'another_goal', 'right_body', 'without_goal':
+            os.remove(self.top + '/crates/small/must-fail/%s.edit' % name)
+        status, said = run(self.top, 'small')
+        self.assertEqual((status, len(said), said[-1]), (0, 2, '1 passed, 0 failed'))
+        self.assertRegex(said[0], r'good.edit: refused: .* \(kept\)$')
+
+    def test_a_goal_that_fails_is_written(self):
+        path = edit(self.top, 'good', '    a', '    0')
+        self.assertEqual(run(self.top, '--write-goals')[0], 0)
+        self.assertEqual(Edit(path).goal, Goal('first', 'returns'))
+
+
+class Said(unittest.TestCase):
+    def test_failures_are_of_the_function_that_follows_or_of_the_folder(self):
+        check = Check(SAID)
+        found = [(x.function, x.name, x.place, x.is_open, x.is_by_name) for x in check.failures]
+        self.assertEqual(found, [
+            ('low::Pair::cut', 'returns', 'proofs/low/Pair/cut/Answers.antt:9', False, False),
+            ('low::gone', 'returns', 'proofs/low/gone/Answers.antt:3', False, True),
+            ('low::is_empty', 'returns-clause-value', 'src/low.rt:65', True, False),
+            ('low::taken', 'take-requires', 'src/low.rt:97', False, False)])
+        self.assertTrue(check.is_refused)
+
+    def test_a_run_that_breaks_off_refuses_nothing(self):
+        self.assertTrue(Check('logic=not-proved').is_refused)
+        for said in 'only=2 proved=2', 'logic=proved functions=2', 'rattle: error: none', '':
+            self.assertFalse(Check(said).is_refused)
+
+
+class Packs(Small):
+    def test_edits_of_one_function_stand_in_two_packs(self):
+        edit(self.top, 'a', '    a', '    1', 'first returns')
+        edit(self.top, 'b', '    a', '    2', 'first returns')
+        edit(self.top, 'c', '    b', '    3', 'second returns')
+        sources = self.sources()
+        made = packs(sources.edits(), sources, lambda x: x.turns(sources))
+        names = [[x.name for x in pack.edits] for pack in made]
+        self.assertEqual(names, [['a.edit', 'c.edit'], ['b.edit']])
+
+    def test_a_promise_stands_apart_where_nothing_else_names_the_function(self):
+        path = edit(self.top, 'promise', 'result ≡ a', 'result ≡ b', 'first returns')
+        self.assertTrue(Edit(path).is_apart(self.sources()))
+        written(self.top, 'crates/small/src/lib.rt', SOURCE + 'fn other() { first(1, 2); }\n')
+        self.assertFalse(Edit(path).is_apart(self.sources()))
+
+
+class Read(Small):
+    def test_a_line_has_a_function_a_goal_and_a_mark(self):
+        for line, goal, is_read in (('first returns', Goal('first', 'returns'), False),
+                                    ('first returns read', Goal('first', 'returns'), True),
+                                    ('first', None, False)):
+            path = edit(self.top, 'any', '    a', '    0', line)
+            self.assertEqual((Edit(path).goal, Edit(path).is_read), (goal, is_read))
+
+
+class Queued(Small):
+    """The order of calls beside an rt ci."""
+
+    def setUp(self):
+        super().setUp()
+        self.at_once, self.most, self.taking = 0, [], threading.Lock()
+
+    def call(self):
+        with self.taking:
+            self.at_once += 1
+            self.most.append(self.at_once)
+        time.sleep(0.2)
+        with self.taking:
+            self.at_once -= 1
+        return ['told']
+
+    def test_one_call_at_a_time_until_rt_ci_has_ended(self):
+        log = written(self.top, 'log', 'rt: small proved\n')
+        queue = Queue(Beside(log))
+        for _ in range(3):
+            queue.add(lambda: True, self.call)
+
+        def end():
+            written(self.top, 'log', 'rt: small proved\nrt ci has ended\n')
+            for _ in range(4 * listing.processors()):
+                queue.add(lambda: True, self.call)
+            return []
+        queue.add(lambda: True, end)
+        self.assertEqual(len(queue.done()), 3 + 4 * listing.processors())
+        self.assertEqual(max(self.most[:3]), 1)
+        self.assertEqual(max(self.most), listing.processors())
+
+    def test_a_crate_is_tried_once_rt_ci_says_that_it_is_proved(self):
+        crate = listing.listed(self.top)['small']
+        for text, is_known, is_proved in (('', False, False), ('rt: small proved\n', True, True),
+                                          ('rt: small is kept: an earlier run\n', True, True),
+                                          ('rt: small NOT PROVED\n', True, False),
+                                          ('rt: smaller proved\n', False, False),
+                                          ('rt ci has ended\n', True, False)):
+            beside = Beside(written(self.top, 'log', text))
+            self.assertEqual(beside.knows(crate), is_known)
+            self.assertEqual(beside.has_proved(crate), is_proved)
+
+
+class Due(Small):
+    def commit(self, name):
+        written(self.top, name, name)
+        self.git('add', '.')
+        self.git('commit', '-qm', name)
+
+    def test_merges_and_short_histories_have_a_part(self):
+        self.assertFalse(History(self.top).is_whole)
+        self.git('init', '-q')
+        self.commit('a')
+        self.assertEqual((History(self.top).part(), History(self.top).changed()), (1, set()))
+        self.git('checkout', '-qb', 'side')
+        self.commit('b')
+        self.commit('c')
+        self.git('checkout', '-q', 'main')
+        self.git('merge', '-q', '--no-ff', '-m', 'm', 'side')
+        self.assertEqual((History(self.top).part(), History(self.top).changed()), (2, {'b', 'c'}))
+
+    def test_a_shallow_clone_has_all_due(self):
+        self.git('init', '-q')
+        edit(self.top, 'good', '    a', '    b', 'first returns')
+        for name in 'abcdef':
+            self.commit(name)
+        self.git('clone', '-q', '--depth', '2', 'file://' + self.top, 'clone')
+        history = History(self.top + '/clone')
+        self.assertFalse(history.is_whole)
+        due, fresh = must_fail.chosen(must_fail.arguments([]), {'small': self.sources()}, history)
+        self.assertEqual((len(due['small']), fresh['small']), (1, {'good.edit'}))
+
+
+if __name__ == '__main__':
+    unittest.main()
