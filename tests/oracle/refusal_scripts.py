@@ -253,7 +253,7 @@ MAP_SCRIPTS = [
     ['from_iter ' + pairs(LINED_UP[:2]), *one_by_one('merge', [pairs(LINED_UP[1:]), pairs(PUT)])],
     [*one_by_one('load', [pairs(LINED_UP), 'baz 7', 'bay 7', 'c 6', 'c%20 7 d 8 d 9 e 10']), 'len'],
     ['from_iter ' + ' '.join('%s %d' % (word, n) for n, word in enumerate(NESTED)), 'count a',
-     'len', 'count aa * aaaa', 'iter'],
+     'len', 'count aa * aaaa'],
 ]
 
 SET_SCRIPTS = [
@@ -280,7 +280,7 @@ SET_SCRIPTS = [
     [*one_by_one('load', ['bar foobar', 'foobar', 'foo', elements(['g', 'g' * 40, 'ga', 'h'])]),
      'fold * f'],
     [*one_by_one('load', [elements([*LINED_UP, 'baa', 'c'])]), 'fold *'],
-    ['from_iter ' + ' '.join(NESTED), 'count a', 'len', 'count aa * aaaa', 'iter'],
+    ['from_iter ' + ' '.join(NESTED), 'count a', 'len', 'count aa * aaaa'],
 ]
 
 # The kinds of keys, and the scripts for each.

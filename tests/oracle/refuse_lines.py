@@ -80,6 +80,9 @@ def loaded_in_part(m, kind, words):
     in_order = loaded(m, pairs)
     is_whole = len(in_order) == len(pairs)
     whole = shown(kind, {**m, **dict(in_order)})
+    if m and pairs and not in_order:
+        # the last key of the map, which the first pair is compared with, may be refused
+        found.append((['1'], dict(m), ['1', OUT_OF_ORDER] + whole))
     for n, (key, value) in enumerate(in_order):
         left = len(in_order) - n
         last = [str(left)] if is_whole else [str(left + 1), OUT_OF_ORDER]
@@ -100,9 +103,9 @@ def merged_in_part(m, kind, words):
 
 def retained_in_part(m, kind, words):
     """A call that keeps some entries is refused before the first, or at one that is to go. A set
-    is whole then, whichever element it was."""
+    is whole then, however many of its elements were seen."""
     if kind.endswith('_set'):
-        return [([str(n)], m) for n in range(len(m))]
+        return [([str(n)], m) for n in range(len(m) + 1)]
     found, made = [(['0'], m)], dict(m)
     for n, (key, value) in enumerate(rows(m), 1):
         if value < int(words[0]):
