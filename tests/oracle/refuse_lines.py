@@ -11,6 +11,7 @@ call that puts many pairs in is refused at one of them, and leaves those before 
 is left. With no request refused the answers are the model's own.
 """
 import re
+from typing import NamedTuple
 from tests.oracle.answer_lines import OUT_OF_ORDER, answers, calls, element, folded, loaded, row
 from tests.oracle.model import is_valid, joins, rows
 from tests.oracle.refusal_scripts import SCRIPTS
@@ -211,13 +212,30 @@ def refused(m, kind, call, words, answered):
         yield [*before, 'refused', *shown(kind, left), 'again', *again]
 
 
-def is_allowed(lines, kind, output, is_refused):
-    """Whether the model allows an output, with a refusal in at most one line."""
-    m, refusals, written_lines = {}, 0, output.decode().split('\n')
+class Step(NamedTuple):
+    """A line of a script, with the map before it, its call, and what the model answers."""
+    line: str
+    before: dict
+    call: str
+    words: list
+    answered: list
+
+
+def steps(lines, kind):
+    """The steps of a script."""
+    m, made = {}, []
     for line, call, words in calls(lines, kind):
         before = dict(m)
-        answered = answers(m, kind, call, words)
-        got = written_lines.pop(0) if written_lines else None
+        made.append(Step(line, before, call, words, answers(m, kind, call, words)))
+    return made
+
+
+def is_allowed(script, kind, output, is_refused):
+    """Whether the model allows an output of these steps, with a refusal in at most one line."""
+    written_lines, refusals = output.decode().split('\n'), 0
+    if len(written_lines) != len(script) + 1 or written_lines[-1]:
+        return False
+    for got, (line, before, call, words, answered) in zip(written_lines, script):
         if got == line + ':' + text_of(answered):
             continue
         refusals += 1
@@ -226,12 +244,12 @@ def is_allowed(lines, kind, output, is_refused):
             return False
         if got not in [line + ':' + text_of(each) for each in allowed]:
             return False
-    return written_lines == ['']
+    return True
 
 
-def is_kept(lines, seen):
+def is_kept(script, seen):
     """Whether some refusal of a first line that puts many keys in left some of them there."""
-    line, call, words = lines[0]
+    line, _, call, words, _ = script[0]
     if call != 'extend' or len(words) < 8:
         return True
     kept = re.compile(re.escape(line) + r': \d+ refused (?!again)')
@@ -249,13 +267,13 @@ def check(program, name):
 def check_script(program, kind, script):
     """Asserts what each run of a script writes, and that in some run a call is refused."""
     lines = ['%s %s' % (kind, line) for line in script]
-    data, seen = ''.join(line + '\n' for line in lines).encode(), []
+    data, made, seen = ''.join(line + '\n' for line in lines).encode(), steps(lines, kind), []
     for at, ran in in_turn([program], data):
         told = '%s, request %d: %r' % (kind, at, ran._replace(stdout=ran.stdout[-2000:]))
         if ran.returncode == 0:
-            assert is_allowed(lines, kind, ran.stdout, ran.is_refused) and ran.stderr == b'', told
+            assert is_allowed(made, kind, ran.stdout, ran.is_refused) and ran.stderr == b'', told
             seen += [line for line in ran.stdout.decode().split('\n') if ' refused' in line]
         else:
             assert ran.is_refused and not seen and ran.stdout == b'', told
-    assert is_kept(list(calls(lines, kind)), seen), 'nothing was kept of ' + lines[0]
+    assert is_kept(made, seen), 'nothing was kept of ' + lines[0]
     assert seen, 'no request of a call'
