@@ -1,5 +1,5 @@
-//! Tests whose memory requests `.ci/run` counts: maps, removals and walks, the key traits,
-//! prefixes, loans, sets, and searches by edits.
+//! Tests whose memory requests `tests/test_refusals.py` counts: maps, removals and walks, the key
+//! traits, prefixes, loans, sets, and searches by edits.
 #![tactic(auto)]
 
 #[cfg(test)]

@@ -1,5 +1,6 @@
 //! Loans that are over in time. Each comment that begins with `refused:` has a line that would
-//! break the rules of borrows: `.ci/run` puts each in turn into a copy, which must not compile.
+//! break the rules of borrows: `tests/must_fail.py` puts each in turn into a copy, which must not
+//! compile.
 ghost use Rattle.std.specs.Prelude.{◌≡◌, ◌⊎◌, true, false};
 ghost use Rattle.std.specs.FinMap as map;
 

@@ -1,6 +1,6 @@
 //! Searches by edits. Those whose names hold `few` and `many` pass keys that are too far, few or
-//! many of them: `.ci/run` asks that the search in `called` makes as many requests over many as
-//! over few.
+//! many of them: `tests/test_refusals.py` asks that the search in `called` makes as many requests
+//! over many as over few.
 use super::helpers::map_of;
 use crate::tests::asserts::{done, holds, same};
 use patricia_tree::map::NearCursor;

@@ -1,5 +1,5 @@
-//! What the program answers, held against a plain run over two ordered maps of std. `.ci/run` runs
-//! it with the Nth memory request refused, for each N.
+//! What the program answers, held against a plain run over two ordered maps of std.
+//! `tests/test_refusals.py` runs it with the Nth memory request refused, for each N.
 
 use crate::tests::asserts::{done, holds};
 use patricia_run::answer_bytes;

@@ -1,4 +1,5 @@
-//! A reload of one entry. `.ci/run` counts the memory requests of `made`; with the next one refused
+//! A reload of one entry. `tests/test_refusals.py` counts the memory requests of `made`; with the
+//! next one refused
 //! `reloaded` fails, and with each request refused in turn `refused_in_turn` passes.
 
 use crate::tests::asserts::holds;

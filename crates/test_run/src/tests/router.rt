@@ -1,4 +1,5 @@
-//! A router over each kind of keys. `.ci/run` holds the memory requests of the tests that end with
+//! A router over each kind of keys. `tests/test_refusals.py` holds the memory requests of the tests
+//! that end with
 //! `called` against those that end with `made`, and runs those that end with `refused_in_turn` with
 //! each request refused in turn.
 

@@ -357,7 +357,8 @@ fn run_refused(rt: &impl Abort, alloc: Global) -> Result<(), AllocError> {
 }
 
 // With one memory request refused, the output is whole, or the status is 1 and the line says
-// whether the end of the input had been seen. `.ci/run` refuses the Nth request, for each N.
+// whether the end of the input had been seen. `tests/test_refusals.py` refuses the Nth request, for
+// each N.
 #[test]
 fn refused_in_turn(rt: HostRuntime) {
     let _ = run_refused(&rt, rt.alloc());

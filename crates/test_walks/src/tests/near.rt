@@ -1,4 +1,5 @@
-//! Keys that are few edits apart, and cursors over them. `.ci/run` runs the tests that end with
+//! Keys that are few edits apart, and cursors over them. `tests/test_refusals.py` runs the tests
+//! that end with
 //! `refused_in_turn` with the Nth memory request refused, for each N.
 
 use super::helpers::map_of;

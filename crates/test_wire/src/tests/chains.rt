@@ -1,4 +1,5 @@
-//! Trees as deep as can be written. `.ci/run` runs these tests under a call stack of 512 KiB, too.
+//! Trees as deep as can be written. `tests/test_hostile.py` runs these tests under a call stack of
+//! 512 KiB, too.
 
 use super::helpers::{chain, numbers};
 use super::levels::Levels;

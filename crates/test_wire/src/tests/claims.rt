@@ -1,4 +1,5 @@
-//! Inputs that claim much and hold little. `.ci/run` asks that no request of this test is large.
+//! Inputs that claim much and hold little. `tests/test_refusals.py` asks that no request of this
+//! test is large.
 
 use super::levels::Levels;
 use crate::tests::asserts::{done, same};

@@ -1,5 +1,6 @@
-//! An insert that is refused, and one of a key that is there, which does not allocate. `.ci/run`
-//! counts the memory requests of `made`, and refuses the next one of `called`, which says so.
+//! An insert that is refused, and one of a key that is there, which does not allocate.
+//! `tests/test_refusals.py` counts the memory requests of `made`, and refuses the next one of
+//! `called`, which says so.
 use crate::tests::asserts::{done, holds};
 use patricia_tree::{BorrowedBytes, GenericPatriciaMap};
 use std::alloc::{AllocError, Global};

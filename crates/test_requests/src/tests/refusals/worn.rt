@@ -1,5 +1,6 @@
 //! An insert that relocates the nodes for their order alone, which is done without memory for that,
-//! too. `.ci/run` counts the memory requests of `made`, and refuses the next one of `called`.
+//! too. `tests/test_refusals.py` counts the memory requests of `made`, and refuses the next one of
+//! `called`.
 use crate::tests::asserts::{done, holds};
 use patricia_tree::PatriciaMap;
 use std::alloc::{AllocError, Global};

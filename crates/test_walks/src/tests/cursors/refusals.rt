@@ -1,5 +1,5 @@
 //! Cursors of which one step is refused: the same step, made once more, lends the entry that was
-//! due. `.ci/run` runs this test with the Nth memory request refused, for each N.
+//! due. `tests/test_refusals.py` runs this test with the Nth memory request refused, for each N.
 use super::runs::check_all;
 use std::alloc::AllocError;
 

@@ -1,5 +1,5 @@
-//! One memory request is refused: the call that it is for answers so, and is made again. `.ci/run`
-//! runs this test with the Nth memory request refused, for each N.
+//! One memory request is refused: the call that it is for answers so, and is made again.
+//! `tests/test_refusals.py` runs this test with the Nth memory request refused, for each N.
 ghost use Rattle.std.specs.Prelude.{IfOk};
 ghost use Rattle.patricia_json.specs.Pairs.{HaveNoFloat};
 
