@@ -105,10 +105,14 @@ class Prover:
             return os.path.join(self.folder, 'crates', name, 'out', 'rlib', name + '.rlib')
         return '%s/rlibs/%s.rlib' % (self.kit, name)
 
+    def libraries(self, crate):
+        """Where the repository's libraries lie on which a crate stands."""
+        return [self.library(x) for x in listing.below(self.crates, crate.name)]
+
     def words(self, sources):
         """What it is told of a crate."""
         crate = sources.crate
-        libraries = [self.library(x) for x in listing.below(self.crates, crate.name)]
+        libraries = self.libraries(crate)
         words = ['--crate-name', crate.name, sources.root()]
         for name in ['std', *crate.uses]:
             words += ['--extern', '%s=%s' % (name, self.library(name))]
