@@ -67,13 +67,15 @@ class Sources:
 
     def function_at(self, file, number):
         """The name of the function of which a line of a file is code, or None."""
-        name = is_code = None
+        name = depth = is_code = None
         for line in self.texts[file].split('\n')[:number] if file.startswith('src/') else []:
             head = FUNCTION.match(line)
             if head:
-                name, is_code = head[2], line.endswith('{')
+                depth, name, is_code = *head.groups(), line.endswith('{')
             elif name and BODY.match(line):
                 is_code = True
+            elif name and line == depth + '}':
+                name = None
         return name if is_code else None
 
     def word_at(self, file, old):
