@@ -6,9 +6,9 @@ passes over:
     goal: FUNCTION GOAL
 
 It names a function as a check does after 'fn', without the crate's name, and the goal of it that
-fails with the edit. 'goal: - LEMMA' is for what is proved in a file right in proofs/, where no
-function has its folder: all of the crate is checked. With a third word, 'read', someone has read
-why the goal is false: that is for one which the edit itself brings in, as by a branch.
+fails with the edit, or a lemma for it that stands in a file right in proofs/. With a third word,
+'read', someone has read why the goal is false: that is for one which the edit itself brings in, as
+by a branch.
 """
 import os
 import re
@@ -16,7 +16,6 @@ from typing import NamedTuple
 
 MOST_IN_ONE = 64
 PARTS = 'src', 'specs', 'proofs'
-NO_FUNCTION = '-'
 REFUSED = '// refused: '
 COMMENT = re.compile('//.*|(?<![^ ])-- .*')
 USE = re.compile(r'\buse\s[^;{}]*\{[^}]*\}')

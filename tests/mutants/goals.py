@@ -1,6 +1,7 @@
 """Writes the lines 'goal:' of edits: which goal of which function fails with an edit."""
 import os
 
+from mutants.checks import NO_FUNCTION
 from mutants.edits import Goal, packs
 from mutants.running import are_open, begun, doubt
 
@@ -38,8 +39,9 @@ class Writer:
         for edit, failures in found.items():
             sure = [x for x in failures if not x.is_open or not doubt(x, right)]
             if sure:
-                first = min(sure, key=lambda x: x.is_open)
-                write(edit, Goal(first.function, first.name))
+                function, name, *_ = min(sure, key=lambda x: x.is_open)
+                of_lemma = check.unproved[0] if check.unproved else NO_FUNCTION
+                write(edit, Goal(of_lemma if function == NO_FUNCTION else function, name))
             elif len(pack.edits) > 1:
                 yield from self.write_pack(self.packs([edit])[0])
             else:
