@@ -33,6 +33,11 @@ class Writer:
         A goal counts that fails by its meaning, and that a search does not leave open where the
         right body has no such goal."""
         check = self.prover.check(self.sources, pack.texts, self.work)
+        half = len(pack.edits) // 2
+        if half and not check.ended:
+            for part in self.packs(pack.edits[:half]) + self.packs(pack.edits[half:]):
+                yield from self.write_pack(part)
+            return
         found = {x: failures_of(self.names(x), check) for x in pack.edits}
         asked = {x.function for failures in found.values() if are_open(failures) for x in failures}
         right = self.prover.goals(self.sources, self.work, asked) if asked else {}
@@ -42,7 +47,7 @@ class Writer:
                 function, name, *_ = min(sure, key=lambda x: x.is_open)
                 of_lemma = check.unproved[0] if check.unproved else NO_FUNCTION
                 write(edit, Goal(of_lemma if function == NO_FUNCTION else function, name))
-            elif len(pack.edits) > 1:
+            elif half:
                 yield from self.write_pack(self.packs([edit])[0])
             else:
                 told = '; '.join(map(str, failures[:3])) or check.text()
