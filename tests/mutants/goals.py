@@ -47,7 +47,7 @@ class Writer:
                 function, name, *_ = min(sure, key=lambda x: x.is_open)
                 of_lemma = check.unproved[0] if check.unproved else NO_FUNCTION
                 write(edit, Goal(of_lemma if function == NO_FUNCTION else function, name))
-            elif half:
+            elif half and not failures:
                 yield from self.write_pack(self.packs([edit])[0])
             else:
                 told = '; '.join(map(str, failures[:3])) or check.text()
