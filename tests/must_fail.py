@@ -64,6 +64,8 @@ def arguments(words):
 def chosen(asked, sources, history):
     """The edits to try, by crate, and the names of those tried for more than their turn."""
     edits = {x: of.edits() for x, of in sources.items()}
+    if asked.since and not history.knows(asked.since):
+        sys.exit('no such commit: ' + asked.since)
     if asked.since:
         files = history.differing(asked.since)
         edits = {x: turning(those, x, files) for x, those in edits.items()}

@@ -130,6 +130,13 @@ class Said(unittest.TestCase):
             ('low::is_empty', 'returns-clause-value', 'src/low.rt:65', True, False),
             ('low::taken', 'take-requires', 'src/low.rt:97', False, False)])
         self.assertTrue(check.is_refused)
+        self.assertEqual(check.unproved, ['low::is_empty', 'low::Pair::cut', 'low::taken'])
+
+    def test_a_lemma_fails_for_the_function_that_cites_it(self):
+        check = Check('./proofs/Laws.antt:3:4: error: `ordered`: a tuple is checked\n'
+                      'fn small::law: not proved\nonly=1 proved=0')
+        self.assertEqual(len(check.of(Goal('law', 'ordered'))), 1)
+        self.assertEqual(check.of(Goal('law', 'returns')), [])
 
     def test_a_run_that_breaks_off_refuses_nothing(self):
         self.assertTrue(Check('logic=not-proved').is_refused)

@@ -11,8 +11,9 @@ import tempfile
 from typing import NamedTuple
 
 import crates as listing
-from mutants.edits import NO_FUNCTION, read
+from mutants.edits import read
 
+NO_FUNCTION = '-'
 SEARCHED = 'it is not proved that'
 SHOWN_FALSE = 'allow values at which this goal is false'
 NO_PROOF = '`search`: no proof of'
@@ -20,14 +21,14 @@ GONE = re.compile(r'has no field|\(nearest: |is not in scope|has no `|was not ad
                   '|operand is missing|expected the end|cannot continue')
 NOTE = re.compile(r'note: (?:\./)?(\S+?:\d+):\d+: (.*)')
 ERROR = re.compile(r'(?:\./)?(\S+?:\d+):\d+: error: (.*)')
-VERDICT = re.compile(r'fn \w+::(\S+): ')
+VERDICT = re.compile(r'fn \w+::(\S+): (.*)')
 ENDED = re.compile(r'only=(\d+) proved=(\d+)|logic=(proved|not-proved)\b')
 ASKED_FOR = re.compile(r'^pub (\S+) : goal\.', re.M)
 NAMED = re.compile(r'.*?\(`([^`]*)`\)|`([^`]*)`')
 
 
 class Failure(NamedTuple):
-    """A goal that fails: its function, its name, and where.
+    """A goal that fails: its function, if it is not that of a lemma, its name, and where.
 
     A search that leaves a goal open may have missed a proof, and an error at a name that is gone
     says nothing of the goal.
@@ -52,6 +53,8 @@ class Check:
         asked, proved, whole = self.ended.groups() if self.ended else (None, None, None)
         self.is_refused = asked != proved or whole == 'not-proved'
         self.failures = list(self.failing())
+        verdicts = [x for x in map(VERDICT.match, self.lines) if x]
+        self.unproved = [x[1] for x in verdicts if x[2] != 'proved']
 
     def failing(self):
         """The goals that fail. A note stands above the verdict on its function, and an error in a
@@ -68,8 +71,9 @@ class Check:
                 notes = []
 
     def of(self, goal):
-        """The failures of a goal."""
-        return [x for x in self.failures if (x.function, x.name) == goal]
+        """The failures of a goal, or of the lemma for it."""
+        owners = goal.function, NO_FUNCTION
+        return [x for x in self.failures if x.function in owners and x.name == goal.name]
 
     def text(self):
         """What it refused first, and its last line."""
@@ -105,10 +109,14 @@ class Prover:
             return os.path.join(self.folder, 'crates', name, 'out', 'rlib', name + '.rlib')
         return '%s/rlibs/%s.rlib' % (self.kit, name)
 
+    def libraries(self, crate):
+        """Where the repository's libraries lie on which a crate stands."""
+        return [self.library(x) for x in listing.below(self.crates, crate.name)]
+
     def words(self, sources):
         """What it is told of a crate."""
         crate = sources.crate
-        libraries = [self.library(x) for x in listing.below(self.crates, crate.name)]
+        libraries = self.libraries(crate)
         words = ['--crate-name', crate.name, sources.root()]
         for name in ['std', *crate.uses]:
             words += ['--extern', '%s=%s' % (name, self.library(name))]
@@ -133,8 +141,7 @@ class Prover:
 
     def check(self, sources, texts, work, functions=()):
         """A check of these functions, or of all, over what earlier ones left in a folder."""
-        named = sorted({*functions} - {NO_FUNCTION})
-        only = [x for function in named for x in ('--only', function)]
+        only = [x for function in sorted(functions) for x in ('--only', function)]
         return Check(self.run('check', sources, texts, '--incremental', work, *only))
 
     def archive(self, sources, work, path):

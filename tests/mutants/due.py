@@ -11,14 +11,18 @@ class History:
     def __init__(self, root):
         self.root = root
         # nothing follows from a number of commits where git knows none, or the last ones alone
-        self.is_whole = self.told('rev-parse', '--is-shallow-repository') == ['false'] and \
-            bool(self.told('rev-parse', '--verify', '--quiet', 'HEAD'))
+        is_cut = self.told('rev-parse', '--is-shallow-repository') != ['false']
+        self.is_whole = not is_cut and self.knows('HEAD')
 
     def told(self, *words):
         """The lines that git answers, or none where it fails."""
         ran = subprocess.run(['git', *words], cwd=self.root, stdin=subprocess.DEVNULL, check=False,
                              stdout=subprocess.PIPE, stderr=subprocess.DEVNULL, encoding='utf-8')
         return ran.stdout.split('\n')[:-1] if ran.returncode == 0 else []
+
+    def knows(self, commit):
+        """Whether there is such a commit."""
+        return bool(self.told('rev-parse', '--verify', '--quiet', commit + '^{commit}'))
 
     def part(self):
         """Which part of the edits is due. A merge counts as one commit, whatever it brought in, so

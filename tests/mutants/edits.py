@@ -6,9 +6,9 @@ passes over:
     goal: FUNCTION GOAL
 
 It names a function as a check does after 'fn', without the crate's name, and the goal of it that
-fails with the edit. 'goal: - LEMMA' is for what is proved in a file right in proofs/, where no
-function has its folder: all of the crate is checked. With a third word, 'read', someone has read
-why the goal is false: that is for one which the edit itself brings in, as by a branch.
+fails with the edit, or a lemma for it that stands in a file right in proofs/. With a third word,
+'read', someone has read why the goal is false: that is for one which the edit itself brings in, as
+by a branch.
 """
 import os
 import re
@@ -16,7 +16,6 @@ from typing import NamedTuple
 
 MOST_IN_ONE = 64
 PARTS = 'src', 'specs', 'proofs'
-NO_FUNCTION = '-'
 REFUSED = '// refused: '
 COMMENT = re.compile('//.*|(?<![^ ])-- .*')
 USE = re.compile(r'\buse\s[^;{}]*\{[^}]*\}')
@@ -67,13 +66,15 @@ class Sources:
 
     def function_at(self, file, number):
         """The name of the function of which a line of a file is code, or None."""
-        name = is_code = None
+        name = depth = is_code = None
         for line in self.texts[file].split('\n')[:number] if file.startswith('src/') else []:
             head = FUNCTION.match(line)
             if head:
-                name, is_code = head[2], line.endswith('{')
+                depth, name, is_code = *head.groups(), line.endswith('{')
             elif name and BODY.match(line):
                 is_code = True
+            elif name and line == depth + '}':
+                name = None
         return name if is_code else None
 
     def word_at(self, file, old):

@@ -1,6 +1,7 @@
 """Writes the lines 'goal:' of edits: which goal of which function fails with an edit."""
 import os
 
+from mutants.checks import NO_FUNCTION
 from mutants.edits import Goal, packs
 from mutants.running import are_open, begun, doubt
 
@@ -32,15 +33,21 @@ class Writer:
         A goal counts that fails by its meaning, and that a search does not leave open where the
         right body has no such goal."""
         check = self.prover.check(self.sources, pack.texts, self.work)
+        half = len(pack.edits) // 2
+        if half and not check.ended:
+            for part in self.packs(pack.edits[:half]) + self.packs(pack.edits[half:]):
+                yield from self.write_pack(part)
+            return
         found = {x: failures_of(self.names(x), check) for x in pack.edits}
         asked = {x.function for failures in found.values() if are_open(failures) for x in failures}
         right = self.prover.goals(self.sources, self.work, asked) if asked else {}
         for edit, failures in found.items():
             sure = [x for x in failures if not x.is_open or not doubt(x, right)]
             if sure:
-                first = min(sure, key=lambda x: x.is_open)
-                write(edit, Goal(first.function, first.name))
-            elif len(pack.edits) > 1:
+                function, name, *_ = min(sure, key=lambda x: x.is_open)
+                of_lemma = check.unproved[0] if check.unproved else NO_FUNCTION
+                write(edit, Goal(of_lemma if function == NO_FUNCTION else function, name))
+            elif half and not failures:
                 yield from self.write_pack(self.packs([edit])[0])
             else:
                 told = '; '.join(map(str, failures[:3])) or check.text()

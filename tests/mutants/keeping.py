@@ -10,7 +10,6 @@ import os
 import shutil
 import tempfile
 
-import crates as listing
 from mutants.edits import read
 
 ARCHIVE = 'archive'
@@ -30,10 +29,9 @@ class Kept:
         """The sum of all that each check of a crate reads."""
         name = sources.crate.name
         if name not in self.sums:
-            libraries = sorted(listing.below(self.prover.crates, name))
-            files = [self.prover.kit + '/KIT-ID', *sorted(glob.glob(SCRIPTS + '/*.py')),
-                     # which has the sum of all that is in the library
-                     *[self.prover.library(x) + '/format' for x in libraries]]
+            # a library's format has the sum of all that is in it
+            built = [x + '/format' for x in sorted(self.prover.libraries(sources.crate))]
+            files = [self.prover.kit + '/KIT-ID', *sorted(glob.glob(SCRIPTS + '/*.py')), *built]
             parts = sources.crate, sorted(sources.texts.items()), [read(x) for x in files]
             self.sums[name] = sum_of(parts)
         return self.sums[name]

@@ -112,8 +112,10 @@ class Work:
         """Tells what is known, and tries the rest: in turn, or over a check of the crate as it
         stands, each pack a call of its own."""
         lines = list(self.sources.lines())
-        if not queue.beside.has_proved(self.sources.crate):
-            return [self.say(x.name, 'ITS CRATE IS NOT PROVED') for x in [*lines, *self.edits]]
+        is_proved = queue.beside.has_proved(self.sources.crate)
+        if not is_proved or not all(map(os.path.isdir, self.prover.libraries(self.sources.crate))):
+            why = 'ITS LIBRARIES ARE NOT BUILT' if is_proved else 'ITS CRATE IS NOT PROVED'
+            return [self.say(x.name, why) for x in [*lines, *self.edits]]
         told, new = self.told_at_once([*lines, *self.edits])
         is_built = self.archive and self.kept.gives(self.sources, self.archive)
         if is_built:
