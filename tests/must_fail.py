@@ -39,13 +39,14 @@ import sys
 import tempfile
 from concurrent.futures import ThreadPoolExecutor
 
-import crates as listing
-from mutants.checks import Prover
-from mutants.due import PARTS, History, turning
-from mutants.edits import Sources
-from mutants.goals import Writer
-from mutants.keeping import Kept
-from mutants.running import Beside, Queue, Work
+sys.path.insert(0, os.path.dirname(os.path.dirname(os.path.abspath(__file__))))
+from tests import crates as listing  # noqa: E402
+from tests.mutants.checks import Prover  # noqa: E402
+from tests.mutants.due import PARTS, History, turning  # noqa: E402
+from tests.mutants.edits import Sources  # noqa: E402
+from tests.mutants.goals import Writer  # noqa: E402
+from tests.mutants.keeping import Kept  # noqa: E402
+from tests.mutants.running import Beside, Queue, Work  # noqa: E402
 
 
 def arguments(words):

@@ -3,19 +3,17 @@ import contextlib
 import io
 import os
 import subprocess
-import sys
 import tempfile
 import threading
 import time
 import unittest
 
-sys.path.insert(0, os.path.dirname(os.path.abspath(__file__)))
-import crates as listing  # noqa: E402
-import must_fail  # noqa: E402
-from mutants.checks import Check  # noqa: E402
-from mutants.due import History  # noqa: E402
-from mutants.edits import Edit, Goal, Sources, packs  # noqa: E402
-from mutants.running import Beside, Queue  # noqa: E402
+from tests import crates as listing
+from tests import must_fail
+from tests.mutants.checks import Check
+from tests.mutants.due import History
+from tests.mutants.edits import Edit, Goal, Sources, packs
+from tests.mutants.running import Beside, Queue
 
 SOURCE = '''#![tactic(auto)]
 

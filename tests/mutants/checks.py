@@ -10,8 +10,8 @@ import subprocess
 import tempfile
 from typing import NamedTuple
 
-import crates as listing
-from mutants.edits import read
+from tests import crates as listing
+from tests.mutants.edits import read
 
 NO_FUNCTION = '-'
 SEARCHED = 'it is not proved that'

@@ -1,9 +1,9 @@
 """Writes the lines 'goal:' of edits: which goal of which function fails with an edit."""
 import os
 
-from mutants.checks import NO_FUNCTION
-from mutants.edits import Goal, packs
-from mutants.running import are_open, begun, doubt
+from tests.mutants.checks import NO_FUNCTION
+from tests.mutants.edits import Goal, packs
+from tests.mutants.running import are_open, begun, doubt
 
 
 class Writer:

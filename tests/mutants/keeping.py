@@ -10,7 +10,7 @@ import os
 import shutil
 import tempfile
 
-from mutants.edits import read
+from tests.mutants.edits import read
 
 ARCHIVE = 'archive'
 SCRIPTS = os.path.dirname(os.path.abspath(__file__))

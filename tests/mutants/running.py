@@ -7,9 +7,9 @@ import time
 from concurrent.futures import ThreadPoolExecutor
 from typing import NamedTuple
 
-import crates as listing
-from mutants.edits import Line, packs, read
-from mutants.keeping import linked
+from tests import crates as listing
+from tests.mutants.edits import Line, packs, read
+from tests.mutants.keeping import linked
 
 # with so many packs a check of the crate as it stands, over which each begins, saves more than
 # it takes
