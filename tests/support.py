@@ -8,6 +8,7 @@ The modules `tests/test_*.py` run on what `rt ci` has built:
 
 A failure prints the command that runs its test again.
 """
+import contextlib
 import functools
 import os
 import re
@@ -98,8 +99,15 @@ def limits(stack=None):
 
 
 def run(words, data=b'', stack=None, **more):
-    """Runs a program on an input under limits."""
-    return subprocess.run(words, input=data, capture_output=True, preexec_fn=limits(stack), check=False, **more)
+    """Runs a program on an input under limits. Without a limit of its stack it starts faster, by a limit of its
+    processor time that is set once it runs."""
+    pipes = {'stdin': subprocess.PIPE, 'stdout': subprocess.PIPE, 'stderr': subprocess.PIPE}
+    with subprocess.Popen(words, preexec_fn=limits(stack) if stack else None, **pipes, **more) as process:
+        if not stack:
+            with contextlib.suppress(ProcessLookupError):
+                resource.prlimit(process.pid, resource.RLIMIT_CPU, (MOST_SECONDS, MOST_SECONDS))
+        output, errors = process.communicate(data)
+    return subprocess.CompletedProcess(words, process.returncode, output, errors)
 
 
 def made(script, *words, data=b''):

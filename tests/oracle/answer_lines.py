@@ -4,6 +4,7 @@
 """
 import sys
 import unicodedata
+from functools import lru_cache
 from urllib.parse import unquote_to_bytes
 from tests.oracle.answer_readings import read
 from tests.oracle.answer_wire import tree_bytes
@@ -24,6 +25,7 @@ def argument(word):
     return unquote_to_bytes(text) * (int(times or 0) if star else 1)
 
 
+@lru_cache(maxsize=None)
 def written(key):
     """A key in letters, digits and escapes."""
     return ''.join(chr(c) if chr(c).isalnum() and c < 128 else '%%%02X' % c for c in key)
