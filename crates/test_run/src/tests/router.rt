@@ -247,7 +247,7 @@ fn routes_by_the_longest_prefix(rt: HostRuntime) {
     let mut router = Router::new(rt.alloc());
     done(&rt, router.add("/", 1));
     done(&rt, router.add("/api/", 2));
-    same!(rt; router.route("/api/users"), Some(("/api/", &2)));
+    assert_eq!(rt; router.route("/api/users"), Some(("/api/", &2)));
     same!(rt; done(&rt, router.drop_prefix("/api")), 1);
-    same!(rt; router.route("/api/users"), Some(("/", &1)));
+    assert_eq!(rt; router.route("/api/users"), Some(("/", &1)));
 }
