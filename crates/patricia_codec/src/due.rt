@@ -70,9 +70,8 @@ impl<'a> Due<'a> {
 
     // Whether the record lies where it is due, and is labelled as the root or another record is.
     fn check_place<K: Bytes>(&self, record: &Record<'_>, offset: usize) -> Result<(), DecodeError>
-        ensures kept {
-            OnOk result ((left : ℕ) → BreaksNoneBelow K.item self.now left record.now 7)
-        }
+        ensures kept { OnOk result
+            ((left : ℕ) → BreaksNoneBelow K.item self.now left record.now 7) }
         ensures broken { IfErr result (λ e.
             (left : ℕ) → NamesFirst K.item self.now left record.now offset e) }
     {

@@ -103,9 +103,8 @@ pub fn short_inputs()
 /// Behind a root with a child the input ends at once, or within a label.
 pub fn cut_inputs()
     ensures at_once { IsFirst IsByteItem 2 (behind_root []) 0 (Truncated 4) }
-    ensures in_label {
-        IsFirst IsByteItem 2 (behind_root (3 ∷ 2 ∷ 0 ∷ 1 ∷ 97 ∷ [])) 1 (Truncated 4)
-    }
+    ensures in_label { IsFirst IsByteItem 2 (behind_root (3 ∷ 2 ∷ 0 ∷ 1 ∷ 97 ∷ [])) 1
+        (Truncated 4) }
 {}
 
 /// A child lies one level below its parent.

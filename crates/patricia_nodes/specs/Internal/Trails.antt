@@ -73,4 +73,4 @@ MayKeep old e new = (new ≡ old ++ e ∷ []) ⊎ (new ≡ old)
 -- what stands above a place and beside the way to it is as it was
 abbrev pub KeepsAround : {V : Type 0} → List (Frame V) → NodeArena V → Type 0
 KeepsAround {V} frames new =
-  (focus : Plan V) × (fill frames focus ≡ plan_at new.nodes.items new.root)
+    (focus : Plan V) × (fill frames focus ≡ plan_at new.nodes.items new.root)

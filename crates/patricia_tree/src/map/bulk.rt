@@ -34,9 +34,8 @@ impl<K: Bytes, V: Drop> GenericPatriciaMap<K, V> {
         &mut self,
         pairs: I,
     ) -> Result<(), AllocError>
-        requires {
-            IsFiniteIterable I.into_iter_gives I.IntoIter.can_next I.IntoIter.remaining pairs
-        }
+        requires { IsFiniteIterable I.into_iter_gives I.IntoIter.can_next I.IntoIter.remaining
+            pairs }
         ensures ok { OnOk result
             (Extends I.into_iter_gives I.IntoIter.next_gives Q.key pairs self.old self.new) }
         ensures err { OnErr result
@@ -82,9 +81,8 @@ impl<K: Bytes, V: Drop> GenericPatriciaMap<K, V> {
         alloc: Global,
         pairs: I,
     ) -> Result<Self, AllocError>
-        requires {
-            IsFiniteIterable I.into_iter_gives I.IntoIter.can_next I.IntoIter.remaining pairs
-        }
+        requires { IsFiniteIterable I.into_iter_gives I.IntoIter.can_next I.IntoIter.remaining
+            pairs }
         ensures ok { IfOk result
             (λ made. Extends I.into_iter_gives I.IntoIter.next_gives Q.key pairs map.empty made) }
         ensures err { OnErr result ((left : map.FinMap key_cmp V)

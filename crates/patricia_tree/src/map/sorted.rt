@@ -152,9 +152,8 @@ impl<K: Bytes, V: Drop> GenericPatriciaMap<K, V> {
         &mut self,
         pairs: I,
     ) -> Result<(), LoadError>
-        requires {
-            IsFiniteIterable I.into_iter_gives I.IntoIter.can_next I.IntoIter.remaining pairs
-        }
+        requires { IsFiniteIterable I.into_iter_gives I.IntoIter.can_next I.IntoIter.remaining
+            pairs }
         ensures ok { OnOk result
             (Loads I.into_iter_gives I.IntoIter.next_gives Q.key pairs self.old self.new) }
         ensures err { IfErr result (λ e. IsLoadStopped I.into_iter_gives I.IntoIter.next_gives Q.key

@@ -31,9 +31,8 @@ impl<T: Bytes> GenericPatriciaSet<T> {
         &mut self,
         elements: I,
     ) -> Result<(), AllocError>
-        requires {
-            IsFiniteIterable I.into_iter_gives I.IntoIter.can_next I.IntoIter.remaining elements
-        }
+        requires { IsFiniteIterable I.into_iter_gives I.IntoIter.can_next I.IntoIter.remaining
+            elements }
         ensures ok { OnOk result
             (Extends I.into_iter_gives I.IntoIter.next_gives Q.key elements self.old self.new) }
         ensures err { OnErr result
@@ -73,9 +72,8 @@ impl<T: Bytes> GenericPatriciaSet<T> {
         alloc: Global,
         elements: I,
     ) -> Result<Self, AllocError>
-        requires {
-            IsFiniteIterable I.into_iter_gives I.IntoIter.can_next I.IntoIter.remaining elements
-        }
+        requires { IsFiniteIterable I.into_iter_gives I.IntoIter.can_next I.IntoIter.remaining
+            elements }
         ensures ok { IfOk result
             (λ made.
             Extends I.into_iter_gives I.IntoIter.next_gives Q.key elements map.empty made) }

@@ -38,9 +38,8 @@ impl<T: Bytes> GenericPatriciaSet<T> {
         &mut self,
         elements: I,
     ) -> Result<(), LoadError>
-        requires {
-            IsFiniteIterable I.into_iter_gives I.IntoIter.can_next I.IntoIter.remaining elements
-        }
+        requires { IsFiniteIterable I.into_iter_gives I.IntoIter.can_next I.IntoIter.remaining
+            elements }
         ensures ok { OnOk result
             (Loads I.into_iter_gives I.IntoIter.next_gives Q.key elements self.old self.new) }
         ensures err { IfErr result (λ e. IsLoadStopped I.into_iter_gives I.IntoIter.next_gives Q.key
