@@ -17,7 +17,8 @@ An edit's line 'goal:' names a function, and the goal of it that has to fail by 
 not because a proof file names what the edit took away. The right body has that goal too, or the
 prover finds values at which it is false, or the line says that someone read why: else a search
 that finds no proof would say little. The right body is asked when the line is written, and again
-where an edit is tried for more than its turn.
+where an edit is tried for more than its turn. The goal of an edit without the line is looked for in
+all of its crate, which takes longer.
 
 A function is proved from its own code and from the promises of those that it calls. So an edit of
 code opens goals of its own function alone, and one check tries edits of many functions. An edit

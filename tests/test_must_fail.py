@@ -99,13 +99,13 @@ class Tried(Small):
         edit(self.top, 'right_body', '    c', '    if a == b { c } else { c }', 'third returns')
         edit(self.top, 'without_goal', '    b', '    0')
         status, said = run(self.top, 'small')
-        self.assertEqual((status, said[-1]), (1, '1 passed, 3 failed'))
+        self.assertEqual((status, said[-1]), (1, '2 passed, 2 failed'))
         told = dict(x.removeprefix('must-fail small/').split('.edit: ') for x in said[:4])
         self.assertRegex(told['good'], '^refused: returns of first at src/lib.rt:5')
         self.assertRegex(told['another_goal'], '^THE GOAL second returns-in-Some DOES NOT FAIL')
         self.assertRegex(told['right_body'], '^NOT REFUSED: only=1 proved=1')
-        self.assertRegex(told['without_goal'], '^HAS NO GOAL')
-        # the good one alone is kept
+        self.assertRegex(told['without_goal'], '^refused: second returns, which it does not name')
+        # the good ones alone are kept
         for name in 'another_goal', 'right_body', 'without_goal':
             os.remove(self.top + '/crates/small/must-fail/%s.edit' % name)
         status, said = run(self.top, 'small')

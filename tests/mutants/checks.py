@@ -95,6 +95,19 @@ def function_of(folder):
     return '::'.join(names[1:]) or NO_FUNCTION
 
 
+def are_open(failures):
+    """Whether there are failures, and a search left each open."""
+    return bool(failures) and all(x.is_open for x in failures)
+
+
+def doubt(goal, right):
+    """Why a goal that a search leaves open says little, if the function as it stands has no such
+    goal. One of several clauses is told clause by clause, or as a whole."""
+    names = {x.partition('-clause-')[0] for x in right.get(goal.function, ())}
+    is_there = goal.name.partition('-clause-')[0] in names
+    return None if is_there else 'THE RIGHT BODY HAS NO GOAL ' + goal.name
+
+
 class Prover:
     """The prover, over the libraries in a folder's crates/*/out and those of the toolchain."""
 

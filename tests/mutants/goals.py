@@ -1,18 +1,20 @@
-"""Writes the lines 'goal:' of edits: which goal of which function fails with an edit."""
+"""Looks for the goals of edits: which goal of which function fails with an edit."""
 import os
 
-from tests.mutants.checks import NO_FUNCTION
+from tests.mutants.checks import NO_FUNCTION, are_open, doubt
 from tests.mutants.edits import Goal, packs
-from tests.mutants.running import are_open, begun, doubt
+from tests.mutants.keeping import begun
 
 
 class Writer:
-    """Writes the goals of a crate's edits."""
+    """Looks for the goals of a crate's edits, and writes them into the edits, or does with them
+    what is given."""
 
-    def __init__(self, sources, prover, room):
+    def __init__(self, sources, prover, room, take=None):
         self.sources = sources
         self.prover = prover
         self.work = os.path.join(room, sources.crate.name)
+        self.take = take or write
 
     def write(self, edits):
         """Writes the goals of edits, and returns what to say of those in which none fails."""
@@ -46,7 +48,7 @@ class Writer:
             if sure:
                 function, name, *_ = min(sure, key=lambda x: x.is_open)
                 of_lemma = check.unproved[0] if check.unproved else NO_FUNCTION
-                write(edit, Goal(of_lemma if function == NO_FUNCTION else function, name))
+                self.take(edit, Goal(of_lemma if function == NO_FUNCTION else function, name))
             elif half and not failures:
                 yield from self.write_pack(self.packs([edit])[0])
             else:

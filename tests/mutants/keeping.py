@@ -87,3 +87,12 @@ def linked(folder, to):
         except OSError:
             return shutil.copy2(one, other)
     return shutil.copytree(folder, to, copy_function=copy)
+
+
+def begun(work, sources):
+    """Makes a folder of work, which begins with what checks of the crate left, if any did."""
+    left = os.path.join(sources.folder, 'out', 'incremental')
+    if os.path.isdir(left):
+        linked(left, work)
+    else:
+        os.makedirs(work)

@@ -8,8 +8,10 @@ from concurrent.futures import ThreadPoolExecutor
 from typing import NamedTuple
 
 from tests import crates as listing
+from tests.mutants.checks import are_open, doubt
 from tests.mutants.edits import Line, packs, read
-from tests.mutants.keeping import linked
+from tests.mutants.goals import Writer
+from tests.mutants.keeping import begun, linked
 
 # with so many packs a check of the crate as it stands, over which each begins, saves more than
 # it takes
@@ -123,7 +125,10 @@ class Work:
         if new or self.archive and not is_built:
             begun(self.work, self.sources)
         told += [self.line_told(x) for x in new if x in lines]
-        made = packs([x for x in new if x not in lines], self.sources, self.turned)
+        bare = [x for x in new if x not in lines and not x.goal]
+        if bare:
+            queue.add(lambda: True, lambda: self.looked_for(bare))
+        made = packs([x for x in new if x not in [*lines, *bare]], self.sources, self.turned)
         if self.archive and not is_built:
             told.append(self.archived())
         elif len(made) >= LEAST_WITH_SEED:
@@ -149,11 +154,8 @@ class Work:
 
     def fault(self, edit):
         """Why an edit cannot be tried, or None."""
-        if isinstance(edit, Line):
-            return None
-        if not edit.goal:
-            return 'HAS NO GOAL: see --write-goals'
-        return None if edit.texts(self.sources, {}) else 'DOES NOT APPLY'
+        applies = isinstance(edit, Line) or edit.texts(self.sources, {})
+        return None if applies else 'DOES NOT APPLY'
 
     def turned(self, edit):
         """By what an edit is told from the others of its pack, or nothing where it has to stand
@@ -183,6 +185,20 @@ class Work:
             return self.say(line.name, 'NOT REFUSED: ' + check.text())
         self.kept.keep(self.sources, line, 'refused: ' + errors[0])
         return self.say(line.name, None, 'refused: ' + errors[0])
+
+    def looked_for(self, edits):
+        """Looks for the goals of edits that name none, in all of the crate, and says of each edit
+        whether it is good. It is tried in half the time once --write-goals has written its goal."""
+        told = []
+
+        def take(edit, goal):
+            line = 'refused: %s, which it does not name' % (goal,)
+            self.kept.keep(self.sources, edit, line)
+            told.append(self.say(edit.name, None, line))
+        with tempfile.TemporaryDirectory(prefix='must-fail-') as room:
+            lost = Writer(self.sources, self.prover, room, take).write(edits)
+        print(*(x + '\n' for x in lost), sep='', end='', flush=True)
+        return told + [Told(x, False) for x in lost]
 
     def pack_told_apart(self, pack):
         """Tries a pack over a copy of what the check of the crate left."""
@@ -227,28 +243,6 @@ class Work:
         """The same of some edits of a pack, in a check of their own."""
         for pack in packs(edits, self.sources, self.turned):
             yield from self.judged(pack, work)
-
-
-def begun(work, sources):
-    """Makes a folder of work, which begins with what checks of the crate left, if any did."""
-    left = os.path.join(sources.folder, 'out', 'incremental')
-    if os.path.isdir(left):
-        linked(left, work)
-    else:
-        os.makedirs(work)
-
-
-def are_open(failures):
-    """Whether there are failures, and a search left each open."""
-    return bool(failures) and all(x.is_open for x in failures)
-
-
-def doubt(goal, right):
-    """Why a goal that a search leaves open says little, if the function as it stands has no such
-    goal. One of several clauses is told clause by clause, or as a whole."""
-    names = {x.partition('-clause-')[0] for x in right.get(goal.function, ())}
-    is_there = goal.name.partition('-clause-')[0] in names
-    return None if is_there else 'THE RIGHT BODY HAS NO GOAL ' + goal.name
 
 
 def missed(check, goal):
