@@ -88,7 +88,8 @@ def written(asked, sources, prover):
             ThreadPoolExecutor(listing.processors()) as pool:
         runs = [pool.submit(Writer(of, prover, room).write, edits[x])
                 for x, of in sources.items() if edits[x]]
-        return [lost for ran in runs for lost in ran.result()]
+        return ['must-fail %s: %s' % (lost.edit.name, lost.told)
+                for ran in runs for lost in ran.result()]
 
 
 def tried(asked, sources, history, kept):

@@ -1,9 +1,18 @@
 """Looks for the goals of edits: which goal of which function fails with an edit."""
 import os
+from typing import NamedTuple
 
 from tests.mutants.checks import NO_FUNCTION, are_open, doubt
-from tests.mutants.edits import Goal, packs
+from tests.mutants.edits import Edit, Goal, packs
 from tests.mutants.keeping import begun
+
+
+class Lost(NamedTuple):
+    """An edit of which no goal counts: what a check says of it, and whether goals fail by their
+    meaning all the same, which the right body does not have and which have to be read."""
+    edit: Edit
+    told: str
+    is_to_read: bool
 
 
 class Writer:
@@ -17,7 +26,7 @@ class Writer:
         self.take = take or write
 
     def write(self, edits):
-        """Writes the goals of edits, and returns what to say of those in which none fails."""
+        """Writes the goals of edits, and returns those of which none counts."""
         begun(self.work, self.sources)
         return [lost for pack in self.packs(edits) for lost in self.write_pack(pack)]
 
@@ -52,8 +61,7 @@ class Writer:
             elif half and not failures:
                 yield from self.write_pack(self.packs([edit])[0])
             else:
-                told = '; '.join(map(str, failures[:3])) or check.text()
-                yield 'must-fail %s/%s: %s' % (self.sources.crate.name, edit.name, told)
+                yield Lost(edit, '; '.join(map(str, failures[:3])) or check.text(), bool(failures))
 
 
 def failures_of(names, check):

@@ -197,8 +197,11 @@ class Work:
             told.append(self.say(edit.name, None, line))
         with tempfile.TemporaryDirectory(prefix='must-fail-') as room:
             lost = Writer(self.sources, self.prover, room, take).write(edits)
-        print(*(x + '\n' for x in lost), sep='', end='', flush=True)
-        return told + [Told(x, False) for x in lost]
+        for edit, said, is_to_read in lost:
+            why = None if is_to_read else said
+            read = 'TO READ, the right body has no such goal: ' + said
+            told.append(self.say(edit.name, why, read))
+        return told
 
     def pack_told_apart(self, pack):
         """Tries a pack over a copy of what the check of the crate left."""
