@@ -150,9 +150,11 @@ def refused(words, at=0, data=b'', **more):
         env = {**os.environ, 'REFUSE_AT': str(at), 'REFUSE_LOG': log.name, 'LD_PRELOAD': shim('refusal/refuse.c')}
         ran = run(words, data, env=env, **more)
         said = LOG.search(log.read())
-    if not said:
+    if not said and ran.returncode == 0:
         raise AssertionError('the shim was not loaded: %r' % (ran.stderr[-500:],))
-    return Refused(ran.returncode, ran.stdout, ran.stderr, int(said[1]), said[2] == b'1', int(said[3]))
+    # a program that ends by a signal logs nothing
+    requests, is_refused, largest = said.groups() if said else (0, b'0', 0)
+    return Refused(ran.returncode, ran.stdout, ran.stderr, int(requests), is_refused == b'1', int(largest))
 
 
 def in_turn(words, data=b'', **more):
