@@ -57,7 +57,8 @@ class Progress(Case):
 
     @each('clang', 'rattle')
     def no_terminal(self, build):
-        self.assert_ends(run([self.program('prefixes', build), 'complete', self.path]))
+        # no line was asked, so none was answered
+        self.assert_ends(run([self.program('prefixes', build), 'complete', self.path]), status=1)
 
 
 class Lists(Case):
