@@ -1,4 +1,3 @@
 //! The examples of the documentation, which show what contracts say in a few rows.
 
-mod asserts;
 mod examples;

@@ -1,119 +1,122 @@
 //! The examples of the calls of prefixes_core, as the documentation has them.
-
-use crate::tests::asserts::{done, holds, same};
 use patricia_tree::StringPatriciaMap;
 use prefixes_core::{
     BlockList, Payload, UnpackError, complete, drop_subtree, pack, segment, subtree, unpack,
 };
 
 #[test]
-fn segment_example(rt: HostRuntime) {
+fn segment_example(rt: HostRuntime) -> anyhow::Result<()> {
     // example: prefixes segment
     let words = [("app", ()), ("apple", ()), ("pie", ())];
-    let dictionary = done(&rt, StringPatriciaMap::from_iter(rt.alloc(), words));
-    let pieces = done(&rt, segment(rt.alloc(), &dictionary, "xapplepie"));
-    same!(rt; pieces.as_slice(), ["x", "apple", "pie"].as_slice());
+    let dictionary = StringPatriciaMap::from_iter(rt.alloc(), words)?;
+    let pieces = segment(rt.alloc(), &dictionary, "xapplepie")?;
+    assert_eq!(rt; pieces.as_slice(), ["x", "apple", "pie"].as_slice());
     // end
+    Ok(())
 }
 
 #[test]
-fn complete_example(rt: HostRuntime) {
+fn complete_example(rt: HostRuntime) -> anyhow::Result<()> {
     // example: prefixes complete
-    let map = done(
-        &rt,
-        StringPatriciaMap::from_iter(rt.alloc(), [("foo", 1), ("bar", 2), ("baz", 3)]),
-    );
-    let completions = done(&rt, complete(rt.alloc(), &map, "ba", 1));
-    same!(rt; completions.first.len(), 1);
-    same!(rt; completions.first[0].0.as_str(), "bar");
-    same!(rt; completions.count, 2);
+    let map = StringPatriciaMap::from_iter(rt.alloc(), [("foo", 1), ("bar", 2), ("baz", 3)])?;
+    let completions = complete(rt.alloc(), &map, "ba", 1)?;
+    assert_eq!(rt; completions.first.len(), 1);
+    assert_eq!(rt; completions.first[0].0.as_str(), "bar");
+    assert_eq!(rt; completions.count, 2);
     // end
+    Ok(())
 }
 
 #[test]
-fn block_list_new(rt: HostRuntime) {
+fn block_list_new(rt: HostRuntime) -> anyhow::Result<()> {
     // example: block_list new
     let list = BlockList::new(rt.alloc());
-    same!(rt; done(&rt, list.find(b"example.com".as_slice())), None);
+    assert_eq!(rt; list.find(b"example.com".as_slice())?, None);
     // end
+    Ok(())
 }
 
 #[test]
-fn block_list_add(rt: HostRuntime) {
+fn block_list_add(rt: HostRuntime) -> anyhow::Result<()> {
     // example: block_list add
     let mut list = BlockList::new(rt.alloc());
-    holds!(rt; done(&rt, list.add(b"tracker.net".as_slice())));
-    holds!(rt; !done(&rt, list.add(b"tracker.net".as_slice())));
+    assert!(rt; list.add(b"tracker.net".as_slice())?);
+    assert!(rt; !list.add(b"tracker.net".as_slice())?);
     // end
+    Ok(())
 }
 
 #[test]
-fn block_list_find(rt: HostRuntime) {
+fn block_list_find(rt: HostRuntime) -> anyhow::Result<()> {
     // example: block_list find
     let mut list = BlockList::new(rt.alloc());
-    done(&rt, list.add(b"net".as_slice()));
-    done(&rt, list.add(b"tracker.net".as_slice()));
-    let found = done(&rt, list.find(b"cdn.tracker.net".as_slice()));
-    same!(rt; found, Some(b"tracker.net".as_slice()));
-    same!(rt; done(&rt, list.find(b"mytracker.org".as_slice())), None);
+    list.add(b"net".as_slice())?;
+    list.add(b"tracker.net".as_slice())?;
+    let found = list.find(b"cdn.tracker.net".as_slice())?;
+    assert_eq!(rt; found, Some(b"tracker.net".as_slice()));
+    assert_eq!(rt; list.find(b"mytracker.org".as_slice())?, None);
     // end
+    Ok(())
 }
 
 #[test]
-fn subtree_example(rt: HostRuntime) {
+fn subtree_example(rt: HostRuntime) -> anyhow::Result<()> {
     // example: prefixes subtree
     let rows = [("log", 1), ("log.level", 2), ("logs", 3)];
-    let names = done(&rt, StringPatriciaMap::from_iter(rt.alloc(), rows));
-    let rows = done(&rt, subtree(rt.alloc(), &names, "log"));
-    same!(rt; rows.len(), 2);
-    same!(rt; rows[1].0.as_str(), "log.level");
+    let names = StringPatriciaMap::from_iter(rt.alloc(), rows)?;
+    let rows = subtree(rt.alloc(), &names, "log")?;
+    assert_eq!(rt; rows.len(), 2);
+    assert_eq!(rt; rows[1].0.as_str(), "log.level");
     // end
+    Ok(())
 }
 
 #[test]
-fn drop_subtree_example(rt: HostRuntime) {
+fn drop_subtree_example(rt: HostRuntime) -> anyhow::Result<()> {
     // example: prefixes drop_subtree
     let rows = [("log", 1), ("log.level", 2), ("logs", 3)];
-    let mut names = done(&rt, StringPatriciaMap::from_iter(rt.alloc(), rows));
-    done(&rt, drop_subtree(rt.alloc(), &mut names, "log"));
-    same!(rt; names.len(), 1);
+    let mut names = StringPatriciaMap::from_iter(rt.alloc(), rows)?;
+    drop_subtree(rt.alloc(), &mut names, "log")?;
+    assert_eq!(rt; names.len(), 1);
     // end
+    Ok(())
 }
 
 #[test]
-fn pack_example(rt: HostRuntime) {
+fn pack_example(rt: HostRuntime) -> anyhow::Result<()> {
     // example: prefixes pack
     let mut list = StringPatriciaMap::new(rt.alloc());
-    done(
-        &rt,
-        list.insert("foo", done(&rt, Payload::new(rt.alloc(), b"1".as_slice()))),
-    );
-    let bytes = done(&rt, pack(rt.alloc(), &list));
-    holds!(rt; bytes.starts_with(b"prefixes".as_slice()));
-    same!(rt; done(&rt, unpack(rt.alloc(), &bytes)).len(), 1);
+    list.insert("foo", Payload::new(rt.alloc(), b"1".as_slice())?)?;
+    let bytes = pack(rt.alloc(), &list)?;
+    assert!(rt; bytes.starts_with(b"prefixes".as_slice()));
+    assert_eq!(rt; unpack(rt.alloc(), &bytes)?.len(), 1);
     // end
+    Ok(())
 }
 
 #[test]
-fn unpack_example(rt: HostRuntime) {
+fn unpack_example(rt: HostRuntime) -> anyhow::Result<()> {
     // example: prefixes unpack
     let cut = unpack(rt.alloc(), b"prefixes\x01\0\0".as_slice());
-    holds!(rt; matches!(cut, Err(UnpackError::Truncated(9))));
+    assert!(rt; matches!(cut, Err(UnpackError::Truncated(9))));
     // end
+    Ok(())
 }
 
 #[test]
-fn payload_new(rt: HostRuntime) {
+fn payload_new(rt: HostRuntime) -> anyhow::Result<()> {
     // example: payload new
-    let payload = done(&rt, Payload::new(rt.alloc(), b"on".as_slice()));
-    same!(rt; payload.as_bytes(), b"on".as_slice());
+    let payload = Payload::new(rt.alloc(), b"on".as_slice())?;
+    assert_eq!(rt; payload.as_bytes(), b"on".as_slice());
     // end
+    Ok(())
 }
 
 #[test]
-fn payload_as_bytes(rt: HostRuntime) {
+fn payload_as_bytes(rt: HostRuntime) -> anyhow::Result<()> {
     // example: payload as_bytes
-    let payload = done(&rt, Payload::new(rt.alloc(), b"".as_slice()));
-    holds!(rt; payload.as_bytes().is_empty());
+    let payload = Payload::new(rt.alloc(), b"".as_slice())?;
+    assert!(rt; payload.as_bytes().is_empty());
     // end
+    Ok(())
 }
