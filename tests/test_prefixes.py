@@ -1,14 +1,18 @@
 """The program `prefixes`: the commands of its pages, what a terminal is told, and lists of the world against a plain
 model."""
+import array
+import fcntl
 import os
 import pty
 import random
 import shutil
 import subprocess
 import tempfile
+import termios
+import time
 from tests.prefixes import model
 from tests.prefixes.pages import FILES, PAGES, commands
-from tests.support import Case, each, folder, pairs, run
+from tests.support import ROOT, Case, each, folder, pairs, run
 
 MOST_SECONDS = 120
 
@@ -75,3 +79,69 @@ class Lists(Case):
             self.assert_ends(run([program, 'pack', model.path(name), packed]))
             for path in model.path(name), packed:
                 self.assert_ends(run([program, command, path], lines), wanted)
+
+
+def is_read(pipe):
+    """Whether all that was written to a pipe has been read."""
+    left = array.array('i', [0])
+    fcntl.ioctl(pipe, termios.FIONREAD, left)
+    return left[0] == 0
+
+
+def feed(process, pipe, data):
+    """Writes data to a pipe, each byte once a program has read the one before, and closes it."""
+    for at in range(len(data)):
+        os.write(pipe, data[at:at + 1])
+        while not is_read(pipe) and process.poll() is None:
+            time.sleep(0.0001)
+    os.close(pipe)
+
+
+def run_in_pieces(words, contents, data):
+    """Runs a program on a file with these contents and an input, of each of which a read gets one byte."""
+    out, into = os.pipe()
+    pipes = {'stdin': subprocess.PIPE, 'stdout': subprocess.PIPE, 'stderr': subprocess.PIPE}
+    with subprocess.Popen([*words, '/dev/fd/%d' % out], pass_fds=[out], **pipes) as process:
+        feed(process, into, contents)
+        os.close(out)
+        feed(process, os.dup(process.stdin.fileno()), data)
+        output, errors = process.communicate()
+    return subprocess.CompletedProcess(words, process.returncode, output, errors)
+
+
+class Pieces(Case):
+    """Lists, packed lists and lines of input are the same where each read gets one byte."""
+
+    ASKED = {
+        'route': ('routes', b'/api/users/7\nx\n'), 'complete': ('names', b'foo\nba\n'),
+        'block': ('blocked', b'eu.ads.example.com\nnet\n'), 'tree': ('settings', b'log\nlo\n'),
+        'segment': ('words', b'applepie\n'),
+    }
+
+    def contents(self, name, build):
+        """A list as lines, and packed."""
+        path = os.path.join(ROOT, 'tests', 'prefixes', 'lists', name)
+        packed = os.path.join(folder(self.addCleanup), 'packed')
+        self.assert_ends(run([self.program('prefixes', build), 'pack', path, packed]))
+        for there in path, packed:
+            with open(there, 'rb') as file:
+                yield there, file.read()
+
+    @each(*pairs(ASKED))
+    def asked(self, command, build):
+        name, lines = self.ASKED[command]
+        words = [self.program('prefixes', build), command]
+        for path, contents in self.contents(name, build):
+            whole = run([*words, path], lines)
+            self.assertEqual(whole.returncode, 0)
+            self.assert_ends(run_in_pieces(words, contents, lines), whole.stdout)
+
+    @each('clang', 'rattle')
+    def pack(self, build):
+        (_, lines), (_, packed) = self.contents('settings', build)
+        for contents in lines, packed:
+            out = os.path.join(folder(self.addCleanup), 'out')
+            words = ['sh', '-c', '"$0" pack "$2" "$1"', self.program('prefixes', build), out]
+            self.assert_ends(run_in_pieces(words, contents, b''))
+            with open(out, 'rb') as file:
+                self.assertEqual(file.read(), packed)

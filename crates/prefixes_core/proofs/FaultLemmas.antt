@@ -4,9 +4,10 @@ use Rattle.std.proofs.Common.{◌++◌, map, length, take, refl, sym, ap, subst,
 use Rattle.std.specs.List.{concat}
 use Rattle.std.specs.Str.{bytes_eq}
 use Rattle.std.proofs.lemmas.List.{append_assoc, length-append}
-use Rattle.patricia_tree.specs.Faults.{IsRefusal}
+use Rattle.patricia_tree.specs.Faults.{IsFirst, IsRefusal}
 use Rattle.patricia_tree.specs.TextKind.{IsTextItem}
 use Rattle.patricia_tree.specs.declared.DecodeError.{DecodeError}
+use Rattle.patricia_tree.specs.declared.DecodeError.TheVariants.{Memory}
 use Rattle.prefixes_core.specs.Packings.{head, counted}
 use Rattle.prefixes_core.specs.UnpackFaults.{IsCut, IsUnpackFault, IsValueFault}
 use Rattle.prefixes_core.specs.declared.packing.UnpackError.{UnpackError}
@@ -65,20 +66,27 @@ values_named bytes tree rest start (Faults.Truncated at) e place is =
 values_named bytes tree rest start (Faults.Tree at fault) e place is = absurd is
 values_named bytes tree rest start Faults.Memory e place is = tt
 
+-- a refusal of tree bytes that is not out of memory names their first fault
+first_of : (tree : List ℕ) (n : ℕ) (fault : DecodeError) → (fault ≡ Memory → ⊥)
+    → IsRefusal IsTextItem 2 tree n fault → IsFirst IsTextItem 2 tree n fault
+first_of tree n fault other (inl memory) = absurd (other memory)
+first_of tree n fault other (inr first) = first
+
 -- a fault of the tree bytes is named with the offset at which they begin
 pub tree_named : (bytes tree rest : List ℕ) (values : List (List ℕ)) (fault : DecodeError)
     (named : UnpackError) → bytes ≡ head ++ (counted tree ++ rest)
     → rest ≡ concat (map counted values) → IsRefusal IsTextItem 2 tree (length values) fault
-    → (named ≡ Faults.Memory) ⊎ (named ≡ Faults.Tree 17 fault) → IsUnpackFault bytes named
+    → (named ≡ Faults.Memory) ⊎ ((fault ≡ Memory → ⊥) × (named ≡ Faults.Tree 17 fault))
+    → IsUnpackFault bytes named
 tree_named bytes tree rest values fault named e f refused (inl memory) =
     subst (IsUnpackFault bytes) (sym memory) tt
 tree_named bytes tree rest values fault named e f refused (inr other) =
-    subst (IsUnpackFault bytes) (sym other) (
+    subst (IsUnpackFault bytes) (sym other.1) (
       refl,
       record {
         tree = tree;
         values = values;
         is = e ∙ ap (λ l. head ++ (counted tree ++ l)) f;
-        refused = refused;
+        first = first_of tree (length values) fault other.0 refused;
       },
     )

@@ -3,6 +3,7 @@ pub mod FaultLemmas
 pub mod LongestLemmas
 pub mod NameLemmas
 pub mod PackLemmas
+pub mod ReachLemmas
 pub mod ResultLemmas
 pub mod SegmentLemmas
 pub mod SubtreeLemmas

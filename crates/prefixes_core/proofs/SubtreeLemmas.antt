@@ -12,11 +12,12 @@ use Rattle.std.specs.FinMap.{find, is_sorted, slice_cmp-IsAntisymmetric, nat_cmp
 use Rattle.std.specs.FinMap.Entries.{below_all, find-where_key, is_sorted-where_key}
 use Rattle.std.specs.declared.cmp.Ordering.{Ordering}
 use Rattle.std.specs.declared.cmp.Ordering.TheVariants.{Less, Equal, Greater}
-use Rattle.std.proofs.lemmas.List.{append_assoc}
+use Rattle.std.proofs.lemmas.List.{append-nil, append_assoc}
 use Rattle.patricia_tree.specs.Keys.{Begins, key_cmp}
 use Rattle.patricia_tree.specs.Prefixes.{begins, under, outside}
 use Rattle.prefixes_core.specs.Subtrees.{is_within, subtree, elsewhere}
 use Rattle.prefixes_core.proofs.LongestLemmas.{first_part, second_part, less_so, begins_is}
+use Rattle.prefixes_core.proofs.LongestLemmas.{begins_from}
 use Rattle.prefixes_core.proofs.LongestLemmas.{key_cmp-equal, tied_is, tied_from, not_above}
 
 -- the name and a dot
@@ -67,6 +68,21 @@ not_below_itself name = not_true _ (λ h. by name (begins_is (dotted name) name 
     by : (l : List ℕ) → Begins (dotted l) l → ⊥
     by [] (rest, e) = absurd (cc)
     by (c ∷ l) (rest, e) = by l (rest, cc)
+
+-- what is within a name begins with it
+within_begins : (name key : List ℕ) → is_within name key ≡ true → begins name key ≡ true
+within_begins name key h = by (bytes_eq key name) refl h
+  where
+    by : (b : Bool) → bytes_eq key name ≡ b → (b || begins (dotted name) key) ≡ true
+        → begins name key ≡ true
+    by true f g = begins_from name key (
+      [],
+      append-nil name ∙ sym (tied_is key name
+          (sym (texts_ties key name) ∙ f)),
+    )
+    by false f g =
+        let b = begins_is (dotted name) key g in
+        begins_from name key (46 ∷ b.0, sym (append_assoc name (46 ∷ []) b.0) ∙ b.1)
 
 -- a test that the first row fails
 skipped : {A : Type 0} (b : Bool) (x y : A) → b ≡ false → cond b x y ≡ y
@@ -158,6 +174,29 @@ module _ {V : Type 0} (name : List ℕ) where
           ∙ sym (ap (λ v. own name v ++ under (dotted name) (e ∷ es)) (skipped _ _ _ (ap is_eq f))
           ∙ ap (λ l. own name (find key_cmp name es) ++ l) (skipped _ _ _ below))
 
+  -- where no key begins with the name, none is in its subtree
+  nothing_within : (es : List (List ℕ × V)) → under name es ≡ []
+      → (subtree name es ≡ []) × (elsewhere name es ≡ es)
+  nothing_within [] none = (refl, refl)
+  nothing_within (e ∷ es) none = by (is_within name e.0) refl (begins name e.0) refl none
+      (nothing_within es)
+    where
+      by : (b : Bool) → is_within name e.0 ≡ b → (d : Bool) → begins name e.0 ≡ d
+          → cond d (e ∷ under name es) (under name es) ≡ []
+          → (under name es ≡ [] → (subtree name es ≡ []) × (elsewhere name es ≡ es))
+          → (cond b (e ∷ subtree name es) (subtree name es) ≡ [])
+          × (cond (not b) (e ∷ elsewhere name es) (elsewhere name es) ≡ e ∷ es)
+      by b f true h left rest = absurd (cc)
+      by true f false h left rest = absurd (let yes : begins name e.0 ≡ true = within_begins name
+          e.0 f in cc)
+      by false f false h left rest = let both = rest left in (both.0, ap (λ l. e ∷ l) both.1)
+
+  pub nothing_below : (es : List (List ℕ × V)) → under name es ≡ [] → subtree name es ≡ []
+  nothing_below es none = (nothing_within es none).0
+
+  pub all_elsewhere : (es : List (List ℕ × V)) → under name es ≡ [] → elsewhere name es ≡ es
+  all_elsewhere es none = (nothing_within es none).1
+
   -- the rows of other keys than the name
   abbrev pub others : List (List ℕ × V) → List (List ℕ × V)
   others rows = filter (λ e. not (eq_by_cmp key_cmp name e.0)) rows
@@ -182,23 +221,6 @@ module _ {V : Type 0} (name : List ℕ) where
           ap (outside (dotted name)) (taken _ _ _ (ap not f))
           ∙ ap (λ l. cond (not (begins (dotted name) e.0)) (e ∷ l) l) rest
           ∙ sym (ap (λ b. cond (not b) (e ∷ elsewhere name es) (elsewhere name es)) within)
-
-  -- without its own row the same rows are elsewhere
-  pub elsewhere_others : (es : List (List ℕ × V)) → elsewhere name (others es) ≡ elsewhere name es
-  elsewhere_others [] = refl
-  elsewhere_others (e ∷ es) = by (eq_by_cmp key_cmp name e.0) refl (elsewhere_others es)
-    where
-      by : (b : Bool) → eq_by_cmp key_cmp name e.0 ≡ b
-          → elsewhere name (others es) ≡ elsewhere name es
-          → elsewhere name (others (e ∷ es)) ≡ elsewhere name (e ∷ es)
-      by true f rest =
-          let within : is_within name e.0 ≡ true = ap (λ b. b || begins (dotted name) e.0)
-          (same_key name e.0 ∙ f) in
-          ap (elsewhere name) (skipped _ _ _ (ap not f)) ∙ rest
-          ∙ sym (skipped _ _ _ (ap not within))
-      by false f rest =
-          ap (elsewhere name) (taken _ _ _ (ap not f))
-          ∙ ap (λ l. cond (not (is_within name e.0)) (e ∷ l) l) rest
 
   -- the rows of others rise as all do
   others_sorted : (es : List (List ℕ × V)) → T (is_sorted key_cmp es)

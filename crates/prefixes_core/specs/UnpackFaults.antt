@@ -1,7 +1,7 @@
 -- What is wrong with bytes that are no packed list, and where.
 use Rattle.std.specs.Prelude.{◌≡◌, ℕ, ◌+◌, List, ◌++◌, length, map}
 use Rattle.std.specs.List.{concat}
-use Rattle.patricia_tree.specs.Faults.{IsRefusal}
+use Rattle.patricia_tree.specs.Faults.{IsFirst}
 use Rattle.patricia_tree.specs.Keys.{Begins}
 use Rattle.patricia_tree.specs.TextKind.{IsTextItem}
 use Rattle.patricia_tree.specs.declared.DecodeError.{DecodeError}
@@ -22,7 +22,7 @@ pub record IsTreeFault (bytes : List ℕ) (fault : DecodeError) : Type 0 where
   pub tree : List ℕ
   pub values : List (List ℕ)
   pub is : bytes ≡ packed tree values
-  pub refused : IsRefusal IsTextItem 2 tree (length values) fault
+  pub first : IsFirst IsTextItem 2 tree (length values) fault
 
 -- what each error says of the bytes; tree bytes begin behind the head and their number
 abbrev pub IsUnpackFault : List ℕ → UnpackError → Type 0

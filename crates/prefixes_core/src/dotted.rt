@@ -1,11 +1,12 @@
 //! Dotted names: a name and those below it.
 
-ghost use Rattle.std.specs.Prelude.{◌≡◌, [], ◌∷◌, ◌++◌, IfOk, OnOk, OnErr, map as list_map};
-ghost use Rattle.std.specs.Prelude.{string_bytes};
+ghost use Rattle.std.specs.Prelude.{◌≡◌, ◌≢◌, ◌⊎◌, [], ◌∷◌, ◌++◌, IfOk, OnOk, OnErr, false, true};
+ghost use Rattle.std.specs.Prelude.{string_bytes, map as list_map};
 ghost use Rattle.std.specs.FinMap as map;
+ghost use Rattle.patricia_tree.specs.Prefixes.{under};
 ghost use Rattle.prefixes_core.specs.Subtrees.{subtree, elsewhere};
 
-use patricia_tree::StringPatriciaMap;
+use patricia_tree::{BorrowedBytes, StringPatriciaMap};
 use std::alloc::{AllocError, Global};
 
 // The name and a dot.
@@ -17,14 +18,26 @@ fn with_dot(alloc: Global, name: &str) -> Result<String, AllocError>
     Ok(dotted)
 }
 
+// Whether a name begins with this one.
+fn begins_some<V: Drop>(names: &StringPatriciaMap<V>, name: &str) -> bool
+    ensures some { result ≡ true → under name.now (map.entries names.now) ≢ [] }
+    ensures none { result ≡ false → under name.now (map.entries names.now) ≡ [] }
+{
+    if names.is_empty() {
+        return false;
+    }
+    let bytes = BorrowedBytes::as_bytes(&name);
+    names.longest_common_prefix_len(name) == bytes.len()
+}
+
 /// Returns the entry of a name and those below it, which are the ones that the name and a dot
 /// begin, in key order.
 ///
-/// Takes two look-ups, and time in proportion to the entries that are returned.
+/// Takes three look-ups, and time in proportion to the entries that are returned.
 ///
 /// # Errors
 ///
-/// Out of memory.
+/// Out of memory, never where no key begins with the name.
 ///
 /// # Examples
 ///
@@ -40,12 +53,16 @@ pub fn subtree<'a, V: Drop>(
     names: &'a StringPatriciaMap<V>,
     name: &str,
 ) -> Result<Vec<(String, &'a V)>, AllocError>
-    ensures { IfOk result (λ rows.
+    ensures rows { IfOk result (λ rows.
         list_map (λ row. (string_bytes row.0, row.1.now)) rows.items
         ≡ subtree name.now (map.entries names.now)) }
+    ensures err_only_if_begun { OnErr result (under name.now (map.entries names.now) ≢ []) }
 {
-    let dotted = with_dot(alloc, name)?;
     let mut rows = Vec::new(alloc);
+    if !begins_some(names, name) {
+        return Ok(rows);
+    }
+    let dotted = with_dot(alloc, name)?;
     if let Some(value) = names.get(name) {
         rows.push((String::from_str(alloc, name)?, value))?;
     }
@@ -57,11 +74,12 @@ pub fn subtree<'a, V: Drop>(
 
 /// Drops the entry of a name and those below it.
 ///
-/// Takes two look-ups, and time in proportion to the entries that are dropped.
+/// Takes three look-ups, and time in proportion to the entries that are dropped.
 ///
 /// # Errors
 ///
-/// Out of memory: all other entries are still there.
+/// Out of memory, never where no key begins with the name: either nothing is dropped, or the entry
+/// of the name alone.
 ///
 /// # Examples
 ///
@@ -78,9 +96,13 @@ pub fn drop_subtree<V: Drop>(
 ) -> Result<(), AllocError>
     ensures ok { OnOk result (
         map.entries names.new ≡ elsewhere name.now (map.entries names.old)) }
-    ensures err { OnErr result (elsewhere name.now (map.entries names.new)
-        ≡ elsewhere name.now (map.entries names.old)) }
+    ensures err { OnErr result
+        ((names.new ≡ names.old) ⊎ (names.new ≡ map.remove names.old name.now)) }
+    ensures err_only_if_begun { OnErr result (under name.now (map.entries names.old) ≢ []) }
 {
+    if !begins_some(names, name) {
+        return Ok(());
+    }
     let dotted = with_dot(alloc, name)?;
     names.remove(name)?;
     names.split_by_prefix(dotted.as_str())?;

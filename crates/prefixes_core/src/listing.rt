@@ -170,6 +170,16 @@ fn read_lines<R: BufRead, W: Write, S: Rows>(
     Ok(())
 }
 
+// Reads what stands where the head of a packed list would: as many bytes as that has, in however
+// many pieces they come, or fewer where a file ends before.
+fn read_head<R: Read>(alloc: Global, file: &mut R) -> io::Result<Vec<u8>> {
+    let mut head = Vec::new(alloc);
+    file.by_ref()
+        .take(HEAD.len() as u64)
+        .read_to_end(&mut head)?;
+    Ok(head)
+}
+
 /// Reads a list and adds its rows: packed, if it begins as packed lists do, and else with a line
 /// for each name.
 ///
@@ -182,13 +192,14 @@ fn read_lines<R: BufRead, W: Write, S: Rows>(
 /// Which line is wrong, or what is wrong with a packed list; a failure to read; or out of memory.
 pub fn read_list<R: Read + Drop, W: Write, S: Rows>(
     alloc: Global,
-    file: R,
+    mut file: R,
     values: Values,
     progress: &mut Option<W>,
     rows: &mut S,
 ) -> Result<(), ListError> {
-    let mut reader = BufReader::new(alloc, file)?;
-    if !reader.fill_buf()?.starts_with(HEAD) {
+    let head = read_head(alloc, &mut file)?;
+    let mut reader = BufReader::new(alloc, head.as_slice().chain(file))?;
+    if head.as_slice() != HEAD {
         return read_lines(alloc, &mut reader, values, progress, rows);
     }
     let mut bytes = Vec::new(alloc);

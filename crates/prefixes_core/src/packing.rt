@@ -171,7 +171,8 @@ fn split_values(alloc: Global, bytes: &[u8], at: usize) -> Result<Vec<Payload>, 
 // The fault of the tree bytes of a packed list.
 fn tree_fault(fault: DecodeError) -> UnpackError
     ensures memory { fault ≡ DecodeError.Memory → result ≡ UnpackError.Memory }
-    ensures either { (result ≡ UnpackError.Memory) ⊎ (result ≡ UnpackError.Tree 17 fault) }
+    ensures either { (result ≡ UnpackError.Memory)
+        ⊎ ((fault ≢ DecodeError.Memory) × (result ≡ UnpackError.Tree 17 fault)) }
 {
     match fault {
         DecodeError::Memory => UnpackError::Memory,

@@ -1,9 +1,9 @@
-use Rattle.std.proofs.Common.{ap, ◌∙◌}
+use Rattle.std.proofs.Common.{inr, sym, ap, ◌∙◌}
 use Rattle.std.specs.FinMap as map
 use Rattle.patricia_tree.specs.Prefixes.{outside}
 use Rattle.prefixes_core.specs.Subtrees.{elsewhere}
 use Rattle.prefixes_core.proofs.ResultLemmas.{on_err_from}
-use Rattle.prefixes_core.proofs.SubtreeLemmas.{dotted, elsewhere_is, elsewhere_others}
+use Rattle.prefixes_core.proofs.SubtreeLemmas.{all_elsewhere, dotted, elsewhere_is}
 use Rattle.prefixes_core.proofs.SubtreeLemmas.{entries-remove}
 use Rattle.prefixes_core.proofs.dotted.drop_subtree.Goals as goal
 
@@ -17,11 +17,12 @@ returns-clause-ok g c =
     ∙ ap (λ m. outside (dotted name) (map.entries m)) c.in_ok-remove.ensures.ok
     ∙ ap (outside (dotted name)) (entries-remove name c.args.names.now) ∙ elsewhere_is name rows
 
+pub returns-then-not-begins_some-clause-ok : goal.returns-then-not-begins_some-clause-ok
+returns-then-not-begins_some-clause-ok g c =
+    sym (all_elsewhere c.args.name.now (map.entries c.args.names.now)
+    (c.begins_some.ensures.none c.if-not-begins_some.true))
+
 pub returns-in_err-split_by_prefix-clause-err : goal.returns-in_err-split_by_prefix-clause-err
 returns-in_err-split_by_prefix-clause-err g c =
-    let name = c.args.name.now in
     on_err_from c.from_residual-in_err-split_by_prefix.result
-    (ap (λ m. elsewhere name (map.entries m)) (c.in_err-split_by_prefix.ensures.unchanged
-    ∙ c.in_ok-remove.ensures.ok)
-    ∙ ap (elsewhere name) (entries-remove name c.args.names.now)
-    ∙ elsewhere_others name (map.entries c.args.names.now))
+    (inr (c.in_err-split_by_prefix.ensures.unchanged ∙ c.in_ok-remove.ensures.ok))

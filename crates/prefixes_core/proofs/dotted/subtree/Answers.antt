@@ -3,9 +3,15 @@ use Rattle.std.specs.Prelude.{map as list_map, string_bytes}
 use Rattle.std.specs.FinMap as map
 use Rattle.patricia_tree.specs.Keys.{key_cmp}
 use Rattle.patricia_tree.specs.Prefixes.{under}
-use Rattle.prefixes_core.proofs.SubtreeLemmas.{own, own_first, dotted}
+use Rattle.prefixes_core.proofs.SubtreeLemmas.{own, own_first, dotted, nothing_below}
 use Rattle.prefixes_core.proofs.dotted.subtree.Goals.{in-Some+in_ok-from_str+in_ok-push, in_default}
 use Rattle.prefixes_core.proofs.dotted.subtree.Goals as goal
+
+pub returns-then-not-begins_some-clause-rows : goal.returns-then-not-begins_some-clause-rows
+returns-then-not-begins_some-clause-rows g c =
+    ap (list_map (λ row. (string_bytes row.0, row.1.now))) c.new-rows.ensures.items
+    ∙ sym (nothing_below c.args.name.now (map.entries c.args.names.now)
+    (c.begins_some.ensures.none c.if-not-begins_some.true))
 
 pub loop-row-init : goal.loop-row-init
 loop-row-init g c =
