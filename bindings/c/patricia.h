@@ -128,7 +128,7 @@ size_t patricia_len(patricia_map *map);
 void patricia_free(patricia_map *map);
 
 /* Frees what *copy holds and writes a copy of the map there, in time in proportion to the number of
- * entries. Returns false where memory runs out: *copy is empty then. */
+ * entries. Returns false where memory runs out, never for an empty map: *copy is empty then. */
 bool patricia_clone(patricia_map *map, patricia_map *copy);
 
 /* Prefixes */
@@ -143,7 +143,8 @@ bool patricia_longest_prefix(patricia_map *map, const uint8_t *key, size_t key_l
 size_t patricia_longest_common_prefix_len(patricia_map *map, const uint8_t *key, size_t key_len);
 
 /* Frees what *part holds, and moves the entries whose key begins with the prefix there. Returns
- * false where memory runs out: *part is empty then, and all entries stay in the map. */
+ * false where memory runs out: *part is empty then, and all entries stay in the map. This is never
+ * so for the empty prefix, nor where there is no such entry. */
 bool patricia_split_by_prefix(patricia_map *map, const uint8_t *prefix, size_t prefix_len,
                               patricia_map *part);
 
@@ -163,8 +164,10 @@ bool patricia_remove_prefix(patricia_map *map, const uint8_t *prefix, size_t pre
 /* Neighbours. Each of these asks for one entry. They return PATRICIA_FOUND, and write its key to
  * the array, the length of the key to *key_len and the value to *value; or PATRICIA_ABSENT where
  * there is no such entry. PATRICIA_NO_ROOM: the key is longer than the array. Its length is written
- * to *key_len and nothing to the others. PATRICIA_NO_MEMORY. With PATRICIA_ABSENT and
- * PATRICIA_NO_MEMORY nothing is written. The map is never changed. */
+ * to *key_len and nothing to the others. PATRICIA_NO_MEMORY, but not for an empty map,
+ * nor for patricia_last_before where there is no such entry. With PATRICIA_ABSENT and
+ * PATRICIA_NO_MEMORY nothing is written. What lies behind the key in the array stays. The map is
+ * never changed. */
 
 /* Asks for the first entry in the order of the keys. */
 uint32_t patricia_first(patricia_map *map, uint8_t *array, size_t size, size_t *key_len,
@@ -192,7 +195,8 @@ uint32_t patricia_last_before(patricia_map *map, const uint8_t *key, size_t len,
 /* Sets the cursor: ahead are the entries whose key is this key or comes after it, among those whose
  * key begins with the first `common` bytes of this key; with the whole key, where `common` is
  * key_len or more. So with 0 they are all entries from a key on, and with key_len those whose key
- * begins with a prefix. Returns false where memory runs out: the cursor is unchanged. */
+ * begins with a prefix. Returns false where memory runs out, never for the empty key: the cursor is
+ * unchanged. */
 bool patricia_cursor_seek(patricia_cursor *cursor, const uint8_t *key, size_t key_len,
                           size_t common);
 
@@ -201,7 +205,8 @@ bool patricia_cursor_seek(patricia_cursor *cursor, const uint8_t *key, size_t ke
  * where none is ahead. PATRICIA_NO_ROOM: the key is longer than the array. Its length is written to
  * *key_len and nothing to the others. PATRICIA_NO_MEMORY, but not for an empty map. With
  * PATRICIA_END and PATRICIA_NO_MEMORY nothing is written. With all but PATRICIA_ENTRY nothing is
- * passed: the same entries stay ahead. The map is never changed. */
+ * passed: the same entries stay ahead. What lies behind the key in the array stays. The map is
+ * never changed. */
 uint32_t patricia_cursor_next(patricia_cursor *cursor, patricia_map *map, uint8_t *array,
                               size_t size, size_t *key_len, uint64_t *value);
 
@@ -213,14 +218,16 @@ void patricia_cursor_free(patricia_cursor *cursor);
 /* Frees what *iterator holds, and writes an iterator over the entries whose key begins with the
  * prefix, in the order of the keys; all entries begin with the empty prefix. The iterator has
  * copies of them, so the map may be changed or freed meanwhile, and the iterator gives the
- * entries as they were. Returns false where memory runs out: the iterator is at its end then. */
+ * entries as they were. Returns false where memory runs out, never where there is no such entry: the
+ * iterator is at its end then. */
 bool patricia_iterate(patricia_map *map, const uint8_t *prefix, size_t prefix_len,
                       patricia_iterator *iterator);
 
 /* Takes the next entry from the iterator. Returns PATRICIA_ENTRY, and writes the key to the
  * array, its length to *key_len and the value to *value; or PATRICIA_END where none is left.
  * PATRICIA_NO_ROOM: the key is longer than the array. Its length is written to *key_len and
- * nothing to the others, and the entry is still the next one. */
+ * nothing to the others, and the entry is still the next one. With PATRICIA_END nothing is written.
+ * What lies behind the key in the array stays. */
 uint32_t patricia_iterator_next(patricia_iterator *iterator, uint8_t *array, size_t size,
                                 size_t *key_len, uint64_t *value);
 
@@ -236,8 +243,9 @@ void patricia_iterator_free(patricia_iterator *iterator);
  * The same keys have the same tree bytes, whatever was inserted and removed before. The values
  * are not encoded: they are to be stored beside the bytes, in the order of the keys.
  * PATRICIA_NO_ROOM: the array is too small and is not written, and *len is the length that it
- * needs. PATRICIA_TOO_DEEP: a record would lie deeper than level 65,535. PATRICIA_NO_MEMORY. The
- * map is never changed. */
+ * needs. PATRICIA_TOO_DEEP: a record would lie deeper than level 65,535. PATRICIA_NO_MEMORY. With
+ * the last two *len is not written. What lies behind the bytes in the array stays. The map is never
+ * changed. */
 uint32_t patricia_tree_bytes(patricia_map *map, uint8_t *array, size_t size, size_t *len);
 
 /* The same with levels of four bytes, so that a record may lie as deep as level 4,294,967,295. */

@@ -113,6 +113,10 @@ module _ {V : Type 0} where
   pub under_start : (rows : List (List ℕ × V)) → under [] (from [] rows) ≡ rows
   under_start rows = under_empty (from [] rows) ∙ from_start rows
 
+  -- so under as many of its bytes as there may be
+  pub under_taken : (n : ℕ) (rows : List (List ℕ × V)) → under (take n []) (from [] rows) ≡ rows
+  under_taken n rows = ap (λ p. under p (from [] rows)) (take_all n [] (omega arith)) ∙ under_start rows
+
 -- the rows from a place on are in order
 beyond_sorted : (passed : Bool) (key : List ℕ) (es : List (List ℕ × ℕ)) → T (is_sorted key_cmp es)
     → T (is_sorted key_cmp (beyond passed key es))

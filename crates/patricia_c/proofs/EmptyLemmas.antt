@@ -1,5 +1,6 @@
 -- What holds of a place with nothing on the heap, which stands for the empty map.
-use Rattle.std.proofs.Common.{◌≡◌, ◌-◌, ℕ, Bool, true, false, List, [], None, Option, inl, refl, sym, ap, ◌∙◌, subst}
+use Rattle.std.proofs.Common.{◌≡◌, ◌-◌, ℕ, Bool, true, false, List, [], None, Option, inl, length, ◌==◌, refl, sym, ap, ◌∙◌, subst}
+use Rattle.std.proofs.lemmas.Bool.{eqb-true}
 use Rattle.std.proofs.lemmas.List.{nil_from_length}
 use Rattle.std.proofs.lemmas.Cmp.{nat_list_cmp_total}
 use Rattle.std.specs.FinMap as map
@@ -36,6 +37,10 @@ module _ (o : Option StoredMap) (none : None ≡ o) where
 
   pub none_remove : (k : List ℕ) → map.empty ≡ map.remove (map_of o) k
   none_remove k = subst (λ (o : Option StoredMap). map.empty ≡ map.remove (map_of o) k) none (sym (empty_remove k))
+
+-- bytes that are tested to be empty are
+pub empty_is : (b : Bool) (bytes : List ℕ) → b ≡ (length bytes == 0) → b ≡ true → bytes ≡ []
+empty_is b bytes is h = nil_from_length bytes (eqb-true (length bytes) 0 (sym is ∙ h))
 
 pub none_reach : (k : List ℕ) → IsReach IsByteItem [] k 0
 none_reach k = record { reached = inl (refl, refl); furthest = λ _ m has _. absurd has }

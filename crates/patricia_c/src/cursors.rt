@@ -1,6 +1,6 @@
 //! Cursors. A cursor has the last key alone, and asks the map for the next entry at each step, so
 //! the map may change in between.
-ghost use Rattle.std.specs.Prelude.{◌≡◌, ◌≢◌, ◌≤◌, ◌<◌, ℕ, List, [], length, take, slice_get};
+ghost use Rattle.std.specs.Prelude.{◌≡◌, ◌≢◌, ◌≤◌, ◌<◌, ℕ, List, [], drop, length, take, slice_get};
 ghost use Rattle.std.specs.Prelude.{Some, None, true, false, IfOk};
 ghost use Rattle.std.specs.Option.{option_map};
 ghost use Rattle.std.specs.FinMap as map;
@@ -15,6 +15,7 @@ use crate::cursor_pointer::Position;
 use crate::ends::next_of;
 use crate::map_place::MapPlace;
 use crate::map_pointer::StoredMap;
+use crate::room::copy_to;
 use std::alloc::{AllocError, Global};
 
 /// No entry is ahead.
@@ -91,7 +92,7 @@ fn first_ahead(
 
 /// Sets the cursor before the first entry whose key is this one or comes after it, among those
 /// whose key begins with the first `common` bytes of this key; where it is shorter, with the key.
-/// Returns false where memory ran out: the cursor stands where it stood.
+/// Returns false where memory ran out, never for the empty key: the cursor stands where it stood.
 #[unsafe(no_mangle)]
 pub extern "C" fn patricia_cursor_seek(
     alloc: Global,
@@ -105,7 +106,12 @@ pub extern "C" fn patricia_cursor_seek(
         ahead_of cursor.new.pointer.stored rows ≡ under key.now rows }
     ensures prefix { result ≡ true → prefix_of cursor.new.pointer.stored ≡ take common key.now }
     ensures refused { result ≡ false → cursor.new.pointer.stored ≡ cursor.old.pointer.stored }
+    ensures refused_nonempty { result ≡ false → key.now ≢ [] }
 {
+    if key.is_empty() {
+        drop(cursor.take());
+        return true;
+    }
     let Ok(key) = Vec::from_slice(alloc, key) else {
         return false;
     };
@@ -137,6 +143,8 @@ fn step(
     ensures entry { result ≡ 1 →
         slice_get (ahead_of (Some position.old) (map.entries stored.now.map)) 0
         ≡ Some (take len.new room.new, value.new) }
+    ensures within { result ≡ 1 → len.new ≤ length room.new }
+    ensures behind { result ≡ 1 → drop len.new room.new ≡ drop len.new room.old }
     ensures passed { result ≡ 1 → (rows : List (List ℕ × ℕ)) → ahead_of (Some position.new) rows
         ≡ under (prefix_of (Some position.old)) (after (Some (take len.new room.new)) rows) }
     ensures prefix { prefix_of (Some position.new) ≡ prefix_of (Some position.old) }
@@ -157,11 +165,9 @@ fn step(
     let Some((key, there)) = first else {
         return END;
     };
-    *len = key.len();
-    if room.len() < key.len() {
+    if !copy_to(room, len, key.as_slice()) {
         return NO_ROOM;
     }
-    room[..key.len()].copy_from_slice(key.as_slice());
     *value = there;
     position.pass(key);
     ENTRY
@@ -185,6 +191,8 @@ pub extern "C" fn patricia_cursor_next(
         (map.entries (map_of at.old.pointer.stored))) 0 ≡ None }
     ensures entry { result ≡ 1 → slice_get (ahead_of cursor.old.pointer.stored
         (map.entries (map_of at.old.pointer.stored))) 0 ≡ Some (take len.new room.new, value.new) }
+    ensures within { result ≡ 1 → len.new ≤ length room.new }
+    ensures behind { result ≡ 1 → drop len.new room.new ≡ drop len.new room.old }
     ensures passed { result ≡ 1 → (rows : List (List ℕ × ℕ)) →
         ahead_of cursor.new.pointer.stored rows
         ≡ under (prefix_of cursor.old.pointer.stored) (after (Some (take len.new room.new)) rows) }

@@ -1,5 +1,5 @@
 //! Tree bytes. The values are stored beside them, in key order, as an iterator gives them.
-ghost use Rattle.std.specs.Prelude.{◌≡◌, ◌≢◌, ◌≤◌, ◌<◌, length, take, true, false};
+ghost use Rattle.std.specs.Prelude.{◌≡◌, ◌≢◌, ◌≤◌, ◌<◌, drop, length, take};
 ghost use Rattle.std.specs.FinMap as map;
 ghost use Rattle.patricia_tree.specs.ByteKind.{IsByteItem};
 ghost use Rattle.patricia_tree.specs.TreeBytes.{AreTreeBytes};
@@ -8,6 +8,7 @@ ghost use Rattle.patricia_c.specs.Codes.{IsCode, IsLen, IsRefused};
 ghost use Rattle.patricia_c.specs.Maps.{map_of};
 
 use crate::map_place::MapPlace;
+use crate::room::copy_to;
 use patricia_tree::{DecodeError, PatriciaMap, WireError};
 use std::alloc::Global;
 
@@ -19,19 +20,6 @@ pub(crate) const NO_MEMORY: u32 = 2;
 pub(crate) const TOO_DEEP: u32 = 3;
 /// The room is too small: nothing was written to it.
 pub(crate) const NO_ROOM: u32 = 4;
-
-// Copies the bytes to the front of the room, where there is enough of it.
-pub(crate) fn copy_to(room: &mut [u8], bytes: &[u8]) -> bool
-    ensures fits { result ≡ true → take (length bytes.now) room.new ≡ bytes.now }
-    ensures small { result ≡ false → length room.old < length bytes.now }
-    ensures unwritten { result ≡ false → room.new ≡ room.old }
-{
-    if room.len() < bytes.len() {
-        return false;
-    }
-    room[..bytes.len()].copy_from_slice(bytes);
-    true
-}
 
 // The code of an error, with the offset that it names.
 pub(crate) fn code(error: DecodeError, offset: &mut usize) -> u32
@@ -69,12 +57,15 @@ pub extern "C" fn patricia_tree_bytes(
     ensures kept { map_of at.new.pointer.stored ≡ map_of at.old.pointer.stored }
     ensures done { result ≡ 0 → AreTreeBytes IsByteItem 2 (take len.new room.new)
         (map.entries (map_of at.old.pointer.stored)) }
+    ensures within { result ≡ 0 → len.new ≤ length room.new }
+    ensures behind { result ≡ 0 → drop len.new room.new ≡ drop len.new room.old }
     ensures too_deep { result ≡ 3 →
         TooDeep IsByteItem 2 (map.keys (map_of at.old.pointer.stored)) }
     ensures len { result ≡ 4 →
         IsLen IsByteItem 2 len.new (map.entries (map_of at.old.pointer.stored)) }
     ensures small { result ≡ 4 → length room.old < len.new }
     ensures unwritten { result ≢ 0 → room.new ≡ room.old }
+    ensures len_unwritten { result ≢ 0 → result ≢ 4 → len.new ≡ len.old }
     ensures codes { result ≤ 4 }
     ensures not_one { result ≢ 1 }
 {
@@ -85,8 +76,7 @@ pub extern "C" fn patricia_tree_bytes(
     at.put(stored);
     match written {
         Ok(bytes) => {
-            *len = bytes.len();
-            if copy_to(room, bytes.as_slice()) {
+            if copy_to(room, len, bytes.as_slice()) {
                 DONE
             } else {
                 NO_ROOM
@@ -109,12 +99,15 @@ pub extern "C" fn patricia_wide_tree_bytes(
     ensures kept { map_of at.new.pointer.stored ≡ map_of at.old.pointer.stored }
     ensures done { result ≡ 0 → AreTreeBytes IsByteItem 4 (take len.new room.new)
         (map.entries (map_of at.old.pointer.stored)) }
+    ensures within { result ≡ 0 → len.new ≤ length room.new }
+    ensures behind { result ≡ 0 → drop len.new room.new ≡ drop len.new room.old }
     ensures too_deep { result ≡ 3 →
         TooDeep IsByteItem 4 (map.keys (map_of at.old.pointer.stored)) }
     ensures len { result ≡ 4 →
         IsLen IsByteItem 4 len.new (map.entries (map_of at.old.pointer.stored)) }
     ensures small { result ≡ 4 → length room.old < len.new }
     ensures unwritten { result ≢ 0 → room.new ≡ room.old }
+    ensures len_unwritten { result ≢ 0 → result ≢ 4 → len.new ≡ len.old }
     ensures codes { result ≤ 4 }
     ensures not_one { result ≢ 1 }
 {
@@ -125,8 +118,7 @@ pub extern "C" fn patricia_wide_tree_bytes(
     at.put(stored);
     match written {
         Ok(bytes) => {
-            *len = bytes.len();
-            if copy_to(room, bytes.as_slice()) {
+            if copy_to(room, len, bytes.as_slice()) {
                 DONE
             } else {
                 NO_ROOM

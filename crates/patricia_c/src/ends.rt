@@ -1,5 +1,5 @@
 //! The first and the last entry, and those next to a key.
-ghost use Rattle.std.specs.Prelude.{◌≡◌, ◌≢◌, ◌≤◌, ◌<◌, [], length, take, slice_get};
+ghost use Rattle.std.specs.Prelude.{◌≡◌, ◌≢◌, ◌≤◌, ◌<◌, [], drop, length, take, slice_get};
 ghost use Rattle.std.specs.Prelude.{ℕ, List, Some, None, IfOk, OnErr};
 ghost use Rattle.std.specs.List.{last_or};
 ghost use Rattle.std.specs.Option.{option_map};
@@ -10,6 +10,7 @@ ghost use Rattle.patricia_c.specs.Maps.{map_of};
 
 use crate::map_place::MapPlace;
 use crate::map_pointer::StoredMap;
+use crate::room::copy_to;
 use std::alloc::AllocError;
 
 /// There is no such entry.
@@ -31,6 +32,8 @@ fn write_entry(
     ensures absent { result ≡ 0 → entry ≡ None }
     ensures found { result ≡ 1 → option_map {U = List ℕ × ℕ} (λ e. (e.0.items, e.1)) entry
         ≡ Some (take len.new room.new, value.new) }
+    ensures within { result ≡ 1 → len.new ≤ length room.new }
+    ensures behind { result ≡ 1 → drop len.new room.new ≡ drop len.new room.old }
     ensures longer { result ≡ 4 → option_map (λ e. length e.0.items) entry ≡ Some len.new }
     ensures small { result ≡ 4 → length room.old < len.new }
     ensures room_unwritten { result ≢ 1 → room.new ≡ room.old }
@@ -43,11 +46,9 @@ fn write_entry(
     let Some((key, there)) = entry else {
         return ABSENT;
     };
-    *len = key.len();
-    if room.len() < key.len() {
+    if !copy_to(room, len, key.as_slice()) {
         return NO_ROOM;
     }
-    room[..key.len()].copy_from_slice(key.as_slice());
     *value = there;
     FOUND
 }
@@ -66,8 +67,9 @@ fn first_of(stored: &StoredMap) -> Result<Option<(Vec<u8>, u64)>, AllocError>
 
 // A copy of the last entry.
 fn last_of(stored: &StoredMap) -> Result<Option<(Vec<u8>, u64)>, AllocError>
-    ensures { IfOk result (λ entry. option_map (λ e. (e.0.items, e.1)) entry
+    ensures last { IfOk result (λ entry. option_map (λ e. (e.0.items, e.1)) entry
         ≡ last_or None (map.entries stored.now.map)) }
+    ensures err { OnErr result (map.entries stored.now.map ≢ []) }
 {
     match stored.map.last_key_value()? {
         Some((key, value)) => Ok(Some((key, *value))),
@@ -77,8 +79,9 @@ fn last_of(stored: &StoredMap) -> Result<Option<(Vec<u8>, u64)>, AllocError>
 
 // A copy of the first entry whose key comes after this one.
 pub(crate) fn next_of(stored: &StoredMap, key: &[u8]) -> Result<Option<(Vec<u8>, u64)>, AllocError>
-    ensures { IfOk result (λ entry. option_map (λ e. (e.0.items, e.1)) entry
+    ensures first { IfOk result (λ entry. option_map (λ e. (e.0.items, e.1)) entry
         ≡ slice_get (after (Some key.now) (map.entries stored.now.map)) 0) }
+    ensures err { OnErr result (map.entries stored.now.map ≢ []) }
 {
     match stored.map.first_after(key)? {
         Some((next, value)) => Ok(Some((next, *value))),
@@ -88,8 +91,9 @@ pub(crate) fn next_of(stored: &StoredMap, key: &[u8]) -> Result<Option<(Vec<u8>,
 
 // A copy of the last entry whose key comes before this one.
 fn previous_of(stored: &StoredMap, key: &[u8]) -> Result<Option<(Vec<u8>, u64)>, AllocError>
-    ensures { IfOk result (λ entry. option_map (λ e. (e.0.items, e.1)) entry
+    ensures last { IfOk result (λ entry. option_map (λ e. (e.0.items, e.1)) entry
         ≡ last_or None (before key.now (map.entries stored.now.map))) }
+    ensures err { OnErr result (before key.now (map.entries stored.now.map) ≢ []) }
 {
     match stored.map.last_before(key)? {
         Some((previous, value)) => Ok(Some((previous, *value))),
@@ -113,6 +117,8 @@ pub extern "C" fn patricia_first(
         slice_get (map.entries (map_of at.old.pointer.stored)) 0 ≡ None }
     ensures found { result ≡ 1 → slice_get (map.entries (map_of at.old.pointer.stored)) 0
         ≡ Some (take len.new room.new, value.new) }
+    ensures within { result ≡ 1 → len.new ≤ length room.new }
+    ensures behind { result ≡ 1 → drop len.new room.new ≡ drop len.new room.old }
     ensures longer { result ≡ 4 → option_map (λ e. length e.0)
         (slice_get (map.entries (map_of at.old.pointer.stored)) 0) ≡ Some len.new }
     ensures small { result ≡ 4 → length room.old < len.new }
@@ -148,9 +154,12 @@ pub extern "C" fn patricia_last(
         last_or None (map.entries (map_of at.old.pointer.stored)) ≡ None }
     ensures found { result ≡ 1 → last_or None (map.entries (map_of at.old.pointer.stored))
         ≡ Some (take len.new room.new, value.new) }
+    ensures within { result ≡ 1 → len.new ≤ length room.new }
+    ensures behind { result ≡ 1 → drop len.new room.new ≡ drop len.new room.old }
     ensures longer { result ≡ 4 → option_map (λ e. length e.0)
         (last_or None (map.entries (map_of at.old.pointer.stored))) ≡ Some len.new }
     ensures small { result ≡ 4 → length room.old < len.new }
+    ensures refused { result ≡ 2 → map.entries (map_of at.old.pointer.stored) ≢ [] }
     ensures room_unwritten { result ≢ 1 → room.new ≡ room.old }
     ensures value_unwritten { result ≢ 1 → value.new ≡ value.old }
     ensures absent_len { result ≡ 0 → len.new ≡ len.old }
@@ -185,10 +194,13 @@ pub extern "C" fn patricia_first_after(
     ensures found { result ≡ 1 →
         slice_get (after (Some key.now) (map.entries (map_of at.old.pointer.stored))) 0
         ≡ Some (take len.new room.new, value.new) }
+    ensures within { result ≡ 1 → len.new ≤ length room.new }
+    ensures behind { result ≡ 1 → drop len.new room.new ≡ drop len.new room.old }
     ensures longer { result ≡ 4 → option_map (λ e. length e.0)
         (slice_get (after (Some key.now) (map.entries (map_of at.old.pointer.stored))) 0)
         ≡ Some len.new }
     ensures small { result ≡ 4 → length room.old < len.new }
+    ensures refused { result ≡ 2 → map.entries (map_of at.old.pointer.stored) ≢ [] }
     ensures room_unwritten { result ≢ 1 → room.new ≡ room.old }
     ensures value_unwritten { result ≢ 1 → value.new ≡ value.old }
     ensures absent_len { result ≡ 0 → len.new ≡ len.old }
@@ -223,10 +235,14 @@ pub extern "C" fn patricia_last_before(
     ensures found { result ≡ 1 →
         last_or None (before key.now (map.entries (map_of at.old.pointer.stored)))
         ≡ Some (take len.new room.new, value.new) }
+    ensures within { result ≡ 1 → len.new ≤ length room.new }
+    ensures behind { result ≡ 1 → drop len.new room.new ≡ drop len.new room.old }
     ensures longer { result ≡ 4 → option_map (λ e. length e.0)
         (last_or None (before key.now (map.entries (map_of at.old.pointer.stored))))
         ≡ Some len.new }
     ensures small { result ≡ 4 → length room.old < len.new }
+    ensures refused { result ≡ 2 →
+        before key.now (map.entries (map_of at.old.pointer.stored)) ≢ [] }
     ensures room_unwritten { result ≢ 1 → room.new ≡ room.old }
     ensures value_unwritten { result ≢ 1 → value.new ≡ value.old }
     ensures absent_len { result ≡ 0 → len.new ≡ len.old }

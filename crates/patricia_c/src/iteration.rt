@@ -1,6 +1,8 @@
 //! Iterators over entries. An iterator has rows of its own, so the map may change or be freed.
-ghost use Rattle.std.specs.Prelude.{◌≡◌, ◌≢◌, ◌≤◌, ◌<◌, [], take, length, true, false, IfOk};
+ghost use Rattle.std.specs.Prelude.{◌≡◌, ◌≢◌, ◌≤◌, ◌<◌, [], drop, take, length, true, false, IfOk};
+ghost use Rattle.std.specs.Prelude.{OnErr};
 ghost use Rattle.std.specs.FinMap as map;
+ghost use Rattle.std.specs.Option.{option_map};
 ghost use Rattle.patricia_tree.specs.Prefixes.{under};
 ghost use Rattle.patricia_c.specs.Maps.{map_of};
 ghost use Rattle.patricia_c.specs.Rows.{rows_of, TakesRow, IsFirstLen, pairs_of};
@@ -8,6 +10,7 @@ ghost use Rattle.patricia_c.specs.Rows.{rows_of, TakesRow, IsFirstLen, pairs_of}
 use crate::iterator_place::IteratorPlace;
 use crate::map_place::MapPlace;
 use crate::map_pointer::StoredMap;
+use crate::room::copy_to;
 use crate::rows_pointer::Rows;
 use std::alloc::{AllocError, Global};
 use std::collections::VecDeque;
@@ -19,21 +22,30 @@ const ROW: u32 = 1;
 /// The room is too small: no row was removed.
 const NO_ROOM: u32 = 4;
 
-// Copies of the rows whose key begins with the prefix, in key order.
-fn rows_under(alloc: Global, stored: &StoredMap, prefix: &[u8]) -> Result<Box<Rows>, AllocError>
-    ensures { IfOk result (λ b.
-        pairs_of b.value.left.items ≡ under prefix.now (map.entries stored.now.map)) }
+// Copies of the rows whose key begins with the prefix, in key order, or none where there are none.
+fn rows_under(
+    alloc: Global,
+    stored: &StoredMap,
+    prefix: &[u8],
+) -> Result<Option<Box<Rows>>, AllocError>
+    ensures rows { IfOk result (λ found. rows_of (option_map (λ b. b.value) found)
+        ≡ under prefix.now (map.entries stored.now.map)) }
+    ensures err { OnErr result (under prefix.now (map.entries stored.now.map) ≢ []) }
 {
     let mut left = VecDeque::new(alloc);
     for entry in stored.map.iter_prefix(prefix) {
         let (key, value) = entry?;
         left.push_back((key, *value))?;
     }
-    Ok(Box::new(alloc, Rows { left })?)
+    if left.is_empty() {
+        return Ok(None);
+    }
+    Ok(Some(Box::new(alloc, Rows { left })?))
 }
 
 /// Drops the rows that the iterator has left, and writes one over the entries whose key begins with
-/// the prefix, in key order. Returns false where memory ran out: the iterator is at its end then.
+/// the prefix, in key order. Returns false where memory ran out, never where there is no such
+/// entry: the iterator is at its end then.
 #[unsafe(no_mangle)]
 pub extern "C" fn patricia_iterate(
     alloc: Global,
@@ -45,6 +57,8 @@ pub extern "C" fn patricia_iterate(
     ensures rows { result ≡ true → rows_of iterator.new.pointer.stored
         ≡ under prefix.now (map.entries (map_of at.old.pointer.stored)) }
     ensures refused { result ≡ false → rows_of iterator.new.pointer.stored ≡ [] }
+    ensures refused_if_matched { result ≡ false →
+        under prefix.now (map.entries (map_of at.old.pointer.stored)) ≢ [] }
 {
     drop(iterator.take());
     let Some(stored) = at.take() else {
@@ -53,10 +67,11 @@ pub extern "C" fn patricia_iterate(
     let rows = rows_under(alloc, &stored, prefix);
     at.put(stored);
     match rows {
-        Ok(rows) => {
+        Ok(Some(rows)) => {
             iterator.put(rows);
             true
         }
+        Ok(None) => true,
         Err(_) => false,
     }
 }
@@ -74,12 +89,15 @@ pub extern "C" fn patricia_iterator_next(
     ensures end { result ≡ 0 → rows_of iterator.old.pointer.stored ≡ [] }
     ensures row { result ≡ 1 → TakesRow (rows_of iterator.old.pointer.stored)
         (take len.new room.new) value.new (rows_of iterator.new.pointer.stored) }
+    ensures within { result ≡ 1 → len.new ≤ length room.new }
+    ensures behind { result ≡ 1 → drop len.new room.new ≡ drop len.new room.old }
     ensures first { result ≡ 4 → IsFirstLen (rows_of iterator.old.pointer.stored) len.new }
     ensures small { result ≡ 4 → length room.old < len.new }
     ensures kept { result ≢ 1 →
         rows_of iterator.new.pointer.stored ≡ rows_of iterator.old.pointer.stored }
     ensures room_unwritten { result ≢ 1 → room.new ≡ room.old }
     ensures value_unwritten { result ≢ 1 → value.new ≡ value.old }
+    ensures end_len { result ≡ 0 → len.new ≡ len.old }
     ensures codes { result ≤ 4 }
     ensures not_two { result ≢ 2 }
     ensures not_three { result ≢ 3 }
@@ -91,13 +109,11 @@ pub extern "C" fn patricia_iterator_next(
         iterator.put(rows);
         return END;
     };
-    *len = key.len();
-    if room.len() < key.len() {
+    if !copy_to(room, len, key.as_slice()) {
         let _back = rows.left.push_front((key, there));
         iterator.put(rows);
         return NO_ROOM;
     }
-    room[..key.len()].copy_from_slice(key.as_slice());
     *value = there;
     iterator.put(rows);
     ROW

@@ -17,6 +17,7 @@ mod map_place;
 mod map_pointer;
 mod prefixes;
 mod raw_box;
+mod room;
 mod rows_pointer;
 mod text_encodings;
 mod texts;

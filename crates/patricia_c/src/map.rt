@@ -133,18 +133,24 @@ fn copied(alloc: Global, stored: &StoredMap) -> Result<Box<StoredMap>, AllocErro
 }
 
 /// Drops the entries of `copy` and writes a copy of the map there. Returns false where memory ran
-/// out: `copy` holds the empty map then.
+/// out, never for an empty map: `copy` holds the empty map then.
 #[unsafe(no_mangle)]
 pub extern "C" fn patricia_clone(alloc: Global, at: &mut MapPlace, copy: &mut MapPlace) -> bool
     ensures kept { map_of at.new.pointer.stored ≡ map_of at.old.pointer.stored }
     ensures same { result ≡ true →
         map_of copy.new.pointer.stored ≡ map_of at.old.pointer.stored }
     ensures refused { result ≡ false → map_of copy.new.pointer.stored ≡ map.empty }
+    ensures refused_nonempty { result ≡ false →
+        map.entries (map_of at.old.pointer.stored) ≢ [] }
 {
     drop(copy.take());
     let Some(stored) = at.take() else {
         return true;
     };
+    if stored.map.is_empty() {
+        at.put(stored);
+        return true;
+    }
     let made = copied(alloc, &stored);
     at.put(stored);
     match made {

@@ -6,6 +6,7 @@ ghost use Rattle.patricia_tree.specs.Prefixes.{IsReach, longest, under, outside}
 ghost use Rattle.patricia_c.specs.Maps.{map_of, is_row};
 
 use crate::map_place::MapPlace;
+use crate::map_pointer::StoredMap;
 use std::alloc::Global;
 
 /// Returns whether some key is a prefix of this one, and then writes the length and the value of
@@ -58,8 +59,20 @@ pub extern "C" fn patricia_longest_common_prefix_len(at: &mut MapPlace, key: &[u
     reach
 }
 
+// Whether no key begins with the prefix.
+fn begins_none(stored: &StoredMap, prefix: &[u8]) -> bool
+    ensures none { result ≡ true → under prefix.now (map.entries stored.now.map) ≡ [] }
+    ensures some { result ≡ false → under prefix.now (map.entries stored.now.map) ≢ [] }
+{
+    match stored.map.count_prefix(prefix) {
+        Ok(count) => count == 0,
+        Err(_) => false,
+    }
+}
+
 /// Drops the entries of `part` and moves those whose key begins with the prefix there. Returns
-/// false where memory ran out: `part` holds the empty map then, and the entries stay.
+/// false where memory ran out: `part` holds the empty map then, and the entries stay. Never for the
+/// empty prefix, which moves the whole map, nor where no key begins with the prefix.
 #[unsafe(no_mangle)]
 pub extern "C" fn patricia_split_by_prefix(
     alloc: Global,
@@ -73,11 +86,22 @@ pub extern "C" fn patricia_split_by_prefix(
         ≡ outside prefix.now (map.entries (map_of at.old.pointer.stored)) }
     ensures kept { result ≡ false → map_of at.new.pointer.stored ≡ map_of at.old.pointer.stored }
     ensures refused { result ≡ false → map_of part.new.pointer.stored ≡ map.empty }
+    ensures refused_nonempty { result ≡ false → prefix.now ≢ [] }
+    ensures refused_if_matched { result ≡ false →
+        under prefix.now (map.entries (map_of at.old.pointer.stored)) ≢ [] }
 {
     drop(part.take());
     let Some(mut stored) = at.take() else {
         return true;
     };
+    if prefix.is_empty() {
+        part.put(stored);
+        return true;
+    }
+    if begins_none(&stored, prefix) {
+        at.put(stored);
+        return true;
+    }
     let Ok(mut room) = part.take_or_make(alloc) else {
         at.put(stored);
         return false;

@@ -1,5 +1,5 @@
 //! Tree bytes of a map whose keys are texts: no label is cut inside a character.
-ghost use Rattle.std.specs.Prelude.{◌≡◌, ◌≢◌, ◌≤◌, ◌<◌, length, take, None, IfOk, IfSome};
+ghost use Rattle.std.specs.Prelude.{◌≡◌, ◌≢◌, ◌≤◌, ◌<◌, drop, length, take, None, IfOk, IfSome};
 ghost use Rattle.std.specs.FinMap as map;
 ghost use Rattle.patricia_tree.specs.TextKind.{IsTextItem};
 ghost use Rattle.patricia_tree.specs.TreeBytes.{AreTreeBytes};
@@ -7,8 +7,9 @@ ghost use Rattle.patricia_tree.specs.Writings.{Means, TooDeep};
 ghost use Rattle.patricia_c.specs.Codes.{HasOther, IsLen, IsRefused};
 ghost use Rattle.patricia_c.specs.Maps.{map_of};
 
-use crate::encodings::{DONE, NO_MEMORY, NO_ROOM, TOO_DEEP, code, copy_to};
+use crate::encodings::{DONE, NO_MEMORY, NO_ROOM, TOO_DEEP, code};
 use crate::map_place::MapPlace;
+use crate::room::copy_to;
 use patricia_keys::keys::text_of;
 use patricia_tree::{Bytes, DecodeError, PatriciaMap, StringPatriciaMap, WireError};
 use std::alloc::{AllocError, Global};
@@ -64,6 +65,8 @@ pub extern "C" fn patricia_text_tree_bytes(
     ensures kept { map_of at.new.pointer.stored ≡ map_of at.old.pointer.stored }
     ensures done { result ≡ 0 → AreTreeBytes IsTextItem 2 (take len.new room.new)
         (map.entries (map_of at.old.pointer.stored)) }
+    ensures within { result ≡ 0 → len.new ≤ length room.new }
+    ensures behind { result ≡ 0 → drop len.new room.new ≡ drop len.new room.old }
     ensures too_deep { result ≡ 3 →
         TooDeep IsTextItem 2 (map.keys (map_of at.old.pointer.stored)) }
     ensures len { result ≡ 4 →
@@ -72,6 +75,7 @@ pub extern "C" fn patricia_text_tree_bytes(
     ensures not_text { result ≡ 5 →
         HasOther IsTextItem (map.keys (map_of at.old.pointer.stored)) }
     ensures unwritten { result ≢ 0 → room.new ≡ room.old }
+    ensures len_unwritten { result ≢ 0 → result ≢ 4 → len.new ≡ len.old }
     ensures codes { result ≤ 5 }
     ensures not_one { result ≢ 1 }
 {
@@ -87,8 +91,7 @@ pub extern "C" fn patricia_text_tree_bytes(
     };
     match texts.tree_bytes() {
         Ok(bytes) => {
-            *len = bytes.len();
-            if copy_to(room, bytes.as_slice()) {
+            if copy_to(room, len, bytes.as_slice()) {
                 DONE
             } else {
                 NO_ROOM
@@ -111,6 +114,8 @@ pub extern "C" fn patricia_text_wide_tree_bytes(
     ensures kept { map_of at.new.pointer.stored ≡ map_of at.old.pointer.stored }
     ensures done { result ≡ 0 → AreTreeBytes IsTextItem 4 (take len.new room.new)
         (map.entries (map_of at.old.pointer.stored)) }
+    ensures within { result ≡ 0 → len.new ≤ length room.new }
+    ensures behind { result ≡ 0 → drop len.new room.new ≡ drop len.new room.old }
     ensures too_deep { result ≡ 3 →
         TooDeep IsTextItem 4 (map.keys (map_of at.old.pointer.stored)) }
     ensures len { result ≡ 4 →
@@ -119,6 +124,7 @@ pub extern "C" fn patricia_text_wide_tree_bytes(
     ensures not_text { result ≡ 5 →
         HasOther IsTextItem (map.keys (map_of at.old.pointer.stored)) }
     ensures unwritten { result ≢ 0 → room.new ≡ room.old }
+    ensures len_unwritten { result ≢ 0 → result ≢ 4 → len.new ≡ len.old }
     ensures codes { result ≤ 5 }
     ensures not_one { result ≢ 1 }
 {
@@ -134,8 +140,7 @@ pub extern "C" fn patricia_text_wide_tree_bytes(
     };
     match texts.wide_tree_bytes() {
         Ok(bytes) => {
-            *len = bytes.len();
-            if copy_to(room, bytes.as_slice()) {
+            if copy_to(room, len, bytes.as_slice()) {
                 DONE
             } else {
                 NO_ROOM
