@@ -196,7 +196,7 @@ class Reached:
 
 
 def tell(title, lines, reached=None):
-    print('%s: %d lines' % (title, sum(map(len, lines.values()))))
+    print('%s: %d lines' % (title, total(lines)))
     for file, counted in sorted(lines.items()):
         names = sorted(name for at, name in reached.found if at == file) if reached else []
         print('    %4d  %s' % (len(counted), file) + ''.join('\n            ' + name for name in names))
@@ -208,28 +208,65 @@ def without(lines, others):
     return {file: counted for file, counted in left.items() if counted}
 
 
-def main():
-    parser = argparse.ArgumentParser(description='Counts the definitions that a reader of the contracts must believe.')
-    parser.add_argument('--names', action='store_true', help='with the names that are counted of each file')
-    asked = parser.parse_args()
+def counted():
+    """The lines that count, by whose they are, and all lines of definitions."""
     library = Reached().add_clauses(LIBRARY)
     both = Reached().add_clauses(LIBRARY).add_clauses(PROGRAM)
     programs = Reached().add_clauses(LIBRARY).add_clauses(PROGRAM).add_clauses(PREFIXES)
-    all_clauses = Reached().add_clauses(LIBRARY).add_clauses(PROGRAM).add_clauses(PREFIXES).add_clauses(FOR_C)
+    everything = Reached().add_clauses(LIBRARY).add_clauses(PROGRAM).add_clauses(PREFIXES).add_clauses(FOR_C)
     laws = Reached().add_clauses(LAWS)
     whole = {}
     for file in paths(SPECS):
         if '/Internal' not in file:
             text = read(os.path.join(CRATES, file)).split('\n')
             whole[file] = {at for at, line in enumerate(text) if is_counted(line)}
-    tell('clauses of the library', library.lines(), library if asked.names else None)
-    tell('clauses of the library and the program', both.lines(), both if asked.names else None)
-    besides = without(programs.lines(), both.lines())
-    tell('clauses of prefixes besides', besides, programs if asked.names else None)
-    tell('clauses for C besides', without(all_clauses.lines(), programs.lines()), all_clauses if asked.names else None)
-    tell('laws alone', without(laws.lines(), all_clauses.lines()), laws if asked.names else None)
-    tell('no public clause', without(without(whole, all_clauses.lines()), laws.lines()))
-    print('all: %d lines' % sum(map(len, whole.values())))
+    parts = {
+        'clauses of the library': (library.lines(), library),
+        'clauses of the library and the program': (both.lines(), both),
+        'clauses of prefixes besides': (without(programs.lines(), both.lines()), programs),
+        'clauses for C besides': (without(everything.lines(), programs.lines()), everything),
+        'laws alone': (without(laws.lines(), everything.lines()), laws),
+        'no public clause': (without(without(whole, everything.lines()), laws.lines()), None),
+    }
+    return parts, whole
+
+
+def total(lines):
+    return sum(map(len, lines.values()))
+
+
+def by_crate(lines):
+    """Files with their lines, as a sentence has them."""
+    crates = {}
+    for file, those in sorted(lines.items()):
+        name = file.rpartition('/')[2].removesuffix('.antt')
+        crates.setdefault(file.partition('/')[0], []).append('`%s` %d' % (name, len(those)))
+    return '; '.join('`%s`: %s' % (crate, ', '.join(files)) for crate, files in crates.items())
+
+
+def page():
+    """What docs/PROMISES.md has of these counts: pieces of its lines, in its order."""
+    library, both, prefixes, for_c, laws, _ = [lines for lines, _ in counted()[0].values()]
+    yield 'cite %d lines of definitions' % total(library)
+    yield 'those of library and `ptree` %d' % total(both)
+    yield '`prefixes` stands on %d besides' % total(prefixes)
+    yield 'the functions for C %d' % total(for_c)
+    yield '- The library: %s.' % by_crate(library)
+    yield '- `ptree`, besides: %s.' % by_crate(without(both, library))
+    yield '- `prefixes`, besides: %s;' % by_crate(prefixes)
+    yield '- For C, besides: %s.' % by_crate(for_c)
+    yield 'Another %d lines are said by laws alone' % total(laws)
+    yield ': %s.' % by_crate(laws)
+
+
+def main():
+    parser = argparse.ArgumentParser(description='Counts the definitions that a reader of the contracts must believe.')
+    parser.add_argument('--names', action='store_true', help='with the names that are counted of each file')
+    asked = parser.parse_args()
+    parts, whole = counted()
+    for title, (lines, reached) in parts.items():
+        tell(title, lines, reached if asked.names else None)
+    print('all: %d lines' % total(whole))
 
 
 if __name__ == '__main__':

@@ -2,6 +2,7 @@
 import glob
 import os
 import sys
+from tests import definitions
 from tests.support import ROOT, Case, run
 
 MOST_COLUMNS = 100
@@ -22,3 +23,11 @@ class Documents(Case):
                     long += ['%s:%d' % (os.path.relpath(path, ROOT), n) for n, line in enumerate(file, 1)
                              if len(line.rstrip('\n')) > MOST_COLUMNS]
         self.assertEqual(long, [])
+
+    def test_promises_counts_the_definitions(self):
+        with open(os.path.join(ROOT, 'docs', 'PROMISES.md'), encoding='utf-8') as file:
+            said = file.read()
+        for piece in definitions.page():
+            with self.subTest(piece):
+                before, found, said = said.partition(piece)
+                self.assertTrue(found, 'docs/PROMISES.md does not say: %s' % piece)

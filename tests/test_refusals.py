@@ -19,8 +19,8 @@ REFUSED = {
 # Of a crate a test that makes values, NAME_made, and one that makes the same values and then each call on them that
 # does not allocate, NAME_called.
 FREE = {
-    'test_requests': ['%s::%s' % (part, kind) for part in ('maps', 'walks', 'prefixes', 'keys', 'loans', 'near')
-                      for kind in ('bytes', 'texts')] + ['sets::texts', 'counts::texts', 'counts::nested'],
+    'test_requests': ['%s::%s' % (part, kind) for part in ('maps', 'walks', 'prefixes', 'keys', 'loans', 'near', 'sets')
+                      for kind in ('bytes', 'texts')] + ['counts::texts', 'counts::nested'],
     'test_run': ['router::bytes', 'router::texts'],
     'test_units': ['units::keys'],
 }

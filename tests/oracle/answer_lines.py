@@ -7,7 +7,7 @@ import unicodedata
 from functools import lru_cache
 from urllib.parse import unquote_to_bytes
 from tests.oracle.answer_readings import read
-from tests.oracle.answer_wire import tree_bytes
+from tests.oracle.answer_wire import NARROW, WIDE, tree_bytes
 from tests.oracle.model import MAX_VALUE, common, first_item, floor_boundary, is_valid, rows
 
 KINDS = 'bytes', 'text', 'bytes_set', 'text_set'
@@ -288,12 +288,14 @@ def braces(pair, items, is_wide):
 def tree_answers(m, kind, call, words):
     """The tree bytes of a map or of a set, or what is read from some; None for another call."""
     keys_kind, is_set = kind.split('_')[0], kind.endswith('_set')
-    if call == 'tree':
-        return [written(tree_bytes(list(m), keys_kind))]
-    if call != 'read':
+    verb, _, how = call.partition('_')
+    if verb not in ('tree', 'read') or how not in ('', 'wide'):
         return None
+    width = WIDE if how else NARROW
+    if verb == 'tree':
+        return [written(tree_bytes(list(m), keys_kind, width))]
     values = [0] * int(words[1]) if is_set else list(map(int, words[1:]))
-    keys, fault = read(words[0], len(values), keys_kind)
+    keys, fault = read(words[0], len(values), keys_kind, width)
     if fault:
         return [fault]
     m.clear()

@@ -1,6 +1,6 @@
 """Calls of maps and sets of which one may be refused, as scripts of lines for `test_scripts`."""
 from tests.oracle.answer_lines import written
-from tests.oracle.model import tree_bytes
+from tests.oracle.model import NARROW, WIDE, tree_bytes
 
 
 def texts(keys):
@@ -179,9 +179,13 @@ ONE, TWO, FEW = ['', 'bar', 'baz', 'foo'], ['baz', 'foo', 'foobar', 'quux', 'x']
 NESTED = ['a*%d' % length for length in range(1, 101)]
 
 
-def tree_of(keys):
+def tree_of(keys, width=NARROW):
     """The tree bytes of some keys, as a word."""
-    return written(tree_bytes([key.encode() for key in keys], 'text'))
+    return written(tree_bytes([key.encode() for key in keys], 'text', width))
+
+
+# One has a label of more than 30 bytes.
+WIDE_KEYS = ['', 'あ', 'あ' + 'x' * 40, 'y']
 
 
 def walks(front):
@@ -237,6 +241,9 @@ MAP_SCRIPTS = [
     ['tree', *['insert %s 1' % word for word in DEEP], 'tree', 'tree', 'iter'],
     ['insert x 1', 'read %s 1 2 3 4 5 6 7' % TREE, 'read %s 8 9 10 11 12 13 14' % TREE,
      'read %s 1 2 3 4 5 6' % TREE, 'iter'],
+    ['from_iter ' + pairs(WIDE_KEYS), 'tree_wide', 'insert い 9', 'tree_wide',
+     'read_wide %s 1 2 3 4' % tree_of(WIDE_KEYS, WIDE), 'iter',
+     'read_wide %s 1 2 3' % tree_of(WIDE_KEYS, WIDE), 'iter'],
     ['from_iter ' + pairs(WALKED), *ORDERED, 'same ' + pairs(WALKED), 'same ' + pairs(WALKED[1:]),
      'pop_first', 'pop_last', 'pop_first', 'cut bar', 'cut ' + elements(['foo-' * 9 + 'ba']),
      'cut zzz', 'iter', 'cut *', 'ends', 'range *', 'pop_first'],
@@ -267,6 +274,9 @@ SET_SCRIPTS = [
     ['extend ' + elements(WRITTEN), 'debug', 'debug'],
     ['extend ' + ' '.join(DEEP), 'tree', 'tree', 'iter'],
     ['insert x', 'read %s 7' % TREE, 'read %s 7' % TREE, 'read %s 6' % TREE, 'iter'],
+    ['from_iter ' + elements(WIDE_KEYS), 'tree_wide', 'insert い', 'tree_wide',
+     'read_wide %s 4' % tree_of(WIDE_KEYS, WIDE), 'iter',
+     'read_wide %s 3' % tree_of(WIDE_KEYS, WIDE), 'iter'],
     ['from_iter ' + elements(WALKED), *ORDERED, 'pop_first', 'pop_last', 'cut bar', 'iter',
      'load %E3%82%93', 'cut *', 'ends', 'range *', 'pop_last'],
     [*of_two(ELEMENTS, [*WALKED[8:], *ELEMENTS[:3]]), *of_two(ELEMENTS, ELEMENTS[2:]),

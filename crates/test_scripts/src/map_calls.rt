@@ -5,7 +5,7 @@ use crate::answers::Answers;
 use crate::calls::{self, Readable};
 use crate::walks::add_walk;
 use crate::{map_bulk, map_queries, map_values};
-use patricia_tree::{BorrowedBytes, Bytes, GenericPatriciaMap};
+use patricia_tree::{BorrowedBytes, Bytes, DecodeError, GenericPatriciaMap};
 use std::alloc::{AllocError, Global};
 use std::fmt::Debug;
 use std::iter::IntoIterator;
@@ -61,7 +61,7 @@ where
             "retain" => add_retained(self, calls::first_number(arguments) as u64, out),
             "pop_first" | "pop_last" => add_popped(&mut self.map, call == "pop_first", out),
             "cut" => add_cut::<Q>(&mut self.map, arguments, out),
-            "read" => add_read(alloc, self, arguments, out),
+            "read" | "read_wide" => add_read(alloc, self, call == "read_wide", arguments, out),
             "take" => add_taken(
                 mem::replace(&mut self.map, GenericPatriciaMap::new(alloc)),
                 out,
@@ -212,17 +212,32 @@ fn values_again(alloc: Global, arguments: &[Vec<u8>]) -> Result<Vec<u64>, AllocE
     }
 }
 
+// A map that is read from tree bytes, or from wide ones.
+fn read<K: Bytes>(
+    alloc: Global,
+    is_wide: bool,
+    tree: &[u8],
+    values: Vec<u64>,
+) -> Result<Map<K>, DecodeError> {
+    if is_wide {
+        GenericPatriciaMap::from_wide_wire(alloc, tree, values)
+    } else {
+        GenericPatriciaMap::from_wire(alloc, tree, values)
+    }
+}
+
 // The entries of a map that is read, or the fault.
 fn add_read<K: Bytes>(
     alloc: Global,
     asked: &mut MapCalls<K>,
+    is_wide: bool,
     arguments: &[Vec<u8>],
     out: &mut String,
 ) -> Result<(), AllocError> {
     let [tree, others @ ..] = arguments else {
         return Ok(());
     };
-    match GenericPatriciaMap::from_wire(alloc, tree, values_again(alloc, others)?) {
+    match read(alloc, is_wide, tree, values_again(alloc, others)?) {
         Ok(map) => {
             asked.map = map;
             add_entries(asked, out)

@@ -30,6 +30,7 @@ where
         "cursor" => add_walk(map.cursor(), map.len(), out),
         "itself" => out.add_bool(map.equals(map)?),
         "tree" => out.add_tree(map.tree_bytes()),
+        "tree_wide" => out.add_tree(map.wide_tree_bytes()),
         "debug" | "wide" => out.add_debug(map, call == "wide"),
         _ => prefix_calls::answer::<Q>(alloc, map, call, arguments, out),
     }

@@ -5,7 +5,7 @@ use crate::answers::Answers;
 use crate::calls::{self, Readable};
 use crate::walks::add_walk;
 use crate::{set_bulk, set_queries};
-use patricia_tree::{BorrowedBytes, Bytes, GenericPatriciaSet};
+use patricia_tree::{BorrowedBytes, Bytes, DecodeError, GenericPatriciaSet};
 use std::alloc::{AllocError, Global};
 use std::fmt::Debug;
 use std::iter::IntoIterator;
@@ -71,7 +71,7 @@ where
             | "subset"
             | "disjoint"
             | "same" => { set_bulk::answer::<Q>(alloc, self, call, arguments, out) }
-            "read" => add_read(alloc, self, arguments, out),
+            "read" | "read_wide" => add_read(alloc, self, call == "read_wide", arguments, out),
             "take" => add_taken(
                 mem::replace(&mut self.set, GenericPatriciaSet::new(alloc)),
                 out,
@@ -175,11 +175,26 @@ fn nothings(alloc: Global, count: usize) -> Result<Vec<()>, AllocError> {
     Ok(nothings)
 }
 
+// A set that is read from tree bytes, or from wide ones.
+fn read<K: Bytes>(
+    alloc: Global,
+    is_wide: bool,
+    tree: &[u8],
+    values: Vec<()>,
+) -> Result<Set<K>, DecodeError> {
+    if is_wide {
+        GenericPatriciaSet::from_wide_wire(alloc, tree, values)
+    } else {
+        GenericPatriciaSet::from_wire(alloc, tree, values)
+    }
+}
+
 // The elements of a set that is read, or the fault. The second argument says how many values there
 // are, each of which is `()` and does not allocate.
 fn add_read<'a, K: Bytes>(
     alloc: Global,
     asked: &mut SetCalls<K>,
+    is_wide: bool,
     arguments: &'a [Vec<u8>],
     out: &mut String,
 ) -> Result<(), AllocError> {
@@ -187,7 +202,7 @@ fn add_read<'a, K: Bytes>(
         return Ok(());
     };
     let values = nothings(alloc, calls::number(count))?;
-    match GenericPatriciaSet::from_wire(alloc, tree, values) {
+    match read(alloc, is_wide, tree, values) {
         Ok(set) => {
             asked.set = set;
             add_entries(asked, out)

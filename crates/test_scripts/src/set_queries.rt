@@ -23,6 +23,7 @@ where
         "len" => out.add_number(set.len() as u64),
         "empty" => out.add_bool(set.is_empty()),
         "tree" => out.add_tree(set.tree_bytes()),
+        "tree_wide" => out.add_tree(set.wide_tree_bytes()),
         "debug" | "wide" => out.add_debug(set, call == "wide"),
         "cursor" => add_walk(set.cursor(), set.len(), out),
         "itself" => out.add_bool(set.equals(set)?),

@@ -10,3 +10,4 @@ mod hostile;
 mod json;
 mod levels;
 mod reader;
+mod texts;

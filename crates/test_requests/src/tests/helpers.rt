@@ -1,4 +1,4 @@
-use patricia_tree::{BorrowedBytes, GenericPatriciaMap};
+use patricia_tree::{BorrowedBytes, GenericPatriciaMap, GenericPatriciaSet};
 use std::alloc::{AllocError, Global};
 
 // The map of some keys, each with its length in bytes.
@@ -14,4 +14,16 @@ pub(super) fn map_of<Q: BorrowedBytes>(
         }
     }
     Ok(map)
+}
+
+// The set of some elements.
+pub(super) fn set_of<Q: BorrowedBytes>(
+    alloc: Global,
+    elements: &[Q],
+) -> Result<GenericPatriciaSet<Q::Owned>, AllocError> {
+    let mut set = GenericPatriciaSet::new(alloc);
+    for element in elements {
+        set.insert(*element)?;
+    }
+    Ok(set)
 }

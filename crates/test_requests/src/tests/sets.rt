@@ -1,30 +1,10 @@
 // Calls of a set.
+use super::helpers::set_of;
 use crate::tests::asserts::{done, holds};
 use patricia_tree::{BorrowedBytes, Bytes, GenericPatriciaSet};
 use std::alloc::{AllocError, Global};
 use std::iter;
 use std::process::Abort;
-
-// Puts elements in.
-fn put_all<Q: BorrowedBytes>(
-    set: &mut GenericPatriciaSet<Q::Owned>,
-    elements: &[Q],
-) -> Result<(), AllocError> {
-    for element in elements {
-        set.insert(*element)?;
-    }
-    Ok(())
-}
-
-// A set of these elements.
-fn set_of<Q: BorrowedBytes>(
-    alloc: Global,
-    elements: &[Q],
-) -> Result<GenericPatriciaSet<Q::Owned>, AllocError> {
-    let mut set = GenericPatriciaSet::new(alloc);
-    put_all(&mut set, elements)?;
-    Ok(set)
-}
 
 // Makes iterators and cursors from an element on, up to it, and under it.
 fn make_ranges<Q: BorrowedBytes>(set: &GenericPatriciaSet<Q::Owned>, element: Q) {
@@ -169,6 +149,30 @@ fn call_each<Q: BorrowedBytes>(
     for element in absent {
         ask(rt, set, *element, false);
     }
+}
+
+const BYTES: [&[u8]; 4] = [
+    b"",
+    b"bar",
+    b"bar bar bar bar bar bar bar bar bar",
+    b"bar bar bar bar bar bar bar bar bar foo foo",
+];
+
+const ABSENT_BYTES: [&[u8]; 3] = [b"ba", b"bar bar bar bar bar bar bar bar bar foo", b"\xff"];
+
+#[test]
+fn bytes_made(rt: HostRuntime) {
+    let set = done(&rt, set_of(rt.alloc(), &BYTES));
+    holds!(rt; set.len() == 4);
+}
+
+#[test]
+fn bytes_called(rt: HostRuntime) -> Result<(), AllocError> {
+    let mut set = set_of(rt.alloc(), &BYTES)?;
+    call_each(&rt, &mut set, &BYTES, &ABSENT_BYTES, b"y".as_slice());
+    empty(&rt, &mut set, b"".as_slice())?;
+    walk_out(&rt, set);
+    make_one(rt.alloc(), b"".as_slice())
 }
 
 const TEXTS: [&str; 4] = ["", "あい", "あいろ", "xxxxxxxxxxxxxxxxxxxxyyyyyyyyyyyyyyyyyyyy"];
