@@ -25,24 +25,64 @@ pub(super) fn time_load<R: AllocGlobal + Clock + Print, Q: BorrowedBytes>(
     report(sheet, "sorted_load", start, keys.len(), answer)
 }
 
-// Compares two sets of which the first has all elements of the second, and makes sets of them.
-fn time_parts<R: Clock + Print, T: Bytes>(
+// Makes the set of what two sets share.
+fn time_intersection<R: Clock + Print, T: Bytes>(
     sheet: &Sheet<'_, R>,
     all: &GenericPatriciaSet<T>,
     part: &GenericPatriciaSet<T>,
 ) -> io::Result<()> {
     let start = Instant::now(sheet.rt)?;
     let both = all.intersection(part)?;
-    report(sheet, "intersection", start, part.len(), both.len() as u64)?;
+    report(sheet, "intersection", start, part.len(), both.len() as u64)
+}
+
+// Makes the set of what the second set has not.
+fn time_difference<R: Clock + Print, T: Bytes>(
+    sheet: &Sheet<'_, R>,
+    all: &GenericPatriciaSet<T>,
+    part: &GenericPatriciaSet<T>,
+) -> io::Result<()> {
     let start = Instant::now(sheet.rt)?;
     let rest = all.difference(part)?;
-    report(sheet, "difference", start, all.len(), rest.len() as u64)?;
+    report(sheet, "difference", start, all.len(), rest.len() as u64)
+}
+
+// Compares two sets of which the first has all elements of the second.
+fn time_subset<R: Clock + Print, T: Bytes>(
+    sheet: &Sheet<'_, R>,
+    all: &GenericPatriciaSet<T>,
+    part: &GenericPatriciaSet<T>,
+) -> io::Result<()> {
     let start = Instant::now(sheet.rt)?;
     let is_part = part.is_subset(all)?;
     report(sheet, "is_subset", start, part.len(), u64::from(is_part))
 }
 
-/// Makes the union of two sets, and the other sets of it and the second one.
+// Makes the union of two sets.
+fn time_both<R: Clock + Print, T: Bytes>(
+    sheet: &Sheet<'_, R>,
+    first: &GenericPatriciaSet<T>,
+    second: &GenericPatriciaSet<T>,
+) -> io::Result<GenericPatriciaSet<T>> {
+    let start = Instant::now(sheet.rt)?;
+    let union = first.union(second)?;
+    report(sheet, "union", start, union.len(), union.len() as u64)?;
+    Ok(union)
+}
+
+// Makes the union of two sets, and the other sets of it and the second one.
+fn time_sets<R: Clock + Print, T: Bytes>(
+    sheet: &Sheet<'_, R>,
+    first: &GenericPatriciaSet<T>,
+    second: &GenericPatriciaSet<T>,
+) -> io::Result<()> {
+    let union = time_both(sheet, first, second)?;
+    time_intersection(sheet, &union, second)?;
+    time_difference(sheet, &union, second)?;
+    time_subset(sheet, &union, second)
+}
+
+/// Makes sets of two lists, and sets of these two.
 pub(super) fn time_union<R: AllocGlobal + Clock + Print, Q: BorrowedBytes>(
     sheet: &Sheet<'_, R>,
     first: &[Q],
@@ -50,8 +90,5 @@ pub(super) fn time_union<R: AllocGlobal + Clock + Print, Q: BorrowedBytes>(
 ) -> io::Result<()> {
     let first = set_of(sheet.rt.alloc(), first)?;
     let second = set_of(sheet.rt.alloc(), second)?;
-    let start = Instant::now(sheet.rt)?;
-    let union = first.union(&second)?;
-    report(sheet, "union", start, union.len(), union.len() as u64)?;
-    time_parts(sheet, &union, &second)
+    time_sets(sheet, &first, &second)
 }
