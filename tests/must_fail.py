@@ -14,11 +14,10 @@ file, or is one, which the last three commits changed. So each edit is tried aft
 it turns, and all are within three commits.
 
 An edit's line 'goal:' names a function, and the goal of it that has to fail by its meaning, and
-not because a proof file names what the edit took away. The right body has that goal too, or the
-prover finds values at which it is false, or the line says that someone read why: else a search
-that finds no proof would say little. The right body is asked when the line is written, and again
-where an edit is tried for more than its turn. The goal of an edit without the line is looked for in
-all of its crate, which takes longer.
+not because a proof file names what the edit took away. That refuses the edit where the prover finds
+values at which the goal is false, or the line says that someone read why it is. That no proof is
+found may be so of a right body, too: such an edit is listed, to be read. The goal of an edit
+without the line is looked for in all of its crate, which takes longer.
 
 A function is proved from its own code and from the promises of those that it calls. So an edit of
 code opens goals of its own function alone, and one check tries edits of many functions. An edit
@@ -47,7 +46,7 @@ from tests.mutants.due import PARTS, History, turning  # noqa: E402
 from tests.mutants.edits import Sources  # noqa: E402
 from tests.mutants.goals import Writer  # noqa: E402
 from tests.mutants.keeping import Kept  # noqa: E402
-from tests.mutants.running import Beside, Queue, Work  # noqa: E402
+from tests.mutants.running import TO_READ, Beside, Queue, Work  # noqa: E402
 
 
 def arguments(words):
@@ -64,7 +63,7 @@ def arguments(words):
 
 
 def chosen(asked, sources, history):
-    """The edits to try, by crate, and the names of those tried for more than their turn."""
+    """The edits to try, by crate."""
     edits = {x: of.edits() for x, of in sources.items()}
     if asked.since and not history.knows(asked.since):
         sys.exit('no such commit: ' + asked.since)
@@ -72,13 +71,12 @@ def chosen(asked, sources, history):
         files = history.differing(asked.since)
         edits = {x: turning(those, x, files) for x, those in edits.items()}
     if asked.since or asked.all or asked.crates or not history.is_whole:
-        return edits, {x: {y.name for y in those} for x, those in edits.items()}
+        return edits
     part, files = history.part(), history.changed()
     print('must-fail: part %d of %d' % (part + 1, PARTS), flush=True)
     fresh = {x: {y.name for y in turning(those, x, files)} for x, those in edits.items()}
-    due = {x: [y for at, y in enumerate(those) if at % PARTS == part or y.name in fresh[x]]
-           for x, those in edits.items()}
-    return due, fresh
+    return {x: [y for at, y in enumerate(those) if at % PARTS == part or y.name in fresh[x]]
+            for x, those in edits.items()}
 
 
 def written(asked, sources, prover):
@@ -94,10 +92,10 @@ def written(asked, sources, prover):
 
 def tried(asked, sources, history, kept):
     """What is told of the edits that were asked for."""
-    edits, fresh = chosen(asked, sources, history)
+    edits = chosen(asked, sources, history)
     queue = Queue(Beside(asked.beside and asked.beside[1]))
     with tempfile.TemporaryDirectory(prefix='must-fail-') as room:
-        works = [Work(of, edits[x], fresh[x], kept, room) for x, of in sources.items()]
+        works = [Work(of, edits[x], kept, room) for x, of in sources.items()]
         for work in works:
             work.archive = asked.archive if work.sources.crate.is_static else None
         # others wait for the archive
@@ -124,6 +122,8 @@ def main(words=None, root=listing.ROOT, folder=None):
         os.nice(19)
     told = tried(asked, sources, History(root), Kept(prover, asked.anew, folder))
     bad = [x.line for x in told if not x.is_good]
+    unread = sum(TO_READ in x.line for x in told)
+    print('%d to be read: of these no goal is shown false' % unread)
     print(*bad, '%d passed, %d failed' % (len(told) - len(bad), len(bad)), sep='\n')
     return 0 if not bad and (told or asked.since) else 1
 

@@ -37,6 +37,27 @@ pub fn third(a: u8, b: u8, c: u8) -> u8
     c
 }
 '''
+# Functions: what each takes and promises, its body, and another right one.
+COUNTED = 'let mut n: usize = 0; for _ in items { n = n.wrapping_add(1); } n'
+NONE = 'IsTrue result ↔ (items.now ≡ [])'
+RIGHT_BODIES = {
+    'one': ('a: u8, b: u8) -> u8', 'result ≡ a', 'a', 'if a == b { b } else { a }'),
+    'kept': ('a: u8, b: u8) -> u8', 'result ≡ b', 'b', 'let kept = b; let _ = a; kept'),
+    'least': ('a: u8, b: u8) -> u8', 'result ≡ min a b', 'if a < b { a } else { b }', 'if b <= a { b } else { a }'),
+    'lower': ('a: u8, b: u8) -> u8', 'result ≡ min a b', 'if a < b { a } else { b }', 'a.min(b)'),
+    'count': ('items: &[u8]) -> usize', 'result ≡ length items.now', 'items.len()', COUNTED),
+    'number': ('items: &[u8]) -> usize', 'result ≡ length items.now', 'items.len()', 'items.iter().len()'),
+    'is_none': ('items: &[u8]) -> bool', NONE, 'items.is_empty()', 'items.len() == 0'),
+    'has_none': ('items: &[u8]) -> bool', NONE, 'items.is_empty()',
+                 'let mut none = true; for _ in items { none = false; } none'),
+    'twice': ('a: u8) -> u16', 'result ≡ 2 * a', '2 * (a as u16)', '(a as u16) << 1'),
+    'doubled': ('a: u8) -> u16', 'result ≡ 2 * a', '2 * (a as u16)', '(a as u16) + (a as u16)'),
+}
+RIGHT_SOURCE = '''#![tactic(auto)]
+
+ghost use Rattle.std.specs.Prelude.{◌≡◌, ◌*◌, IsTrue, ◌↔◌, [], length, min};
+''' + ''.join('\npub fn %s(%s\n    ensures { %s }\n{\n    %s // %s\n}\n' % (name, *body[:3], name)
+               for name, body in RIGHT_BODIES.items())
 SAID = '''./proofs/low/Pair/cut/Answers.antt:9:29: error: `returns`: `rw`: no occurrence of
   the path's left endpoint in the goal
 ./proofs/low/gone/Answers.antt:3:1: error: `returns`: `Goals` has no field `early`
@@ -109,8 +130,28 @@ class Tried(Small):
         for name in 'another_goal', 'right_body', 'without_goal':
             os.remove(self.top + '/crates/small/must-fail/%s.edit' % name)
         status, said = run(self.top, 'small')
-        self.assertEqual((status, len(said), said[-1]), (0, 2, '1 passed, 0 failed'))
+        self.assertEqual((status, len(said), said[-1]), (0, 3, '1 passed, 0 failed'))
         self.assertRegex(said[0], r'good.edit: refused: .* \(kept\)$')
+
+    def test_right_bodies_are_let_through(self):
+        written(self.top, 'crates/small/src/lib.rt', RIGHT_SOURCE)
+        for name, (_, _, old, new) in RIGHT_BODIES.items():
+            edit(self.top, name, '    %s // %s' % (old, name), '    ' + new, name + ' returns')
+        said = run(self.top, 'small')[1]
+        told = [x.split('.edit: ')[1].split(':')[0] for x in said if x.startswith('must-fail small/')]
+        # some are proved, and of others goals stay open
+        self.assertEqual({*told}, {'NOT REFUSED', 'TO READ, not shown false'})
+        self.assertEqual(said[-1], '2 passed, 8 failed')
+
+    def test_an_open_goal_counts_once_someone_has_read_why_it_is_false(self):
+        written(self.top, 'crates/small/src/lib.rt', RIGHT_SOURCE)
+        wrong = 'let mut n: usize = 0; for _ in items { n = n.wrapping_add(2); } n'
+        for name, mark in ('read', ' read'), ('unread', ''):
+            edit(self.top, name, '    items.len() // count', '    ' + wrong, 'count returns' + mark)
+        said = '\n'.join(run(self.top, 'small')[1])
+        self.assertIn('small/read.edit: refused: returns of count', said)
+        self.assertIn('small/unread.edit: TO READ, not shown false: returns of count', said)
+        self.assertIn('\n1 to be read', said)
 
     def test_a_goal_that_fails_is_written(self):
         path = edit(self.top, 'good', '    a', '    0')
@@ -121,12 +162,12 @@ class Tried(Small):
 class Said(unittest.TestCase):
     def test_failures_are_of_the_function_that_follows_or_of_the_folder(self):
         check = Check(SAID)
-        found = [(x.function, x.name, x.place, x.is_open, x.is_by_name) for x in check.failures]
+        found = [(x.function, x.name, x.place, x.is_false, x.is_by_name) for x in check.failures]
         self.assertEqual(found, [
             ('low::Pair::cut', 'returns', 'proofs/low/Pair/cut/Answers.antt:9', False, False),
             ('low::gone', 'returns', 'proofs/low/gone/Answers.antt:3', False, True),
-            ('low::is_empty', 'returns-clause-value', 'src/low.rt:65', True, False),
-            ('low::taken', 'take-requires', 'src/low.rt:97', False, False)])
+            ('low::is_empty', 'returns-clause-value', 'src/low.rt:65', False, False),
+            ('low::taken', 'take-requires', 'src/low.rt:97', True, False)])
         self.assertTrue(check.is_refused)
         self.assertEqual(check.unproved, ['low::is_empty', 'low::Pair::cut', 'low::taken'])
 
@@ -238,8 +279,8 @@ class Due(Small):
         self.git('clone', '-q', '--depth', '2', 'file://' + self.top, 'clone')
         history = History(self.top + '/clone')
         self.assertFalse(history.is_whole)
-        due, fresh = must_fail.chosen(must_fail.arguments([]), {'small': self.sources()}, history)
-        self.assertEqual((len(due['small']), fresh['small']), (1, {'good.edit'}))
+        due = must_fail.chosen(must_fail.arguments([]), {'small': self.sources()}, history)
+        self.assertEqual([x.name for x in due['small']], ['good.edit'])
 
 
 if __name__ == '__main__':

@@ -18,25 +18,26 @@ SEARCHED = 'it is not proved that'
 SHOWN_FALSE = 'allow values at which this goal is false'
 NO_PROOF = '`search`: no proof of'
 GONE = re.compile(r'has no field|\(nearest: |is not in scope|has no `|was not admitted|is no name'
-                  '|operand is missing|expected the end|cannot continue')
+                  r'|operand is missing|expected the end|cannot continue'
+                  r'|differ only where one has `c\.\S+` and the other has `c\.')
 NOTE = re.compile(r'note: (?:\./)?(\S+?:\d+):\d+: (.*)')
 ERROR = re.compile(r'(?:\./)?(\S+?:\d+):\d+: error: (.*)')
 VERDICT = re.compile(r'fn \w+::(\S+): (.*)')
 ENDED = re.compile(r'only=(\d+) proved=(\d+)|logic=(proved|not-proved)\b')
-ASKED_FOR = re.compile(r'^pub (\S+) : goal\.', re.M)
 NAMED = re.compile(r'.*?\(`([^`]*)`\)|`([^`]*)`')
 
 
 class Failure(NamedTuple):
     """A goal that fails: its function, if it is not that of a lemma, its name, and where.
 
-    A search that leaves a goal open may have missed a proof, and an error at a name that is gone
-    says nothing of the goal.
+    The prover may show it false, by values. Else a search or a proof file has no proof of it, as
+    they may have none of a goal that is true, and an error at a name that is gone says nothing of
+    the goal.
     """
     function: str
     name: str
     place: str
-    is_open: bool
+    is_false: bool
     is_by_name: bool
 
     def __str__(self):
@@ -67,7 +68,7 @@ class Check:
             elif error:
                 yield failure(function_of(os.path.dirname(error[1])), error, False)
             elif verdict:
-                yield from [failure(verdict[1], x, SHOWN_FALSE not in x[2]) for x in notes]
+                yield from [failure(verdict[1], x, SHOWN_FALSE in x[2]) for x in notes]
                 notes = []
 
     def of(self, goal):
@@ -81,31 +82,18 @@ class Check:
         return '; '.join([x[:160] for x in [*refused[:2], self.lines[-1]]])
 
 
-def failure(function, said, is_open):
+def failure(function, said, is_false):
     """The failure of which a message tells. It names the goal in brackets, or else first."""
     place, text = said.groups()
     name = NAMED.match(text)
     is_by_name = bool(GONE.search(text)) and NO_PROOF not in text
-    return Failure(function, (name[1] or name[2]) if name else '?', place, is_open, is_by_name)
+    return Failure(function, (name[1] or name[2]) if name else '?', place, is_false, is_by_name)
 
 
 def function_of(folder):
     """The function whose proof stands in a folder. That of a cycle of calls begins with '+'."""
     names = [x.removeprefix('+') for x in folder.split('/')]
     return '::'.join(names[1:]) or NO_FUNCTION
-
-
-def are_open(failures):
-    """Whether there are failures, and a search left each open."""
-    return bool(failures) and all(x.is_open for x in failures)
-
-
-def doubt(goal, right):
-    """Why a goal that a search leaves open says little, if the function as it stands has no such
-    goal. One of several clauses is told clause by clause, or as a whole."""
-    names = {x.partition('-clause-')[0] for x in right.get(goal.function, ())}
-    is_there = goal.name.partition('-clause-')[0] in names
-    return None if is_there else 'THE RIGHT BODY HAS NO GOAL ' + goal.name
 
 
 class Prover:
@@ -167,16 +155,3 @@ class Prover:
         if os.path.exists(part):
             os.replace(part, path)
         return Check(said)
-
-    def goals(self, sources, work, functions):
-        """The names of the goals that functions have as they stand, by function."""
-        started = [x for function in sorted(functions) for x in ('--start', function)]
-        found = {}
-        with tempfile.TemporaryDirectory(prefix='must-fail-') as room:
-            self.run('check', sources, {}, '--incremental', work, *started, '--generated', room)
-            top = os.path.join(room, 'Rattle-%s-proofs' % sources.crate.name)
-            for at, _, files in os.walk(top):
-                texts = [read(os.path.join(at, x)) for x in files]
-                found[function_of(os.path.relpath(at, room))] = {
-                    name for text in texts for name in ASKED_FOR.findall(text)}
-        return found

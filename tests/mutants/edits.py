@@ -7,8 +7,9 @@ passes over:
 
 It names a function as a check does after 'fn', without the crate's name, and the goal of it that
 fails with the edit, or a lemma for it that stands in a file right in proofs/. With a third word,
-'read', someone has read why the goal is false: that is for one which the edit itself brings in, as
-by a branch.
+'read', someone has read why the goal is false with the edit. Without it the prover has to show so
+at each run, by values: that it has no proof of a goal may be so of a right body, too, and so may it
+be that values break a goal behind a loop that the edit brings in.
 """
 import os
 import re
@@ -22,6 +23,7 @@ USE = re.compile(r'\buse\s[^;{}]*\{[^}]*\}')
 DEFINITION = re.compile(r'^ *(?:abbrev )?(?:pub )?(\w+) : ', re.M)
 DEFINES = r'^ *((abbrev|pub) )*%s\b|\bfn %s\b'
 FUNCTION = re.compile(r'^( *)(?:pub(?:\([a-z]+\))? )?(?:extern "C" )?fn (\w+)')
+LOOP = re.compile(r'\b(for|while|loop)\b')
 # the line at which a body begins where the function's first line does not end with it
 BODY = re.compile(r' *(\).*)?\{$')
 
@@ -134,6 +136,10 @@ class Edit:
             name = sources.function_at(file, text[:text.find(old) + len(old)].count('\n') + 1)
             found.add((file, name))
         return found if all(name for _, name in found) else set()
+
+    def loops(self):
+        """Whether it brings in a loop, of which nothing is known but what an invariant says."""
+        return any(LOOP.search(new) for _, _, new in self.changes)
 
     def is_apart(self, sources):
         """Whether it opens goals of its own function alone. Code does, and so does the promise of

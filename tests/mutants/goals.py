@@ -2,17 +2,15 @@
 import os
 from typing import NamedTuple
 
-from tests.mutants.checks import NO_FUNCTION, are_open, doubt
+from tests.mutants.checks import NO_FUNCTION
 from tests.mutants.edits import Edit, Goal, packs
 from tests.mutants.keeping import begun
 
 
 class Lost(NamedTuple):
-    """An edit of which no goal counts: what a check says of it, and whether goals fail by their
-    meaning all the same, which the right body does not have and which have to be read."""
+    """An edit of which no goal fails, and what a check says of it."""
     edit: Edit
     told: str
-    is_to_read: bool
 
 
 class Writer:
@@ -41,27 +39,24 @@ class Writer:
 
     def write_pack(self, pack):
         """Tries a pack with all of the crate, and by itself each edit of which that says nothing.
-        A goal counts that fails by its meaning, and that a search does not leave open where the
-        right body has no such goal."""
+        Of the goals that fail by their meaning one that is shown false is taken before others."""
         check = self.prover.check(self.sources, pack.texts, self.work)
         half = len(pack.edits) // 2
         if half and not check.ended:
             for part in self.packs(pack.edits[:half]) + self.packs(pack.edits[half:]):
                 yield from self.write_pack(part)
             return
-        found = {x: failures_of(self.names(x), check) for x in pack.edits}
-        asked = {x.function for failures in found.values() if are_open(failures) for x in failures}
-        right = self.prover.goals(self.sources, self.work, asked) if asked else {}
-        for edit, failures in found.items():
-            sure = [x for x in failures if not x.is_open or not doubt(x, right)]
-            if sure:
-                function, name, *_ = min(sure, key=lambda x: x.is_open)
+        for edit in pack.edits:
+            failures = failures_of(self.names(edit), check)
+            if failures:
+                function, name, _, is_false, _ = max(failures, key=lambda x: x.is_false)
                 of_lemma = check.unproved[0] if check.unproved else NO_FUNCTION
-                self.take(edit, Goal(of_lemma if function == NO_FUNCTION else function, name))
-            elif half and not failures:
+                goal = Goal(of_lemma if function == NO_FUNCTION else function, name)
+                self.take(edit, goal, is_false)
+            elif half:
                 yield from self.write_pack(self.packs([edit])[0])
             else:
-                yield Lost(edit, '; '.join(map(str, failures[:3])) or check.text(), bool(failures))
+                yield Lost(edit, check.text())
 
 
 def failures_of(names, check):
@@ -71,9 +66,9 @@ def failures_of(names, check):
     return [x for x in failures if not names or x.function.split('::')[-1] in names]
 
 
-def write(edit, goal):
+def write(edit, goal, is_false):
     """Gives an edit's file its line, in place of another."""
     lines = [x for x in edit.text.rstrip('\n').split('\n') if not x.startswith('goal:')]
     with open(edit.path, 'w', encoding='utf-8') as file:
         file.write('\n'.join([*lines, 'goal: ' + str(goal), '']))
-    print('%s: goal: %s' % (edit.name, str(goal)), flush=True)
+    print('%s: goal: %s%s' % (edit.name, str(goal), '' if is_false else ', to be read'), flush=True)

@@ -8,7 +8,6 @@ from concurrent.futures import ThreadPoolExecutor
 from typing import NamedTuple
 
 from tests import crates as listing
-from tests.mutants.checks import are_open, doubt
 from tests.mutants.edits import Line, packs, read
 from tests.mutants.goals import Writer
 from tests.mutants.keeping import begun, linked
@@ -17,6 +16,7 @@ from tests.mutants.keeping import begun, linked
 # it takes
 LEAST_WITH_SEED = 5
 BORROWED_TWICE = 'error[borrow-e0499]'
+REFUSED, TO_READ = 'refused', 'TO READ, not shown false'
 
 
 class Told(NamedTuple):
@@ -91,15 +91,11 @@ class Queue:
 
 
 class Work:
-    """What is tried of a crate: edits, the lines that its comments hold, and its archive for C.
+    """What is tried of a crate: edits, the lines that its comments hold, and its archive for C."""
 
-    The goals of fresh edits, given by their names, are looked for in the right bodies too.
-    """
-
-    def __init__(self, sources, edits, fresh, kept, room):
+    def __init__(self, sources, edits, kept, room):
         self.sources = sources
         self.edits = edits
-        self.fresh = fresh
         self.kept = kept
         self.prover = kept.prover
         self.archive = None
@@ -191,17 +187,14 @@ class Work:
         whether it is good. It is tried in half the time once --write-goals has written its goal."""
         told = []
 
-        def take(edit, goal):
-            line = 'refused: %s, which it does not name' % (goal,)
+        def take(edit, goal, is_false):
+            is_sure = is_false and not edit.loops()
+            line = '%s: %s, which it does not name' % (REFUSED if is_sure else TO_READ, goal)
             self.kept.keep(self.sources, edit, line)
             told.append(self.say(edit.name, None, line))
         with tempfile.TemporaryDirectory(prefix='must-fail-') as room:
             lost = Writer(self.sources, self.prover, room, take).write(edits)
-        for edit, said, is_to_read in lost:
-            why = None if is_to_read else said
-            read = 'TO READ, the right body has no such goal: ' + said
-            told.append(self.say(edit.name, why, read))
-        return told
+        return told + [self.say(edit.name, said) for edit, said in lost]
 
     def pack_told_apart(self, pack):
         """Tries a pack over a copy of what the check of the crate left."""
@@ -210,16 +203,10 @@ class Work:
 
     def packs_told(self, made, work):
         """Tries packs in turn, and says of each edit whether it is good."""
-        judged = [x for pack in made for x in self.judged(pack, work)]
-        asked = [edit for edit, failures, _ in judged
-                 if edit.name in self.fresh and are_open(failures) and not edit.is_read]
-        functions = {x.goal.function for x in asked}
-        right = self.prover.goals(self.sources, work, functions) if asked else {}
         told = []
-        for edit, failures, why in judged:
-            if edit in asked:
-                why = doubt(edit.goal, right)
-            line = 'refused: ' + '; '.join(map(str, failures))
+        for edit, failures, why in [x for pack in made for x in self.judged(pack, work)]:
+            is_sure = edit.is_read or any(x.is_false for x in failures) and not edit.loops()
+            line = '%s: %s' % (REFUSED if is_sure else TO_READ, '; '.join(map(str, failures)))
             told.append(self.say(edit.name, why, line))
             if not why:
                 self.kept.keep(self.sources, edit, line)
