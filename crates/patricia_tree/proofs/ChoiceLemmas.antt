@@ -11,6 +11,7 @@ use Rattle.std.specs.declared.cmp.Ordering.TheVariants.{Less, Equal, Greater}
 use Rattle.std.specs.FinMap as map
 use Rattle.std.specs.FinMap.{FinMap, find, is_sorted, entries_sorted, get-entries, get-insert, get-remove, same_map}
 use Rattle.patricia_core.specs.Keys.{key_cmp}
+use Rattle.patricia_core.specs.Points.{Joins}
 use Rattle.patricia_keys.proofs.KeyLemmas.{key_cmp-same}
 use Rattle.patricia_model.proofs.ListLemmas.{key_cmp-equal}
 use Rattle.patricia_model.proofs.TestLemmas.{first_part, second_part}
@@ -110,14 +111,14 @@ module _ {F V : Type 0}
           }
 
   -- a row whose removal is refused
-  pub retaining_stops : (keys later : List (List ℕ)) (k : List ℕ) (g h : F) (m n : FinMap key_cmp V)
-      → keys ≡ k ∷ later
+  pub retaining_stops : (item : List ℕ → Type 0) (keys later : List (List ℕ)) (k : List ℕ) (g h : F)
+      (m n : FinMap key_cmp V) → keys ≡ k ∷ later
       → ((v : V) → map.get m k ≡ Some v
       → (w : V) × IsAskedAtEntry call g (k, v) false h w × (n ≡ map.insert m k w))
-      → IsRetaining keys g m → IsRetainStopped call f old n
-  retaining_stops keys later k g h m n is step so_far = by so_far.left refl
+      → Joins item (map.keys n) k → IsRetaining keys g m → IsRetainStopped call item f old n
+  retaining_stops item keys later k g h m n is step joins so_far = by so_far.left refl
     where
-      by : (left : List (List ℕ × V)) → so_far.left ≡ left → IsRetainStopped call f old n
+      by : (left : List (List ℕ × V)) → so_far.left ≡ left → IsRetainStopped call item f old n
       by [] none = absurd (let no : k ∷ later ≡ [] = sym is ∙ so_far.are_keys ∙ ap keys_of_rows none in cc)
       by (row ∷ rows) some =
           let both : k ∷ later ≡ row.0 ∷ keys_of_rows rows = sym is ∙ so_far.are_keys ∙ ap keys_of_rows some in
@@ -135,7 +136,21 @@ module _ {F V : Type 0}
             left = turn.0;
             asked = subst (λ x. IsAskedAtEntry call g (x, row.1) false h turn.0) key turn.1;
             is_new = turn.2 ∙ ap (λ x. map.insert m x turn.0) key;
+            joins = subst (Joins item (map.keys n)) key joins;
           }
+
+  -- where a key is left, there were entries
+  pub retaining_filled : (keys later : List (List ℕ)) (k : List ℕ) (g : F) (m : FinMap key_cmp V)
+      → keys ≡ k ∷ later → IsRetaining keys g m → map.entries old ≡ [] → ⊥
+  retaining_filled keys later k g m is so_far none = by so_far.left refl so_far.folding.done refl
+    where
+      by : (left : List (List ℕ × V)) → so_far.left ≡ left → (done : List (List ℕ × V))
+          → so_far.folding.done ≡ done → ⊥
+      by [] empty done e = let gone : k ∷ later ≡ [] = sym is ∙ so_far.are_keys ∙ ap keys_of_rows empty in cc
+      by (row ∷ rows) some [] e =
+          let all : [] ++ row ∷ rows ≡ [] = sym (so_far.folding.are_rows ∙ ap (λ l. l ++ so_far.left) e ∙ ap (λ l. [] ++ l) some) ∙ none in cc
+      by (row ∷ rows) some (x ∷ xs) e =
+          let all : (x ∷ xs) ++ so_far.left ≡ [] = sym (so_far.folding.are_rows ∙ ap (λ l. l ++ so_far.left) e) ∙ none in cc
 
   pub retaining_ends : (g : F) (m : FinMap key_cmp V) → IsRetaining [] g m
       → FoldsTo (RetainsRow call) (f, old) (map.entries old) (g, m)

@@ -4,10 +4,11 @@ use Rattle.std.proofs.Common.{ap, subst, ◌∙◌}
 use Rattle.std.specs.Prelude.{IsSome, MatchOption, is_some}
 use Rattle.std.specs.Cmp.{tied_itself}
 use Rattle.std.specs.Cmp.Lexicographic.{nat_list_cmp_total}
-use Rattle.std.specs.Ordering.{is_eq}
+use Rattle.std.specs.Ordering.{eq_by_cmp, is_eq}
 use Rattle.std.specs.List.{last_or}
 use Rattle.std.specs.FinMap as map
 use Rattle.std.specs.FinMap.{entries_sorted, get-entries, get-insert}
+use Rattle.std.specs.FinMap.{slice_cmp-IsAntisymmetric, nat_cmp-IsAntisymmetric}
 use Rattle.patricia_core.specs.Keys.{Begins, key_cmp}
 use Rattle.patricia_core.specs.Points.{Has}
 use Rattle.patricia_core.specs.Prefixes.{along, longest}
@@ -51,6 +52,21 @@ get_inserted m key v =
     get-insert nat_list_cmp_total m key v key
     ∙ ap (λ o. cond (is_eq o) (Some v) (map.get m key)) (tied_itself nat_list_cmp_total key)
 
+-- of two values by the same test the one behind the first is never met
+met_once : {A : Type 0} (b : Bool) (x y z : A) → cond b x (cond b y z) ≡ cond b x z
+met_once true x y z = refl
+met_once false x y z = refl
+
+-- of two values at a key the later stays
+insert_over : {V : Type 0} (m : map.FinMap key_cmp V) (key : List ℕ) (v w : V)
+    → map.insert (map.insert m key v) key w ≡ map.insert m key w
+insert_over m key v w = map.same_map nat_list_cmp_total
+    (slice_cmp-IsAntisymmetric nat_cmp-IsAntisymmetric) _ _
+    (λ q. get-insert nat_list_cmp_total (map.insert m key v) key w q
+    ∙ ap (cond (eq_by_cmp key_cmp q key) (Some w)) (get-insert nat_list_cmp_total m key v q)
+    ∙ met_once (eq_by_cmp key_cmp q key) (Some w) (Some v) (map.get m q)
+    ∙ sym (get-insert nat_list_cmp_total m key w q))
+
 -- what holds at an option holds at one that is the same
 match_along : {A : Type 0} (X : Type 0) (P : A → Type 0) (o p : Option A) → o ≡ p → MatchOption p X P
     → MatchOption o X P
@@ -76,6 +92,16 @@ module _ {F V : Type 0} (makes : F → Unit {0} → V → Type 0) (f : F) (old n
         ap (λ m. map.get m key) (kept (is_new ∙ ap (λ o. not (is_some o)) there)) ∙ there,
         match_along (makes f tt v) (λ x. v ≡ x) (map.get old key) (Some v) there refl,
       )
+
+  -- a value that is put at the key is put into the map as it was
+  pub inserts_alike : (w : V) → map.insert new key w ≡ map.insert old key w
+  inserts_alike w = by b refl
+    where
+      by : (c : Bool) → b ≡ c → map.insert new key w ≡ map.insert old key w
+      by true e =
+          let puts = made e in
+          ap (λ m. map.insert m key w) puts.put_in ∙ insert_over old key puts.made w
+      by false e = ap (λ m. map.insert m key w) (kept e)
 
   pub is_there : IsSome (map.get new key)
   is_there = subst IsSome (sym now_there.1) refl

@@ -1,6 +1,6 @@
 -- What a map is after a loan of one value.
-use Rattle.std.specs.Prelude.{◌≡◌, ℕ, List, Option, Some}
-use Rattle.std.specs.Borrow.{LendsIf, Fml, RattleType, MutBor}
+use Rattle.std.specs.Prelude.{◌≡◌, ℕ, List, Option, Some, Result}
+use Rattle.std.specs.Borrow.{LendsIf, LendsIfOk, Fml, RattleType, MutBor}
 use Rattle.std.specs.Fn.{Once}
 use Rattle.std.specs.FinMap as map
 use Rattle.patricia_core.specs.Keys.{Begins, key_cmp}
@@ -12,6 +12,11 @@ use Rattle.patricia_tree.specs.contracts.map.GenericPatriciaMap.{the_row}
 abbrev pub lends_entry : (K V : RattleType) → Ghosts K.Denot
     → MutBor (map.FinMap key_cmp V.Denot) → List ℕ → Option (MutBor V.Denot) → Fml
 lends_entry K V bytes s key r = LendsIf (the_row K V bytes) V s r (map.insert s.now key) s.now
+
+-- the same where a value is inserted that the loan begins with, or memory runs out for it
+abbrev pub lends_made : {E : Type 0} (K V : RattleType) → Ghosts K.Denot
+    → MutBor (map.FinMap key_cmp V.Denot) → List ℕ → Result (MutBor V.Denot) E → Fml
+lends_made K V bytes s key r = LendsIfOk (the_row K V bytes) V s r (map.insert s.now key) s.now
 
 -- `call` says of a closure when it may be called at a key and a loan of a value, and what it may
 -- then answer and leave there; `bytes` what the bytes of a key are

@@ -5,6 +5,7 @@ use Rattle.std.specs.Fn.{Mut, Called}
 use Rattle.std.specs.List.{FoldsTo}
 use Rattle.std.specs.FinMap as map
 use Rattle.patricia_core.specs.Keys.{key_cmp}
+use Rattle.patricia_core.specs.Points.{Joins}
 
 -- `call` says of a closure what it may return at a key and a loan of a value, and what it may then
 -- leave there and become
@@ -33,9 +34,10 @@ module _ {F V : Type 0}
   abbrev pub RetainsAll : F → map.FinMap key_cmp V → map.FinMap key_cmp V → Type 0
   RetainsAll f old new = (last : F) × FoldsTo RetainsRow (f, old) (map.entries old) (last, new)
 
-  -- so at some rows, in order; at the row after them it returned false, and this row stays, with
-  -- what it left of the value, as do the rows behind it
-  pub record IsRetainStopped (f : F) (old new : map.FinMap key_cmp V) : Type 0 where
+  -- so at some rows, in order; at the row after them it returned false, and without this row labels
+  -- would be joined: it stays, with what it left of the value, as do the rows behind it
+  pub record IsRetainStopped (item : List ℕ → Type 0) (f : F) (old new : map.FinMap key_cmp V)
+      : Type 0 where
     pub done : List (List ℕ × V)
     pub refused : List ℕ × V
     pub behind : List (List ℕ × V)
@@ -46,3 +48,4 @@ module _ {F V : Type 0}
     pub left : V
     pub asked : IsAskedAtEntry before.0 refused false last left
     pub is_new : new ≡ map.insert before.1 refused.0 left
+    pub joins : Joins item (map.keys new) refused.0

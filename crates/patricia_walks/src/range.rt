@@ -178,20 +178,45 @@ impl<'a, Q: BorrowedBytes, V> RangeReadCursor<'a, Q, V> {
 }
 
 impl<'a, Q: BorrowedBytes, V> RangeReadCursor<'a, Q, V> {
-    /// The next entry, with an owned key. The error is out of memory.
-    pub fn next_entry(&mut self) -> Result<Option<(Q::Owned, &'a V)>, AllocError>
-        ensures { IfOk result (λ entry. TakesFirst (λ e. (Q.Owned.key e.0, e.1.now))
-            self.old.left entry self.new.left) }
+    // Ends the cursor.
+    fn end(&mut self)
+        ensures { self.new ≡ before_rows [] }
     {
-        if !self.advance()? {
-            return Ok(None);
-        }
+        self.start = None;
+        self.cursor.end();
+    }
+
+    // A copy of the key at which the cursor stands, and its value.
+    fn entry(&self) -> Result<Option<(Q::Owned, &'a V)>, AllocError>
+        ensures { IfOk result (λ entry.
+            option_map (λ e. (Q.Owned.key e.0, e.1.now)) entry ≡ self.now.at) }
+    {
         match (self.key(), self.value()) {
             (Some(bytes), Some(value)) => {
                 Ok(Some((Q::Owned::from_bytes(self.alloc, bytes)?, value)))
             }
             _ => Ok(None),
         }
+    }
+
+    /// The next entry, with an owned key.
+    ///
+    /// # Errors
+    ///
+    /// Out of memory: the cursor is at its end then.
+    pub fn next_entry(&mut self) -> Result<Option<(Q::Owned, &'a V)>, AllocError>
+        ensures entry { IfOk result (λ entry. TakesFirst (λ e. (Q.Owned.key e.0, e.1.now))
+            self.old.left entry self.new.left) }
+        ensures ended { OnErr result (self.new ≡ before_rows []) }
+    {
+        if !self.advance()? {
+            return Ok(None);
+        }
+        let entry = self.entry();
+        if entry.is_err() {
+            self.end();
+        }
+        entry
     }
 }
 

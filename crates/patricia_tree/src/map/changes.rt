@@ -140,6 +140,7 @@ impl<K: Bytes, V: Drop> GenericPatriciaMap<K, V> {
         ensures unchanged { OnErr result (self.new ≡ self.old) }
         ensures err_only_nonempty { OnErr result (Q.key key ≢ []) }
         ensures only_new { OnErr result (map.get self.old (Q.key key) ≡ None) }
+        ensures ran { OnErr result ((made : V) × F.FnOnce.post f tt made) }
     {
         if self.contains_key(key) {
             return Ok(false);

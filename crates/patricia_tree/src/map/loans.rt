@@ -12,7 +12,7 @@ use patricia_core::keys::{BorrowedBytes, Bytes};
 use std::alloc::AllocError;
 
 impl<K: Bytes, V: Drop> GenericPatriciaMap<K, V> {
-    ghost use Rattle.patricia_tree.specs.Loans.{RunsOn, TakesLongest};
+    ghost use Rattle.patricia_tree.specs.Loans.{RunsOn, TakesLongest, lends_made};
     ghost use Rattle.patricia_tree.specs.Internal.Longest.{lends_longest, IsLongest};
 
     // The longest key that begins the key, as a part of it.
@@ -41,14 +41,12 @@ impl<K: Bytes, V: Drop> GenericPatriciaMap<K, V> {
     /// Lends the value at a key. Where there is none, the value that a closure makes is inserted
     /// first; else the closure is not run.
     ///
-    /// The contract says no more than what is read: what the map is where memory runs out, or after
-    /// the loan, those of `insert_with` and of `get_mut` say, of which this is made.
-    ///
     /// Takes the time of an `insert` and of a look-up.
     ///
     /// # Errors
     ///
-    /// Out of memory, at a new nonempty key alone: what the closure made is dropped.
+    /// Out of memory, at a new nonempty key alone: the map is unchanged, and what the closure made
+    /// is dropped.
     ///
     /// # Examples
     ///
@@ -65,10 +63,12 @@ impl<K: Bytes, V: Drop> GenericPatriciaMap<K, V> {
         f: F,
     ) -> Result<&mut V, AllocError>
         requires callable { map.get self.old (Q.key key) ≡ None → F.FnOnce.pre f tt }
+        ensures* writes { sem 𝓛 (lends_made K.row V.row K.Bytes self.entry (Q.key key) result) }
         ensures value { IfOk result (λ v. MatchOption (map.get self.old (Q.key key))
             (F.FnOnce.post f tt v.now) (λ there. v.now ≡ there)) }
         ensures err_only_nonempty { OnErr result (Q.key key ≢ []) }
         ensures only_new { OnErr result (map.get self.old (Q.key key) ≡ None) }
+        ensures ran { OnErr result ((made : V) × F.FnOnce.post f tt made) }
     {
         self.insert_with(key, f)?;
         Ok(self.value_mut(key))

@@ -2,6 +2,7 @@
 ghost use Rattle.std.specs.Prelude.{◌≡◌, ◌≢◌, ◌⊎◌, [], Some, false, IfOk, OnOk, OnErr};
 ghost use Rattle.std.specs.Prelude.{map as list_map};
 ghost use Rattle.std.specs.FinMap as map;
+ghost use Rattle.patricia_core.specs.Points.{Joins};
 ghost use Rattle.patricia_tree.specs.Retains.{IsAskedAtEntry, IsRetainStopped, RetainsAll};
 ghost use Rattle.patricia_tree.specs.Retains.{RetainsRow};
 
@@ -50,6 +51,7 @@ impl<K: Bytes, V: Drop> GenericPatriciaMap<K, V> {
         ensures kept { OnErr result ((v : V) → map.get self.old key.entry.bytes.now ≡ Some v
             → (w : V) × IsAskedAtEntry F.FnMut f.old (key.entry.bytes.now, v) false f.new w
             × (self.new ≡ map.insert self.old key.entry.bytes.now w)) }
+        ensures joins { OnErr result (Joins K.item (map.keys self.new) key.entry.bytes.now) }
     {
         if !self.ask(key, f) {
             self.remove(key)?;
@@ -66,9 +68,9 @@ impl<K: Bytes, V: Drop> GenericPatriciaMap<K, V> {
     /// # Errors
     ///
     /// Out of memory, never for an empty map. For the copies: the closure was not called, and the
-    /// map is unchanged. For a removal, which may join two labels: the entries before it are
-    /// retained or removed as the closure said, it stays with the value that the closure left, and
-    /// those after it are unchanged.
+    /// map is unchanged. For a removal that joins two labels: the entries before it are retained
+    /// or removed as the closure said, it stays with the value that the closure left, and those
+    /// after it are unchanged.
     ///
     /// # Examples
     ///
@@ -86,7 +88,7 @@ impl<K: Bytes, V: Drop> GenericPatriciaMap<K, V> {
         requires { F.IsAlwaysCallable f }
         ensures retained { OnOk result (RetainsAll F.FnMut f self.old self.new) }
         ensures stopped { OnErr result
-            ((self.new ≡ self.old) ⊎ IsRetainStopped F.FnMut f self.old self.new) }
+            ((self.new ≡ self.old) ⊎ IsRetainStopped F.FnMut K.item f self.old self.new) }
         ensures err_only_nonempty { OnErr result (map.entries self.old ≢ []) }
     {
         for key in self.owned_keys()? {

@@ -4,6 +4,7 @@ use Rattle.std.specs.Prelude.{map as list_map}
 use Rattle.std.specs.Vec.Iter.{into_iter_items}
 use Rattle.patricia_tree.proofs.AfterLemmas.{at_error}
 use Rattle.patricia_tree.proofs.ChoiceLemmas.{retaining_starts, retaining_on, retaining_stops, retaining_ends}
+use Rattle.patricia_tree.proofs.ChoiceLemmas.{retaining_filled}
 use Rattle.patricia_tree.proofs.map.GenericPatriciaMap.retain.Goals as goal
 
 pub loop-key-init : goal.loop-key-init
@@ -18,10 +19,17 @@ loop-key-init g c =
 
 pub returns-in_err-retain_entry-clause-stopped : goal.returns-in_err-retain_entry-clause-stopped
 returns-in_err-retain_entry-clause-stopped g c = at_error _ _
-    (inr (retaining_stops g.F.FnMut c.args.f c.args.self.now _ (list_map g.K.Bytes.key (into_iter_items c.next.new.self))
+    (inr (retaining_stops g.F.FnMut c.args.f c.args.self.now g.K.Bytes.item _ (list_map g.K.Bytes.key (into_iter_items c.next.new.self))
     (g.K.Bytes.key c.in-Some.key) c.loop-key.f c.retain_entry.new.f c.loop-key.self c.retain_entry.new.self
     (ap (list_map g.K.Bytes.key) c.in-Some.ensures.steps.0) (rw c.of.ensures at c.in_err-retain_entry.ensures.kept)
-    c.loop-key.invariant.retaining))
+    (rw c.of.ensures at c.in_err-retain_entry.ensures.joins) c.loop-key.invariant.retaining))
+
+pub returns-in_err-retain_entry-clause-err_only_nonempty :
+    goal.returns-in_err-retain_entry-clause-err_only_nonempty
+returns-in_err-retain_entry-clause-err_only_nonempty g c = at_error _ _
+    (retaining_filled g.F.FnMut c.args.f c.args.self.now _ (list_map g.K.Bytes.key (into_iter_items c.next.new.self))
+    (g.K.Bytes.key c.in-Some.key) c.loop-key.f c.loop-key.self
+    (ap (list_map g.K.Bytes.key) c.in-Some.ensures.steps.0) c.loop-key.invariant.retaining)
 
 pub loop-key-preserved : goal.loop-key-preserved
 loop-key-preserved g c = record {
