@@ -1,6 +1,7 @@
 """The program `prefixes`: the commands of its pages, what a terminal is told, and lists of the world against a plain
 model."""
 import array
+import contextlib
 import fcntl
 import os
 import pty
@@ -89,11 +90,13 @@ def is_read(pipe):
 
 
 def feed(process, pipe, data):
-    """Writes data to a pipe, each byte once a program has read the one before, and closes it."""
-    for at in range(len(data)):
-        os.write(pipe, data[at:at + 1])
-        while not is_read(pipe) and process.poll() is None:
-            time.sleep(0.0001)
+    """Writes data to a pipe, each byte once a program has read the one before, and closes it. A program that has ended
+    reads no more."""
+    with contextlib.suppress(BrokenPipeError):
+        for at in range(len(data)):
+            os.write(pipe, data[at:at + 1])
+            while not is_read(pipe) and process.poll() is None:
+                time.sleep(0.0001)
     os.close(pipe)
 
 

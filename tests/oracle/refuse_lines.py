@@ -35,7 +35,7 @@ OF_TWO = 'union', 'intersection', 'difference', 'subset', 'disjoint', 'same'
 
 def lists(call, answered):
     """Where in the answers of a call a map is listed: from which one and to which."""
-    is_read = call == 'read' and not any(' ' in word for word in answered)
+    is_read = call in ('read', 'read_wide') and not any(' ' in word for word in answered)
     if is_read or call in LISTING:
         return [(0, len(answered))]
     if call in COUNTING:
@@ -162,15 +162,15 @@ def is_due(m, kind, call, words, answered):
         return any(m)
     if call in ('pop_first', 'pop_last'):
         return bool(m)
-    if call == 'read':
-        return len(words[0]) > 4
+    if call in ('read', 'read_wide'):
+        return len(words[0]) > (6 if call == 'read_wide' else 4)
     if call == 'fill':
         return answered == ['true']
     if call == 'get_or_insert':
         return words[0] != b'' and words[0] not in m
     if call == 'along_owned':
         return any(words) and is_valid(words[0], kind)
-    return call == 'tree'
+    return call in ('tree', 'tree_wide')
 
 
 def answered_before(m, kind, call, words, answered):
