@@ -6,8 +6,8 @@
 
 An example is code between two comments, '// example: MODULE NAME' and '// end'. It stands in the doc comment of the
 function of this name, in a file of CALLS or of a folder of CALLS, as the last section. Each public function of these
-files has one, but for HAS_NONE. Where the tests call `done`, `same!` and `holds!` (asserts.rt), which are quick to
-prove, an example has `?`, `assert_eq!` and `assert!`.
+files has one, but for HAS_NONE. Where the tests call `done`, `same!`, `holds!`, `map_of` and `set_of` (asserts.rt),
+which are quick to prove, an example has `?`, `assert_eq!`, `assert!` and `from_iter` of an array.
 """
 import os
 import re
@@ -42,6 +42,8 @@ WRITTEN = {
     r'\bdone\(\s*&rt,\s*': '%s?',
     r'\bsame!\(rt;\s*': 'assert_eq!(rt; %s)',
     r'\bholds!\(rt;\s*': 'assert!(rt; %s)',
+    r'\bmap_of\(\s*&rt,\s*rt\.alloc\(\),\s*&': 'StringPatriciaMap::from_iter(rt.alloc(), %s)?',
+    r'\bset_of\(\s*&rt,\s*rt\.alloc\(\),\s*&': 'StringPatriciaSet::from_iter(rt.alloc(), %s)?',
 }
 LITERAL = re.compile(r'"(?:\\.|[^"\\])*"|\'(?:\\[^\']+|[^\'\\])\'')
 REGION = re.compile(r'^ *// example: (\w+ \w+)\n(.*?)^ *// end$', re.M | re.S)

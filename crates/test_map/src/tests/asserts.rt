@@ -1,6 +1,8 @@
 //! Assertions as calls. The prover carries what it knows of a body to each point of it: an
 //! assertion that is written out adds a dozen points, a call one.
 
+use patricia_tree::{BorrowedBytes, GenericPatriciaMap};
+use std::alloc::Global;
 use std::fmt::Debug;
 use std::process::Abort;
 
@@ -38,3 +40,17 @@ macro_rules! holds {
 
 pub(super) use holds;
 pub(super) use same;
+
+// A map of these entries. An array that is passed as an iterator is expensive to prove, too, and
+// so is what loops over keys of one kind.
+pub(super) fn map_of<Q: BorrowedBytes, V: Copy + Drop>(
+    rt: &impl Abort,
+    alloc: Global,
+    entries: &[(Q, V)],
+) -> GenericPatriciaMap<Q::Owned, V> {
+    let mut map = GenericPatriciaMap::new(alloc);
+    for (key, value) in entries {
+        holds!(rt; map.insert(*key, *value).is_ok());
+    }
+    map
+}

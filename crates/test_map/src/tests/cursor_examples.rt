@@ -1,16 +1,13 @@
 //! The examples of cursors, as the documentation has them.
 
-use crate::tests::asserts::{done, same};
+use crate::tests::asserts::{done, map_of, same};
 use patricia_tree::{BorrowedBytes, GenericPatriciaMap, StringPatriciaMap};
 use std::alloc::AllocError;
 
 #[test]
 fn iter_mut(rt: HostRuntime) {
     // example: map iter_mut
-    let mut map = done(
-        &rt,
-        StringPatriciaMap::from_iter(rt.alloc(), [("foo", 1), ("bar", 2)]),
-    );
+    let mut map = map_of(&rt, rt.alloc(), &[("foo", 1), ("bar", 2)]);
     let mut cursor = map.iter_mut();
     same!(rt; done(&rt, cursor.advance()).as_deref(), Some("bar"));
     if let Some(value) = cursor.value() {
@@ -24,10 +21,7 @@ fn iter_mut(rt: HostRuntime) {
 #[test]
 fn advance(rt: HostRuntime) {
     // example: cursor advance
-    let mut map = done(
-        &rt,
-        StringPatriciaMap::from_iter(rt.alloc(), [("foo", 1), ("bar", 2)]),
-    );
+    let mut map = map_of(&rt, rt.alloc(), &[("foo", 1), ("bar", 2)]);
     let mut cursor = map.iter_mut();
     same!(rt; done(&rt, cursor.advance()).as_deref(), Some("bar"));
     same!(rt; done(&rt, cursor.advance()).as_deref(), Some("foo"));
@@ -38,10 +32,7 @@ fn advance(rt: HostRuntime) {
 #[test]
 fn value(rt: HostRuntime) {
     // example: cursor value
-    let mut map = done(
-        &rt,
-        StringPatriciaMap::from_iter(rt.alloc(), [("foo", 1), ("bar", 2)]),
-    );
+    let mut map = map_of(&rt, rt.alloc(), &[("foo", 1), ("bar", 2)]);
     let mut cursor = map.iter_mut();
     same!(rt; cursor.value(), None);
     done(&rt, cursor.advance());
@@ -52,10 +43,7 @@ fn value(rt: HostRuntime) {
 #[test]
 fn next(rt: HostRuntime) {
     // example: cursor next
-    let mut map = done(
-        &rt,
-        StringPatriciaMap::from_iter(rt.alloc(), [("foo", 1), ("bar", 2)]),
-    );
+    let mut map = map_of(&rt, rt.alloc(), &[("foo", 1), ("bar", 2)]);
     let mut cursor = map.iter_mut();
     if let Some((key, value)) = done(&rt, cursor.next()) {
         same!(rt; key.as_str(), "bar");
@@ -69,10 +57,7 @@ fn next(rt: HostRuntime) {
 #[test]
 fn next_with(rt: HostRuntime) {
     // example: cursor next_with
-    let mut map = done(
-        &rt,
-        StringPatriciaMap::from_iter(rt.alloc(), [("foo", 1), ("bar", 2)]),
-    );
+    let mut map = map_of(&rt, rt.alloc(), &[("foo", 1), ("bar", 2)]);
     let len = map.len();
     let mut cursor = map.iter_mut();
     for _ in 0..len {
@@ -86,10 +71,7 @@ fn next_with(rt: HostRuntime) {
 #[test]
 fn values_mut(rt: HostRuntime) {
     // example: map values_mut
-    let mut map = done(
-        &rt,
-        StringPatriciaMap::from_iter(rt.alloc(), [("foo", 1), ("bar", 2)]),
-    );
+    let mut map = map_of(&rt, rt.alloc(), &[("foo", 1), ("bar", 2)]);
     let len = map.len();
     let mut cursor = map.values_mut();
     for _ in 0..len {
@@ -117,10 +99,7 @@ fn clear_values<Q: BorrowedBytes>(
 
 #[test]
 fn iter_prefix_mut(rt: HostRuntime) {
-    let mut map = done(
-        &rt,
-        StringPatriciaMap::from_iter(rt.alloc(), [("foo", 1), ("bar", 2)]),
-    );
+    let mut map = map_of(&rt, rt.alloc(), &[("foo", 1), ("bar", 2)]);
     done(&rt, clear_values(&mut map, "f"));
     same!(rt; map.get("foo"), Some(&0));
     same!(rt; map.get("bar"), Some(&2));

@@ -1,6 +1,6 @@
 //! The examples of the calls of maps, as the documentation has them.
 
-use crate::tests::asserts::{done, holds, same};
+use crate::tests::asserts::{done, holds, map_of, same};
 use patricia_tree::{DecodeError, PatriciaMap, StringPatriciaMap};
 use std::vec::Vec;
 
@@ -287,10 +287,7 @@ fn from_iter(rt: HostRuntime) {
 #[test]
 fn iter(rt: HostRuntime) {
     // example: map iter
-    let map = done(
-        &rt,
-        StringPatriciaMap::from_iter(rt.alloc(), [("foo", 1), ("bar", 2)]),
-    );
+    let map = map_of(&rt, rt.alloc(), &[("foo", 1), ("bar", 2)]);
     let mut entries = map.iter();
     if let Some(first) = entries.next() {
         let (key, value) = done(&rt, first);
@@ -302,10 +299,7 @@ fn iter(rt: HostRuntime) {
 #[test]
 fn iter_prefix(rt: HostRuntime) {
     // example: map iter_prefix
-    let map = done(
-        &rt,
-        StringPatriciaMap::from_iter(rt.alloc(), [("foo", 1), ("bar", 2), ("baz", 3)]),
-    );
+    let map = map_of(&rt, rt.alloc(), &[("foo", 1), ("bar", 2), ("baz", 3)]);
     for entry in map.iter_prefix("ba") {
         let (key, _) = done(&rt, entry);
         holds!(rt; key.starts_with("ba"));
@@ -316,10 +310,7 @@ fn iter_prefix(rt: HostRuntime) {
 #[test]
 fn keys(rt: HostRuntime) {
     // example: map keys
-    let map = done(
-        &rt,
-        StringPatriciaMap::from_iter(rt.alloc(), [("foo", 1), ("bar", 2)]),
-    );
+    let map = map_of(&rt, rt.alloc(), &[("foo", 1), ("bar", 2)]);
     let mut keys = map.keys();
     same!(rt; done(&rt, keys.next().transpose()).as_deref(), Some("bar"));
     same!(rt; done(&rt, keys.next().transpose()).as_deref(), Some("foo"));
@@ -330,10 +321,7 @@ fn keys(rt: HostRuntime) {
 #[test]
 fn values(rt: HostRuntime) {
     // example: map values
-    let map = done(
-        &rt,
-        StringPatriciaMap::from_iter(rt.alloc(), [("foo", 1), ("bar", 2)]),
-    );
+    let map = map_of(&rt, rt.alloc(), &[("foo", 1), ("bar", 2)]);
     let mut values = map.values();
     same!(rt; done(&rt, values.next().transpose()), Some(&2));
     same!(rt; done(&rt, values.next().transpose()), Some(&1));
@@ -344,10 +332,7 @@ fn values(rt: HostRuntime) {
 #[test]
 fn cursor(rt: HostRuntime) {
     // example: map cursor
-    let map = done(
-        &rt,
-        StringPatriciaMap::from_iter(rt.alloc(), [("foo", 1), ("bar", 2)]),
-    );
+    let map = map_of(&rt, rt.alloc(), &[("foo", 1), ("bar", 2)]);
     let mut cursor = map.cursor();
     holds!(rt; done(&rt, cursor.advance()));
     same!(rt; (cursor.text(), cursor.value()), (Some("bar"), Some(&2)));
@@ -357,10 +342,7 @@ fn cursor(rt: HostRuntime) {
 #[test]
 fn cursor_under(rt: HostRuntime) {
     // example: map cursor_under
-    let map = done(
-        &rt,
-        StringPatriciaMap::from_iter(rt.alloc(), [("foo", 1), ("bar", 2), ("baz", 3)]),
-    );
+    let map = map_of(&rt, rt.alloc(), &[("foo", 1), ("bar", 2), ("baz", 3)]);
     let mut cursor = map.cursor_under("ba");
     holds!(rt; done(&rt, cursor.advance()));
     same!(rt; cursor.text(), Some("bar"));

@@ -1,15 +1,12 @@
 //! The examples of ranges, ends and changes of maps, as the documentation has them.
 
-use crate::tests::asserts::{done, holds, same};
+use crate::tests::asserts::{done, holds, map_of, same};
 use patricia_tree::StringPatriciaMap;
 
 #[test]
 fn range_from(rt: HostRuntime) {
     // example: map range_from
-    let map = done(
-        &rt,
-        StringPatriciaMap::from_iter(rt.alloc(), [("bar", 1), ("baz", 2), ("foo", 3)]),
-    );
+    let map = map_of(&rt, rt.alloc(), &[("bar", 1), ("baz", 2), ("foo", 3)]);
     let mut rest = map.range_from("bas");
     if let Some(first) = rest.next() {
         let (key, value) = done(&rt, first);
@@ -21,10 +18,7 @@ fn range_from(rt: HostRuntime) {
 #[test]
 fn range(rt: HostRuntime) {
     // example: map range
-    let map = done(
-        &rt,
-        StringPatriciaMap::from_iter(rt.alloc(), [("bar", 1), ("baz", 2), ("foo", 3)]),
-    );
+    let map = map_of(&rt, rt.alloc(), &[("bar", 1), ("baz", 2), ("foo", 3)]);
     for entry in map.range("bar", "foo") {
         let (key, _) = done(&rt, entry);
         holds!(rt; key.starts_with("ba"));
@@ -35,10 +29,7 @@ fn range(rt: HostRuntime) {
 #[test]
 fn cursor_from(rt: HostRuntime) {
     // example: map cursor_from
-    let map = done(
-        &rt,
-        StringPatriciaMap::from_iter(rt.alloc(), [("bar", 1), ("baz", 2), ("foo", 3)]),
-    );
+    let map = map_of(&rt, rt.alloc(), &[("bar", 1), ("baz", 2), ("foo", 3)]);
     let mut cursor = map.cursor_from("baz");
     holds!(rt; done(&rt, cursor.advance()));
     same!(rt; (cursor.text(), cursor.value()), (Some("baz"), Some(&2)));
@@ -51,10 +42,7 @@ fn cursor_from(rt: HostRuntime) {
 #[test]
 fn cursor_range(rt: HostRuntime) {
     // example: map cursor_range
-    let map = done(
-        &rt,
-        StringPatriciaMap::from_iter(rt.alloc(), [("bar", 1), ("baz", 2), ("foo", 3)]),
-    );
+    let map = map_of(&rt, rt.alloc(), &[("bar", 1), ("baz", 2), ("foo", 3)]);
     let mut cursor = map.cursor_range("bar", "baz");
     holds!(rt; done(&rt, cursor.advance()));
     same!(rt; cursor.text(), Some("bar"));
@@ -65,10 +53,7 @@ fn cursor_range(rt: HostRuntime) {
 #[test]
 fn first_key_value(rt: HostRuntime) {
     // example: map first_key_value
-    let map = done(
-        &rt,
-        StringPatriciaMap::from_iter(rt.alloc(), [("foo", 1), ("bar", 2)]),
-    );
+    let map = map_of(&rt, rt.alloc(), &[("foo", 1), ("bar", 2)]);
     if let Some((key, value)) = done(&rt, map.first_key_value()) {
         same!(rt; (key.as_str(), value), ("bar", &2));
     }
@@ -78,10 +63,7 @@ fn first_key_value(rt: HostRuntime) {
 #[test]
 fn first_after(rt: HostRuntime) {
     // example: map first_after
-    let map = done(
-        &rt,
-        StringPatriciaMap::from_iter(rt.alloc(), [("bar", 1), ("foo", 2)]),
-    );
+    let map = map_of(&rt, rt.alloc(), &[("bar", 1), ("foo", 2)]);
     if let Some((key, value)) = done(&rt, map.first_after("bar")) {
         same!(rt; (key.as_str(), value), ("foo", &2));
     }
@@ -92,10 +74,7 @@ fn first_after(rt: HostRuntime) {
 #[test]
 fn count_prefix(rt: HostRuntime) {
     // example: map count_prefix
-    let map = done(
-        &rt,
-        StringPatriciaMap::from_iter(rt.alloc(), [("bar", 1), ("baz", 2), ("foo", 3)]),
-    );
+    let map = map_of(&rt, rt.alloc(), &[("bar", 1), ("baz", 2), ("foo", 3)]);
     same!(rt; done(&rt, map.count_prefix("ba")), 2);
     // end
 }
@@ -103,10 +82,7 @@ fn count_prefix(rt: HostRuntime) {
 #[test]
 fn remove_prefix(rt: HostRuntime) {
     // example: map remove_prefix
-    let mut map = done(
-        &rt,
-        StringPatriciaMap::from_iter(rt.alloc(), [("bar", 1), ("baz", 2)]),
-    );
+    let mut map = map_of(&rt, rt.alloc(), &[("bar", 1), ("baz", 2)]);
     same!(rt; done(&rt, map.remove_prefix("ba")), 2);
     holds!(rt; map.is_empty());
     // end
@@ -115,7 +91,7 @@ fn remove_prefix(rt: HostRuntime) {
 #[test]
 fn update(rt: HostRuntime) {
     // example: map update
-    let mut map = done(&rt, StringPatriciaMap::from_iter(rt.alloc(), [("foo", 1)]));
+    let mut map = map_of(&rt, rt.alloc(), &[("foo", 1)]);
     holds!(rt; map.update("foo", |value| *value = 5).is_some());
     holds!(rt; map.update("bar", |value| *value = 5).is_none());
     same!(rt; map.get("foo"), Some(&5));
@@ -125,7 +101,7 @@ fn update(rt: HostRuntime) {
 #[test]
 fn insert_with(rt: HostRuntime) {
     // example: map insert_with
-    let mut map = done(&rt, StringPatriciaMap::from_iter(rt.alloc(), [("foo", 1)]));
+    let mut map = map_of(&rt, rt.alloc(), &[("foo", 1)]);
     holds!(rt; !done(&rt, map.insert_with("foo", || 5)));
     holds!(rt; done(&rt, map.insert_with("bar", || 5)));
     same!(rt; map.get("bar"), Some(&5));
@@ -135,10 +111,7 @@ fn insert_with(rt: HostRuntime) {
 #[test]
 fn last_key_value(rt: HostRuntime) {
     // example: map last_key_value
-    let map = done(
-        &rt,
-        StringPatriciaMap::from_iter(rt.alloc(), [("foo", 1), ("bar", 2)]),
-    );
+    let map = map_of(&rt, rt.alloc(), &[("foo", 1), ("bar", 2)]);
     if let Some((key, value)) = done(&rt, map.last_key_value()) {
         same!(rt; (key.as_str(), value), ("foo", &1));
     }
@@ -148,10 +121,7 @@ fn last_key_value(rt: HostRuntime) {
 #[test]
 fn last_before(rt: HostRuntime) {
     // example: map last_before
-    let map = done(
-        &rt,
-        StringPatriciaMap::from_iter(rt.alloc(), [("bar", 1), ("foo", 2)]),
-    );
+    let map = map_of(&rt, rt.alloc(), &[("bar", 1), ("foo", 2)]);
     if let Some((key, value)) = done(&rt, map.last_before("foo")) {
         same!(rt; (key.as_str(), value), ("bar", &1));
     }
@@ -162,10 +132,7 @@ fn last_before(rt: HostRuntime) {
 #[test]
 fn pop_first(rt: HostRuntime) {
     // example: map pop_first
-    let mut map = done(
-        &rt,
-        StringPatriciaMap::from_iter(rt.alloc(), [("foo", 1), ("bar", 2)]),
-    );
+    let mut map = map_of(&rt, rt.alloc(), &[("foo", 1), ("bar", 2)]);
     if let Some((key, value)) = done(&rt, map.pop_first()) {
         same!(rt; (key.as_str(), value), ("bar", 2));
     }
@@ -176,10 +143,7 @@ fn pop_first(rt: HostRuntime) {
 #[test]
 fn pop_last(rt: HostRuntime) {
     // example: map pop_last
-    let mut map = done(
-        &rt,
-        StringPatriciaMap::from_iter(rt.alloc(), [("foo", 1), ("bar", 2)]),
-    );
+    let mut map = map_of(&rt, rt.alloc(), &[("foo", 1), ("bar", 2)]);
     if let Some((key, value)) = done(&rt, map.pop_last()) {
         same!(rt; (key.as_str(), value), ("foo", 1));
     }
@@ -190,10 +154,7 @@ fn pop_last(rt: HostRuntime) {
 #[test]
 fn within(rt: HostRuntime) {
     // example: map within
-    let map = done(
-        &rt,
-        StringPatriciaMap::from_iter(rt.alloc(), [("bar", 1), ("baz", 2), ("foo", 3)]),
-    );
+    let map = map_of(&rt, rt.alloc(), &[("bar", 1), ("baz", 2), ("foo", 3)]);
     let mut cursor = map.within("bat", 1);
     holds!(rt; done(&rt, cursor.advance()));
     same!(rt; (cursor.text(), cursor.value()), (Some("bar"), Some(&1)));

@@ -1,23 +1,14 @@
 //! The examples of whole maps, as the documentation has them.
 
-use crate::tests::asserts::{done, holds, same};
+use crate::tests::asserts::{done, holds, map_of, same};
 use patricia_tree::{LoadError, StringPatriciaMap};
 
 #[test]
 fn equals(rt: HostRuntime) {
     // example: map equals
-    let map = done(
-        &rt,
-        StringPatriciaMap::from_iter(rt.alloc(), [("foo", 1), ("bar", 2)]),
-    );
-    let same = done(
-        &rt,
-        StringPatriciaMap::from_iter(rt.alloc(), [("bar", 2), ("foo", 1)]),
-    );
-    let other = done(
-        &rt,
-        StringPatriciaMap::from_iter(rt.alloc(), [("bar", 2), ("foo", 3)]),
-    );
+    let map = map_of(&rt, rt.alloc(), &[("foo", 1), ("bar", 2)]);
+    let same = map_of(&rt, rt.alloc(), &[("bar", 2), ("foo", 1)]);
+    let other = map_of(&rt, rt.alloc(), &[("bar", 2), ("foo", 3)]);
     holds!(rt; done(&rt, map.equals(&same)));
     holds!(rt; !done(&rt, map.equals(&other)));
     // end
@@ -26,14 +17,8 @@ fn equals(rt: HostRuntime) {
 #[test]
 fn merge_with(rt: HostRuntime) {
     // example: map merge_with
-    let mut map = done(
-        &rt,
-        StringPatriciaMap::from_iter(rt.alloc(), [("foo", 1), ("bar", 2)]),
-    );
-    let other = done(
-        &rt,
-        StringPatriciaMap::from_iter(rt.alloc(), [("foo", 5), ("baz", 7)]),
-    );
+    let mut map = map_of(&rt, rt.alloc(), &[("foo", 1), ("bar", 2)]);
+    let other = map_of(&rt, rt.alloc(), &[("foo", 5), ("baz", 7)]);
     done(
         &rt,
         map.merge_with(other, |value, new| *value = (*value).max(new)),
@@ -46,7 +31,7 @@ fn merge_with(rt: HostRuntime) {
 #[test]
 fn get_or_insert_with(rt: HostRuntime) {
     // example: map get_or_insert_with
-    let mut map = done(&rt, StringPatriciaMap::from_iter(rt.alloc(), [("foo", 1)]));
+    let mut map = map_of(&rt, rt.alloc(), &[("foo", 1)]);
     *done(&rt, map.get_or_insert_with("foo", || 5)) = 2;
     *done(&rt, map.get_or_insert_with("bar", || 5)) = 7;
     same!(rt; map.get("foo"), Some(&2));
@@ -57,10 +42,7 @@ fn get_or_insert_with(rt: HostRuntime) {
 #[test]
 fn for_each(rt: HostRuntime) {
     // example: map for_each
-    let map = done(
-        &rt,
-        StringPatriciaMap::from_iter(rt.alloc(), [("quux", 1), ("bar", 2)]),
-    );
+    let map = map_of(&rt, rt.alloc(), &[("quux", 1), ("bar", 2)]);
     let (mut longest, mut greatest) = (0, 0);
     done(
         &rt,
@@ -76,10 +58,7 @@ fn for_each(rt: HostRuntime) {
 #[test]
 fn for_each_under(rt: HostRuntime) {
     // example: map for_each_under
-    let map = done(
-        &rt,
-        StringPatriciaMap::from_iter(rt.alloc(), [("foo", 5), ("bar", 2), ("baz", 3)]),
-    );
+    let map = map_of(&rt, rt.alloc(), &[("foo", 5), ("bar", 2), ("baz", 3)]);
     let mut greatest = 0;
     done(
         &rt,

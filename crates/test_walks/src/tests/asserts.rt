@@ -1,6 +1,8 @@
 //! Assertions as calls. The prover carries what it knows of a body to each point of it: an
 //! assertion that is written out adds a dozen points, a call one.
 
+use patricia_tree::{BorrowedBytes, GenericPatriciaSet};
+use std::alloc::Global;
 use std::fmt::Debug;
 use std::process::Abort;
 
@@ -38,3 +40,17 @@ macro_rules! holds {
 
 pub(super) use holds;
 pub(super) use same;
+
+// A set of these elements. An array that is passed as an iterator is expensive to prove, too, and
+// so is what loops over keys of one kind.
+pub(super) fn set_of<Q: BorrowedBytes>(
+    rt: &impl Abort,
+    alloc: Global,
+    elements: &[Q],
+) -> GenericPatriciaSet<Q::Owned> {
+    let mut set = GenericPatriciaSet::new(alloc);
+    for element in elements {
+        done(rt, set.insert(*element));
+    }
+    set
+}

@@ -1,6 +1,6 @@
 //! The examples of the calls of sets, as the documentation has them.
 
-use crate::tests::asserts::{done, holds, same};
+use crate::tests::asserts::{done, holds, same, set_of};
 use patricia_tree::{DecodeError, PatriciaSet, StringPatriciaSet, WireError};
 use std::alloc::AllocError;
 use std::vec::Vec;
@@ -106,10 +106,7 @@ fn clone(rt: HostRuntime) {
 #[test]
 fn split_by_prefix(rt: HostRuntime) {
     // example: set split_by_prefix
-    let mut set = done(
-        &rt,
-        StringPatriciaSet::from_iter(rt.alloc(), ["rust", "ruby", "python"]),
-    );
+    let mut set = set_of(&rt, rt.alloc(), &["rust", "ruby", "python"]);
     let split = done(&rt, set.split_by_prefix("ru"));
     same!(rt; split.len(), 2);
     holds!(rt; split.contains("rust"));
@@ -120,7 +117,7 @@ fn split_by_prefix(rt: HostRuntime) {
 #[test]
 fn tree_bytes(rt: HostRuntime) {
     // example: set tree_bytes
-    let set = done(&rt, StringPatriciaSet::from_iter(rt.alloc(), ["a"]));
+    let set = set_of(&rt, rt.alloc(), &["a"]);
     same!(rt; done(&rt, set.tree_bytes()).as_slice(), [12, 0, 0, 0, 3, 1, 0, 1, 97].as_slice());
     // end
 }
@@ -141,7 +138,7 @@ fn from_wire(rt: HostRuntime) {
 #[test]
 fn wide_tree_bytes(rt: HostRuntime) {
     // example: set wide_tree_bytes
-    let set = done(&rt, StringPatriciaSet::from_iter(rt.alloc(), ["a"]));
+    let set = set_of(&rt, rt.alloc(), &["a"]);
     same!(rt;
         done(&rt, set.wide_tree_bytes()).as_slice(),
         [12, 0, 0, 0, 0, 0, 3, 1, 0, 0, 0, 1, 97].as_slice()
@@ -185,10 +182,7 @@ fn from_iter(rt: HostRuntime) {
 #[test]
 fn iter(rt: HostRuntime) {
     // example: set iter
-    let set = done(
-        &rt,
-        StringPatriciaSet::from_iter(rt.alloc(), ["foo", "bar"]),
-    );
+    let set = set_of(&rt, rt.alloc(), &["foo", "bar"]);
     let mut elements = set.iter();
     same!(rt; done(&rt, elements.next().transpose()).as_deref(), Some("bar"));
     same!(rt; done(&rt, elements.next().transpose()).as_deref(), Some("foo"));
@@ -199,10 +193,7 @@ fn iter(rt: HostRuntime) {
 #[test]
 fn iter_prefix(rt: HostRuntime) {
     // example: set iter_prefix
-    let set = done(
-        &rt,
-        StringPatriciaSet::from_iter(rt.alloc(), ["foo", "bar", "baz"]),
-    );
+    let set = set_of(&rt, rt.alloc(), &["foo", "bar", "baz"]);
     let mut elements = set.iter_prefix("ba");
     same!(rt; done(&rt, elements.next().transpose()).as_deref(), Some("bar"));
     same!(rt; done(&rt, elements.next().transpose()).as_deref(), Some("baz"));
@@ -213,10 +204,7 @@ fn iter_prefix(rt: HostRuntime) {
 #[test]
 fn cursor(rt: HostRuntime) {
     // example: set cursor
-    let set = done(
-        &rt,
-        StringPatriciaSet::from_iter(rt.alloc(), ["foo", "bar"]),
-    );
+    let set = set_of(&rt, rt.alloc(), &["foo", "bar"]);
     let mut cursor = set.cursor();
     holds!(rt; done(&rt, cursor.advance()));
     same!(rt; cursor.text(), Some("bar"));
@@ -226,10 +214,7 @@ fn cursor(rt: HostRuntime) {
 #[test]
 fn cursor_under(rt: HostRuntime) {
     // example: set cursor_under
-    let set = done(
-        &rt,
-        StringPatriciaSet::from_iter(rt.alloc(), ["foo", "bar", "baz"]),
-    );
+    let set = set_of(&rt, rt.alloc(), &["foo", "bar", "baz"]);
     let mut cursor = set.cursor_under("f");
     holds!(rt; done(&rt, cursor.advance()));
     same!(rt; cursor.text(), Some("foo"));

@@ -1,24 +1,15 @@
 //! The examples of sets compared and made of two, as the documentation has them.
 
-use crate::tests::asserts::{done, holds, same};
+use crate::tests::asserts::{done, holds, same, set_of};
 use patricia_tree::{LoadError, StringPatriciaSet};
 use std::alloc::AllocError;
 
 #[test]
 fn equals(rt: HostRuntime) {
     // example: set equals
-    let set = done(
-        &rt,
-        StringPatriciaSet::from_iter(rt.alloc(), ["foo", "bar"]),
-    );
-    let same = done(
-        &rt,
-        StringPatriciaSet::from_iter(rt.alloc(), ["bar", "foo"]),
-    );
-    let other = done(
-        &rt,
-        StringPatriciaSet::from_iter(rt.alloc(), ["bar", "baz"]),
-    );
+    let set = set_of(&rt, rt.alloc(), &["foo", "bar"]);
+    let same = set_of(&rt, rt.alloc(), &["bar", "foo"]);
+    let other = set_of(&rt, rt.alloc(), &["bar", "baz"]);
     holds!(rt; done(&rt, set.equals(&same)));
     holds!(rt; !done(&rt, set.equals(&other)));
     // end
@@ -27,14 +18,8 @@ fn equals(rt: HostRuntime) {
 #[test]
 fn is_subset(rt: HostRuntime) {
     // example: set is_subset
-    let set = done(
-        &rt,
-        StringPatriciaSet::from_iter(rt.alloc(), ["foo", "bar"]),
-    );
-    let more = done(
-        &rt,
-        StringPatriciaSet::from_iter(rt.alloc(), ["bar", "baz", "foo"]),
-    );
+    let set = set_of(&rt, rt.alloc(), &["foo", "bar"]);
+    let more = set_of(&rt, rt.alloc(), &["bar", "baz", "foo"]);
     holds!(rt; done(&rt, set.is_subset(&more)));
     holds!(rt; !done(&rt, more.is_subset(&set)));
     // end
@@ -43,11 +28,8 @@ fn is_subset(rt: HostRuntime) {
 #[test]
 fn is_disjoint(rt: HostRuntime) {
     // example: set is_disjoint
-    let set = done(
-        &rt,
-        StringPatriciaSet::from_iter(rt.alloc(), ["foo", "bar"]),
-    );
-    let others = done(&rt, StringPatriciaSet::from_iter(rt.alloc(), ["baz", "fo"]));
+    let set = set_of(&rt, rt.alloc(), &["foo", "bar"]);
+    let others = set_of(&rt, rt.alloc(), &["baz", "fo"]);
     holds!(rt; done(&rt, set.is_disjoint(&others)));
     holds!(rt; !done(&rt, set.is_disjoint(&set)));
     // end
@@ -56,14 +38,8 @@ fn is_disjoint(rt: HostRuntime) {
 #[test]
 fn union(rt: HostRuntime) {
     // example: set union
-    let set = done(
-        &rt,
-        StringPatriciaSet::from_iter(rt.alloc(), ["foo", "bar"]),
-    );
-    let other = done(
-        &rt,
-        StringPatriciaSet::from_iter(rt.alloc(), ["bar", "baz"]),
-    );
+    let set = set_of(&rt, rt.alloc(), &["foo", "bar"]);
+    let other = set_of(&rt, rt.alloc(), &["bar", "baz"]);
     let all = done(&rt, set.union(&other));
     same!(rt; all.len(), 3);
     holds!(rt; all.contains("baz"));
@@ -73,14 +49,8 @@ fn union(rt: HostRuntime) {
 #[test]
 fn intersection(rt: HostRuntime) {
     // example: set intersection
-    let set = done(
-        &rt,
-        StringPatriciaSet::from_iter(rt.alloc(), ["foo", "bar"]),
-    );
-    let other = done(
-        &rt,
-        StringPatriciaSet::from_iter(rt.alloc(), ["bar", "baz"]),
-    );
+    let set = set_of(&rt, rt.alloc(), &["foo", "bar"]);
+    let other = set_of(&rt, rt.alloc(), &["bar", "baz"]);
     let both = done(&rt, set.intersection(&other));
     same!(rt; both.len(), 1);
     holds!(rt; both.contains("bar"));
@@ -90,14 +60,8 @@ fn intersection(rt: HostRuntime) {
 #[test]
 fn difference(rt: HostRuntime) {
     // example: set difference
-    let set = done(
-        &rt,
-        StringPatriciaSet::from_iter(rt.alloc(), ["foo", "bar"]),
-    );
-    let other = done(
-        &rt,
-        StringPatriciaSet::from_iter(rt.alloc(), ["bar", "baz"]),
-    );
+    let set = set_of(&rt, rt.alloc(), &["foo", "bar"]);
+    let other = set_of(&rt, rt.alloc(), &["bar", "baz"]);
     let rest = done(&rt, set.difference(&other));
     same!(rt; rest.len(), 1);
     holds!(rt; rest.contains("foo"));
@@ -107,10 +71,7 @@ fn difference(rt: HostRuntime) {
 #[test]
 fn retain(rt: HostRuntime) {
     // example: set retain
-    let mut set = done(
-        &rt,
-        StringPatriciaSet::from_iter(rt.alloc(), ["foo", "bar", "quux"]),
-    );
+    let mut set = set_of(&rt, rt.alloc(), &["foo", "bar", "quux"]);
     done(&rt, set.retain(|element| element.len() > 3));
     same!(rt; set.len(), 1);
     holds!(rt; set.contains("quux"));
@@ -120,10 +81,7 @@ fn retain(rt: HostRuntime) {
 #[test]
 fn for_each(rt: HostRuntime) {
     // example: set for_each
-    let set = done(
-        &rt,
-        StringPatriciaSet::from_iter(rt.alloc(), ["quux", "foo"]),
-    );
+    let set = set_of(&rt, rt.alloc(), &["quux", "foo"]);
     let mut longest = 0;
     done(
         &rt,
@@ -136,10 +94,7 @@ fn for_each(rt: HostRuntime) {
 #[test]
 fn for_each_under(rt: HostRuntime) {
     // example: set for_each_under
-    let set = done(
-        &rt,
-        StringPatriciaSet::from_iter(rt.alloc(), ["quux", "bar", "baz"]),
-    );
+    let set = set_of(&rt, rt.alloc(), &["quux", "bar", "baz"]);
     let mut longest = 0;
     done(
         &rt,
