@@ -1,5 +1,5 @@
 //! Walks over a map from a key on, up to another one.
-ghost use Rattle.std.specs.Prelude.{◌≡◌, Some};
+ghost use Rattle.std.specs.Prelude.{◌≡◌, Some, None};
 ghost use Rattle.patricia_core.specs.RangeWalks.{YieldsOrEnds, items_in_range};
 ghost use Rattle.patricia_model.specs.Siblings.{keys_of};
 
@@ -10,10 +10,11 @@ use std::iter::FusedIterator;
 use std::marker::Model;
 
 /// The entries of a range, each with an owned key. An error is out of memory, and ends the
-/// iterator; it may come where no entry is left, too, since the walk goes past the last one.
+/// iterator; it may come where no entry is left, too, since the walk goes past the last one, but
+/// never over an empty map.
 #[derive(Drop)]
 pub struct Range<'a, Q: BorrowedBytes, V> {
-    // none once an error has ended it
+    // none where nothing more is given: over an empty map, and once an error has ended it
     cursor: Option<RangeReadCursor<'a, Q, V>>,
 }
 
@@ -34,6 +35,13 @@ impl<'a, Q: BorrowedBytes, V> Range<'a, Q, V> {
         Range {
             cursor: Some(cursor),
         }
+    }
+
+    /// Returns an iterator that is at its end, as one over an empty map is from the start.
+    pub fn ended() -> Self
+        ensures { result ≡ None }
+    {
+        Range { cursor: None }
     }
 }
 
@@ -62,7 +70,7 @@ impl<'a, Q: BorrowedBytes, V> Iterator for Range<'a, Q, V> {
 impl<'a, Q: BorrowedBytes, V> FusedIterator for Range<'a, Q, V> {}
 
 /// The elements of a set in a range, each owned. An error is out of memory, and ends the iterator;
-/// it may come where no element is left, too.
+/// it may come where no element is left, too, but never over an empty set.
 #[derive(Drop)]
 pub struct ElementRange<'a, Q: BorrowedBytes> {
     entries: Range<'a, Q, ()>,
@@ -85,6 +93,15 @@ impl<'a, Q: BorrowedBytes> ElementRange<'a, Q> {
     {
         ElementRange {
             entries: Range::new(cursor),
+        }
+    }
+
+    /// Returns an iterator that is at its end, as one over an empty set is from the start.
+    pub fn ended() -> Self
+        ensures { result ≡ None }
+    {
+        ElementRange {
+            entries: Range::ended(),
         }
     }
 }

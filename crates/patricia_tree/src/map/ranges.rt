@@ -1,5 +1,5 @@
 //! The entries from a key on, up to another one.
-ghost use Rattle.std.specs.Prelude.{◌≡◌, Some};
+ghost use Rattle.std.specs.Prelude.{◌≡◌, ◌≢◌, [], Some, None};
 ghost use Rattle.std.specs.FinMap as map;
 ghost use Rattle.patricia_core.specs.Cursors.{before_rows};
 ghost use Rattle.patricia_core.specs.Ranges.{before, from};
@@ -10,9 +10,23 @@ use patricia_core::range::RangeReadCursor;
 use patricia_core::ranges::Range;
 
 impl<K: Bytes, V: Drop> GenericPatriciaMap<K, V> {
+    // The entries that a cursor over this map has left. Over an empty map it is at its end.
+    fn given_by<'a, Q: BorrowedBytes<Owned = K>>(
+        &'a self,
+        cursor: RangeReadCursor<'a, Q, V>,
+    ) -> Range<'a, Q, V>
+        ensures rows { map.entries self.now ≢ [] → result ≡ Some cursor.entry.left }
+        ensures ended { map.entries self.now ≡ [] → result ≡ None }
+    {
+        if self.is_empty() {
+            return Range::ended();
+        }
+        Range::new(cursor)
+    }
+
     /// Returns the entries from a key on, in key order, each with an owned key; the key itself need
     /// not be there. Making the iterator does not allocate; an item that is an error is out of
-    /// memory, and ends it. An error may come where no entry is left, too.
+    /// memory, and ends it. An error may come where no entry is left, too, never over an empty map.
     ///
     /// The first item takes the time of a look-up, however many entries come before the key.
     ///
@@ -27,9 +41,11 @@ impl<K: Bytes, V: Drop> GenericPatriciaMap<K, V> {
     /// }
     /// ```
     pub fn range_from<Q: BorrowedBytes<Owned = K>>(&self, key: Q) -> Range<'_, Q, V>
-        ensures { result ≡ Some (from (Q.key key) (map.entries self.now)) }
+        ensures rows { map.entries self.now ≢ []
+            → result ≡ Some (from (Q.key key) (map.entries self.now)) }
+        ensures ended { map.entries self.now ≡ [] → result ≡ None }
     {
-        Range::new(self.tree.range(key, None))
+        self.given_by(self.tree.range(key, None))
     }
 
     /// Returns the entries from a key on and before another one, in key order, as `range_from`
@@ -45,9 +61,11 @@ impl<K: Bytes, V: Drop> GenericPatriciaMap<K, V> {
     /// }
     /// ```
     pub fn range<Q: BorrowedBytes<Owned = K>>(&self, start: Q, end: Q) -> Range<'_, Q, V>
-        ensures { result ≡ Some (before (Q.key end) (from (Q.key start) (map.entries self.now))) }
+        ensures rows { map.entries self.now ≢ []
+            → result ≡ Some (before (Q.key end) (from (Q.key start) (map.entries self.now))) }
+        ensures ended { map.entries self.now ≡ [] → result ≡ None }
     {
-        Range::new(self.tree.range(start, Some(end)))
+        self.given_by(self.tree.range(start, Some(end)))
     }
 
     /// Returns a cursor before the first entry from a key on, which lends each key and value in

@@ -1,5 +1,5 @@
 //! The elements from a key on, up to another one.
-ghost use Rattle.std.specs.Prelude.{◌≡◌, Some};
+ghost use Rattle.std.specs.Prelude.{◌≡◌, ◌≢◌, [], Some, None};
 ghost use Rattle.std.specs.FinMap as map;
 ghost use Rattle.patricia_tree.specs.Cursors.{before_rows};
 ghost use Rattle.patricia_tree.specs.Ranges.{before, from};
@@ -11,9 +11,23 @@ use patricia_core::keys::{BorrowedBytes, Bytes};
 use patricia_core::ranges::ElementRange;
 
 impl<T: Bytes> GenericPatriciaSet<T> {
+    // The elements that a cursor over this set has left. Over an empty set it is at its end.
+    fn given_by<'a, Q: BorrowedBytes<Owned = T>>(
+        &'a self,
+        cursor: RangeReadCursor<'a, Q, ()>,
+    ) -> ElementRange<'a, Q>
+        ensures elements { map.entries self.now ≢ [] → result ≡ Some (keys_of cursor.entry.left) }
+        ensures ended { map.entries self.now ≡ [] → result ≡ None }
+    {
+        if self.is_empty() {
+            return ElementRange::ended();
+        }
+        ElementRange::new(cursor)
+    }
+
     /// Returns the elements from a key on, in order, each owned; the key itself need not be there.
     /// Making the iterator does not allocate; an item that is an error is out of memory, and ends
-    /// it. An error may come where no element is left, too.
+    /// it. An error may come where no element is left, too, never over an empty set.
     ///
     /// The first item takes the time of a look-up, however many elements come before the key.
     ///
@@ -27,9 +41,11 @@ impl<T: Bytes> GenericPatriciaSet<T> {
     /// assert!(rt; rest.next().is_none());
     /// ```
     pub fn range_from<Q: BorrowedBytes<Owned = T>>(&self, key: Q) -> ElementRange<'_, Q>
-        ensures { result ≡ Some (keys_of (from (Q.key key) (map.entries self.now))) }
+        ensures elements { map.entries self.now ≢ []
+            → result ≡ Some (keys_of (from (Q.key key) (map.entries self.now))) }
+        ensures ended { map.entries self.now ≡ [] → result ≡ None }
     {
-        ElementRange::new(self.map.cursor_from(key))
+        self.given_by(self.map.cursor_from(key))
     }
 
     /// Returns the elements from a key on and before another one, in order, as `range_from` does.
@@ -44,10 +60,11 @@ impl<T: Bytes> GenericPatriciaSet<T> {
     /// assert!(rt; some.next().is_none());
     /// ```
     pub fn range<Q: BorrowedBytes<Owned = T>>(&self, start: Q, end: Q) -> ElementRange<'_, Q>
-        ensures { result
+        ensures elements { map.entries self.now ≢ [] → result
             ≡ Some (keys_of (before (Q.key end) (from (Q.key start) (map.entries self.now)))) }
+        ensures ended { map.entries self.now ≡ [] → result ≡ None }
     {
-        ElementRange::new(self.map.cursor_range(start, end))
+        self.given_by(self.map.cursor_range(start, end))
     }
 
     /// Returns a cursor before the first element from a key on, which lends each element in turn as
