@@ -102,6 +102,18 @@ class InC(Installed):
         self.wants('valgrind')
         self.says_ok(*CHECKED, self.compiled(name), *words)
 
+    @each('patricia_free', 'patricia_cursor_free', 'patricia_iterator_free')
+    def leak_of(self, name):
+        """One that forgets the memory keeps every contract and the program ends well: what refuses it is the run
+        under valgrind."""
+        self.wants('valgrind')
+        forgets = os.path.join(ROOT, 'tests', 'bindings', 'forgets.c')
+        program = self.compiled('calls', '-Wl,--wrap=' + name, forgets)
+        self.says_ok(program)
+        ran = run([*CHECKED, program])
+        self.assertEqual(ran.returncode, 9, ran.stderr)
+        self.assertIn(b'definitely lost', ran.stderr)
+
     def test_threads_under_helgrind(self):
         self.wants('valgrind')
         self.says_ok('valgrind', '-q', '--tool=helgrind', '--error-exitcode=9', self.compiled('threads'))
