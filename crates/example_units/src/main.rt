@@ -3,8 +3,7 @@
 #![tactic(auto)]
 
 use anyhow::Context;
-use patricia_run::units::{UnitKey, Units};
-use patricia_tree::{BorrowedBytes, Bytes, GenericPatriciaSet};
+use patricia_tree::{BorrowedBytes, Bytes, GenericPatriciaSet, UnitKey, Units};
 use std::alloc::{AllocError, Global};
 
 // The key that a line spells.

@@ -4,6 +4,7 @@ pub use Rattle.patricia_distance.specs.Edits
 pub use Rattle.patricia_keys.specs.ByteKind
 pub use Rattle.patricia_keys.specs.Keys
 pub use Rattle.patricia_keys.specs.TextKind
+pub use Rattle.patricia_keys.specs.UnitKind
 pub use Rattle.patricia_model.specs.Clones
 pub use Rattle.patricia_model.specs.Cursors
 pub use Rattle.patricia_model.specs.Laws

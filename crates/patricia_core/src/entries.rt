@@ -5,49 +5,13 @@ ghost use Rattle.patricia_model.specs.Siblings.{keys_of};
 ghost use Rattle.patricia_model.specs.Walks.{YieldsOrErr};
 
 use patricia_keys::keys::Bytes;
-use patricia_walks::into_walk::IntoWalk;
+pub use patricia_walks::into_walk::IntoWalk as IntoIter;
 use patricia_walks::value_walk::ValueWalk;
 use patricia_walks::walk::Walk;
+pub use patricia_walks::walk::Walk as Iter;
 use std::alloc::AllocError;
 use std::iter::FusedIterator;
 use std::marker::{Model, PhantomData};
-
-/// The entries of a map, each with an owned key. An error is out of memory, and ends the iterator.
-#[derive(Drop)]
-pub struct Iter<'a, K: Bytes, V> {
-    walk: Walk<'a, K, V>,
-}
-
-impl<'a, K: Bytes, V> Model for Iter<'a, K, V> {
-    ghost use Rattle.std.specs.Prelude.{List, ℕ};
-
-    ghost Value = { List (List ℕ × V) };
-
-    ghost view = { λ i. i.walk };
-}
-
-impl<'a, K: Bytes, V> Iter<'a, K, V> {
-    /// Returns the entries that a walk comes to.
-    pub fn new(walk: Walk<'a, K, V>) -> Self
-        ensures { result ≡ walk.entry }
-    {
-        Iter { walk }
-    }
-}
-
-impl<'a, K: Bytes, V> Iterator for Iter<'a, K, V> {
-    type Item = Result<(K, &'a V), AllocError>;
-
-    ghost next_gives = { YieldsOrErr (λ e. (K.key e.0, e.1.now)) };
-
-    ghost remaining = { λ rows. at_most (length rows) };
-
-    fn next(&mut self) -> Option<Result<(K, &'a V), AllocError>> {
-        self.walk.next_entry()
-    }
-}
-
-impl<'a, K: Bytes, V> FusedIterator for Iter<'a, K, V> {}
 
 /// The keys of a map. An error is out of memory, and ends the iterator.
 #[derive(Drop)]
@@ -129,41 +93,3 @@ impl<'a, K: Bytes, V> Iterator for Values<'a, K, V> {
 }
 
 impl<'a, K: Bytes, V> FusedIterator for Values<'a, K, V> {}
-
-/// The entries of a map, moved out of it. An error is out of memory: it ends the iterator, and the
-/// entries that are left are dropped.
-#[derive(Drop)]
-pub struct IntoIter<K: Bytes, V> {
-    walk: IntoWalk<K, V>,
-}
-
-impl<K: Bytes, V> Model for IntoIter<K, V> {
-    ghost use Rattle.std.specs.Prelude.{List, ℕ};
-
-    ghost Value = { List (List ℕ × V) };
-
-    ghost view = { λ i. i.walk };
-}
-
-impl<K: Bytes, V> IntoIter<K, V> {
-    /// Returns the entries that a walk hands out.
-    pub fn new(walk: IntoWalk<K, V>) -> Self
-        ensures { result ≡ walk }
-    {
-        IntoIter { walk }
-    }
-}
-
-impl<K: Bytes, V: Drop> Iterator for IntoIter<K, V> {
-    type Item = Result<(K, V), AllocError>;
-
-    ghost next_gives = { YieldsOrErr (λ e. (K.key e.0, e.1)) };
-
-    ghost remaining = { λ rows. at_most (length rows) };
-
-    fn next(&mut self) -> Option<Result<(K, V), AllocError>> {
-        self.walk.next_entry()
-    }
-}
-
-impl<K: Bytes, V: Drop> FusedIterator for IntoIter<K, V> {}

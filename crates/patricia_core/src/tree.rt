@@ -322,7 +322,7 @@ impl<K: Bytes, V: Drop> Tree<K, V> {
     {
         let mut rest = self.along(key);
         let mut last = None;
-        while let Some(entry) = rest.next_entry() {
+        while let Some(entry) = rest.next() {
             last = Some(entry);
         }
         last

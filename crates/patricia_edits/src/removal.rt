@@ -34,11 +34,11 @@ fn remove_leaf<V: Drop, Q: BorrowedBytes>(
     ensures joins { OnErr result (JoinsAt Q.Owned.item Q.key arena.old place.now) }
 {
     let Some(alone) = arena.would_merge::<Q::Owned>(place.link_ref, id) else {
-        return Ok(arena.unlink(alloc, place.link_ref, id));
+        return Ok(arena.unlink(place.link_ref, id));
     };
     let label = arena.concat_labels(alloc, alone.0, alone.1)?;
-    let taken = arena.unlink(alloc, place.link_ref, id);
-    let _none = arena.merge_only_child(alloc, alone.0, alone.1, label);
+    let taken = arena.unlink(place.link_ref, id);
+    let _none = arena.merge_only_child(alone.0, alone.1, label);
     Ok(taken)
 }
 
@@ -68,7 +68,7 @@ fn remove_at<V: Drop, Q: BorrowedBytes>(
         return Ok(arena.nodes.replace_value(id, None));
     }
     let label = arena.concat_labels(alloc, id, child)?;
-    Ok(arena.merge_only_child(alloc, id, child, label))
+    Ok(arena.merge_only_child(id, child, label))
 }
 
 /// Takes the value out at a nonempty key, or returns `None`.

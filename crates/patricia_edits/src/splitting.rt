@@ -107,7 +107,6 @@ fn top_label<V: Drop>(
 // Moves a node and those below it into a vector with room for them, and unlinks it.
 fn move_out<V: Drop>(
     arena: &mut NodeArena<V>,
-    alloc: Global,
     link_ref: LinkRef,
     id: NodeId,
     label: Label,
@@ -126,8 +125,8 @@ fn move_out<V: Drop>(
         label,
         value,
     });
-    arena.relocate_descendants(alloc, &mut nodes);
-    let _none = arena.unlink(alloc, link_ref, id);
+    arena.relocate_descendants(&mut nodes);
+    let _none = arena.unlink(link_ref, id);
     NodeArena {
         nodes,
         root: Link::some(NodeId::new(0)),
@@ -156,12 +155,12 @@ fn split_at<V: Drop, Q: BorrowedBytes>(
     let passed = place.rest.as_bytes().len();
     let label = top_label(arena, alloc, id, prefix.as_bytes(), passed)?;
     let Some(alone) = arena.would_merge::<Q::Owned>(place.link_ref, id) else {
-        let arena = move_out(arena, alloc, place.link_ref, id, label, room);
+        let arena = move_out(arena, place.link_ref, id, label, room);
         return Ok(Taken { arena, count });
     };
     let together = arena.concat_labels(alloc, alone.0, alone.1)?;
-    let taken = move_out(arena, alloc, place.link_ref, id, label, room);
-    let _none = arena.merge_only_child(alloc, alone.0, alone.1, together);
+    let taken = move_out(arena, place.link_ref, id, label, room);
+    let _none = arena.merge_only_child(alone.0, alone.1, together);
     Ok(Taken {
         arena: taken,
         count,

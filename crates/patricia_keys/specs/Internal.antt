@@ -1,3 +1,4 @@
--- Proofs that the two kinds are key kinds, which code can name only here: not to be read.
+-- Proofs that the kinds are key kinds, which code can name only here: not to be read.
 pub mod ByteLaw
 pub mod TextLaw
+pub mod UnitLaw

@@ -1,7 +1,8 @@
 //! Key kinds: what an owned and a borrowed key can do.
 //!
-//! A key is a list of items: single bytes in byte strings, characters in texts. Labels and
-//! prefixes are cut between items only. Each length is a number of bytes.
+//! A key is a list of items: single bytes in byte strings, characters in texts, two bytes in keys
+//! of 16-bit units. Labels and prefixes are cut between items only. Each length is a number of
+//! bytes.
 ghost use Rattle.std.specs.Prelude.{◌≡◌, ℕ, ◌≤◌, List, [], length, take, drop, IsTrue, ◌↔◌, IfOk};
 ghost use Rattle.patricia_keys.specs.Keys.{IsKeyKind, IsValid, IsCommon, DropsCommon, IsFloor};
 ghost use Rattle.patricia_keys.specs.Keys.{ComparesFirst};
@@ -9,11 +10,14 @@ ghost use Rattle.patricia_keys.specs.Keys.{ComparesFirst};
 mod any;
 mod byte;
 mod text;
+mod units;
 
-pub use any::KeyBytes;
+pub use any::{KeyBytes, first_item_len};
+pub use byte::shared_len;
 use std::alloc::{AllocError, Global};
 use std::cmp::Ordering;
 pub use text::text_of;
+pub use units::{UnitKey, Units};
 
 /// An owned key.
 ///

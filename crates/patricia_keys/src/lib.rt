@@ -1,4 +1,4 @@
-//! Key kinds: byte strings and texts, as lists of whole items.
+//! Key kinds: byte strings, texts and 16-bit units, as lists of whole items.
 //!
 //! `patricia_tree` is the library to use. It depends on this crate.
 #![tactic(auto)]

@@ -86,13 +86,13 @@ impl<V: Drop> NodeArena<V> {
 
     /// Takes a node out. Its place in the vector holds the number of the next free one, so that
     /// nothing is asked for. That the nodes are whole then is for the caller to prove.
-    pub fn release(&mut self, alloc: Global, id: NodeId) -> Node<V>
+    pub fn release(&mut self, id: NodeId) -> Node<V>
         requires { id < vec_len self.old.nodes }
         ensures frees { Frees self.old self.new id result }
         ensures capacity { vec_capacity self.new.nodes ≡ vec_capacity self.old.nodes }
     {
         let hollow = Node {
-            label: Label::empty(alloc),
+            label: Label::empty(),
             value: None,
             child: Link::none(),
             sibling: self.free,

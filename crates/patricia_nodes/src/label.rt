@@ -51,7 +51,7 @@ fn inline(upper: &[u8], lower: &[u8]) -> Label
 
 impl Label {
     /// The label with no byte. Does not allocate.
-    pub fn empty(_alloc: Global) -> Label
+    pub fn empty() -> Label
         ensures { result ≡ [] }
     {
         Label {

@@ -2,8 +2,6 @@ pub mod Cuts
 pub mod KeyTextLemmas
 pub mod MachineLemmas
 pub mod Numbers
-pub mod RouteLemmas
 pub mod RowLemmas
 pub mod TextLemmas
 pub mod Turns
-pub mod UnitLemmas

@@ -1,5 +1,4 @@
 -- Words of contracts that no user of the library meets: a reader need not believe them.
 pub mod Codes
 pub mod Turns
-pub mod UnitLaw
 pub mod Words

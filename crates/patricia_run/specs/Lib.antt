@@ -3,5 +3,4 @@ pub mod Internal
 pub mod Machine
 pub mod KeyFormats
 pub mod Text
-pub mod UnitKind
 pub mod Writing

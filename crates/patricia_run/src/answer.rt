@@ -4,10 +4,9 @@ ghost use Rattle.std.specs.Prelude.{◌≡◌, ℕ, List, [], ◌∷◌, ◌++�
 ghost use Rattle.std.specs.Global.{Global};
 ghost use Rattle.patricia_tree.specs.ByteKind.{IsByteItem};
 ghost use Rattle.patricia_tree.specs.TextKind.{IsTextItem};
+ghost use Rattle.patricia_tree.specs.UnitKind.{IsUnitItem};
 ghost use Rattle.patricia_run.specs.KeyFormats.{KeyFormat, as_bytes, as_text, as_units};
 ghost use Rattle.patricia_run.specs.Text.{parse_line};
-ghost use Rattle.patricia_run.specs.UnitKind.{IsUnitItem};
-ghost use Rattle.patricia_run.specs.declared.units.UnitKey.{UnitKey};
 ghost use Rattle.patricia_run.specs.Answers.{Answers};
 ghost use Rattle.patricia_run.specs.Internal.Turns.{AnswersFrom};
 
@@ -15,9 +14,8 @@ use crate::Bench;
 use crate::cutting::Lines;
 use crate::key_format::KeyText;
 use crate::reading::read_line;
-use crate::units::{UnitKey, Units};
 use crate::writing::{write_fault, write_reply};
-use patricia_tree::Bytes;
+use patricia_tree::{Bytes, UnitKey, Units};
 use std::alloc::{AllocError, Global};
 
 // Does what a line says, and writes its fault or its reply.
@@ -129,7 +127,7 @@ pub fn answer_text(alloc: Global, input: &[u8]) -> Result<Vec<u8>, AllocError>
 /// The answer to an input, over keys of 16-bit units.
 pub fn answer_units(alloc: Global, input: &[u8]) -> Result<Vec<u8>, AllocError>
     ensures { IfOk result (λ output.
-        Answers IsUnitItem as_units (λ (k : UnitKey). k.bytes.items) input.now output.items) }
+        Answers IsUnitItem as_units ⟦<UnitKey as Bytes>⟧.key input.now output.items) }
 {
     answer::<UnitKey>(alloc, input)
 }

@@ -5,8 +5,7 @@ ghost use Rattle.std.specs.Option.{option_map};
 ghost use Rattle.hex.specs.Hex.{encode_lower};
 ghost use Rattle.patricia_run.specs.KeyFormats.{KeyFormat, as_bytes, as_text, as_units};
 
-use crate::units::Units;
-use patricia_tree::BorrowedBytes;
+use patricia_tree::{BorrowedBytes, Units};
 use std::alloc::AllocError;
 use std::str;
 

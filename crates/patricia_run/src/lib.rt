@@ -9,9 +9,9 @@ mod cutting;
 mod key_format;
 mod program;
 mod reading;
-pub mod router;
 pub mod run;
 pub mod units;
 mod writing;
 
+pub use patricia_tree::router;
 pub use run::{Bench, Command, Reply, answer_bytes, answer_text, answer_units, serve};

@@ -27,27 +27,8 @@ pub enum Fault {
 /// What a line says.
 pub type Reading<Q> = Result<Command<Q, u64>, Fault>;
 
-// The word that a line begins with.
-#[derive(Clone, Copy)]
-enum Word {
-    Insert,
-    Get,
-    Remove,
-    Len,
-    List,
-    Under,
-    Along,
-    Longest,
-    Reach,
-    Split,
-    Swap,
-    Copy,
-    Clear,
-    Wire,
-    Reload,
-    Wide,
-    ReloadWide,
-}
+// The word that a line begins with: a command without its key and its number.
+type Word = Command<(), ()>;
 
 // The number that a field writes.
 fn number(field: &[u8]) -> Option<u64>
@@ -71,13 +52,13 @@ fn wire_word(field: &[u8]) -> Option<Word>
     ensures { option_map shape_after result ≡ shape_in wire_words field.now }
 {
     if field == b"wire".as_slice() {
-        Some(Word::Wire)
+        Some(Command::Wire)
     } else if field == b"reload".as_slice() {
-        Some(Word::Reload)
+        Some(Command::Reload)
     } else if field == b"wide".as_slice() {
-        Some(Word::Wide)
+        Some(Command::Wide)
     } else if field == b"reloadwide".as_slice() {
-        Some(Word::ReloadWide)
+        Some(Command::ReloadWide)
     } else {
         None
     }
@@ -88,31 +69,31 @@ fn first_word(field: &[u8]) -> Option<Word>
     ensures { option_map shape_after result ≡ shape_of field.now }
 {
     if field == b"insert".as_slice() {
-        Some(Word::Insert)
+        Some(Command::Insert((), ()))
     } else if field == b"get".as_slice() {
-        Some(Word::Get)
+        Some(Command::Get(()))
     } else if field == b"remove".as_slice() {
-        Some(Word::Remove)
+        Some(Command::Remove(()))
     } else if field == b"len".as_slice() {
-        Some(Word::Len)
+        Some(Command::Len)
     } else if field == b"list".as_slice() {
-        Some(Word::List)
+        Some(Command::List)
     } else if field == b"under".as_slice() {
-        Some(Word::Under)
+        Some(Command::Under(()))
     } else if field == b"along".as_slice() {
-        Some(Word::Along)
+        Some(Command::Along(()))
     } else if field == b"longest".as_slice() {
-        Some(Word::Longest)
+        Some(Command::Longest(()))
     } else if field == b"reach".as_slice() {
-        Some(Word::Reach)
+        Some(Command::Reach(()))
     } else if field == b"split".as_slice() {
-        Some(Word::Split)
+        Some(Command::Split(()))
     } else if field == b"swap".as_slice() {
-        Some(Word::Swap)
+        Some(Command::Swap)
     } else if field == b"copy".as_slice() {
-        Some(Word::Copy)
+        Some(Command::Copy)
     } else if field == b"clear".as_slice() {
-        Some(Word::Clear)
+        Some(Command::Clear)
     } else {
         wire_word(field)
     }
@@ -176,23 +157,23 @@ fn command<'a, Q: KeyText<'a>>(
         ≡ parse_command Q.key_format (shape_after word) (map (λ f. f.now) fields.now)) }
 {
     Ok(match word {
-        Word::Insert => insert(fields, buffer)?,
-        Word::Get => only_key(fields, buffer)?.map(Command::Get),
-        Word::Remove => only_key(fields, buffer)?.map(Command::Remove),
-        Word::Len => alone(Command::Len, fields),
-        Word::List => alone(Command::List, fields),
-        Word::Under => only_key(fields, buffer)?.map(Command::Under),
-        Word::Along => only_key(fields, buffer)?.map(Command::Along),
-        Word::Longest => only_key(fields, buffer)?.map(Command::Longest),
-        Word::Reach => only_key(fields, buffer)?.map(Command::Reach),
-        Word::Split => only_key(fields, buffer)?.map(Command::Split),
-        Word::Swap => alone(Command::Swap, fields),
-        Word::Copy => alone(Command::Copy, fields),
-        Word::Clear => alone(Command::Clear, fields),
-        Word::Wire => alone(Command::Wire, fields),
-        Word::Reload => alone(Command::Reload, fields),
-        Word::Wide => alone(Command::Wide, fields),
-        Word::ReloadWide => alone(Command::ReloadWide, fields),
+        Command::Insert(..) => insert(fields, buffer)?,
+        Command::Get(()) => only_key(fields, buffer)?.map(Command::Get),
+        Command::Remove(()) => only_key(fields, buffer)?.map(Command::Remove),
+        Command::Len => alone(Command::Len, fields),
+        Command::List => alone(Command::List, fields),
+        Command::Under(()) => only_key(fields, buffer)?.map(Command::Under),
+        Command::Along(()) => only_key(fields, buffer)?.map(Command::Along),
+        Command::Longest(()) => only_key(fields, buffer)?.map(Command::Longest),
+        Command::Reach(()) => only_key(fields, buffer)?.map(Command::Reach),
+        Command::Split(()) => only_key(fields, buffer)?.map(Command::Split),
+        Command::Swap => alone(Command::Swap, fields),
+        Command::Copy => alone(Command::Copy, fields),
+        Command::Clear => alone(Command::Clear, fields),
+        Command::Wire => alone(Command::Wire, fields),
+        Command::Reload => alone(Command::Reload, fields),
+        Command::Wide => alone(Command::Wide, fields),
+        Command::ReloadWide => alone(Command::ReloadWide, fields),
     })
 }
 

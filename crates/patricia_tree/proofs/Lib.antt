@@ -9,8 +9,13 @@ mod PopLemmas
 mod SetLemmas
 mod WholeLemmas
 mod RetainLemmas
+mod RouteLemmas
 mod ChoiceLemmas
 mod CollectLemmas
 mod FoldLemmas
 mod MergeLemmas
 mod VisitLemmas
+pub use Rattle.patricia_model.proofs.FilterLemmas
+pub use Rattle.patricia_model.proofs.ListLemmas
+pub use Rattle.patricia_model.proofs.PrefixLemmas
+pub use Rattle.patricia_model.proofs.TestLemmas

@@ -24,6 +24,7 @@ pub use Rattle.patricia_core.specs.Ranges
 pub use Rattle.patricia_core.specs.Searches
 pub use Rattle.patricia_core.specs.Siblings
 pub use Rattle.patricia_core.specs.TextKind
+pub use Rattle.patricia_core.specs.UnitKind
 pub use Rattle.patricia_core.specs.Walks
 pub use Rattle.patricia_core.specs.Counts
 pub use Rattle.patricia_core.specs.Faults

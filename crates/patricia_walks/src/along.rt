@@ -1,5 +1,6 @@
 //! The values along a key: those of its stored prefixes, the shortest first.
-ghost use Rattle.std.specs.Prelude.{◌≡◌, ◌++◌, Some, None, take};
+ghost use Rattle.std.specs.Prelude.{◌≡◌, ◌++◌, Some, None, take, length};
+ghost use Rattle.std.specs.Iterator.{at_most};
 ghost use Rattle.std.specs.Map.Iter.{TakesFirst};
 ghost use Rattle.std.specs.Option.{option_copied};
 ghost use Rattle.patricia_model.specs.Prefixes.{along};
@@ -12,6 +13,7 @@ use patricia_keys::{BorrowedBytes, Bytes};
 use patricia_nodes::arena::NodeArena;
 use patricia_nodes::link::{Link, NodeId};
 use std::cmp::Ordering;
+use std::iter::FusedIterator;
 use std::marker::Model;
 
 // How far a walk along a key has come.
@@ -130,14 +132,6 @@ impl<'a, Q: BorrowedBytes, V> Along<'a, Q, V> {
         }
     }
 
-    /// The next entry.
-    pub fn next_entry(&mut self) -> Option<(Q, &'a V)>
-        ensures { TakesFirst (λ e. (Q.key e.0, e.1.now)) self.old result self.new }
-    {
-        let value = self.place.seek::<Q::Owned>(self.key.as_bytes())?;
-        Some((self.key.keep_n_prefix(self.place.len), value))
-    }
-
     /// The value of the next entry.
     pub fn next_value(&mut self) -> Option<&'a V>
         ensures { TakesFirst (λ v. v.now) (values_of self.old) result (values_of self.new) }
@@ -145,6 +139,21 @@ impl<'a, Q: BorrowedBytes, V> Along<'a, Q, V> {
         self.place.seek::<Q::Owned>(self.key.as_bytes())
     }
 }
+
+impl<'a, Q: BorrowedBytes, V> Iterator for Along<'a, Q, V> {
+    type Item = (Q, &'a V);
+
+    ghost next_gives = { TakesFirst (λ e. (Q.key e.0, e.1.now)) };
+
+    ghost remaining = { λ entries. at_most (length entries) };
+
+    fn next(&mut self) -> Option<(Q, &'a V)> {
+        let value = self.place.seek::<Q::Owned>(self.key.as_bytes())?;
+        Some((self.key.keep_n_prefix(self.place.len), value))
+    }
+}
+
+impl<'a, Q: BorrowedBytes, V> FusedIterator for Along<'a, Q, V> {}
 
 /// The values of the same entries, along an owned key.
 #[derive(Drop)]
@@ -177,11 +186,18 @@ impl<'a, K: Bytes, V> AlongOwned<'a, K, V> {
         let place = Descent::new::<K>(pending, arena, key.as_bytes());
         AlongOwned { key, place }
     }
+}
 
-    /// The next value.
-    pub fn next_value(&mut self) -> Option<&'a V>
-        ensures { TakesFirst (λ v. v.now) self.old result self.new }
-    {
+impl<'a, K: Bytes, V> Iterator for AlongOwned<'a, K, V> {
+    type Item = &'a V;
+
+    ghost next_gives = { TakesFirst (λ v. v.now) };
+
+    ghost remaining = { λ values. at_most (length values) };
+
+    fn next(&mut self) -> Option<&'a V> {
         self.place.seek::<K>(self.key.as_bytes())
     }
 }
+
+impl<'a, K: Bytes, V> FusedIterator for AlongOwned<'a, K, V> {}

@@ -2,7 +2,8 @@
 //!
 //! The nodes stay in the vector. They are dropped with the walk, or at an error.
 ghost use Rattle.std.specs.Prelude.{◌≡◌, ◌≢◌, ◌++◌, [], Some, None, false, IfOk, OnOk, OnErr};
-ghost use Rattle.std.specs.Prelude.{IsTrue};
+ghost use Rattle.std.specs.Prelude.{IsTrue, length};
+ghost use Rattle.std.specs.Iterator.{at_most};
 ghost use Rattle.patricia_model.specs.Siblings.{own, IsCanonical};
 ghost use Rattle.patricia_model.specs.Internal.WalkStates.{entries_left, TakesEntry};
 ghost use Rattle.patricia_model.specs.Walks.{YieldsOrErr};
@@ -14,6 +15,7 @@ use patricia_keys::Bytes;
 use patricia_nodes::arena::NodeArena;
 use patricia_nodes::link::{Link, NodeId};
 use std::alloc::{AllocError, Global};
+use std::iter::FusedIterator;
 use std::marker::{Model, PhantomData};
 
 // How far a walk has come, and what it still owns.
@@ -100,7 +102,8 @@ impl<V: Drop> OwnedTraversal<V> {
     }
 }
 
-/// What a walk that takes the entries out has left, in key order.
+/// The entries of a map in key order, moved out of it. An error is out of memory: it ends the
+/// iterator, and the entries that are left are dropped.
 #[derive(Drop)]
 pub struct IntoWalk<K: Bytes, V> {
     alloc: Global,
@@ -141,11 +144,16 @@ impl<K: Bytes, V: Drop> IntoWalk<K, V> {
             kind: PhantomData,
         }
     }
+}
 
-    /// The next entry. After an error nothing is left: the other entries are dropped.
-    pub fn next_entry(&mut self) -> Option<Result<(K, V), AllocError>>
-        ensures { YieldsOrErr (λ e. (K.key e.0, e.1)) self.old result self.new }
-    {
+impl<K: Bytes, V: Drop> Iterator for IntoWalk<K, V> {
+    type Item = Result<(K, V), AllocError>;
+
+    ghost next_gives = { YieldsOrErr (λ e. (K.key e.0, e.1)) };
+
+    ghost remaining = { λ entries. at_most (length entries) };
+
+    fn next(&mut self) -> Option<Result<(K, V), AllocError>> {
         match self.place.seek::<K>() {
             Ok(Some(value)) => match K::from_bytes(self.alloc, &self.place.path) {
                 Ok(key) => Some(Ok((key, value))),
@@ -162,3 +170,5 @@ impl<K: Bytes, V: Drop> IntoWalk<K, V> {
         }
     }
 }
+
+impl<K: Bytes, V: Drop> FusedIterator for IntoWalk<K, V> {}

@@ -1,6 +1,7 @@
 //! The rows under a prefix.
 ghost use Rattle.std.specs.Prelude.{◌≡◌, ◌≢◌, ◌++◌, ◌+◌, ◌≤◌, [], Some, IfOk, IfSome, IfNone};
 ghost use Rattle.std.specs.Prelude.{length, take};
+ghost use Rattle.std.specs.Iterator.{at_most};
 ghost use Rattle.std.specs.Option.{option_copied};
 ghost use Rattle.patricia_model.specs.Prefixes.{under};
 ghost use Rattle.patricia_model.specs.Siblings.{own, entries, IsCanonical};
@@ -20,6 +21,7 @@ use patricia_nodes::arena::NodeArena;
 use patricia_nodes::link::NodeId;
 pub use reading::PrefixReadCursor;
 use std::alloc::{AllocError, Global};
+use std::iter::FusedIterator;
 use std::marker::Model;
 
 // Where a walk begins: at a node, whose label comes behind the first bytes of the prefix.
@@ -99,8 +101,8 @@ impl<'a, Q: BorrowedBytes, V> Under<'a, Q, V> {
         }
     }
 
-    /// The next entry.
-    pub fn next_entry(&mut self) -> Option<Result<(Q::Owned, &'a V), AllocError>>
+    // The next entry.
+    fn next_entry(&mut self) -> Option<Result<(Q::Owned, &'a V), AllocError>>
         ensures { YieldsOrErr (λ e. (Q.Owned.key e.0, e.1.now)) self.old result self.new }
     {
         if let Some(start) = self.start.take() {
@@ -110,6 +112,20 @@ impl<'a, Q: BorrowedBytes, V> Under<'a, Q, V> {
                 Err(error) => return Some(Err(error)),
             }
         }
-        self.walk.next_entry()
+        self.walk.next()
     }
 }
+
+impl<'a, Q: BorrowedBytes, V> Iterator for Under<'a, Q, V> {
+    type Item = Result<(Q::Owned, &'a V), AllocError>;
+
+    ghost next_gives = { YieldsOrErr (λ e. (Q.Owned.key e.0, e.1.now)) };
+
+    ghost remaining = { λ entries. at_most (length entries) };
+
+    fn next(&mut self) -> Option<Result<(Q::Owned, &'a V), AllocError>> {
+        self.next_entry()
+    }
+}
+
+impl<'a, Q: BorrowedBytes, V> FusedIterator for Under<'a, Q, V> {}

@@ -1,6 +1,7 @@
 //! Walks over nodes in one vector, in key order.
 ghost use Rattle.std.specs.Prelude.{◌≡◌, ◌≢◌, ◌≤◌, ◌++◌, [], length, take, Some, None, false};
 ghost use Rattle.std.specs.Prelude.{IsTrue, IfOk, OnOk, OnErr};
+ghost use Rattle.std.specs.Iterator.{at_most};
 ghost use Rattle.std.specs.Option.{option_copied};
 ghost use Rattle.patricia_keys.specs.Keys.{IsValid};
 ghost use Rattle.patricia_model.specs.Siblings.{own, keys_of, IsCanonical};
@@ -19,6 +20,7 @@ use patricia_nodes::arena::NodeArena;
 use patricia_nodes::link::{Link, NodeId};
 pub use reading::ReadCursor;
 use std::alloc::{AllocError, Global};
+use std::iter::FusedIterator;
 use std::marker::{Model, PhantomData};
 
 // How far a walk has come.
@@ -124,7 +126,8 @@ impl<'a, V> Traversal<'a, V> {
     }
 }
 
-/// What a walk by reference has left, in key order.
+/// The entries of a map in key order, each with an owned key. An error is out of memory, and ends
+/// the iterator.
 #[derive(Drop)]
 pub struct Walk<'a, K: Bytes, V> {
     alloc: Global,
@@ -211,10 +214,25 @@ impl<'a, K: Bytes, V> Walk<'a, K, V> {
         })
     }
 
-    /// The next entry.
-    pub fn next_entry(&mut self) -> Option<Result<(K, &'a V), AllocError>>
-        ensures { YieldsOrErr (λ e. (K.key e.0, e.1.now)) self.old result self.new }
+    /// The key of the next entry.
+    pub fn next_key(&mut self) -> Option<Result<K, AllocError>>
+        ensures { YieldsOrErr K.key (keys_of self.old) result (keys_of self.new) }
     {
+        match self.next()? {
+            Ok((key, _)) => Some(Ok(key)),
+            Err(error) => Some(Err(error)),
+        }
+    }
+}
+
+impl<'a, K: Bytes, V> Iterator for Walk<'a, K, V> {
+    type Item = Result<(K, &'a V), AllocError>;
+
+    ghost next_gives = { YieldsOrErr (λ e. (K.key e.0, e.1.now)) };
+
+    ghost remaining = { λ entries. at_most (length entries) };
+
+    fn next(&mut self) -> Option<Result<(K, &'a V), AllocError>> {
         match self.place.seek::<K>() {
             Ok(Some(value)) => match K::from_bytes(self.alloc, &self.place.path) {
                 Ok(key) => Some(Ok((key, value))),
@@ -230,14 +248,6 @@ impl<'a, K: Bytes, V> Walk<'a, K, V> {
             }
         }
     }
-
-    /// The key of the next entry.
-    pub fn next_key(&mut self) -> Option<Result<K, AllocError>>
-        ensures { YieldsOrErr K.key (keys_of self.old) result (keys_of self.new) }
-    {
-        match self.next_entry()? {
-            Ok((key, _)) => Some(Ok(key)),
-            Err(error) => Some(Err(error)),
-        }
-    }
 }
+
+impl<'a, K: Bytes, V> FusedIterator for Walk<'a, K, V> {}

@@ -8,7 +8,7 @@ use Rattle.std.proofs.lemmas.List.{nil_from_length, take_all}
 use Rattle.patricia_tree.specs.Keys.{Begins, IsCommon, IsValid, key_cmp}
 use Rattle.patricia_tree.specs.Points.{Has}
 use Rattle.patricia_tree.specs.Prefixes.{IsReach, begins, under}
-use Rattle.prefixes_core.proofs.LongestLemmas.{begins_from, begins_is}
+use Rattle.patricia_tree.proofs.PrefixLemmas.{begins_from, begins_is}
 
 module _ {V : Type 0} where
   -- the keys of rows

@@ -16,9 +16,10 @@ use Rattle.std.proofs.lemmas.List.{append-nil, append_assoc}
 use Rattle.patricia_tree.specs.Keys.{Begins, key_cmp}
 use Rattle.patricia_tree.specs.Prefixes.{begins, under, outside}
 use Rattle.prefixes_core.specs.Subtrees.{is_within, subtree, elsewhere}
-use Rattle.prefixes_core.proofs.LongestLemmas.{first_part, second_part, less_so, begins_is}
-use Rattle.prefixes_core.proofs.LongestLemmas.{begins_from}
-use Rattle.prefixes_core.proofs.LongestLemmas.{key_cmp-equal, tied_is, tied_from, not_above}
+use Rattle.patricia_tree.proofs.ListLemmas.{key_cmp-equal}
+use Rattle.patricia_tree.proofs.PrefixLemmas.{begins_from, begins_is, not_above}
+use Rattle.patricia_tree.proofs.TestLemmas.{first_part, less_so, second_part}
+use Rattle.prefixes_core.proofs.LongestLemmas.{tied_is, tied_from}
 
 -- the name and a dot
 abbrev pub dotted : List ℕ → List ℕ

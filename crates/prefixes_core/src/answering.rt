@@ -7,7 +7,7 @@ use crate::dotted::{drop_subtree, subtree};
 use crate::listing::{Listing, Names};
 use crate::value::Payload;
 use itoa::Buffer;
-use patricia_run::router::Router;
+use patricia_tree::router::Router;
 use std::alloc::{AllocError, Global};
 use std::str;
 use thiserror::Error;

@@ -7,7 +7,7 @@ use crate::options;
 use crate::packing::{PackError, pack};
 use crate::value::Payload;
 use clap::ArgMatches;
-use patricia_run::router::Router;
+use patricia_tree::router::Router;
 use std::alloc::{AllocError, Global};
 use std::fs;
 use std::io::{self, BufRead, BufReader, Read, Write};

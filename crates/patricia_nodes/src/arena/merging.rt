@@ -14,27 +14,21 @@ use std::alloc::{AllocError, Global};
 
 impl<V: Drop> NodeArena<V> {
     /// Takes a node without children out of its place, and returns its value.
-    pub fn unlink(&mut self, alloc: Global, link_ref: LinkRef, id: NodeId) -> Option<V>
+    pub fn unlink(&mut self, link_ref: LinkRef, id: NodeId) -> Option<V>
         requires { HasLeafAt self.old link_ref id }
         ensures { Unlinks self.old self.new link_ref id result }
     {
-        let node = self.release(alloc, id);
+        let node = self.release(id);
         self.relink(link_ref, node.sibling);
         node.value
     }
 
     /// Merges a node with its only child under the joined label, and returns its own value.
-    pub fn merge_only_child(
-        &mut self,
-        alloc: Global,
-        upper: NodeId,
-        lower: NodeId,
-        label: Label,
-    ) -> Option<V>
+    pub fn merge_only_child(&mut self, upper: NodeId, lower: NodeId, label: Label) -> Option<V>
         requires { HasLone self.old upper lower }
         ensures { Absorbs self.old self.new upper lower label result }
     {
-        let Node { value, child, .. } = self.release(alloc, lower);
+        let Node { value, child, .. } = self.release(lower);
         self.nodes.replace_contents(upper, label, child, value)
     }
 

@@ -12,7 +12,6 @@ ghost use Rattle.patricia_nodes.specs.Internal.Relocation.{WaitsFrom, MovesFrom}
 use crate::arena::node_vec::NodeVec;
 use crate::arena::{Node, NodeArena};
 use crate::link::{Link, NodeId};
-use std::alloc::Global;
 
 /// How many rows deep nodes are laid depth first. What lies deeper is laid row by row, so that the
 /// call stack has a bound.
@@ -21,7 +20,7 @@ pub const DEPTH_FIRST: u32 = 64;
 impl<V: Drop> NodeArena<V> {
     // Moves a row behind the last of some new nodes, each with the old number of its first child,
     // and returns the new number of its first node. What they leave is free.
-    fn relocate_siblings(&mut self, alloc: Global, first: Link, to: &mut NodeVec<V>) -> Link
+    fn relocate_siblings(&mut self, first: Link, to: &mut NodeVec<V>) -> Link
         requires row { (w : Plan V) × IsTopRow self.old.nodes.items first w
             × (vec_len to.old + length (tops w) ≤ vec_capacity to.old) }
         ensures taken { (w : Plan V) → IsTopRow self.old.nodes.items first w
@@ -35,7 +34,7 @@ impl<V: Drop> NodeArena<V> {
         let start = to.len();
         let mut at = first;
         while let Some(id) = at.get() {
-            let node = self.release(alloc, id);
+            let node = self.release(id);
             at = node.sibling;
             let sibling = match at.get() {
                 None => Link::none(),
@@ -52,7 +51,7 @@ impl<V: Drop> NodeArena<V> {
     // Moves what is below the nodes of a new vector from one on behind them, what is below each of
     // them before what is below the next. They have the numbers that their children have here.
     // What lies deeper than `depth` rows below them is moved row by row.
-    fn relocate_below(&mut self, alloc: Global, to: &mut NodeVec<V>, start: usize, depth: u32)
+    fn relocate_below(&mut self, to: &mut NodeVec<V>, start: usize, depth: u32)
         requires { WaitsFrom self.old start to.old.items (vec_capacity to.old) }
         ensures moved { MovesFrom self.old self.new start to.old.items to.new.items }
         ensures longer { vec_len to.old ≤ vec_len to.new }
@@ -63,13 +62,13 @@ impl<V: Drop> NodeArena<V> {
         while i < end {
             let below = to.len();
             let child = to[i].child;
-            let first = self.relocate_siblings(alloc, child, to);
+            let first = self.relocate_siblings(child, to);
             to.set_child(NodeId::new(i), first);
             i += 1;
             if depth == 0 {
                 end = to.len();
             } else {
-                self.relocate_below(alloc, to, below, depth - 1);
+                self.relocate_below(to, below, depth - 1);
             }
         }
     }
@@ -77,7 +76,7 @@ impl<V: Drop> NodeArena<V> {
     /// Moves what is below the nodes of a new vector behind them, each row with its siblings side
     /// by side, depth first. They have the numbers that their children have here. What is moved is
     /// free here.
-    pub fn relocate_descendants(&mut self, alloc: Global, to: &mut NodeVec<V>)
+    pub fn relocate_descendants(&mut self, to: &mut NodeVec<V>)
         requires { (w : Plan V) × IsLaid self.old.nodes.items to.old.items w
             × (size w ≤ vec_capacity to.old) }
         ensures taken { (w : Plan V) → IsLaid self.old.nodes.items to.old.items w
@@ -87,6 +86,6 @@ impl<V: Drop> NodeArena<V> {
             × (row q ≡ row w) × (size q ≡ size w) }
         ensures capacity { vec_capacity to.new ≡ vec_capacity to.old }
     {
-        self.relocate_below(alloc, to, 0, DEPTH_FIRST);
+        self.relocate_below(to, 0, DEPTH_FIRST);
     }
 }

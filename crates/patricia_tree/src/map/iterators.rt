@@ -30,7 +30,7 @@ impl<K: Bytes, V: Drop> GenericPatriciaMap<K, V> {
     pub fn iter(&self) -> Iter<'_, K, V>
         ensures { result ≡ map.entries self.now }
     {
-        Iter::new(self.tree.walk())
+        self.tree.walk()
     }
 
     /// Returns the entries whose key begins with the prefix, in key order, each with an owned key.
@@ -49,7 +49,7 @@ impl<K: Bytes, V: Drop> GenericPatriciaMap<K, V> {
     pub fn iter_prefix<Q: BorrowedBytes<Owned = K>>(&self, prefix: Q) -> IterPrefix<'_, Q, V>
         ensures { result ≡ under (Q.key prefix) (map.entries self.now) }
     {
-        IterPrefix::new(self.tree.under(prefix))
+        self.tree.under(prefix)
     }
 
     /// Returns the keys in order, each an owned key. Making the iterator does not allocate; an item
@@ -134,7 +134,7 @@ impl<K: Bytes, V: Drop> IntoIterator for GenericPatriciaMap<K, V> {
     ghost into_iter_gives = { λ m rows. rows ≡ map.entries m };
 
     fn into_iter(self) -> IntoIter<K, V> {
-        IntoIter::new(self.tree.into_walk())
+        self.tree.into_walk()
     }
 }
 

@@ -78,7 +78,7 @@ impl<K: Bytes, V: Drop> GenericPatriciaMap<K, V> {
     ) -> CommonPrefixesIter<'_, Q, V>
         ensures { result ≡ along (Q.key key) (map.entries self.now) }
     {
-        CommonPrefixesIter::new(self.tree.along(key))
+        self.tree.along(key)
     }
 
     /// Returns the values of the entries whose key is a prefix of the key, the shortest key first.
@@ -119,6 +119,6 @@ impl<K: Bytes, V: Drop> GenericPatriciaMap<K, V> {
     pub fn common_prefix_values_owned(&self, key: K) -> CommonPrefixValuesOwned<'_, K, V>
         ensures { result ≡ values_of (along (K.key key) (map.entries self.now)) }
     {
-        CommonPrefixValuesOwned::new(self.tree.along_owned(key))
+        self.tree.along_owned(key)
     }
 }

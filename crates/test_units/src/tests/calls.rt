@@ -3,9 +3,8 @@
 //! before the high one. Some keys share the high byte of a unit, and so no item.
 
 use crate::tests::asserts::{done, holds, same};
-use patricia_run::units::{UnitKey, Units};
 use patricia_tree::map::Range;
-use patricia_tree::{Bytes, GenericPatriciaMap, GenericPatriciaSet, LoadError};
+use patricia_tree::{Bytes, GenericPatriciaMap, GenericPatriciaSet, LoadError, UnitKey, Units};
 use std::alloc::{AllocError, Global};
 use std::process::Abort;
 

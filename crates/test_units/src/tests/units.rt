@@ -1,8 +1,9 @@
 //! Keys of 16-bit units: their bytes, what `from_wire` refuses, and which calls allocate.
 
 use crate::tests::asserts::{done, holds, same};
-use patricia_run::units::{UnitKey, Units};
-use patricia_tree::{BorrowedBytes, Bytes, DecodeError, GenericPatriciaMap, GenericPatriciaSet};
+use patricia_tree::{
+    BorrowedBytes, Bytes, DecodeError, GenericPatriciaMap, GenericPatriciaSet, UnitKey, Units,
+};
 use std::alloc::{AllocError, Global};
 use std::cmp::Ordering;
 use std::process::Abort;

@@ -5,5 +5,5 @@ use Rattle.patricia_walks.proofs.walk.Walk.next_key.Goals as goal
 
 pub returns-in-Err : goal.returns-in-Err
 returns-in-Err g c =
-    let gives = rw c.in-Err.is at c.in_ok-key.ensures in
+    let gives = rw c.in-Err.is at c.in_ok-key.ensures.steps in
     (map_filled _ _ gives.0, ap keys_of gives.1)

@@ -1,5 +1,4 @@
-use Rattle.std.proofs.Common.{◌∙◌}
 use Rattle.patricia_tree.proofs.map.iterators.GenericPatriciaMapIntoIterator.into_iter.Goals as goal
 
 pub returns : goal.returns
-returns g c = record { into_iter_gives = rw (← c.self.view_is) (c.new.ensures ∙ c.into_walk.ensures) }
+returns g c = record { into_iter_gives = rw (← c.self.view_is) c.into_walk.ensures }

@@ -1,4 +1,0 @@
-use Rattle.patricia_core.proofs.entries.IntoIterIterator.next.Goals as goal
-
-pub returns-clause-steps : goal.returns-clause-steps
-returns-clause-steps g c = rw (← c.self.view_is) c.next_entry.ensures

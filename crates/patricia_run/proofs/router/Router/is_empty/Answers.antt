@@ -1,4 +1,0 @@
-use Rattle.patricia_run.proofs.router.Router.is_empty.Goals as goal
-
-pub returns : goal.returns
-returns g c = rw (← c.self.view_is) c.is_empty.ensures

@@ -1,5 +1,0 @@
-use borrow.Author.Rules.{rules, get_or_read}
-use Rattle.patricia_walks.proofs.walk.Walk.next_entry.Goals as goal
-
-pub returns-in-Err-from_bytes : goal.returns-in-Err-from_bytes
-returns-in-Err-from_bytes g c = search (rules, get_or_read)
