@@ -195,18 +195,18 @@ class _Tree:
         return self.length.value
 
     def first(self):
-        return self.row(_library.patricia_first)
+        return self.entry(_library.patricia_first)
 
     def last(self):
-        return self.row(_library.patricia_last)
+        return self.entry(_library.patricia_last)
 
     def first_after(self, key):
-        return self.row(_library.patricia_first_after, key, len(key))
+        return self.entry(_library.patricia_first_after, key, len(key))
 
     def last_before(self, key):
-        return self.row(_library.patricia_last_before, key, len(key))
+        return self.entry(_library.patricia_last_before, key, len(key))
 
-    def row(self, ask, *key):
+    def entry(self, ask, *key):
         """The key with its number that a function of the library asks for, or None."""
         room = ctypes.create_string_buffer(256)
         while True:
@@ -231,14 +231,14 @@ class _Tree:
 
     def along(self, key):
         """The keys that are prefixes of this one, with their numbers, the shortest first."""
-        rows = []
-        row = self.longest(key)
-        while row is not None:
-            rows.append(row)
-            row = self.longest(row[0][:-1]) if row[0] else None
-        return rows[::-1]
+        entries = []
+        entry = self.longest(key)
+        while entry is not None:
+            entries.append(entry)
+            entry = self.longest(entry[0][:-1]) if entry[0] else None
+        return entries[::-1]
 
-    def rows(self, prefix=b''):
+    def entries(self, prefix=b''):
         """An iterator over the keys that begin with the prefix, with their numbers, which it asks for one by one."""
         place = _CursorPlace()
         if not _library.patricia_cursor_seek(ctypes.addressof(place), prefix, len(prefix), len(prefix)):
@@ -352,19 +352,19 @@ class _Prefixes:
 
     def first(self):
         """The first of all in key order, or None where there is none."""
-        return self._row(self._tree.first())
+        return self._entry(self._tree.first())
 
     def last(self):
         """The last of all in key order, or None where there is none."""
-        return self._row(self._tree.last())
+        return self._entry(self._tree.last())
 
     def first_after(self, key):
         """The first that comes after this key, which need not be there, or None."""
-        return self._row(self._tree.first_after(self._key(key)))
+        return self._entry(self._tree.first_after(self._key(key)))
 
     def last_before(self, key):
         """The last that comes before this key, which need not be there, or None."""
-        return self._row(self._tree.last_before(self._key(key)))
+        return self._entry(self._tree.last_before(self._key(key)))
 
     def tree_bytes(self, wide=False):
         """The encoding of the keys, the same whatever was added and removed; with wide levels where asked."""
@@ -431,13 +431,13 @@ class _Map(_Prefixes, MutableMapping):
         return self._tree.get(self._key(key)) is not None
 
     def __iter__(self):
-        return (self._text(key) for key, _ in self._tree.rows())
+        return (self._text(key) for key, _ in self._tree.entries())
 
     def __repr__(self):
         return '%s({%s})' % (type(self).__name__, ', '.join('%r: %r' % item for item in self.items()))
 
     def _under(self, prefix):
-        return ((self._text(key), self._objects[number]) for key, number in self._tree.rows(prefix))
+        return ((self._text(key), self._objects[number]) for key, number in self._tree.entries(prefix))
 
     def items(self):
         return _Items(self)
@@ -478,17 +478,17 @@ class _Map(_Prefixes, MutableMapping):
         """An iterator over the entries whose key begins with the prefix, in key order."""
         return self._under(self._key(prefix))
 
-    def _row(self, row):
-        return None if row is None else (self._text(row[0]), self._objects[row[1]])
+    def _entry(self, entry):
+        return None if entry is None else (self._text(entry[0]), self._objects[entry[1]])
 
     def longest(self, key):
         """The entry of the longest key that is a prefix of this one, or None."""
-        return self._row(self._tree.longest(self._key(key)))
+        return self._entry(self._tree.longest(self._key(key)))
 
     def remove_under(self, prefix):
         """Removes the entries whose key begins with the prefix, and returns how many they were."""
         prefix = self._key(prefix)
-        numbers = [number for _, number in self._tree.rows(prefix)]
+        numbers = [number for _, number in self._tree.entries(prefix)]
         removed = self._tree.remove_under(prefix)
         for number in numbers:
             self._freed(number)
@@ -502,7 +502,7 @@ class _Map(_Prefixes, MutableMapping):
         """Removes the entries whose key begins with the prefix, and returns them as a map."""
         other = type(self)()
         other._tree = self._tree.split(self._key(prefix))
-        for key, number in list(other._tree.rows()):
+        for key, number in list(other._tree.entries()):
             other._tree.insert(key, other._number(self._freed(number)))
         return other
 
@@ -543,7 +543,7 @@ class _Set(_Prefixes, MutableSet):
         return '%s([%s])' % (type(self).__name__, ', '.join(map(repr, self)))
 
     def _under(self, prefix):
-        return (self._text(key) for key, _ in self._tree.rows(prefix))
+        return (self._text(key) for key, _ in self._tree.entries(prefix))
 
     def clear(self):
         self._tree.clear()
@@ -562,12 +562,12 @@ class _Set(_Prefixes, MutableSet):
         """An iterator over the elements that begin with the prefix, in order."""
         return self._under(self._key(prefix))
 
-    def _row(self, row):
-        return None if row is None else self._text(row[0])
+    def _entry(self, entry):
+        return None if entry is None else self._text(entry[0])
 
     def longest(self, key):
         """The longest element that is a prefix of this key, or None."""
-        return self._row(self._tree.longest(self._key(key)))
+        return self._entry(self._tree.longest(self._key(key)))
 
     def remove_under(self, prefix):
         """Removes the elements that begin with the prefix, and returns how many they were."""

@@ -206,9 +206,9 @@ def prefix_answers(m, kind, call, words):
     """The answers to a call about prefixes of keys, or None for another call."""
     if call == 'reach':
         return [str(max((common(key, k, kind) for k in m), default=0)) for key in words]
-    if call not in ('longest', 'along', 'along_values', 'along_owned', 'under', 'cursor_under'):
+    if call not in ('longest', 'along', 'along_values', 'along_owned', 'under', 'cursor_prefix'):
         return None
-    if call in ('under', 'cursor_under'):
+    if call in ('under', 'cursor_prefix'):
         return [row(e) for e in rows(m) if e[0].startswith(words[0])]
     along = [[e for e in rows(m) if key.startswith(e[0])] for key in words]
     if call == 'longest':
@@ -381,7 +381,7 @@ def asked_set(m, kind, call, words):
     if call == 'longest':
         along = [[k for k in m if key.startswith(k)] for key in words]
         return [written(max(found, key=len)) if found else 'none' for found in along]
-    if call in ('under', 'cursor_under'):
+    if call in ('under', 'cursor_prefix'):
         return [element(e) for prefix in words for e in rows(m) if e[0].startswith(prefix)]
     return ['unknown' for _ in words]
 

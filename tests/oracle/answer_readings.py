@@ -39,7 +39,7 @@ def records_of(b, width):
 
 
 def row_keys(records, level, kind):
-    """The keys of the row of siblings at the front, and what follows it; None where there is no such row."""
+    """The keys of the siblings at the front, and what follows them; None where there are no such siblings."""
     keys, before = [], b''
     while records:
         record, records = records[0], records[1:]

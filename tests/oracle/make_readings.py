@@ -92,7 +92,7 @@ def sweeps():
 
 
 def rows():
-    """A row of 256 children, and a chain of lone children of one byte each."""
+    """256 siblings, and a chain of lone children of one byte each."""
     record = [[51 if byte < 255 else 3, 1, 0, 1, byte] for byte in range(256)]
     yield line('bytes', 'read', sum(record, ROOT), range(256))
     yield line('bytes', 'read', sum(record[::-1], ROOT), range(256))

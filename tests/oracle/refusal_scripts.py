@@ -91,7 +91,7 @@ PREFIXES = [
 # Two part behind 20 bytes, and the last goes on behind 48.
 SPLIT = ['', 'a', 'ab', 'x' * 20 + 'y' * 20, 'x' * 20 + 'z' * 20, 'い' * 16, 'い' * 16 + 'ろ']
 
-# The empty one, one of a row, one with nothing under it, one that leaves one of two children, so
+# The empty one, one of an entry, one with nothing under it, one that leaves one of two children, so
 # that labels are joined to one of 40 bytes, one inside a label of 48 bytes, and one below it.
 PARTING = ['', 'ab', 'b', 'x' * 20 + 'y', 'い' * 12, 'い' * 16 + 'ろ']
 
@@ -113,7 +113,7 @@ PUT = [
     'いろはにほへとちりぬるを', 'い', 'z',
 ]
 
-# So deep that the rows that wait ask for memory more than once.
+# So deep that the siblings that wait ask for memory more than once.
 DEEP = 'abcdef abcd あ abcde a * の ab abc'.split()
 
 # The records of a, and of the first 30 d, have no value and one child, so labels are joined, and
@@ -190,7 +190,7 @@ WIDE_KEYS = ['', 'あ', 'あ' + 'x' * 40, 'y']
 
 def walks(front):
     """The walks over a map or a set, and those under a prefix."""
-    return ['iter', 'under ' + front, 'cursor', 'cursor_under ' + front]
+    return ['iter', 'under ' + front, 'cursor', 'cursor_prefix ' + front]
 
 
 def changed_map(names):
@@ -229,7 +229,7 @@ MAP_SCRIPTS = [
     ['from_iter ' + pairs(JOINED), 'remove い z', 'insert x 7',
      *one_by_one('remove', texts(JOINED)), 'remove x', 'len'],
     ['from_iter ' + pairs(WALKED), 'iter', 'keys', 'values', *each('under', texts(PREFIXES)),
-     *each('cursor_under', texts(PREFIXES)), 'cursor', 'along_owned bazaars', 'copy あい ' + LONG,
+     *each('cursor_prefix', texts(PREFIXES)), 'cursor', 'along_owned bazaars', 'copy あい ' + LONG,
      'take', 'iter'],
     [line for word in texts(PARTING) for line in ('from_iter ' + pairs(SPLIT), 'split ' + word)],
     ['from_iter ' + pairs(SPLIT), 'split_off ' + 'x' * 20, 'iter', 'insert * 1', 'split_off *',
@@ -270,7 +270,7 @@ SET_SCRIPTS = [
      'from_iter ' + elements(ELEMENTS), 'extend y あ ya yb yc yd ye', 'split_off ' + 'x' * 20,
      'iter'],
     ['extend ' + elements(WALKED), 'iter', *each('under', texts(PREFIXES)),
-     *each('cursor_under', texts(PREFIXES)), 'cursor', 'take', 'iter'],
+     *each('cursor_prefix', texts(PREFIXES)), 'cursor', 'take', 'iter'],
     ['extend ' + elements(WRITTEN), 'debug', 'debug'],
     ['extend ' + ' '.join(DEEP), 'tree', 'tree', 'iter'],
     ['insert x', 'read %s 7' % TREE, 'read %s 7' % TREE, 'read %s 6' % TREE, 'iter'],

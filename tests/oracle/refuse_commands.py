@@ -10,7 +10,7 @@ from tests.support import in_turn
 
 LONG = b'bcd' * 20
 
-# What changes the map, and its list; questions about prefixes, some of which find no row; and what
+# What changes the map, and its list; questions about prefixes, some of which find no entry; and what
 # changes the two maps, by a prefix that ends a key, one in a label, one in a label of more than 30
 # bytes, one that leaves one of two children, one under which there is nothing, and the empty one;
 # what writes the tree; what reads again what it wrote, a label of 300 bytes among it; and both with wide

@@ -175,7 +175,7 @@ def is_due(m, kind, call, words, answered):
 
 def answered_before(m, kind, call, words, answered):
     """What such a call may have answered before it is refused."""
-    if call in ('keys', 'values', 'under', 'cursor', 'cursor_under'):
+    if call in ('keys', 'values', 'under', 'cursor', 'cursor_prefix'):
         return [answered[:n] for n in range(len(answered))]
     if call in ('range', 'cursor_range'):
         # an error may come where no entry is left

@@ -1,7 +1,7 @@
 //! Cursors over a map.
 
+use crate::entries;
 use crate::key::Key;
-use crate::rows;
 use crate::slab::Slab;
 use crate::tree::Tree;
 use std::marker::PhantomData;
@@ -11,13 +11,13 @@ use std::marker::PhantomData;
 pub struct Cursor<'a, K, V> {
     tree: &'a Tree,
     values: &'a Slab<V>,
-    ahead: rows::Cursor,
+    ahead: entries::Cursor,
     at: Option<u64>,
     kind: PhantomData<fn() -> K>,
 }
 
 impl<'a, K: Key, V> Cursor<'a, K, V> {
-    pub(crate) fn new(tree: &'a Tree, values: &'a Slab<V>, ahead: rows::Cursor) -> Self {
+    pub(crate) fn new(tree: &'a Tree, values: &'a Slab<V>, ahead: entries::Cursor) -> Self {
         Cursor {
             tree,
             values,

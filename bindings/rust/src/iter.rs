@@ -1,8 +1,8 @@
 //! Iterators over a map.
 
 use crate::cursor::Cursor;
+use crate::entries::Entries;
 use crate::key::Key;
-use crate::rows::Rows;
 use crate::slab::Slab;
 use std::iter::FusedIterator;
 use std::marker::PhantomData;
@@ -72,15 +72,15 @@ impl<'a, K: Key, V> Iterator for Values<'a, K, V> {
 
 /// An iterator over entries whose values may be changed, in key order.
 pub struct IterMut<'a, K, V> {
-    rows: Rows,
+    entries: Entries,
     values: Vec<Option<&'a mut V>>,
     kind: PhantomData<fn() -> K>,
 }
 
 impl<'a, K: Key, V> IterMut<'a, K, V> {
-    pub(crate) fn new(rows: Rows, values: &'a mut Slab<V>) -> Self {
+    pub(crate) fn new(entries: Entries, values: &'a mut Slab<V>) -> Self {
         IterMut {
-            rows,
+            entries,
             values: values.lent(),
             kind: PhantomData,
         }
@@ -91,7 +91,7 @@ impl<'a, K: Key, V> Iterator for IterMut<'a, K, V> {
     type Item = (K, &'a mut V);
 
     fn next(&mut self) -> Option<Self::Item> {
-        let (key, number) = self.rows.next()?;
+        let (key, number) = self.entries.next()?;
         let value = self.values[number as usize].take();
         Some((
             K::from_bytes(key),
@@ -113,15 +113,15 @@ impl<'a, K: Key, V> Iterator for ValuesMut<'a, K, V> {
 
 /// An iterator over the entries of a map that it owns, in key order.
 pub struct IntoIter<K, V> {
-    rows: Rows,
+    entries: Entries,
     values: Slab<V>,
     kind: PhantomData<fn() -> K>,
 }
 
 impl<K: Key, V> IntoIter<K, V> {
-    pub(crate) fn new(rows: Rows, values: Slab<V>) -> Self {
+    pub(crate) fn new(entries: Entries, values: Slab<V>) -> Self {
         IntoIter {
-            rows,
+            entries,
             values,
             kind: PhantomData,
         }
@@ -132,7 +132,7 @@ impl<K: Key, V> Iterator for IntoIter<K, V> {
     type Item = (K, V);
 
     fn next(&mut self) -> Option<(K, V)> {
-        let (key, number) = self.rows.next()?;
+        let (key, number) = self.entries.next()?;
         Some((K::from_bytes(key), self.values.remove(number)))
     }
 }
@@ -140,15 +140,19 @@ impl<K: Key, V> Iterator for IntoIter<K, V> {
 /// An iterator over the entries whose key is a prefix of a key, the shortest first.
 pub struct CommonPrefixes<'a, 'b, K: Key, V> {
     key: &'b K::Borrowed,
-    rows: vec::IntoIter<(usize, u64)>,
+    entries: vec::IntoIter<(usize, u64)>,
     values: &'a Slab<V>,
 }
 
 impl<'a, 'b, K: Key, V> CommonPrefixes<'a, 'b, K, V> {
-    pub(crate) fn new(key: &'b K::Borrowed, rows: Vec<(usize, u64)>, values: &'a Slab<V>) -> Self {
+    pub(crate) fn new(
+        key: &'b K::Borrowed,
+        entries: Vec<(usize, u64)>,
+        values: &'a Slab<V>,
+    ) -> Self {
         CommonPrefixes {
             key,
-            rows: rows.into_iter(),
+            entries: entries.into_iter(),
             values,
         }
     }
@@ -158,7 +162,7 @@ impl<'a, 'b, K: Key, V> Iterator for CommonPrefixes<'a, 'b, K, V> {
     type Item = (&'b K::Borrowed, &'a V);
 
     fn next(&mut self) -> Option<Self::Item> {
-        let (len, number) = self.rows.next()?;
+        let (len, number) = self.entries.next()?;
         Some((K::prefix(self.key, len), self.values.get(number)))
     }
 }

@@ -3,7 +3,7 @@
 //! The names and the behaviour are those of the crate `patricia_tree` 0.10.2. The tree itself, from
 //! byte strings to numbers, is the library's, whose functions are proved (docs/BINDINGS.md). The
 //! values lie in a slab of this crate, under these numbers. That slab and the declarations in
-//! `library.rs` are tested; all unsafe code is in `tree.rs` and `rows.rs`.
+//! `library.rs` are tested; all unsafe code is in `tree.rs` and `entries.rs`.
 //!
 //! ```
 //! use patricia::StringPatriciaMap;
@@ -21,11 +21,11 @@
 //! Where memory runs out the process ends, as it does with std's collections.
 
 mod cursor;
+mod entries;
 mod iter;
 mod key;
 mod library;
 mod map;
-mod rows;
 mod set;
 mod slab;
 mod tree;

@@ -1,9 +1,9 @@
 //! Maps.
 
 use crate::cursor::Cursor;
+use crate::entries;
 use crate::iter::{CommonPrefixes, IntoIter, Iter, IterMut, Keys, Values, ValuesMut};
 use crate::key::Key;
-use crate::rows;
 use crate::slab::Slab;
 use crate::tree::{DecodeError, Form, TooDeep, Tree};
 use std::fmt;
@@ -120,20 +120,24 @@ impl<K: Key, V> GenericPatriciaMap<K, V> {
     where
         Q: ?Sized + AsRef<K::Borrowed>,
     {
-        let rows = self.tree.along(K::bytes(key.as_ref()));
-        rows.into_iter().map(move |row| self.values.get(row.1))
+        let entries = self.tree.along(K::bytes(key.as_ref()));
+        entries
+            .into_iter()
+            .map(move |entry| self.values.get(entry.1))
     }
 
     /// As `common_prefix_values`, of a key that the iterator drops.
     pub fn common_prefix_values_owned(&self, key: K) -> impl Iterator<Item = &V> {
-        let rows = self.tree.along(K::bytes(key.borrowed()));
-        rows.into_iter().map(move |row| self.values.get(row.1))
+        let entries = self.tree.along(K::bytes(key.borrowed()));
+        entries
+            .into_iter()
+            .map(move |entry| self.values.get(entry.1))
     }
 
     /// Removes the entries whose key begins with the prefix, and returns them as a map.
     pub fn split_by_prefix<Q: AsRef<K::Borrowed>>(&mut self, prefix: Q) -> Self {
         let mut part = Self::of(self.tree.split(K::bytes(prefix.as_ref())), Slab::new());
-        let mut cursor = rows::Cursor::new(&[], 0);
+        let mut cursor = entries::Cursor::new(&[], 0);
         while let Some(number) = part.tree.next(&mut cursor) {
             let moved = part.values.insert(self.values.remove(number));
             part.tree.insert(cursor.key(), moved);
@@ -169,11 +173,11 @@ impl<K: Key, V> GenericPatriciaMap<K, V> {
     }
 
     fn cursor_at(&self, key: &[u8], common: usize) -> Cursor<'_, K, V> {
-        Cursor::new(&self.tree, &self.values, rows::Cursor::new(key, common))
+        Cursor::new(&self.tree, &self.values, entries::Cursor::new(key, common))
     }
 
-    fn entry(&self, row: Option<(Vec<u8>, u64)>) -> Option<(K, &V)> {
-        row.map(|(key, number)| (K::from_bytes(key), self.values.get(number)))
+    fn entry(&self, found: Option<(Vec<u8>, u64)>) -> Option<(K, &V)> {
+        found.map(|(key, number)| (K::from_bytes(key), self.values.get(number)))
     }
 
     /// Returns the first entry in key order.
@@ -196,8 +200,8 @@ impl<K: Key, V> GenericPatriciaMap<K, V> {
         self.entry(self.tree.last_before(K::bytes(key.as_ref())))
     }
 
-    fn taken(&mut self, row: Option<(Vec<u8>, u64)>) -> Option<(K, V)> {
-        let (key, number) = row?;
+    fn taken(&mut self, found: Option<(Vec<u8>, u64)>) -> Option<(K, V)> {
+        let (key, number) = found?;
         self.tree.remove(&key);
         Some((K::from_bytes(key), self.values.remove(number)))
     }
@@ -220,7 +224,7 @@ impl<K: Key, V> GenericPatriciaMap<K, V> {
     /// Removes the entries whose key begins with the prefix, and returns how many they were.
     pub fn remove_prefix<Q: AsRef<K::Borrowed>>(&mut self, prefix: Q) -> usize {
         let prefix = K::bytes(prefix.as_ref());
-        let mut cursor = rows::Cursor::new(prefix, prefix.len());
+        let mut cursor = entries::Cursor::new(prefix, prefix.len());
         let mut removed = Vec::new();
         while let Some(number) = self.tree.next(&mut cursor) {
             removed.push(self.values.remove(number));
@@ -231,13 +235,13 @@ impl<K: Key, V> GenericPatriciaMap<K, V> {
 
     /// Lends the value of each entry, in key order. Takes memory for a reference to each value.
     pub fn iter_mut(&mut self) -> IterMut<'_, K, V> {
-        IterMut::new(self.tree.rows(&[]), &mut self.values)
+        IterMut::new(self.tree.entries(&[]), &mut self.values)
     }
 
     /// Lends the value of each entry whose key begins with the prefix, in key order. Takes memory
     /// for a reference to each value of the map.
     pub fn iter_prefix_mut(&mut self, prefix: &K::Borrowed) -> IterMut<'_, K, V> {
-        IterMut::new(self.tree.rows(K::bytes(prefix)), &mut self.values)
+        IterMut::new(self.tree.entries(K::bytes(prefix)), &mut self.values)
     }
 
     /// Returns the keys, in order.
@@ -338,7 +342,7 @@ impl<K: Key, V> IntoIterator for GenericPatriciaMap<K, V> {
     type IntoIter = IntoIter<K, V>;
 
     fn into_iter(self) -> IntoIter<K, V> {
-        IntoIter::new(self.tree.rows(&[]), self.values)
+        IntoIter::new(self.tree.entries(&[]), self.values)
     }
 }
 

@@ -1,7 +1,7 @@
 //! The library's map from byte strings to numbers.
 
+use crate::entries::{Cursor, Entries};
 use crate::library::*;
-use crate::rows::{Cursor, Rows};
 use std::alloc::{handle_alloc_error, Layout};
 use std::cell::UnsafeCell;
 use std::error::Error;
@@ -165,17 +165,17 @@ impl Tree {
 
     /// The lengths and the numbers of the keys that are prefixes of this one, the shortest first.
     pub(crate) fn along(&self, key: &[u8]) -> Vec<(usize, u64)> {
-        let mut rows = Vec::new();
+        let mut entries = Vec::new();
         let mut end = key.len();
         while let Some((len, number)) = self.longest(&key[..end]) {
-            rows.push((len, number));
+            entries.push((len, number));
             match len.checked_sub(1) {
                 Some(shorter) => end = shorter,
                 None => break,
             }
         }
-        rows.reverse();
-        rows
+        entries.reverse();
+        entries
     }
 
     pub(crate) fn reach(&self, key: &[u8]) -> usize {
@@ -261,9 +261,9 @@ impl Tree {
     }
 
     /// Copies of the keys that begin with the prefix, with their numbers, in key order.
-    pub(crate) fn rows(&self, prefix: &[u8]) -> Rows {
+    pub(crate) fn entries(&self, prefix: &[u8]) -> Entries {
         // SAFETY: as in `len`.
-        unsafe { Rows::new(self.place.get(), prefix) }
+        unsafe { Entries::new(self.place.get(), prefix) }
     }
 
     /// Passes the next key that a cursor has ahead in this tree, and returns its number.

@@ -91,8 +91,8 @@ fn common_prefixes() {
     let map: StringPatriciaMap<u32> = vec![("", 0), ("foo", 1), ("foobar", 2), ("foobaz", 3)]
         .into_iter()
         .collect();
-    let rows: Vec<_> = map.common_prefixes("foobarbaz").collect();
-    assert_eq!(rows, [("", &0), ("foo", &1), ("foobar", &2)]);
+    let entries: Vec<_> = map.common_prefixes("foobarbaz").collect();
+    assert_eq!(entries, [("", &0), ("foo", &1), ("foobar", &2)]);
     let values: Vec<_> = map.common_prefix_values("foobaz").copied().collect();
     assert_eq!(values, [0, 1, 3]);
     assert_eq!(map.common_prefix_values_owned("fo".to_string()).count(), 1);
@@ -133,11 +133,11 @@ fn iterators() {
     for value in map.values_mut() {
         *value += 1;
     }
-    let rows: Vec<_> = map
+    let entries: Vec<_> = map
         .iter_prefix("a")
         .map(|(key, value)| (key, *value))
         .collect();
-    assert_eq!(rows, [("a".to_string(), 21), ("ab".to_string(), 51)]);
+    assert_eq!(entries, [("a".to_string(), 21), ("ab".to_string(), 51)]);
     let lent: Vec<&mut u32> = map.values_mut().collect();
     assert_eq!(lent, [&21, &51, &4]);
     let mut owned = map.into_iter();
@@ -326,10 +326,10 @@ fn random_calls() {
             45..=84 => assert_eq!(map.remove(key), model.remove(key)),
             85..=97 => assert_eq!(map.get(key), model.get(key)),
             98 => {
-                let rows: Vec<_> = map.iter_prefix(key).map(|(k, v)| (k, *v)).collect();
+                let entries: Vec<_> = map.iter_prefix(key).map(|(k, v)| (k, *v)).collect();
                 let wanted = model.iter().filter(|e| e.0.starts_with(key.as_str()));
                 assert_eq!(
-                    rows,
+                    entries,
                     wanted.map(|(k, v)| (k.clone(), *v)).collect::<Vec<_>>()
                 );
                 let mut cursor = map.cursor_from(key);

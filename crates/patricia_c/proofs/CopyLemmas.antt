@@ -13,13 +13,13 @@ use Rattle.patricia_model.proofs.TreeLemmas.{entries_empty}
 use Rattle.patricia_model.specs.Points.{Has}
 use Rattle.patricia_model.proofs.TestLemmas.{first_part, second_part, less_so}
 
--- a key below rows is below each of them
+-- a key below entries is below each of them
 below_at : {V : Type 0} (q : List ℕ) (xs : List (List ℕ × V)) (e : List ℕ × V) (rest : List (List ℕ × V))
     → T (below_all key_cmp q (xs ++ e ∷ rest)) → key_cmp q e.0 ≡ Less
 below_at q [] e rest h = less_so (key_cmp q e.0) (first_part _ _ h)
 below_at q (x ∷ xs) e rest h = below_at q xs e rest (second_part _ _ h)
 
--- in order, a row comes after all before it
+-- in order, an entry comes after all before it
 above_sorted : {V : Type 0} (xs : List (List ℕ × V)) (e : List ℕ × V) (rest : List (List ℕ × V))
     → T (is_sorted key_cmp (xs ++ e ∷ rest)) → IsAbove e.0 xs
 above_sorted [] e rest h = tt

@@ -1,4 +1,4 @@
--- What a cursor has ahead, over rows in key order.
+-- What a cursor has ahead, over entries in key order.
 use Rattle.std.proofs.Common.{◌≡◌, ◌≤◌, ℕ, Bool, true, false, T, not, cond, inl, inr, List, [], ◌∷◌, ◌++◌}
 use Rattle.std.proofs.Common.{Option, None, Some, length, take, drop, slice_get, refl, sym, ap, subst, ◌∙◌, arith}
 use Rattle.std.specs.Ordering.{is_lt, ordering_reverse}
@@ -17,8 +17,8 @@ use Rattle.patricia_tree.specs.Ranges.{from}
 use Rattle.patricia_model.proofs.FilterLemmas.{has_filter}
 use Rattle.patricia_model.proofs.ListLemmas.{key_cmp-equal, key_cmp-extends}
 use Rattle.patricia_model.proofs.PrefixLemmas.{begins_from, begins_is, not_above, under_none, under_empty}
-use Rattle.patricia_model.proofs.RangeLemmas.{IsFrom, from_below, from_sorted_rows, from_start, is_less}
-use Rattle.patricia_model.proofs.RowLemmas.{AllKeys}
+use Rattle.patricia_model.proofs.RangeLemmas.{IsFrom, from_below, from_sorted_entries, from_start, is_less}
+use Rattle.patricia_model.proofs.SiblingsLemmas.{AllKeys}
 use Rattle.patricia_model.proofs.TestLemmas.{first_part, second_part, less_so}
 use Rattle.patricia_c.specs.Cursors.{ahead_of, beyond}
 use Rattle.patricia_c.specs.declared.cursor_pointer.Position.{Position}
@@ -62,7 +62,7 @@ same_prefix p next is =
     ap (take (length p)) (sym begun.1) ∙ take-append-le (length p) p begun.0 (omega arith) ∙ take_all (length p) p (omega arith)
 
 module _ {V : Type 0} where
-  -- in order, from a key with a prefix on: where the first row is not under the prefix, none is
+  -- in order, from a key with a prefix on: where the first entry is not under the prefix, none is
   none_under : (p r : List ℕ) (e : List ℕ × V) (es : List (List ℕ × V))
       → T (is_sorted key_cmp (e ∷ es)) → IsFrom (p ++ r) e.0 → begins p e.0 ≡ false
       → under p (e ∷ es) ≡ []
@@ -79,20 +79,20 @@ module _ {V : Type 0} where
           let less = less_so (key_cmp e.0 f.0) (first_part _ _ h) in
           (λ b. lacks (from_between p r b.0 e.0 is (subst (λ k. key_cmp e.0 k ≡ Less) (sym b.1) less)), rest fs (second_part _ _ h))
 
-  -- a row that is first under a prefix begins with it
-  pub first_begins : (p : List ℕ) (rows : List (List ℕ × V)) (e : List ℕ × V)
-      → slice_get (under p rows) 0 ≡ Some e → begins p e.0 ≡ true
-  first_begins p rows e first = by (under p rows) refl first
+  -- an entry that is first under a prefix begins with it
+  pub first_begins : (p : List ℕ) (entries : List (List ℕ × V)) (e : List ℕ × V)
+      → slice_get (under p entries) 0 ≡ Some e → begins p e.0 ≡ true
+  first_begins p entries e first = by (under p entries) refl first
     where
-      by : (us : List (List ℕ × V)) → under p rows ≡ us → slice_get us 0 ≡ Some e
+      by : (us : List (List ℕ × V)) → under p entries ≡ us → slice_get us 0 ≡ Some e
           → begins p e.0 ≡ true
       by [] is some = absurd (cc)
       by (u ∷ us) is some =
           let same : u ≡ e = cc in
-          (has_filter (λ x. begins p x.0) rows e (rw is (inl same))).1
+          (has_filter (λ x. begins p x.0) entries e (rw is (inl same))).1
 
-  -- all rows under a prefix are from it on
-  under_from : (p : List ℕ) (rows : List (List ℕ × V)) → under p (from p rows) ≡ under p rows
+  -- all entries under a prefix are from it on
+  under_from : (p : List ℕ) (entries : List (List ℕ × V)) → under p (from p entries) ≡ under p entries
   under_from p [] = refl
   under_from p (e ∷ es) = by (is_lt (key_cmp e.0 p)) (begins p e.0) refl refl (under_from p es)
     where
@@ -105,23 +105,23 @@ module _ {V : Type 0} where
       by false false f h same = rw (h, same) refl
 
   -- so a key that is whole in the prefix bounds nothing
-  pub under_whole : (n : ℕ) (key : List ℕ) → length key ≤ n → (rows : List (List ℕ × V))
-      → under (take n key) (from key rows) ≡ under key rows
-  under_whole n key long rows = ap (λ p. under p (from key rows)) (take_all n key long) ∙ under_from key rows
+  pub under_whole : (n : ℕ) (key : List ℕ) → length key ≤ n → (entries : List (List ℕ × V))
+      → under (take n key) (from key entries) ≡ under key entries
+  under_whole n key long entries = ap (λ p. under p (from key entries)) (take_all n key long) ∙ under_from key entries
 
   -- from the empty key on, under no prefix
-  pub under_start : (rows : List (List ℕ × V)) → under [] (from [] rows) ≡ rows
-  under_start rows = under_empty (from [] rows) ∙ from_start rows
+  pub under_start : (entries : List (List ℕ × V)) → under [] (from [] entries) ≡ entries
+  under_start entries = under_empty (from [] entries) ∙ from_start entries
 
   -- so under as many of its bytes as there may be
-  pub under_taken : (n : ℕ) (rows : List (List ℕ × V)) → under (take n []) (from [] rows) ≡ rows
-  under_taken n rows = ap (λ p. under p (from [] rows)) (take_all n [] (omega arith)) ∙ under_start rows
+  pub under_taken : (n : ℕ) (entries : List (List ℕ × V)) → under (take n []) (from [] entries) ≡ entries
+  under_taken n entries = ap (λ p. under p (from [] entries)) (take_all n [] (omega arith)) ∙ under_start entries
 
--- the rows from a place on are in order
+-- the entries from a place on are in order
 beyond_sorted : (passed : Bool) (key : List ℕ) (es : List (List ℕ × ℕ)) → T (is_sorted key_cmp es)
     → T (is_sorted key_cmp (beyond passed key es))
 beyond_sorted true key es sorted = is_sorted-where_key key_cmp (λ q. is_lt (key_cmp key q)) es sorted
-beyond_sorted false key es sorted = from_sorted_rows key es sorted
+beyond_sorted false key es sorted = from_sorted_entries key es sorted
 
 -- and the first of them is not before the key
 beyond_from : (passed : Bool) (key : List ℕ) (es : List (List ℕ × ℕ)) (e : List ℕ × ℕ)
@@ -136,15 +136,15 @@ beyond_from false key es e rest is =
     by false f h = f
 
 module _ (passed : Bool) (n : ℕ) (key : List ℕ) (es : List (List ℕ × ℕ)) (sorted : T (is_sorted key_cmp es)) where
-  -- where no row is beyond the place, none is under the prefix
+  -- where no entry is beyond the place, none is under the prefix
   pub ahead_none : None ≡ slice_get (beyond passed key es) 0
       → None ≡ slice_get (under (take n key) (beyond passed key es)) 0
   ahead_none none = by (beyond passed key es) none
     where
-      by : (rows : List (List ℕ × ℕ)) → None ≡ slice_get rows 0
-          → None ≡ slice_get (under (take n key) rows) 0
+      by : (entries : List (List ℕ × ℕ)) → None ≡ slice_get entries 0
+          → None ≡ slice_get (under (take n key) entries) 0
       by [] none = refl
-      by (e ∷ rows) none = absurd (cc)
+      by (e ∷ entries) none = absurd (cc)
 
   -- the first of them is the first under the prefix, where it is under it
   pub ahead_some : (e : List ℕ × ℕ) → Some e ≡ slice_get (beyond passed key es) 0
@@ -152,10 +152,10 @@ module _ (passed : Bool) (n : ℕ) (key : List ℕ) (es : List (List ℕ × ℕ)
       → Some e ≡ slice_get (under (take n key) (beyond passed key es)) 0
   ahead_some e some is = by (beyond passed key es) some
     where
-      by : (rows : List (List ℕ × ℕ)) → Some e ≡ slice_get rows 0
-          → Some e ≡ slice_get (under (take n key) rows) 0
+      by : (entries : List (List ℕ × ℕ)) → Some e ≡ slice_get entries 0
+          → Some e ≡ slice_get (under (take n key) entries) 0
       by [] some = absurd (cc)
-      by (x ∷ rows) some = let same : e ≡ x = cc in rw (← same, is) refl
+      by (x ∷ entries) some = let same : e ≡ x = cc in rw (← same, is) refl
 
   -- and else none is
   pub ahead_other : (e : List ℕ × ℕ) → Some e ≡ slice_get (beyond passed key es) 0
@@ -163,21 +163,21 @@ module _ (passed : Bool) (n : ℕ) (key : List ℕ) (es : List (List ℕ × ℕ)
       → None ≡ slice_get (under (take n key) (beyond passed key es)) 0
   ahead_other e some other = by (beyond passed key es) refl some
     where
-      by : (rows : List (List ℕ × ℕ)) → beyond passed key es ≡ rows → Some e ≡ slice_get rows 0
-          → None ≡ slice_get (under (take n key) rows) 0
+      by : (entries : List (List ℕ × ℕ)) → beyond passed key es ≡ entries → Some e ≡ slice_get entries 0
+          → None ≡ slice_get (under (take n key) entries) 0
       by [] is some = absurd (cc)
-      by (x ∷ rows) is some =
+      by (x ∷ entries) is some =
           let same : e ≡ x = cc in
           let whole = take-append-drop n key in
-          let bound = subst (λ k. IsFrom k x.0) (sym whole) (beyond_from passed key es x rows is) in
+          let bound = subst (λ k. IsFrom k x.0) (sym whole) (beyond_from passed key es x entries is) in
           let order = subst (λ l. T (is_sorted key_cmp l)) is (beyond_sorted passed key es sorted) in
-          let none = none_under (take n key) (drop n key) x rows order bound (rw (← same) other) in
+          let none = none_under (take n key) (drop n key) x entries order bound (rw (← same) other) in
           rw none refl
 
--- nothing of no rows is ahead
-pub ahead_empty : (o : Option Position) (rows : List (List ℕ × ℕ)) → rows ≡ []
-    → slice_get (ahead_of o rows) 0 ≡ None
-ahead_empty o rows none = subst (λ (l : List (List ℕ × ℕ)). slice_get (ahead_of o l) 0 ≡ None) (sym none) (by o)
+-- nothing of no entries is ahead
+pub ahead_empty : (o : Option Position) (entries : List (List ℕ × ℕ)) → entries ≡ []
+    → slice_get (ahead_of o entries) 0 ≡ None
+ahead_empty o entries none = subst (λ (l : List (List ℕ × ℕ)). slice_get (ahead_of o l) 0 ≡ None) (sym none) (by o)
   where
     by : (o : Option Position) → slice_get (ahead_of o []) 0 ≡ None
     by None = refl
@@ -187,7 +187,7 @@ ahead_empty o rows none = subst (λ (l : List (List ℕ × ℕ)). slice_get (ahe
         past true key = refl
         past false key = refl
 
--- a map of no length has no row, and one that has no row has no length
+-- a map of no length has no entry, and one that has no entry has no length
 pub emptied : (m : map.FinMap key_cmp ℕ) → map.len m ≡ 0 → map.entries m ≡ []
 emptied m none = nil_from_length (map.entries m) (sym (len-entries m) ∙ none)
 

@@ -15,8 +15,8 @@ use Rattle.patricia_c.specs.Maps.{map_of}
 abbrev Map : Type 0
 Map = map.FinMap key_cmp ℕ
 
-empty_rows : map.entries {X = ℕ} (map.empty {R = key_cmp}) ≡ []
-empty_rows = nil_from_length (map.entries map.empty) (sym (len-entries map.empty) ∙ len-empty key_cmp ℕ)
+empty_entries : map.entries {X = ℕ} (map.empty {R = key_cmp}) ≡ []
+empty_entries = nil_from_length (map.entries map.empty) (sym (len-entries map.empty) ∙ len-empty key_cmp ℕ)
 
 less_none : (b : Bool) (n : ℕ) → n ≡ 0 → cond b (n - 1) n ≡ 0
 less_none true n e = ap (λ m. m - 1) e
@@ -32,8 +32,8 @@ module _ (o : Option StoredMap) (none : None ≡ o) where
   pub none_get : (k : List ℕ) → map.get (map_of o) k ≡ None
   none_get k = subst (λ (o : Option StoredMap). map.get (map_of o) k ≡ None) none (get-empty key_cmp k)
 
-  pub none_rows : map.entries (map_of o) ≡ []
-  none_rows = subst (λ (o : Option StoredMap). map.entries (map_of o) ≡ []) none empty_rows
+  pub none_entries : map.entries (map_of o) ≡ []
+  none_entries = subst (λ (o : Option StoredMap). map.entries (map_of o) ≡ []) none empty_entries
 
   pub none_remove : (k : List ℕ) → map.empty ≡ map.remove (map_of o) k
   none_remove k = subst (λ (o : Option StoredMap). map.empty ≡ map.remove (map_of o) k) none (sym (empty_remove k))

@@ -5,5 +5,5 @@ mod EmptyLemmas
 mod MapBox
 mod PositionBox
 mod RawBoxValues
-mod RowLemmas
-mod RowsBox
+mod EntryLemmas
+mod EntriesBox

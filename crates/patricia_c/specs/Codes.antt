@@ -37,10 +37,10 @@ module _ (item : List ℕ → Type 0) where
     pub is_code : IsCode error code at
     pub refuses : IsRefusal item w bytes n error
 
-  -- the tree bytes of the rows are n bytes
-  pub record IsLen {V : Type 0} (w n : ℕ) (rows : List (List ℕ × V)) : Type 0 where
+  -- the tree bytes of the entries are n bytes
+  pub record IsLen {V : Type 0} (w n : ℕ) (entries : List (List ℕ × V)) : Type 0 where
     pub bytes : List ℕ
-    pub are : AreTreeBytes item w bytes rows
+    pub are : AreTreeBytes item w bytes entries
     pub len : n ≡ length bytes
 
   -- some key is no list of items

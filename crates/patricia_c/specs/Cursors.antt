@@ -10,14 +10,14 @@ abbrev pub prefix_of : Option Position → List ℕ
 prefix_of None = []
 prefix_of (Some position) = take position.common position.key.items
 
--- the rows that come after a key that was passed, and else those from it on
+-- the entries that come after a key that was passed, and else those from it on
 abbrev pub beyond : Bool → List ℕ → List (List ℕ × ℕ) → List (List ℕ × ℕ)
-beyond true key rows = after (Some key) rows
-beyond false key rows = from key rows
+beyond true key entries = after (Some key) entries
+beyond false key entries = from key entries
 
--- those of the rows that it has ahead; with nothing on the heap it has all of them ahead
+-- those of the entries that it has ahead; with nothing on the heap it has all of them ahead
 abbrev pub ahead_of : Option Position → List (List ℕ × ℕ) → List (List ℕ × ℕ)
-ahead_of None rows = rows
-ahead_of (Some position) rows =
+ahead_of None entries = entries
+ahead_of (Some position) entries =
     under (take position.common position.key.items)
-    (beyond position.passed position.key.items rows)
+    (beyond position.passed position.key.items entries)

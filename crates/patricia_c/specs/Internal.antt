@@ -2,4 +2,4 @@
 pub mod Full
 pub mod OwnedMap
 pub mod OwnedPosition
-pub mod OwnedRows
+pub mod OwnedEntries

@@ -2,4 +2,4 @@ pub mod Codes
 pub mod Cursors
 pub mod Internal
 pub mod Maps
-pub mod Rows
+pub mod EntriesLeft

@@ -9,7 +9,7 @@ abbrev pub map_of : Option StoredMap → map.FinMap key_cmp ℕ
 map_of None = map.empty
 map_of (Some stored) = stored.map
 
--- the row is there, its key has this length and its value is this
-abbrev pub is_row : Option (List ℕ × ℕ) → ℕ → ℕ → Type 0
-is_row None n value = ⊥
-is_row (Some row) n value = (length row.0 ≡ n) × (row.1 ≡ value)
+-- the entry is there, its key has this length and its value is this
+abbrev pub is_entry : Option (List ℕ × ℕ) → ℕ → ℕ → Type 0
+is_entry None n value = ⊥
+is_entry (Some entry) n value = (length entry.0 ≡ n) × (entry.1 ≡ value)

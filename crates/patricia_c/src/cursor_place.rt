@@ -81,8 +81,8 @@ impl CursorPlace {
     /// Removes the position from the place, or makes that before the first entry of all. The error
     /// is an allocation failure.
     pub(crate) fn take_or_make(&mut self, alloc: Global) -> Result<Box<Position>, AllocError>
-        ensures ahead { IfOk result (λ b. (rows : List (List ℕ × ℕ)) →
-            ahead_of (Some b.value) rows ≡ ahead_of self.old.pointer.stored rows) }
+        ensures ahead { IfOk result (λ b. (entries : List (List ℕ × ℕ)) →
+            ahead_of (Some b.value) entries ≡ ahead_of self.old.pointer.stored entries) }
         ensures prefix { IfOk result (λ b.
             prefix_of (Some b.value) ≡ prefix_of self.old.pointer.stored) }
         ensures err { OnErr result (self.new.pointer.stored ≡ self.old.pointer.stored) }

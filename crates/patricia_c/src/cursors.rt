@@ -42,8 +42,8 @@ impl Position {
     // Passes a key that has the prefix.
     fn pass(&mut self, key: Vec<u8>)
         requires { begins (prefix_of (Some self.old)) key.items ≡ true }
-        ensures ahead { (rows : List (List ℕ × ℕ)) → ahead_of (Some self.new) rows
-            ≡ under (prefix_of (Some self.old)) (after (Some key.items) rows) }
+        ensures ahead { (entries : List (List ℕ × ℕ)) → ahead_of (Some self.new) entries
+            ≡ under (prefix_of (Some self.old)) (after (Some key.items) entries) }
         ensures prefix { prefix_of (Some self.new) ≡ prefix_of (Some self.old) }
     {
         self.common = self.prefix().len();
@@ -100,10 +100,11 @@ pub extern "C" fn patricia_cursor_seek(
     key: &[u8],
     common: usize,
 ) -> bool
-    ensures ahead { result ≡ true → (rows : List (List ℕ × ℕ)) →
-        ahead_of cursor.new.pointer.stored rows ≡ under (take common key.now) (from key.now rows) }
-    ensures all { result ≡ true → length key.now ≤ common → (rows : List (List ℕ × ℕ)) →
-        ahead_of cursor.new.pointer.stored rows ≡ under key.now rows }
+    ensures ahead { result ≡ true → (entries : List (List ℕ × ℕ)) →
+        ahead_of cursor.new.pointer.stored entries
+        ≡ under (take common key.now) (from key.now entries) }
+    ensures all { result ≡ true → length key.now ≤ common → (entries : List (List ℕ × ℕ)) →
+        ahead_of cursor.new.pointer.stored entries ≡ under key.now entries }
     ensures prefix { result ≡ true → prefix_of cursor.new.pointer.stored ≡ take common key.now }
     ensures refused { result ≡ false → cursor.new.pointer.stored ≡ cursor.old.pointer.stored }
     ensures refused_nonempty { result ≡ false → key.now ≢ [] }
@@ -145,8 +146,9 @@ fn step(
         ≡ Some (take len.new room.new, value.new) }
     ensures within { result ≡ 1 → len.new ≤ length room.new }
     ensures behind { result ≡ 1 → drop len.new room.new ≡ drop len.new room.old }
-    ensures passed { result ≡ 1 → (rows : List (List ℕ × ℕ)) → ahead_of (Some position.new) rows
-        ≡ under (prefix_of (Some position.old)) (after (Some (take len.new room.new)) rows) }
+    ensures passed { result ≡ 1 → (entries : List (List ℕ × ℕ)) →
+        ahead_of (Some position.new) entries
+        ≡ under (prefix_of (Some position.old)) (after (Some (take len.new room.new)) entries) }
     ensures prefix { prefix_of (Some position.new) ≡ prefix_of (Some position.old) }
     ensures longer { result ≡ 4 → option_map (λ e. length e.0)
         (slice_get (ahead_of (Some position.old) (map.entries stored.now.map)) 0) ≡ Some len.new }
@@ -193,16 +195,17 @@ pub extern "C" fn patricia_cursor_next(
         (map.entries (map_of at.old.pointer.stored))) 0 ≡ Some (take len.new room.new, value.new) }
     ensures within { result ≡ 1 → len.new ≤ length room.new }
     ensures behind { result ≡ 1 → drop len.new room.new ≡ drop len.new room.old }
-    ensures passed { result ≡ 1 → (rows : List (List ℕ × ℕ)) →
-        ahead_of cursor.new.pointer.stored rows
-        ≡ under (prefix_of cursor.old.pointer.stored) (after (Some (take len.new room.new)) rows) }
+    ensures passed { result ≡ 1 → (entries : List (List ℕ × ℕ)) →
+        ahead_of cursor.new.pointer.stored entries
+        ≡ under (prefix_of cursor.old.pointer.stored)
+        (after (Some (take len.new room.new)) entries) }
     ensures prefix { prefix_of cursor.new.pointer.stored ≡ prefix_of cursor.old.pointer.stored }
     ensures longer { result ≡ 4 → option_map (λ e. length e.0)
         (slice_get (ahead_of cursor.old.pointer.stored
         (map.entries (map_of at.old.pointer.stored))) 0) ≡ Some len.new }
     ensures small { result ≡ 4 → length room.old < len.new }
-    ensures stays { result ≢ 1 → (rows : List (List ℕ × ℕ)) →
-        ahead_of cursor.new.pointer.stored rows ≡ ahead_of cursor.old.pointer.stored rows }
+    ensures stays { result ≢ 1 → (entries : List (List ℕ × ℕ)) →
+        ahead_of cursor.new.pointer.stored entries ≡ ahead_of cursor.old.pointer.stored entries }
     ensures room_unwritten { result ≢ 1 → room.new ≡ room.old }
     ensures value_unwritten { result ≢ 1 → value.new ≡ value.old }
     ensures end_len { result ≡ 0 → len.new ≡ len.old }
@@ -231,7 +234,8 @@ pub extern "C" fn patricia_cursor_next(
 /// Frees the memory of the cursor, which is then before the first entry of all.
 #[unsafe(no_mangle)]
 pub extern "C" fn patricia_cursor_free(cursor: &mut CursorPlace)
-    ensures ahead { (rows : List (List ℕ × ℕ)) → ahead_of cursor.new.pointer.stored rows ≡ rows }
+    ensures ahead { (entries : List (List ℕ × ℕ)) →
+        ahead_of cursor.new.pointer.stored entries ≡ entries }
     ensures prefix { prefix_of cursor.new.pointer.stored ≡ [] }
 {
     let position = cursor.take();

@@ -1,34 +1,35 @@
-//! Iterators over entries. An iterator has rows of its own, so the map may change or be freed.
+//! Iterators over entries. An iterator has entries of its own, so the map may change or be freed.
 ghost use Rattle.std.specs.Prelude.{◌≡◌, ◌≢◌, ◌≤◌, ◌<◌, [], drop, take, length, true, false, IfOk};
 ghost use Rattle.std.specs.Prelude.{OnErr};
 ghost use Rattle.std.specs.FinMap as map;
 ghost use Rattle.std.specs.Option.{option_map};
 ghost use Rattle.patricia_tree.specs.Prefixes.{under};
 ghost use Rattle.patricia_c.specs.Maps.{map_of};
-ghost use Rattle.patricia_c.specs.Rows.{rows_of, TakesRow, IsFirstLen, pairs_of};
+ghost use Rattle.patricia_c.specs.EntriesLeft.{entries_of, TakesEntry, IsFirstLen, pairs_of};
 
+use crate::entries_pointer::EntriesLeft;
 use crate::iterator_place::IteratorPlace;
 use crate::map_place::MapPlace;
 use crate::map_pointer::StoredMap;
 use crate::room::copy_to;
-use crate::rows_pointer::Rows;
 use std::alloc::{AllocError, Global};
 use std::collections::VecDeque;
 
-/// No row is left.
+/// No entry is left.
 const END: u32 = 0;
-/// A row was written.
-const ROW: u32 = 1;
-/// The room is too small: no row was removed.
+/// An entry was written.
+const ENTRY: u32 = 1;
+/// The room is too small: no entry was removed.
 const NO_ROOM: u32 = 4;
 
-// Copies of the rows whose key begins with the prefix, in key order, or none where there are none.
-fn rows_under(
+// Copies of the entries whose key begins with the prefix, in key order, or none where there are
+// none.
+fn entries_under(
     alloc: Global,
     stored: &StoredMap,
     prefix: &[u8],
-) -> Result<Option<Box<Rows>>, AllocError>
-    ensures rows { IfOk result (λ found. rows_of (option_map (λ b. b.value) found)
+) -> Result<Option<Box<EntriesLeft>>, AllocError>
+    ensures entries { IfOk result (λ found. entries_of (option_map (λ b. b.value) found)
         ≡ under prefix.now (map.entries stored.now.map)) }
     ensures err { OnErr result (under prefix.now (map.entries stored.now.map) ≢ []) }
 {
@@ -40,11 +41,11 @@ fn rows_under(
     if left.is_empty() {
         return Ok(None);
     }
-    Ok(Some(Box::new(alloc, Rows { left })?))
+    Ok(Some(Box::new(alloc, EntriesLeft { left })?))
 }
 
-/// Drops the rows that the iterator has left, and writes one over the entries whose key begins with
-/// the prefix, in key order. Returns false where memory ran out, never where there is no such
+/// Drops the entries that the iterator has left, and writes one over the entries whose key begins
+/// with the prefix, in key order. Returns false where memory ran out, never where there is no such
 /// entry: the iterator is at its end then.
 #[unsafe(no_mangle)]
 pub extern "C" fn patricia_iterate(
@@ -54,9 +55,9 @@ pub extern "C" fn patricia_iterate(
     iterator: &mut IteratorPlace,
 ) -> bool
     ensures kept { map_of at.new.pointer.stored ≡ map_of at.old.pointer.stored }
-    ensures rows { result ≡ true → rows_of iterator.new.pointer.stored
+    ensures entries { result ≡ true → entries_of iterator.new.pointer.stored
         ≡ under prefix.now (map.entries (map_of at.old.pointer.stored)) }
-    ensures refused { result ≡ false → rows_of iterator.new.pointer.stored ≡ [] }
+    ensures refused { result ≡ false → entries_of iterator.new.pointer.stored ≡ [] }
     ensures refused_if_matched { result ≡ false →
         under prefix.now (map.entries (map_of at.old.pointer.stored)) ≢ [] }
 {
@@ -64,11 +65,11 @@ pub extern "C" fn patricia_iterate(
     let Some(stored) = at.take() else {
         return true;
     };
-    let rows = rows_under(alloc, &stored, prefix);
+    let entries = entries_under(alloc, &stored, prefix);
     at.put(stored);
-    match rows {
-        Ok(Some(rows)) => {
-            iterator.put(rows);
+    match entries {
+        Ok(Some(entries)) => {
+            iterator.put(entries);
             true
         }
         Ok(None) => true,
@@ -76,9 +77,9 @@ pub extern "C" fn patricia_iterate(
     }
 }
 
-/// Removes the next row. Returns `ROW`, and writes its key to the room, the length of the key to
-/// `len` and the value to `value`; `NO_ROOM` where the key is longer than the room, and writes its
-/// length to `len`; `END` where no row is left.
+/// Removes the next entry. Returns `ENTRY`, and writes its key to the room, the length of the key
+/// to `len` and the value to `value`; `NO_ROOM` where the key is longer than the room, and writes
+/// its length to `len`; `END` where no entry is left.
 #[unsafe(no_mangle)]
 pub extern "C" fn patricia_iterator_next(
     iterator: &mut IteratorPlace,
@@ -86,15 +87,15 @@ pub extern "C" fn patricia_iterator_next(
     len: &mut usize,
     value: &mut u64,
 ) -> u32
-    ensures end { result ≡ 0 → rows_of iterator.old.pointer.stored ≡ [] }
-    ensures row { result ≡ 1 → TakesRow (rows_of iterator.old.pointer.stored)
-        (take len.new room.new) value.new (rows_of iterator.new.pointer.stored) }
+    ensures end { result ≡ 0 → entries_of iterator.old.pointer.stored ≡ [] }
+    ensures entry { result ≡ 1 → TakesEntry (entries_of iterator.old.pointer.stored)
+        (take len.new room.new) value.new (entries_of iterator.new.pointer.stored) }
     ensures within { result ≡ 1 → len.new ≤ length room.new }
     ensures behind { result ≡ 1 → drop len.new room.new ≡ drop len.new room.old }
-    ensures first { result ≡ 4 → IsFirstLen (rows_of iterator.old.pointer.stored) len.new }
+    ensures first { result ≡ 4 → IsFirstLen (entries_of iterator.old.pointer.stored) len.new }
     ensures small { result ≡ 4 → length room.old < len.new }
     ensures kept { result ≢ 1 →
-        rows_of iterator.new.pointer.stored ≡ rows_of iterator.old.pointer.stored }
+        entries_of iterator.new.pointer.stored ≡ entries_of iterator.old.pointer.stored }
     ensures room_unwritten { result ≢ 1 → room.new ≡ room.old }
     ensures value_unwritten { result ≢ 1 → value.new ≡ value.old }
     ensures end_len { result ≡ 0 → len.new ≡ len.old }
@@ -102,41 +103,41 @@ pub extern "C" fn patricia_iterator_next(
     ensures not_two { result ≢ 2 }
     ensures not_three { result ≢ 3 }
 {
-    let Some(mut rows) = iterator.take() else {
+    let Some(mut entries) = iterator.take() else {
         return END;
     };
-    let Some((key, there)) = rows.left.pop_front() else {
-        iterator.put(rows);
+    let Some((key, there)) = entries.left.pop_front() else {
+        iterator.put(entries);
         return END;
     };
     if !copy_to(room, len, key.as_slice()) {
-        let _back = rows.left.push_front((key, there));
-        iterator.put(rows);
+        let _back = entries.left.push_front((key, there));
+        iterator.put(entries);
         return NO_ROOM;
     }
     *value = there;
-    iterator.put(rows);
-    ROW
+    iterator.put(entries);
+    ENTRY
 }
 
-/// Returns the number of rows that the iterator has left.
+/// Returns the number of entries that the iterator has left.
 #[unsafe(no_mangle)]
 pub extern "C" fn patricia_iterator_len(iterator: &mut IteratorPlace) -> usize
-    ensures len { result ≡ length (rows_of iterator.old.pointer.stored) }
-    ensures kept { rows_of iterator.new.pointer.stored ≡ rows_of iterator.old.pointer.stored }
+    ensures len { result ≡ length (entries_of iterator.old.pointer.stored) }
+    ensures kept { entries_of iterator.new.pointer.stored ≡ entries_of iterator.old.pointer.stored }
 {
-    let Some(rows) = iterator.take() else {
+    let Some(entries) = iterator.take() else {
         return 0;
     };
-    let len = rows.left.len();
-    iterator.put(rows);
+    let len = entries.left.len();
+    iterator.put(entries);
     len
 }
 
-/// Drops the rows that the iterator has left. It is at its end.
+/// Drops the entries that the iterator has left. It is at its end.
 #[unsafe(no_mangle)]
 pub extern "C" fn patricia_iterator_free(iterator: &mut IteratorPlace)
-    ensures { rows_of iterator.new.pointer.stored ≡ [] }
+    ensures { entries_of iterator.new.pointer.stored ≡ [] }
 {
     let left = iterator.take();
     drop(left);

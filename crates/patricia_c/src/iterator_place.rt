@@ -3,7 +3,7 @@ ghost use Rattle.std.specs.Prelude.{◌≡◌, Some, None};
 ghost use Rattle.std.specs.Option.{option_map};
 ghost use Rattle.patricia_c.specs.Internal.Full.{is_full};
 
-use crate::rows_pointer::{Rows, RowsPointer};
+use crate::entries_pointer::{EntriesLeft, EntriesPointer};
 use std::alloc::Global;
 use std::mem;
 
@@ -11,7 +11,7 @@ use std::mem;
 #[repr(C)]
 pub struct IteratorPlace {
     full: bool,
-    pointer: RowsPointer,
+    pointer: EntriesPointer,
     alloc: Global,
     ghost kept: { full ≡ is_full pointer.stored },
 }
@@ -29,23 +29,23 @@ impl IteratorPlace {
     {
         IteratorPlace {
             full: false,
-            pointer: RowsPointer::none(alloc),
+            pointer: EntriesPointer::none(alloc),
             alloc,
         }
     }
 
-    /// A place with an iterator over these rows.
-    pub(crate) fn of(alloc: Global, stored: Box<Rows>) -> IteratorPlace
+    /// A place with an iterator over these entries.
+    pub(crate) fn of(alloc: Global, stored: Box<EntriesLeft>) -> IteratorPlace
         ensures { result.pointer.stored ≡ Some stored.value }
     {
         IteratorPlace {
             full: true,
-            pointer: RowsPointer::of(stored),
+            pointer: EntriesPointer::of(stored),
             alloc,
         }
     }
 
-    fn into_stored(self) -> Option<Box<Rows>>
+    fn into_stored(self) -> Option<Box<EntriesLeft>>
         ensures { option_map (λ b. b.value) result ≡ self.pointer.stored }
     {
         let IteratorPlace {
@@ -61,8 +61,8 @@ impl IteratorPlace {
         }
     }
 
-    /// Removes the rows from the place, and leaves an iterator at its end.
-    pub(crate) fn take(&mut self) -> Option<Box<Rows>>
+    /// Removes the entries from the place, and leaves an iterator at its end.
+    pub(crate) fn take(&mut self) -> Option<Box<EntriesLeft>>
         ensures taken { option_map (λ b. b.value) result ≡ self.old.pointer.stored }
         ensures left { self.new.pointer.stored ≡ None }
     {
@@ -70,8 +70,8 @@ impl IteratorPlace {
         mem::replace(self, IteratorPlace::none(alloc)).into_stored()
     }
 
-    /// Writes rows to the place. What it held is dropped.
-    pub(crate) fn put(&mut self, stored: Box<Rows>)
+    /// Writes entries to the place. What it held is dropped.
+    pub(crate) fn put(&mut self, stored: Box<EntriesLeft>)
         ensures { self.new.pointer.stored ≡ Some stored.value }
     {
         *self = IteratorPlace::of(self.alloc, stored);

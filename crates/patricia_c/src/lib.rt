@@ -2,7 +2,7 @@
 //!
 //! `bindings/c/patricia.h` declares what is exported here. Each call takes a place of C, which is
 //! all zero or as a call left it, and its contract says what the place holds before and after: a
-//! finite map, the rows that an iterator has left, or where a cursor stands.
+//! finite map, the entries that an iterator has left, or where a cursor stands.
 #![tactic(auto)]
 
 mod cursor_place;
@@ -10,6 +10,7 @@ mod cursor_pointer;
 mod cursors;
 mod encodings;
 mod ends;
+mod entries_pointer;
 mod iteration;
 mod iterator_place;
 mod map;
@@ -18,6 +19,5 @@ mod map_pointer;
 mod prefixes;
 mod raw_box;
 mod room;
-mod rows_pointer;
 mod text_encodings;
 mod texts;

@@ -3,7 +3,7 @@ ghost use Rattle.std.specs.Prelude.{◌≡◌, ◌≢◌, ◌+◌, ◌<◌, [], 
 ghost use Rattle.std.specs.FinMap as map;
 ghost use Rattle.patricia_tree.specs.ByteKind.{IsByteItem};
 ghost use Rattle.patricia_tree.specs.Prefixes.{IsReach, longest, under, outside};
-ghost use Rattle.patricia_c.specs.Maps.{map_of, is_row};
+ghost use Rattle.patricia_c.specs.Maps.{map_of, is_entry};
 
 use crate::map_place::MapPlace;
 use crate::map_pointer::StoredMap;
@@ -20,7 +20,7 @@ pub extern "C" fn patricia_longest_prefix(
 ) -> bool
     ensures kept { map_of at.new.pointer.stored ≡ map_of at.old.pointer.stored }
     ensures found { result ≡ true →
-        is_row (longest key.now (map.entries (map_of at.old.pointer.stored))) len.new value.new }
+        is_entry (longest key.now (map.entries (map_of at.old.pointer.stored))) len.new value.new }
     ensures missing { result ≡ false →
         longest key.now (map.entries (map_of at.old.pointer.stored)) ≡ None }
     ensures len_unwritten { result ≡ false → len.new ≡ len.old }

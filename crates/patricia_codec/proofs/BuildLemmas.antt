@@ -14,7 +14,7 @@ use Rattle.patricia_nodes.specs.Internal.Plans.{linked}
 use Rattle.patricia_wire.specs.Records.{Record}
 use Rattle.patricia_wire.specs.Forests.{IsInner}
 use Rattle.patricia_wire.specs.Internal.Readings.{Due, due_where, due_behind}
-use Rattle.patricia_wire.specs.Internal.WrittenRows.{has_node, over, joined}
+use Rattle.patricia_wire.specs.Internal.WrittenSiblings.{has_node, over, joined}
 use Rattle.patricia_codec.specs.declared.builder.Builder.{Builder}
 use Rattle.patricia_codec.specs.declared.builder.Next.{Next}
 use Rattle.patricia_codec.specs.declared.builder.Next.TheVariants.{Root, Below, Within, Beside}
@@ -74,7 +74,7 @@ due_next r level n gaps e =
     ∙ ap (λ l. due_where r.child (record { level = level + 1; after = None }) ++ l) (sym (dues_next r.sibling level r.label n gaps))
 
 module _ {V : Type 0} where
-  -- the row has two nodes
+  -- the siblings have two nodes
   abbrev HasTwo : Siblings V → Type 0
   HasTwo end = ⊥
   HasTwo (node l v c s) = has_node s ≡ true
@@ -99,7 +99,7 @@ module _ {V : Type 0} where
       subst (λ (t : Siblings V). over l None t s ≡ node l None t s) (sym same) refl
 
 module _ (item : List ℕ → Type 0) {V : Type 0} where
-  -- an open row is open for equal nodes, with an equal root and an equal value
+  -- open siblings are open for equal nodes, with an equal root and an equal value
   at_same : (nodes now : List (Node V)) (root top : Option ℕ) (value held : Option V)
       (Allowed : Siblings V → Type 0) (level : ℕ) (gaps : List Gap) (R : List Record) (vs : List V)
       → now ≡ nodes → top ≡ root → held ≡ value
@@ -222,7 +222,7 @@ module _ (item : List ℕ → Type 0) {V : Type 0} where
         some = o.some;
       })
 
-  -- a record is opened where its row is due
+  -- a record is opened where its siblings are due
   opens_at : (b new : Builder V) (Allowed : Siblings V → Type 0) (level : ℕ) (gaps : List Gap)
       (R : List Record) (vs : List V)
       → IsOpenAt item b.nodes.items b.root b.value Allowed level gaps R vs

@@ -12,13 +12,13 @@ use Rattle.patricia_nodes.specs.Internal.Plans.{siblings_of, IsWellFormed}
 use Rattle.patricia_nodes.proofs.SeekLemmas.{whole_plan}
 use Rattle.patricia_wire.specs.Records.{Record, canonical_bytes, canonical_bytes_of}
 use Rattle.patricia_wire.specs.Forests.{Root}
-use Rattle.patricia_wire.specs.Internal.WrittenRows.{has_node, tree_records}
+use Rattle.patricia_wire.specs.Internal.WrittenSiblings.{has_node, tree_records}
 use Rattle.patricia_wire.specs.TreeBytes.{AreTreeBytes}
 use Rattle.patricia_wire.specs.Writings.{TooDeep}
 use Rattle.patricia_wire.proofs.BytesOfTrees.{tree_bytes}
-use Rattle.patricia_wire.proofs.RowTrees.{tree_of}
+use Rattle.patricia_wire.proofs.SiblingsTrees.{tree_of}
 use Rattle.patricia_wire.proofs.Spellings.{positive}
-use Rattle.patricia_wire.proofs.TightRows.{within_writable, within_apart}
+use Rattle.patricia_wire.proofs.TightSiblings.{within_writable, within_apart}
 use Rattle.patricia_wire.proofs.WrittenOrDeep.{any_there, any_right, tree_room_or_deep}
 use Rattle.patricia_codec.specs.declared.records.Records.{Records}
 use Rattle.patricia_codec.specs.Internal.Pieces.{AreRecords}
@@ -86,14 +86,14 @@ module _ (item : List ℕ → Type 0) (kind : IsKeyKind item) {V : Type 0} (aren
   at_end p A at over R a = (let left = at R a in left.1 ∙ ap (λ l. A ++ l) (over left.0 left.2) ∙ append-nil A)
 
 module _ (item : List ℕ → Type 0) (kind : IsKeyKind item) {V : Type 0} (value : Option V)
-    (row : Siblings V) (R : List Record) (a : AreRecords item 1 row R) where
-  -- with its labels cut the row has the same entries, and the empty key its value
-  same_rows : own value ++ entries a.cut ≡ own value ++ entries row
-  same_rows = ap (λ es. own value ++ es) a.same
+    (siblings : Siblings V) (R : List Record) (a : AreRecords item 1 siblings R) where
+  -- with their labels cut the siblings have the same entries, and the empty key its value
+  same_entries : own value ++ entries a.cut ≡ own value ++ entries siblings
+  same_entries = ap (λ es. own value ++ es) a.same
 
-  -- a row that is cut has a node where the row has one
-  cut_node : has_node a.cut ≡ has_node row
-  cut_node = by a.cut row a.cut_ok a.canonical a.same
+  -- siblings whose labels are cut have a node where the siblings have one
+  cut_node : has_node a.cut ≡ has_node siblings
+  cut_node = by a.cut siblings a.cut_ok a.canonical a.same
     where
       by : (r s : Siblings V) → IsCanonicalWithin item (Some 255) r → IsCanonical item s
           → entries r ≡ entries s → has_node r ≡ has_node s
@@ -108,11 +108,11 @@ module _ (item : List ℕ → Type 0) (kind : IsKeyKind item) {V : Type 0} (valu
           let none : prefixed l (some.0 ∷ some.1) ++ entries s ≡ [] = sym (ap (λ es. prefixed l es ++ entries s) some.2) ∙ e in
           absurd (cc)
 
-  -- the root's record before those of the row is a tree
+  -- the root's record before those of the siblings is a tree
   abbrev pub root_record : Record
-  root_record = record { level = 0; label = []; value = is_some value; child = has_node row; sibling = false }
+  root_record = record { level = 0; label = []; value = is_some value; child = has_node siblings; sibling = false }
 
-  -- the records of the tree are the root's and then those of the row
+  -- the records of the tree are the root's and then those of the siblings
   tree_is : tree_records value a.cut ≡ root_record ∷ R
   tree_is = λ i. record { level = 0; label = []; value = is_some value; child = cut_node i; sibling = false } ∷ sym a.is i
 
@@ -120,14 +120,14 @@ module _ (item : List ℕ → Type 0) (kind : IsKeyKind item) {V : Type 0} (valu
   none_deep : (w : ℕ) (X : List Record) → AreShallow w X → HasDeep w X → ⊥
   none_deep w X all (k, r, h, e, deep) = (let one = subst (λ r. r.level < 256 ^ w) e (all k r h) in omega arith)
 
-  -- they are a tree with the keys of the row, and with the empty key where it has a value
-  is_tree : Root item (tree_records value a.cut) (keys_of (own value ++ entries row))
-  is_tree = subst (λ es. Root item (tree_records value a.cut) (keys_of es)) same_rows (tree_of item value a.cut (within_writable item a.cut a.cut_ok))
+  -- they are a tree with the keys of the siblings, and with the empty key where it has a value
+  is_tree : Root item (tree_records value a.cut) (keys_of (own value ++ entries siblings))
+  is_tree = subst (λ es. Root item (tree_records value a.cut) (keys_of es)) same_entries (tree_of item value a.cut (within_writable item a.cut a.cut_ok))
 
   -- its clean spelling is the tree bytes where no record lies too deep
   pub written : (w : ℕ) → AreShallow w R
       → AreTreeBytes item w (canonical_bytes w root_record ++ canonical_bytes_of w R)
-      (own value ++ entries row)
+      (own value ++ entries siblings)
   written w shallow = elim (tree_room_or_deep item kind w value a.cut (within_writable item a.cut a.cut_ok)) [
     | inl room ↦ tree_bytes item kind w _ _
         (record {
@@ -145,7 +145,7 @@ module _ (item : List ℕ → Type 0) (kind : IsKeyKind item) {V : Type 0} (valu
   ]
 
   -- and it is too deep where one does
-  pub deep : (w : ℕ) → HasDeep w R → TooDeep item w (keys_of (own value ++ entries row))
+  pub deep : (w : ℕ) → HasDeep w R → TooDeep item w (keys_of (own value ++ entries siblings))
   deep w some = record {
     records = tree_records value a.cut;
     root = is_tree;

@@ -9,16 +9,17 @@ use Rattle.patricia_model.specs.Siblings.{Siblings, end, own, entries, keys_of, 
 use Rattle.patricia_model.specs.Walks.{values_of}
 use Rattle.patricia_nodes.specs.declared.arena.Node.{Node}
 use Rattle.patricia_nodes.specs.declared.arena.NodeArena.{NodeArena}
-use Rattle.patricia_nodes.specs.Internal.Plans.{Plan, Nil, row, size, count, below, siblings_of}
+use Rattle.patricia_nodes.specs.Internal.Plans.{Plan, Nil, siblings_in, size, count, below}
+use Rattle.patricia_nodes.specs.Internal.Plans.{siblings_of}
 use Rattle.patricia_nodes.specs.Internal.Plans.{entries_of, IsPlan, IsWellFormed}
 use Rattle.patricia_nodes.proofs.PlanLemmas.{plan_is}
 use Rattle.patricia_wire.specs.Records.{Record, EncodeAll}
 use Rattle.patricia_wire.specs.Forests.{Root}
 use Rattle.patricia_wire.specs.Writings.{Means}
 use Rattle.patricia_wire.specs.Internal.Readings.{due_where, due_behind}
-use Rattle.patricia_wire.specs.Internal.WrittenRows.{has_node, record_of, records_of, joined}
-use Rattle.patricia_wire.proofs.JoinedRows.{joined_is}
-use Rattle.patricia_wire.proofs.RowTrees.{tree_of}
+use Rattle.patricia_wire.specs.Internal.WrittenSiblings.{has_node, record_of, records_of, joined}
+use Rattle.patricia_wire.proofs.JoinedSiblings.{joined_is}
+use Rattle.patricia_wire.proofs.SiblingsTrees.{tree_of}
 use Rattle.patricia_codec.specs.declared.builder.Builder.{Builder}
 use Rattle.patricia_codec.specs.declared.builder.Next.{Next}
 use Rattle.patricia_codec.specs.declared.builder.Next.TheVariants as next
@@ -35,7 +36,7 @@ none_below n at e = grind (arith, nat_tests)
 
 module _ (item : List ℕ → Type 0) {V : Type 0} (nodes : List (Node V)) (root : Option ℕ)
     (value : Option V) where
-  -- a root's record, with a row laid below it, makes the nodes stand for a tree
+  -- a root's record, with siblings laid below it, makes the nodes stand for a tree
   rooted : (later : List (Node V)) (plan : Plan V) (written : Siblings V) → nodes ≡ []
       → Hangs item later root plan written → (r : Record) → r.level ≡ 0 → r.label ≡ []
       → r.sibling ≡ false → is_some value ≡ r.value → has_node written ≡ r.child
@@ -64,7 +65,7 @@ module _ (item : List ℕ → Type 0) {V : Type 0} (nodes : List (Node V)) (root
     sizes = omega (arith, ap length none, zero);
   }
 
-  -- a root's record with a child opens the row at level 1, of which nothing is laid yet
+  -- a root's record with a child opens the siblings at level 1, of which nothing is laid yet
   start_above : nodes ≡ [] → root ≡ Some 0 → (r : Record) → r.level ≡ 0 → r.label ≡ []
       → r.sibling ≡ false → is_some value ≡ r.value → r.child ≡ true
       → IsOpenAt item nodes root value (λ w. Unit {0}) 1 [] (r ∷ []) (option_to_list value)
@@ -198,12 +199,12 @@ module _ (item : List ℕ → Type 0) {V : Type 0} where
   done w kind s value R vs b g free spelled =
       let plan : IsPlan s.nodes.items s.root g.plan = record { stands = g.hangs.stands; at_is = g.hangs.at_is; fits = omega (arith, g.sizes) } in
       let is = plan_is s.nodes.items s.root g.plan plan in
-      let row_is : siblings_of s ≡ joined g.written = ap row is ∙ g.hangs.same in
+      let siblings_are : siblings_of s ≡ joined g.written = ap siblings_in is ∙ g.hangs.same in
       let j = joined_is item kind g.written g.hangs.writable in
-      let same : entries_of s ≡ entries g.written = ap entries row_is ∙ j.same in
+      let same : entries_of s ≡ entries g.written = ap entries siblings_are ∙ j.same in
       record {
         whole = (g.plan, ([], record { plan_ok = plan; chain = tt; free_is = free; once = λ at. omega (arith, g.numbers at); total = omega (arith, g.sizes) }));
-        canonical = subst (IsCanonical item) (sym row_is) j.ok;
+        canonical = subst (IsCanonical item) (sym siblings_are) j.ok;
         means = record {
           records = R;
           spelled = spelled;

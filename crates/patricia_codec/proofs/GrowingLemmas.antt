@@ -12,14 +12,16 @@ use Rattle.patricia_model.specs.Siblings.{Siblings, end, node, prefixed, own, en
 use Rattle.patricia_model.specs.Siblings.{IsBeforeSiblings}
 use Rattle.patricia_model.specs.Walks.{values_of}
 use Rattle.patricia_nodes.specs.declared.arena.Node.{Node}
-use Rattle.patricia_nodes.specs.Internal.Plans.{Plan, Nil, Cell, row, head, size, count, below, one}
+use Rattle.patricia_nodes.specs.Internal.Plans.{Plan, Nil, Cell, siblings_in, head, size, count}
+use Rattle.patricia_nodes.specs.Internal.Plans.{below, one}
 use Rattle.patricia_nodes.specs.Internal.Plans.{linked, LaidOut}
 use Rattle.patricia_nodes.proofs.WriteLemmas.{get-set_same, get-set_other, get-push_same}
 use Rattle.patricia_nodes.proofs.WriteLemmas.{get-push_other}
 use Rattle.patricia_wire.specs.Records.{Record}
 use Rattle.patricia_wire.specs.Forests.{IsInner}
-use Rattle.patricia_wire.specs.Internal.WrittenRows.{has_node, record_of, records_of, over, joined}
-use Rattle.patricia_wire.specs.Internal.WrittenRows.{IsWritable}
+use Rattle.patricia_wire.specs.Internal.WrittenSiblings.{has_node, record_of, records_of, over}
+use Rattle.patricia_wire.specs.Internal.WrittenSiblings.{joined}
+use Rattle.patricia_wire.specs.Internal.WrittenSiblings.{IsWritable}
 use Rattle.patricia_codec.specs.Internal.Builds.{link_if, gap_if}
 use Rattle.patricia_codec.specs.Internal.Growing.{Gap, IsLater, Hangs, Unlaid, AreBeside, IsGrown}
 use Rattle.patricia_codec.specs.Internal.Growing.{IsOpenBeside, IsOpenAt, IsOpenWithin}
@@ -57,7 +59,7 @@ module _ {V : Type 0} where
       → values_of (own v ++ entries c) ≡ option_to_list v ++ values_of (entries c)
   values_inside v c = values_of-append (own v) (entries c) ∙ ap (λ k. k ++ values_of (entries c)) (values_of-own v)
 
-  -- those of a row are its first node's, then those below it and those beside it
+  -- those of siblings are its first node's, then those below it and those beside it
   values_of-node : (l : List ℕ) (v : Option V) (c s : Siblings V)
       → values_of (entries (node l v c s)) ≡ option_to_list v ++ (values_of (entries c) ++ values_of (entries s))
   values_of-node l v c s =
@@ -89,11 +91,11 @@ module _ (item : List ℕ → Type 0) {V : Type 0} where
   }
 
   module _ (nodes : List (Node V)) (root : Option ℕ) (value : Option V) where
-    -- a record below the root is a node that can be written, over and beside rows that can
-    inner_row : (level : ℕ) (r : Record) (x : Option V) (c s : Siblings V) → IsInner item level r
+    -- a record below the root is a node that can be written, over and beside siblings that can
+    inner_siblings : (level : ℕ) (r : Record) (x : Option V) (c s : Siblings V) → IsInner item level r
         → is_some x ≡ r.value → has_node c ≡ r.child → IsWritable item c → IsWritable item s
         → IsBeforeSiblings item r.label s → IsWritable item (node r.label x c s)
-    inner_row level r x c s inner vm cm wc ws rises = record {
+    inner_siblings level r x c s inner vm cm wc ws rises = record {
       valid = inner.valid;
       nonempty = inner.nonempty;
       fits = inner.fits;
@@ -112,7 +114,7 @@ module _ (item : List ℕ → Type 0) {V : Type 0} where
         → record_of level r.label x c s ≡ r
     inner_record level r x c s inner vm cm sm = λ i. record { level = sym inner.level i; label = r.label; value = vm i; child = cm i; sibling = sm i }
 
-    -- a record whose row is due is opened
+    -- a record whose siblings are due is opened
     pub opened : (Allowed : Siblings V → Type 0) (level : ℕ) (gaps : List Gap) (R : List Record)
         (vs : List V) → IsOpenAt item nodes root value Allowed level gaps R vs
         → (r : Record) (x : Option V) → IsInner item level r → is_some x ≡ r.value
@@ -129,14 +131,14 @@ module _ (item : List ℕ → Type 0) {V : Type 0} where
           own_label = r.label;
         }) gaps (R ++ (r ∷ []))
         (vs ++ option_to_list x)
-    opened Allowed level gaps R vs goes r x inner vm allowed later is_later plan c s stands at is_row wc ws cm sm rises R2 vs2 ids n beside =
+    opened Allowed level gaps R vs goes r x inner vm allowed later is_later plan c s stands at is_siblings wc ws cm sm rises R2 vs2 ids n beside =
         let written = node r.label x c s in
         let grown = goes later is_later plan written
         (record {
           stands = stands;
           at_is = sym at;
-          same = is_row;
-          writable = inner_row
+          same = is_siblings;
+          writable = inner_siblings
               level r x c s inner vm cm wc ws rises;
         }) refl (allowed c s sm) R2 vs2 ids n beside
         in
@@ -169,13 +171,13 @@ module _ (item : List ℕ → Type 0) {V : Type 0} where
           own_label = u.own_label;
         }) gaps (R ++ (r ∷ []))
         (vs ++ option_to_list x)
-    joined_in u gaps R vs goes none lone r x inner vm alone later is_later plan c s stands at is_row wc ws cm sm rises R2 vs2 ids n beside =
+    joined_in u gaps R vs goes none lone r x inner vm alone later is_later plan c s stands at is_siblings wc ws cm sm rises R2 vs2 ids n beside =
         let over_one = node r.label x c end in
-        let is_over : row plan ≡ over u.label u.value (joined over_one) (joined s) = is_row ∙ sym
+        let is_over : siblings_in plan ≡ over u.label u.value (joined over_one) (joined s) = is_siblings ∙ sym
         (over_over u.label r.label x (joined c) (joined s)) ∙ ap
         (λ v. over u.label v (joined over_one) (joined s)) (sym none) in
         let grown = goes later is_later plan over_one s stands at is_over
-        (inner_row u.below r x c end inner vm cm wc tt tt) ws (sym lone) sm rises R2 vs2
+        (inner_siblings u.below r x c end inner vm cm wc tt tt) ws (sym lone) sm rises R2 vs2
         ids n beside in
         let under = records_of (u.below + 1) c in
         let others = records_of u.level s in
@@ -240,7 +242,7 @@ module _ (item : List ℕ → Type 0) {V : Type 0} (nodes : List (Node V)) (root
   abbrev pub laid_node : Unlaid V → Node V
   laid_node u = linked u.label u.value (link_if u.child (length nodes + 1)) None
 
-  -- the rows that wait then
+  -- the siblings that wait then
   abbrev pub laid_gaps : Unlaid V → List Gap → List Gap
   laid_gaps u gaps = gap_if u.sibling u.level u.own_label (length nodes) ++ gaps
 
@@ -290,7 +292,7 @@ module _ (item : List ℕ → Type 0) {V : Type 0} (nodes : List (Node V)) (root
     omega arith,
   )
 
-  -- an open node is laid over the row that is below it
+  -- an open node is laid over the siblings that are below it
   pub laid : (u : Unlaid V) (gaps : List Gap) (R : List Record) (vs : List V)
       → IsOpenWithin item nodes root value u gaps R vs → AreWithin (length nodes) gaps
       → (later : List (Node V)) → IsLater (nodes ++ laid_node u ∷ []) (laid_gaps u gaps) later
@@ -315,12 +317,12 @@ module _ (item : List ℕ → Type 0) {V : Type 0} (nodes : List (Node V)) (root
         hangs.stands,
         hangs2.stands,
       ) in
-      let is_row : row cell ≡ over u.label u.value (joined c) (joined s) = ap
-      (λ r. node u.label u.value r (row side)) hangs.same ∙ ap
+      let is_siblings : siblings_in cell ≡ over u.label u.value (joined c) (joined s) = ap
+      (λ r. node u.label u.value r (siblings_in side)) hangs.same ∙ ap
       (λ r. node u.label u.value (joined c) r) hangs2.same ∙ sym (kept (joined s)) in
       let grown = goes later
       (later_than (laid_node u) (gap_if u.sibling u.level u.own_label (length nodes)) gaps
-      later (gap_here u.sibling u.level u.own_label) is_later) cell c s stands refl is_row
+      later (gap_here u.sibling u.level u.own_label) is_later) cell c s stands refl is_siblings
       hangs.writable hangs2.writable cm sm rises R3 vs3 ids3 n3 others in
       let under = records_of u.below c in
       let e : R ++ (under ++ R2) ≡ R ++ ((under ++ records_of u.level s) ++ R3) = ap
@@ -370,7 +372,7 @@ module _ (item : List ℕ → Type 0) {V : Type 0} (nodes : List (Node V)) (root
       over_none None s = refl
       over_none (Some x) s = refl
 
-  -- a row is due beside the node that waits last
+  -- siblings are due beside the node that waits last
   pub linked_beside : (g : Gap) (gaps : List Gap) (R : List Record) (vs : List V)
       → IsOpenBeside item nodes root value (g ∷ gaps) R vs → (n : Node V)
       → slice_get nodes g.id ≡ Some n → All (λ h. h.id ≢ g.id) gaps

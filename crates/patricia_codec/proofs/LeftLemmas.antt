@@ -7,13 +7,13 @@ use Rattle.std.specs.Prelude.{◌^◌, Bool, is_some, Result, Ok, Err, IsErrAnd,
 use Rattle.patricia_keys.specs.Keys.{IsKeyKind, IsValid}
 use Rattle.patricia_model.specs.Siblings.{Siblings, end, node}
 use Rattle.patricia_nodes.specs.declared.arena.Node.{Node}
-use Rattle.patricia_nodes.specs.Internal.Plans.{Plan, Nil, Cell, head, row, plan_at, IsPlan}
+use Rattle.patricia_nodes.specs.Internal.Plans.{Plan, Nil, Cell, head, siblings_in, plan_at, IsPlan}
 use Rattle.patricia_nodes.proofs.PlanLemmas.{plan_is}
 use Rattle.patricia_nodes.proofs.SeekLemmas.{Opened, opened}
-use Rattle.patricia_walks.specs.Internal.Positions.{row_at}
-use Rattle.patricia_walks.proofs.PositionLemmas.{row_none}
+use Rattle.patricia_walks.specs.Internal.Positions.{siblings_at}
+use Rattle.patricia_walks.proofs.PositionLemmas.{siblings_none}
 use Rattle.patricia_wire.specs.Records.{Record}
-use Rattle.patricia_wire.specs.Internal.WrittenRows.{has_node}
+use Rattle.patricia_wire.specs.Internal.WrittenSiblings.{has_node}
 use Rattle.patricia_wire.proofs.WrittenOrDeep.{any_here, any_left}
 use Rattle.patricia_codec.specs.declared.records.Records.{Records}
 use Rattle.patricia_codec.specs.Internal.Pieces.{IsPiece, AreRecords, cut_front, weight}
@@ -23,14 +23,14 @@ use Rattle.patricia_codec.specs.Internal.Lefts.{SomeLeft, HasDeep, IsDeep, GoesB
 use Rattle.patricia_codec.proofs.PieceLemmas.{Off, off_whole, off_part, first_record, no_records}
 
 module _ {V : Type 0} where
-  -- a plan has a first number where its row has a node
-  plan_link : (q : Plan V) → is_some (head q) ≡ has_node (row q)
+  -- a plan has a first number where its siblings have a node
+  plan_link : (q : Plan V) → is_some (head q) ≡ has_node (siblings_in q)
   plan_link Nil = refl
   plan_link (Cell id l v c s) = refl
 
-  -- a row is there where its number is
+  -- siblings are there where their number is
   pub has_link : (nodes : List (Node V)) (at : Option ℕ) → IsPlan nodes at (plan_at nodes at)
-      → is_some at ≡ has_node (row_at nodes at)
+      → is_some at ≡ has_node (siblings_at nodes at)
   has_link nodes at w = ap is_some w.at_is ∙ plan_link (plan_at nodes at)
 
   -- with no byte of its label written, a node is whole
@@ -46,14 +46,14 @@ module _ {V : Type 0} where
   behind_some (suc m) l v c s f = refl
 
 module _ (item : List ℕ → Type 0) {V : Type 0} (nodes : List (Node V)) where
-  -- one more row that waits has its records before those of the others
+  -- siblings that wait behind others have their records before those of the others
   all_wait-snoc : (fs : List (ℕ × Option ℕ)) (f : ℕ × Option ℕ) (W X : List Record)
       → AllWait item nodes fs W → WaitsToWrite item nodes f X
       → AllWait item nodes (fs ++ f ∷ []) (X ++ W)
   all_wait-snoc [] f W X w x = ([], X, refl, x, rw w (append-nil X))
   all_wait-snoc (g ∷ fs) f W X (A, B, a, b, e) x = (X ++ A, B, all_wait-snoc fs f A X a x, b, ap (λ l. X ++ l) e ∙ sym (append_assoc X A B))
 
-  -- the row that waits last comes first
+  -- the siblings that wait last come first
   pub record Last (fs : List (ℕ × Option ℕ)) (f : ℕ × Option ℕ) (R : List Record) : Type 0 where
     pub here : List Record
     pub waiting : List Record
@@ -75,9 +75,9 @@ module _ (item : List ℕ → Type 0) {V : Type 0} (nodes : List (Node V)) where
         is = e ∙ ap (λ l. l ++ B) last.is ∙ append_assoc last.here last.waiting B;
       }
 
-  -- one more row that waits adds its weight
+  -- siblings that wait behind others add their weight
   weight_waiting-snoc : (fs : List (ℕ × Option ℕ)) (f : ℕ × Option ℕ)
-      → weight_waiting nodes (fs ++ f ∷ []) ≡ weight (row_at nodes f.1) + weight_waiting nodes fs
+      → weight_waiting nodes (fs ++ f ∷ []) ≡ weight (siblings_at nodes f.1) + weight_waiting nodes fs
   weight_waiting-snoc [] f = omega arith
   weight_waiting-snoc (g ∷ fs) f = omega (arith, weight_waiting-snoc fs f)
 
@@ -85,7 +85,7 @@ module _ (item : List ℕ → Type 0) (kind : IsKeyKind item) {V : Type 0} (p : 
     (n : Node V) (plan : IsPlan (nodes_of p) p.next (plan_at (nodes_of p) p.next))
     (next : p.next ≡ Some id) (reads : n ≡ get_or (nodes_of p) id n) where
   abbrev pub children : Siblings V
-  children = row_at (nodes_of p) n.child
+  children = siblings_at (nodes_of p) n.child
 
   -- the node that is next as it is read, with the plans of its children and of its siblings
   open_here : Opened (nodes_of p) (plan_at (nodes_of p) p.next) id n
@@ -99,25 +99,25 @@ module _ (item : List ℕ → Type 0) (kind : IsKeyKind item) {V : Type 0} (p : 
   sibling_plan : IsPlan (nodes_of p) n.sibling (plan_at (nodes_of p) n.sibling)
   sibling_plan = rw (plan_is (nodes_of p) n.sibling open_here.sibling open_here.sibling_plan) open_here.sibling_plan
 
-  -- the row that is next is this node, with its children and its siblings
-  row_is :
-      row_at (nodes_of p) p.next ≡ node n.label n.value children (row_at (nodes_of p) n.sibling)
-  row_is = ap row open_here.is ∙
+  -- the siblings that are next are this node, with its children and its siblings
+  siblings_are :
+      siblings_at (nodes_of p) p.next ≡ node n.label n.value children (siblings_at (nodes_of p) n.sibling)
+  siblings_are = ap siblings_in open_here.is ∙
       (λ i. node n.label n.value
-      (row (sym (plan_is (nodes_of p) n.child open_here.child open_here.child_plan) i))
-      (row (sym (plan_is (nodes_of p) n.sibling open_here.sibling open_here.sibling_plan) i)))
+      (siblings_in (sym (plan_is (nodes_of p) n.child open_here.child open_here.child_plan) i))
+      (siblings_in (sym (plan_is (nodes_of p) n.sibling open_here.sibling open_here.sibling_plan) i)))
 
-  -- the row beside the record, which waits afterwards
+  -- the siblings beside the record, which wait afterwards
   pub record Beside (at : Option ℕ) : Type 0 where
     pub stands : IsPlan (nodes_of p) at (plan_at (nodes_of p) at)
-    pub row_is :
-        next_siblings p ≡ node (drop p.skipped n.label) n.value children (row_at (nodes_of p) at)
+    pub siblings_are :
+        next_siblings p ≡ node (drop p.skipped n.label) n.value children (siblings_at (nodes_of p) at)
 
   -- the first piece of a label has the node's sibling
   pub beside_first : (at : Option ℕ) → p.skipped ≡ 0 → at ≡ n.sibling → Beside at
   beside_first at none is = rw is (record {
     stands = sibling_plan;
-    row_is = ap (cut_front p.skipped) row_is ∙ behind_zero p.skipped n.label n.value children (row_at (nodes_of p) n.sibling) none;
+    siblings_are = ap (cut_front p.skipped) siblings_are ∙ behind_zero p.skipped n.label n.value children (siblings_at (nodes_of p) n.sibling) none;
   })
 
   -- a later piece has none
@@ -127,9 +127,9 @@ module _ (item : List ℕ → Type 0) (kind : IsKeyKind item) {V : Type 0} (p : 
       let none = plan_is (nodes_of p) None Nil nothing in
       rw is (record {
         stands = rw none nothing;
-        row_is = ap (cut_front p.skipped) row_is ∙ behind_some p.skipped n.label n.value children
-            (row_at (nodes_of p) n.sibling) some ∙ ap
-            (λ r. node (drop p.skipped n.label) n.value children (row r)) (sym none);
+        siblings_are = ap (cut_front p.skipped) siblings_are ∙ behind_some p.skipped n.label n.value children
+            (siblings_at (nodes_of p) n.sibling) some ∙ ap
+            (λ r. node (drop p.skipped n.label) n.value children (siblings_in r)) (sym none);
       })
 
   -- what stands beside the record is the node's siblings, or nothing
@@ -147,14 +147,14 @@ module _ (item : List ℕ → Type 0) (kind : IsKeyKind item) {V : Type 0} (p : 
     pub nonempty : drop p.skipped n.label ≢ []
 
   -- the first records left are those of the node, without the bytes of its label that are written
-  row_left : (R : List Record) (a : AreRecordsLeft item p R)
-      → AreRecords item p.level (node (drop p.skipped n.label) n.value children (row_at (nodes_of p) beside_some.0)) a.here
-  row_left R a = let b = beside_some.1 in subst (λ r. AreRecords item p.level r a.here) b.row_is a.are_here
+  siblings_left : (R : List Record) (a : AreRecordsLeft item p R)
+      → AreRecords item p.level (node (drop p.skipped n.label) n.value children (siblings_at (nodes_of p) beside_some.0)) a.here
+  siblings_left R a = let b = beside_some.1 in subst (λ r. AreRecords item p.level r a.here) b.siblings_are a.are_here
 
   -- where a record is left, its label is
   pub label_left : SomeLeft item p → HasLabelLeft
   label_left (R, a) =
-      let ok = (let r = row_left R a in r.canonical) in
+      let ok = (let r = siblings_left R a in r.canonical) in
       record { within = short (drop p.skipped n.label) refl ok.nonempty; valid = ok.valid; nonempty = ok.nonempty }
     where
       short : (l : List ℕ) → drop p.skipped n.label ≡ l → l ≢ [] → p.skipped ≤ length n.label
@@ -164,12 +164,12 @@ module _ (item : List ℕ → Type 0) (kind : IsKeyKind item) {V : Type 0} (p : 
   -- a record too deep for w bytes is one of those that are left
   pub first_deep : (w : ℕ) → 256 ^ w ≤ p.level → IsDeep item w p
   first_deep w deep R a =
-      let first = first_record item kind p.level _ _ _ _ a.here (row_left R a) in
+      let first = first_record item kind p.level _ _ _ _ a.here (siblings_left R a) in
       let here : HasDeep w a.here = rw first.is (any_here (λ r. 256 ^ w ≤ r.level) first.first first.more (omega (arith, first.level, deep))) in
       rw a.is (any_left (λ r. 256 ^ w ≤ r.level) a.here a.waiting here)
 
   module _ (q : Records V) (k : ℕ) (piece : IsPiece item (drop p.skipped n.label) k) (kept : nodes_of q ≡ nodes_of p) (level : q.level ≡ p.level + 1) where
-    -- the row below the record, which is next afterwards
+    -- the siblings below the record, which are next afterwards
     pub record Below (value child : Bool) (under : Siblings V) : Type 0 where
       pub next_is : next_siblings q ≡ under
       pub stands : IsPlan (nodes_of q) q.next (plan_at (nodes_of q) q.next)
@@ -213,8 +213,8 @@ module _ (item : List ℕ → Type 0) (kind : IsKeyKind item) {V : Type 0} (p : 
         → Below false true (node (drop k (drop p.skipped n.label)) n.value children end)
     below_part short next_is more = record {
       next_is = rw (kept, next_is, more)
-          (ap (cut_front (p.skipped + k)) row_is ∙ behind_some (p.skipped + k) n.label n.value
-          children (row_at (nodes_of p) n.sibling) (λ e. omega (arith, e, piece.nonempty)) ∙ ap
+          (ap (cut_front (p.skipped + k)) siblings_are ∙ behind_some (p.skipped + k) n.label n.value
+          children (siblings_at (nodes_of p) n.sibling) (λ e. omega (arith, e, piece.nonempty)) ∙ ap
           (λ l. node l n.value children end) (sym (drop-drop k p.skipped n.label)));
       stands = rw (kept, next_is) plan;
       off = λ b R a. off_part item kind p.level k (drop p.skipped n.label) n.value children b R a piece short;
@@ -227,7 +227,7 @@ module _ (item : List ℕ → Type 0) (kind : IsKeyKind item) {V : Type 0} (p : 
         → r.level ≡ p.level → r.label ≡ take k (drop p.skipped n.label) → r.sibling ≡ is_some at
         → p.level < 256 ^ w → TakesRecord item w p r q
     taken w r at under beside stack below level_is label_is sibling_is shallow =
-        let b = row_at (nodes_of p) at in
+        let b = siblings_at (nodes_of p) at in
         let first : Record = record { level = p.level; label = take k (drop p.skipped n.label); value = r.value; child = r.child; sibling = has_node b } in
         let same : first ≡ r = λ i. record {
           level = sym level_is i;
@@ -238,7 +238,7 @@ module _ (item : List ℕ → Type 0) (kind : IsKeyKind item) {V : Type 0} (p : 
         } in
         subst (λ r. TakesRecord item w p r q) same (record {
           left = λ R a.
-              let off = below.off b a.here (subst (λ r. AreRecords item p.level r a.here) beside.row_is a.are_here) in
+              let off = below.off b a.here (subst (λ r. AreRecords item p.level r a.here) beside.siblings_are a.are_here) in
               let waiting = off.beside_records ++ a.waiting in (
                 off.below_records ++ waiting,
                 a.is ∙ ap (λ h. h ++ a.waiting) off.is ∙ ap (λ l. first ∷ l) (append_assoc off.below_records off.beside_records a.waiting),
@@ -255,7 +255,7 @@ module _ (item : List ℕ → Type 0) (kind : IsKeyKind item) {V : Type 0} (p : 
               );
           less = omega (
             arith,
-            ap weight beside.row_is,
+            ap weight beside.siblings_are,
             ap weight below.next_is,
             ap
                 (λ nodes. weight_waiting nodes q.stack.items) kept,
@@ -269,7 +269,7 @@ module _ (item : List ℕ → Type 0) (kind : IsKeyKind item) {V : Type 0} (p : 
         })
 
 module _ {V : Type 0} where
-  -- where there is no row, nothing is behind any of its bytes
+  -- where there are no siblings, nothing is behind any of their bytes
   behind_end : (m : ℕ) (r : Siblings V) → r ≡ end → cut_front m r ≡ end
   behind_end zero r e = e
   behind_end (suc m) end e = refl
@@ -281,22 +281,22 @@ pub err_from : {A B E : Type 0} (x : Result A E) (y : Result B E) (e d : E) → 
 err_from x (Ok b) e d is same again = absurd (cc)
 err_from x (Err f) e d is same again = (let found : f ≡ d = cc in is ∙ ap Err (sym same ∙ found))
 
--- where no row is next
+-- where no siblings are next
 module _ (item : List ℕ → Type 0) (kind : IsKeyKind item) {V : Type 0} (p : Records V)
     (next : p.next ≡ None) where
-  -- no row is next
+  -- no siblings are next
   nothing : next_siblings p ≡ end
-  nothing = behind_end p.skipped (row_at (nodes_of p) p.next) (ap (row_at (nodes_of p)) next ∙ row_none (nodes_of p))
+  nothing = behind_end p.skipped (siblings_at (nodes_of p) p.next) (ap (siblings_at (nodes_of p)) next ∙ siblings_none (nodes_of p))
 
-  -- so the records left are those of the rows that wait
+  -- so the records left are those of the siblings that wait
   none_here : (R : List Record) (a : AreRecordsLeft item p R) → R ≡ a.waiting
   none_here R a = a.is ∙ ap (λ h. h ++ a.waiting) (no_records item kind p.level a.here (subst (λ r. AreRecords item p.level r a.here) nothing a.are_here))
 
-  -- nothing is left where no row waits either
+  -- nothing is left where none wait either
   pub ended : p.stack.items ≡ [] → (R : List Record) → AreRecordsLeft item p R → R ≡ []
   ended none R a = none_here R a ∙ subst (λ l. AllWait item (nodes_of p) l a.waiting) none a.are_waiting
 
-  -- and else the row that waits last is next
+  -- and else the siblings that wait last are next
   module _ (q : Records V) (level : ℕ) (at : Option ℕ)
       (stack : p.stack.items ≡ q.stack.items ++ (level, at) ∷ []) (kept : nodes_of q ≡ nodes_of p)
       (level_is : q.level ≡ level) (next_is : q.next ≡ at) (skipped : q.skipped ≡ 0) where
@@ -317,7 +317,7 @@ module _ (item : List ℕ → Type 0) (kind : IsKeyKind item) {V : Type 0} (p : 
     -- and they weigh the same
     back_weight : weight_left q ≡ weight_left p
     back_weight =
-        let here : next_siblings q ≡ row_at (nodes_of p) at = rw (kept, next_is, skipped) refl in
+        let here : next_siblings q ≡ siblings_at (nodes_of p) at = rw (kept, next_is, skipped) refl in
         omega (
           arith,
           ap weight nothing,

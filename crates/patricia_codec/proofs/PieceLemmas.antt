@@ -1,4 +1,4 @@
--- How the first piece of a row is taken off.
+-- How the first piece of the first sibling is taken off.
 use Rattle.std.proofs.Common.{◌≡◌, ◌≢◌, ℕ, ◌+◌, ◌<◌, ◌≤◌, inl, inr, true, false, List, [], ◌∷◌}
 use Rattle.std.proofs.Common.{◌++◌, length, take, drop, Option, Some, None, refl, sym, ap, subst}
 use Rattle.std.proofs.Common.{◌∙◌, arith, take_all, take_at, take-take, append_assoc}
@@ -9,12 +9,12 @@ use Rattle.patricia_keys.proofs.KeyLemmas.{Begins-trans, first_of, IsValid-nil, 
 use Rattle.patricia_keys.proofs.KeyLemmas.{IsValid-item, valid_rest}
 use Rattle.patricia_model.specs.Siblings.{Siblings, end, node, prefixed, own, entries, IsCanonical}
 use Rattle.patricia_model.specs.Siblings.{IsCanonicalWithin, EarnsWithin}
-use Rattle.patricia_model.proofs.RowLemmas.{prefixed-prefixed}
-use Rattle.patricia_model.proofs.UniqueLemmas.{has_entry, same_row}
+use Rattle.patricia_model.proofs.SiblingsLemmas.{prefixed-prefixed}
+use Rattle.patricia_model.proofs.UniqueLemmas.{has_entry, same_siblings}
 use Rattle.patricia_model.specs.Internal.Removals.{width}
 use Rattle.patricia_wire.specs.Records.{Record}
-use Rattle.patricia_wire.specs.Internal.WrittenRows.{has_node, record_of, records_of}
-use Rattle.patricia_wire.proofs.CutRows.{cut_row, chain, earns_on, before_row_left}
+use Rattle.patricia_wire.specs.Internal.WrittenSiblings.{has_node, record_of, records_of}
+use Rattle.patricia_wire.proofs.CutSiblings.{cut_siblings, chain, earns_on, before_siblings_left}
 use Rattle.patricia_codec.specs.Internal.Pieces.{IsPiece, AreRecords}
 
 -- less than all of a list leaves something
@@ -25,7 +25,7 @@ drop_filled n l h e = omega (arith, ap length e, length-drop n l)
 take_filled : (n : ℕ) (l : List ℕ) → 1 ≤ n → n ≤ length l → take n l ≢ []
 take_filled n l h w e = omega (arith, ap length e, length-take n l)
 
--- of two rows with as many nodes beside one another, both have a node or none has
+-- of two lists with as many siblings, both have a node or none has
 has_node-width : {V : Type 0} (r s : Siblings V) → width r ≡ width s → has_node r ≡ has_node s
 has_node-width end end e = refl
 has_node-width end (node l v c s) e = absurd (omega arith)
@@ -104,14 +104,14 @@ pub record First (d : ℕ) (R : List Record) : Type 0 where
   pub level : first.level ≡ d
 
 module _ (item : List ℕ → Type 0) (kind : IsKeyKind item) {V : Type 0} where
-  -- a row has records
+  -- siblings have records
   pub some_records : (d : ℕ) (r : Siblings V) → IsCanonical item r
       → (R : List Record) × AreRecords item d r R
-  some_records d r ok = let c = cut_row item kind r ok in (records_of d c.row, record { canonical = ok; cut = c.row; cut_ok = c.ok; same = c.same; is = refl })
+  some_records d r ok = let c = cut_siblings item kind r ok in (records_of d c.siblings, record { canonical = ok; cut = c.siblings; cut_ok = c.ok; same = c.same; is = refl })
 
   -- no node has no record
   pub no_records : (d : ℕ) (R : List Record) → AreRecords item {V = V} d end R → R ≡ []
-  no_records d R a = a.is ∙ ap (records_of d) (same_row item kind (Some 255) a.cut end a.cut_ok tt a.same)
+  no_records d R a = a.is ∙ ap (records_of d) (same_siblings item kind (Some 255) a.cut end a.cut_ok tt a.same)
 
   -- the records behind the first: those below it and those beside it
   pub record Off (d : ℕ) (first : Record) (under beside : Siblings V) (R : List Record) : Type 0 where
@@ -126,25 +126,25 @@ module _ (item : List ℕ → Type 0) (kind : IsKeyKind item) {V : Type 0} where
       → AreRecords item d (node l v c s) R → length l ≤ 255 → Off d (record_of d l v c s) c s R
   off_whole d l v c s R a fits =
       let ok = a.canonical in
-      let child = cut_row item kind c ok.child in
-      let sibling = cut_row item kind s ok.sibling in
-      let made = node l v child.row sibling.row in
+      let child = cut_siblings item kind c ok.child in
+      let sibling = cut_siblings item kind s ok.sibling in
+      let made = node l v child.siblings sibling.siblings in
       let made_ok : IsCanonicalWithin item (Some 255) made = record {
         valid = ok.valid;
         nonempty = ok.nonempty;
         fits = fits;
-        earns = earns_on item kind l l v c child.row ok.child ok.earns child.wide;
+        earns = earns_on item kind l l v c child.siblings ok.child ok.earns child.wide;
         rises = sibling.before l ok.rises;
         child = child.ok;
         sibling = sibling.ok;
       } in
       let same : entries made ≡ entries (node l v c s) = λ i. prefixed l (own v ++ child.same i) ++ sibling.same i in
-      let one = same_row item kind (Some 255) a.cut made a.cut_ok made_ok (a.same ∙ sym same) in
-      let has_child = has_node-width child.row c child.wide in
-      let has_sibling = has_node-width sibling.row s sibling.wide in
+      let one = same_siblings item kind (Some 255) a.cut made a.cut_ok made_ok (a.same ∙ sym same) in
+      let has_child = has_node-width child.siblings c child.wide in
+      let has_sibling = has_node-width sibling.siblings s sibling.wide in
       record {
-        below_records = records_of (d + 1) child.row;
-        beside_records = records_of d sibling.row;
+        below_records = records_of (d + 1) child.siblings;
+        beside_records = records_of d sibling.siblings;
         is = a.is ∙ ap (records_of d) one ∙
             (λ i. record {
               level = d;
@@ -153,9 +153,9 @@ module _ (item : List ℕ → Type 0) (kind : IsKeyKind item) {V : Type 0} where
               child =
                   has_child i;
               sibling = has_sibling i;
-            } ∷ (records_of (d + 1) child.row ++ records_of d sibling.row));
-        below = record { canonical = ok.child; cut = child.row; cut_ok = child.ok; same = child.same; is = refl };
-        later = record { canonical = ok.sibling; cut = sibling.row; cut_ok = sibling.ok; same = sibling.same; is = refl };
+            } ∷ (records_of (d + 1) child.siblings ++ records_of d sibling.siblings));
+        below = record { canonical = ok.child; cut = child.siblings; cut_ok = child.ok; same = child.same; is = refl };
+        later = record { canonical = ok.sibling; cut = sibling.siblings; cut_ok = sibling.ok; same = sibling.same; is = refl };
       }
 
   -- where labels have no limit, a node earns its place under any label
@@ -166,11 +166,11 @@ module _ (item : List ℕ → Type 0) (kind : IsKeyKind item) {V : Type 0} where
   earns_any l m None (node l1 v1 c1 end) e = e
   earns_any l m None (node l1 v1 c1 (node l2 v2 c2 s2)) e = tt
 
-  -- the rest of a label with what is below it is a row
-  rest_row : (n : ℕ) (l : List ℕ) (v : Option V) (c s : Siblings V)
+  -- the rest of a label with what is below it is a list of siblings
+  rest_siblings : (n : ℕ) (l : List ℕ) (v : Option V) (c s : Siblings V)
       → IsCanonical item (node l v c s) → IsPiece item l n → n < length l
       → IsCanonical item (node (drop n l) v c end)
-  rest_row n l v c s ok piece short = record {
+  rest_siblings n l v c s ok piece short = record {
     valid = valid_rest item kind (take n l) (drop n l) piece.valid (rw (take-append-drop n l) ok.valid);
     nonempty = drop_filled n l short;
     fits = tt;
@@ -187,17 +187,17 @@ module _ (item : List ℕ → Type 0) (kind : IsKeyKind item) {V : Type 0} where
       (node (drop n l) v c end) s R
   off_part d n l v c s R a piece short =
       let ok = a.canonical in
-      let rest_ok = rest_row n l v c s ok piece short in
-      let child = cut_row item kind c ok.child in
-      let sibling = cut_row item kind s ok.sibling in
-      let b = chain item kind (length (drop n l)) (drop n l) v child.row end (omega arith)
+      let rest_ok = rest_siblings n l v c s ok piece short in
+      let child = cut_siblings item kind c ok.child in
+      let sibling = cut_siblings item kind s ok.sibling in
+      let b = chain item kind (length (drop n l)) (drop n l) v child.siblings end (omega arith)
       rest_ok.valid rest_ok.nonempty
-      (λ m. earns_on item kind l m v c child.row ok.child ok.earns child.wide) child.ok tt
+      (λ m. earns_on item kind l m v c child.siblings ok.child ok.earns child.wide) child.ok tt
       tt in
       let inner = node b.label b.value b.child end in
       let inner_same : entries inner ≡ entries (node (drop n l) v c end) = b.same ∙ (λ i. prefixed (drop n l) (own v ++ child.same i) ++ []) in
       let joined = take-append-drop n l in
-      let made = node (take n l) None inner sibling.row in
+      let made = node (take n l) None inner sibling.siblings in
       let made_ok : IsCanonicalWithin item (Some 255) made = record {
         valid = piece.valid;
         nonempty = take_filled n l piece.nonempty piece.within;
@@ -205,7 +205,7 @@ module _ (item : List ℕ → Type 0) (kind : IsKeyKind item) {V : Type 0} where
         earns = λ i p begins room.
             (let over = piece.full i p (Begins-trans i b.label (drop n l) begins b.begins) in omega
             (arith, length-append (take n l) i, length-take n l, piece.within));
-        rises = before_row_left item kind l (take n l) sibling.row piece.valid
+        rises = before_siblings_left item kind l (take n l) sibling.siblings piece.valid
             (take_filled n l piece.nonempty piece.within) (drop n l, joined)
             (sibling.before l ok.rises);
         child = b.ok;
@@ -215,11 +215,11 @@ module _ (item : List ℕ → Type 0) (kind : IsKeyKind item) {V : Type 0} where
       (λ i. prefixed (take n l) (inner_same i) ++ sibling.same i)
       ∙ ap (λ es. prefixed (take n l) es ++ entries s) (append-nil _)
       ∙ ap (λ es. es ++ entries s) (prefixed-prefixed (take n l) (drop n l) (own v ++ entries c) ∙ ap (λ k. prefixed k (own v ++ entries c)) joined) in
-      let one = same_row item kind (Some 255) a.cut made a.cut_ok made_ok (a.same ∙ sym same) in
-      let has_sibling = has_node-width sibling.row s sibling.wide in
+      let one = same_siblings item kind (Some 255) a.cut made a.cut_ok made_ok (a.same ∙ sym same) in
+      let has_sibling = has_node-width sibling.siblings s sibling.wide in
       record {
         below_records = records_of (d + 1) inner;
-        beside_records = records_of d sibling.row;
+        beside_records = records_of d sibling.siblings;
         is = a.is ∙ ap (records_of d) one ∙
             (λ i. record {
               level = d;
@@ -228,9 +228,9 @@ module _ (item : List ℕ → Type 0) (kind : IsKeyKind item) {V : Type 0} where
               child = true;
               sibling =
                   has_sibling i;
-            } ∷ (records_of (d + 1) inner ++ records_of d sibling.row));
+            } ∷ (records_of (d + 1) inner ++ records_of d sibling.siblings));
         below = record { canonical = rest_ok; cut = inner; cut_ok = b.ok; same = inner_same; is = refl };
-        later = record { canonical = ok.sibling; cut = sibling.row; cut_ok = sibling.ok; same = sibling.same; is = refl };
+        later = record { canonical = ok.sibling; cut = sibling.siblings; cut_ok = sibling.ok; same = sibling.same; is = refl };
       }
 
   -- the first record of a node is the first piece of its label

@@ -28,7 +28,7 @@ pub fn decode<K: Bytes, W: Width, V: Drop>(
     values: Vec<V>,
 ) -> Result<Decoded<V>, DecodeError>
     ensures whole { IfOk result (λ d. IsWellFormed d.arena) }
-    ensures row { IfOk result (λ d. IsCanonical K.item (siblings_of d.arena)) }
+    ensures siblings { IfOk result (λ d. IsCanonical K.item (siblings_of d.arena)) }
     ensures means { IfOk result (λ d.
         Means K.item W.width bytes.now values.items (own d.value ++ entries_of d.arena)) }
     ensures first_fault { IfErr result (λ e.

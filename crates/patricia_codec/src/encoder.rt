@@ -62,7 +62,7 @@ impl From<AllocError> for EncodeError {
 // How many bytes the encoding has. The error says as well that it would be too deep.
 fn size<K: Bytes, W: Width, V>(alloc: Global, arena: &NodeArena<V>) -> Result<usize, EncodeError>
     requires whole { IsWellFormed arena.now }
-    requires row { IsCanonical K.item (siblings_of arena.now) }
+    requires siblings { IsCanonical K.item (siblings_of arena.now) }
     ensures { result ≡ Err EncodeError.TooDeep → AreDeep K.item W.width arena.now }
 {
     let mut records = Records::new(alloc, arena);
@@ -80,7 +80,7 @@ pub fn encode<K: Bytes, W: Width, V>(
     arena: &NodeArena<V>,
 ) -> Result<Vec<u8>, EncodeError>
     requires whole { IsWellFormed arena.now }
-    requires row { IsCanonical K.item (siblings_of arena.now) }
+    requires siblings { IsCanonical K.item (siblings_of arena.now) }
     ensures ok { IfOk result (λ b.
         AreTreeBytes K.item W.width b.items (own value.now ++ entries_of arena.now)) }
     ensures too_deep { result ≡ Err EncodeError.TooDeep

@@ -20,11 +20,11 @@ pub struct Records<'a, V> {
     arena: &'a NodeArena<V>,
     // the level of the record that is next
     level: usize,
-    // the row whose first node is next
+    // the siblings whose first node is next
     next: Link,
     // so many bytes of its label are written; where there are any, its siblings wait already
     skipped: usize,
-    // the rows that wait, each with its level
+    // the siblings that wait, with their level
     stack: Vec<(usize, Link)>,
 }
 
@@ -104,7 +104,7 @@ impl<'a, V> Records<'a, V> {
         })
     }
 
-    // Goes back to the row that waits last, if there is one.
+    // Goes back to the siblings that wait last, if any wait.
     fn back<K: Bytes>(&mut self) -> bool
         requires over { self.old.next ≡ None }
         ensures step { IsTrue result → GoesBack K.item self.old self.new }

@@ -1,3 +1,3 @@
-pub mod FewRows
+pub mod FewEntries
 pub mod PointNodes
 pub mod StoreLemmas

@@ -10,22 +10,23 @@ use Rattle.patricia_model.specs.Points.{IsPoint}
 use Rattle.patricia_model.proofs.PointLemmas.{paths_apart}
 use Rattle.patricia_model.proofs.TreeLemmas.{tree_points}
 use Rattle.patricia_nodes.specs.declared.arena.NodeArena.{NodeArena}
-use Rattle.patricia_nodes.specs.Internal.Plans.{Plan, Nil, Cell, row, size, plan_at, siblings_of}
+use Rattle.patricia_nodes.specs.Internal.Plans.{Plan, Nil, Cell, siblings_in, size, plan_at}
+use Rattle.patricia_nodes.specs.Internal.Plans.{siblings_of}
 use Rattle.patricia_nodes.specs.Internal.Plans.{IsWellFormed}
 use Rattle.patricia_nodes.proofs.SeekLemmas.{whole_plan}
 use Rattle.patricia_wire.specs.Counts.{IsCount}
 
 module _ {V : Type 0} where
   -- each node has one path
-  path_each : (p : Plan V) → length (paths (row p)) ≡ size p
+  path_each : (p : Plan V) → length (paths (siblings_in p)) ≡ size p
   path_each Nil = refl
   path_each (Cell id l v c s) = omega (
     arith,
     path_each c,
     path_each s,
-    length-append (map (λ p. l ++ p) (paths (row c)))
-        (paths (row s)),
-    length-map (paths (row c)) (λ p. l ++ p),
+    length-append (map (λ p. l ++ p) (paths (siblings_in c)))
+        (paths (siblings_in s)),
+    length-map (paths (siblings_in c)) (λ p. l ++ p),
   )
 
   -- there is a node for each point of the keys

@@ -12,10 +12,10 @@ use Rattle.patricia_nodes.specs.Internal.Writes.{IsPut}
 use Rattle.patricia_core.specs.Internal.Stores.{IsStored}
 
 module _ (item : List ℕ → Type 0) (kind : IsKeyKind item) {V : Type 0} where
-  -- the rows of a map are those of its tree's value and nodes
-  pub rows_of_parts : (v w : Option V) (r : Siblings V) (m : FinMap key_cmp V) → IsCanonical item r
+  -- the entries of a map are those of its tree's value and nodes
+  pub entries_of_parts : (v w : Option V) (r : Siblings V) (m : FinMap key_cmp V) → IsCanonical item r
       → w ≡ v → map_of v r ≡ m → own w ++ entries r ≡ map.entries m
-  rows_of_parts v w r m ok same is =
+  entries_of_parts v w r m ok same is =
       ap (λ v. own v ++ entries r) same ∙ sym (entries_map item kind v r ok) ∙ ap map.entries is
 
   module _ (old new : NodeArena V) (q : List ℕ) (x : V) (count : ℕ) (stored : IsStored item old count)
@@ -23,10 +23,10 @@ module _ (item : List ℕ → Type 0) (kind : IsKeyKind item) {V : Type 0} where
     -- a new key is counted
     pub stored_new : IsCanonical item (siblings_of new) → IsPut old new q x
         → find key_cmp q (entries_of old) ≡ None → count + 1 < 2 ^ 64 - 1 → IsStored item new (count + 1)
-    stored_new row put none fits = record {
+    stored_new siblings put none fits = record {
       whole = whole;
       tree = record {
-        canonical = row;
+        canonical = siblings;
         counted = rw stored.tree.counted
             (sym (length_new item kind (siblings_of old) (siblings_of new) q x stored.tree.canonical put none));
         fits = fits;
@@ -36,10 +36,10 @@ module _ (item : List ℕ → Type 0) (kind : IsKeyKind item) {V : Type 0} where
     -- one that is there is not
     pub stored_old : (y : V) → IsCanonical item (siblings_of new) → IsPut old new q x
         → find key_cmp q (entries_of old) ≡ Some y → IsStored item new count
-    stored_old y row put some = record {
+    stored_old y siblings put some = record {
       whole = whole;
       tree = record {
-        canonical = row;
+        canonical = siblings;
         counted = stored.tree.counted
             ∙ sym (length_old item kind (siblings_of old) (siblings_of new) q x y stored.tree.canonical put some);
         fits = stored.tree.fits;

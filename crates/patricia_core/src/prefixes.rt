@@ -1,4 +1,4 @@
-//! Iterators along a key and under a prefix. Those along a key do not allocate.
+//! Iterators over the common prefixes of a key, which do not allocate, and under a prefix.
 ghost use Rattle.std.specs.Prelude.{◌≡◌, length};
 ghost use Rattle.std.specs.Iterator.{at_most};
 ghost use Rattle.std.specs.Map.Iter.{TakesFirst};
@@ -30,7 +30,7 @@ impl<'a, Q: BorrowedBytes, V> Model for CommonPrefixValues<'a, Q, V> {
 }
 
 impl<'a, Q: BorrowedBytes, V> CommonPrefixValues<'a, Q, V> {
-    /// Returns the values of the entries of a walk along a key.
+    /// Returns the values of the entries of a walk over the common prefixes of a key.
     pub fn new(along: Along<'a, Q, V>) -> Self
         ensures { result ≡ values_of along.entry }
     {

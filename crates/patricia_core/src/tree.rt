@@ -9,7 +9,7 @@ ghost use Rattle.patricia_keys.specs.Keys.{AreSingle, Begins, IsValid};
 ghost use Rattle.patricia_model.specs.Clones.{ClonesAreSame};
 ghost use Rattle.patricia_model.specs.Points.{CountsVisits, IsPoint, Joins};
 ghost use Rattle.patricia_model.specs.Prefixes.{along, longest, outside, under, IsReach};
-ghost use Rattle.patricia_model.specs.Cursors.{before_rows};
+ghost use Rattle.patricia_model.specs.Cursors.{before_entries};
 ghost use Rattle.patricia_model.specs.Walks.{values_of};
 ghost use Rattle.patricia_wire.specs.Counts.{IsCount};
 ghost use Rattle.patricia_wire.specs.TreeBytes.{AreTreeBytes};
@@ -300,23 +300,25 @@ impl<K: Bytes, V: Drop> Tree<K, V> {
         let _count = self.count;
     }
 
-    /// The entries whose key begins a key, the shortest first. Each key is a part of that key.
+    /// The common prefixes of a key: the entries whose key begins it, the shortest first. Each key
+    /// is a part of that key.
     pub fn along<Q: BorrowedBytes<Owned = K>>(&self, key: Q) -> Along<'_, Q, V>
         ensures { result ≡ along (Q.key key) (map.entries self.now) }
     {
         Along::new(self.value.as_ref(), &self.arena, key)
     }
 
-    /// The values of the same entries, along an owned key.
+    /// The values of the same entries, for an owned key.
     pub fn along_owned(&self, key: K) -> AlongOwned<'_, K, V>
         ensures { result ≡ values_of (along (K.key key) (map.entries self.now)) }
     {
         AlongOwned::new(self.value.as_ref(), &self.arena, key)
     }
 
-    /// The entry of the longest key that begins a key. The key handed out is a part of that key.
+    /// The longest prefix of a key: the entry of the longest key that begins it. The key that is
+    /// returned is a part of it.
     pub fn longest<Q: BorrowedBytes<Owned = K>>(&self, key: Q) -> Option<(Q, &V)>
-        ensures row { option_map (λ e. (Q.key e.0, e.1.now)) result
+        ensures entry { option_map (λ e. (Q.key e.0, e.1.now)) result
             ≡ longest (Q.key key) (map.entries self.now) }
         ensures part { IfSome result (λ e. Begins (Q.key e.0) (Q.key key)) }
     {
@@ -328,7 +330,8 @@ impl<K: Bytes, V: Drop> Tree<K, V> {
         last
     }
 
-    /// The greatest common length of a key with the keys, in bytes; 0 where there are none.
+    /// The common length of a key with the keys, the greatest that it has with one of them, in
+    /// bytes; 0 where there are none.
     pub fn reach<Q: BorrowedBytes<Owned = K>>(&self, key: Q) -> usize
         ensures { IsReach K.item (map.keys self.now) (Q.key key) result }
     {
@@ -366,7 +369,7 @@ impl<K: Bytes, V: Drop> Tree<K, V> {
         encode::<K, W, V>(self.alloc, &self.value, &self.arena)
     }
 
-    // The tree of the rows that the bytes mean with the values, with its nodes in key order.
+    // The tree of the entries that the bytes mean with the values, with its nodes in key order.
     fn decoded<W: Width>(alloc: Global, bytes: &[u8], values: Vec<V>) -> Result<Self, DecodeError>
         ensures ok { IfOk result (λ t.
             Means K.item W.width bytes.now values.items (map.entries t)) }
@@ -385,7 +388,7 @@ impl<K: Bytes, V: Drop> Tree<K, V> {
         })
     }
 
-    /// The tree of the rows that the bytes mean with the values, which are in key order, where
+    /// The tree of the entries that the bytes mean with the values, which are in key order, where
     /// levels have this width. Where it is refused the values are dropped.
     pub fn from_wire<W: Width>(
         alloc: Global,
@@ -411,14 +414,17 @@ impl<K: Bytes, V: Drop> Tree<K, V> {
 
     /// A cursor that reads the entries in key order. Making it does not allocate.
     pub fn cursor(&self) -> ReadCursor<'_, K, V>
-        ensures { result ≡ before_rows (map.entries self.now) }
+        ensures { result ≡ before_entries (map.entries self.now) }
     {
         ReadCursor::new(self.walk())
     }
 
     /// The same of the entries whose key begins with a prefix. Making it does not allocate.
-    pub fn cursor_under<Q: BorrowedBytes<Owned = K>>(&self, prefix: Q) -> PrefixReadCursor<'_, Q, V>
-        ensures { result ≡ before_rows (under (Q.key prefix) (map.entries self.now)) }
+    pub fn cursor_prefix<Q: BorrowedBytes<Owned = K>>(
+        &self,
+        prefix: Q,
+    ) -> PrefixReadCursor<'_, Q, V>
+        ensures { result ≡ before_entries (under (Q.key prefix) (map.entries self.now)) }
     {
         PrefixReadCursor::new(self.under(prefix))
     }

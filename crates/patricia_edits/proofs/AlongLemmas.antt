@@ -9,9 +9,9 @@ use Rattle.patricia_nodes.specs.Internal.Trails.{IsTrail, KeepsAround, PlacedBeh
 use Rattle.patricia_nodes.specs.Internal.Writes.{Puts, Stays}
 
 module _ {V : Type 0} {s new : NodeArena V} (stays : Stays s new) where
-  -- nodes that stay stand for the row that they did
-  pub row_stays : siblings_of new ≡ siblings_of s
-  row_stays = rw (stays.nodes_is, stays.root_is) refl
+  -- nodes that stay stand for the siblings that they did
+  pub siblings_stay : siblings_of new ≡ siblings_of s
+  siblings_stay = rw (stays.nodes_is, stays.root_is) refl
 
   -- and none of them is lost
   pub whole_stays : IsWellFormed s → IsWellFormed new

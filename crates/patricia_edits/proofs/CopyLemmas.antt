@@ -1,4 +1,4 @@
--- Rows that are copied, one after the other.
+-- Lists of siblings that are copied, one after the other.
 use Rattle.std.proofs.Common.{◌≡◌, ℕ, suc, ◌+◌, ◌<◌, ◌≤◌, List, [], ◌∷◌, ◌++◌, length, get_or}
 use Rattle.std.proofs.Common.{Option, Some, None, slice_get, sym, ap, ◌∙◌, arith, length-append}
 use Rattle.std.proofs.lemmas.List.{append-nil}
@@ -6,11 +6,11 @@ use Rattle.std.proofs.lemmas.Option.{slice_get_within}
 use Rattle.std.specs.Prelude.{IfSome}
 use Rattle.patricia_model.specs.Clones.{CloneIsSame}
 use Rattle.patricia_nodes.specs.declared.arena.Node.{Node}
-use Rattle.patricia_nodes.specs.Internal.Plans.{Plan, Nil, Cell, linked, head, row}
-use Rattle.patricia_nodes.specs.Internal.Growth.{tops, numbered_siblings, laid, IsTopRow}
+use Rattle.patricia_nodes.specs.Internal.Plans.{Plan, Nil, Cell, linked, head, siblings_in}
+use Rattle.patricia_nodes.specs.Internal.Growth.{tops, numbered_siblings, laid, AreTopSiblings}
 use Rattle.patricia_nodes.proofs.PlanLemmas.{node_is}
 use Rattle.patricia_nodes.proofs.GrowthLemmas.{opens_top, laid_next}
-use Rattle.patricia_edits.specs.Internal.Copies.{RowKept}
+use Rattle.patricia_edits.specs.Internal.Copies.{SiblingsKept}
 
 module _ {V : Type 0} where
   -- what lies behind makes the new nodes no fewer
@@ -19,13 +19,13 @@ module _ {V : Type 0} where
   not_fewer to final w comes = omega (arith, ap length comes, length-append to (laid (length to) w))
 
 module _ {V : Type 0} (is_clone : V → V → Type 0) where
-  -- how far a row is copied
+  -- how far siblings are copied
   pub record Copying (from to0 : List (Node V)) (w : Plan V) (at : Option ℕ) (to : List (Node V)) : Type 0 where
     pub rest : Plan V
-    pub top : IsTopRow from at rest
+    pub top : AreTopSiblings from at rest
     pub copied : to ++ laid (length to) rest ≡ to0 ++ laid (length to0) w
     pub counted : length to + length (tops rest) ≡ length to0 + length (tops w)
-    pub kept : RowKept is_clone (row w) → RowKept is_clone (row rest)
+    pub kept : SiblingsKept is_clone (siblings_in w) → SiblingsKept is_clone (siblings_in rest)
 
   module _ {from to0 : List (Node V)} {w : Plan V} {at : Option ℕ} {id : ℕ} {to : List (Node V)} (m : Copying from to0 w at to) (e : at ≡ Some id) where
     -- the next node, with what it has and what comes behind it
@@ -42,7 +42,7 @@ module _ {V : Type 0} (is_clone : V → V → Type 0) where
     copying_room = omega (arith, m.counted, ap (λ p. length (tops p)) next_node.4)
 
     -- and clones of its value are the same
-    pub copying_kept : RowKept is_clone (row w) → (n : Node V) → n ≡ get_or from id n
+    pub copying_kept : SiblingsKept is_clone (siblings_in w) → (n : Node V) → n ≡ get_or from id n
         → IfSome n.value (CloneIsSame is_clone)
     copying_kept kept n reads = rw (node_is from id n _ next_node.5 reads) (rw next_node.4 at m.kept kept).0
 
@@ -55,10 +55,10 @@ module _ {V : Type 0} (is_clone : V → V → Type 0) where
         → Copying from to0 w n.sibling to'
     copying_next number numbers to' pushed = by m.rest m.top m.copied m.counted m.kept
       where
-        by : (r : Plan V) → IsTopRow from (Some id) r
+        by : (r : Plan V) → AreTopSiblings from (Some id) r
             → to ++ laid (length to) r ≡ to0 ++ laid (length to0) w
             → length to + length (tops r) ≡ length to0 + length (tops w)
-            → (RowKept is_clone (row w) → RowKept is_clone (row r))
+            → (SiblingsKept is_clone (siblings_in w) → SiblingsKept is_clone (siblings_in r))
             → Copying from to0 w n.sibling to'
         by Nil top copied counted kept = let e = top.at_is in absurd (cc)
         by (Cell i l v c d) top copied counted kept =

@@ -9,14 +9,14 @@ use Rattle.std.proofs.lemmas.List.Elements.{All-from_recursion, recursion_from_A
 use Rattle.patricia_model.specs.Siblings.{Siblings, end, node, own, prefixed, entries}
 use Rattle.patricia_nodes.specs.declared.arena.Node.{Node}
 use Rattle.patricia_nodes.specs.declared.arena.NodeArena.{NodeArena}
-use Rattle.patricia_nodes.specs.Internal.Plans.{Plan, Nil, Cell, linked, head, row, siblings_of, count}
+use Rattle.patricia_nodes.specs.Internal.Plans.{Plan, Nil, Cell, linked, head, siblings_in, siblings_of, count}
 use Rattle.patricia_nodes.specs.Internal.Plans.{LaidOut, IsSound, IsWellFormed}
 use Rattle.patricia_nodes.proofs.PlanLemmas.{below_in, plan_is}
 use Rattle.patricia_nodes.specs.Internal.Relocation.{Mix, Empty, Done, Open, flat, Laying}
 use Rattle.patricia_nodes.proofs.RelayLemmas.{OpenAt}
-use Rattle.patricia_nodes.proofs.LayLemmas.{NextRow}
+use Rattle.patricia_nodes.proofs.LayLemmas.{NextSiblings}
 use Rattle.patricia_model.specs.Clones.{CloneIsSame, ClonesAreSame}
-use Rattle.patricia_edits.specs.Internal.Copies.{EntriesKept, RowKept}
+use Rattle.patricia_edits.specs.Internal.Copies.{EntriesKept, SiblingsKept}
 
 module _ {V : Type 0} (is_clone : V → V → Type 0) where
   abbrev Kept : List (List ℕ × V) → Type 0
@@ -37,8 +37,8 @@ module _ {V : Type 0} (is_clone : V → V → Type 0) where
   kept-own None k = tt
   kept-own (Some v) k = k.0
 
-  -- where the clones of a row's entries are the same, so are those of its nodes' values
-  kept-entries : (r : Siblings V) → Kept (entries r) → RowKept is_clone r
+  -- where the clones of the entries of siblings are the same, so are those of their nodes' values
+  kept-entries : (r : Siblings V) → Kept (entries r) → SiblingsKept is_clone r
   kept-entries end k = tt
   kept-entries (node l v c s) k =
       let both = kept_both (prefixed l (own v ++ entries c)) (entries s) k in
@@ -62,12 +62,12 @@ module _ {V : Type 0} (is_clone : V → V → Type 0) where
       in
       (kept-own v both.0, All-from_recursion (λ e. CloneIsSame is_clone e.1) (entries r) both.1)
 
-  -- the values of the entries are those of the row
-  pub row_kept : (s : NodeArena V) → EntriesKept is_clone s → RowKept is_clone (siblings_of s)
-  row_kept s k = kept-entries (siblings_of s) (recursion_from_All (λ e. CloneIsSame is_clone e.1) (entries (siblings_of s)) k)
+  -- the values of the entries are those of the siblings
+  pub siblings_kept : (s : NodeArena V) → EntriesKept is_clone s → SiblingsKept is_clone (siblings_of s)
+  siblings_kept s k = kept-entries (siblings_of s) (recursion_from_All (λ e. CloneIsSame is_clone e.1) (entries (siblings_of s)) k)
 
-  -- and so are those of each node that stands in a plan, where those of its row are
-  kept_at : (nodes : List (Node V)) (p : Plan V) → LaidOut nodes p → RowKept is_clone (row p)
+  -- and so are those of each node that stands in a plan, where those of the plan's siblings are
+  kept_at : (nodes : List (Node V)) (p : Plan V) → LaidOut nodes p → SiblingsKept is_clone (siblings_in p)
       → (i : ℕ) → count p i ≢ 0 → (n : Node V) → slice_get nodes i ≡ Some n
       → IfSome n.value (CloneIsSame is_clone)
   kept_at nodes Nil stands k i there n is = absurd (there refl)
@@ -94,26 +94,26 @@ module _ {V : Type 0} (is_clone : V → V → Type 0) where
       → (i : ℕ) (n : Node V) → slice_get s.nodes.items i ≡ Some n → IfSome n.value (CloneIsSame is_clone)
   nodes_kept s whole none k i n is = by whole.1.0 whole.1.1
     where
-      kept : RowKept is_clone (row whole.0)
-      kept = subst (λ p. RowKept is_clone (row p)) (plan_is s.nodes.items s.root whole.0 whole.1.1.plan_ok) (row_kept s k)
+      kept : SiblingsKept is_clone (siblings_in whole.0)
+      kept = subst (λ p. SiblingsKept is_clone (siblings_in p)) (plan_is s.nodes.items s.root whole.0 whole.1.1.plan_ok) (siblings_kept s k)
 
       by : (spare : List ℕ) → IsSound s.nodes.items s.root s.free whole.0 spare → IfSome n.value (CloneIsSame is_clone)
       by (id ∷ ids) sound = absurd (let no : None ≡ Some id = sym none ∙ sound.free_is in cc)
       by [] sound = kept_at s.nodes.items whole.0 sound.plan_ok.stands kept i
           (λ gone. absurd (omega (arith, sound.once i, below_in (length s.nodes.items) i (slice_get_within s.nodes.items i n is), gone))) n is
 
-  -- the clones of a node's children are the same, where those of the whole row are
-  kept-open : (i : ℕ) (q : Mix V) (w : Plan V) → OpenAt i q w → RowKept is_clone (row (flat q))
-      → RowKept is_clone (row w)
+  -- the clones of a node's children are the same, where those of the top siblings are
+  kept-open : (i : ℕ) (q : Mix V) (w : Plan V) → OpenAt i q w → SiblingsKept is_clone (siblings_in (flat q))
+      → SiblingsKept is_clone (siblings_in w)
   kept-open i Empty w due k = absurd due
   kept-open i (Done id l v c d) w (inl due) k = kept-open i c w due k.1
   kept-open i (Done id l v c d) w (inr due) k = kept-open i d w due k.2
-  kept-open i (Open id l v c d) w (inl here) k = subst (λ x. RowKept is_clone (row x)) here.1 k.1
+  kept-open i (Open id l v c d) w (inl here) k = subst (λ x. SiblingsKept is_clone (siblings_in x)) here.1 k.1
   kept-open i (Open id l v c d) w (inr due) k = kept-open i d w due k.2
 
-  -- and so are those of the next row that is laid
-  pub next_row_kept : (p : Plan V) (from : List (Node V)) (marks : ℕ → Bool) (i : ℕ)
+  -- and so are those of the next siblings that are laid
+  pub next_siblings_kept : (p : Plan V) (from : List (Node V)) (marks : ℕ → Bool) (i : ℕ)
       (to : List (Node V)) (root : Option ℕ) (l : Laying p from marks to root)
-      (next : NextRow p from i to l.mix) → RowKept is_clone (row p)
-      → RowKept is_clone (row next.row)
-  next_row_kept p from marks i to root l next kept = kept-open i l.mix next.row next.due (subst (λ r. RowKept is_clone r) (sym l.row_is) kept)
+      (next : NextSiblings p from i to l.mix) → SiblingsKept is_clone (siblings_in p)
+      → SiblingsKept is_clone (siblings_in next.siblings)
+  next_siblings_kept p from marks i to root l next kept = kept-open i l.mix next.siblings next.due (subst (λ r. SiblingsKept is_clone r) (sym l.siblings_are) kept)

@@ -1,9 +1,9 @@
--- Nodes that are counted, the rows that wait in a vector.
+-- Nodes that are counted, the siblings that wait in a vector.
 use Rattle.std.proofs.Common.{◌≡◌, ℕ, suc, ◌+◌, ◌*◌, ◌<◌, ◌≤◌, List, [], ◌∷◌, ◌++◌, length, Option}
 use Rattle.std.proofs.Common.{Some, None, get_or, refl, ap, arith, length-append}
 use Rattle.patricia_model.specs.Siblings.{prefixed, own, entries}
 use Rattle.patricia_nodes.specs.declared.arena.Node.{Node}
-use Rattle.patricia_nodes.specs.Internal.Plans.{Plan, Nil, Cell, row, size, IsPlan, plan_at}
+use Rattle.patricia_nodes.specs.Internal.Plans.{Plan, Nil, Cell, siblings_in, size, IsPlan, plan_at}
 use Rattle.patricia_nodes.proofs.PlanLemmas.{plan_is}
 use Rattle.patricia_nodes.proofs.SeekLemmas.{Opened, opened, head_within}
 use Rattle.patricia_edits.specs.Internal.Splits.{values}
@@ -20,9 +20,9 @@ module _ {V : Type 0} where
       → values (Cell id l v c d) ≡ length (own v) + (values c + values d)
   values-cell id l v c d = omega (
     arith,
-    length-append (prefixed l (own v ++ entries (row c))) (entries (row d)),
-    length-prefixed l (own v ++ entries (row c)),
-    length-append (own v) (entries (row c)),
+    length-append (prefixed l (own v ++ entries (siblings_in c))) (entries (siblings_in d)),
+    length-prefixed l (own v ++ entries (siblings_in c)),
+    length-append (own v) (entries (siblings_in c)),
   )
 
   -- a node has at most one value
@@ -36,12 +36,12 @@ module _ {V : Type 0} where
   values-within (Cell id l v c d) = omega (arith, values-cell id l v c d, own-one v, values-within c, values-within d)
 
   module _ (nodes : List (Node V)) where
-    -- how many nodes the rows have that wait, and how many values
+    -- how many nodes the siblings that wait have, and how many values
     abbrev pub size_of : List (Option ℕ) → ℕ
     size_of [] = 0
     size_of (at ∷ ats) = size (plan_at nodes at) + size_of ats
 
-    -- how many values the rows at these links have
+    -- how many values the siblings at these links have
     abbrev pub values_of : List (Option ℕ) → ℕ
     values_of [] = 0
     values_of (at ∷ ats) = values (plan_at nodes at) + values_of ats
@@ -51,7 +51,7 @@ module _ {V : Type 0} where
     AllPlans [] = Unit {0}
     AllPlans (at ∷ ats) = IsPlan nodes at (plan_at nodes at) × AllPlans ats
 
-    -- one more row that waits adds its nodes to the sum
+    -- siblings that wait behind others add their nodes to the sum
     size-last : (ats : List (Option ℕ)) (at : Option ℕ)
         → size_of (ats ++ at ∷ []) ≡ size_of ats + size (plan_at nodes at)
     size-last [] at = omega arith
@@ -75,10 +75,10 @@ module _ {V : Type 0} where
     plans-but_last [] at all = (tt, all.0)
     plans-but_last (b ∷ ats) at all = let rest = plans-but_last ats at all.1 in ((all.0, rest.0), rest.1)
 
-    -- where no row waits, the list of rows that wait is empty
-    no_rows : (ats : List (Option ℕ)) → length ats ≡ 0 → ats ≡ []
-    no_rows [] e = refl
-    no_rows (at ∷ ats) e = absurd (omega (arith, e))
+    -- where no siblings wait, the list of those that wait is empty
+    no_siblings : (ats : List (Option ℕ)) → length ats ≡ 0 → ats ≡ []
+    no_siblings [] e = refl
+    no_siblings (at ∷ ats) e = absurd (omega (arith, e))
 
     -- so many nodes and values are counted, and the rest is at hand or waits
     pub record Measuring (first at : Option ℕ) (waiting : List (Option ℕ)) (n m : ℕ) : Type 0 where
@@ -164,9 +164,9 @@ module _ {V : Type 0} where
               → left r.child more < left at waiting
           less_down more is = rw is (omega (arith, sizes_are, size-last waiting r.sibling, length-append waiting (r.sibling ∷ [])))
 
-      -- the end of a row
+      -- the end of the siblings
       module _ (none : at ≡ None) where
-        -- where there is no number, no node is left in the row
+        -- where there is no number, no node is left in the siblings
         no_node : plan_at nodes at ≡ Nil
         no_node = by (plan_at nodes at) w.here
           where
@@ -174,7 +174,7 @@ module _ {V : Type 0} where
             by Nil h = refl
             by (Cell id l v c d) h = let e = h.at_is in absurd (cc)
 
-        -- at the end of a row the last one that waits is next
+        -- at their end those that wait last are next
         pub measuring_back : (rest : List (Option ℕ)) (next : Option ℕ)
             → waiting ≡ rest ++ next ∷ [] → Measuring first next rest n m
         measuring_back rest next is =
@@ -197,7 +197,7 @@ module _ {V : Type 0} where
             → (n ≡ size p) × (m ≡ values p)
         measuring_done none_left p plan =
             let is = plan_is nodes first p plan in
-            let over : waiting ≡ [] = no_rows waiting none_left in (
+            let over : waiting ≡ [] = no_siblings waiting none_left in (
               omega (arith, w.sized, ap (λ (q : Plan V). size q) no_node, ap size_of over, ap (λ (q : Plan V). size q) is),
               omega (arith, w.valued, ap (λ (q : Plan V). values q) no_node, ap values_of over, ap (λ (q : Plan V). values q) is),
             )

@@ -54,7 +54,7 @@ module _ {V : Type 0} (s : NodeArena V) (id : ℕ) (fs : List (Frame V)) (l : Li
       long : length nodes ≡ length s.nodes.items
       long = ap length nodes_is ∙ length-set s.nodes.items id (linked l None None (head d))
 
-      -- the moved node is the top row of the new vector
+      -- the moved node is alone at the top of the new vector
       pub laid_top : (to : List (Node V)) → to ≡ linked top v (head c) None ∷ []
           → IsLaid nodes to moved
       laid_top to is = record {

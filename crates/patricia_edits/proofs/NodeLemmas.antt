@@ -5,7 +5,8 @@ use Rattle.std.proofs.lemmas.Option.{slice_get_within}
 use Rattle.patricia_model.specs.Siblings.{own, entries}
 use Rattle.patricia_nodes.specs.declared.arena.Node.{Node}
 use Rattle.patricia_nodes.specs.declared.arena.NodeArena.{NodeArena}
-use Rattle.patricia_nodes.specs.Internal.Plans.{Plan, Cell, linked, head, row, size, IsPlan, Holds}
+use Rattle.patricia_nodes.specs.Internal.Plans.{Plan, Cell, linked, head, siblings_in, size, IsPlan}
+use Rattle.patricia_nodes.specs.Internal.Plans.{Holds}
 use Rattle.patricia_nodes.specs.Internal.Places.{Frame, fill}
 use Rattle.patricia_nodes.proofs.FillLemmas.{stands-within, size-fill}
 use Rattle.patricia_nodes.proofs.WriteLemmas.{read_at}
@@ -51,8 +52,8 @@ module _ {V : Type 0} (s : NodeArena V) (id : ℕ) (fs : List (Frame V)) (l : Li
     -- counts of what is below it give the counts with it
     pub tree_counted : (n m room count : ℕ) → (n ≡ size c) × (m ≡ values c) → n + 1 ≤ room
         → count ≡ m + length (own r.value)
-        → (suc (size c) ≤ room) × (count ≡ length (own v ++ entries (row c)))
+        → (suc (size c) ≤ room) × (count ≡ length (own v ++ entries (siblings_in c)))
     tree_counted n m room count is wide counted = (
       omega (arith, is.0, wide),
-      omega (arith, is.1, counted, length-append (own v) (entries (row c)), ap (λ (x : Node V). length (own x.value)) node_read),
+      omega (arith, is.1, counted, length-append (own v) (entries (siblings_in c)), ap (λ (x : Node V). length (own x.value)) node_read),
     )

@@ -7,21 +7,21 @@ use Rattle.patricia_model.specs.Siblings.{Siblings, end, node, IsCanonical}
 use Rattle.patricia_model.specs.Internal.LabelCmp.{Passes}
 use Rattle.patricia_model.specs.Internal.Removals.{LeavesAlone}
 use Rattle.patricia_model.proofs.LeavingLemmas.{Leaves}
-use Rattle.patricia_nodes.specs.Internal.Plans.{Plan, Nil, Cell, linked, head, row, LaidOut}
+use Rattle.patricia_nodes.specs.Internal.Plans.{Plan, Nil, Cell, linked, head, siblings_in, LaidOut}
 use Rattle.patricia_nodes.specs.Internal.Places.{Frame, InChild, InSibling, fill, Leads}
 use Rattle.patricia_nodes.specs.Internal.Merges.{LeavesOther}
-use Rattle.patricia_nodes.proofs.FillLemmas.{row-within, stands-within}
+use Rattle.patricia_nodes.proofs.FillLemmas.{siblings-within, stands-within}
 use Rattle.patricia_edits.proofs.TakeLemmas.{Gone, gone_past, gone_joined, gone-fill}
 
--- the node of this number, label, value and children stands in the place, and what is left of its
--- row without it
+-- the node of this number, label, value and children stands in the place, and what is left of the
+-- siblings without it
 module _ (item : List ℕ → Type 0) (kind : IsKeyKind item) {V : Type 0}
     (left : List ℕ → List (List ℕ × V) → List (List ℕ × V)) (leaves : Leaves item left)
     (id : ℕ) (l : List ℕ) (x : Option V) (c : Plan V) (key rest : List ℕ)
-    (goes : (s : Siblings V) → IsCanonical item (node l x (row c) s) → Gone item left
-    (node l x (row c) s) s rest)
+    (goes : (s : Siblings V) → IsCanonical item (node l x (siblings_in c) s) → Gone item left
+    (node l x (siblings_in c) s) s rest)
     (fs : List (Frame V)) (d : Plan V) (leads : Leads item fs key rest)
-    (ok : IsCanonical item (row (fill fs (Cell id l x c d)))) (u o : ℕ)
+    (ok : IsCanonical item (siblings_in (fill fs (Cell id l x c d)))) (u o : ℕ)
     (other : LeavesOther fs d u o) where
   abbrev after : Plan V
   after = Cell u (other.label ++ other.inner) other.own other.below other.beside
@@ -42,8 +42,8 @@ module _ (item : List ℕ → Type 0) (kind : IsKeyKind item) {V : Type 0}
     pub through : Passes item before other.label rest
     pub nonempty : rest ≢ []
     pub outer_leads : Leads item other.outer key before
-    pub gone : IsCanonical item (row old) → Gone item left (row old) (row lone) rest
-    pub alone : l ≡ rest → row c ≡ end → LeavesAlone rest (row old) other.inner
+    pub gone : IsCanonical item (siblings_in old) → Gone item left (siblings_in old) (siblings_in lone) rest
+    pub alone : l ≡ rest → siblings_in c ≡ end → LeavesAlone rest (siblings_in old) other.inner
 
   -- how the key leads to the node above
   pub inside : Inside
@@ -57,7 +57,7 @@ module _ (item : List ℕ → Type 0) (kind : IsKeyKind item) {V : Type 0}
           through = way.1;
           nonempty = way.2;
           outer_leads = way.3;
-          gone = λ inner. goes (row lone) inner;
+          gone = λ inner. goes (siblings_in lone) inner;
           alone = λ is leaf. inl (is, leaf, refl);
         }
     | inr e ↦
@@ -71,20 +71,20 @@ module _ (item : List ℕ → Type 0) (kind : IsKeyKind item) {V : Type 0}
           through = way.1.1;
           nonempty = way.1.2;
           outer_leads = way.1.3;
-          gone = λ inner. gone_past item kind left leaves other.inner other.own (row other.below)
-              (node l x (row c) end) end inner rest way.0 (goes end inner.sibling);
+          gone = λ inner. gone_past item kind left leaves other.inner other.own (siblings_in other.below)
+              (node l x (siblings_in c) end) end inner rest way.0 (goes end inner.sibling);
           alone = λ is leaf. inr (is, leaf, refl);
         }
   ]
 
-  -- the whole row keeps the invariant, with the node above and its children
+  -- the top siblings keep the invariant, with the node above and its children
   pub whole_ok :
-      IsCanonical item (row (fill other.outer (Cell u other.label None inside.old other.beside)))
-  whole_ok = subst (λ (q : Plan V). IsCanonical item (row q)) inside.was ok
+      IsCanonical item (siblings_in (fill other.outer (Cell u other.label None inside.old other.beside)))
+  whole_ok = subst (λ (q : Plan V). IsCanonical item (siblings_in q)) inside.was ok
 
   -- the node above and its children keep the invariant
-  pub upper_ok : IsCanonical item (node other.label None (row inside.old) (row other.beside))
-  upper_ok = row-within item other.outer (Cell u other.label None inside.old other.beside) whole_ok
+  pub upper_ok : IsCanonical item (node other.label None (siblings_in inside.old) (siblings_in other.beside))
+  upper_ok = siblings-within item other.outer (Cell u other.label None inside.old other.beside) whole_ok
 
   -- both are in the vector, with their labels
   pub labels_are : (nodes : List (Node V)) → LaidOut nodes (fill fs (Cell id l x c d))
@@ -104,14 +104,15 @@ module _ (item : List ℕ → Type 0) (kind : IsKeyKind item) {V : Type 0}
         ((linked other.label None (Some o) (head other.beside), at.0, refl), (linked other.inner other.own (head other.below) (Some id), at.1.0, refl))
   ]
 
-  -- merged with the other child, the rows keep the invariant, and the rest of the entries is left
+  -- merged with the other child, the siblings keep the invariant, and the rest of the entries is
+  -- left
   pub other_gone :
-      Gone item left (row (fill fs (Cell id l x c d))) (row (fill other.outer after)) key
+      Gone item left (siblings_in (fill fs (Cell id l x c d))) (siblings_in (fill other.outer after)) key
   other_gone =
-      subst (λ (q : Plan V). Gone item left (row q) (row (fill other.outer after)) key) (sym inside.was)
+      subst (λ (q : Plan V). Gone item left (siblings_in q) (siblings_in (fill other.outer after)) key) (sym inside.was)
       (gone-fill item kind left leaves other.outer
       (Cell u other.label None inside.old other.beside) after whole_ok key inside.before
       inside.outer_leads (omega arith)
-      (gone_joined item kind left leaves other.label (row inside.old) (row other.beside)
-      other.inner other.own (row other.below) upper_ok inside.before rest inside.through
+      (gone_joined item kind left leaves other.label (siblings_in inside.old) (siblings_in other.beside)
+      other.inner other.own (siblings_in other.below) upper_ok inside.before rest inside.through
       inside.nonempty (inside.gone upper_ok.child)))

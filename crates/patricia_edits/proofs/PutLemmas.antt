@@ -14,7 +14,7 @@ use Rattle.patricia_nodes.specs.declared.arena.seek.Match.TheVariants.{Absent, I
 use Rattle.patricia_keys.specs.Keys.{IsKeyKind, IsValid, ComparesFirst, key_cmp}
 use Rattle.patricia_model.specs.Siblings.{node, entries, IsCanonical}
 use Rattle.patricia_model.specs.Internal.LabelCmp.{EndsWithin}
-use Rattle.patricia_nodes.specs.Internal.Plans.{Plan, Nil, Cell, linked, head, row, Holds}
+use Rattle.patricia_nodes.specs.Internal.Plans.{Plan, Nil, Cell, linked, head, siblings_in, Holds}
 use Rattle.patricia_nodes.specs.Internal.Plans.{IsWellFormed, siblings_of}
 use Rattle.patricia_nodes.specs.Internal.Places.{Frame, InChild, InSibling, fill, Matches}
 use Rattle.patricia_nodes.specs.Internal.Writes.{HasRoomFor, HasLinkRef}
@@ -26,16 +26,17 @@ use Rattle.patricia_nodes.proofs.ValueLemmas.{place_holds, focus_ok, puts_around
 use Rattle.patricia_model.proofs.GetLemmas.{compared_less}
 use Rattle.patricia_model.proofs.InsertLemmas.{single, put_before}
 use Rattle.patricia_model.proofs.DivideLemmas.{Divides, divides_label, ends_at_cut, put_at_cut}
-use Rattle.patricia_model.proofs.DivideLemmas.{row_before_cut, put_before_cut, row_after_cut}
+use Rattle.patricia_model.proofs.DivideLemmas.{siblings_before_cut, put_before_cut}
+use Rattle.patricia_model.proofs.DivideLemmas.{siblings_after_cut}
 use Rattle.patricia_model.proofs.DivideLemmas.{put_after_cut, past_cut}
 
 module _ (item : List ℕ → Type 0) (kind : IsKeyKind item) {V : Type 0} (x : V) where
-  -- a new leaf before a row that comes after its label leaves the invariant
-  row_first : (k : ℕ) (focus : Plan V) → IsCanonical item (row focus) → (rest : List ℕ)
+  -- a new leaf before siblings that come after its label leaves the invariant
+  siblings_first : (k : ℕ) (focus : Plan V) → IsCanonical item (siblings_in focus) → (rest : List ℕ)
       → Matches item focus rest Absent → IsValid item rest → rest ≢ []
-      → IsCanonical item (row (Cell k rest (Some x) Nil focus))
-  row_first k Nil ok rest h valid nonempty = record { valid = valid; nonempty = nonempty; fits = tt; earns = tt; rises = tt; child = tt; sibling = tt }
-  row_first k (Cell i l v c d) ok rest h valid nonempty = record {
+      → IsCanonical item (siblings_in (Cell k rest (Some x) Nil focus))
+  siblings_first k Nil ok rest h valid nonempty = record { valid = valid; nonempty = nonempty; fits = tt; earns = tt; rises = tt; child = tt; sibling = tt }
+  siblings_first k (Cell i l v c d) ok rest h valid nonempty = record {
     valid = valid;
     nonempty = nonempty;
     fits = tt;
@@ -46,11 +47,11 @@ module _ (item : List ℕ → Type 0) (kind : IsKeyKind item) {V : Type 0} (x : 
   }
 
   -- its entries are those of the plan with the value at the new node's key
-  put_first : (k : ℕ) (focus : Plan V) → IsCanonical item (row focus) → (rest : List ℕ)
+  put_first : (k : ℕ) (focus : Plan V) → IsCanonical item (siblings_in focus) → (rest : List ℕ)
       → Matches item focus rest Absent
-      → entries (row (Cell k rest (Some x) Nil focus)) ≡ put key_cmp rest x (entries (row focus))
+      → entries (siblings_in (Cell k rest (Some x) Nil focus)) ≡ put key_cmp rest x (entries (siblings_in focus))
   put_first k Nil ok rest h = single item kind x rest
-  put_first k (Cell i l v c d) ok rest h = put_before item kind x l v (row c) (row d) ok rest h
+  put_first k (Cell i l v c d) ok rest h = put_before item kind x l v (siblings_in c) (siblings_in d) ok rest h
 
 module _ {item : List ℕ → Type 0} {V : Type 0} {s : NodeArena V} {key : List ℕ}
     {link_ref : LinkRef} {at : Option ℕ} {rest : List ℕ} {matched : Match}
@@ -61,7 +62,7 @@ module _ {item : List ℕ → Type 0} {V : Type 0} {s : NodeArena V} {key : List
   abbrev PutsAround : NodeArena V → V → Type 0
   PutsAround new x = Puts item s new key x × KeepsAround p.frames new
 
-  -- the spot of a place is that of some place
+  -- the link to a place is that to some place
   pub place_link_ref : HasLinkRef s link_ref
   place_link_ref = (p.frames, p.focus, p.link_ref_is, place_holds sought)
 
@@ -73,7 +74,7 @@ module _ {item : List ℕ → Type 0} {V : Type 0} {s : NodeArena V} {key : List
       let is_match = subst (λ k. Matches item p.focus rest k) is p.is_match in
       let holds = (adds p.frames Nil p.focus p.focus p.link_ref_is (inr (refl, refl)) child (sibling ∙ p.at_is) (place_holds sought)).0 in
       puts_around sought new x (Cell k rest (Some x) Nil p.focus) (rw (← label, ← value) holds)
-      (row_first item kind x k p.focus (focus_ok sought) rest is_match valid p.rest_nonempty)
+      (siblings_first item kind x k p.focus (focus_ok sought) rest is_match valid p.rest_nonempty)
       (put_first item kind x k p.focus (focus_ok sought) rest is_match)
 
   -- in the label of a node
@@ -109,9 +110,9 @@ module _ {item : List ℕ → Type 0} {V : Type 0} {s : NodeArena V} {key : List
       there_holds : Holds s (fill p.frames (Cell id r.label r.value there.child there.sibling))
       there_holds = subst (λ (q : Plan V). Holds s (fill p.frames q)) there.is (place_holds sought)
 
-      -- the row from this node on keeps the invariant
-      there_ok : IsCanonical item (node r.label r.value (row there.child) (row there.sibling))
-      there_ok = subst (λ (q : Plan V). IsCanonical item (row q)) there.is (focus_ok sought)
+      -- the siblings from this node on keep the invariant
+      there_ok : IsCanonical item (node r.label r.value (siblings_in there.child) (siblings_in there.sibling))
+      there_ok = subst (λ (q : Plan V). IsCanonical item (siblings_in q)) there.is (focus_ok sought)
 
       -- it is a node of the plan
       pub there_cell : HasCell s id
@@ -122,13 +123,13 @@ module _ {item : List ℕ → Type 0} {V : Type 0} {s : NodeArena V} {key : List
         pub div : Divides item rest r.label (take n r.label) (drop n rest) (drop n r.label)
         div = divides_label item kind rest r.label n valid there_ok.valid ends
 
-        -- what is said of the row at the node, is said of what is in the place
+        -- what is said of the siblings at the node, is said of what is in the place
         puts_there : (new : NodeArena V) (x : V) (focus : Plan V) → Holds new (fill p.frames focus)
-            → IsCanonical item (row focus)
-            → entries (row focus) ≡ put key_cmp rest x (entries (node r.label r.value (row there.child) (row there.sibling)))
+            → IsCanonical item (siblings_in focus)
+            → entries (siblings_in focus) ≡ put key_cmp rest x (entries (node r.label r.value (siblings_in there.child) (siblings_in there.sibling)))
             → PutsAround new x
         puts_there new x focus holds canonical put_is = puts_around sought new x focus holds canonical
-            (put_is ∙ ap (λ (q : Plan V). put key_cmp rest x (entries (row q))) (sym there.is))
+            (put_is ∙ ap (λ (q : Plan V). put key_cmp rest x (entries (siblings_in q))) (sym there.is))
 
         -- where the key ends at the cut, the upper node takes the value, and the key has it
         pub puts_cut : (new : NodeArena V) (x : V) (lower : List ℕ) (k : ℕ) → lower ≡ drop n r.label
@@ -136,9 +137,9 @@ module _ {item : List ℕ → Type 0} {V : Type 0} {s : NodeArena V} {key : List
         puts_cut new x lower k label none splits =
             puts_there new x (Cell id (take n r.label) (Some x) (Cell k (drop n r.label) r.value there.child Nil) there.sibling)
             (rw (← label) (splits p.frames r.label r.value there.child there.sibling there_holds).0)
-            (ends_at_cut item kind x r.label r.value (row there.child) (row there.sibling) there_ok
+            (ends_at_cut item kind x r.label r.value (siblings_in there.child) (siblings_in there.sibling) there_ok
             rest (take n r.label) (drop n rest) (drop n r.label) div none)
-            (put_at_cut item kind x r.label r.value (row there.child) (row there.sibling) there_ok
+            (put_at_cut item kind x r.label r.value (siblings_in there.child) (siblings_in there.sibling) there_ok
             rest (take n r.label) (drop n rest) (drop n r.label) div none)
 
         -- or goes on beside the rest of the label
@@ -177,10 +178,10 @@ module _ {item : List ℕ → Type 0} {V : Type 0} {s : NodeArena V} {key : List
                 let before = compared_less item (drop n rest) (drop n r.label) nonempty div.label_nonempty compared in
                 puts_there new x (Cell id (take n r.label) None (Cell j (drop n rest) (Some x) Nil low) there.sibling)
                 (rw (← leaf_label, ← leaf_value) (adds above Nil low low refl (inr (refl, refl)) leaf_child sibling cut_holds).0)
-                (row_before_cut item kind x r.label r.value (row there.child) (row there.sibling)
+                (siblings_before_cut item kind x r.label r.value (siblings_in there.child) (siblings_in there.sibling)
                 there_ok rest (take n r.label) (drop n rest) (drop n r.label) div nonempty
                 before)
-                (put_before_cut item kind x r.label r.value (row there.child) (row there.sibling)
+                (put_before_cut item kind x r.label r.value (siblings_in there.child) (siblings_in there.sibling)
                 there_ok rest (take n r.label) (drop n rest) (drop n r.label) div before)
 
             -- or the new node comes behind it
@@ -188,18 +189,18 @@ module _ {item : List ℕ → Type 0} {V : Type 0} {s : NodeArena V} {key : List
                 → (o ≡ Less → ⊥) → leaf.sibling ≡ None
                 → AddsNode mid new (Sibling k (Some id)) leaf j → PutsAround new x
             puts_after o compared not_less sibling adds =
-                let after = past_cut item kind x r.label r.value (row there.child)
-                (row there.sibling) there_ok rest (take n r.label) (drop n rest)
+                let after = past_cut item kind x r.label r.value (siblings_in there.child)
+                (siblings_in there.sibling) there_ok rest (take n r.label) (drop n rest)
                 (drop n r.label) div nonempty o compared not_less in
                 puts_there new x
                 (Cell id (take n r.label) None
                 (Cell k (drop n r.label) r.value there.child
                 (Cell j (drop n rest) (Some x) Nil Nil)) there.sibling)
                 (rw (← leaf_label, ← leaf_value) (adds beside Nil Nil Nil refl (inr (refl, refl)) leaf_child sibling cut_holds).0)
-                (row_after_cut item kind x r.label r.value (row there.child) (row there.sibling)
+                (siblings_after_cut item kind x r.label r.value (siblings_in there.child) (siblings_in there.sibling)
                 there_ok rest (take n r.label) (drop n rest) (drop n r.label) div nonempty
                 after)
-                (put_after_cut item kind x r.label r.value (row there.child) (row there.sibling)
+                (put_after_cut item kind x r.label r.value (siblings_in there.child) (siblings_in there.sibling)
                 there_ok rest (take n r.label) (drop n rest) (drop n r.label) div after)
 
           -- so it is by the order of the two

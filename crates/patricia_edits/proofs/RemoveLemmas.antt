@@ -14,7 +14,8 @@ use Rattle.patricia_model.specs.Siblings.{Siblings, end, node, entries, keys_of,
 use Rattle.patricia_model.specs.Points.{Joins}
 use Rattle.patricia_model.specs.Internal.LabelCmp.{Passes}
 use Rattle.patricia_model.specs.Internal.Removals.{others, width, without_first, IsLoneParent}
-use Rattle.patricia_nodes.specs.Internal.Plans.{Plan, Nil, Cell, linked, head, row, LaidOut, IsPlan}
+use Rattle.patricia_nodes.specs.Internal.Plans.{Plan, Nil, Cell, linked, head, siblings_in, LaidOut}
+use Rattle.patricia_nodes.specs.Internal.Plans.{IsPlan}
 use Rattle.patricia_nodes.specs.Internal.Plans.{Holds, IsWellFormed, plan_at, siblings_of}
 use Rattle.patricia_nodes.specs.Internal.Plans.{entries_of}
 use Rattle.patricia_nodes.specs.Internal.Places.{fill, node_of, Matches}
@@ -24,15 +25,16 @@ use Rattle.patricia_nodes.specs.Internal.Merges.{IsJoined}
 use Rattle.patricia_edits.specs.Internal.Removes.{IsLeaf, IsValued, HasValue, Removes}
 use Rattle.patricia_nodes.proofs.AloneLemmas.{plan_end, plan_more}
 use Rattle.patricia_nodes.proofs.PlanLemmas.{plan_is, node_is}
-use Rattle.patricia_nodes.proofs.FillLemmas.{row-within, stands-within}
+use Rattle.patricia_nodes.proofs.FillLemmas.{siblings-within, stands-within}
 use Rattle.patricia_nodes.proofs.WriteLemmas.{holds_write}
-use Rattle.patricia_nodes.proofs.SeekLemmas.{Sought, Opened, opened, head_within, place_row}
+use Rattle.patricia_nodes.proofs.SeekLemmas.{Sought, Opened, opened, head_within, place_siblings}
 use Rattle.patricia_nodes.proofs.SeekLemmas.{focus_plan_at, stop_at, here_passes}
 use Rattle.patricia_edits.proofs.TakeLemmas.{Gone, gone-fill, spared-fill, joins-fill}
 use Rattle.patricia_edits.proofs.OtherLemmas.{Inside, inside, whole_ok, upper_ok, left_plan}
 use Rattle.patricia_edits.proofs.OtherLemmas.{labels_are, other_gone}
 use Rattle.patricia_model.proofs.LeavingLemmas.{others_leave}
-use Rattle.patricia_model.proofs.RemovalLemmas.{others_before, others_within, row_first_removed}
+use Rattle.patricia_model.proofs.RemovalLemmas.{others_before, others_within}
+use Rattle.patricia_model.proofs.RemovalLemmas.{siblings_first_removed}
 use Rattle.patricia_model.proofs.RemovalLemmas.{entries_first_removed}
 use Rattle.patricia_model.proofs.JoinLemmas.{joins_lone, joins_alone}
 
@@ -41,7 +43,7 @@ label_is : (item : List ℕ → Type 0) (q l : List ℕ) → Passes item q l [] 
 label_is item q l passes = sym (append-nil l) ∙ passes.splits
 
 module _ {V : Type 0} where
-  -- a first node without value stays, and so does the row
+  -- a first node without value stays, and so do the siblings
   first_none : (l : List ℕ) (v : Option V) (c s : Siblings V) → v ≡ None
       → without_first (node l v c s) ≡ node l v c s
   first_none l None c s e = refl
@@ -73,13 +75,13 @@ module _ {V : Type 0} where
   lone_parent l (Some x) m w d s e = tt
 
 module _ (item : List ℕ → Type 0) (kind : IsKeyKind item) {V : Type 0} where
-  -- without the value of its first node, a row is without that node's key
+  -- without the value of their first node, siblings are without that node's key
   first_gone : (l : List ℕ) (v : Option V) (c s : Siblings V) → IsCanonical item (node l v c s)
       → (q : List ℕ) → Passes item q l []
       → Gone item others (node l v c s) (without_first (node l v c s)) q
   first_gone l v c s ok q passes =
       record {
-        canonical = row_first_removed item kind (node l v c s) ok;
+        canonical = siblings_first_removed item kind (node l v c s) ok;
         left_is = entries_first_removed item kind l v c s ok q [] passes refl;
       }
 
@@ -110,15 +112,15 @@ module _ {item : List ℕ → Type 0} {V : Type 0} {s : NodeArena V} {key : List
       let same : whole.0 ≡ fill p.frames cell = sym (fills ∙ plan_is s.nodes.items s.root whole.0 whole.1.1.plan_ok) in
       subst (λ (q : Plan V). Holds s q) same whole.1
 
-  -- the whole row keeps the invariant
-  whole_ok' : IsCanonical item (row (fill p.frames cell))
+  -- the top siblings keep the invariant
+  whole_ok' : IsCanonical item (siblings_in (fill p.frames cell))
   whole_ok' = rw fills ok
 
-  -- and so does the row from the node on
-  inner_ok : IsCanonical item (row cell)
-  inner_ok = row-within item p.frames cell whole_ok'
+  -- and so do the siblings from the node on
+  inner_ok : IsCanonical item (siblings_in cell)
+  inner_ok = siblings-within item p.frames cell whole_ok'
 
-  -- the node stands at its spot
+  -- the node stands at its link
   pub stands_at : StandsAt item s link_ref id p.frames r.label r.value there.child there.sibling
   stands_at = record { link_ref_is = p.link_ref_is; holds = holds; canonical = whole_ok' }
 
@@ -128,15 +130,15 @@ module _ {item : List ℕ → Type 0} {V : Type 0} {s : NodeArena V} {key : List
       (sym (node_is s.nodes.items id r _
       (stands-within s.nodes.items p.frames cell holds.1.plan_ok.stands).0 reads))
 
-  -- where the key is gone from the row of the new nodes, the removal is done
+  -- where the key is gone from the siblings of the new nodes, the removal is done
   removes : (new : NodeArena V) (plan : Plan V) → Holds new plan
-      → Gone item others (row (fill p.frames cell)) (row plan) key → Removes item s new key
+      → Gone item others (siblings_in (fill p.frames cell)) (siblings_in plan) key → Removes item s new key
   removes new plan h gone =
       let same : plan_at new.nodes.items new.root ≡ plan = plan_is new.nodes.items new.root plan h.1.plan_ok in
       record {
         whole = (plan, h);
         canonical = rw same gone.canonical;
-        left_is = ap (λ (q : Plan V). entries (row q)) same ∙ gone.left_is ∙ ap (λ (q : Plan V). others key (entries (row q))) fills;
+        left_is = ap (λ (q : Plan V). entries (siblings_in q)) same ∙ gone.left_is ∙ ap (λ (q : Plan V). others key (entries (siblings_in q))) fills;
       }
 
   -- whatever is read there is this node
@@ -161,36 +163,36 @@ module _ {item : List ℕ → Type 0} {V : Type 0} {s : NodeArena V} {key : List
           at ∙ ap Some (sym (node_is s.nodes.items k m _ at reads_child))
 
       -- where a sibling follows it, there are two children
-      pub two_children : {j : ℕ} → m.sibling ≡ Some j → 2 ≤ width (row there.child)
+      pub two_children : {j : ℕ} → m.sibling ≡ Some j → 2 ≤ width (siblings_in there.child)
       two_children {j} next =
           let more = plan_more s.nodes.items m.sibling first_child.sibling j first_child.sibling_plan next in
-          omega (arith, ap (λ (q : Plan V). width (row q)) first_child.is)
+          omega (arith, ap (λ (q : Plan V). width (siblings_in q)) first_child.is)
 
       -- where none does, it is the only one
       pub lone_child : m.sibling ≡ None → there.child ≡ Cell k m.label m.value first_child.child Nil
       lone_child last = first_child.is ∙ ap (Cell k m.label m.value first_child.child)
           (plan_end s.nodes.items m.sibling first_child.sibling first_child.sibling_plan last)
 
-  -- without the value of its first node, the row from the node on is without the key
-  gone_cell : Gone item others (row cell) (without_first (row cell)) rest
-  gone_cell = first_gone item kind r.label r.value (row there.child) (row there.sibling) inner_ok rest passes
+  -- without the value of their first node, the siblings from the node on are without the key
+  gone_cell : Gone item others (siblings_in cell) (without_first (siblings_in cell)) rest
+  gone_cell = first_gone item kind r.label r.value (siblings_in there.child) (siblings_in there.sibling) inner_ok rest passes
 
   -- where no fewer nodes stay in the place, the key is removed from the whole
   removes_in : (new : NodeArena V) (q : Plan V) → Holds new (fill p.frames q)
-      → without_first (row cell) ≡ row q → 1 + width (row there.sibling) ≤ width (row q)
+      → without_first (siblings_in cell) ≡ siblings_in q → 1 + width (siblings_in there.sibling) ≤ width (siblings_in q)
       → Removes item s new key
   removes_in new q h same wide =
       removes new (fill p.frames q) h
       (gone-fill item kind others (others_leave item kind) p.frames cell q whole_ok' key rest
       p.leads (omega arith)
-      (subst (λ (x : Siblings V). Gone item others (row cell) x rest) same gone_cell))
+      (subst (λ (x : Siblings V). Gone item others (siblings_in cell) x rest) same gone_cell))
 
   -- a node without value stays as it is
   pub removes_none : r.value ≡ None → Removes item s s key
-  removes_none none = removes_in s cell holds (first_none r.label r.value (row there.child) (row there.sibling) none) (omega arith)
+  removes_none none = removes_in s cell holds (first_none r.label r.value (siblings_in there.child) (siblings_in there.sibling) none) (omega arith)
 
   -- one with two children loses its value
-  pub removes_value : (new : NodeArena V) (v : Option V) → v ≡ None → 2 ≤ width (row there.child)
+  pub removes_value : (new : NodeArena V) (v : Option V) → v ≡ None → 2 ≤ width (siblings_in there.child)
       → (n : Node V) → n ≡ get_or s.nodes.items id n
       → new.nodes.items ≡ set s.nodes.items id (linked n.label v n.child n.sibling)
       → new.root ≡ s.root → new.free ≡ s.free → Removes item s new key
@@ -198,13 +200,13 @@ module _ {item : List ℕ → Type 0} {V : Type 0} {s : NodeArena V} {key : List
       let nodes_is : new.nodes.items ≡ set s.nodes.items id (linked r.label v r.child r.sibling) =
       rw (← node_is s.nodes.items id n r here_is reads_n) written in
       let held = holds_write s id r reads p.frames r.label r.label r.value v there.child there.sibling holds in
-      removes_in new (Cell id r.label None there.child there.sibling) (rw (nodes_is, root_is, free_is, ← none) held) (more (row there.child) two) (omega arith)
+      removes_in new (Cell id r.label None there.child there.sibling) (rw (nodes_is, root_is, free_is, ← none) held) (more (siblings_in there.child) two) (omega arith)
     where
       more : (c : Siblings V) → 2 ≤ width c
-          → without_first (node r.label r.value c (row there.sibling)) ≡ node r.label None c (row there.sibling)
+          → without_first (node r.label r.value c (siblings_in there.sibling)) ≡ node r.label None c (siblings_in there.sibling)
       more end two = absurd (omega arith)
       more (node m w d end) two = absurd (omega arith)
-      more (node m w d (node m' w' d' t)) two = first_more r.label r.value m w d m' w' d' t (row there.sibling)
+      more (node m w d (node m' w' d' t)) two = first_more r.label r.value m w d m' w' d' t (siblings_in there.sibling)
 
   module _ (valued : r.value ≡ None → ⊥) where
     -- one with one child takes it in
@@ -226,7 +228,7 @@ module _ {item : List ℕ → Type 0} {V : Type 0} {s : NodeArena V} {key : List
       removes_lone new joined taken is absorbs =
           removes_in new (Cell id (r.label ++ m) w e there.sibling)
           (rw (← is) (absorbs p.frames r.label r.value m w e there.sibling (subst (λ (q : Plan V). Holds s (fill p.frames q)) cell_is holds)).0)
-          (ap (λ (q : Plan V). without_first (row q)) cell_is ∙ first_lone r.label r.value m w (row e) (row there.sibling) valued)
+          (ap (λ (q : Plan V). without_first (siblings_in q)) cell_is ∙ first_lone r.label r.value m w (siblings_in e) (siblings_in there.sibling) valued)
           (omega arith)
 
       -- the value that is returned is that of the node
@@ -240,12 +242,12 @@ module _ {item : List ℕ → Type 0} {V : Type 0} {s : NodeArena V} {key : List
       -- without the key the two labels are joined
       pub joins_here : Joins item (keys_of (entries_of s)) key
       joins_here =
-          subst (λ (q : Plan V). Joins item (keys_of (entries (row q))) key) fills
+          subst (λ (q : Plan V). Joins item (keys_of (entries (siblings_in q))) key) fills
           (joins-fill item kind p.frames cell whole_ok' key rest p.leads
-          (subst (λ (q : Plan V). Joins item (keys_of (entries (row q))) rest) (sym cell_is)
-          (joins_lone item kind r.label r.value (node m w (row e) end) (row there.sibling)
-          (subst (λ (q : Plan V). IsCanonical item (row q)) cell_is inner_ok) rest [] passes
-          refl (lone_parent r.label r.value m w (row e) (row there.sibling) valued))))
+          (subst (λ (q : Plan V). Joins item (keys_of (entries (siblings_in q))) rest) (sym cell_is)
+          (joins_lone item kind r.label r.value (node m w (siblings_in e) end) (siblings_in there.sibling)
+          (subst (λ (q : Plan V). IsCanonical item (siblings_in q)) cell_is inner_ok) rest [] passes
+          refl (lone_parent r.label r.value m w (siblings_in e) (siblings_in there.sibling) valued))))
 
     -- a leaf goes
     module _ (child_is : there.child ≡ Nil) where
@@ -260,9 +262,9 @@ module _ {item : List ℕ → Type 0} {V : Type 0} {s : NodeArena V} {key : List
       leaf_holds : Holds s (fill p.frames leaf_cell)
       leaf_holds = subst (λ (q : Plan V). Holds s (fill p.frames q)) leaf_is holds
 
-      -- the whole row with the leaf in it keeps the invariant
-      leaf_ok : IsCanonical item (row (fill p.frames leaf_cell))
-      leaf_ok = subst (λ (q : Plan V). IsCanonical item (row (fill p.frames q))) leaf_is whole_ok'
+      -- the top siblings with the leaf below them keep the invariant
+      leaf_ok : IsCanonical item (siblings_in (fill p.frames leaf_cell))
+      leaf_ok = subst (λ (q : Plan V). IsCanonical item (siblings_in (fill p.frames q))) leaf_is whole_ok'
 
       -- without the leaf the siblings behind it are left, and of the entries all but the key's
       leaf_goes : (beside : Siblings V) → IsCanonical item (node r.label r.value end beside)
@@ -272,7 +274,7 @@ module _ {item : List ℕ → Type 0} {V : Type 0} {s : NodeArena V} {key : List
           (first_leaf r.label r.value beside valued)
           (first_gone item kind r.label r.value end beside inner rest passes)
 
-      -- it stands at its spot
+      -- it stands at its link
       pub has_leaf : HasLeafAt s link_ref id
       has_leaf = (p.frames, r.label, r.value, there.sibling, p.link_ref_is, leaf_holds)
 
@@ -282,8 +284,8 @@ module _ {item : List ℕ → Type 0} {V : Type 0} {s : NodeArena V} {key : List
       removes_leaf new taken unlinks spares =
           removes new (fill p.frames there.sibling) (unlinks p.frames r.label r.value there.sibling p.link_ref_is leaf_holds).0
           (spared-fill item kind others (others_leave item kind) p.frames cell there.sibling whole_ok' key rest p.leads spares
-          (subst (λ (q : Plan V). Gone item others (row q) (row there.sibling) rest) (sym leaf_is)
-          (leaf_goes (row there.sibling) (row-within item p.frames leaf_cell leaf_ok))))
+          (subst (λ (q : Plan V). Gone item others (siblings_in q) (siblings_in there.sibling) rest) (sym leaf_is)
+          (leaf_goes (siblings_in there.sibling) (siblings-within item p.frames leaf_cell leaf_ok))))
 
       -- and the node above takes in the other child
       module _ (u o : ℕ) (left : LeavesOther p.frames there.sibling u o) where
@@ -307,13 +309,13 @@ module _ {item : List ℕ → Type 0} {V : Type 0} {s : NodeArena V} {key : List
         -- without the key these are joined
         pub joins_left : Joins item (keys_of (entries_of s)) key
         joins_left =
-            subst (λ (q : Plan V). Joins item (keys_of (entries (row q))) key) (ap (fill p.frames) (sym leaf_is) ∙ fills)
-            (subst (λ (q : Plan V). Joins item (keys_of (entries (row q))) key) (sym two.was)
+            subst (λ (q : Plan V). Joins item (keys_of (entries (siblings_in q))) key) (ap (fill p.frames) (sym leaf_is) ∙ fills)
+            (subst (λ (q : Plan V). Joins item (keys_of (entries (siblings_in q))) key) (sym two.was)
             (joins-fill item kind left.outer (Cell u left.label None two.old left.beside)
             (whole_ok item kind others (others_leave item kind) id r.label r.value Nil key rest
             leaf_goes p.frames there.sibling p.leads leaf_ok u o left) key two.before
             two.outer_leads
-            (joins_alone item kind left.label None (row two.old) (row left.beside)
+            (joins_alone item kind left.label None (siblings_in two.old) (siblings_in left.beside)
             (upper_ok item kind others (others_leave item kind) id r.label r.value Nil key rest
             leaf_goes p.frames there.sibling p.leads leaf_ok u o left) two.before rest
             left.inner two.through two.nonempty refl
@@ -336,8 +338,8 @@ module _ {item : List ℕ → Type 0} {V : Type 0} {s : NodeArena V} {key : List
           removes_left new joined _ is absorbs =
               removes new (fill left.outer (Cell u (left.label ++ left.inner) left.own left.below left.beside))
               (rw (← is) (absorbs left.outer left.label None left.inner left.own left.below left.beside mid_holds).0)
-              (subst (λ (q : Plan V). Gone item others (row (fill p.frames q))
-              (row (fill left.outer
+              (subst (λ (q : Plan V). Gone item others (siblings_in (fill p.frames q))
+              (siblings_in (fill left.outer
               (Cell u (left.label ++ left.inner) left.own left.below left.beside))) key)
               (sym leaf_is)
               (other_gone item kind others (others_leave item kind) id r.label r.value Nil key rest leaf_goes p.frames there.sibling p.leads leaf_ok u o left))
@@ -395,7 +397,7 @@ module _ {item : List ℕ → Type 0} {V : Type 0} {s : NodeArena V} {key : List
   pub has_value : r.value ≡ None → ⊥
   has_value = valued r at_id
 
-  -- it stands at its spot, in a row that keeps the invariant
+  -- it stands at its link, in siblings that keep the invariant
   pub leaf_stands : HasNodeAt item s link_ref id
   leaf_stands = (p.frames, r.label, r.value, around.child, around.sibling, stands_at sought is reads)
 
@@ -457,13 +459,13 @@ on_err_from (Err e) p = p
 
 -- a key that is not there
 module _ (item : List ℕ → Type 0) (kind : IsKeyKind item) {V : Type 0} where
-  -- where a look-up ends at no node, removing the key leaves all entries of the row
-  absent : (focus : Plan V) → IsCanonical item (row focus) → (rest : List ℕ) (matched : Match)
+  -- where a look-up ends at no node, removing the key leaves all entries of the siblings
+  absent : (focus : Plan V) → IsCanonical item (siblings_in focus) → (rest : List ℕ) (matched : Match)
       → Matches item focus rest matched → node_of matched ≡ None
-      → others rest (entries (row focus)) ≡ entries (row focus)
+      → others rest (entries (siblings_in focus)) ≡ entries (siblings_in focus)
   absent Nil ok rest matched h none = refl
-  absent (Cell id l v c d) ok rest Absent h none = others_before item kind l v (row c) (row d) ok rest h
-  absent (Cell id l v c d) ok rest (InsideLabel i n) h none = others_within item kind l v (row c) (row d) ok rest n h.1
+  absent (Cell id l v c d) ok rest Absent h none = others_before item kind l v (siblings_in c) (siblings_in d) ok rest h
+  absent (Cell id l v c d) ok rest (InsideLabel i n) h none = others_within item kind l v (siblings_in c) (siblings_in d) ok rest n h.1
   absent (Cell id l v c d) ok rest (Exact i) h none = absurd (cc)
 
 module _ {item : List ℕ → Type 0} {V : Type 0} {s : NodeArena V} {key : List ℕ}
@@ -474,8 +476,8 @@ module _ {item : List ℕ → Type 0} {V : Type 0} {s : NodeArena V} {key : List
   -- the other entries are then all
   pub others_none : node_of matched ≡ None → entries_of s ≡ others key (entries_of s)
   others_none none =
-      let around = place_row sought in
-      let inner = row-within item p.frames p.focus around in
+      let around = place_siblings sought in
+      let inner = siblings-within item p.frames p.focus around in
       let gone = gone-fill item kind others (others_leave item kind) p.frames p.focus p.focus
       around key rest p.leads (omega arith)
       (record {
@@ -483,7 +485,7 @@ module _ {item : List ℕ → Type 0} {V : Type 0} {s : NodeArena V} {key : List
         left_is = sym
             (absent item kind p.focus inner rest matched p.is_match none);
       }) in
-      subst (λ (q : Plan V). entries (row q) ≡ others key (entries (row q))) p.fills gone.left_is
+      subst (λ (q : Plan V). entries (siblings_in q) ≡ others key (entries (siblings_in q))) p.fills gone.left_is
 
 -- what holds after a value was removed, or not
 pub removed_or_same : (item : List ℕ → Type 0) {T E : Type 0} (r : Result T E) {V : Type 0}

@@ -13,17 +13,18 @@ use Rattle.patricia_model.proofs.InsertLemmas.{earns_elsewhere}
 use Rattle.patricia_model.proofs.LeavingLemmas.{outside_leave}
 use Rattle.patricia_model.proofs.OutsideLemmas.{outside_all, outside_first}
 use Rattle.patricia_model.proofs.PointLemmas.{nil_second}
-use Rattle.patricia_model.proofs.RowLemmas.{prefixed-prefixed}
+use Rattle.patricia_model.proofs.SiblingsLemmas.{prefixed-prefixed}
 use Rattle.patricia_model.proofs.UniqueLemmas.{has_entry}
 use Rattle.patricia_nodes.specs.declared.arena.Node.{Node}
 use Rattle.patricia_nodes.specs.declared.arena.NodeArena.{NodeArena}
 use Rattle.patricia_nodes.specs.declared.arena.seek.LinkRef.{LinkRef}
 use Rattle.patricia_nodes.specs.declared.arena.seek.Match.{Match}
 use Rattle.patricia_nodes.specs.declared.arena.seek.Match.TheVariants.{Absent, InsideLabel, Exact}
-use Rattle.patricia_nodes.specs.Internal.Plans.{Plan, Nil, Cell, row, Holds, IsWellFormed, plan_at}
+use Rattle.patricia_nodes.specs.Internal.Plans.{Plan, Nil, Cell, siblings_in, Holds, IsWellFormed}
+use Rattle.patricia_nodes.specs.Internal.Plans.{plan_at}
 use Rattle.patricia_nodes.specs.Internal.Plans.{siblings_of, entries_of}
 use Rattle.patricia_nodes.specs.Internal.Places.{Frame, fill, Leads, Matches, node_under}
-use Rattle.patricia_nodes.proofs.FillLemmas.{row-within, stands-within}
+use Rattle.patricia_nodes.proofs.FillLemmas.{siblings-within, stands-within}
 use Rattle.patricia_nodes.proofs.SeekLemmas.{Sought}
 use Rattle.patricia_nodes.proofs.PlanLemmas.{plan_is}
 use Rattle.patricia_walks.proofs.PlaceLemmas.{Passed, passed-fill}
@@ -95,8 +96,8 @@ pub record Found (item : List ℕ → Type 0) {V : Type 0} (s : NodeArena V) (pr
   pub path : List ℕ
   pub path_is : path ++ rest ≡ prefix
   pub path_valid : IsValid item path
-  pub rows :
-      under prefix (entries_of s) ≡ prefixed (path ++ label) (own value ++ entries (row child))
+  pub entries_are :
+      under prefix (entries_of s) ≡ prefixed (path ++ label) (own value ++ entries (siblings_in child))
   pub read : plan_at s.nodes.items s.root ≡ fill frames (Cell id label value child sibling)
 
 module _ {item : List ℕ → Type 0} {V : Type 0} {s : NodeArena V} {prefix : List ℕ}
@@ -115,9 +116,9 @@ module _ {item : List ℕ → Type 0} {V : Type 0} {s : NodeArena V} {prefix : L
   fills : fill p.frames cell ≡ plan_at s.nodes.items s.root
   fills = ap (fill p.frames) (sym t.is) ∙ p.fills
 
-  -- the whole row keeps the invariant
-  whole_row : IsCanonical item (row (fill p.frames cell))
-  whole_row = rw fills ok
+  -- the top siblings keep the invariant
+  whole_siblings : IsCanonical item (siblings_in (fill p.frames cell))
+  whole_siblings = rw fills ok
 
   -- the nodes stand for the plan with this node in the place
   holds : Holds s (fill p.frames cell)
@@ -126,17 +127,17 @@ module _ {item : List ℕ → Type 0} {V : Type 0} {s : NodeArena V} {prefix : L
       subst (λ (q : Plan V). Holds s q) same whole.1
 
   -- the entries under the prefix are those under the rest of it in the place, with the path before
-  passed : Passed item kind (row (fill p.frames cell)) (row cell) prefix rest
-  passed = passed-fill item kind p.frames cell whole_row prefix rest p.leads
+  passed : Passed item kind (siblings_in (fill p.frames cell)) (siblings_in cell) prefix rest
+  passed = passed-fill item kind p.frames cell whole_siblings prefix rest p.leads
 
-  -- the row in the place keeps the invariant
-  focus_row : IsCanonical item (row p.focus)
-  focus_row = rw (t.is) (row-within item p.frames cell whole_row)
+  -- the siblings in the place keep the invariant
+  focus_siblings : IsCanonical item (siblings_in p.focus)
+  focus_siblings = rw (t.is) (siblings-within item p.frames cell whole_siblings)
 
   -- the entries under the rest of the prefix are the node's own and those below it
-  first_rows :
-      under rest (entries (row cell)) ≡ prefixed t.label (own t.value ++ entries (row t.child))
-  first_rows = rw t.is at (stop_some item kind p.focus focus_row rest matched p.is_match id is_under).1
+  first_entries :
+      under rest (entries (siblings_in cell)) ≡ prefixed t.label (own t.value ++ entries (siblings_in t.child))
+  first_entries = rw t.is at (stop_some item kind p.focus focus_siblings rest matched p.is_match id is_under).1
 
   -- the topmost node under the prefix stands in its place
   pub found : Found item s prefix link_ref rest id
@@ -146,15 +147,15 @@ module _ {item : List ℕ → Type 0} {V : Type 0} {s : NodeArena V} {prefix : L
     value = t.value;
     child = t.child;
     sibling = t.sibling;
-    at = record { link_ref_is = p.link_ref_is; holds = holds; canonical = whole_row };
+    at = record { link_ref_is = p.link_ref_is; holds = holds; canonical = whole_siblings };
     leads = p.leads;
     shares = t.shares;
     begun = t.begun;
     path = passed.path;
     path_is = passed.splits;
     path_valid = passed.valid;
-    rows = ap (λ (q : Plan V). under prefix (entries (row q))) (sym fills) ∙ passed.under_is ∙ ap
-        (prefixed passed.path) first_rows ∙ prefixed-prefixed passed.path t.label _;
+    entries_are = ap (λ (q : Plan V). under prefix (entries (siblings_in q))) (sym fills) ∙ passed.under_is ∙ ap
+        (prefixed passed.path) first_entries ∙ prefixed-prefixed passed.path t.label _;
     read = sym fills;
   }
 
@@ -164,15 +165,15 @@ module _ {item : List ℕ → Type 0} (kind : IsKeyKind item) {V : Type 0} {s : 
   abbrev here : Plan V
   here = Cell id f.label f.value f.child f.sibling
 
-  -- the row from the node on keeps the invariant
-  here_row : IsCanonical item (row here)
-  here_row = row-within item f.frames here f.at.canonical
+  -- the siblings from the node on keep the invariant
+  here_siblings : IsCanonical item (siblings_in here)
+  here_siblings = siblings-within item f.frames here f.at.canonical
 
   -- it is a node of the plan
   pub has_node : HasSplitNode s id
   has_node = (f.frames, f.label, f.value, f.child, f.sibling, f.at.holds)
 
-  -- it stands at its spot, in a row that keeps the invariant
+  -- it stands at its link, in siblings that keep the invariant
   pub has_node_at : HasNodeAt item s link_ref id
   has_node_at = (f.frames, f.label, f.value, f.child, f.sibling, f.at)
 
@@ -189,22 +190,22 @@ module _ {item : List ℕ → Type 0} (kind : IsKeyKind item) {V : Type 0} {s : 
     (counts f.frames f.label f.value f.child f.sibling f.at.holds).0,
   )
 
-  -- some row is under the prefix
+  -- some entry is under the prefix
   pub some_under : under prefix (entries_of s) ≢ []
   some_under none =
-      let some = has_entry item kind None f.label f.value (row f.child) end
+      let some = has_entry item kind None f.label f.value (siblings_in f.child) end
       (record {
-        valid = here_row.valid;
-        nonempty = here_row.nonempty;
+        valid = here_siblings.valid;
+        nonempty = here_siblings.nonempty;
         fits = tt;
         earns =
-            here_row.earns;
+            here_siblings.earns;
         rises = tt;
-        child = here_row.child;
+        child = here_siblings.child;
         sibling = tt;
       }) in
-      let all = sym f.rows ∙ none in
-      absurd (empty (own f.value ++ entries (row f.child)) all (λ e. let gone = rw e at some.2 in cc))
+      let all = sym f.entries_are ∙ none in
+      absurd (empty (own f.value ++ entries (siblings_in f.child)) all (λ e. let gone = rw e at some.2 in cc))
     where
       empty : (es : List (List ℕ × V)) → prefixed (f.path ++ f.label) es ≡ [] → (es ≡ [] → ⊥) → ⊥
       empty [] e nonempty = nonempty refl
@@ -221,10 +222,10 @@ module _ {item : List ℕ → Type 0} (kind : IsKeyKind item) {V : Type 0} {s : 
   pub node_short : id < length s.nodes.items
   node_short = slice_get_within s.nodes.items id _ (stands-within s.nodes.items f.frames here f.at.holds.1.plan_ok.stands).0
 
-  -- the rows under the prefix go
-  goes : (b : Siblings V) → IsCanonical item (node f.label f.value (row f.child) b)
-      → Gone item outside (node f.label f.value (row f.child) b) b rest
-  goes b inner = record { canonical = inner.sibling; left_is = sym (outside_first item kind f.label f.value (row f.child) b inner rest f.shares f.begun) }
+  -- the entries under the prefix go
+  goes : (b : Siblings V) → IsCanonical item (node f.label f.value (siblings_in f.child) b)
+      → Gone item outside (node f.label f.value (siblings_in f.child) b) b rest
+  goes b inner = record { canonical = inner.sibling; left_is = sym (outside_first item kind f.label f.value (siblings_in f.child) b inner rest f.shares f.begun) }
 
   module _ (top : List ℕ) (labelled : IsTopLabel s id prefix (length rest) top) where
     -- the new tree's top label is the path to the node and its label
@@ -234,41 +235,41 @@ module _ {item : List ℕ → Type 0} (kind : IsKeyKind item) {V : Type 0} {s : 
         labelled _ there ∙ ap (λ l. prefix ++ drop (length rest) l) (sym f.begun.1) ∙ ap (λ l. prefix ++ l) (drop-front rest f.begun.0)
         ∙ ap (λ l. l ++ f.begun.0) (sym f.path_is) ∙ append_assoc f.path rest f.begun.0 ∙ ap (λ l. f.path ++ l) f.begun.1
 
-    -- the new tree's row keeps the invariant
-    top_row : IsCanonical item (node top f.value (row f.child) end)
-    top_row = rw top_is (record {
-      valid = IsValid-append item f.path f.label f.path_valid here_row.valid;
-      nonempty = λ none. here_row.nonempty (nil_second f.path f.label none);
+    -- the new tree's siblings keep the invariant
+    top_siblings : IsCanonical item (node top f.value (siblings_in f.child) end)
+    top_siblings = rw top_is (record {
+      valid = IsValid-append item f.path f.label f.path_valid here_siblings.valid;
+      nonempty = λ none. here_siblings.nonempty (nil_second f.path f.label none);
       fits = tt;
-      earns = earns_elsewhere item kind f.label (f.path ++ f.label) f.value (row f.child) here_row.earns;
+      earns = earns_elsewhere item kind f.label (f.path ++ f.label) f.value (siblings_in f.child) here_siblings.earns;
       rises = tt;
-      child = here_row.child;
+      child = here_siblings.child;
       sibling = tt;
     })
 
-    module _ (count : ℕ) (counted : count ≡ length (own f.value ++ entries (row f.child))) (moved : NodeArena V) (q : Plan V) (h : Holds moved q)
-        (q_is : row q ≡ node top f.value (row f.child) end) where
+    module _ (count : ℕ) (counted : count ≡ length (own f.value ++ entries (siblings_in f.child))) (moved : NodeArena V) (q : Plan V) (h : Holds moved q)
+        (q_is : siblings_in q ≡ node top f.value (siblings_in f.child) end) where
       -- so are they removed, wherever what is left is whole
       splits : (new : NodeArena V) (plan : Plan V) → Holds new plan
-          → Gone item outside (row (fill f.frames here)) (row plan) prefix
+          → Gone item outside (siblings_in (fill f.frames here)) (siblings_in plan) prefix
           → SplitsOff item s new prefix (record { arena = moved; count = count })
       splits new plan held gone =
           let left : plan_at new.nodes.items new.root ≡ plan = plan_is new.nodes.items new.root plan held.1.plan_ok in
-          let out : siblings_of moved ≡ node top f.value (row f.child) end = ap
-          (λ (x : Plan V). row x) (plan_is moved.nodes.items moved.root q h.1.plan_ok) ∙
+          let out : siblings_of moved ≡ node top f.value (siblings_in f.child) end = ap
+          (λ (x : Plan V). siblings_in x) (plan_is moved.nodes.items moved.root q h.1.plan_ok) ∙
           q_is in
-          let rows : entries_of moved ≡ prefixed (f.path ++ f.label)
-          (own f.value ++ entries (row f.child)) = ap (λ (r : Siblings V). entries r) out ∙
-          append-nil _ ∙ ap (λ l. prefixed l (own f.value ++ entries (row f.child))) top_is
+          let moved_entries : entries_of moved ≡ prefixed (f.path ++ f.label)
+          (own f.value ++ entries (siblings_in f.child)) = ap (λ (r : Siblings V). entries r) out ∙
+          append-nil _ ∙ ap (λ l. prefixed l (own f.value ++ entries (siblings_in f.child))) top_is
           in
           record {
             whole = (plan, held);
             canonical = rw left gone.canonical;
-            left_is = ap (λ (x : Plan V). entries (row x)) left ∙ gone.left_is ∙ ap (λ (x : Plan V). outside prefix (entries (row x))) (sym f.read);
+            left_is = ap (λ (x : Plan V). entries (siblings_in x)) left ∙ gone.left_is ∙ ap (λ (x : Plan V). outside prefix (entries (siblings_in x))) (sym f.read);
             taken_whole = (q, h);
-            taken_ok = rw out top_row;
-            taken_is = rows ∙ sym f.rows;
-            counted = counted ∙ sym (length-prefixed (f.path ++ f.label) (own f.value ++ entries (row f.child))) ∙ ap length (sym rows);
+            taken_ok = rw out top_siblings;
+            taken_is = moved_entries ∙ sym f.entries_are;
+            counted = counted ∙ sym (length-prefixed (f.path ++ f.label) (own f.value ++ entries (siblings_in f.child))) ∙ ap length (sym moved_entries);
           }
 
       -- where the node above keeps its place
@@ -278,7 +279,7 @@ module _ {item : List ℕ → Type 0} (kind : IsKeyKind item) {V : Type 0} {s : 
       splits_spared new held alone =
           splits new (fill f.frames f.sibling) held
           (spared-fill item kind outside (outside_leave item kind) f.frames here f.sibling f.at.canonical prefix rest f.leads
-          (alone f.frames f.label f.value f.child f.sibling f.at) (goes (row f.sibling) here_row))
+          (alone f.frames f.label f.value f.child f.sibling f.at) (goes (siblings_in f.sibling) here_siblings))
 
       -- or takes in the other child
       pub splits_other : (u o : ℕ)

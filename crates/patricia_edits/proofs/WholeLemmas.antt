@@ -4,15 +4,16 @@ use Rattle.std.proofs.lemmas.List.{nil_from_length}
 use Rattle.patricia_model.specs.Siblings.{end}
 use Rattle.patricia_nodes.specs.declared.arena.Node.{Node}
 use Rattle.patricia_nodes.specs.declared.arena.NodeArena.{NodeArena}
-use Rattle.patricia_nodes.specs.Internal.Plans.{Plan, Nil, Cell, head, row, siblings_of, size}
+use Rattle.patricia_nodes.specs.Internal.Plans.{Plan, Nil, Cell, head, siblings_in, siblings_of}
+use Rattle.patricia_nodes.specs.Internal.Plans.{size}
 use Rattle.patricia_nodes.specs.Internal.Plans.{plan_at, IsSound, IsWellFormed}
-use Rattle.patricia_nodes.specs.Internal.Growth.{laid, IsTopRow, IsLaid}
+use Rattle.patricia_nodes.specs.Internal.Growth.{laid, AreTopSiblings, IsLaid}
 use Rattle.patricia_nodes.proofs.PlanLemmas.{plan_is}
 use Rattle.patricia_nodes.proofs.LayLemmas.{Readable, readable, laid_apart}
 
 module _ {V : Type 0} where
-  -- a plan without a row has no nodes
-  no_nodes : (p : Plan V) → row p ≡ end → p ≡ Nil
+  -- a plan without siblings has no nodes
+  no_nodes : (p : Plan V) → siblings_in p ≡ end → p ≡ Nil
   no_nodes Nil e = refl
   no_nodes (Cell id l v c d) e = absurd (cc)
 
@@ -21,12 +22,12 @@ module _ {V : Type 0} where
       → Readable s.nodes.items s.root (plan_at s.nodes.items s.root)
   whole_readable s whole = readable s.nodes.items s.root s.free whole.0 whole.1.0 whole.1.1
 
-  -- where there is no row, no node is used, none is the first, and none is laid
+  -- where there are no siblings, no node is used, none is the first, and none is laid
   pub none_used : (s : NodeArena V) (n : ℕ) → n ≡ size (plan_at s.nodes.items s.root)
       → siblings_of s ≡ end → n ≡ 0
   none_used s n used e = used ∙ ap (λ (p : Plan V). size p) (no_nodes _ e)
 
-  -- where there is no row, there is no root
+  -- where there are no siblings, there is no root
   pub none_first : (s : NodeArena V) → IsWellFormed s → siblings_of s ≡ end → s.root ≡ None
   none_first s whole e = (whole_readable s whole).top.at_is ∙ ap (λ (p : Plan V). head p) (no_nodes _ e)
 
@@ -35,9 +36,9 @@ module _ {V : Type 0} where
       → to ≡ to0 ++ laid (length to0) (plan_at s.nodes.items s.root) → to ≡ []
   none_laid s to0 to e none comes = rw (none, no_nodes _ e) at comes
 
-  -- the top row is there
+  -- the top siblings are there
   pub top_there : (s : NodeArena V) → IsWellFormed s → (from : List (Node V)) → from ≡ s.nodes.items
-      → IsTopRow from s.root (plan_at s.nodes.items s.root)
+      → AreTopSiblings from s.root (plan_at s.nodes.items s.root)
   top_there s whole from same = rw same (whole_readable s whole).top
 
   -- once it is copied, what is below it still stands there
@@ -49,12 +50,12 @@ module _ {V : Type 0} where
       let r = whole_readable s whole in
       rw same (laid_apart s.nodes.items s.nodes.items (plan_at s.nodes.items s.root) to0 to r.stands r.once (λ at k. refl) none comes)
 
-  -- where no node is free and there is no row, there is no node
+  -- where no node is free and there are no siblings, there is no node
   pub none_there : (s : NodeArena V) → IsWellFormed s → s.free ≡ None → siblings_of s ≡ end → s.nodes.items ≡ []
   none_there s whole none e = by whole.1.0 whole.1.1
     where
       by : (spare : List ℕ) → IsSound s.nodes.items s.root s.free whole.0 spare → s.nodes.items ≡ []
       by (id ∷ ids) sound = absurd (let no : None ≡ Some id = sym none ∙ sound.free_is in cc)
       by [] sound =
-          let gone : whole.0 ≡ Nil = no_nodes whole.0 (ap (λ p. row p) (sym (plan_is s.nodes.items s.root whole.0 sound.plan_ok)) ∙ e) in
+          let gone : whole.0 ≡ Nil = no_nodes whole.0 (ap (λ p. siblings_in p) (sym (plan_is s.nodes.items s.root whole.0 sound.plan_ok)) ∙ e) in
           nil_from_length s.nodes.items (omega (arith, sound.total, ap (λ (p : Plan V). size p) gone))

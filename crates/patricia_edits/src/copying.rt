@@ -1,17 +1,18 @@
 //! Nodes copied to a vector of their own.
 //!
-//! Where none is free, each keeps its number. Else rows are laid there as a relocation lays them:
-//! siblings side by side, and what is below a node behind its row. What waits stands in the new
-//! vector, which is reserved once.
+//! Where none is free, each keeps its number. Else they are laid there as a relocation lays them:
+//! siblings side by side, and what is below a node behind its siblings. What waits stands in the
+//! new vector, which is reserved once.
 ghost use Rattle.std.specs.Prelude.{◌≡◌, ◌≢◌, ◌+◌, ◌≤◌, ◌++◌, [], None, IfSome, IfOk, OnOk, OnErr};
 ghost use Rattle.std.specs.Prelude.{length, slice_get, vec_len, vec_capacity, ℕ, Some};
 ghost use Rattle.patricia_model.specs.Siblings.{end};
-ghost use Rattle.patricia_nodes.specs.Internal.Plans.{Plan, linked, head, row, siblings_of, size};
+ghost use Rattle.patricia_nodes.specs.Internal.Plans.{Plan, linked, head, siblings_in, siblings_of};
+ghost use Rattle.patricia_nodes.specs.Internal.Plans.{size};
 ghost use Rattle.patricia_nodes.specs.Internal.Plans.{plan_at, IsSound, IsWellFormed};
-ghost use Rattle.patricia_nodes.specs.Internal.Growth.{IsLaid, IsTopRow, tops, laid};
+ghost use Rattle.patricia_nodes.specs.Internal.Growth.{IsLaid, AreTopSiblings, tops, laid};
 ghost use Rattle.patricia_nodes.specs.Internal.Growth.{numbered_siblings};
 ghost use Rattle.patricia_model.specs.Clones.{CloneIsSame};
-ghost use Rattle.patricia_edits.specs.Internal.Copies.{RowKept, EntriesKept};
+ghost use Rattle.patricia_edits.specs.Internal.Copies.{SiblingsKept, EntriesKept};
 ghost use Rattle.patricia_edits.specs.Internal.Copies.{AwaitsFrom, CopiesFrom};
 
 use patricia_nodes::arena::node_vec::NodeVec;
@@ -60,19 +61,20 @@ fn copy_node<V: Clone>(alloc: Global, node: &Node<V>, sibling: Link) -> Result<N
     })
 }
 
-// Copies a row behind the last of some new nodes, each with the old number of its first child, and
-// returns the new number of its first node.
-fn copy_row<V: Clone>(
+// Copies siblings behind the last of some new nodes, each with the old number of its first child,
+// and returns the new number of the first of them.
+fn copy_siblings<V: Clone>(
     alloc: Global,
     from: &[Node<V>],
     first: Link,
     to: &mut NodeVec<V>,
 ) -> Result<Link, AllocError>
-    requires row { (w : Plan V) × IsTopRow from.now first w × RowKept V.is_clone (row w)
+    requires siblings { (w : Plan V) × AreTopSiblings from.now first w
+        × SiblingsKept V.is_clone (siblings_in w)
         × (vec_len to.old + length (tops w) ≤ vec_capacity to.old) }
-    ensures laid { OnOk result ((w : Plan V) → IsTopRow from.now first w
+    ensures laid { OnOk result ((w : Plan V) → AreTopSiblings from.now first w
         → to.new.items ≡ to.old.items ++ laid (length to.old.items) w) }
-    ensures first { IfOk result (λ at. (w : Plan V) → IsTopRow from.now first w
+    ensures first { IfOk result (λ at. (w : Plan V) → AreTopSiblings from.now first w
         → at ≡ head (numbered_siblings (length to.old.items) w)) }
     ensures capacity { OnOk result (vec_capacity to.new ≡ vec_capacity to.old) }
     ensures nonempty { OnErr result (first ≢ None) }
@@ -95,9 +97,9 @@ fn copy_row<V: Clone>(
 }
 
 // Copies what is below the nodes of a new vector from one on behind them, what is below each of
-// them before what is below the next. They have the old numbers of their children. What lies deeper
-// than `depth` rows below them is copied row by row.
-fn copy_rows_below<V: Clone>(
+// them before what is below the next. They have the old numbers of their children. What lies more
+// than `depth` levels below them is copied level by level.
+fn copy_siblings_below<V: Clone>(
     alloc: Global,
     from: &[Node<V>],
     to: &mut NodeVec<V>,
@@ -115,13 +117,13 @@ fn copy_rows_below<V: Clone>(
     while i < end {
         let below = to.len();
         let child = to[i].child;
-        let first = copy_row(alloc, from, child, to)?;
+        let first = copy_siblings(alloc, from, child, to)?;
         to.set_child(NodeId::new(i), first);
         i += 1;
         if depth == 0 {
             end = to.len();
         } else {
-            copy_rows_below(alloc, from, to, below, depth - 1)?;
+            copy_siblings_below(alloc, from, to, below, depth - 1)?;
         }
     }
     Ok(())
@@ -134,14 +136,15 @@ fn copy_below<V: Clone>(
     from: &[Node<V>],
     to: &mut NodeVec<V>,
 ) -> Result<(), AllocError>
-    requires { (w : Plan V) × IsLaid from.now to.old.items w × RowKept V.is_clone (row w)
+    requires { (w : Plan V) × IsLaid from.now to.old.items w
+        × SiblingsKept V.is_clone (siblings_in w)
         × (size w ≤ vec_capacity to.old) }
     ensures laid { OnOk result ((w : Plan V) → IsLaid from.now to.old.items w
         → (q : Plan V) × IsSound to.new.items (head (numbered_siblings 0 w)) None q []
-        × (row q ≡ row w)) }
+        × (siblings_in q ≡ siblings_in w)) }
     ensures nonempty { OnErr result (to.old.items ≢ []) }
 {
-    copy_rows_below(alloc, from, to, 0, DEPTH_FIRST)
+    copy_siblings_below(alloc, from, to, 0, DEPTH_FIRST)
 }
 
 // Copies nodes, each to the number that it has.
@@ -164,7 +167,7 @@ fn copy_in_place<V: Clone>(arena: &NodeArena<V>, alloc: Global) -> Result<NodeAr
     requires cloned { EntriesKept V.is_clone arena.now }
     requires none_free { arena.now.free ≡ None }
     ensures whole { IfOk result (λ c. IsWellFormed c) }
-    ensures row { IfOk result (λ c. siblings_of c ≡ siblings_of arena.now) }
+    ensures siblings { IfOk result (λ c. siblings_of c ≡ siblings_of arena.now) }
     ensures none_free { IfOk result (λ c. c.free ≡ None) }
     ensures nonempty { OnErr result (siblings_of arena.now ≢ end) }
 {
@@ -181,12 +184,12 @@ fn copy_laid<V: Clone>(arena: &NodeArena<V>, alloc: Global) -> Result<NodeArena<
     requires whole { IsWellFormed arena.now }
     requires cloned { EntriesKept V.is_clone arena.now }
     ensures whole { IfOk result (λ c. IsWellFormed c) }
-    ensures row { IfOk result (λ c. siblings_of c ≡ siblings_of arena.now) }
+    ensures siblings { IfOk result (λ c. siblings_of c ≡ siblings_of arena.now) }
     ensures none_free { IfOk result (λ c. c.free ≡ None) }
     ensures nonempty { OnErr result (siblings_of arena.now ≢ end) }
 {
     let mut nodes = NodeVec::with_capacity(alloc, used(arena))?;
-    let root = copy_row(alloc, arena.nodes.as_slice(), arena.root, &mut nodes)?;
+    let root = copy_siblings(alloc, arena.nodes.as_slice(), arena.root, &mut nodes)?;
     copy_below(alloc, arena.nodes.as_slice(), &mut nodes)?;
     Ok(NodeArena {
         nodes,
@@ -203,7 +206,7 @@ pub fn copy<V: Clone>(arena: &NodeArena<V>, alloc: Global) -> Result<NodeArena<V
     requires whole { IsWellFormed arena.now }
     requires cloned { EntriesKept V.is_clone arena.now }
     ensures whole { IfOk result (λ c. IsWellFormed c) }
-    ensures row { IfOk result (λ c. siblings_of c ≡ siblings_of arena.now) }
+    ensures siblings { IfOk result (λ c. siblings_of c ≡ siblings_of arena.now) }
     ensures none_free { IfOk result (λ c. c.free ≡ None) }
     ensures nonempty { OnErr result (siblings_of arena.now ≢ end) }
 {

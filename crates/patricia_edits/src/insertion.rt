@@ -54,7 +54,7 @@ fn make<V: Drop>(arena: &mut NodeArena<V>, node: Node<V>) -> NodeId
     }
 }
 
-// Puts a new node in at a spot. It is already linked to the node that stands there.
+// Links a new node in. It is already linked to the node to which the link led.
 fn add<V: Drop>(arena: &mut NodeArena<V>, link_ref: LinkRef, node: Node<V>) -> NodeId
     requires room { HasRoomFor arena.old 1 }
     requires link_ref { HasLinkRef arena.old link_ref }
@@ -223,10 +223,10 @@ pub fn insert<V: Drop, Q: BorrowedBytes>(
     value: V,
 ) -> Result<Option<V>, Refused<V>>
     requires whole { IsWellFormed arena.old }
-    requires row { IsCanonical Q.Owned.item (siblings_of arena.old) }
+    requires siblings { IsCanonical Q.Owned.item (siblings_of arena.old) }
     requires nonempty { Q.key key ≢ [] }
     ensures whole { IsWellFormed arena.new }
-    ensures row { IsCanonical Q.Owned.item (siblings_of arena.new) }
+    ensures siblings { IsCanonical Q.Owned.item (siblings_of arena.new) }
     ensures old { IfOk result (λ old. old ≡ find key_cmp (Q.key key) (entries_of arena.old)) }
     ensures ok { OnOk result (IsPut arena.old arena.new (Q.key key) value) }
     ensures refused { IfErr result (λ r. r.value ≡ value) }
@@ -257,12 +257,12 @@ pub fn insert_along<V: Drop, Q: BorrowedBytes>(
     value: V,
 ) -> Result<Option<V>, Refused<V>>
     requires whole { IsWellFormed arena.old }
-    requires row { IsCanonical Q.Owned.item (siblings_of arena.old) }
+    requires siblings { IsCanonical Q.Owned.item (siblings_of arena.old) }
     requires nonempty { Q.key key ≢ [] }
     requires trail { IfSome last (λ last.
         IsTrail Q.Owned.item arena.old (Q.key last) trail.old.items) }
     ensures whole { IsWellFormed arena.new }
-    ensures row { IsCanonical Q.Owned.item (siblings_of arena.new) }
+    ensures siblings { IsCanonical Q.Owned.item (siblings_of arena.new) }
     ensures old { IfOk result (λ old. old ≡ find key_cmp (Q.key key) (entries_of arena.old)) }
     ensures ok { OnOk result (IsPut arena.old arena.new (Q.key key) value) }
     ensures refused { IfErr result (λ r. r.value ≡ value) }

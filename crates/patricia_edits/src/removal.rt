@@ -78,10 +78,10 @@ pub fn remove<V: Drop, Q: BorrowedBytes>(
     key: Q,
 ) -> Result<Option<V>, AllocError>
     requires whole { IsWellFormed arena.old }
-    requires row { IsCanonical Q.Owned.item (siblings_of arena.old) }
+    requires siblings { IsCanonical Q.Owned.item (siblings_of arena.old) }
     requires nonempty { Q.key key ≢ [] }
     ensures whole { IsWellFormed arena.new }
-    ensures row { IsCanonical Q.Owned.item (siblings_of arena.new) }
+    ensures siblings { IsCanonical Q.Owned.item (siblings_of arena.new) }
     ensures old { IfOk result (λ old. old ≡ find key_cmp (Q.key key) (entries_of arena.old)) }
     ensures ok { OnOk result (entries_of arena.new ≡ others (Q.key key) (entries_of arena.old)) }
     ensures unchanged { OnErr result (siblings_of arena.new ≡ siblings_of arena.old) }

@@ -42,7 +42,7 @@ fn how_many<V>(value: &Option<V>) -> usize
     }
 }
 
-// Counts the nodes of a row and below it.
+// Counts siblings and the nodes below them.
 fn measure<V: Drop>(arena: &NodeArena<V>, alloc: Global, first: Link) -> Result<Size, AllocError>
     requires { (p : Plan V) × IsPlan arena.now.nodes.items first p }
     ensures { IfOk result (λ s. (p : Plan V) → IsPlan arena.now.nodes.items first p
@@ -144,7 +144,7 @@ fn split_at<V: Drop, Q: BorrowedBytes>(
     id: NodeId,
 ) -> Result<Taken<V>, AllocError>
     requires whole { IsWellFormed arena.old }
-    requires row { IsCanonical Q.Owned.item (siblings_of arena.old) }
+    requires siblings { IsCanonical Q.Owned.item (siblings_of arena.old) }
     requires place { IsSeekResult Q.Owned.item Q.key arena.old (Q.key prefix) place.now }
     requires under { node_under (Q.key place.now.rest) place.now.matched ≡ Some id }
     ensures ok { IfOk result (λ t. SplitsOff Q.Owned.item arena.old arena.new (Q.key prefix) t) }
@@ -174,7 +174,7 @@ pub fn split<V: Drop, Q: BorrowedBytes>(
     prefix: Q,
 ) -> Result<Taken<V>, AllocError>
     requires whole { IsWellFormed arena.old }
-    requires row { IsCanonical Q.Owned.item (siblings_of arena.old) }
+    requires siblings { IsCanonical Q.Owned.item (siblings_of arena.old) }
     requires nonempty { Q.key prefix ≢ [] }
     ensures ok { IfOk result (λ t. SplitsOff Q.Owned.item arena.old arena.new (Q.key prefix) t) }
     ensures unchanged { OnErr result (arena.new ≡ arena.old) }

@@ -123,7 +123,7 @@ module _ (item : List ℕ → Type 0) (kind : IsKeyKind item) {V : Type 0} (l : 
   counted_here t passes none = counted_stop (stops_shared item kind l k passes.shares)
       (λ u some e. some (append_cancel_left l u t (e ∙ sym passes.splits) ∙ none))
 
-  -- past the label the rest of the row counts on
+  -- past the label the rest of the siblings count on
   pub counted_past : (m : ℕ) → IsBefore item l k → IsCounted item s k b m
       → IsCounted item (node l v c s) k n m
   counted_past m before later = record {
@@ -166,11 +166,11 @@ module _ (item : List ℕ → Type 0) (kind : IsKeyKind item) {V : Type 0} (v : 
       let visits : AreVisits item (keys (map_of v r)) k [] = rw none (empty_visits item kind (keys (map_of v r))) in
       record { visited = []; once = visits.once; exactly = visits.exactly; is = refl }
 
-  -- and at others the row counts
-  pub counted_row : (k : List ℕ) (n m : ℕ) (row : IsCounted item r k n m)
-      → IsVisitCount item (keys (map_of v r)) k (1 + length row.visited)
-  counted_row k n m row =
+  -- and at others the siblings count
+  pub counted_siblings : (k : List ℕ) (n m : ℕ) (siblings : IsCounted item r k n m)
+      → IsVisitCount item (keys (map_of v r)) k (1 + length siblings.visited)
+  counted_siblings k n m siblings =
       let visits = AreVisits-same item kind (keys_of (entries r)) (keys_of (own v ++ entries r))
-      (own_within v (entries r)) (within_own v (entries r)) k row.visited row.visits in
-      let whole = subst (λ S. AreVisits item S k row.visited) (sym root_keys) visits in
-      record { visited = row.visited; once = whole.once; exactly = whole.exactly; is = refl }
+      (own_within v (entries r)) (within_own v (entries r)) k siblings.visited siblings.visits in
+      let whole = subst (λ S. AreVisits item S k siblings.visited) (sym root_keys) visits in
+      record { visited = siblings.visited; once = whole.once; exactly = whole.exactly; is = refl }

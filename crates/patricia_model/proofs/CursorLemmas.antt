@@ -1,4 +1,4 @@
--- The rows that a cursor has still to lend, from step to step.
+-- The entries that a cursor has still to lend, from step to step.
 use Rattle.std.proofs.Common.{◌≡◌, ℕ, Bool, true, false, T, cond, List, [], ◌∷◌, Option, Some, None}
 use Rattle.std.proofs.Common.{inl, refl, sym, ap, subst, ◌∙◌}
 use Rattle.std.specs.declared.cmp.Ordering.{Ordering}
@@ -21,13 +21,13 @@ less_is Equal h = absurd (cc)
 less_is Greater h = absurd (cc)
 
 module _ {V : Type 0} where
-  -- all rows come after a key that is below them
+  -- all entries come after a key that is below them
   after_all : (k : List ℕ) (es : List (List ℕ × V)) → T (below_all key_cmp k es)
       → after (Some k) es ≡ es
   after_all k [] h = refl
   after_all k (e ∷ es) h = rw (less_so (key_cmp k e.0) (first_part _ _ h)) (ap (λ r. e ∷ r) (after_all k es (second_part _ _ h)))
 
-  -- and no row comes after its own key
+  -- and no entry comes after its own key
   after_own : (e : List ℕ × V) (es : List (List ℕ × V))
       → after (Some e.0) (e ∷ es) ≡ after (Some e.0) es
   after_own e es = by (key_cmp e.0 e.0) refl
@@ -53,18 +53,18 @@ module _ {V : Type 0} where
       by false true f h rest = rw f rest
       by false false f h rest = rest
 
-  -- a row that comes after a key is greater
+  -- an entry that comes after a key is greater
   after_less : (k : List ℕ) (es : List (List ℕ × V)) (e : List ℕ × V) → Has (after (Some k) es) e
       → key_cmp k e.0 ≡ Less
   after_less k es e h = less_is _ (has_filter (λ x. is_lt (key_cmp k x.0)) es e h).1
 
-  -- the rows after a key are in order, as all rows are
+  -- the entries after a key are in order, as all entries are
   after_sorted : (o : Option (List ℕ)) (es : List (List ℕ × V)) → T (is_sorted key_cmp es)
       → T (is_sorted key_cmp (after o es))
   after_sorted None es h = h
   after_sorted (Some k) es h = is_sorted-where_key key_cmp (λ q. is_lt (key_cmp k q)) es h
 
-  -- the rows after the first that is left are the others
+  -- the entries after the first that is left are the others
   pub after_first : (o : Option (List ℕ)) (es : List (List ℕ × V)) → T (is_sorted key_cmp es)
       → (e : List ℕ × V) (rest : List (List ℕ × V)) → after o es ≡ e ∷ rest
       → after (Some e.0) es ≡ rest
@@ -76,7 +76,7 @@ module _ {V : Type 0} where
       from None is = ap (after (Some e.0)) is
       from (Some k) is = sym (after_greater k e.0 (after_less k es e (subst (λ r. Has r e) (sym is) (inl refl))) es) ∙ ap (after (Some e.0)) is
 
-  -- each row that is left is one of the rows
+  -- each entry that is left is one of the entries
   pub after_has : (o : Option (List ℕ)) (es : List (List ℕ × V)) (e : List ℕ × V)
       → Has (after o es) e → Has es e
   after_has None es e h = h

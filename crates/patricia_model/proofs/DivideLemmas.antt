@@ -11,7 +11,7 @@ use Rattle.patricia_model.specs.Siblings.{IsBeforeSiblings, IsCanonical}
 use Rattle.patricia_keys.proofs.KeyLemmas.{valid_rest, IsValid-append, IsValid-item}
 use Rattle.std.specs.declared.cmp.Ordering.{Ordering}
 use Rattle.std.specs.declared.cmp.Ordering.TheVariants.{Less, Equal, Greater}
-use Rattle.patricia_model.proofs.RowLemmas.{prefixed-prefixed}
+use Rattle.patricia_model.proofs.SiblingsLemmas.{prefixed-prefixed}
 use Rattle.patricia_model.proofs.GetLemmas.{compared_greater, compared_equal}
 use Rattle.patricia_model.proofs.InsertLemmas.{IsBefore-shorter_left, single, put_own, put_before}
 use Rattle.patricia_model.proofs.InsertLemmas.{put_past, put_front, earns_elsewhere}
@@ -103,9 +103,9 @@ module _ (item : List ℕ → Type 0) (kind : IsKeyKind item) {V : Type 0} (x : 
   abbrev lower : Siblings V
   lower = node d v c end
 
-  -- the lower node alone is a row that keeps the invariant
-  lower_row : IsCanonical item lower
-  lower_row = record {
+  -- the lower node alone keeps the invariant
+  lower_siblings : IsCanonical item lower
+  lower_siblings = record {
     valid = div.label_valid;
     nonempty = div.label_nonempty;
     fits = tt;
@@ -130,7 +130,7 @@ module _ (item : List ℕ → Type 0) (kind : IsKeyKind item) {V : Type 0} (x : 
       ∙ ap (λ es. es ++ entries s) (prefixed-prefixed p d (own v ++ entries c))
       ∙ ap (λ k. prefixed k (own v ++ entries c) ++ entries s) div.label
 
-  -- a write below the cut at the rest of the key is one to the row at the key
+  -- a write below the cut at the rest of the key is one to the siblings at the key
   written : (v' : Option V) (c' : Siblings V)
       → own v' ++ entries c' ≡ put key_cmp t x (entries lower)
       → entries (node p v' c' s) ≡ put key_cmp q x (entries (node l v c s))
@@ -144,37 +144,37 @@ module _ (item : List ℕ → Type 0) (kind : IsKeyKind item) {V : Type 0} (x : 
     fits = tt;
     earns = tt;
     rises = front_rises;
-    child = lower_row;
+    child = lower_siblings;
     sibling = ok.sibling;
   }
 
   -- the key ends at the cut: its value stands in the upper part
   pub put_at_cut : t ≡ []
       → entries (node p (Some x) lower s) ≡ put key_cmp q x (entries (node l v c s))
-  put_at_cut none = written (Some x) lower (put_own item kind x None lower lower_row ∙ ap (λ k. put key_cmp k x (entries lower)) (sym none))
+  put_at_cut none = written (Some x) lower (put_own item kind x None lower lower_siblings ∙ ap (λ k. put key_cmp k x (entries lower)) (sym none))
 
   -- where the key goes on before the lower part, a leaf there keeps the invariant
-  pub row_before_cut : t ≢ [] → IsBefore item t d
+  pub siblings_before_cut : t ≢ [] → IsBefore item t d
       → IsCanonical item (node p None (node t (Some x) end lower) s)
-  row_before_cut nonempty before = record {
+  siblings_before_cut nonempty before = record {
     valid = div.front_valid;
     nonempty = div.front_filled;
     fits = tt;
     earns = tt;
     rises = front_rises;
-    child = record { valid = div.key_valid; nonempty = nonempty; fits = tt; earns = tt; rises = before; child = tt; sibling = lower_row };
+    child = record { valid = div.key_valid; nonempty = nonempty; fits = tt; earns = tt; rises = before; child = tt; sibling = lower_siblings };
     sibling = ok.sibling;
   }
 
   -- the rest of the key comes before the rest of the label: a leaf before the lower part
   pub put_before_cut : IsBefore item t d
       → entries (node p None (node t (Some x) end lower) s) ≡ put key_cmp q x (entries (node l v c s))
-  put_before_cut before = written None (node t (Some x) end lower) (put_before item kind x d v c end lower_row t before)
+  put_before_cut before = written None (node t (Some x) end lower) (put_before item kind x d v c end lower_siblings t before)
 
   -- and so does a leaf behind it, where the key goes on there
-  pub row_after_cut : t ≢ [] → IsBefore item d t
+  pub siblings_after_cut : t ≢ [] → IsBefore item d t
       → IsCanonical item (node p None (node d v c (node t (Some x) end end)) s)
-  row_after_cut nonempty before = record {
+  siblings_after_cut nonempty before = record {
     valid = div.front_valid;
     nonempty = div.front_filled;
     fits = tt;
@@ -204,7 +204,7 @@ module _ (item : List ℕ → Type 0) (kind : IsKeyKind item) {V : Type 0} (x : 
   pub put_after_cut : IsBefore item d t
       → entries (node p None (node d v c (node t (Some x) end end)) s) ≡ put key_cmp q x (entries (node l v c s))
   put_after_cut before = written None (node d v c (node t (Some x) end end))
-      (put_past item kind x d v c end lower_row t (node t (Some x) end end) before
+      (put_past item kind x d v c end lower_siblings t (node t (Some x) end end) before
       (single item kind x t))
 
   -- a key that isn't before the cut label is past it

@@ -1,4 +1,5 @@
--- Which rows are under a prefix and along a key, and which of them is the longest.
+-- Which entries are under a prefix, which are common prefixes of a key, and which of these is the
+-- longest.
 use Rattle.std.proofs.Common.{◌≡◌, ℕ, ◌≤◌, ◌⊎◌, inl, inr, Bool, true, false, T, cond, List, [], ◌∷◌}
 use Rattle.std.proofs.Common.{length, Option, None, Some, refl, sym, ap, subst, ◌∙◌, arith}
 use Rattle.std.specs.Prelude.{◌↔◌, filter}
@@ -47,24 +48,24 @@ module _ {A : Type 0} (f : A → Bool) where
       by false h = h
 
 module _ {V : Type 0} where
-  -- the rows under a prefix are those whose key begins with it
-  pub under_has : (p : List ℕ) (rows : List (List ℕ × V)) (r : List ℕ × V)
-      → Has (under p rows) r ↔ (Has rows r × Begins p r.0)
-  under_has p rows r = (λ h. let found = has_filter _ rows r h in (found.0, begins_is p r.0 found.1), λ h. filter_has _ rows r h.0 (begins_from p r.0 h.1))
+  -- the entries under a prefix are those whose key begins with it
+  pub under_has : (p : List ℕ) (entries : List (List ℕ × V)) (r : List ℕ × V)
+      → Has (under p entries) r ↔ (Has entries r × Begins p r.0)
+  under_has p entries r = (λ h. let found = has_filter _ entries r h in (found.0, begins_is p r.0 found.1), λ h. filter_has _ entries r h.0 (begins_from p r.0 h.1))
 
-  -- the rows along a key are those whose key is a prefix of it
-  pub along_has : (k : List ℕ) (rows : List (List ℕ × V)) (r : List ℕ × V)
-      → Has (along k rows) r ↔ (Has rows r × Begins r.0 k)
-  along_has k rows r = (λ h. let found = has_filter _ rows r h in (found.0, begins_is r.0 k found.1), λ h. filter_has _ rows r h.0 (begins_from r.0 k h.1))
+  -- the common prefixes of a key are the entries whose key is a prefix of it
+  pub along_has : (k : List ℕ) (entries : List (List ℕ × V)) (r : List ℕ × V)
+      → Has (along k entries) r ↔ (Has entries r × Begins r.0 k)
+  along_has k entries r = (λ h. let found = has_filter _ entries r h in (found.0, begins_is r.0 k found.1), λ h. filter_has _ entries r h.0 (begins_from r.0 k h.1))
 
-  -- the last of some rows that rise along a key
+  -- the last of some entries that rise, each a prefix of the key
   record IsLast (k : List ℕ) (o : Option (List ℕ × V)) (es : List (List ℕ × V)) (r : List ℕ × V) : Type 0 where
     has : Has es r ⊎ (o ≡ Some r)
     begun : Begins r.0 k
     longest_is : (e : List ℕ × V) → Has es e → Begins e.0 k → length e.0 ≤ length r.0
     before_is : (e : List ℕ × V) → o ≡ Some e → length e.0 ≤ length r.0
 
-  -- the last row along a key is the longest of those that begin it, or the one from before
+  -- the last common prefix of a key is the longest one, or the one from before
   last_is : (k : List ℕ) (o : Option (List ℕ × V)) (es : List (List ℕ × V)) (r : List ℕ × V)
       → T (is_sorted key_cmp es)
       → ((x : List ℕ × V) → o ≡ Some x → Begins x.0 k × T (below_all key_cmp x.0 es))
@@ -113,7 +114,7 @@ module _ {V : Type 0} where
             before_is = found.before_is;
           }
 
-  -- the longest row of a sorted list is the last one along the key
+  -- the longest prefix in a sorted list is the last common prefix of the key
   pub longest_last : (es : List (List ℕ × V)) → T (is_sorted key_cmp es)
       → (k : List ℕ) (r : List ℕ × V) → longest k es ≡ Some r
       → Has (along k es) r × ((e : List ℕ × V) → Has (along k es) e → length e.0 ≤ length r.0)
@@ -123,7 +124,7 @@ module _ {V : Type 0} where
         λ x h. let is = (along_has k es x).0 h in found.longest_is x is.0 is.1,
       )
 
--- there is one reach
+-- there is one common length
 pub one_reach : (item : List ℕ → Type 0) (S : List (List ℕ)) (q : List ℕ) (n m : ℕ)
     → IsReach item S q n → IsReach item S q m → n ≡ m
 one_reach item S q n m a b = elim a.reached [

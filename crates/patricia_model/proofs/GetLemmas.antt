@@ -12,11 +12,12 @@ use Rattle.patricia_model.specs.Internal.LabelCmp.{SharesItem, EndsWithin, Passe
 use Rattle.patricia_model.specs.Siblings.{Siblings, node, prefixed, own, entries, IsBefore}
 use Rattle.patricia_model.specs.Siblings.{IsCanonical}
 use Rattle.patricia_keys.proofs.KeyLemmas.{key_cmp-irreflexive}
-use Rattle.patricia_model.proofs.RowLemmas.{AllKeys, AllKeys-append, AllKeys-prefixed, empty_lacks}
-use Rattle.patricia_model.proofs.RowLemmas.{lacks_item, lacks_empty}
+use Rattle.patricia_model.proofs.SiblingsLemmas.{AllKeys, AllKeys-append, AllKeys-prefixed}
+use Rattle.patricia_model.proofs.SiblingsLemmas.{empty_lacks}
+use Rattle.patricia_model.proofs.SiblingsLemmas.{lacks_item, lacks_empty}
 use Rattle.patricia_model.proofs.ListLemmas.{IsBelow, key_cmp-equal, find_absent, find-append_left}
 use Rattle.patricia_model.proofs.ListLemmas.{find-append_right, find-prefixed}
-use Rattle.patricia_model.proofs.OrderLemmas.{IsBefore-less, below_row}
+use Rattle.patricia_model.proofs.OrderLemmas.{IsBefore-less, below_siblings}
 
 -- a key that is below each key is none of them
 not_below : {V : Type 0} (q : List ℕ) (es : List (List ℕ × V)) → IsBelow q es
@@ -124,8 +125,8 @@ module _ (item : List ℕ → Type 0) (kind : IsKeyKind item) {V : Type 0} where
 
 module _ (item : List ℕ → Type 0) (kind : IsKeyKind item) {V : Type 0} (l : List ℕ) (v : Option V)
     (c s : Siblings V) (ok : IsCanonical item (node l v c s)) where
-  -- the key is not among the entries of a node before it, of a row behind it, of a row whose first
-  -- label it ends within, and of the nodes past a label that begins it
+  -- the key is not among the entries of a node before it, of siblings behind it, of siblings whose
+  -- first label it ends within, and of the nodes past a label that begins it
   pub lacks_past : (q : List ℕ) → IsBefore item l q
       → AllKeys (λ k. q ≡ k → ⊥) (prefixed l (own v ++ entries c))
   lacks_past q before = AllKeys-prefixed _ l
@@ -135,7 +136,7 @@ module _ (item : List ℕ → Type 0) (kind : IsKeyKind item) {V : Type 0} (l : 
   -- a key that comes before a label is in none of its siblings
   pub lacks_before : (q : List ℕ) → IsBefore item q l
       → AllKeys (λ k. q ≡ k → ⊥) (entries (node l v c s))
-  lacks_before q before = not_below q _ (subst (λ k. IsBelow k (entries (node l v c s))) (append-nil q) (below_row item kind q [] (node l v c s) ok before))
+  lacks_before q before = not_below q _ (subst (λ k. IsBelow k (entries (node l v c s))) (append-nil q) (below_siblings item kind q [] (node l v c s) ok before))
 
   -- a key that shares a label's first item is in no later sibling
   pub later_lacks : (q : List ℕ) → SharesItem item q l → AllKeys (λ k. q ≡ k → ⊥) (entries s)

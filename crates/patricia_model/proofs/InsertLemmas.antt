@@ -9,11 +9,12 @@ use Rattle.patricia_model.specs.Internal.LabelCmp.{Passes}
 use Rattle.patricia_model.specs.Siblings.{Siblings, end, node, prefixed, own, entries, IsBefore}
 use Rattle.patricia_model.specs.Siblings.{IsBeforeSiblings, EarnsWithin, IsCanonical}
 use Rattle.patricia_keys.proofs.KeyLemmas.{Begins-trans, begins_same, first_of}
-use Rattle.patricia_model.proofs.RowLemmas.{AllKeys, AllKeys-append, AllKeys-prefixed, rises_on}
+use Rattle.patricia_model.proofs.SiblingsLemmas.{AllKeys, AllKeys-append, AllKeys-prefixed}
+use Rattle.patricia_model.proofs.SiblingsLemmas.{rises_on}
 use Rattle.patricia_model.proofs.ListLemmas.{IsBelow, IsAbove, put_below, put-append_left}
 use Rattle.patricia_model.proofs.ListLemmas.{put-append_right, put-prefixed, AllKeys-put}
 use Rattle.patricia_model.proofs.ListLemmas.{put-AllKeys}
-use Rattle.patricia_model.proofs.OrderLemmas.{IsBefore-less, below_row, below_own}
+use Rattle.patricia_model.proofs.OrderLemmas.{IsBefore-less, below_siblings, below_own}
 use Rattle.patricia_model.proofs.UniqueLemmas.{branches, has_entry}
 
 -- what begins some bytes begins them with more behind
@@ -78,9 +79,9 @@ module _ (item : List ℕ → Type 0) (kind : IsKeyKind item) where
         less = b.less;
       }
 
--- what is said of a row by its entries alone
+-- what is said of siblings by their entries alone
 module _ (item : List ℕ → Type 0) (kind : IsKeyKind item) {V : Type 0} where
-  -- a label that comes before a row's first one comes before each of its keys
+  -- a label that comes before the first of siblings comes before each of their keys
   pub keys_rise : (l : List ℕ) (s : Siblings V) → IsCanonical item s → IsBeforeSiblings item l s
       → AllKeys (λ k. IsBefore item l k) (entries s)
   keys_rise l end ok before = tt
@@ -98,7 +99,7 @@ module _ (item : List ℕ → Type 0) (kind : IsKeyKind item) {V : Type 0} where
       let all' = rw some.2 at all in
       IsBefore-shorter item kind l m some.0.0 ok.valid ok.nonempty all'.0
 
-  -- a row whose keys do not all begin with one item has two nodes
+  -- siblings whose keys do not all begin with one item are two or more
   earns_by_keys : (l i : List ℕ) → item i → (c : Siblings V) → IsCanonical item c
       → ((i : List ℕ) → item i → AllKeys (λ k. Begins i k) (entries c) → ⊥)
       → EarnsWithin item None l None c
@@ -142,7 +143,7 @@ module _ (item : List ℕ → Type 0) (kind : IsKeyKind item) {V : Type 0} (x : 
       above None = tt
       above (Some y) = (empty_below t nonempty, tt)
 
-  -- a write to a node's own entry and children is one to the row, behind the label
+  -- a write to a node's own entry and children is one to the siblings, behind the label
   pub put_front : (l : List ℕ) (v : Option V) (c s : Siblings V) → IsCanonical item s
       → IsBeforeSiblings item l s → (q t : List ℕ) (v' : Option V) (c' : Siblings V) → l ++ t ≡ q
       → own v' ++ entries c' ≡ put key_cmp t x (own v ++ entries c)
@@ -150,7 +151,7 @@ module _ (item : List ℕ → Type 0) (kind : IsKeyKind item) {V : Type 0} (x : 
   put_front l v c s ok rises q t v' c' splits e =
       ap (λ es. prefixed l es ++ entries s) e
       ∙ ap (λ es. es ++ entries s) (sym (put-prefixed l t x (own v ++ entries c)))
-      ∙ sym (put-append_left (l ++ t) x (prefixed l (own v ++ entries c)) (entries s) (below_row item kind l t s ok rises))
+      ∙ sym (put-append_left (l ++ t) x (prefixed l (own v ++ entries c)) (entries s) (below_siblings item kind l t s ok rises))
       ∙ ap (λ k. put key_cmp k x (entries (node l v c s))) splits
 
   module _ (l : List ℕ) (v : Option V) (c s : Siblings V) (ok : IsCanonical item (node l v c s)) where
@@ -161,9 +162,9 @@ module _ (item : List ℕ → Type 0) (kind : IsKeyKind item) {V : Type 0} (x : 
         ap (λ es. es ++ entries (node l v c s)) (ap (λ k. (k, x) ∷ []) (append-nil q))
         ∙ sym (put_below q x (entries (node l v c s))
         (subst (λ k. IsBelow k (entries (node l v c s))) (append-nil q)
-        (below_row item kind q [] (node l v c s) ok before)))
+        (below_siblings item kind q [] (node l v c s) ok before)))
 
-    -- a write to the siblings behind a node is one to the row
+    -- a write to the siblings behind a node is one to all of them
     pub put_past : (q : List ℕ) (s' : Siblings V) → IsBefore item l q
         → entries s' ≡ put key_cmp q x (entries s)
         → entries (node l v c s') ≡ put key_cmp q x (entries (node l v c s))
@@ -173,9 +174,9 @@ module _ (item : List ℕ → Type 0) (kind : IsKeyKind item) {V : Type 0} (x : 
         (AllKeys-prefixed _ l (λ t. subst (λ k. key_cmp (l ++ t) k ≡ Less) (append-nil q) (IsBefore-less item kind l q t [] before)) _))
 
     -- an insert into later siblings keeps the siblings canonical
-    pub row_past : (q : List ℕ) (s' : Siblings V) → IsBefore item l q → IsCanonical item s'
+    pub siblings_past : (q : List ℕ) (s' : Siblings V) → IsBefore item l q → IsCanonical item s'
         → entries s' ≡ put key_cmp q x (entries s) → IsCanonical item (node l v c s')
-    row_past q s' before ok' e = record {
+    siblings_past q s' before ok' e = record {
       valid = ok.valid;
       nonempty = ok.nonempty;
       fits = tt;
@@ -194,13 +195,13 @@ module _ (item : List ℕ → Type 0) (kind : IsKeyKind item) {V : Type 0} (x : 
     put_through q t v' c' passes e = put_front l v c s ok.sibling ok.rises q t v' c' passes.splits e
 
     -- a new value keeps them canonical
-    pub row_valued : IsCanonical item (node l (Some x) c s)
-    row_valued = record { valid = ok.valid; nonempty = ok.nonempty; fits = tt; earns = tt; rises = ok.rises; child = ok.child; sibling = ok.sibling }
+    pub siblings_valued : IsCanonical item (node l (Some x) c s)
+    siblings_valued = record { valid = ok.valid; nonempty = ok.nonempty; fits = tt; earns = tt; rises = ok.rises; child = ok.child; sibling = ok.sibling }
 
     -- and so does an insert among the children
-    pub row_child : (t : List ℕ) (c' : Siblings V) → IsCanonical item c'
+    pub siblings_child : (t : List ℕ) (c' : Siblings V) → IsCanonical item c'
         → entries c' ≡ put key_cmp t x (entries c) → IsCanonical item (node l v c' s)
-    row_child t c' ok' e =
+    siblings_child t c' ok' e =
         record {
           valid = ok.valid;
           nonempty = ok.nonempty;

@@ -13,7 +13,7 @@ use Rattle.patricia_model.specs.Siblings.{IsCanonical, keys_of}
 use Rattle.patricia_model.specs.Internal.Removals.{others, IsLoneParent, LeavesAlone}
 use Rattle.patricia_keys.proofs.KeyLemmas.{Begins-trans, key_cmp-irreflexive, key_cmp-same}
 use Rattle.patricia_keys.proofs.KeyLemmas.{begins_same, first_of, IsValid-append}
-use Rattle.patricia_model.proofs.RowLemmas.{AllKeys, lacks_item, lacks_empty}
+use Rattle.patricia_model.proofs.SiblingsLemmas.{AllKeys, lacks_item, lacks_empty}
 use Rattle.patricia_model.proofs.ListLemmas.{key_cmp-equal}
 use Rattle.patricia_model.proofs.RemovalLemmas.{survivor}
 use Rattle.patricia_model.proofs.PointLemmas.{nil_first, nil_second, has_prefixed, has_after}
@@ -201,7 +201,7 @@ module _ (item : List ℕ → Type 0) (kind : IsKeyKind item) {V : Type 0} where
       let some = has_entry item kind None m w d t ok in
       (some.0.0, has_prefixed m (own w ++ entries d) (entries t) some.0.0 (subst (λ es. Has (keys_of es) some.0.0) (sym some.2) (inl refl)))
 
-  -- a row of two nodes branches where it stands
+  -- two siblings branch where they stand
   two_children : (l : List ℕ) (c : Siblings V) → IsCanonical item c
       → EarnsWithin item {V = V} None l None c → (S : List (List ℕ))
       → ((r : List ℕ) → Has (keys_of (entries c)) r → Has S (l ++ r)) → Branches item S l
@@ -230,7 +230,7 @@ module _ (item : List ℕ → Type 0) (kind : IsKeyKind item) {V : Type 0} where
 
 module _ (item : List ℕ → Type 0) (kind : IsKeyKind item) {V : Type 0} (l : List ℕ) (v : Option V)
     (c s : Siblings V) (ok : IsCanonical item (node l v c s)) where
-  -- no key of the rest of the row begins with the label
+  -- no key of the rest of the siblings begins with the label
   later_apart : (k r : List ℕ) → Has (keys_of (entries s)) k → l ++ r ≡ k → ⊥
   later_apart k r h e =
       let first = first_of item l ok.valid ok.nonempty in
@@ -254,7 +254,7 @@ module _ (item : List ℕ → Type 0) (kind : IsKeyKind item) {V : Type 0} (l : 
       below (Some x) (inl none) = absurd (nonempty (sym none))
       below (Some x) (inr g) = g
 
-  -- a key below the node has the label before it in the row
+  -- a key below the node has the label before it in the siblings
   key_of_child : (r : List ℕ) → Has (keys_of (entries c)) r
       → Has (keys_of (entries (node l v c s))) (l ++ r)
   key_of_child r h = has_prefixed l (own v ++ entries c) (entries s) r (has_after (own v) (entries c) r h)

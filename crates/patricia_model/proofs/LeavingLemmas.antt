@@ -1,4 +1,4 @@
--- Rows that leave a tree: the row of a key, or those under a prefix.
+-- Entries that leave a tree: the entry of a key, or those under a prefix.
 use Rattle.std.proofs.Common.{◌≡◌, ◌≢◌, ℕ, List, [], ◌++◌, Option, sym, ap, subst, ◌∙◌}
 use Rattle.patricia_keys.specs.Keys.{IsKeyKind}
 use Rattle.patricia_model.specs.Prefixes.{outside}
@@ -6,7 +6,7 @@ use Rattle.patricia_model.specs.Internal.LabelCmp.{Passes}
 use Rattle.patricia_model.specs.Internal.Removals.{others}
 use Rattle.patricia_model.specs.Siblings.{Siblings, node, prefixed, own, entries, IsBefore}
 use Rattle.patricia_model.specs.Siblings.{IsCanonical}
-use Rattle.patricia_model.proofs.RowLemmas.{AllKeys}
+use Rattle.patricia_model.proofs.SiblingsLemmas.{AllKeys}
 use Rattle.patricia_model.proofs.InsertLemmas.{keys_rise, rises_by_keys}
 use Rattle.patricia_model.proofs.OutsideLemmas.{AllKeys-outside, outside_past, outside_deeper}
 use Rattle.patricia_model.proofs.RemovalLemmas.{AllKeys-others, others_past, others_deeper}
@@ -23,7 +23,7 @@ pub record Leaves (item : List ℕ → Type 0) {V : Type 0} (left : List ℕ →
       → AllKeys (λ k. IsBefore item l k) (left q es)
 
 module _ (item : List ℕ → Type 0) (kind : IsKeyKind item) {V : Type 0} where
-  -- the rows of the keys other than one are rows that stay
+  -- the entries of the keys other than one are entries that stay
   pub others_leave : Leaves item {V = V} others
   others_leave = record {
     past = λ l v c s ok q before. others_past item kind l v c s ok q before;
@@ -31,7 +31,7 @@ module _ (item : List ℕ → Type 0) (kind : IsKeyKind item) {V : Type 0} where
     keys = λ l q es all. AllKeys-others _ q es all;
   }
 
-  -- the rows outside a prefix are rows that stay
+  -- the entries outside a prefix are entries that stay
   pub outside_leave : Leaves item {V = V} outside
   outside_leave = record {
     past = λ l v c s ok q before. outside_past item kind l v c s ok q before;
@@ -41,10 +41,10 @@ module _ (item : List ℕ → Type 0) (kind : IsKeyKind item) {V : Type 0} where
 
   module _ (left : List ℕ → List (List ℕ × V) → List (List ℕ × V)) (leaves : Leaves item left)
       (l : List ℕ) (v : Option V) (c s : Siblings V) (ok : IsCanonical item (node l v c s)) where
-    -- where rows leave the siblings behind a node, the row keeps the invariant
-    pub row_past_left : (q : List ℕ) (s' : Siblings V) → IsCanonical item s'
+    -- where entries leave the siblings behind a node, all of the siblings keep the invariant
+    pub siblings_past_left : (q : List ℕ) (s' : Siblings V) → IsCanonical item s'
         → entries s' ≡ left q (entries s) → IsCanonical item (node l v c s')
-    row_past_left q s' ok' e = record {
+    siblings_past_left q s' ok' e = record {
       valid = ok.valid;
       nonempty = ok.nonempty;
       fits = tt;

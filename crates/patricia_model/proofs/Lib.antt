@@ -16,7 +16,7 @@ pub mod PrefixLemmas
 pub mod RangeLemmas
 pub mod ReachLemmas
 pub mod RemovalLemmas
-pub mod RowLemmas
+pub mod SiblingsLemmas
 pub mod TestLemmas
 pub mod TreeLemmas
 pub mod UniqueLemmas

@@ -10,7 +10,7 @@ use Rattle.std.specs.FinMap.{find, put, slice_cmp-IsAntisymmetric, nat_cmp-IsAnt
 use Rattle.std.specs.FinMap.Entries.{below_all, by_order}
 use Rattle.patricia_keys.specs.Keys.{Begins, key_cmp}
 use Rattle.patricia_model.specs.Siblings.{prefixed}
-use Rattle.patricia_model.proofs.RowLemmas.{AllKeys}
+use Rattle.patricia_model.proofs.SiblingsLemmas.{AllKeys}
 
 -- keys that compare as equal are equal
 pub key_cmp-equal : (a b : List ℕ) → key_cmp a b ≡ Equal → a ≡ b
@@ -64,7 +64,7 @@ module _ {V : Type 0} where
   abbrev pub IsAbove : List ℕ → List (List ℕ × V) → Type 0
   IsAbove q es = AllKeys (λ k. key_cmp k q ≡ Less) es
 
-  -- a key that no row has is not found
+  -- a key that no entry has is not found
   pub find_absent : (q : List ℕ) (es : List (List ℕ × V)) → AllKeys (λ k. q ≡ k → ⊥) es
       → find key_cmp q es ≡ None
   find_absent q [] h = refl
@@ -103,7 +103,7 @@ module _ {V : Type 0} where
       ap (λ r. cond (is_eq r) (Some e.1) (find key_cmp (p ++ q) (prefixed p es))) (key_cmp-front p q e.0)
       ∙ ap (cond (eq_by_cmp key_cmp q e.0) (Some e.1)) (find-prefixed p q es)
 
-  -- a key before all rows is inserted in front
+  -- a key before all entries is inserted in front
   pub put_below : (q : List ℕ) (v : V) (es : List (List ℕ × V)) → IsBelow q es
       → put key_cmp q v es ≡ (q, v) ∷ es
   put_below q v [] h = refl
@@ -173,7 +173,7 @@ module _ {V : Type 0} where
       by Equal f rest = rw f h
       by Greater f rest = rw f (h.0, rest)
 
-  -- a key that is before each row passes std's test
+  -- a key that is before each entry passes std's test
   pub below_all-from : (q : List ℕ) (es : List (List ℕ × V)) → IsBelow q es
       → T (below_all key_cmp q es)
   below_all-from q [] h = tt

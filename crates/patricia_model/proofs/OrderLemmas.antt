@@ -1,4 +1,4 @@
--- The entries of a row strictly rise.
+-- The entries of siblings strictly rise.
 use Rattle.std.proofs.Common.{◌≡◌, ℕ, inl, inr, T, List, [], ◌∷◌, ◌++◌, Option, Some, None, refl}
 use Rattle.std.proofs.Common.{sym, ap, ◌∙◌}
 use Rattle.std.specs.declared.cmp.Ordering.TheVariants.{Less}
@@ -9,8 +9,9 @@ use Rattle.patricia_keys.specs.Keys.{IsKeyKind, key_cmp}
 use Rattle.patricia_model.specs.Siblings.{Siblings, end, node, prefixed, own, entries, IsBefore}
 use Rattle.patricia_model.specs.Siblings.{IsBeforeSiblings, IsCanonical}
 use Rattle.patricia_keys.proofs.KeyLemmas.{key_cmp-irreflexive}
-use Rattle.patricia_model.proofs.RowLemmas.{AllKeys, AllKeys-append, AllKeys-prefixed, rises_on}
-use Rattle.patricia_model.proofs.RowLemmas.{lacks_empty}
+use Rattle.patricia_model.proofs.SiblingsLemmas.{AllKeys, AllKeys-append, AllKeys-prefixed}
+use Rattle.patricia_model.proofs.SiblingsLemmas.{rises_on}
+use Rattle.patricia_model.proofs.SiblingsLemmas.{lacks_empty}
 use Rattle.patricia_model.proofs.ListLemmas.{IsBelow, key_cmp-extends, key_cmp-front}
 use Rattle.patricia_model.proofs.ListLemmas.{below_all-from, both}
 use Rattle.patricia_model.proofs.TestLemmas.{first_part, second_part}
@@ -39,7 +40,7 @@ module _ {V : Type 0} where
   below-prefixed p q [] a = tt
   below-prefixed p q (e ∷ es) a = both _ _ (rw key_cmp-front (first_part _ _ a)) (below-prefixed p q es (second_part _ _ a))
 
-  -- a common prefix keeps rows sorted
+  -- a common prefix keeps entries sorted
   pub sorted-prefixed : (p : List ℕ) (es : List (List ℕ × V)) → T (is_sorted key_cmp es)
       → T (is_sorted key_cmp (prefixed p es))
   sorted-prefixed p [] a = tt
@@ -61,14 +62,14 @@ module _ (item : List ℕ → Type 0) (kind : IsKeyKind item) where
       ]
 
 module _ (item : List ℕ → Type 0) (kind : IsKeyKind item) {V : Type 0} where
-  -- a key behind an earlier label is below the row
-  pub below_row : (l t : List ℕ) (s : Siblings V) → IsCanonical item s → IsBeforeSiblings item l s
+  -- a key behind an earlier label is below the siblings
+  pub below_siblings : (l t : List ℕ) (s : Siblings V) → IsCanonical item s → IsBeforeSiblings item l s
       → IsBelow (l ++ t) (entries s)
-  below_row l t end ok before = tt
-  below_row l t (node m v c s) ok before =
+  below_siblings l t end ok before = tt
+  below_siblings l t (node m v c s) ok before =
       AllKeys-append _ (prefixed m (own v ++ entries c)) (entries s)
       (AllKeys-prefixed _ m (λ u. IsBefore-less item kind l m t u before) (own v ++ entries c))
-      (below_row l t s ok.sibling (rises_on item kind l m s before ok.rises))
+      (below_siblings l t s ok.sibling (rises_on item kind l m s before ok.rises))
 
   -- the value above the children comes before them
   pub below_own : (v : Option V) (c : Siblings V) → IsCanonical item c
@@ -92,4 +93,4 @@ module _ (item : List ℕ → Type 0) (kind : IsKeyKind item) {V : Type 0} where
       sorted-append (prefixed m (own v ++ entries c)) (entries s)
       (sorted-prefixed m (own v ++ entries c) (sorted-append (own v) (entries c) (sorted_own v) (entries_sorted c ok.child) (below_own v c ok.child)))
       (entries_sorted s ok.sibling)
-      (AllKeys-prefixed _ m (λ t. below_row m t s ok.sibling ok.rises) (own v ++ entries c))
+      (AllKeys-prefixed _ m (λ t. below_siblings m t s ok.sibling ok.rises) (own v ++ entries c))

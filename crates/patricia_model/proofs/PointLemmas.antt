@@ -1,5 +1,5 @@
 -- The points of a set of keys: where they are when the keys behind one label are set apart, and
--- that they are the paths of a row's nodes.
+-- that they are the paths of siblings and of the nodes below them.
 use Rattle.std.proofs.Common.{◌≡◌, ℕ, ◌≤◌, ◌≢◌, ◌⊎◌, inl, inr, List, [], ◌∷◌, ◌++◌, Option, Some}
 use Rattle.std.proofs.Common.{None, length, map, refl, sym, ap, subst, ◌∙◌, arith}
 use Rattle.std.specs.Prelude.{◌↔◌}
@@ -13,7 +13,7 @@ use Rattle.patricia_model.specs.Points.{IsParent}
 use Rattle.patricia_keys.proofs.KeyLemmas.{Begins-trans, begins_either, begins_same, first_of}
 use Rattle.patricia_keys.proofs.KeyLemmas.{item-nonempty, key_cmp-irreflexive, valid_rest}
 use Rattle.patricia_keys.proofs.KeyLemmas.{IsValid-append}
-use Rattle.patricia_model.proofs.RowLemmas.{rises_on}
+use Rattle.patricia_model.proofs.SiblingsLemmas.{rises_on}
 use Rattle.patricia_model.proofs.UniqueLemmas.{has_entry}
 use Rattle.patricia_model.proofs.MemberLemmas.{Has-left, Has-right, Has-either, AreApart-append}
 use Rattle.patricia_model.proofs.MemberLemmas.{Has-behind, Has-behind_of, AreApart-behind}
@@ -379,7 +379,7 @@ module _ {V : Type 0} where
   within_own (Some x) es q nonempty (inr h) = h
 
 module _ (item : List ℕ → Type 0) (kind : IsKeyKind item) {V : Type 0} where
-  -- the keys of a row come after a label before it
+  -- the keys of siblings come after a label before them
   rises_keys : (l : List ℕ) (s : Siblings V) → IsCanonical item s → IsBeforeSiblings item l s
       → (q : List ℕ) → Has (keys_of (entries s)) q → IsBefore item l q
   rises_keys l end ok before q h = absurd h
@@ -429,7 +429,7 @@ module _ (item : List ℕ → Type 0) (kind : IsKeyKind item) {V : Type 0} where
         apart = λ same. key_cmp-irreflexive before.first before.second same before.less;
       })
 
-  -- the first node of a row sets its keys apart
+  -- the first of the siblings sets its keys apart
   pub splits : (l : List ℕ) (v : Option V) (c s : Siblings V) → IsCanonical item (node l v c s)
       → Splits item (keys_of (entries (node l v c s))) (keys_of (own v ++ entries c))
       (keys_of (entries s)) l
@@ -471,9 +471,9 @@ module _ (item : List ℕ → Type 0) (kind : IsKeyKind item) {V : Type 0} where
       | inr (inr pt') ↦ inr (Has-right (map (λ t. l ++ t) (paths c)) (paths s) p ((beside p).1 pt'))
     ]
 
-  -- the paths of a row are the points of its keys
-  pub paths_points : (row : Siblings V) → IsCanonical item row → (p : List ℕ)
-      → Has (paths row) p ↔ IsPoint item (keys_of (entries row)) p
+  -- the paths of siblings are the points of their keys
+  pub paths_points : (siblings : Siblings V) → IsCanonical item siblings → (p : List ℕ)
+      → Has (paths siblings) p ↔ IsPoint item (keys_of (entries siblings)) p
   paths_points end ok p = ((λ h. absurd h), λ pt. (reaches item [] p pt).1)
   paths_points (node l v c s) ok p =
       let below = paths_points c ok.child in
@@ -481,7 +481,7 @@ module _ (item : List ℕ → Type 0) (kind : IsKeyKind item) {V : Type 0} where
       (path_point l v c s ok below beside p, point_path l v c s ok below beside p)
 
   -- no path stands twice
-  pub paths_apart : (row : Siblings V) → IsCanonical item row → AreApart (paths row)
+  pub paths_apart : (siblings : Siblings V) → IsCanonical item siblings → AreApart (paths siblings)
   paths_apart end ok = tt
   paths_apart (node l v c s) ok = (
     λ h. elim (Has-either (map (λ t. l ++ t) (paths c)) (paths s) l h) [

@@ -1,4 +1,4 @@
--- Rows under a prefix and along a key, where the rows are made of others.
+-- Entries under a prefix and common prefixes of a key, where the entries are made of others.
 use Rattle.std.proofs.Common.{◌≡◌, ◌≢◌, ℕ, inl, inr, Bool, true, false, ◌&&◌, cond, List, [], ◌∷◌}
 use Rattle.std.proofs.Common.{◌++◌, Option, None, Some, refl, sym, ap, subst, ◌∙◌}
 use Rattle.std.specs.Prelude.{filter, nat_eq, IfSome}
@@ -15,10 +15,11 @@ use Rattle.patricia_model.specs.Internal.LabelCmp.{SharesItem, Passes}
 use Rattle.patricia_model.specs.Siblings.{Siblings, node, prefixed, own, entries, IsBefore}
 use Rattle.patricia_model.specs.Siblings.{IsBeforeSiblings, IsCanonical}
 use Rattle.patricia_keys.proofs.KeyLemmas.{Begins-trans, begins_either, key_cmp-irreflexive}
-use Rattle.patricia_model.proofs.RowLemmas.{AllKeys, AllKeys-append, AllKeys-prefixed, all_begin}
-use Rattle.patricia_model.proofs.RowLemmas.{lacks_item}
+use Rattle.patricia_model.proofs.SiblingsLemmas.{AllKeys, AllKeys-append, AllKeys-prefixed}
+use Rattle.patricia_model.proofs.SiblingsLemmas.{all_begin}
+use Rattle.patricia_model.proofs.SiblingsLemmas.{lacks_item}
 use Rattle.patricia_model.proofs.ListLemmas.{IsBelow, key_cmp-extends, key_cmp-front}
-use Rattle.patricia_model.proofs.OrderLemmas.{IsBefore-less, below_row}
+use Rattle.patricia_model.proofs.OrderLemmas.{IsBefore-less, below_siblings}
 
 -- a common front changes no answer
 pub begins-front : (l p k : List ℕ) → begins (l ++ p) (l ++ k) ≡ begins p k
@@ -71,12 +72,12 @@ pub begins_other : (p k : List ℕ) → begins p k ≡ false → Begins p k → 
 begins_other p k none b = let some = begins_from p k b in absurd (cc)
 
 module _ {V : Type 0} where
-  -- the rows of two lists under a prefix are those of the first, then those of the second
+  -- the entries of two lists under a prefix are those of the first, then those of the second
   pub under-append : (p : List ℕ) (xs ys : List (List ℕ × V))
       → under p (xs ++ ys) ≡ under p xs ++ under p ys
   under-append p xs ys = filter-append _ xs ys
 
-  -- the rows of two lists along a key are those of the first, then those of the second
+  -- the common prefixes in two lists are those of the first, then those of the second
   pub along-append : (k : List ℕ) (xs ys : List (List ℕ × V))
       → along k (xs ++ ys) ≡ along k xs ++ along k ys
   along-append k xs ys = filter-append _ xs ys
@@ -107,18 +108,18 @@ module _ {V : Type 0} where
       → along (l ++ k) (prefixed l es) ≡ prefixed l (along k es)
   along-prefixed l k es = filter-prefixed (λ q. begins q (l ++ k)) (λ q. begins q k) l (λ q. begins-front l q k) es
 
-  -- where no key has the prefix, no row is under it
+  -- where no key has the prefix, no entry is under it
   pub under_none : (p : List ℕ) (es : List (List ℕ × V)) → AllKeys (λ k. Begins p k → ⊥) es
       → under p es ≡ []
   under_none p [] all = refl
   under_none p (e ∷ es) all = rw (begins_not p e.0 all.0) (under_none p es all.1)
 
-  -- where each key has the prefix, all rows are under it
+  -- where each key has the prefix, all entries are under it
   pub under_all : (p : List ℕ) (es : List (List ℕ × V)) → AllKeys (Begins p) es → under p es ≡ es
   under_all p [] all = refl
   under_all p (e ∷ es) all = rw (begins_from p e.0 all.0) (ap (λ r. e ∷ r) (under_all p es all.1))
 
-  -- where no key is a prefix of the key, no row is along it
+  -- where no key is a prefix of the key, it has no common prefix
   pub along_none : (k : List ℕ) (es : List (List ℕ × V)) → AllKeys (λ q. Begins q k → ⊥) es
       → along k es ≡ []
   along_none k [] all = refl
@@ -141,27 +142,28 @@ module _ {V : Type 0} where
   under_own (c ∷ p) some None = refl
   under_own (c ∷ p) some (Some v) = refl
 
-  -- all rows are under the empty prefix
+  -- all entries are under the empty prefix
   pub under_empty : (es : List (List ℕ × V)) → under [] es ≡ es
   under_empty es = under_all [] es (all_begin es)
 
-  -- no row is along a key that comes before each of them
+  -- a key that comes before each entry has no common prefix
   along_above : (q : List ℕ) (es : List (List ℕ × V)) → IsBelow q es → along q es ≡ []
   along_above q es above = along_none q es (AllKeys-follows (λ k. key_cmp q k ≡ Less) (λ k. Begins k q → ⊥) (λ k less b. not_above q k b less) es above)
 
 module _ (item : List ℕ → Type 0) (kind : IsKeyKind item) {V : Type 0} (l : List ℕ) (v : Option V)
     (c s : Siblings V) (ok : IsCanonical item (node l v c s)) where
-  -- along a key that the label begins are the node's own row and those of its children
+  -- the common prefixes of a key that the label begins are the node's own entry and those of its
+  -- children
   pub along_down : (t : List ℕ)
       → along (l ++ t) (entries (node l v c s)) ≡ prefixed l (own v ++ along t (entries c))
   along_down t =
       along-append (l ++ t) (prefixed l (own v ++ entries c)) (entries s)
-      ∙ ap (λ r. along (l ++ t) (prefixed l (own v ++ entries c)) ++ r) (along_above (l ++ t) (entries s) (below_row item kind l t s ok.sibling ok.rises))
+      ∙ ap (λ r. along (l ++ t) (prefixed l (own v ++ entries c)) ++ r) (along_above (l ++ t) (entries s) (below_siblings item kind l t s ok.sibling ok.rises))
       ∙ append-nil _
       ∙ along-prefixed l t (own v ++ entries c)
       ∙ ap (prefixed l) (along-append t (own v) (entries c) ∙ ap (λ r. r ++ along t (entries c)) (along_own t v))
 
-  -- along another are the rows of the siblings alone
+  -- those of another key are among the siblings alone
   pub along_past : (q : List ℕ) → (Begins l q → ⊥)
       → along q (entries (node l v c s)) ≡ along q (entries s)
   along_past q other =
@@ -171,7 +173,7 @@ module _ (item : List ℕ → Type 0) (kind : IsKeyKind item) {V : Type 0} (l : 
       (AllKeys-prefixed (λ k. Begins k q → ⊥) l
       (λ t b. other (Begins-trans l (l ++ t) q (t, refl) b)) (own v ++ entries c)))
 
-  -- a key that is before the label, and that the label does not begin, is below all rows
+  -- a key that is before the label, and that the label does not begin, is below all entries
   pub stop_below : (q : List ℕ) → (Begins l q → ⊥) → key_cmp q l ≡ Less
       → IsBelow q (entries (node l v c s))
   stop_below q other less =
@@ -179,7 +181,7 @@ module _ (item : List ℕ → Type 0) (kind : IsKeyKind item) {V : Type 0} (l : 
       (AllKeys-prefixed _ l below (own v ++ entries c))
       (AllKeys-follows (λ k. key_cmp (l ++ []) k ≡ Less) (λ k. key_cmp q k ≡ Less)
       (λ k more. nat_list_cmp_total.trans q l k less (rw append-nil at more)) (entries s)
-      (below_row item kind l [] s ok.sibling ok.rises))
+      (below_siblings item kind l [] s ok.sibling ok.rises))
     where
       nonempty : (rest t : List ℕ) → rest ≢ [] → key_cmp [] (rest ++ t) ≡ Less
       nonempty [] t some = absurd (some refl)
@@ -199,19 +201,19 @@ module _ (item : List ℕ → Type 0) (kind : IsKeyKind item) {V : Type 0} (l : 
       → along q (entries (node l v c s)) ≡ []
   along_stop q other less = along_above q _ (stop_below q other less)
 
-  -- under a prefix that comes after the label is no row of the node
+  -- under a prefix that comes after the label is no entry of the node
   pub first_none : (p : List ℕ) → IsBefore item l p → under p (prefixed l (own v ++ entries c)) ≡ []
   first_none p before = under_none p _
       (AllKeys-prefixed (λ k. Begins p k → ⊥) l
       (λ t b. key_cmp-irreflexive (l ++ t) (p ++ b.0) (sym b.1)
       (IsBefore-less item kind l p t b.0 before)) (own v ++ entries c))
 
-  -- no row under a prefix is among siblings that come before it
+  -- no entry under a prefix is among siblings that come before it
   pub under_past : (p : List ℕ) → IsBefore item l p
       → under p (entries (node l v c s)) ≡ under p (entries s)
   under_past p before = under-append p (prefixed l (own v ++ entries c)) (entries s) ∙ ap (λ r. r ++ under p (entries s)) (first_none p before)
 
-  -- siblings that come after the first item of a prefix have no row under it
+  -- siblings that come after the first item of a prefix have no entry under it
   lacks : (p i k : List ℕ) → item i → Begins i k → Begins i p → (r : Siblings V)
       → IsCanonical item r → IsBeforeSiblings item k r → under p (entries r) ≡ []
   lacks p i k is b d r canonical before = under_none p _
@@ -227,7 +229,7 @@ module _ (item : List ℕ → Type 0) (kind : IsKeyKind item) {V : Type 0} (l : 
   pub past_none : (p : List ℕ) → SharesItem item p l → under p (entries s) ≡ []
   past_none p share = lacks p share.shared l share.is_item share.begins_second share.begins_first s ok.sibling ok.rises
 
-  -- under one that goes on past the label are the node's rows under its rest
+  -- under one that goes on past the label are the node's entries under its rest
   pub under_through : (p t : List ℕ) → Passes item p l t
       → under p (entries (node l v c s)) ≡ prefixed l (under t (own v ++ entries c))
   under_through p t passes =
@@ -237,13 +239,13 @@ module _ (item : List ℕ → Type 0) (kind : IsKeyKind item) {V : Type 0} (l : 
       ∙ ap (λ q. under q (prefixed l (own v ++ entries c))) (sym passes.splits)
       ∙ under-prefixed l t (own v ++ entries c)
 
-  -- the rows under a prefix that passes a label are among the children
+  -- the entries under a prefix that passes a label are among the children
   pub under_deeper : (p t : List ℕ) → Passes item p l t → t ≢ []
       → under p (entries (node l v c s)) ≡ prefixed l (under t (entries c))
   under_deeper p t passes some =
       under_through p t passes ∙ ap (prefixed l) (under-append t (own v) (entries c) ∙ ap (λ r. r ++ under t (entries c)) (under_own t some v))
 
-  -- under one that ends at the node are all its rows
+  -- under one that ends at the node are all its entries
   pub under_here : (p : List ℕ) → Passes item p l []
       → under p (entries (node l v c s)) ≡ prefixed l (own v ++ entries c)
   under_here p passes = under_through p [] passes ∙ ap (prefixed l) (under_empty (own v ++ entries c))
@@ -272,7 +274,7 @@ module _ (item : List ℕ → Type 0) (kind : IsKeyKind item) {V : Type 0} (l : 
       ]
 
 module _ {V : Type 0} where
-  -- the keys of the rows along a key begin it
+  -- the common prefixes of a key begin it
   along_begin : (k : List ℕ) (es : List (List ℕ × V)) → AllKeys (λ q. Begins q k) (along k es)
   along_begin k [] = tt
   along_begin k (e ∷ es) = by (begins e.0 k) refl (along_begin k es)
@@ -282,7 +284,7 @@ module _ {V : Type 0} where
       by true f rest = rw f (begins_is e.0 k f, rest)
       by false f rest = rw f rest
 
-  -- the last of some rows is one of them
+  -- the last of some entries is one of them
   last_of :
       (P : List ℕ → Type 0) (o : Option (List ℕ × V)) (es : List (List ℕ × V)) (r : List ℕ × V)
       → AllKeys P es → ((x : List ℕ × V) → o ≡ Some x → P x.0) → last_or o es ≡ Some r → P r.0
@@ -294,7 +296,7 @@ module _ {V : Type 0} where
       → longest k es ≡ Some r → Begins r.0 k
   longest_begins k es r e = last_of (λ q. Begins q k) None (along k es) r (along_begin k es) (λ x none. absurd (cc)) e
 
-  -- the key of the longest row is a prefix of the key
+  -- the longest prefix is a prefix of the key
   pub some_begins :
       {A : Type 0} (shows : A → List ℕ × V) (k : List ℕ) (es : List (List ℕ × V)) (o : Option A)
       → option_map shows o ≡ longest k es → IfSome o (λ x. Begins (shows x).0 k)

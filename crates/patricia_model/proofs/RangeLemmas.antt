@@ -1,4 +1,4 @@
--- Rows from a key on and before a key, where the rows are made of others.
+-- Entries from a key on and before a key, where the entries are made of others.
 use Rattle.std.proofs.Common.{◌≡◌, ◌≢◌, ℕ, inl, inr, Bool, true, false, T, not, List, [], ◌∷◌}
 use Rattle.std.proofs.Common.{◌++◌, Option, None, Some, refl, sym, ap, subst, ◌∙◌}
 use Rattle.std.specs.declared.cmp.Ordering.{Ordering}
@@ -12,10 +12,10 @@ use Rattle.std.proofs.lemmas.List.Elements.{filter-append}
 use Rattle.patricia_keys.specs.Keys.{Begins, IsKeyKind, key_cmp}
 use Rattle.patricia_model.specs.Ranges.{before, from}
 use Rattle.patricia_model.specs.Siblings.{Siblings, node, prefixed, own, entries, IsCanonical}
-use Rattle.patricia_model.proofs.RowLemmas.{AllKeys, AllKeys-prefixed}
+use Rattle.patricia_model.proofs.SiblingsLemmas.{AllKeys, AllKeys-prefixed}
 use Rattle.patricia_model.proofs.ListLemmas.{IsBelow, IsAbove, key_cmp-extends, key_cmp-front}
 use Rattle.patricia_model.proofs.ListLemmas.{key_cmp-turned}
-use Rattle.patricia_model.proofs.OrderLemmas.{below_row}
+use Rattle.patricia_model.proofs.OrderLemmas.{below_siblings}
 use Rattle.patricia_model.proofs.PrefixLemmas.{AllKeys-follows, filter-prefixed}
 use Rattle.patricia_model.proofs.TestLemmas.{first_part, second_part, less_so}
 
@@ -54,7 +54,7 @@ module _ {V : Type 0} where
       filter-prefixed (λ q. is_lt (key_cmp q (l ++ key))) (λ q. is_lt (key_cmp q key)) l
       (λ q. ap is_lt (key_cmp-front l q key)) es
 
-  -- rows that are all from the key on
+  -- entries that are all from the key on
   pub from_all : (key : List ℕ) (es : List (List ℕ × V)) → AllKeys (IsFrom key) es
       → from key es ≡ es
   from_all key [] all = refl
@@ -65,7 +65,7 @@ module _ {V : Type 0} where
   before_none key [] all = refl
   before_none key (e ∷ es) all = rw all.0 (before_none key es all.1)
 
-  -- rows that all come before the key
+  -- entries that all come before the key
   pub from_none : (key : List ℕ) (es : List (List ℕ × V)) → IsAbove key es → from key es ≡ []
   from_none key [] all = refl
   from_none key (e ∷ es) all = rw all.0 (from_none key es all.1)
@@ -74,7 +74,7 @@ module _ {V : Type 0} where
   before_all key [] all = refl
   before_all key (e ∷ es) all = rw all.0 (ap (λ r. e ∷ r) (before_all key es all.1))
 
-  -- rows that a key is below are from it on
+  -- entries that a key is below are from it on
   pub below_from : (key : List ℕ) (es : List (List ℕ × V)) → IsBelow key es
       → AllKeys (IsFrom key) es
   below_from key es below = AllKeys-follows (λ q. key_cmp key q ≡ Less) (IsFrom key) (from_below key) es below
@@ -88,7 +88,7 @@ module _ {V : Type 0} where
       nothing [] = refl
       nothing (c ∷ q) = refl
 
-  -- all rows are from the empty key on
+  -- all entries are from the empty key on
   pub from_start : (es : List (List ℕ × V)) → from [] es ≡ es
   from_start es = from_all [] es (from_empty es)
 
@@ -103,7 +103,7 @@ module _ {V : Type 0} where
   before_own (c ∷ key) some None = refl
   before_own (c ∷ key) some (Some v) = refl
 
-  -- in order, where the first row is not before a bound no row is
+  -- in order, where the first entry is not before a bound no entry is
   pub before_first : (key : List ℕ) (e : List ℕ × V) (es : List (List ℕ × V))
       → T (is_sorted key_cmp (e ∷ es)) → IsFrom key e.0 → before key (e ∷ es) ≡ []
   before_first key e es sorted is = rw is (rest es (first_part _ _ sorted))
@@ -119,14 +119,14 @@ module _ {V : Type 0} where
       rest [] h = refl
       rest (f ∷ fs) h = rw (each f.0 (less_so (key_cmp e.0 f.0) (first_part _ _ h))) (rest fs (second_part _ _ h))
 
-  -- rows from a key on are in order, as all rows are
-  pub from_sorted_rows : (key : List ℕ) (es : List (List ℕ × V)) → T (is_sorted key_cmp es)
+  -- entries from a key on are in order, as all entries are
+  pub from_sorted_entries : (key : List ℕ) (es : List (List ℕ × V)) → T (is_sorted key_cmp es)
       → T (is_sorted key_cmp (from key es))
-  from_sorted_rows key es h = is_sorted-where_key key_cmp (λ q. not (is_lt (key_cmp q key))) es h
+  from_sorted_entries key es h = is_sorted-where_key key_cmp (λ q. not (is_lt (key_cmp q key))) es h
 
 module _ (item : List ℕ → Type 0) (kind : IsKeyKind item) {V : Type 0} (l : List ℕ) (v : Option V)
     (c s : Siblings V) (ok : IsCanonical item (node l v c s)) where
-  -- the rows of a node whose label comes before a key and does not begin it are before the key
+  -- the entries of a node whose label comes before a key and does not begin it are before the key
   pub first_above : (q : List ℕ) → (Begins l q → ⊥) → key_cmp l q ≡ Less
       → IsAbove q (prefixed l (own v ++ entries c))
   first_above q other less = AllKeys-prefixed _ l above (own v ++ entries c)
@@ -137,13 +137,13 @@ module _ (item : List ℕ → Type 0) (kind : IsKeyKind item) {V : Type 0} (l : 
         | inr b ↦ absurd (other b)
       ]
 
-  -- so from the key on are rows of its siblings alone
+  -- so from the key on are entries of its siblings alone
   pub from_past : (q : List ℕ) → (Begins l q → ⊥) → key_cmp l q ≡ Less
       → from q (entries (node l v c s)) ≡ from q (entries s)
   from_past q other less =
       from-append q (prefixed l (own v ++ entries c)) (entries s)
       ∙ ap (λ r. r ++ from q (entries s)) (from_none q _ (first_above q other less))
 
-  -- all rows of the siblings come after each key that the label begins
+  -- all entries of the siblings come after each key that the label begins
   pub siblings_from : (t : List ℕ) → AllKeys (IsFrom (l ++ t)) (entries s)
-  siblings_from t = below_from (l ++ t) (entries s) (below_row item kind l t s ok.sibling ok.rises)
+  siblings_from t = below_from (l ++ t) (entries s) (below_siblings item kind l t s ok.sibling ok.rises)

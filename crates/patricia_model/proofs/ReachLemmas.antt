@@ -1,4 +1,4 @@
--- How far the keys of a row go with a key.
+-- The common length of a key with the keys of siblings.
 use Rattle.std.proofs.Common.{◌≡◌, ℕ, ◌+◌, ◌-◌, ◌≤◌, ◌⊎◌, inl, inr, List, [], ◌∷◌, ◌++◌, Option}
 use Rattle.std.proofs.Common.{None, Some, length, take, drop, refl, sym, ap, ◌∙◌, arith}
 use Rattle.std.proofs.lemmas.List.{append-nil, take-append-drop, length-take-le, length-append}
@@ -14,7 +14,7 @@ use Rattle.patricia_model.specs.Prefixes.{IsReach}
 use Rattle.patricia_model.specs.Internal.LabelCmp.{SharesItem, EndsWithin, Passes}
 use Rattle.patricia_model.specs.Siblings.{Siblings, node, prefixed, own, entries, keys_of, IsBefore}
 use Rattle.patricia_model.specs.Siblings.{IsCanonical}
-use Rattle.patricia_model.proofs.RowLemmas.{lacks_item}
+use Rattle.patricia_model.proofs.SiblingsLemmas.{lacks_item}
 use Rattle.patricia_model.proofs.GetLemmas.{common_whole}
 use Rattle.patricia_model.proofs.PointLemmas.{has_prefixed, has_after, has_one}
 use Rattle.patricia_model.proofs.JoinLemmas.{AllKeys-at, some_key}
@@ -38,11 +38,11 @@ module _ (item : List ℕ → Type 0) where
   front_begins : (q : List ℕ) (m : ℕ) → Begins (take m q) q
   front_begins q m = (drop m q, take-append-drop m q)
 
-  -- a look-up of the empty key reaches no byte
+  -- the empty key has no byte in common
   pub reaches_nothing : (S : List (List ℕ)) → Reaches item S [] 0
   reaches_nothing S = record { within = omega arith; valid = IsValid-nil item; met = inl refl; furthest = λ k m has within valid b. within }
 
-  -- where there is no key, none is reached
+  -- where there is no key, no byte is common
   pub reaches_end : (q : List ℕ) → Reaches item [] q 0
   reaches_end q = record { within = omega arith; valid = IsValid-nil item; met = inl refl; furthest = λ k m has within valid b. absurd has }
 
@@ -103,7 +103,7 @@ module _ (item : List ℕ → Type 0) where
 
 module _ (item : List ℕ → Type 0) (kind : IsKeyKind item) {V : Type 0} (l : List ℕ) (v : Option V)
     (c s : Siblings V) (ok : IsCanonical item (node l v c s)) (q : List ℕ) where
-  -- the keys of the row
+  -- the keys of the siblings
   abbrev S : List (List ℕ)
   S = keys_of (entries (node l v c s))
 

@@ -1,4 +1,4 @@
--- What a removal leaves of a row, by how the key compares with the first label.
+-- What a removal leaves of siblings, by how the key compares with the first label.
 use Rattle.std.proofs.Common.{◌≡◌, ℕ, ◌≤◌, ◌≢◌, inl, inr, cond, not, List, [], ◌∷◌, ◌++◌, Option}
 use Rattle.std.proofs.Common.{Some, None, refl, sym, ap, subst, ◌∙◌, arith}
 use Rattle.std.specs.declared.cmp.Ordering.{Ordering}
@@ -12,7 +12,8 @@ use Rattle.patricia_model.specs.Siblings.{Siblings, end, node, prefixed, own, en
 use Rattle.patricia_model.specs.Siblings.{IsBeforeSiblings, EarnsWithin, IsCanonical}
 use Rattle.patricia_model.specs.Internal.Removals.{others, width, without_first, LeavesAlone}
 use Rattle.patricia_keys.proofs.KeyLemmas.{first_of, IsValid-append}
-use Rattle.patricia_model.proofs.RowLemmas.{AllKeys, prefixed-prefixed, empty_lacks, lacks_empty}
+use Rattle.patricia_model.proofs.SiblingsLemmas.{AllKeys, prefixed-prefixed, empty_lacks}
+use Rattle.patricia_model.proofs.SiblingsLemmas.{lacks_empty}
 use Rattle.patricia_model.proofs.ListLemmas.{key_cmp-equal, key_cmp-front}
 use Rattle.patricia_model.proofs.GetLemmas.{lacks_past, lacks_before, lacks_within, later_lacks}
 use Rattle.patricia_model.proofs.InsertLemmas.{IsBefore-longer_left, earns_elsewhere}
@@ -92,10 +93,10 @@ module _ (item : List ℕ → Type 0) (kind : IsKeyKind item) {V : Type 0} where
   width_of_earned l (node m w d (node m' w' d' t')) s ok = omega arith
 
   -- a lone child under both labels keeps the invariant in the place of the node above
-  pub taken_in_row : (l : List ℕ) (v : Option V) (m : List ℕ) (w : Option V) (d s : Siblings V)
+  pub taken_in_siblings : (l : List ℕ) (v : Option V) (m : List ℕ) (w : Option V) (d s : Siblings V)
       → IsValid item l → l ≢ [] → IsBeforeSiblings item l s → IsCanonical item s
       → IsCanonical item (node m w d end) → IsCanonical item (node (l ++ m) w d s)
-  taken_in_row l v m w d s valid nonempty rises ok child = record {
+  taken_in_siblings l v m w d s valid nonempty rises ok child = record {
     valid = IsValid-append item l m valid child.valid;
     nonempty = λ none. nonempty (nil_first l m none);
     fits = tt;
@@ -172,13 +173,13 @@ module _ (item : List ℕ → Type 0) (kind : IsKeyKind item) where
 
 -- the key was that of the first node
 module _ (item : List ℕ → Type 0) (kind : IsKeyKind item) {V : Type 0} where
-  -- without the value of its first node a row keeps the invariant
-  pub row_first_removed : (r : Siblings V) → IsCanonical item r → IsCanonical item (without_first r)
-  row_first_removed end ok = ok
-  row_first_removed (node l None c s) ok = ok
-  row_first_removed (node l (Some x) end s) ok = ok.sibling
-  row_first_removed (node l (Some x) (node m w d end) s) ok = taken_in_row item kind l (Some x) m w d s ok.valid ok.nonempty ok.rises ok.sibling ok.child
-  row_first_removed (node l (Some x) (node m w d (node m' w' d' t')) s) ok =
+  -- without the value of their first node siblings keep the invariant
+  pub siblings_first_removed : (r : Siblings V) → IsCanonical item r → IsCanonical item (without_first r)
+  siblings_first_removed end ok = ok
+  siblings_first_removed (node l None c s) ok = ok
+  siblings_first_removed (node l (Some x) end s) ok = ok.sibling
+  siblings_first_removed (node l (Some x) (node m w d end) s) ok = taken_in_siblings item kind l (Some x) m w d s ok.valid ok.nonempty ok.rises ok.sibling ok.child
+  siblings_first_removed (node l (Some x) (node m w d (node m' w' d' t')) s) ok =
       record {
         valid = ok.valid;
         nonempty = ok.nonempty;

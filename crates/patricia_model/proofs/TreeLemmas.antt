@@ -22,14 +22,14 @@ use Rattle.patricia_model.specs.Siblings.{Siblings, end, node, own, entries, pat
 use Rattle.patricia_model.specs.Siblings.{keys_of}
 use Rattle.patricia_model.specs.Points.{Has, IsPoint}
 use Rattle.patricia_model.proofs.PointLemmas.{IsPoint-within, own_within, within_own, paths_points}
-use Rattle.patricia_model.proofs.UniqueLemmas.{has_entry, insides, same_row}
+use Rattle.patricia_model.proofs.UniqueLemmas.{has_entry, insides, same_siblings}
 use Rattle.patricia_model.specs.Trees.{map_of}
 use Rattle.patricia_model.proofs.OrderLemmas.{entries_sorted, sorted_own, sorted-append, below_own}
 use Rattle.patricia_model.proofs.GetLemmas.{find_own, find_child}
 use Rattle.patricia_model.proofs.InsertLemmas.{put_own, put_child}
 
 module _ {V : Type 0} where
-  -- a write to a map made of sorted rows is one to the rows
+  -- a write to a map made of sorted entries is one to the entries
   pub from_sorted-put : (es : List (List ℕ × V)) (k : List ℕ) (v : V) → T (is_sorted key_cmp es)
       → insert (from_sorted {R = key_cmp} es) k v ≡ from_sorted (put key_cmp k v es)
   from_sorted-put es k v sorted =
@@ -38,7 +38,7 @@ module _ {V : Type 0} where
       ∙ ap (put key_cmp k v) (entries-from_sorted key_cmp es sorted)
       ∙ sym (entries-from_sorted key_cmp (put key_cmp k v es) (is_sorted-put key_cmp nat_list_cmp_total k v es sorted)))
 
-  -- a map made of sorted rows has as many entries
+  -- a map made of sorted entries has as many entries
   pub len-from_sorted : (es : List (List ℕ × V)) → T (is_sorted key_cmp es)
       → len (from_sorted {R = key_cmp} es) ≡ length es
   len-from_sorted es sorted = len-entries (from_sorted es) ∙ ap length (entries-from_sorted key_cmp es sorted)
@@ -49,7 +49,7 @@ module _ (item : List ℕ → Type 0) (kind : IsKeyKind item) {V : Type 0} where
       → T (is_sorted key_cmp (own v ++ entries r))
   tree_sorted v r ok = sorted-append (own v) (entries r) (sorted_own item kind v) (entries_sorted item kind r ok) (below_own item kind v r ok)
 
-  -- the rows of the map are the entries of the tree
+  -- the entries of the map are the entries of the tree
   pub entries_map : (v : Option V) (r : Siblings V) → IsCanonical item r
       → map.entries (map_of v r) ≡ own v ++ entries r
   entries_map v r ok = entries-from_sorted key_cmp (own v ++ entries r) (tree_sorted v r ok)
@@ -149,7 +149,7 @@ option_map_not_none f (Some x) e g = absurd (cc)
 
 -- a removal from a finite map that is made of sorted entries
 module _ {V : Type 0} where
-  -- the map of the rows of other keys is the map with the key removed
+  -- the map of the entries of other keys is the map with the key removed
   pub from_sorted-others : (es : List (List ℕ × V)) (q : List ℕ) → T (is_sorted key_cmp es)
       → from_sorted {R = key_cmp} (others q es) ≡ remove (from_sorted es) q
   from_sorted-others es q sorted =
@@ -209,13 +209,13 @@ module _ (item : List ℕ → Type 0) (kind : IsKeyKind item) {V : Type 0} where
   same_tree v w r s ok ok' same =
       let es = sym (entries_map item kind v r ok) ∙ ap map.entries same ∙ entries_map item kind w s ok' in
       let parts = insides item kind None v w r s ok ok' es in
-      (parts.0, same_row item kind None r s ok ok' parts.1)
+      (parts.0, same_siblings item kind None r s ok ok' parts.1)
 
   -- the nodes of a tree stand at the points of its keys
   pub tree_points : (v : Option V) (r : Siblings V) → IsCanonical item r → (p : List ℕ)
       → Has (paths r) p ↔ IsPoint item (map.keys (map_of v r)) p
   tree_points v r ok p =
-      let row = paths_points item kind r ok p in
+      let siblings = paths_points item kind r ok p in
       let whole = subst (λ S. IsPoint item S p ↔ IsPoint item (keys_of (entries r)) p) (sym (keys_map v r ok))
       (IsPoint-within item kind _ _ (within_own v (entries r)) p, IsPoint-within item kind _ _ (own_within v (entries r)) p) in
-      (λ h. whole.1 (row.0 h), λ h. row.1 (whole.0 h))
+      (λ h. whole.1 (siblings.0 h), λ h. siblings.1 (whole.0 h))

@@ -1,4 +1,4 @@
--- Two rows under one limit with the same entries are the same row.
+-- Siblings under one limit with the same entries are the same siblings.
 use Rattle.std.proofs.Common.{◌≡◌, ℕ, ◌≤◌, inl, inr, List, [], ◌∷◌, ◌++◌, Option, Some, None}
 use Rattle.std.proofs.Common.{length, refl, sym, ap, subst, ◌∙◌, arith, length-append}
 use Rattle.std.proofs.lemmas.List.{append-nil, append_cancel_left}
@@ -7,8 +7,9 @@ use Rattle.patricia_model.specs.Siblings.{Siblings, end, node, prefixed, own, en
 use Rattle.patricia_model.specs.Siblings.{IsCanonicalWithin}
 use Rattle.patricia_keys.proofs.KeyLemmas.{Begins-trans, begins_either, key_cmp-irreflexive}
 use Rattle.patricia_keys.proofs.KeyLemmas.{begins_same, first_of, item-nonempty, valid_rest}
-use Rattle.patricia_model.proofs.RowLemmas.{AllKeys, AllKeys-left, AllKeys-right, AllKeys-prefixed}
-use Rattle.patricia_model.proofs.RowLemmas.{prefixed-prefixed, lacks_item, lacks_empty}
+use Rattle.patricia_model.proofs.SiblingsLemmas.{AllKeys, AllKeys-left, AllKeys-right}
+use Rattle.patricia_model.proofs.SiblingsLemmas.{AllKeys-prefixed}
+use Rattle.patricia_model.proofs.SiblingsLemmas.{prefixed-prefixed, lacks_item, lacks_empty}
 
 module _ {V : Type 0} where
   -- where a fact holds of the first entries alone, they end at one place
@@ -62,7 +63,7 @@ Fits-shorter None n m le fit = tt
 Fits-shorter (Some most) n m le fit = omega arith
 
 module _ (item : List ℕ → Type 0) (kind : IsKeyKind item) (limit : Option ℕ) {V : Type 0} where
-  -- a node of a row stands for at least one entry
+  -- each of the siblings stands for at least one entry
   pub has_entry : (l : List ℕ) (v : Option V) (c s : Siblings V)
       → IsCanonicalWithin item limit (node l v c s)
       → (e : List ℕ × V) × (es : List (List ℕ × V)) × (own v ++ entries c ≡ e ∷ es)
@@ -126,7 +127,7 @@ module _ (item : List ℕ → Type 0) (kind : IsKeyKind item) (limit : Option �
       (subst (AllKeys (λ k. Begins first.0 k)) (sym inner)
       (AllKeys-prefixed _ (x ∷ d) (λ t. Begins-trans first.0 (x ∷ d) _ first.2 (t, refl)) es)))
 
-  -- the groups of the first nodes of two rows are the same
+  -- the groups of the first nodes of two lists of siblings are the same
   groups : (l m : List ℕ) (v w : Option V) (c d s t : Siblings V)
       → IsCanonicalWithin item limit (node l v c s) → IsCanonicalWithin item limit (node m w d t)
       → entries (node l v c s) ≡ entries (node m w d t)
@@ -181,22 +182,22 @@ module _ (item : List ℕ → Type 0) (kind : IsKeyKind item) (limit : Option �
       (own_same v w parts.0, parts.1)
 
   -- canonical siblings with the same entries are the same
-  pub same_row : (r s : Siblings V) → IsCanonicalWithin item limit r
+  pub same_siblings : (r s : Siblings V) → IsCanonicalWithin item limit r
       → IsCanonicalWithin item limit s → entries r ≡ entries s → r ≡ s
-  same_row end end ok ok' e = refl
-  same_row end (node m w d t) ok ok' e =
+  same_siblings end end ok ok' e = refl
+  same_siblings end (node m w d t) ok ok' e =
       let some = has_entry m w d t ok' in
       let e' : [] ≡ prefixed m (some.0 ∷ some.1) ++ entries t = rw some.2 at e in
       absurd (cc)
-  same_row (node l v c s) end ok ok' e =
+  same_siblings (node l v c s) end ok ok' e =
       let some = has_entry l v c s ok in
       let e' : prefixed l (some.0 ∷ some.1) ++ entries s ≡ [] = rw some.2 at e in
       absurd (cc)
-  same_row (node l v c s) (node m w d t) ok ok' e =
+  same_siblings (node l v c s) (node m w d t) ok ok' e =
       let group = groups l m v w c d s t ok ok' e in
       let label = labels l m v w c d s t ok ok' group.0 in
       let inside = insides v w c d ok.child ok'.child (prefixed_cancel m _ _ (ap (λ p. prefixed p (own v ++ entries c)) (sym label) ∙ group.0)) in
       let value = inside.0 in
-      let child = same_row c d ok.child ok'.child inside.1 in
-      let sibling = same_row s t ok.sibling ok'.sibling group.1 in
+      let child = same_siblings c d ok.child ok'.child inside.1 in
+      let sibling = same_siblings s t ok.sibling ok'.sibling group.1 in
       λ i. node (label i) (value i) (child i) (sibling i)

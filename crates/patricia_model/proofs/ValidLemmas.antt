@@ -8,7 +8,7 @@ use Rattle.patricia_keys.proofs.KeyLemmas.{IsValid-nil, IsValid-append, valid_by
 use Rattle.patricia_model.specs.Siblings.{Siblings, end, node, prefixed, own, entries, keys_of}
 use Rattle.patricia_model.specs.Siblings.{IsCanonical}
 use Rattle.patricia_model.specs.Trees.{map_of}
-use Rattle.patricia_model.proofs.RowLemmas.{AllKeys, AllKeys-append}
+use Rattle.patricia_model.proofs.SiblingsLemmas.{AllKeys, AllKeys-append}
 use Rattle.patricia_model.proofs.TreeLemmas.{keys_map}
 
 module _ (item : List ℕ → Type 0) {V : Type 0} where
@@ -24,7 +24,7 @@ module _ (item : List ℕ → Type 0) {V : Type 0} where
   valid_own None es all = all
   valid_own (Some v) es all = (IsValid-nil item, all)
 
-  -- and each key of a row
+  -- and each key of siblings
   valid_entries : (r : Siblings V) → IsCanonical item r → AllKeys (IsValid item) (entries r)
   valid_entries end ok = tt
   valid_entries (node l v c s) ok =

@@ -77,7 +77,7 @@ module _ (item : List ℕ → Type 0) (kind : IsKeyKind item) where
     exactly = λ p. ((λ h. IsVisited-same S T w w' k p ((a.exactly p).0 h)), λ v. (a.exactly p).1 (IsVisited-same T S w' w k p v));
   }
 
-  -- a row without keys has nothing to visit
+  -- siblings without keys have nothing to visit
   pub no_visits : (k : List ℕ) → AreVisits item [] k []
   no_visits k = record { once = tt; exactly = λ p. ((λ h. absurd h), λ v. (reaches item [] p v.point).1) }
 

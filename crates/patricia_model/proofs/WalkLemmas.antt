@@ -1,4 +1,4 @@
--- The rows that a walk has left, and how its steps change them.
+-- The entries that a walk has left, and how its steps change them.
 use Rattle.std.proofs.Common.{◌≡◌, ℕ, ◌+◌, ◌≤◌, ◌≢◌, List, [], ◌∷◌, ◌++◌, Option, Some, None}
 use Rattle.std.proofs.Common.{length, take, map, refl, sym, ap, subst, ◌∙◌, arith, length-append}
 use Rattle.std.specs.Prelude.{Result, Ok, Err, OnErr}
@@ -10,7 +10,7 @@ use Rattle.patricia_model.specs.Internal.WalkStates.{WalkState, waiting, entries
 use Rattle.patricia_model.specs.Internal.WalkStates.{steps_waiting, IsWithinAll, WaitsWithin}
 use Rattle.patricia_model.specs.Internal.WalkStates.{IsWalkState, IsStep}
 use Rattle.patricia_keys.proofs.KeyLemmas.{IsValid-append}
-use Rattle.patricia_model.proofs.RowLemmas.{prefixed-prefixed, prefixed-append}
+use Rattle.patricia_model.proofs.SiblingsLemmas.{prefixed-prefixed, prefixed-append}
 
 module _ {V : Type 0} where
   -- no bytes in front change nothing
@@ -18,18 +18,18 @@ module _ {V : Type 0} where
   prefixed-nil [] = refl
   prefixed-nil (e ∷ es) = ap (λ r. e ∷ r) (prefixed-nil es)
 
-  -- at its start a walk has the empty key's entry and those of the row left
+  -- at its start a walk has the empty key's entry and those of the siblings left
   pub left_start : (s : WalkState V) → s.path ≡ [] → s.stack ≡ []
-      → entries_left s ≡ own s.pending ++ entries s.row
+      → entries_left s ≡ own s.pending ++ entries s.siblings
   left_start s path stack =
-      let es = own s.pending ++ entries s.row in
+      let es = own s.pending ++ entries s.siblings in
       ap (λ (p : List ℕ × List (ℕ × Siblings V)). prefixed p.0 es ++ waiting p.0 p.1) (both path stack) ∙ append-nil (prefixed [] es) ∙ prefixed-nil es
     where
       both : {p : List ℕ} {q : List (ℕ × Siblings V)} → p ≡ [] → q ≡ []
           → ◌≡◌ {A = List ℕ × List (ℕ × Siblings V)} (p, q) ([], [])
       both a b = cc
 
-  -- the row that waits last is walked first
+  -- the siblings that wait last are walked first
   pub waiting-snoc : (path : List ℕ) (fs : List (ℕ × Siblings V)) (n : ℕ) (r : Siblings V)
       → waiting path (fs ++ (n, r) ∷ []) ≡ prefixed (take n path) (entries r) ++ waiting path fs
   waiting-snoc path [] n r = sym (append-nil (prefixed (take n path) (entries r)))
@@ -49,24 +49,24 @@ module _ {V : Type 0} where
   within_all-last m [] n r h = (h.0, tt)
   within_all-last m (f ∷ fs) n r h = let later = within_all-last m fs n r h.1 in (later.0, (h.0, later.1))
 
-  -- one more row that waits adds its steps
+  -- siblings that wait behind others add their steps
   steps_waiting-snoc : (fs : List (ℕ × Siblings V)) (n : ℕ) (r : Siblings V)
       → steps_waiting (fs ++ (n, r) ∷ []) ≡ steps_in r + steps_waiting fs
   steps_waiting-snoc [] n r = omega arith
   steps_waiting-snoc (f ∷ fs) n r = omega (arith, steps_waiting-snoc fs n r)
 
-  -- a spot is made of its parts
-  state_is : (s : WalkState V) (path : List ℕ) (pending : Option V) (row : Siblings V)
-      (stack : List (ℕ × Siblings V)) → s.path ≡ path → s.pending ≡ pending → s.row ≡ row
-      → s.stack ≡ stack → s ≡ record { path = path; pending = pending; row = row; stack = stack }
-  state_is s path pending row stack a b c e =
-      ap (λ (x : List ℕ). record { path = x; pending = s.pending; row = s.row; stack = s.stack }) a
-      ∙ ap (λ (x : Option V). record { path = path; pending = x; row = s.row; stack = s.stack }) b
-      ∙ ap (λ (x : Siblings V). record { path = path; pending = pending; row = x; stack = s.stack }) c
-      ∙ ap (λ (x : List (ℕ × Siblings V)). record { path = path; pending = pending; row = row; stack = x }) e
+  -- a place in a walk is made of its parts
+  state_is : (s : WalkState V) (path : List ℕ) (pending : Option V) (siblings : Siblings V)
+      (stack : List (ℕ × Siblings V)) → s.path ≡ path → s.pending ≡ pending → s.siblings ≡ siblings
+      → s.stack ≡ stack → s ≡ record { path = path; pending = pending; siblings = siblings; stack = stack }
+  state_is s path pending siblings stack a b c e =
+      ap (λ (x : List ℕ). record { path = x; pending = s.pending; siblings = s.siblings; stack = s.stack }) a
+      ∙ ap (λ (x : Option V). record { path = path; pending = x; siblings = s.siblings; stack = s.stack }) b
+      ∙ ap (λ (x : Siblings V). record { path = path; pending = pending; siblings = x; stack = s.stack }) c
+      ∙ ap (λ (x : List (ℕ × Siblings V)). record { path = path; pending = pending; siblings = siblings; stack = x }) e
 
 module _ (item : List ℕ → Type 0) {V : Type 0} where
-  -- a longer path leaves the entries of the rows that wait
+  -- a longer path leaves the entries of the siblings that wait
   pub waiting-longer : (path l : List ℕ) (fs : List (ℕ × Siblings V)) → WaitsWithin item path fs
       → waiting (path ++ l) fs ≡ waiting path fs
   waiting-longer path l [] w = refl
@@ -89,7 +89,7 @@ module _ (item : List ℕ → Type 0) {V : Type 0} where
         rest = WaitsWithin-longer path l fs w.rest;
       }
 
-  -- a row behind the whole path may wait too
+  -- siblings behind the whole path may wait too
   WaitsWithin-push : (path : List ℕ) (fs : List (ℕ × Siblings V)) (r : Siblings V)
       → WaitsWithin item path fs → IsValid item path → IsCanonical item r
       → WaitsWithin item path (fs ++ (length path, r) ∷ [])
@@ -110,14 +110,14 @@ module _ (item : List ℕ → Type 0) {V : Type 0} where
         rest = WaitsWithin-push path fs r w.rest valid ok;
       }
 
-  -- the last row that waits, and the rows below it as they are behind its front
+  -- the siblings that wait last, and those below them as they are behind their front
   record Last (path : List ℕ) (fs : List (ℕ × Siblings V)) (n : ℕ) (r : Siblings V) : Type 0 where
     valid : IsValid item (take n path)
     canonical : IsCanonical item r
     waits : WaitsWithin item (take n path) fs
     same : waiting (take n path) fs ≡ waiting path fs
 
-  -- each last row is such
+  -- all that wait last are such
   last_of : (path : List ℕ) (fs : List (ℕ × Siblings V)) (n : ℕ) (r : Siblings V)
       → WaitsWithin item path (fs ++ (n, r) ∷ []) → Last path fs n r
   last_of path [] n r w = record { valid = w.valid; canonical = w.canonical; waits = tt; same = refl }
@@ -155,11 +155,11 @@ module _ (item : List ℕ → Type 0) {V : Type 0} where
       (λ k. prefixed k (entries s) ++ waiting (path ++ l) fs) front ∙ ap
       (λ r. prefixed path (entries s) ++ r) (waiting-longer path l fs w)))
 
-  -- the step to the children, where the rest of the row waits
+  -- the step to the children, where the rest of the siblings wait
   down : (path l : List ℕ) (v : Option V) (c s : Siblings V) (fs : List (ℕ × Siblings V))
-      → IsWalkState item (record { path = path; pending = None; row = node l v c s; stack = fs })
-      → IsStep item (record { path = path; pending = None; row = node l v c s; stack = fs })
-      (record { path = path ++ l; pending = v; row = c; stack = fs ++ (length path, s) ∷ [] })
+      → IsWalkState item (record { path = path; pending = None; siblings = node l v c s; stack = fs })
+      → IsStep item (record { path = path; pending = None; siblings = node l v c s; stack = fs })
+      (record { path = path ++ l; pending = v; siblings = c; stack = fs ++ (length path, s) ∷ [] })
   down path l v c s fs w = record {
     state = record {
       valid = IsValid-append item path l w.valid w.canonical.valid;
@@ -170,11 +170,11 @@ module _ (item : List ℕ → Type 0) {V : Type 0} where
     less = omega (arith, steps_waiting-snoc fs (length path) s);
   }
 
-  -- the step back to the row that waits last
+  -- the step back to the siblings that wait last
   back : (path : List ℕ) (fs : List (ℕ × Siblings V)) (n : ℕ) (r : Siblings V)
-      → IsWalkState item (record { path = path; pending = None; row = end; stack = fs ++ (n, r) ∷ [] })
-      → IsStep item (record { path = path; pending = None; row = end; stack = fs ++ (n, r) ∷ [] })
-      (record { path = take n path; pending = None; row = r; stack = fs })
+      → IsWalkState item (record { path = path; pending = None; siblings = end; stack = fs ++ (n, r) ∷ [] })
+      → IsStep item (record { path = path; pending = None; siblings = end; stack = fs ++ (n, r) ∷ [] })
+      (record { path = take n path; pending = None; siblings = r; stack = fs })
   back path fs n r w =
       let last = last_of path fs n r w.waits in
       record {
@@ -183,26 +183,26 @@ module _ (item : List ℕ → Type 0) {V : Type 0} where
         less = omega (arith, steps_waiting-snoc fs n r);
       }
 
-  -- the same two steps between any two spots
+  -- the same two steps between any two places
   pub step_down : (s t : WalkState V) (l : List ℕ) (v : Option V) (c r : Siblings V)
-      → IsWalkState item s → s.pending ≡ None → s.row ≡ node l v c r → t.path ≡ s.path ++ l
-      → t.pending ≡ v → t.row ≡ c → t.stack ≡ s.stack ++ (length s.path, r) ∷ [] → IsStep item s t
-  step_down s t l v c r w pending row path' pending' row' stack' =
-      let from = state_is s s.path None (node l v c r) s.stack refl pending row refl in
-      let to = state_is t (s.path ++ l) v c (s.stack ++ (length s.path, r) ∷ []) path' pending' row' stack' in
+      → IsWalkState item s → s.pending ≡ None → s.siblings ≡ node l v c r → t.path ≡ s.path ++ l
+      → t.pending ≡ v → t.siblings ≡ c → t.stack ≡ s.stack ++ (length s.path, r) ∷ [] → IsStep item s t
+  step_down s t l v c r w pending siblings path' pending' siblings' stack' =
+      let from = state_is s s.path None (node l v c r) s.stack refl pending siblings refl in
+      let to = state_is t (s.path ++ l) v c (s.stack ++ (length s.path, r) ∷ []) path' pending' siblings' stack' in
       subst (λ q. IsStep item q t) (sym from) (subst (IsStep item _) (sym to) (down s.path l v c r s.stack (subst (IsWalkState item) from w)))
 
   -- a step back to the siblings that wait last
   pub step_back : (s t : WalkState V) (n : ℕ) (r : Siblings V)
-      → IsWalkState item s → s.pending ≡ None → s.row ≡ end → s.stack ≡ t.stack ++ (n, r) ∷ []
-      → t.path ≡ take n s.path → t.pending ≡ s.pending → t.row ≡ r
+      → IsWalkState item s → s.pending ≡ None → s.siblings ≡ end → s.stack ≡ t.stack ++ (n, r) ∷ []
+      → t.path ≡ take n s.path → t.pending ≡ s.pending → t.siblings ≡ r
       → IsStep item s t
-  step_back s t n r w pending row stack path' pending' row' =
-      let from = state_is s s.path None end (t.stack ++ (n, r) ∷ []) refl pending row stack in
-      let to = state_is t (take n s.path) None r t.stack path' (pending' ∙ pending) row' refl in
+  step_back s t n r w pending siblings stack path' pending' siblings' =
+      let from = state_is s s.path None end (t.stack ++ (n, r) ∷ []) refl pending siblings stack in
+      let to = state_is t (take n s.path) None r t.stack path' (pending' ∙ pending) siblings' refl in
       subst (λ q. IsStep item q t) (sym from) (subst (IsStep item _) (sym to) (back s.path t.stack n r (subst (IsWalkState item) from w)))
 
-  -- a row that is not empty has an entry
+  -- siblings have an entry where there is a node
   entries_filled : (l : List ℕ) (v : Option V) (c s : Siblings V) → IsCanonical item (node l v c s)
       → entries (node l v c s) ≢ []
   entries_filled l (Some x) c s ok = λ e. absurd (cc)
@@ -215,10 +215,10 @@ module _ (item : List ℕ → Type 0) {V : Type 0} where
 
   -- where a node is next, an entry is left
   pub left_filled : (s : WalkState V) (l : List ℕ) (v : Option V) (c r : Siblings V)
-      → IsWalkState item s → s.row ≡ node l v c r → entries_left s ≢ []
-  left_filled s l v c r w row =
-      subst (λ q. prefixed s.path (own s.pending ++ entries q) ++ waiting s.path s.stack ≢ []) (sym row)
-      (by s.pending (entries (node l v c r)) (entries_filled l v c r (subst (IsCanonical item) row w.canonical)))
+      → IsWalkState item s → s.siblings ≡ node l v c r → entries_left s ≢ []
+  left_filled s l v c r w siblings =
+      subst (λ q. prefixed s.path (own s.pending ++ entries q) ++ waiting s.path s.stack ≢ []) (sym siblings)
+      (by s.pending (entries (node l v c r)) (entries_filled l v c r (subst (IsCanonical item) siblings w.canonical)))
     where
       by : (pending : Option V) (es : List (List ℕ × V)) → es ≢ []
           → prefixed s.path (own pending ++ es) ++ waiting s.path s.stack ≢ []

@@ -12,31 +12,31 @@ use Rattle.patricia_model.specs.Trees.{map_of, IsTree}
 abbrev pub TestsBeginnings : Type 0
 TestsBeginnings = (p k : List ℕ) → IsTrue (begins p k) ↔ Begins p k
 
--- under a prefix are those rows whose key it begins
+-- under a prefix are those entries whose key it begins
 abbrev pub UnderIsFiltered : Type 0 → Type 0
 UnderIsFiltered V =
-    (p : List ℕ) (rows : List (List ℕ × V)) (r : List ℕ × V)
-    → Has (under p rows) r ↔ (Has rows r × Begins p r.0)
+    (p : List ℕ) (all : List (List ℕ × V)) (r : List ℕ × V)
+    → Has (under p all) r ↔ (Has all r × Begins p r.0)
 
--- the rows under a prefix and those outside it are all rows together
+-- the entries under a prefix and those outside it are all entries together
 abbrev pub HoldTogether : Type 0 → Type 0
 HoldTogether V =
-    (p : List ℕ) (rows : List (List ℕ × V)) (r : List ℕ × V)
-    → Has rows r ↔ (Has (under p rows) r ⊎ Has (outside p rows) r)
+    (p : List ℕ) (all : List (List ℕ × V)) (r : List ℕ × V)
+    → Has all r ↔ (Has (under p all) r ⊎ Has (outside p all) r)
 
 -- and they have no key in common
 abbrev pub HaveNoKeyInCommon : Type 0 → Type 0
 HaveNoKeyInCommon V =
-    (p : List ℕ) (rows : List (List ℕ × V)) (r s : List ℕ × V)
-    → Has (under p rows) r → Has (outside p rows) s → r.0 ≢ s.0
+    (p : List ℕ) (all : List (List ℕ × V)) (r s : List ℕ × V)
+    → Has (under p all) r → Has (outside p all) s → r.0 ≢ s.0
 
--- along a key are those rows whose key begins it
+-- the common prefixes of a key are those entries whose key begins it
 abbrev pub AlongIsFiltered : Type 0 → Type 0
 AlongIsFiltered V =
-    (k : List ℕ) (rows : List (List ℕ × V)) (r : List ℕ × V)
-    → Has (along k rows) r ↔ (Has rows r × Begins r.0 k)
+    (k : List ℕ) (all : List (List ℕ × V)) (r : List ℕ × V)
+    → Has (along k all) r ↔ (Has all r × Begins r.0 k)
 
--- the last of the rows along a key has the longest key of them
+-- the last of the common prefixes of a key has the longest key of them
 abbrev pub LastIsLongest : Type 0 → Type 0
 LastIsLongest V =
     (m : map.FinMap key_cmp V) (k : List ℕ) (r : List ℕ × V)
@@ -45,7 +45,7 @@ LastIsLongest V =
     × ((e : List ℕ × V) → Has (along k (map.entries m)) e → length e.0 ≤ length r.0)
 
 module _ (item : List ℕ → Type 0) where
-  -- there is one reach for a set of keys and a key
+  -- there is one common length for a set of keys and a key
   abbrev pub HasOneReach : Type 0
   HasOneReach =
       (S : List (List ℕ)) (q : List ℕ) (n m : ℕ) → IsReach item S q n → IsReach item S q m → n ≡ m
@@ -67,8 +67,8 @@ module _ (item : List ℕ → Type 0) where
       (S : List (List ℕ)) (k : List ℕ) (n m : ℕ) → IsVisitCount item S k n
       → IsVisitCount item S k m → n ≡ m
 
-  -- trees that keep the invariant and stand for one finite map have the same value
-  -- of the empty key and the same row
+  -- trees that keep the invariant and stand for one finite map have the same value of the empty key
+  -- and the same siblings
   abbrev pub HasOneTree : Type 0 → Type 0
   HasOneTree V =
       (v w : Option V) (r s : Siblings V) (m n : ℕ) → IsTree item r m → IsTree item s n
@@ -81,16 +81,17 @@ module _ (item : List ℕ → Type 0) where
       → AreApart (paths r)
       × ((p : List ℕ) → Has (paths r) p ↔ IsPoint item (map.keys (map_of v r)) p)
 
-  -- rows that keep the invariant under one limit and have the same entries are the same row
+  -- siblings that keep the invariant under one limit and have the same entries are the same
+  -- siblings
   abbrev pub HasOneShape : Type 0 → Type 0
   HasOneShape V =
       (limit : Option ℕ) (r s : Siblings V) → IsCanonicalWithin item limit r
       → IsCanonicalWithin item limit s
       → entries r ≡ entries s → r ≡ s
 
-  -- the nodes of a row stand at the points of its keys, one node at each
-  abbrev pub RowStandsAtPoints : Type 0 → Type 0
-  RowStandsAtPoints V =
-      (row : Siblings V) → IsCanonical item row
-      → AreApart (paths row)
-      × ((p : List ℕ) → Has (paths row) p ↔ IsPoint item (keys_of (entries row)) p)
+  -- siblings and the nodes below them stand at the points of their keys, one node at each
+  abbrev pub SiblingsStandAtPoints : Type 0 → Type 0
+  SiblingsStandAtPoints V =
+      (siblings : Siblings V) → IsCanonical item siblings
+      → AreApart (paths siblings)
+      × ((p : List ℕ) → Has (paths siblings) p ↔ IsPoint item (keys_of (entries siblings)) p)

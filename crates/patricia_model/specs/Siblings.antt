@@ -1,10 +1,10 @@
--- A row of sibling nodes as a tree, and the entries that it stands for.
+-- Siblings, the nodes of one list, as a tree, and the entries that they stand for.
 use Rattle.std.specs.Prelude.{◌≡◌, ℕ, ◌≤◌, ◌≢◌, List, [], ◌∷◌, ◌++◌, length, map, Option, Some}
 use Rattle.std.specs.Prelude.{None}
 use Rattle.std.specs.declared.cmp.Ordering.TheVariants.{Less}
 use Rattle.patricia_keys.specs.Keys.{Begins, IsValid, key_cmp}
 
--- a node has a label, maybe a value, its row of children and the rest of its own row
+-- a node has a label, maybe a value, its children, and the siblings after it
 pub data Siblings (V : Type 0) : Type 0 where
   end : Siblings V
   node : List ℕ → Option V → Siblings V → Siblings V → Siblings V
@@ -30,7 +30,7 @@ module _ {V : Type 0} where
   abbrev pub keys_of : List (List ℕ × V) → List (List ℕ)
   keys_of es = map (λ e. e.0) es
 
-  -- the path of each node from the top of its row
+  -- the path of each node from the top
   abbrev pub paths : Siblings V → List (List ℕ)
   paths end = []
   paths (node label value child sibling) =
@@ -52,7 +52,7 @@ module _ (item : List ℕ → Type 0) where
     pub second_begins : Begins second b
     pub less : key_cmp first second ≡ Less
 
-  -- the first item of the key comes before that of the row's first label
+  -- the first item of the key comes before that of the siblings' first label
   abbrev pub IsBeforeSiblings : {V : Type 0} → List ℕ → Siblings V → Type 0
   IsBeforeSiblings k end = Unit {0}
   IsBeforeSiblings k (node label value child sibling) = IsBefore k label
@@ -67,7 +67,7 @@ module _ (item : List ℕ → Type 0) where
       (i : List ℕ) → item i → Begins i l → Fits limit (length (label ++ i)) → ⊥
   EarnsWithin limit label None (node l v c (node l' v' c' s')) = Unit {0}
 
-  -- each label is a valid key that is not empty and fits, first items rise along a row,
+  -- each label is a valid key that is not empty and fits, first items rise from sibling to sibling,
   -- and each node earns its place
   abbrev pub IsCanonicalWithin : {V : Type 0} → Option ℕ → Siblings V → Type 0
   IsCanonicalWithin limit end = Unit {0}
@@ -83,4 +83,4 @@ module _ (item : List ℕ → Type 0) where
 
   -- the invariant in memory, where a lone child is never left below a node without value
   abbrev pub IsCanonical : {V : Type 0} → Siblings V → Type 0
-  IsCanonical row = IsCanonicalWithin None row
+  IsCanonical siblings = IsCanonicalWithin None siblings

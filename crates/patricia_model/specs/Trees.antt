@@ -4,13 +4,13 @@ use Rattle.std.specs.FinMap.{FinMap, from_sorted}
 use Rattle.patricia_keys.specs.Keys.{key_cmp}
 use Rattle.patricia_model.specs.Siblings.{Siblings, own, entries, IsCanonical}
 
--- the value of the empty key, and the entries of the row
+-- the value of the empty key, and the entries of the siblings
 abbrev pub map_of : {V : Type 0} → Option V → Siblings V → FinMap key_cmp V
-map_of value row = from_sorted (own value ++ entries row)
+map_of value siblings = from_sorted (own value ++ entries siblings)
 
--- the row keeps the invariant, and its entries are counted
-pub record IsTree {V : Type 0} (item : List ℕ → Type 0) (row : Siblings V) (count : ℕ)
+-- the siblings keep the invariant, and their entries are counted
+pub record IsTree {V : Type 0} (item : List ℕ → Type 0) (siblings : Siblings V) (count : ℕ)
     : Type 0 where
-  pub canonical : IsCanonical item row
-  pub counted : count ≡ length (entries row)
+  pub canonical : IsCanonical item siblings
+  pub counted : count ≡ length (entries siblings)
   pub fits : count < 2 ^ 64 - 1

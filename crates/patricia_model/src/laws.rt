@@ -6,7 +6,7 @@ ghost use Rattle.patricia_model.specs.Laws.{LastIsLongest, HasOneReach};
 ghost use Rattle.patricia_model.specs.Laws.{HoldTogether, HaveNoKeyInCommon};
 ghost use Rattle.patricia_model.specs.Laws.{CommonIsFloor, HasOneParent, HasOneVisitCount};
 ghost use Rattle.patricia_model.specs.Laws.{HasOneTree, TreeStandsAtPoints, HasOneShape};
-ghost use Rattle.patricia_model.specs.Laws.{RowStandsAtPoints};
+ghost use Rattle.patricia_model.specs.Laws.{SiblingsStandAtPoints};
 ghost use Rattle.patricia_model.specs.Points.{IsVisitCount};
 ghost use Rattle.patricia_model.specs.Internal.ThreeKeys.{three_keys, baz, foo, aaa};
 
@@ -27,14 +27,15 @@ pub fn points_of_tree<K: Bytes, V>()
     ensures { TreeStandsAtPoints K.item V }
 {}
 
-/// Two rows that keep the invariant under one limit and have the same entries are the same row.
+/// Siblings that keep the invariant under one limit and have the same entries are the same
+/// siblings.
 pub fn one_shape<K: Bytes, V>()
     ensures { HasOneShape K.item V }
 {}
 
-/// The nodes of a row stand at the points of its keys, one node at each.
-pub fn points_of_row<K: Bytes, V>()
-    ensures { RowStandsAtPoints K.item V }
+/// Siblings and the nodes below them stand at the points of their keys, one node at each.
+pub fn points_of_siblings<K: Bytes, V>()
+    ensures { SiblingsStandAtPoints K.item V }
 {}
 
 /// There is one number of visits for a set of keys and a key.
@@ -47,25 +48,27 @@ pub fn one_parent<K: Bytes>()
     ensures { HasOneParent K.item }
 {}
 
-/// There is one reach for a set of keys and a key.
+/// There is one common length for a set of keys and a key.
 pub fn one_reach<K: Bytes>()
     ensures { HasOneReach K.item }
 {}
 
-/// Under a prefix are those rows whose key it begins, and along a key those whose key begins it.
+/// Under a prefix are those entries whose key it begins, and the common prefixes of a key are those
+/// whose key begins it.
 pub fn prefixes_filter<V>()
     ensures test { TestsBeginnings }
     ensures under { UnderIsFiltered V }
     ensures along { AlongIsFiltered V }
 {}
 
-/// The rows under a prefix and those outside it have no key in common, and are all rows together.
+/// The entries under a prefix and those outside it have no key in common, and are all entries
+/// together.
 pub fn split_parts<V>()
     ensures together { HoldTogether V }
     ensures apart { HaveNoKeyInCommon V }
 {}
 
-/// The last of the rows along a key has the longest key of them.
+/// The last of the common prefixes of a key has the longest key of them.
 pub fn last_is_longest<V>()
     ensures { LastIsLongest V }
 {}

@@ -1,5 +1,5 @@
-//! A Patricia tree without its representation: how a key meets a label, and laws over rows of
-//! nodes and over trees.
+//! A Patricia tree without its representation: how a key meets a label, and laws over siblings and
+//! over trees.
 //!
 //! `patricia_tree` is the library to use. It depends on this crate.
 #![tactic(auto)]

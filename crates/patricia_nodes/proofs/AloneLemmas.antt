@@ -10,13 +10,14 @@ use Rattle.patricia_nodes.specs.declared.arena.seek.LinkRef.{LinkRef}
 use Rattle.patricia_keys.specs.Keys.{IsKeyKind}
 use Rattle.patricia_model.specs.Siblings.{node, IsCanonical}
 use Rattle.patricia_model.specs.Internal.Removals.{width}
-use Rattle.patricia_nodes.specs.Internal.Plans.{Plan, Nil, Cell, linked, head, row, count, one}
+use Rattle.patricia_nodes.specs.Internal.Plans.{Plan, Nil, Cell, linked, head, siblings_in, count}
+use Rattle.patricia_nodes.specs.Internal.Plans.{one}
 use Rattle.patricia_nodes.specs.Internal.Plans.{IsPlan, Holds}
 use Rattle.patricia_nodes.specs.Internal.Places.{Frame, InChild, InSibling, fill, above_of}
 use Rattle.patricia_nodes.specs.Internal.Places.{node_above}
 use Rattle.patricia_nodes.specs.Internal.Merges.{IsPair, Spares, LeavesOther, StandsAt}
 use Rattle.patricia_nodes.proofs.PlanLemmas.{one-same, below_le, node_is}
-use Rattle.patricia_nodes.proofs.FillLemmas.{count-fill, plan_within, row-within}
+use Rattle.patricia_nodes.proofs.FillLemmas.{count-fill, plan_within, siblings-within}
 use Rattle.patricia_nodes.proofs.SeekLemmas.{opened, head_within, node_above-link_ref_of}
 use Rattle.patricia_model.proofs.RemovalLemmas.{width_of_earned}
 
@@ -32,9 +33,9 @@ module _ {V : Type 0} where
   plan_end nodes at Nil w e = refl
   plan_end nodes at (Cell id l v c d) w e = let h = w.at_is in absurd (cc)
 
-  -- a row with a next node has one more
+  -- siblings with a next node have one more
   pub plan_more : (nodes : List (Node V)) (at : Option ℕ) (p : Plan V) (id : ℕ) → IsPlan nodes at p
-      → at ≡ Some id → 1 ≤ width (row p)
+      → at ≡ Some id → 1 ≤ width (siblings_in p)
   plan_more nodes at Nil id w e = let h = w.at_is in absurd (cc)
   plan_more nodes at (Cell i l v c d) id w e = omega arith
 
@@ -53,9 +54,9 @@ module _ {V : Type 0} where
   AllBeside (InSibling id l v c ∷ fs) = AllBeside fs
   AllBeside (InChild id l v d ∷ fs) = ⊥
 
-  -- a row in frames that are beside one another has a node more for each frame
+  -- siblings in frames that are beside one another have a node more for each frame
   wide_beside : (near : List (Frame V)) (x : Plan V) → AllBeside near
-      → width (row (fill near x)) ≡ length near + width (row x)
+      → width (siblings_in (fill near x)) ≡ length near + width (siblings_in x)
   wide_beside [] x s = omega arith
   wide_beside (InSibling id l v c ∷ near) x s = omega (arith, wide_beside near (Cell id l v c x) s)
   wide_beside (InChild id l v d ∷ near) x s = absurd s
@@ -70,8 +71,8 @@ module _ {V : Type 0} where
     pub sides : AllBeside near
     pub is : fs ≡ near ++ InChild u label value beside ∷ outer
     pub nonempty : (x : Plan V) → fill fs x ≡ fill outer (Cell u label value (fill near x) beside)
-    pub wide : (x : Plan V) → width (row (fill near x)) ≡ length near + width (row x)
-    pub spares : (x : Plan V) → (value ≡ None → 2 ≤ length near + width (row x)) → Spares fs x
+    pub wide : (x : Plan V) → width (siblings_in (fill near x)) ≡ length near + width (siblings_in x)
+    pub spares : (x : Plan V) → (value ≡ None → 2 ≤ length near + width (siblings_in x)) → Spares fs x
 
   -- a node above the place: how the frames lead to it
   pub above : (fs : List (Frame V)) (u : ℕ) → above_of fs ≡ Some u → Above fs u
@@ -112,7 +113,7 @@ module _ {V : Type 0} where
   spares_top (InChild id l v d ∷ fs) x e = absurd (cc)
   spares_top (InSibling id l v c ∷ fs) x e = spares_top fs (Cell id l v c x) e
 
-  -- the second node of a row is there
+  -- the second of the siblings is there
   pub second_within : {nodes : List (Node V)} {at : Option ℕ} {p : Plan V} {a b : ℕ} {n : Node V}
       → IsPlan nodes at p → at ≡ Some a → n ≡ get_or nodes a n → n.sibling ≡ Some b
       → b < length nodes
@@ -120,7 +121,7 @@ module _ {V : Type 0} where
       let o = opened nodes at p a n w is reads in
       head_within nodes n.sibling o.sibling b o.sibling_plan next
 
-  -- the two nodes of a row, as they are read
+  -- the two siblings, as they are read
   pub pair_is : {nodes : List (Node V)} {at : Option ℕ} {p : Plan V} {a b : ℕ} {n m : Node V}
       → IsPlan nodes at p → at ≡ Some a → n ≡ get_or nodes a n → n.sibling ≡ Some b
       → m ≡ get_or nodes b m → m.sibling ≡ None → IsPair p a b
@@ -133,13 +134,13 @@ module _ {V : Type 0} where
   -- a third node is one too many
   pub pair_not : {nodes : List (Node V)} {at : Option ℕ} {p : Plan V} {a b k : ℕ} {n m : Node V}
       → IsPlan nodes at p → at ≡ Some a → n ≡ get_or nodes a n → n.sibling ≡ Some b
-      → m ≡ get_or nodes b m → m.sibling ≡ Some k → width (row p) ≡ 2 → ⊥
+      → m ≡ get_or nodes b m → m.sibling ≡ Some k → width (siblings_in p) ≡ 2 → ⊥
   pair_not {nodes} {at} {p} {a} {b} {k} {n} {m} w is reads next reads' more two =
       let o = opened nodes at p a n w is reads in
       let o' = opened nodes n.sibling o.sibling b m o.sibling_plan next reads' in
       let some = plan_more nodes m.sibling o'.sibling k o'.sibling_plan more in
-      let outer = ap (λ (x : Plan V). width (row x)) o.is in
-      let inner = ap (λ (x : Plan V). width (row x)) o'.is in
+      let outer = ap (λ (x : Plan V). width (siblings_in x)) o.is in
+      let inner = ap (λ (x : Plan V). width (siblings_in x)) o'.is in
       absurd (omega (arith, some, outer, inner, two))
 
 module _ {item : List ℕ → Type 0} (kind : IsKeyKind item) {V : Type 0} {s : NodeArena V}
@@ -154,11 +155,11 @@ module _ {item : List ℕ → Type 0} (kind : IsKeyKind item) {V : Type 0} {s : 
     pub up : Above fs u
     up = above fs u (sym (ap node_above at.link_ref_is ∙ node_above-link_ref_of fs) ∙ is)
 
-    -- the row that the place is in
+    -- the siblings that the place is in
     abbrev pub inside : Plan V
     inside = fill up.near (Cell id l v c d)
 
-    -- the nodes stand for the plan with the node above and its row of children in it
+    -- the nodes stand for the plan with the node above and its children in it
     whole : Holds s (fill up.outer (Cell u up.label up.value inside up.beside))
     whole = subst (λ (p : Plan V). Holds s p) (up.nonempty (Cell id l v c d)) at.holds
 
@@ -170,16 +171,16 @@ module _ {item : List ℕ → Type 0} (kind : IsKeyKind item) {V : Type 0} {s : 
     pub upper_within : u < length s.nodes.items
     upper_within = head_within s.nodes.items (Some u) _ u upper_plan refl
 
-    -- the row from the node above on keeps the invariant
-    upper_ok : IsCanonical item (node up.label up.value (row inside) (row up.beside))
-    upper_ok = row-within item up.outer _ (subst (λ (p : Plan V). IsCanonical item (row p)) (up.nonempty (Cell id l v c d)) at.canonical)
+    -- the siblings from the node above on keep the invariant
+    upper_ok : IsCanonical item (node up.label up.value (siblings_in inside) (siblings_in up.beside))
+    upper_ok = siblings-within item up.outer _ (subst (λ (p : Plan V). IsCanonical item (siblings_in p)) (up.nonempty (Cell id l v c d)) at.canonical)
 
     module _ {n : Node V} (reads : n ≡ get_or s.nodes.items u n) where
       -- the node above, as it is read, has the label and the value of the plan
       upper_is : n ≡ linked up.label up.value (head inside) (head up.beside)
       upper_is = node_is s.nodes.items u n _ upper_plan.stands.0 reads
 
-      -- its child link reads the row that the place is in
+      -- its child link reads the siblings that the place is in
       pub inside_plan : IsPlan s.nodes.items n.child inside
       inside_plan = record { stands = upper_plan.stands.1; at_is = ap (λ (x : Node V). x.child) upper_is; fits = omega (arith, upper_plan.fits) }
 
@@ -188,15 +189,15 @@ module _ {item : List ℕ → Type 0} (kind : IsKeyKind item) {V : Type 0} {s : 
       alone_valued some = up.spares d (λ none. absurd (some (ap (λ (x : Node V). x.value) upper_is ∙ none)))
 
       -- and so does one that has not just two children
-      pub alone_more : (width (row inside) ≡ 2 → ⊥) → Spares fs d
+      pub alone_more : (width (siblings_in inside) ≡ 2 → ⊥) → Spares fs d
       alone_more not_two = up.spares d (λ none.
-          let two = width_of_earned item kind up.label (row inside) (row up.beside)
+          let two = width_of_earned item kind up.label (siblings_in inside) (siblings_in up.beside)
           (subst (λ (w : Option V). IsCanonical item
-          (node up.label w (row inside) (row up.beside))) none upper_ok) in
-          more (width (row inside)) two not_two (up.wide (Cell id l v c d)))
+          (node up.label w (siblings_in inside) (siblings_in up.beside))) none upper_ok) in
+          more (width (siblings_in inside)) two not_two (up.wide (Cell id l v c d)))
         where
-          more : (k : ℕ) → 2 ≤ k → (k ≡ 2 → ⊥) → k ≡ length up.near + suc (width (row d))
-              → 2 ≤ length up.near + width (row d)
+          more : (k : ℕ) → 2 ≤ k → (k ≡ 2 → ⊥) → k ≡ length up.near + suc (width (siblings_in d))
+              → 2 ≤ length up.near + width (siblings_in d)
           more k two not_two e = elim (cases_lt 2 k) [ inl lt ↦ omega arith | inr le ↦ absurd (not_two (omega arith)) ]
 
       -- or it has
@@ -209,7 +210,7 @@ module _ {item : List ℕ → Type 0} (kind : IsKeyKind item) {V : Type 0} {s : 
         frames_are : fs ≡ up.near ++ InChild u up.label None up.beside ∷ up.outer
         frames_are = up.is ∙ ap (λ w. up.near ++ InChild u up.label w up.beside ∷ up.outer) no_value
 
-        -- no number stands twice in the row that the place is in
+        -- no number stands twice in the siblings that the place is in
         once : (i : ℕ) → count inside i ≤ 1
         once i = omega (arith, whole.1.once i, below_le (length s.nodes.items) i, count-fill up.outer (Cell u up.label up.value inside up.beside) i)
 
@@ -258,7 +259,7 @@ module _ {item : List ℕ → Type 0} (kind : IsKeyKind item) {V : Type 0} {s : 
               arith,
               wide_beside near (Cell k' m' w' e' (Cell k m w e (Cell id l v c d)))
                   sides,
-              ap (λ (x : Plan V). width (row x)) p,
+              ap (λ (x : Plan V). width (siblings_in x)) p,
             ))
 
         -- the one at the place goes, and the other is left

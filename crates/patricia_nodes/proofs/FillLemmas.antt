@@ -7,12 +7,13 @@ use Rattle.patricia_keys.specs.Keys.{IsKeyKind, key_cmp}
 use Rattle.patricia_model.specs.Siblings.{entries, IsCanonical}
 use Rattle.patricia_model.specs.Internal.LabelCmp.{Passes}
 use Rattle.patricia_model.specs.Internal.Counts.{IsCounted}
-use Rattle.patricia_nodes.specs.Internal.Plans.{Plan, Cell, head, row, size, count, LaidOut, IsPlan}
+use Rattle.patricia_nodes.specs.Internal.Plans.{Plan, Cell, head, siblings_in, size, count, LaidOut}
+use Rattle.patricia_nodes.specs.Internal.Plans.{IsPlan}
 use Rattle.patricia_nodes.specs.Internal.Places.{Frame, InChild, InSibling, fill, count_frames}
 use Rattle.patricia_nodes.specs.Internal.Places.{size_frames, Leads}
 use Rattle.patricia_model.proofs.GetLemmas.{find_past, find_deeper}
-use Rattle.patricia_model.proofs.InsertLemmas.{put_past, put_through, put_child, row_past}
-use Rattle.patricia_model.proofs.InsertLemmas.{row_child}
+use Rattle.patricia_model.proofs.InsertLemmas.{put_past, put_through, put_child, siblings_past}
+use Rattle.patricia_model.proofs.InsertLemmas.{siblings_child}
 use Rattle.patricia_model.proofs.CountLemmas.{counted_past, counted_through}
 
 module _ {V : Type 0} where
@@ -47,54 +48,54 @@ passed_filled item k [] t p nonempty none = nonempty (p.splits ∙ none)
 passed_filled item k (b ∷ l) t p nonempty none = let e = p.splits in absurd (cc)
 
 module _ (item : List ℕ → Type 0) {V : Type 0} where
-  -- where a whole row keeps the invariant, the row in the place does too
-  pub row-within : (fs : List (Frame V)) (q : Plan V) → IsCanonical item (row (fill fs q))
-      → IsCanonical item (row q)
-  row-within [] q ok = ok
-  row-within (InChild id l v d ∷ fs) q ok = (row-within fs (Cell id l v q d) ok).child
-  row-within (InSibling id l v c ∷ fs) q ok = (row-within fs (Cell id l v c q) ok).sibling
+  -- where the top siblings keep the invariant, the siblings in the place do too
+  pub siblings-within : (fs : List (Frame V)) (q : Plan V) → IsCanonical item (siblings_in (fill fs q))
+      → IsCanonical item (siblings_in q)
+  siblings-within [] q ok = ok
+  siblings-within (InChild id l v d ∷ fs) q ok = (siblings-within fs (Cell id l v q d) ok).child
+  siblings-within (InSibling id l v c ∷ fs) q ok = (siblings-within fs (Cell id l v c q) ok).sibling
 
 module _ (item : List ℕ → Type 0) (kind : IsKeyKind item) {V : Type 0} where
   -- the place decides what is found
-  pub find-fill : (fs : List (Frame V)) (q : Plan V) → IsCanonical item (row (fill fs q))
+  pub find-fill : (fs : List (Frame V)) (q : Plan V) → IsCanonical item (siblings_in (fill fs q))
       → (key rest : List ℕ) → Leads item fs key rest
-      → find key_cmp key (entries (row (fill fs q))) ≡ find key_cmp rest (entries (row q))
-  find-fill [] q ok key rest e = ap (λ k. find key_cmp k (entries (row q))) (sym e)
+      → find key_cmp key (entries (siblings_in (fill fs q))) ≡ find key_cmp rest (entries (siblings_in q))
+  find-fill [] q ok key rest e = ap (λ k. find key_cmp k (entries (siblings_in q))) (sym e)
   find-fill (InChild id l v d ∷ fs) q ok key rest (before, passes, nonempty, leads) =
       find-fill fs (Cell id l v q d) ok key before leads
-      ∙ find_deeper item kind l v (row q) (row d) (row-within item fs (Cell id l v q d) ok) before rest passes nonempty
+      ∙ find_deeper item kind l v (siblings_in q) (siblings_in d) (siblings-within item fs (Cell id l v q d) ok) before rest passes nonempty
   find-fill (InSibling id l v c ∷ fs) q ok key rest (before, leads) =
       find-fill fs (Cell id l v c q) ok key rest leads
-      ∙ find_past item kind l v (row c) (row q) (row-within item fs (Cell id l v c q) ok) rest before
+      ∙ find_past item kind l v (siblings_in c) (siblings_in q) (siblings-within item fs (Cell id l v c q) ok) rest before
 
   -- a write in the place is a write in the whole
-  pub put-fill : (x : V) (fs : List (Frame V)) (q p : Plan V) → IsCanonical item (row (fill fs q))
-      → (key rest : List ℕ) → Leads item fs key rest → IsCanonical item (row p)
-      → entries (row p) ≡ put key_cmp rest x (entries (row q))
-      → IsCanonical item (row (fill fs p)) × (entries (row (fill fs p)) ≡ put key_cmp key x (entries (row (fill fs q))))
-  put-fill x [] q p ok key rest e okp w = (okp, w ∙ ap (λ k. put key_cmp k x (entries (row q))) e)
+  pub put-fill : (x : V) (fs : List (Frame V)) (q p : Plan V) → IsCanonical item (siblings_in (fill fs q))
+      → (key rest : List ℕ) → Leads item fs key rest → IsCanonical item (siblings_in p)
+      → entries (siblings_in p) ≡ put key_cmp rest x (entries (siblings_in q))
+      → IsCanonical item (siblings_in (fill fs p)) × (entries (siblings_in (fill fs p)) ≡ put key_cmp key x (entries (siblings_in (fill fs q))))
+  put-fill x [] q p ok key rest e okp w = (okp, w ∙ ap (λ k. put key_cmp k x (entries (siblings_in q))) e)
   put-fill x (InChild id l v d ∷ fs) q p ok key rest (before, passes, nonempty, leads) okp w =
-      let inner = row-within item fs (Cell id l v q d) ok in
+      let inner = siblings-within item fs (Cell id l v q d) ok in
       put-fill x fs (Cell id l v q d) (Cell id l v p d) ok key before leads
-      (row_child item kind x l v (row q) (row d) inner rest (row p) okp w)
-      (put_through item kind x l v (row q) (row d) inner before rest v (row p) passes (put_child item kind x rest v (row q) (row p) nonempty w))
+      (siblings_child item kind x l v (siblings_in q) (siblings_in d) inner rest (siblings_in p) okp w)
+      (put_through item kind x l v (siblings_in q) (siblings_in d) inner before rest v (siblings_in p) passes (put_child item kind x rest v (siblings_in q) (siblings_in p) nonempty w))
   put-fill x (InSibling id l v c ∷ fs) q p ok key rest (before, leads) okp w =
-      let inner = row-within item fs (Cell id l v c q) ok in
+      let inner = siblings-within item fs (Cell id l v c q) ok in
       put-fill x fs (Cell id l v c q) (Cell id l v c p) ok key rest leads
-      (row_past item kind x l v (row c) (row q) inner rest (row p) before okp w)
-      (put_past item kind x l v (row c) (row q) inner rest (row p) before w)
+      (siblings_past item kind x l v (siblings_in c) (siblings_in q) inner rest (siblings_in p) before okp w)
+      (put_past item kind x l v (siblings_in c) (siblings_in q) inner rest (siblings_in p) before w)
 
   -- a look-up makes a step for each frame, and then those in the place
-  pub counted-fill : (fs : List (Frame V)) (q : Plan V) → IsCanonical item (row (fill fs q))
+  pub counted-fill : (fs : List (Frame V)) (q : Plan V) → IsCanonical item (siblings_in (fill fs q))
       → (key rest : List ℕ) → Leads item fs key rest → rest ≢ [] → (n m : ℕ)
-      → IsCounted item (row q) rest (n + length fs) m → IsCounted item (row (fill fs q)) key n m
-  counted-fill [] q ok key rest e some n m counted = rw (← e) (subst (λ k. IsCounted item (row q) rest k m) (omega arith) counted)
+      → IsCounted item (siblings_in q) rest (n + length fs) m → IsCounted item (siblings_in (fill fs q)) key n m
+  counted-fill [] q ok key rest e some n m counted = rw (← e) (subst (λ k. IsCounted item (siblings_in q) rest k m) (omega arith) counted)
   counted-fill (InChild id l v d ∷ fs) q ok key rest (before, passes, nonempty, leads) some n m counted =
-      let inner = row-within item fs (Cell id l v q d) ok in
+      let inner = siblings-within item fs (Cell id l v q d) ok in
       let held = passed_filled item before l rest passes nonempty in
       counted-fill fs (Cell id l v q d) ok key before leads held n m
-      (counted_through item kind l v (row q) (row d) inner before held (n + length fs) (n + suc (length fs)) (omega arith) m rest passes nonempty counted)
+      (counted_through item kind l v (siblings_in q) (siblings_in d) inner before held (n + length fs) (n + suc (length fs)) (omega arith) m rest passes nonempty counted)
   counted-fill (InSibling id l v c ∷ fs) q ok key rest (before, leads) some n m counted =
-      let inner = row-within item fs (Cell id l v c q) ok in
+      let inner = siblings-within item fs (Cell id l v c q) ok in
       counted-fill fs (Cell id l v c q) ok key rest leads some n m
-      (counted_past item kind l v (row c) (row q) inner rest some (n + length fs) (n + suc (length fs)) (omega arith) m before counted)
+      (counted_past item kind l v (siblings_in c) (siblings_in q) inner rest some (n + length fs) (n + suc (length fs)) (omega arith) m before counted)

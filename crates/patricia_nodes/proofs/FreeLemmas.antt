@@ -40,7 +40,7 @@ module _ {V : Type 0} (old freed : NodeArena V) (id : ℕ) (n : Node V) (f : Fre
     abbrev leaf : Plan V
     leaf = Cell id l v Nil d
 
-    -- the nodes are sound without the first node of the top row, and its sibling is the root
+    -- the nodes are sound without the first node of the top siblings, and its sibling is the root
     sound-unlink_root : IsSound old.nodes.items old.root old.free leaf spare
         → new.nodes.items ≡ freed.nodes.items → new.root ≡ head d
         → IsSound new.nodes.items new.root new.free d (id ∷ spare)
@@ -224,12 +224,12 @@ module _ {V : Type 0} (old freed : NodeArena V) (id : ℕ) (n : Node V) (f : Fre
         (omega (arith, long))
 
 module _ {V : Type 0} where
-  -- a leaf is in the vector, and so is its spot
+  -- a leaf is in the vector, and so is the node of its link
   pub leaf_within : (s : NodeArena V) (link_ref : LinkRef) (id : ℕ) → HasLeafAt s link_ref id
       → id < length s.nodes.items
   leaf_within s link_ref id h = slice_get_within s.nodes.items id _ (stands-within s.nodes.items h.0 (Cell id h.1 h.2 Nil h.3) h.5.1.plan_ok.stands).0
 
-  -- the spot of the leaf stays in the vector when the leaf is freed
+  -- the node of the link to the leaf stays in the vector when the leaf is freed
   pub spot_of_leaf : (s freed : NodeArena V) (link_ref : LinkRef) (id : ℕ) (n : Node V)
       → Frees s freed id n → HasLeafAt s link_ref id
       → LinkRefWithin link_ref (length freed.nodes.items)

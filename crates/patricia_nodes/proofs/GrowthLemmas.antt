@@ -6,8 +6,9 @@ use Rattle.std.proofs.lemmas.Option.{slice_get_within}
 use Rattle.patricia_nodes.specs.declared.arena.Node.{Node}
 use Rattle.patricia_nodes.specs.declared.arena.NodeArena.{NodeArena}
 use Rattle.patricia_nodes.specs.Internal.Plans.{Plan, Nil, Cell, linked, head, one, times}
-use Rattle.patricia_nodes.specs.Internal.Growth.{tops, numbered_siblings, laid, RowStands, IsTopRow}
-use Rattle.patricia_nodes.specs.Internal.Growth.{TakesNodes, TakesRow}
+use Rattle.patricia_nodes.specs.Internal.Growth.{tops, numbered_siblings, laid, SiblingsStand}
+use Rattle.patricia_nodes.specs.Internal.Growth.{AreTopSiblings}
+use Rattle.patricia_nodes.specs.Internal.Growth.{TakesNodes, TakesSiblings}
 use Rattle.patricia_nodes.specs.Internal.Writes.{Frees}
 use Rattle.patricia_nodes.proofs.PlanLemmas.{one-same}
 use Rattle.patricia_nodes.proofs.WriteLemmas.{get-set_same, get-set_other, chain-keep}
@@ -69,10 +70,10 @@ module _ {V : Type 0} where
         );
       }
 
-  -- how far a row is moved
+  -- how far siblings are moved
   pub record Moving (from0 : NodeArena V) (to0 : List (Node V)) (w : Plan V) (from : NodeArena V) (at : Option ℕ) (to : List (Node V)) : Type 0 where
     pub rest : Plan V
-    pub row : IsTopRow from.nodes.items at rest
+    pub siblings : AreTopSiblings from.nodes.items at rest
     pub moved : to ++ laid (length to) rest ≡ to0 ++ laid (length to0) w
     pub counts : ℕ → ℕ
     pub number : ℕ
@@ -83,10 +84,10 @@ module _ {V : Type 0} where
 
   -- nothing is moved at first
   pub moving_none : (from : NodeArena V) (to : List (Node V)) (at : Option ℕ) (w : Plan V)
-      → IsTopRow from.nodes.items at w → Moving from to w from at to
-  moving_none from to at w row = record {
+      → AreTopSiblings from.nodes.items at w → Moving from to w from at to
+  moving_none from to at w siblings = record {
     rest = w;
-    row = row;
+    siblings = siblings;
     moved = refl;
     counts = λ i. 0;
     number = 0;
@@ -96,26 +97,26 @@ module _ {V : Type 0} where
     counted = refl;
   }
 
-  -- the node at the head of a row
-  pub opens_top : (from : List (Node V)) (id : ℕ) (w : Plan V) → IsTopRow from (Some id) w
+  -- the node at the head of siblings
+  pub opens_top : (from : List (Node V)) (id : ℕ) (w : Plan V) → AreTopSiblings from (Some id) w
       → (l : List ℕ) × (v : Option V) × (c : Plan V) × (d : Plan V) × (w ≡ Cell id l v c d) × (slice_get from id ≡ Some (linked l v (head c) (head d)))
-  opens_top from id Nil row = let e = row.at_is in absurd (cc)
-  opens_top from id (Cell i l v c d) row =
-      let same : id ≡ i = let e = row.at_is in cc in
-      (l, v, c, d, rw same refl, rw same row.stands.0)
+  opens_top from id Nil siblings = let e = siblings.at_is in absurd (cc)
+  opens_top from id (Cell i l v c d) siblings =
+      let same : id ≡ i = let e = siblings.at_is in cc in
+      (l, v, c, d, rw same refl, rw same siblings.stands.0)
 
   -- the next node to move is in the vector
   pub next_within : (from0 : NodeArena V) (to0 : List (Node V)) (w : Plan V) (from : NodeArena V)
       (to : List (Node V)) (id : ℕ) → Moving from0 to0 w from (Some id) to
       → id < length from.nodes.items
-  next_within from0 to0 w from to id m = let o = opens_top from.nodes.items id m.rest m.row in slice_get_within from.nodes.items id _ o.5
+  next_within from0 to0 w from to id m = let o = opens_top from.nodes.items id m.rest m.siblings in slice_get_within from.nodes.items id _ o.5
 
   -- what stands at other numbers, stands still
-  rows-keep : (nodes new : List (Node V)) (q : Plan V)
-      → ((i : ℕ) → times (tops q) i ≢ 0 → slice_get new i ≡ slice_get nodes i) → RowStands nodes q
-      → RowStands new q
-  rows-keep nodes new Nil k s = tt
-  rows-keep nodes new (Cell id l v c d) k s = (k id (λ e. omega (arith, one-same id)) ∙ s.0, rows-keep nodes new d (λ i n. k i (λ e. n (omega arith))) s.1)
+  siblings-keep : (nodes new : List (Node V)) (q : Plan V)
+      → ((i : ℕ) → times (tops q) i ≢ 0 → slice_get new i ≡ slice_get nodes i) → SiblingsStand nodes q
+      → SiblingsStand new q
+  siblings-keep nodes new Nil k s = tt
+  siblings-keep nodes new (Cell id l v c d) k s = (k id (λ e. omega (arith, one-same id)) ∙ s.0, siblings-keep nodes new d (λ i n. k i (λ e. n (omega arith))) s.1)
 
   -- the new number of the next sibling
   pub number_none : (d : Plan V) (n : ℕ) → head d ≡ None → None ≡ head (numbered_siblings n d)
@@ -127,7 +128,7 @@ module _ {V : Type 0} where
   number_some Nil n k e = absurd (cc)
   number_some (Cell id l v c d) n k e = refl
 
-  -- one node more lies behind, and the rest of its row comes after it
+  -- one node more lies behind, and the rest of its siblings come after it
   pub laid_next : (to to' : List (Node V)) (n : Node V) (number : Option ℕ) (i : ℕ) (l : List ℕ)
       (v : Option V) (c d : Plan V) → n ≡ linked l v (head c) (head d)
       → number ≡ head (numbered_siblings (suc (length to)) d)
@@ -155,30 +156,30 @@ module _ {V : Type 0} where
 
     -- one more node was moved
     pub moving_next : Moving from0 to0 w later n.sibling to'
-    moving_next = by m.rest m.row m.moved m.split m.sized m.counted
+    moving_next = by m.rest m.siblings m.moved m.split m.sized m.counted
       where
-        by : (r : Plan V) → IsTopRow from.nodes.items (Some id) r
+        by : (r : Plan V) → AreTopSiblings from.nodes.items (Some id) r
             → to ++ laid (length to) r ≡ to0 ++ laid (length to0) w
             → ((i : ℕ) → m.counts i + times (tops r) i ≡ times (tops w) i)
             → m.number + length (tops r) ≡ length (tops w)
             → length to + length (tops r) ≡ length to0 + length (tops w)
             → Moving from0 to0 w later n.sibling to'
-        by Nil row moved split sized counted = let e = row.at_is in absurd (cc)
-        by (Cell i l v c d) row moved split sized counted =
-            let same : id ≡ i = let e = row.at_is in cc in
-            let is : n ≡ linked l v (head c) (head d) = let there = row.stands.0 in
+        by Nil siblings moved split sized counted = let e = siblings.at_is in absurd (cc)
+        by (Cell i l v c d) siblings moved split sized counted =
+            let same : id ≡ i = let e = siblings.at_is in cc in
+            let is : n ≡ linked l v (head c) (head d) = let there = siblings.stands.0 in
             let here' : slice_get from.nodes.items i ≡ Some n = rw (← same) frees.taken in
             cc in
             let sibling : n.sibling ≡ head d = ap (λ (x : Node V). x.sibling) is in
             let comes = laid_next to to' n number i l v c d is (numbers d sibling) pushed in
             record {
               rest = d;
-              row = record {
-                stands = rows-keep from.nodes.items later.nodes.items d
+              siblings = record {
+                stands = siblings-keep from.nodes.items later.nodes.items d
                     (λ k some. one_taken.others k
-                    (omega (arith, row.once k, ap (λ x. one x k) same))) row.stands.1;
+                    (omega (arith, siblings.once k, ap (λ x. one x k) same))) siblings.stands.1;
                 at_is = sibling;
-                once = λ k. omega (arith, row.once k);
+                once = λ k. omega (arith, siblings.once k);
               };
               moved = comes.1 ∙ moved;
               counts = λ k. m.counts k + one id k;
@@ -192,13 +193,13 @@ module _ {V : Type 0} where
   -- at the end all is moved
   pub moving_done : (from0 : NodeArena V) (to0 : List (Node V)) (w : Plan V) (from : NodeArena V)
       (to : List (Node V)) → Moving from0 to0 w from None to
-      → (to ≡ to0 ++ laid (length to0) w) × TakesRow from0 from w
-  moving_done from0 to0 w from to m = by m.rest m.row.at_is m.moved m.split m.sized
+      → (to ≡ to0 ++ laid (length to0) w) × TakesSiblings from0 from w
+  moving_done from0 to0 w from to m = by m.rest m.siblings.at_is m.moved m.split m.sized
     where
       by : (r : Plan V) → None ≡ head r → to ++ laid (length to) r ≡ to0 ++ laid (length to0) w
           → ((i : ℕ) → m.counts i + times (tops r) i ≡ times (tops w) i)
           → m.number + length (tops r) ≡ length (tops w)
-          → (to ≡ to0 ++ laid (length to0) w) × TakesRow from0 from w
+          → (to ≡ to0 ++ laid (length to0) w) × TakesSiblings from0 from w
       by Nil e moved split sized = (
         sym (append-nil to) ∙ moved,
         takes_same from0 from m.counts (λ i. times (tops w) i)

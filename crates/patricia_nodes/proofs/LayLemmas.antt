@@ -1,4 +1,4 @@
--- All nodes are relocated, row by row.
+-- All nodes are relocated, one list of siblings after the other.
 use Rattle.std.proofs.Common.{◌≡◌, inl, inr, ℕ, zero, suc, ◌+◌, ◌<◌, ◌≤◌, List, [], ◌∷◌, ◌++◌}
 use Rattle.std.proofs.Common.{Bool, true, false, nat_lt, if◌then◌else◌, length, set, get_or}
 use Rattle.std.proofs.Common.{Option, Some, None, slice_get, refl, sym, ap, ◌≢◌}
@@ -7,22 +7,25 @@ use Rattle.std.proofs.lemmas.Bool.{cases_lt}
 use Rattle.std.proofs.lemmas.Bool.Decides.{nat_tests}
 use Rattle.patricia_nodes.specs.declared.arena.Node.{Node}
 use Rattle.patricia_nodes.specs.declared.arena.NodeArena.{NodeArena}
-use Rattle.patricia_nodes.specs.Internal.Plans.{Plan, linked, head, row, size, count, times, below}
+use Rattle.patricia_nodes.specs.Internal.Plans.{Plan, linked, head, siblings_in, size, count, times}
+use Rattle.patricia_nodes.specs.Internal.Plans.{below}
 use Rattle.patricia_nodes.specs.Internal.Plans.{LaidOut, IsSound, plan_at}
-use Rattle.patricia_nodes.specs.Internal.Growth.{tops, numbered_siblings, laid, IsTopRow, IsLaid}
-use Rattle.patricia_nodes.specs.Internal.Growth.{TakesRow, TakesBelow, count_below}
+use Rattle.patricia_nodes.specs.Internal.Growth.{tops, numbered_siblings, laid, AreTopSiblings}
+use Rattle.patricia_nodes.specs.Internal.Growth.{IsLaid}
+use Rattle.patricia_nodes.specs.Internal.Growth.{TakesSiblings, TakesBelow, count_below}
 use Rattle.patricia_nodes.specs.Internal.Growth.{size_below}
 use Rattle.patricia_nodes.proofs.PlanLemmas.{below_le, below_in, plan_is, node_is, below_out}
 use Rattle.patricia_nodes.proofs.WriteLemmas.{get-set_same, get-set_other}
 use Rattle.patricia_nodes.proofs.GrowthLemmas.{takes_none, takes_same, takes_more}
 use Rattle.patricia_nodes.specs.Internal.Relocation.{Mix, flat, news}
 use Rattle.patricia_nodes.specs.Internal.Relocation.{Laying, Emptied, Filling, marked_from}
-use Rattle.patricia_nodes.proofs.RelayLemmas.{flat_first, OpenAt, opened, Turns, step, row-opened}
+use Rattle.patricia_nodes.proofs.RelayLemmas.{flat_first, OpenAt, opened, Turns, step}
+use Rattle.patricia_nodes.proofs.RelayLemmas.{siblings-opened}
 use Rattle.patricia_nodes.proofs.RelayLemmas.{size-opened, first-opened, olds-below, waits-opened}
 use Rattle.patricia_nodes.proofs.RelayLemmas.{waits-below, count-parts, below-keep, news-opened}
-use Rattle.patricia_nodes.proofs.RelayLemmas.{moved-opened, row-step, size-step, first-step}
+use Rattle.patricia_nodes.proofs.RelayLemmas.{moved-opened, siblings-step, size-step, first-step}
 use Rattle.patricia_nodes.proofs.RelayLemmas.{step-moves, open_exists, opens_at, open_within}
-use Rattle.patricia_nodes.proofs.RelayLemmas.{top_row, tops_within, moved-step, moved-same, lies-opened}
+use Rattle.patricia_nodes.proofs.RelayLemmas.{top_siblings, tops_within, moved-step, moved-same, lies-opened}
 use Rattle.patricia_nodes.proofs.RelayLemmas.{length-laid, lies-step, lies_done}
 
 -- no mark
@@ -101,14 +104,14 @@ module _ {V : Type 0} where
       → IsSound nodes root free p spare → (at : ℕ) → count p at ≤ 1
   counted_once nodes root free p spare sound at = omega (arith, sound.once at, below_le (length nodes) at)
 
-  -- once the top row is laid, each of its nodes waits for its children
+  -- once the top siblings are laid, each of them waits for its children
   pub laying_start : (p : Plan V) (from to : List (Node V)) → IsLaid from to p
       → Laying p from unmarked to (head (numbered_siblings 0 p))
   laying_start p from to l =
       let long : length to ≡ length (tops p) = ap length l.laid_is ∙ length-laid 0 p in
       record {
         mix = opened 0 p;
-        row_is = row-opened 0 p;
+        siblings_are = siblings-opened 0 p;
         size_is = size-opened 0 p;
         root_is = sym (first-opened 0 p);
         lies = lies-opened from [] to p l.below_stands (λ at h. ap (λ xs. slice_get xs at) l.laid_is);
@@ -121,37 +124,37 @@ module _ {V : Type 0} where
         sized = omega (arith, waits-opened 0 p, long);
       }
 
-  -- the children of the next node are a row that can be moved, and there is room for it
-  pub record NextRow (p : Plan V) (from : List (Node V)) (i : ℕ) (to : List (Node V)) (mix : Mix V) : Type 0 where
-    pub row : Plan V
-    pub due : OpenAt i mix row
+  -- the children of the next node are siblings that can be moved, and there is room for them
+  pub record NextSiblings (p : Plan V) (from : List (Node V)) (i : ℕ) (to : List (Node V)) (mix : Mix V) : Type 0 where
+    pub siblings : Plan V
+    pub due : OpenAt i mix siblings
     pub parent : Node V
     pub there : slice_get to i ≡ Some parent
-    pub top : IsTopRow from parent.child row
-    pub room : length to + length (tops row) ≤ size p
+    pub top : AreTopSiblings from parent.child siblings
+    pub room : length to + length (tops siblings) ≤ size p
 
-  -- the row below a node without a mark is still to be laid
-  pub laying_row : (p : Plan V) (from : List (Node V)) (marks : ℕ → Bool) (i : ℕ)
+  -- the siblings below a node without a mark are still to be laid
+  pub laying_siblings : (p : Plan V) (from : List (Node V)) (marks : ℕ → Bool) (i : ℕ)
       (to : List (Node V)) (root : Option ℕ) (l : Laying p from marks to root) → i < length to
-      → marks i ≡ false → NextRow p from i to l.mix
-  laying_row p from marks i to root l short bare =
+      → marks i ≡ false → NextSiblings p from i to l.mix
+  laying_siblings p from marks i to root l short bare =
       let some = open_exists marks i l.mix l.moved bare (omega (arith, l.news_once i, below_in (length to) i short)) in
       let w = some.0 in
       let opens = opens_at from to i l.mix w l.lies some.1 in
       let within = open_within i l.mix w some.1 in
       record {
-        row = w;
+        siblings = w;
         due = some.1;
         parent = opens.1.0;
         there = opens.1.1;
-        top = top_row from _ w opens.0 opens.1.2 (λ k. omega (arith, within.1 k, l.olds_once k));
+        top = top_siblings from _ w opens.0 opens.1.2 (λ k. omega (arith, within.1 k, l.olds_once k));
         room = omega (arith, l.sized, within.0, (tops_within w).0);
       }
 
-  -- the row from the child's number of the node that is read is the next one
+  -- the siblings from the child's number of the node that is read are the next ones
   pub next_top : (p : Plan V) (from : List (Node V)) (i : ℕ) (to : List (Node V)) (mix : Mix V)
-      (next : NextRow p from i to mix) (n : Node V) → n ≡ get_or to i n
-      → IsTopRow from n.child next.row
+      (next : NextSiblings p from i to mix) (n : Node V) → n ≡ get_or to i n
+      → AreTopSiblings from n.child next.siblings
   next_top p from i to mix next n reads = rw (node_is to i n next.parent next.there reads) next.top
 
   -- the numbers of the nodes are those below their length
@@ -167,14 +170,14 @@ module _ {V : Type 0} where
   laying_on : (p : Plan V) (from later : List (Node V)) (marks marked : ℕ → Bool) (i : ℕ)
       (to final : List (Node V)) (root : Option ℕ) (l : Laying p from marks to root)
       → i < length to → Turns marks marked i (length to)
-      → (next : NextRow p from i to l.mix)
-      → ((at : ℕ) → times (tops next.row) at ≡ 0 → slice_get later at ≡ slice_get from at)
-      → final ≡ set (to ++ laid (length to) next.row) i
+      → (next : NextSiblings p from i to l.mix)
+      → ((at : ℕ) → times (tops next.siblings) at ≡ 0 → slice_get later at ≡ slice_get from at)
+      → final ≡ set (to ++ laid (length to) next.siblings) i
       (linked next.parent.label next.parent.value
-      (head (numbered_siblings (length to) next.row)) next.parent.sibling)
+      (head (numbered_siblings (length to) next.siblings)) next.parent.sibling)
       → Laying p later marked final root
   laying_on p from later marks marked i to final root l short turns next others is =
-      let w = next.row in
+      let w = next.siblings in
       let n = length to in
       let whole = to ++ laid n w in
       let new = linked next.parent.label next.parent.value (head (numbered_siblings n w)) next.parent.sibling in
@@ -183,7 +186,7 @@ module _ {V : Type 0} where
       let moves = step-moves i n l.mix w once next.due in
       record {
         mix = step i n l.mix;
-        row_is = row-step i n l.mix ∙ l.row_is;
+        siblings_are = siblings-step i n l.mix ∙ l.siblings_are;
         size_is = size-step i n l.mix ∙ l.size_is;
         root_is = l.root_is ∙ sym (first-step i n l.mix);
         lies = lies-step from later to final i w
@@ -208,28 +211,28 @@ module _ {V : Type 0} where
   pub laying_next : (p : Plan V) (from later : List (Node V)) (marks marked : ℕ → Bool) (i : ℕ)
       (to final : List (Node V)) (root : Option ℕ) (l : Laying p from marks to root)
       → i < length to → Turns marks marked i (length to)
-      → (next : NextRow p from i to l.mix)
-      → ((at : ℕ) → times (tops next.row) at ≡ 0 → slice_get later at ≡ slice_get from at)
-      → (moved : List (Node V)) → moved ≡ to ++ laid (length to) next.row → (first : Option ℕ)
-      → first ≡ head (numbered_siblings (length to) next.row) → (n : Node V) → n ≡ get_or moved i n
+      → (next : NextSiblings p from i to l.mix)
+      → ((at : ℕ) → times (tops next.siblings) at ≡ 0 → slice_get later at ≡ slice_get from at)
+      → (moved : List (Node V)) → moved ≡ to ++ laid (length to) next.siblings → (first : Option ℕ)
+      → first ≡ head (numbered_siblings (length to) next.siblings) → (n : Node V) → n ≡ get_or moved i n
       → final ≡ set moved i (linked n.label n.value first n.sibling)
       → Laying p later marked final root
   laying_next p from later marks marked i to final root l short turns next others moved comes first first_is n reads written =
       let parent : n ≡ next.parent = node_is moved i n next.parent
-      (ap (λ xs. slice_get xs i) comes ∙ get_front to (laid (length to) next.row) i short ∙
+      (ap (λ xs. slice_get xs i) comes ∙ get_front to (laid (length to) next.siblings) i short ∙
       next.there) reads in
-      let is : final ≡ set (to ++ laid (length to) next.row) i
+      let is : final ≡ set (to ++ laid (length to) next.siblings) i
       (linked next.parent.label next.parent.value
-      (head (numbered_siblings (length to) next.row)) next.parent.sibling) =
+      (head (numbered_siblings (length to) next.siblings)) next.parent.sibling) =
       rw (← parent, ← first_is, ← comes) written in
       laying_on p from later marks marked i to final root l short turns next others is
 
-  -- at the end the nodes are sound, and the same row
+  -- at the end the nodes are sound, and stand for the same siblings
   pub laying_done :
       (p : Plan V) (from : List (Node V)) (marks : ℕ → Bool) (to : List (Node V))
       (root : Option ℕ) → Laying p from marks to root
       → ((at : ℕ) → at < length to → marks at ≡ true)
-      → (q : Plan V) × IsSound to root None q [] × (row q ≡ row p) × (size q ≡ size p)
+      → (q : Plan V) × IsSound to root None q [] × (siblings_in q ≡ siblings_in p) × (size q ≡ size p)
   laying_done p from marks to root l all =
       let done = lies_done from to marks l.mix l.lies l.moved all in
       let q = flat l.mix in (
@@ -241,11 +244,11 @@ module _ {V : Type 0} where
           once = λ at. omega (arith, done.1 at, l.news_once at);
           total = omega (arith, l.size_is, l.sized, done.2);
         },
-        l.row_is,
+        l.siblings_are,
         l.size_is,
       )
 
-  -- at first nothing is taken from the old nodes but the top row
+  -- at first nothing is taken from the old nodes but the top siblings
   emptied_start : (s : NodeArena V) (w : Plan V) → Emptied s w (opened 0 w) s
   emptied_start s w = record {
     counts = λ at. 0;
@@ -255,10 +258,10 @@ module _ {V : Type 0} where
     sized = omega (arith, waits-below 0 w);
   }
 
-  -- once a row more has moved, its nodes are free in the old vector
+  -- once more siblings have moved, their nodes are free in the old vector
   emptied_next :
       (old : NodeArena V) (w : Plan V) (q : Mix V) (from later : NodeArena V) (i n : ℕ) (r : Plan V)
-      → news q i ≤ 1 → OpenAt i q r → TakesRow from later r → Emptied old w q from
+      → news q i ≤ 1 → OpenAt i q r → TakesSiblings from later r → Emptied old w q from
       → Emptied old w (step i n q) later
   emptied_next old w q from later i n r once due takes e =
       let moves = step-moves i n q r once due in
@@ -270,7 +273,7 @@ module _ {V : Type 0} where
         sized = omega (arith, e.sized, moves.waits);
       }
 
-  -- at first nothing below the top row was moved
+  -- at first nothing below the top siblings was moved
   pub filling_start : (w : Plan V) (s : NodeArena V) (to : List (Node V))
       → IsLaid s.nodes.items to w → Filling s w s unmarked to
   unfolding laying_start
@@ -280,9 +283,9 @@ module _ {V : Type 0} where
   pub filling_next : (old : NodeArena V) (w : Plan V) (from later : NodeArena V)
       (marks marked : ℕ → Bool) (i : ℕ) (to final : List (Node V))
       (f : Filling old w from marks to) → i < length to → Turns marks marked i (length to)
-      → (next : NextRow w from.nodes.items i to f.laying.mix) → TakesRow from later next.row
-      → (moved : List (Node V)) → moved ≡ to ++ laid (length to) next.row → (first : Option ℕ)
-      → first ≡ head (numbered_siblings (length to) next.row) → (n : Node V) → n ≡ get_or moved i n
+      → (next : NextSiblings w from.nodes.items i to f.laying.mix) → TakesSiblings from later next.siblings
+      → (moved : List (Node V)) → moved ≡ to ++ laid (length to) next.siblings → (first : Option ℕ)
+      → first ≡ head (numbered_siblings (length to) next.siblings) → (n : Node V) → n ≡ get_or moved i n
       → final ≡ set moved i (linked n.label n.value first n.sibling)
       → Filling old w later marked final
   unfolding laying_on laying_next
@@ -292,7 +295,7 @@ module _ {V : Type 0} where
         laying = laying_next w from.nodes.items later.nodes.items marks marked i to final
             (head (numbered_siblings 0 w)) l short turns next takes.others moved comes first
             first_is n reads written;
-        emptied = emptied_next old w l.mix from later i (length to) next.row (omega (arith, l.news_once i, below_le (length to) i)) next.due takes f.emptied;
+        emptied = emptied_next old w l.mix from later i (length to) next.siblings (omega (arith, l.news_once i, below_le (length to) i)) next.due takes f.emptied;
       }
 
   -- marks at numbers past the nodes say nothing
@@ -301,7 +304,7 @@ module _ {V : Type 0} where
       → ((at : ℕ) → at < length to → later at ≡ marks at) → Laying p from later to root
   laying_same p from marks later to root l same = record {
     mix = l.mix;
-    row_is = l.row_is;
+    siblings_are = l.siblings_are;
     size_is = l.size_is;
     root_is = l.root_is;
     lies = l.lies;
@@ -320,12 +323,12 @@ module _ {V : Type 0} where
     emptied = f.emptied;
   }
 
-  -- and at the end they are sound, and what is below the row was taken
+  -- and at the end they are sound, and what is below the siblings was taken
   pub filling_done :
       (old : NodeArena V) (w : Plan V) (now : NodeArena V) (marks : ℕ → Bool)
       (to : List (Node V)) → Filling old w now marks to
       → ((at : ℕ) → at < length to → marks at ≡ true)
-      → ((q : Plan V) × IsSound to (head (numbered_siblings 0 w)) None q [] × (row q ≡ row w) × (size q ≡ size w)) × TakesBelow old now w
+      → ((q : Plan V) × IsSound to (head (numbered_siblings 0 w)) None q [] × (siblings_in q ≡ siblings_in w) × (size q ≡ size w)) × TakesBelow old now w
   filling_done old w now marks to f all =
       let l = f.laying in
       let e = f.emptied in
@@ -335,7 +338,7 @@ module _ {V : Type 0} where
             (λ at. omega (arith, e.split at, done.3 at)) (omega (arith, e.sized, done.2)) e.takes,
       )
 
-  -- a plan whose top row came to the front of new nodes, and no other node was touched
+  -- a plan whose top siblings came to the front of new nodes, and no other node was touched
   pub laid_apart : (from later : List (Node V)) (p : Plan V) (to0 to : List (Node V))
       → LaidOut from p → ((at : ℕ) → count p at ≤ 1)
       → ((at : ℕ) → times (tops p) at ≡ 0 → slice_get later at ≡ slice_get from at) → to0 ≡ []
@@ -346,17 +349,17 @@ module _ {V : Type 0} where
     once = λ at. omega (arith, count-parts p at, once at);
   }
 
-  -- so where the row was moved
-  pub laid_row : (old now : NodeArena V) (p : Plan V) (to0 to : List (Node V))
-      → LaidOut old.nodes.items p → ((at : ℕ) → count p at ≤ 1) → TakesRow old now p → to0 ≡ []
+  -- so where the siblings were moved
+  pub laid_siblings : (old now : NodeArena V) (p : Plan V) (to0 to : List (Node V))
+      → LaidOut old.nodes.items p → ((at : ℕ) → count p at ≤ 1) → TakesSiblings old now p → to0 ≡ []
       → to ≡ to0 ++ laid (length to0) p → IsLaid now.nodes.items to p
-  laid_row old now p to0 to stands once takes none moved = laid_apart old.nodes.items now.nodes.items p to0 to stands once takes.others none moved
+  laid_siblings old now p to0 to stands once takes none moved = laid_apart old.nodes.items now.nodes.items p to0 to stands once takes.others none moved
 
-  -- the plan that is read, as a row to move
+  -- the plan that is read, as siblings to move
   pub record Readable (nodes : List (Node V)) (root : Option ℕ) (p : Plan V) : Type 0 where
     pub stands : LaidOut nodes p
     pub once : (at : ℕ) → count p at ≤ 1
-    pub top : IsTopRow nodes root p
+    pub top : AreTopSiblings nodes root p
     pub fits : size p ≤ length nodes
     pub room : length (tops p) ≤ length nodes
 
@@ -368,12 +371,12 @@ module _ {V : Type 0} where
       rw (plan_is nodes root p sound.plan_ok) (record {
         stands = sound.plan_ok.stands;
         once = once;
-        top = top_row nodes root p sound.plan_ok.stands sound.plan_ok.at_is once;
+        top = top_siblings nodes root p sound.plan_ok.stands sound.plan_ok.at_is once;
         fits = sound.plan_ok.fits;
         room = omega (arith, sound.plan_ok.fits, (tops_within p).0);
       })
 
-  -- the row that is read is that of the sound plan
-  pub same_row : (to : List (Node V)) (root free : Option ℕ) (q p : Plan V) (spare : List ℕ)
-      → IsSound to root free q spare → row q ≡ row p → row (plan_at to root) ≡ row p
-  same_row to root free q p spare sound e = ap (λ (x : Plan V). row x) (plan_is to root q sound.plan_ok) ∙ e
+  -- the siblings that are read are those of the sound plan
+  pub same_siblings : (to : List (Node V)) (root free : Option ℕ) (q p : Plan V) (spare : List ℕ)
+      → IsSound to root free q spare → siblings_in q ≡ siblings_in p → siblings_in (plan_at to root) ≡ siblings_in p
+  same_siblings to root free q p spare sound e = ap (λ (x : Plan V). siblings_in x) (plan_is to root q sound.plan_ok) ∙ e

@@ -11,7 +11,7 @@ use Rattle.patricia_nodes.specs.declared.arena.Node.{Node}
 use Rattle.patricia_nodes.specs.Internal.Plans.{Plan, Nil, Cell, head, size, count, times, first}
 use Rattle.patricia_nodes.specs.Internal.Plans.{LaidOut, IsChain, IsSound, linked}
 use Rattle.patricia_nodes.specs.Internal.Growth.{tops}
-use Rattle.patricia_nodes.specs.Internal.Order.{Lists, IsRow, counts, sizes, HasBelow, Waits}
+use Rattle.patricia_nodes.specs.Internal.Order.{Lists, AreSiblings, counts, sizes, HasBelow, Waits}
 use Rattle.patricia_nodes.specs.Internal.Order.{ListsBelow}
 use Rattle.patricia_nodes.proofs.PlanLemmas.{node_is}
 
@@ -21,11 +21,11 @@ times-append [] ys at = omega arith
 times-append (x ∷ xs) ys at = omega (arith, times-append xs ys at)
 
 -- what waits on a level that was listed to its end
-level_waits : (now row longer : List ℕ) (i end later : ℕ) → i ≤ end → end ≡ length now
-    → longer ≡ now ++ row → later ≡ length longer
-    → drop i (take later longer) ≡ drop i (take end now) ++ row
-level_waits now row longer i end later on e is l =
-    rw (l, take-length longer, is, e, take-length now) (drop-append-le i now row (omega arith))
+level_waits : (now siblings longer : List ℕ) (i end later : ℕ) → i ≤ end → end ≡ length now
+    → longer ≡ now ++ siblings → later ≡ length longer
+    → drop i (take later longer) ≡ drop i (take end now) ++ siblings
+level_waits now siblings longer i end later on e is l =
+    rw (l, take-length longer, is, e, take-length now) (drop-append-le i now siblings (omega arith))
 
 -- what is listed behind the last that waits does not wait
 deep_waits : (now more longest : List ℕ) (i end : ℕ) → end ≤ length now → longest ≡ now ++ more
@@ -40,12 +40,12 @@ drop_next xs i id inside reads =
     rw add-one (drop-cons xs i id inside ∙ ap (λ k. k ∷ drop (suc i) xs) (sym reads))
 
 module _ {V : Type 0} where
-  -- the plans below the nodes of the top row
+  -- the plans below the nodes of the top siblings
   abbrev pub children : Plan V → List (Plan V)
   children Nil = []
   children (Cell id l v c d) = c ∷ children d
 
-  -- a plan is its top row and what is below each of its nodes
+  -- a plan is its top siblings and what is below each of its nodes
   pub count-children : (w : Plan V) (at : ℕ) → times (tops w) at + counts (children w) at ≡ count w at
   count-children Nil at = refl
   count-children (Cell id l v c d) at = omega (arith, count-children d at)
@@ -65,23 +65,23 @@ module _ {V : Type 0} where
   sizes-append [] ds = omega arith
   sizes-append (c ∷ cs) ds = omega (arith, sizes-append cs ds)
 
-  -- the top row begins with the first node
+  -- the top siblings begin with the first node
   first-tops : (w : Plan V) → head w ≡ first (tops w)
   first-tops Nil = refl
   first-tops (Cell id l v c d) = refl
 
-  -- the nodes of the top row are linked
+  -- the nodes of the top siblings are linked
   tops_chain : (nodes : List (Node V)) (w : Plan V) → LaidOut nodes w → IsChain nodes (tops w)
   tops_chain nodes Nil s = tt
   tops_chain nodes (Cell id l v c d) s =
       ((linked l v (head c) (head d), s.0, first-tops d), tops_chain nodes d s.2)
 
-  -- a plan that is laid out is a row
-  pub tops_row : (nodes : List (Node V)) (at : Option ℕ) (w : Plan V) → LaidOut nodes w → at ≡ head w
-      → IsRow nodes at (tops w)
-  tops_row nodes at w s e = record { chain = tops_chain nodes w s; at_is = e ∙ first-tops w }
+  -- a plan that is laid out begins with siblings
+  pub tops_siblings : (nodes : List (Node V)) (at : Option ℕ) (w : Plan V) → LaidOut nodes w → at ≡ head w
+      → AreSiblings nodes at (tops w)
+  tops_siblings nodes at w s e = record { chain = tops_chain nodes w s; at_is = e ∙ first-tops w }
 
-  -- each node of its top row has a plan below it
+  -- each of its top siblings has a plan below it
   pub children_wait : (nodes : List (Node V)) (w : Plan V) → LaidOut nodes w
       → Waits nodes (tops w) (children w)
   children_wait nodes Nil s = tt
@@ -98,27 +98,27 @@ module _ {V : Type 0} where
   waits-append nodes (id ∷ ids) more [] ds w z = absurd w
   waits-append nodes (id ∷ ids) more (c ∷ cs) ds w z = (w.0, waits-append nodes ids more cs ds w.1 z)
 
-  -- the part of a row that is not listed yet
-  pub record RowLeft (nodes : List (Node V)) (at : Option ℕ) (ids before now : List ℕ) : Type 0 where
+  -- the siblings that are not listed yet
+  pub record SiblingsLeft (nodes : List (Node V)) (at : Option ℕ) (ids before now : List ℕ) : Type 0 where
     pub rest : List ℕ
-    pub row : IsRow nodes at rest
+    pub siblings : AreSiblings nodes at rest
     pub order_is : now ++ rest ≡ before ++ ids
 
-  -- at first it is the whole row
-  pub row_start : (nodes : List (Node V)) (at : Option ℕ) (ids before : List ℕ) → IsRow nodes at ids
-      → RowLeft nodes at ids before before
-  row_start nodes at ids before r = record { rest = ids; row = r; order_is = refl }
+  -- at first they are all
+  pub siblings_start : (nodes : List (Node V)) (at : Option ℕ) (ids before : List ℕ) → AreSiblings nodes at ids
+      → SiblingsLeft nodes at ids before before
+  siblings_start nodes at ids before r = record { rest = ids; siblings = r; order_is = refl }
 
-  -- the first node of a row, and the row behind it
+  -- the first of the siblings, and those behind it
   pub record Opens (nodes : List (Node V)) (id : ℕ) (ids : List ℕ) : Type 0 where
     pub rest : List ℕ
     pub ids_are : ids ≡ id ∷ rest
     pub node : Node V
     pub there : slice_get nodes id ≡ Some node
-    pub row : IsRow nodes node.sibling rest
+    pub siblings : AreSiblings nodes node.sibling rest
 
-  -- a row with a first node opens
-  opens : (nodes : List (Node V)) (id : ℕ) (ids : List ℕ) → IsRow nodes (Some id) ids
+  -- siblings with a first node open
+  opens : (nodes : List (Node V)) (id : ℕ) (ids : List ℕ) → AreSiblings nodes (Some id) ids
       → Opens nodes id ids
   opens nodes id [] r = let e = r.at_is in absurd (cc)
   opens nodes id (i ∷ ids) r =
@@ -128,19 +128,19 @@ module _ {V : Type 0} where
         ids_are = refl;
         node = r.chain.0.0;
         there = r.chain.0.1;
-        row = record { chain = r.chain.1; at_is = r.chain.0.2 };
+        siblings = record { chain = r.chain.1; at_is = r.chain.0.2 };
       })
 
   module _ (nodes : List (Node V)) (id : ℕ) (ids before now : List ℕ)
-      (left : RowLeft nodes (Some id) ids before now) where
+      (left : SiblingsLeft nodes (Some id) ids before now) where
     -- its number is that of a node
-    pub row_within : id < length nodes
-    row_within = let o = opens nodes id left.rest left.row in slice_get_within nodes id o.node o.there
+    pub siblings_within : id < length nodes
+    siblings_within = let o = opens nodes id left.rest left.siblings in slice_get_within nodes id o.node o.there
 
-    -- there is room for it where there is room for the row
-    pub row_room : (capacity : ℕ) → length before + length ids ≤ capacity → length now < capacity
-    row_room capacity room =
-        let o = opens nodes id left.rest left.row in
+    -- there is room for it where there is room for the siblings
+    pub siblings_room : (capacity : ℕ) → length before + length ids ≤ capacity → length now < capacity
+    siblings_room capacity room =
+        let o = opens nodes id left.rest left.siblings in
         omega (
           arith,
           ap length left.order_is,
@@ -151,22 +151,22 @@ module _ {V : Type 0} where
         )
 
     -- once it is listed, the next is left
-    pub row_next : (later : List ℕ) (code : ℕ) → code ≡ id → later ≡ now ++ code ∷ []
+    pub siblings_next : (later : List ℕ) (code : ℕ) → code ≡ id → later ≡ now ++ code ∷ []
         → (next : Option ℕ) → ((n : Node V) → n ≡ get_or nodes id n → next ≡ n.sibling)
-        → RowLeft nodes next ids before later
-    row_next later code same pushed next reads =
-        let o = opens nodes id left.rest left.row in
+        → SiblingsLeft nodes next ids before later
+    siblings_next later code same pushed next reads =
+        let o = opens nodes id left.rest left.siblings in
         let is = reads o.node (sym (get_or_from_slice_get nodes id o.node o.node o.there)) in
         record {
           rest = o.rest;
-          row = record { chain = o.row.chain; at_is = is ∙ o.row.at_is };
+          siblings = record { chain = o.siblings.chain; at_is = is ∙ o.siblings.at_is };
           order_is = rw (pushed, same) (append_assoc now (id ∷ []) o.rest ∙ rw (← o.ids_are) left.order_is);
         }
 
-  -- at the end the row is listed
-  pub row_done : (nodes : List (Node V)) (ids before now : List ℕ) → RowLeft nodes None ids before now
+  -- at the end the siblings are listed
+  pub siblings_done : (nodes : List (Node V)) (ids before now : List ℕ) → SiblingsLeft nodes None ids before now
       → now ≡ before ++ ids
-  row_done nodes ids before now left = by left.rest left.row.at_is left.order_is
+  siblings_done nodes ids before now left = by left.rest left.siblings.at_is left.order_is
     where
       by : (rest : List ℕ) → None ≡ first rest → now ++ rest ≡ before ++ ids → now ≡ before ++ ids
       by [] e is = sym (append-nil now) ∙ is
@@ -262,17 +262,17 @@ module _ {V : Type 0} where
     pub next_within : id < length nodes
     next_within = slice_get_within nodes id next.below.holder next.below.there
 
-    -- its children are a row
-    pub next_row : (n : Node V) → n ≡ get_or nodes id n → IsRow nodes n.child (tops next.child)
-    next_row n reads =
-        tops_row nodes n.child next.child next.below.stands
+    -- its children are siblings
+    pub next_siblings : (n : Node V) → n ≡ get_or nodes id n → AreSiblings nodes n.child (tops next.child)
+    next_siblings n reads =
+        tops_siblings nodes n.child next.child next.below.stands
         (ap (λ (m : Node V). m.child) (node_is nodes id n next.below.holder next.below.there reads)
         ∙ next.below.child_is)
 
     -- behind the others its children wait for what is below them
-    pub row_waits : (longer : List ℕ) (start : ℕ) → longer ≡ now ++ tops next.child
+    pub siblings_wait : (longer : List ℕ) (start : ℕ) → longer ≡ now ++ tops next.child
         → start ≡ length now → Waits nodes (drop start longer) (children next.child)
-    row_waits longer start is e =
+    siblings_wait longer start is e =
         rw (is, e, drop-append_seam now (tops next.child)) (children_wait nodes next.child next.below.stands)
 
     -- there is room for all that is below it where there is room for the plans
@@ -372,19 +372,19 @@ module _ {V : Type 0} where
 
   module _ (nodes : List (Node V)) (root free : Option ℕ) (plan : Plan V) (spare : List ℕ)
       (sound : IsSound nodes root free plan spare) where
-    -- the nodes from the root on are the top row
-    pub root_row : IsRow nodes root (tops plan)
-    root_row = tops_row nodes root plan sound.plan_ok.stands sound.plan_ok.at_is
+    -- the nodes from the root on are the top siblings
+    pub root_siblings : AreSiblings nodes root (tops plan)
+    root_siblings = tops_siblings nodes root plan sound.plan_ok.stands sound.plan_ok.at_is
 
     -- those from the first free one on are the free ones
-    pub free_row : IsRow nodes free spare
-    free_row = record { chain = sound.chain; at_is = sound.free_is }
+    pub free_siblings : AreSiblings nodes free spare
+    free_siblings = record { chain = sound.chain; at_is = sound.free_is }
 
-    -- the top row waits for what is below it
+    -- the top siblings wait for what is below them
     pub root_waits : (order : List ℕ) → order ≡ tops plan → Waits nodes order (children plan)
     root_waits order is = rw is (children_wait nodes plan sound.plan_ok.stands)
 
-  -- the top row, what is below it, and the free nodes are all
+  -- the top siblings, what is below them, and the free nodes are all
   pub lists_all : (plan : Plan V) (spare top all order : List ℕ) (used : ℕ) → top ≡ tops plan
       → (below : ListsBelow (children plan) top all) → used ≡ length all → order ≡ all ++ spare
       → Lists plan spare order used

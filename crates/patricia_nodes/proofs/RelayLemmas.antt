@@ -8,9 +8,11 @@ use Rattle.std.proofs.lemmas.Bool.Decides.{nat_tests}
 use Rattle.std.proofs.lemmas.Option.{slice_get_within}
 use Rattle.patricia_model.specs.Siblings.{node}
 use Rattle.patricia_nodes.specs.declared.arena.Node.{Node}
-use Rattle.patricia_nodes.specs.Internal.Plans.{Plan, Nil, Cell, linked, head, row, size, count}
+use Rattle.patricia_nodes.specs.Internal.Plans.{Plan, Nil, Cell, linked, head, siblings_in, size}
+use Rattle.patricia_nodes.specs.Internal.Plans.{count}
 use Rattle.patricia_nodes.specs.Internal.Plans.{one, below, times, LaidOut}
-use Rattle.patricia_nodes.specs.Internal.Growth.{tops, numbered_siblings, laid, RowStands, IsTopRow}
+use Rattle.patricia_nodes.specs.Internal.Growth.{tops, numbered_siblings, laid, SiblingsStand}
+use Rattle.patricia_nodes.specs.Internal.Growth.{AreTopSiblings}
 use Rattle.patricia_nodes.specs.Internal.Growth.{count_below, size_below, BelowStands}
 use Rattle.patricia_nodes.specs.Internal.Relocation.{Mix, Empty, Done, Open, flat, first_of, Lies}
 use Rattle.patricia_nodes.specs.Internal.Relocation.{AreMoved, news, olds, waits}
@@ -56,7 +58,7 @@ module _ {V : Type 0} where
   flat_first (Done id l v c d) = refl
   flat_first (Open id l v c d) = refl
 
-  -- a row that has just come, with numbers from n on
+  -- siblings that have just come, with numbers from n on
   abbrev pub opened : ℕ → Plan V → Mix V
   opened n Nil = Empty
   opened n (Cell id l v c d) = Open n l v c (opened (suc n) d)
@@ -73,12 +75,12 @@ module _ {V : Type 0} where
   OpenAt i (Done id l v c d) w = OpenAt i c w ⊎ OpenAt i d w
   OpenAt i (Open id l v c d) w = ((id ≡ i) × (c ≡ w)) ⊎ OpenAt i d w
 
-  -- a row that comes keeps its entries and its size
-  pub row-opened : (n : ℕ) (w : Plan V) → row (flat (opened n w)) ≡ row w
-  row-opened n Nil = refl
-  row-opened n (Cell id l v c d) = ap (node l v (row c)) (row-opened (suc n) d)
+  -- siblings that come keep their entries and their number
+  pub siblings-opened : (n : ℕ) (w : Plan V) → siblings_in (flat (opened n w)) ≡ siblings_in w
+  siblings-opened n Nil = refl
+  siblings-opened n (Cell id l v c d) = ap (node l v (siblings_in c)) (siblings-opened (suc n) d)
 
-  -- a row that was moved has as many nodes as before
+  -- siblings that were moved are as many as before
   pub size-opened : (n : ℕ) (w : Plan V) → size (flat (opened n w)) ≡ size w
   size-opened n Nil = refl
   size-opened n (Cell id l v c d) = omega (arith, size-opened (suc n) d)
@@ -119,7 +121,7 @@ module _ {V : Type 0} where
       let same : suc n + length (tops d) ≡ n + suc (length (tops d)) = omega arith in
       ap (λ k. one n at + news (opened (suc n) d) at + k) refl ∙ omega (arith, rest, more, ap (λ k. below k at) same)
 
-  -- a row that comes waits where none of its numbers is marked
+  -- siblings that come wait where none of their numbers is marked
   pub moved-opened : (marks : ℕ → Bool) (n : ℕ) (w : Plan V)
       → ((at : ℕ) → n ≤ at → marks at ≡ false) → AreMoved marks (opened n w)
   moved-opened marks n Nil h = tt
@@ -139,16 +141,16 @@ module _ {V : Type 0} where
     moved-same marks later d (λ at n. k at (λ e. n (omega arith))) m.1,
   )
 
-  -- a step keeps the row, its size and its first number
-  pub row-step : (i n : ℕ) (q : Mix V) → row (flat (step i n q)) ≡ row (flat q)
-  row-step i n Empty = refl
-  row-step i n (Done id l v c d) = rw (row-step i n c, row-step i n d) refl
-  row-step i n (Open id l v c d) = elim (nat_eq id i) as
-      (λ b. row
+  -- a step keeps the siblings, their number and the number of the first
+  pub siblings-step : (i n : ℕ) (q : Mix V) → siblings_in (flat (step i n q)) ≡ siblings_in (flat q)
+  siblings-step i n Empty = refl
+  siblings-step i n (Done id l v c d) = rw (siblings-step i n c, siblings-step i n d) refl
+  siblings-step i n (Open id l v c d) = elim (nat_eq id i) as
+      (λ b. siblings_in
       (flat (if b then Done id l v (opened n c) (step i n d) else Open id l v c (step i n d))) ≡
-      node l v (row c) (row (flat d))) [
-        | true ↦ rw (row-opened n c, row-step i n d) refl
-        | false ↦ rw (row-step i n d) refl
+      node l v (siblings_in c) (siblings_in (flat d))) [
+        | true ↦ rw (siblings-opened n c, siblings-step i n d) refl
+        | false ↦ rw (siblings-step i n d) refl
       ]
 
   -- a step keeps the number of nodes
@@ -186,7 +188,7 @@ module _ {V : Type 0} where
   some_at i (Open id l v c d) w (inl here) = omega (arith, one-same i, ap (λ k. one k i) here.0)
   some_at i (Open id l v c d) w (inr due) = omega (arith, some_at i d w due)
 
-  -- where it is once, its children's top row leaves the old part and comes to the new one
+  -- where it is once, its children leave the old part and come to the new one
   abbrev Moved : ℕ → ℕ → Mix V → Plan V → Type 0
   Moved i n q w = record {
     left : (at : ℕ) → olds (step i n q) at + times (tops w) at ≡ olds q at;
@@ -195,7 +197,7 @@ module _ {V : Type 0} where
         → news (step i n q) at + below n at ≡ news q at + below (n + length (tops w)) at;
   }
 
-  -- a step moves the row below one node
+  -- a step moves the siblings below one node
   pub step-moves : (i n : ℕ) (q : Mix V) (w : Plan V) → news q i ≤ 1 → OpenAt i q w → Moved i n q w
   step-moves i n Empty w once due = absurd due
   step-moves i n (Done id l v c d) w once (inl due) =
@@ -256,25 +258,25 @@ module _ {V : Type 0} where
   open_within i (Open id l v c d) w (inl here) = rw (← here.1) (omega arith, λ at. omega arith)
   open_within i (Open id l v c d) w (inr due) = let h = open_within i d w due in (omega (arith, h.0), λ at. omega (arith, h.1 at))
 
-  -- the top row is part of the plan
+  -- the top siblings are part of the plan
   pub tops_within : (w : Plan V)
       → (length (tops w) ≤ size w) × ((at : ℕ) → times (tops w) at ≤ count w at)
   tops_within Nil = (omega arith, λ at. omega arith)
   tops_within (Cell id l v c d) = let h = tops_within d in (omega (arith, h.0), λ at. omega (arith, h.1 at))
 
-  -- a plan is its top row and what is below
+  -- a plan is its top siblings and what is below
   pub count-parts : (w : Plan V) (at : ℕ) → count_below w at + times (tops w) at ≡ count w at
   count-parts w at = omega (arith, olds-opened 0 w at, olds-below 0 w at)
 
-  -- where a plan lies in the nodes, so does its top row
-  rows_stand : (nodes : List (Node V)) (w : Plan V) → LaidOut nodes w → RowStands nodes w
-  rows_stand nodes Nil s = tt
-  rows_stand nodes (Cell id l v c d) s = (s.0, rows_stand nodes d s.2)
+  -- where a plan lies in the nodes, so do its top siblings
+  siblings_stand : (nodes : List (Node V)) (w : Plan V) → LaidOut nodes w → SiblingsStand nodes w
+  siblings_stand nodes Nil s = tt
+  siblings_stand nodes (Cell id l v c d) s = (s.0, siblings_stand nodes d s.2)
 
-  -- what stands once is a row to move
-  pub top_row : (nodes : List (Node V)) (at : Option ℕ) (w : Plan V) → LaidOut nodes w → at ≡ head w
-      → ((i : ℕ) → count w i ≤ 1) → IsTopRow nodes at w
-  top_row nodes at w s e once = record { stands = rows_stand nodes w s; at_is = e; once = λ i. omega (arith, once i, (tops_within w).1 i) }
+  -- what stands once is siblings to move
+  pub top_siblings : (nodes : List (Node V)) (at : Option ℕ) (w : Plan V) → LaidOut nodes w → at ≡ head w
+      → ((i : ℕ) → count w i ≤ 1) → AreTopSiblings nodes at w
+  top_siblings nodes at w s e once = record { stands = siblings_stand nodes w s; at_is = e; once = λ i. omega (arith, once i, (tops_within w).1 i) }
 
   -- then node i has its children in the new vector, too, and those that came wait
   pub moved-step : (marks later : ℕ → Bool) (i n : ℕ) (q : Mix V) → AreMoved marks q
@@ -312,7 +314,7 @@ module _ {V : Type 0} where
     lies-keep from later to final d (λ at n. k at (λ e. n (omega arith))) (λ at n. o at (λ e. n (omega arith))) s.2,
   )
 
-  -- a row is laid as that many nodes
+  -- siblings are laid as that many nodes
   pub length-laid : (n : ℕ) (w : Plan V) → length (laid n w) ≡ length (tops w)
   length-laid n Nil = refl
   length-laid n (Cell id l v c d) = omega (arith, length-laid (suc n) d)
@@ -322,7 +324,7 @@ module _ {V : Type 0} where
   get-behind [] ys y = refl
   get-behind (x ∷ xs) ys y = get-behind xs ys y
 
-  -- where nodes below a row that stands are not touched, they still stand
+  -- where nodes below siblings that stand are not touched, they still stand
   pub below-keep : (from later : List (Node V)) (w : Plan V)
       → ((at : ℕ) → count_below w at ≢ 0 → slice_get later at ≡ slice_get from at) → LaidOut from w
       → BelowStands later w
@@ -332,7 +334,7 @@ module _ {V : Type 0} where
     below-keep from later d (λ at n. k at (λ e. n (omega arith))) s.2,
   )
 
-  -- a row that has just come lies behind the others
+  -- siblings that have just come lie behind the others
   pub lies-opened : (from to final : List (Node V)) (w : Plan V) → BelowStands from w
       → ((at : ℕ) → length to ≤ at → slice_get final at ≡ slice_get (to ++ laid (length to) w) at)
       → Lies from final (opened (length to) w)

@@ -8,7 +8,7 @@ use Rattle.std.proofs.lemmas.Bool.{cases_eq, cases_lt}
 use Rattle.std.proofs.lemmas.Bool.Decides.{nat_tests}
 use Rattle.std.proofs.lemmas.Option.{slice_get_within, slice_get-get_or, get_or_from_slice_get}
 use Rattle.patricia_nodes.specs.declared.arena.Node.{Node}
-use Rattle.patricia_nodes.specs.Internal.Plans.{Plan, Nil, Cell, linked, head, row, size, count, one, times, below}
+use Rattle.patricia_nodes.specs.Internal.Plans.{Plan, Nil, Cell, linked, head, siblings_in, size, count, one, times, below}
 use Rattle.patricia_nodes.specs.Internal.Plans.{first, LaidOut, IsChain, IsSound}
 use Rattle.patricia_nodes.specs.Internal.Permutations.{IsOrder, AreInverse, Gathers}
 use Rattle.patricia_nodes.specs.Internal.Renumbering.{place_of, moved, renumbered, Renumbers, Rearranges}
@@ -76,10 +76,10 @@ module _ {V : Type 0} where
   head-renamed places Nil = refl
   head-renamed places (Cell id l v c d) = refl
 
-  -- its row is the same
-  pub row-renamed : (places : List ℕ) (q : Plan V) → row (renamed places q) ≡ row q
-  row-renamed places Nil = refl
-  row-renamed places (Cell id l v c d) = rw (row-renamed places c, row-renamed places d) refl
+  -- its siblings are the same
+  pub siblings-renamed : (places : List ℕ) (q : Plan V) → siblings_in (renamed places q) ≡ siblings_in q
+  siblings-renamed places Nil = refl
+  siblings-renamed places (Cell id l v c d) = rw (siblings-renamed places c, siblings-renamed places d) refl
 
   -- and its size
   pub size-renamed : (places : List ℕ) (q : Plan V) → size (renamed places q) ≡ size q

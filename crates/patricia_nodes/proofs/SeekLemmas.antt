@@ -15,7 +15,7 @@ use Rattle.patricia_keys.specs.Keys.{IsKeyKind, key_cmp}
 use Rattle.patricia_model.specs.Siblings.{end, node, entries, IsBefore, IsCanonical}
 use Rattle.patricia_model.specs.Internal.LabelCmp.{Passes}
 use Rattle.patricia_model.specs.Internal.Counts.{IsCounted}
-use Rattle.patricia_nodes.specs.Internal.Plans.{Plan, Nil, Cell, head, row, size, IsPlan}
+use Rattle.patricia_nodes.specs.Internal.Plans.{Plan, Nil, Cell, head, siblings_in, size, IsPlan}
 use Rattle.patricia_nodes.specs.Internal.Plans.{IsWellFormed, plan_at, siblings_of}
 use Rattle.patricia_nodes.specs.Internal.Places.{Frame, InChild, InSibling, fill, above_of}
 use Rattle.patricia_nodes.specs.Internal.Places.{link_ref_of, node_above, node_of, Leads, Matches}
@@ -24,7 +24,7 @@ use Rattle.patricia_nodes.specs.Internal.Trails.{AreAbove, PlacedBehind}
 use Rattle.patricia_nodes.specs.Internal.Writes.{Ready}
 use Rattle.patricia_nodes.proofs.TrailLemmas.{above_deeper}
 use Rattle.patricia_nodes.proofs.PlanLemmas.{plan_is, plan_read, node_is}
-use Rattle.patricia_nodes.proofs.FillLemmas.{plan_within, row-within, find-fill, counted-fill}
+use Rattle.patricia_nodes.proofs.FillLemmas.{plan_within, siblings-within, find-fill, counted-fill}
 use Rattle.patricia_model.proofs.GetLemmas.{find_before, find_within, find_here}
 use Rattle.patricia_model.proofs.CountLemmas.{counted_end, counted_before, counted_within}
 use Rattle.patricia_model.proofs.CountLemmas.{counted_here}
@@ -110,7 +110,7 @@ module _ {V : Type 0} where
       → IsPlan s.nodes.items s.root (plan_at s.nodes.items s.root)
   whole_plan s w = plan_read s.nodes.items s.root s.free w.0 w.1.0 w.1.1
 
--- the node above a spot is that above the place
+-- the node above a link is that above the place
 pub node_above-link_ref_of : {V : Type 0} (fs : List (Frame V))
     → node_above (link_ref_of fs) ≡ above_of fs
 node_above-link_ref_of [] = refl
@@ -119,24 +119,24 @@ node_above-link_ref_of (InSibling id l v c ∷ fs) = refl
 
 module _ (item : List ℕ → Type 0) (kind : IsKeyKind item) {V : Type 0} where
   -- where a look-up ends at no node, nothing is found in the place
-  found_stop : (focus : Plan V) → IsCanonical item (row focus) → (rest : List ℕ) (matched : Match)
+  found_stop : (focus : Plan V) → IsCanonical item (siblings_in focus) → (rest : List ℕ) (matched : Match)
       → Matches item focus rest matched → node_of matched ≡ None
-      → find key_cmp rest (entries (row focus)) ≡ None
+      → find key_cmp rest (entries (siblings_in focus)) ≡ None
   found_stop Nil ok rest matched h none = refl
-  found_stop (Cell id l v c d) ok rest Absent h none = find_before item kind l v (row c) (row d) ok rest h
-  found_stop (Cell id l v c d) ok rest (InsideLabel i n) h none = find_within item kind l v (row c) (row d) ok rest n h.1
+  found_stop (Cell id l v c d) ok rest Absent h none = find_before item kind l v (siblings_in c) (siblings_in d) ok rest h
+  found_stop (Cell id l v c d) ok rest (InsideLabel i n) h none = find_within item kind l v (siblings_in c) (siblings_in d) ok rest n h.1
   found_stop (Cell id l v c d) ok rest (Exact i) h none = absurd (cc)
 
   -- and a step is counted for the node at the place, if there is one
-  counted_stop : (focus : Plan V) → IsCanonical item (row focus) → (rest : List ℕ) → rest ≢ []
+  counted_stop : (focus : Plan V) → IsCanonical item (siblings_in focus) → (rest : List ℕ) → rest ≢ []
       → (matched : Match) → Matches item focus rest matched → (n m : ℕ) → m ≡ n + ticks focus
-      → IsCounted item (row focus) rest n m
+      → IsCounted item (siblings_in focus) rest n m
   counted_stop Nil ok rest some matched h n m e =
       let same : n ≡ m = omega arith in
       subst (λ k. IsCounted {V = V} item end rest n k) same (counted_end item kind rest n some)
-  counted_stop (Cell id l v c d) ok rest some Absent h n m e = counted_before item kind l v (row c) (row d) ok rest some n m e h
-  counted_stop (Cell id l v c d) ok rest some (InsideLabel i k) h n m e = counted_within item kind l v (row c) (row d) ok rest some n m e k h.1
-  counted_stop (Cell id l v c d) ok rest some (Exact i) h n m e = counted_here item kind l v (row c) (row d) ok rest some n m e [] h.1 refl
+  counted_stop (Cell id l v c d) ok rest some Absent h n m e = counted_before item kind l v (siblings_in c) (siblings_in d) ok rest some n m e h
+  counted_stop (Cell id l v c d) ok rest some (InsideLabel i k) h n m e = counted_within item kind l v (siblings_in c) (siblings_in d) ok rest some n m e k h.1
+  counted_stop (Cell id l v c d) ok rest some (Exact i) h n m e = counted_here item kind l v (siblings_in c) (siblings_in d) ok rest some n m e [] h.1 refl
 
 module _ {item : List ℕ → Type 0} (kind : IsKeyKind item) {V : Type 0} {s : NodeArena V}
     {key : List ℕ} (whole : IsWellFormed s) (ok : IsCanonical item (siblings_of s)) where
@@ -159,13 +159,13 @@ module _ {item : List ℕ → Type 0} (kind : IsKeyKind item) {V : Type 0} {s : 
     focus_plan : IsPlan s.nodes.items at w.focus
     focus_plan = plan_within s.nodes.items s.root at w.frames w.focus (rw w.fills (whole_plan s whole)) w.at_is
 
-    -- the whole row, with the place filled, keeps the invariant
-    filled_row : IsCanonical item (row (fill w.frames w.focus))
-    filled_row = rw w.fills ok
+    -- the top siblings, with the place filled, keep the invariant
+    filled_siblings : IsCanonical item (siblings_in (fill w.frames w.focus))
+    filled_siblings = rw w.fills ok
 
-    -- the row in the place keeps the invariant
-    focus_row : IsCanonical item (row w.focus)
-    focus_row = row-within item w.frames w.focus filled_row
+    -- the siblings in the place keep the invariant
+    focus_siblings : IsCanonical item (siblings_in w.focus)
+    focus_siblings = siblings-within item w.frames w.focus filled_siblings
 
     -- where the look-up ends so, the walk has reached the place of the key
     placed : (matched : Match) → Matches item w.focus rest matched
@@ -202,11 +202,11 @@ module _ {item : List ℕ → Type 0} (kind : IsKeyKind item) {V : Type 0} {s : 
     counted : (matched : Match) → Matches item w.focus rest matched → (m : ℕ)
         → m ≡ now + ticks w.focus → IsCounted item (siblings_of s) key start m
     counted matched h m e =
-        subst (λ (p : Plan V). IsCounted item (row p) key start m) w.fills
-        (counted-fill item kind w.frames w.focus filled_row key rest w.leads w.rest_nonempty start m
-        (counted_stop item kind w.focus focus_row rest w.rest_nonempty matched h (start + length w.frames) m (e ∙ ap (λ k. k + ticks w.focus) w.ticked)))
+        subst (λ (p : Plan V). IsCounted item (siblings_in p) key start m) w.fills
+        (counted-fill item kind w.frames w.focus filled_siblings key rest w.leads w.rest_nonempty start m
+        (counted_stop item kind w.focus focus_siblings rest w.rest_nonempty matched h (start + length w.frames) m (e ∙ ap (λ k. k + ticks w.focus) w.ticked)))
 
-    -- where there is no number, no node is left in the row
+    -- where there is no number, no node is left in the siblings
     nothing : (p : Plan V) → IsPlan s.nodes.items at p → at ≡ None → p ≡ Nil
     nothing Nil q e = refl
     nothing (Cell id l v c d) q e = let h = q.at_is in absurd (cc)
@@ -233,10 +233,10 @@ module _ {item : List ℕ → Type 0} (kind : IsKeyKind item) {V : Type 0} {s : 
         pub opens : Opened s.nodes.items w.focus id n
         opens = opened s.nodes.items at w.focus id n focus_plan is reads
 
-        -- the node is that of a row
-        pub opens_row :
-            IsCanonical item (node n.label n.value (row opens.child) (row opens.sibling))
-        opens_row = subst (λ (p : Plan V). IsCanonical item (row p)) opens.is focus_row
+        -- the node is the first of siblings
+        pub opens_siblings :
+            IsCanonical item (node n.label n.value (siblings_in opens.child) (siblings_in opens.sibling))
+        opens_siblings = subst (λ (p : Plan V). IsCanonical item (siblings_in p)) opens.is focus_siblings
 
         -- where the look-up ends at the node, the key has its place there
         pub stops_placed : (matched : Match) → MatchesAt item id n.label rest matched
@@ -248,7 +248,7 @@ module _ {item : List ℕ → Type 0} (kind : IsKeyKind item) {V : Type 0} {s : 
             → PlacedBehind item s key link_ref at rest matched trail
         stops_behind matched h = placed_behind matched (rw opens.is h)
 
-        -- its steps are those that the row allows
+        -- its steps are those that the siblings allow
         pub stops_counted : (matched : Match) → MatchesAt item id n.label rest matched → (m : ℕ)
             → m ≡ now + 1 → IsCounted item (siblings_of s) key start m
         stops_counted matched h m e = counted matched (rw opens.is h) m (rw opens.is e)
@@ -321,32 +321,32 @@ module _ {item : List ℕ → Type 0} {V : Type 0} {s : NodeArena V} {key : List
   pub place_plan : IsPlan s.nodes.items s.root (fill p.frames p.focus)
   place_plan = rw p.fills (whole_plan s whole)
 
-  -- their rows keep the invariant
-  pub place_row : IsCanonical item (row (fill p.frames p.focus))
-  place_row = rw p.fills ok
+  -- their siblings keep the invariant
+  pub place_siblings : IsCanonical item (siblings_in (fill p.frames p.focus))
+  place_siblings = rw p.fills ok
 
   -- what is in the place is read from its link
   pub focus_plan_at : IsPlan s.nodes.items at p.focus
   focus_plan_at = plan_within s.nodes.items s.root at p.frames p.focus place_plan p.at_is
 
-  -- what the entries of the whole row have at the key, those in the place have at the rest of it
-  found : find key_cmp key (entries (siblings_of s)) ≡ find key_cmp rest (entries (row p.focus))
-  found = ap (λ (q : Plan V). find key_cmp key (entries (row q))) (sym p.fills) ∙ find-fill item kind p.frames p.focus place_row key rest p.leads
+  -- what the entries of the top siblings have at the key, those in the place have at the rest of it
+  found : find key_cmp key (entries (siblings_of s)) ≡ find key_cmp rest (entries (siblings_in p.focus))
+  found = ap (λ (q : Plan V). find key_cmp key (entries (siblings_in q))) (sym p.fills) ∙ find-fill item kind p.frames p.focus place_siblings key rest p.leads
 
   -- nothing is found where no node is the key's
   pub find_none : node_of matched ≡ None → find key_cmp key (entries (siblings_of s)) ≡ None
-  find_none none = found ∙ found_stop item kind p.focus (row-within item p.frames p.focus place_row) rest matched p.is_match none
+  find_none none = found ∙ found_stop item kind p.focus (siblings-within item p.frames p.focus place_siblings) rest matched p.is_match none
 
   -- the value at the node is found
   pub find_some : (id : ℕ) → node_of matched ≡ Some id → (n : Node V)
       → n ≡ get_or s.nodes.items id n → find key_cmp key (entries (siblings_of s)) ≡ n.value
   find_some id e n reads =
       let o = opened s.nodes.items at p.focus id n focus_plan_at (p.at_is ∙ stop_at item rest p.focus id matched p.is_match e) reads in
-      let inner = subst (λ (q : Plan V). IsCanonical item (row q)) o.is (row-within item p.frames p.focus place_row) in
+      let inner = subst (λ (q : Plan V). IsCanonical item (siblings_in q)) o.is (siblings-within item p.frames p.focus place_siblings) in
       let is_match = subst (λ (q : Plan V). Matches item q rest matched) o.is p.is_match in
       found
-      ∙ ap (λ (q : Plan V). find key_cmp rest (entries (row q))) o.is
-      ∙ find_here item kind n.label n.value (row o.child) (row o.sibling) inner rest [] (here_passes item rest id n.label id matched is_match e) refl
+      ∙ ap (λ (q : Plan V). find key_cmp rest (entries (siblings_in q))) o.is
+      ∙ find_here item kind n.label n.value (siblings_in o.child) (siblings_in o.sibling) inner rest [] (here_passes item rest id n.label id matched is_match e) refl
 
   -- it is in the vector
   pub here_within : (id : ℕ) → node_of matched ≡ Some id → id < length s.nodes.items

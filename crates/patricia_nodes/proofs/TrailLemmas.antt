@@ -1,4 +1,4 @@
--- Trails of look-ups: nodes that a look-up has passed, for that of another key.
+-- Trails of look-ups, which are fingers: nodes that a look-up has passed, for that of another key.
 use Rattle.std.proofs.Common.{◌≡◌, ◌≢◌, ℕ, ◌+◌, ◌-◌, ◌<◌, ◌≤◌, List, [], ◌∷◌, ◌++◌, length, take, drop}
 use Rattle.std.proofs.Common.{Some, None, refl, sym, ap, subst, ◌∙◌, arith, append_assoc}
 use Rattle.std.proofs.Common.{slice_get, take-append-drop, length-drop, length-append}
@@ -13,10 +13,10 @@ use Rattle.patricia_model.specs.Siblings.{IsBefore, IsCanonical}
 use Rattle.patricia_model.specs.Internal.LabelCmp.{Passes}
 use Rattle.patricia_nodes.specs.declared.arena.NodeArena.{NodeArena}
 use Rattle.patricia_nodes.specs.declared.arena.seek.LinkRef.TheVariants.{Child}
-use Rattle.patricia_nodes.specs.Internal.Plans.{Plan, Cell, row, plan_at}
+use Rattle.patricia_nodes.specs.Internal.Plans.{Plan, Cell, siblings_in, plan_at}
 use Rattle.patricia_nodes.specs.Internal.Places.{Frame, InChild, InSibling, fill, link_ref_of, Leads}
 use Rattle.patricia_nodes.specs.Internal.Trails.{path_of, AreAbove, IsTrail, IsCutTo}
-use Rattle.patricia_nodes.proofs.FillLemmas.{passed_filled, row-within}
+use Rattle.patricia_nodes.proofs.FillLemmas.{passed_filled, siblings-within}
 
 -- the last item of a list, and the others
 pub last_split : {X : Type 0} (xs : List X) (x : X) → slice_get xs (length xs - 1) ≡ Some x
@@ -157,11 +157,11 @@ module _ (item : List ℕ → Type 0) {V : Type 0} where
       leads_to inner mid key rest some leads
 
   -- the path to a place is a valid key
-  pub path_valid : (fs : List (Frame V)) (q : Plan V) → IsCanonical item (row (fill fs q))
+  pub path_valid : (fs : List (Frame V)) (q : Plan V) → IsCanonical item (siblings_in (fill fs q))
       → IsValid item (path_of fs)
   path_valid [] q ok = IsValid-nil item
   path_valid (InChild id l v d ∷ fs) q ok =
-      IsValid-append item (path_of fs) l (path_valid fs (Cell id l v q d) ok) (row-within item fs (Cell id l v q d) ok).valid
+      IsValid-append item (path_of fs) l (path_valid fs (Cell id l v q d) ok) (siblings-within item fs (Cell id l v q d) ok).valid
   path_valid (InSibling id l v c ∷ fs) q ok = path_valid fs (Cell id l v c q) ok
 
   -- what is left of the key behind a path

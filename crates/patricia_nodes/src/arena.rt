@@ -37,7 +37,7 @@ pub struct Node<V> {
     pub value: Option<V>,
 }
 
-/// Nodes, the first of the top row, and the first of those that are free for use.
+/// Nodes, the first of the top siblings, and the first of those that are free for use.
 ///
 /// The free nodes are linked by `sibling`. The fields are for the crates below `patricia_core`
 /// alone. The calls ask for `IsWellFormed`, so whoever writes to a field has to prove that it still
@@ -55,7 +55,7 @@ impl<V: Drop> NodeArena<V> {
     /// No node. Does not allocate.
     pub fn new(alloc: Global) -> NodeArena<V>
         ensures whole { IsWellFormed result }
-        ensures row { siblings_of result ≡ end }
+        ensures siblings { siblings_of result ≡ end }
     {
         NodeArena {
             nodes: NodeVec::new(alloc),
@@ -75,7 +75,7 @@ impl<V: Drop> NodeArena<V> {
     /// Drops all nodes.
     pub fn clear(&mut self)
         ensures whole { IsWellFormed self.new }
-        ensures row { siblings_of self.new ≡ end }
+        ensures siblings { siblings_of self.new ≡ end }
         ensures none { vec_len self.new.nodes ≡ 0 }
     {
         self.nodes.clear();
@@ -102,7 +102,7 @@ impl<V: Drop> NodeArena<V> {
         self.nodes.replace(id, hollow)
     }
 
-    /// Writes a number at a spot. That the nodes are whole then is for the caller to prove.
+    /// Writes a number to a link. That the nodes are whole then is for the caller to prove.
     pub fn relink(&mut self, link_ref: LinkRef, to: Link)
         requires { LinkRefWithin link_ref (vec_len self.old.nodes) }
         ensures relinks { Relinks self.old self.new link_ref to }

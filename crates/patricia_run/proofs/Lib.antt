@@ -2,6 +2,6 @@ pub mod Cuts
 pub mod KeyTextLemmas
 pub mod MachineLemmas
 pub mod Numbers
-pub mod RowLemmas
+pub mod EntryLemmas
 pub mod TextLemmas
 pub mod Turns

@@ -20,7 +20,7 @@ as_text = record {
   print = λ key. key;
 }
 
--- a field is a key where it is hexadecimal digits of either case, four for each unit; a row has
+-- a field is a key where it is hexadecimal digits of either case, four for each unit; an entry has
 -- them in lower case
 abbrev pub as_units : KeyFormat
 as_units = record {

@@ -41,7 +41,7 @@ with_key key_of Commands.Reload = Commands.Reload
 with_key key_of Commands.Wide = Commands.Wide
 with_key key_of Commands.ReloadWide = Commands.ReloadWide
 
--- keys are made of such items, and key_of gives the bytes of a row's key
+-- keys are made of such items, and key_of gives the bytes of an entry's key
 module _ {K V : Type 0} (item : List ℕ → Type 0) (key_of : K → List ℕ) where
   -- a command may run out of memory: an insert only at a new key that is not empty, a remove only
   -- where labels join, and what lists, splits or copies entries only where there are some
@@ -72,10 +72,10 @@ module _ {K V : Type 0} (item : List ℕ → Type 0) (key_of : K → List ℕ) w
   reply_of None = Replies.None
   reply_of (Some value) = Replies.Some value
 
-  -- the reply has these rows
-  abbrev pub HasRows : List (List ℕ × V) → Reply K V → Type 0
-  HasRows entries (Replies.Rows rows) = by_bytes key_of rows.items ≡ entries
-  HasRows entries _ = ⊥
+  -- the reply has these entries
+  abbrev pub HasEntries : List (List ℕ × V) → Reply K V → Type 0
+  HasEntries entries (Replies.Rows listed) = by_bytes key_of listed.items ≡ entries
+  HasEntries entries _ = ⊥
 
   -- the reply has the encoding of the keys, its levels in width bytes, and the values in key order
   abbrev pub HasTree : ℕ → map.FinMap key_cmp V → Reply K V → Type 0
@@ -89,11 +89,11 @@ module _ {K V : Type 0} (item : List ℕ → Type 0) (key_of : K → List ℕ) w
   IsReply main (Commands.Get key) reply = reply ≡ reply_of (map.get main key)
   IsReply main (Commands.Remove key) reply = reply ≡ reply_of (map.get main key)
   IsReply main Commands.Len reply = reply ≡ Replies.Count (map.len main)
-  IsReply main Commands.List reply = HasRows (map.entries main) reply
-  IsReply main (Commands.Under prefix) reply = HasRows (under prefix (map.entries main)) reply
-  IsReply main (Commands.Along key) reply = HasRows (along key (map.entries main)) reply
+  IsReply main Commands.List reply = HasEntries (map.entries main) reply
+  IsReply main (Commands.Under prefix) reply = HasEntries (under prefix (map.entries main)) reply
+  IsReply main (Commands.Along key) reply = HasEntries (along key (map.entries main)) reply
   IsReply main (Commands.Longest key) reply =
-      reply ≡ option_map_or (λ row. Replies.Longest (length row.0) row.1)
+      reply ≡ option_map_or (λ entry. Replies.Longest (length entry.0) entry.1)
       (longest key (map.entries main)) Replies.None
   IsReply main (Commands.Reach key) reply =
       (n : ℕ) × IsReach item (map.keys main) key n × (reply ≡ Replies.Count n)

@@ -58,7 +58,7 @@ words = (codes "insert", valued (λ key value. Commands.Insert key value))
 
 -- what follows this word, if it is one of these
 abbrev pub shape_in : List (List ℕ × Shape) → List ℕ → Option Shape
-shape_in table word = option_map (λ row. row.1) (find (λ row. bytes_eq word row.0) table)
+shape_in table word = option_map (λ pair. pair.1) (find (λ pair. bytes_eq word pair.0) table)
 
 -- what follows this word
 abbrev pub shape_of : List ℕ → Option Shape

@@ -14,12 +14,12 @@ abbrev pub number_line : List ℕ → ℕ → List ℕ
 number_line text n = text ++ (32 ∷ decimal n) ++ 10 ∷ []
 
 -- the printed key, a space and the value
-abbrev pub row_line : {K : Type 0} → KeyFormat → (K → List ℕ) → K × ℕ → List ℕ
-row_line key_format key_of row = number_line (key_format.print (key_of row.0)) row.1
+abbrev pub entry_line : {K : Type 0} → KeyFormat → (K → List ℕ) → K × ℕ → List ℕ
+entry_line key_format key_of entry = number_line (key_format.print (key_of entry.0)) entry.1
 
--- a line for each row
-abbrev pub row_lines : {K : Type 0} → KeyFormat → (K → List ℕ) → List (K × ℕ) → List ℕ
-row_lines key_format key_of rows = concat (map (row_line key_format key_of) rows)
+-- a line for each entry
+abbrev pub entry_lines : {K : Type 0} → KeyFormat → (K → List ℕ) → List (K × ℕ) → List ℕ
+entry_lines key_format key_of entries = concat (map (entry_line key_format key_of) entries)
 
 -- the number by which a fault is printed
 abbrev pub fault_number : Fault → ℕ
@@ -49,8 +49,8 @@ reply_lines key_format key_of (Replies.Some n) = number_line (codes "some") n
 reply_lines key_format key_of (Replies.Longest length n) =
     number_line (codes "some" ++ 32 ∷ decimal length) n
 reply_lines key_format key_of (Replies.Count n) = number_line (codes "count") n
-reply_lines key_format key_of (Replies.Rows rows) =
-    number_line (codes "rows") (length rows.items) ++ row_lines key_format key_of rows.items
+reply_lines key_format key_of (Replies.Rows entries) =
+    number_line (codes "rows") (length entries.items) ++ entry_lines key_format key_of entries.items
 reply_lines key_format key_of Replies.Done = codes "ok\n"
 reply_lines key_format key_of (Replies.Wire bytes values) = wire_line bytes.items values.items
 reply_lines key_format key_of Replies.TooDeep = codes "too deep\n"

@@ -36,55 +36,55 @@ impl<K: Bytes, V> Model for Bench<K, V> {
     ghost view = { λ b. record { main = b.main; aside = b.aside } };
 }
 
-// The rows of a map, in key order.
-fn rows<K: Bytes, V: Copy>(
+// The entries of a map, in key order.
+fn entries_of<K: Bytes, V: Copy>(
     alloc: Global,
     entries: &GenericPatriciaMap<K, V>,
 ) -> Result<Vec<(K, V)>, AllocError>
-    ensures ok { IfOk result (λ rows. by_bytes K.key rows.items ≡ map.entries entries.now) }
+    ensures ok { IfOk result (λ listed. by_bytes K.key listed.items ≡ map.entries entries.now) }
     ensures err { OnErr result (map.entries entries.now ≢ []) }
 {
-    let mut rows = Vec::new(alloc);
+    let mut listed = Vec::new(alloc);
     for entry in entries.iter() {
         let (key, value) = entry?;
-        rows.push((key, *value))?;
+        listed.push((key, *value))?;
     }
-    Ok(rows)
+    Ok(listed)
 }
 
-// The rows whose key begins with a prefix, in key order.
-fn rows_under<Q: BorrowedBytes, V: Copy>(
+// The entries whose key begins with a prefix, in key order.
+fn entries_under<Q: BorrowedBytes, V: Copy>(
     alloc: Global,
     entries: &GenericPatriciaMap<Q::Owned, V>,
     prefix: Q,
 ) -> Result<Vec<(Q::Owned, V)>, AllocError>
-    ensures ok { IfOk result (λ rows.
-        by_bytes Q.Owned.key rows.items ≡ under (Q.key prefix) (map.entries entries.now)) }
+    ensures ok { IfOk result (λ listed.
+        by_bytes Q.Owned.key listed.items ≡ under (Q.key prefix) (map.entries entries.now)) }
     ensures err { OnErr result (under (Q.key prefix) (map.entries entries.now) ≢ []) }
 {
-    let mut rows = Vec::new(alloc);
+    let mut listed = Vec::new(alloc);
     for entry in entries.iter_prefix(prefix) {
         let (key, value) = entry?;
-        rows.push((key, *value))?;
+        listed.push((key, *value))?;
     }
-    Ok(rows)
+    Ok(listed)
 }
 
-// The rows whose key is a prefix of a key, the shortest first.
-fn rows_along<Q: BorrowedBytes, V: Copy>(
+// The common prefixes of a key, the shortest first.
+fn entries_along<Q: BorrowedBytes, V: Copy>(
     alloc: Global,
     entries: &GenericPatriciaMap<Q::Owned, V>,
     key: Q,
 ) -> Result<Vec<(Q::Owned, V)>, AllocError>
-    ensures ok { IfOk result (λ rows.
-        by_bytes Q.Owned.key rows.items ≡ along (Q.key key) (map.entries entries.now)) }
+    ensures ok { IfOk result (λ listed.
+        by_bytes Q.Owned.key listed.items ≡ along (Q.key key) (map.entries entries.now)) }
     ensures err { OnErr result (along (Q.key key) (map.entries entries.now) ≢ []) }
 {
-    let mut rows = Vec::new(alloc);
+    let mut listed = Vec::new(alloc);
     for (prefix, value) in entries.common_prefixes(key) {
-        rows.push((Bytes::from_bytes(alloc, prefix.as_bytes())?, *value))?;
+        listed.push((Bytes::from_bytes(alloc, prefix.as_bytes())?, *value))?;
     }
-    Ok(rows)
+    Ok(listed)
 }
 
 // The values of a map, in key order.
@@ -181,8 +181,8 @@ impl<K: Bytes, V: Copy> Bench<K, V> {
     fn list(&self) -> Reply<K, V>
         ensures { Step K.item K.key self.now Commands.List result self.now }
     {
-        match rows(self.alloc, &self.main) {
-            Ok(rows) => Reply::Rows(rows),
+        match entries_of(self.alloc, &self.main) {
+            Ok(listed) => Reply::Rows(listed),
             Err(_) => Reply::NoMemory,
         }
     }
@@ -191,18 +191,18 @@ impl<K: Bytes, V: Copy> Bench<K, V> {
     fn under<Q: BorrowedBytes<Owned = K>>(&self, prefix: Q) -> Reply<K, V>
         ensures { Step K.item K.key self.now (Commands.Under (Q.key prefix)) result self.now }
     {
-        match rows_under(self.alloc, &self.main, prefix) {
-            Ok(rows) => Reply::Rows(rows),
+        match entries_under(self.alloc, &self.main, prefix) {
+            Ok(listed) => Reply::Rows(listed),
             Err(_) => Reply::NoMemory,
         }
     }
 
-    // Lists the entries along a key.
+    // Lists the common prefixes of a key.
     fn along<Q: BorrowedBytes<Owned = K>>(&self, key: Q) -> Reply<K, V>
         ensures { Step K.item K.key self.now (Commands.Along (Q.key key)) result self.now }
     {
-        match rows_along(self.alloc, &self.main, key) {
-            Ok(rows) => Reply::Rows(rows),
+        match entries_along(self.alloc, &self.main, key) {
+            Ok(listed) => Reply::Rows(listed),
             Err(_) => Reply::NoMemory,
         }
     }

@@ -3,7 +3,7 @@
 ghost use Rattle.std.specs.Prelude.{◌≡◌, [], ◌∷◌, ◌++◌, OnOk, codes};
 ghost use Rattle.std.specs.Fmt.{decimal};
 ghost use Rattle.std.specs.List.{join_by};
-ghost use Rattle.patricia_run.specs.Writing.{number_line, row_line, row_lines, fault_line};
+ghost use Rattle.patricia_run.specs.Writing.{number_line, entry_line, entry_lines, fault_line};
 ghost use Rattle.patricia_run.specs.Writing.{joined_or_dash, wire_line, reply_lines};
 
 use crate::Reply;
@@ -47,23 +47,26 @@ fn write_longest(out: &mut Vec<u8>, length: u64, value: u64) -> Result<(), Alloc
     write_number(out, value)
 }
 
-fn write_row<'a, Q: KeyText<'a>>(out: &mut Vec<u8>, row: &(Q::Owned, u64)) -> Result<(), AllocError>
-    ensures { OnOk result (out.new.items
-        ≡ out.old.items ++ row_line Q.key_format Q.Owned.key row.now) }
-{
-    Q::print(row.0.as_bytes(), out)?;
-    write_number(out, row.1)
-}
-
-fn write_rows<'a, Q: KeyText<'a>>(
+fn write_entry<'a, Q: KeyText<'a>>(
     out: &mut Vec<u8>,
-    rows: &[(Q::Owned, u64)],
+    entry: &(Q::Owned, u64),
 ) -> Result<(), AllocError>
     ensures { OnOk result (out.new.items
-        ≡ out.old.items ++ row_lines Q.key_format Q.Owned.key rows.now) }
+        ≡ out.old.items ++ entry_line Q.key_format Q.Owned.key entry.now) }
 {
-    for row in rows {
-        write_row::<Q>(out, row)?;
+    Q::print(entry.0.as_bytes(), out)?;
+    write_number(out, entry.1)
+}
+
+fn write_entries<'a, Q: KeyText<'a>>(
+    out: &mut Vec<u8>,
+    entries: &[(Q::Owned, u64)],
+) -> Result<(), AllocError>
+    ensures { OnOk result (out.new.items
+        ≡ out.old.items ++ entry_lines Q.key_format Q.Owned.key entries.now) }
+{
+    for entry in entries {
+        write_entry::<Q>(out, entry)?;
     }
     Ok(())
 }
@@ -131,9 +134,9 @@ pub fn write_reply<'a, Q: KeyText<'a>>(
         Reply::Some(value) => write_line(out, b"some", *value),
         Reply::Longest(length, value) => write_longest(out, *length as u64, *value),
         Reply::Count(n) => write_line(out, b"count", *n as u64),
-        Reply::Rows(rows) => {
-            write_line(out, b"rows", rows.len() as u64)?;
-            write_rows::<Q>(out, rows)
+        Reply::Rows(entries) => {
+            write_line(out, b"rows", entries.len() as u64)?;
+            write_entries::<Q>(out, entries)
         }
         Reply::Done => out.extend_from_slice(b"ok\n"),
         Reply::Wire(bytes, values) => write_wire(out, bytes, values),

@@ -1,4 +1,4 @@
--- The rows after a key, among those from it on.
+-- The entries after a key, among those from it on.
 use Rattle.std.proofs.Common.{◌≡◌, ◌≢◌, ◌≤◌, ℕ, Bool, true, false, T, not, cond, List, [], ◌∷◌, Option, None, Some}
 use Rattle.std.proofs.Common.{length, slice_get, refl, sym, ap, subst, ◌∙◌, arith}
 use Rattle.std.specs.Prelude.{◌↔◌, IsTrue, IfOk, OnErr, Result, Ok, Err}
@@ -18,9 +18,9 @@ use Rattle.patricia_core.specs.Prefixes.{begins, under}
 use Rattle.patricia_core.specs.Ranges.{from}
 use Rattle.patricia_model.proofs.CursorLemmas.{after_first}
 use Rattle.patricia_model.proofs.ListLemmas.{key_cmp-equal, key_cmp-turned}
-use Rattle.patricia_model.proofs.RangeLemmas.{from_sorted_rows, is_less}
+use Rattle.patricia_model.proofs.RangeLemmas.{from_sorted_entries, is_less}
 
--- a row that is not before the key and has another one comes after it
+-- an entry that is not before the key and has another one comes after it
 comes_after : (key q : List ℕ) → not (is_lt (key_cmp q key)) ≡ true → q ≢ key → is_lt (key_cmp key q) ≡ true
 comes_after key q is other = by (key_cmp q key) refl
   where
@@ -44,7 +44,7 @@ module _ {V : Type 0} (key : List ℕ) where
       by false true f h rest = rw (h, rest) refl
       by false false f h rest = rw (h, rest) refl
 
-  -- the first of the rows from the key on is one of them
+  -- the first of the entries from the key on is one of them
   first_from : (es : List (List ℕ × V)) (e : List ℕ × V) (rest : List (List ℕ × V))
       → from key es ≡ e ∷ rest → not (is_lt (key_cmp e.0 key)) ≡ true
   first_from [] e rest is = absurd (cc)
@@ -58,14 +58,14 @@ module _ {V : Type 0} (key : List ℕ) where
 
   module _ {A : Type 0} (shows : A → List ℕ × V) (es : List (List ℕ × V)) (sorted : T (is_sorted key_cmp es))
       (rest : List (List ℕ × V)) where
-    -- where the first row from a key on is that of the key, what is left comes after it
+    -- where the first entry from a key on is that of the key, what is left comes after it
     pub next_after : (found : Option A) → TakesFirst shows (from key es) found rest
         → option_map (λ a. (shows a).0) found ≡ Some key → after (Some key) es ≡ rest
     next_after None t same = absurd (cc)
     next_after (Some a) t same =
         let is : (shows a).0 ≡ key = cc in
         sym (after_from es) ∙ ap (λ k. after (Some k) (from key es)) (sym is)
-        ∙ after_first None (from key es) (from_sorted_rows key es sorted) (shows a) rest t
+        ∙ after_first None (from key es) (from_sorted_entries key es sorted) (shows a) rest t
 
     -- and else it is the first after the key
     pub first_after_is : (found : Option A) → TakesFirst shows (from key es) found rest
@@ -76,20 +76,20 @@ module _ {V : Type 0} (key : List ℕ) where
         let comes = comes_after key (shows a).0 (first_from es (shows a) rest t) (λ same. other (ap Some same)) in
         rw (← after_from es, t, comes) refl
 
--- what a walk gives first is the first row, where it gives anything
-pub first_given : {A E V : Type 0} (shows : A → List ℕ × V) (rows rest : List (List ℕ × V))
-    (r : Result (Option A) E) → IfOk r (λ found. TakesFirst shows rows found rest)
-    → IfOk r (λ found. option_map shows found ≡ slice_get rows 0)
-first_given shows rows rest (Ok None) t = rw t.0 refl
-first_given shows rows rest (Ok (Some a)) t = rw t refl
-first_given shows rows rest (Err e) t = tt
+-- what a walk gives first is the first entry, where it gives anything
+pub first_given : {A E V : Type 0} (shows : A → List ℕ × V) (entries rest : List (List ℕ × V))
+    (r : Result (Option A) E) → IfOk r (λ found. TakesFirst shows entries found rest)
+    → IfOk r (λ found. option_map shows found ≡ slice_get entries 0)
+first_given shows entries rest (Ok None) t = rw t.0 refl
+first_given shows entries rest (Ok (Some a)) t = rw t refl
+first_given shows entries rest (Err e) t = tt
 
 -- a list of which it was found that nothing is left has no length
 pub nothing_left : {A : Type 0} (xs : List A) (b : Bool) → b ≡ false → (IsTrue b ↔ (xs ≢ [])) → length xs ≡ 0
 nothing_left [] b e is = refl
 nothing_left (x ∷ xs) b e is = absurd (let yes = is.1 (λ none. absurd (cc)) in cc)
 
--- no more rows are under a prefix than there are
+-- no more entries are under a prefix than there are
 pub under_len : {V : Type 0} (m : map.FinMap key_cmp V) (p : List ℕ) → length (under p (map.entries m)) ≤ map.len m
 under_len m p = omega (
   arith,

@@ -37,10 +37,10 @@ module _ {I S : Type 0} (becomes : I → S → Type 0) where
     gave_keys [] s t gave = gave
     gave_keys (pair ∷ pairs) s t gave = (gave.0, gave.1, gave_keys pairs gave.0 t gave.2)
 
-    -- the rows of these pairs are those of their keys
-    rows_in : (pairs : List (Q × Unit {0})) → by_bytes bytes pairs ≡ map (λ key. (bytes key, tt)) (keys_in pairs)
-    rows_in [] = refl
-    rows_in (pair ∷ pairs) = ap (λ rows. (bytes pair.0, tt) ∷ rows) (rows_in pairs)
+    -- the entries of these pairs are those of their keys
+    entries_in : (pairs : List (Q × Unit {0})) → by_bytes bytes pairs ≡ map (λ key. (bytes key, tt)) (keys_in pairs)
+    entries_in [] = refl
+    entries_in (pair ∷ pairs) = ap (λ entries. (bytes pair.0, tt) ∷ entries) (entries_in pairs)
 
     -- keys were inserted, all of them or those before one that is refused
     pub extends_with_keys : {E : Type 0} (keys : I) (old new : KeySet) (r : Result (Unit {0}) E)
@@ -52,7 +52,7 @@ module _ {I S : Type 0} (becomes : I → S → Type 0) where
           ok.start,
           keys_in ok.given,
           ok.is_start,
-          ok.put_in ∙ ap (insert_all old) (rows_in ok.given),
+          ok.put_in ∙ ap (insert_all old) (entries_in ok.given),
           (ended.0, (ended.1.0, gave_keys ok.given ok.start ended.1.0 ended.1.1, ended.1.2)),
         )
     extends_with_keys keys old new (Err e) ok err =
@@ -60,7 +60,7 @@ module _ {I S : Type 0} (becomes : I → S → Type 0) where
           err.start,
           keys_in err.given,
           err.is_start,
-          err.put_in ∙ ap (insert_all old) (rows_in err.given),
+          err.put_in ∙ ap (insert_all old) (entries_in err.given),
           (before.0, gave_keys err.given err.start before.0 before.1),
         )
 
@@ -75,6 +75,6 @@ module _ {I S : Type 0} (becomes : I → S → Type 0) where
           keys_in ok.given,
           ok.is_start,
           (ended.1.0, gave_keys ok.given ok.start ended.1.0 ended.1.1, λ all. (ended.0, ended.1.2)),
-          ok.put_in ∙ ap (insert_all finmap.empty) (rows_in ok.given),
+          ok.put_in ∙ ap (insert_all finmap.empty) (entries_in ok.given),
         )
     made_of_keys keys (Err e) ok whole = tt

@@ -1,4 +1,4 @@
--- The longest entry along a key, found at its key.
+-- The longest prefix of a key, found at its key.
 use Rattle.std.proofs.Common.{◌≡◌, ℕ, ◌⊎◌, Bool, true, false, not, cond, inl, inr, List, [], ◌∷◌, Option, None, Some, refl, sym}
 use Rattle.std.proofs.Common.{ap, subst, ◌∙◌}
 use Rattle.std.specs.Prelude.{IsSome, MatchOption, is_some}
@@ -27,7 +27,7 @@ module _ {A : Type 0} where
   ]
 
 module _ {V : Type 0} where
-  -- so is that of the longest entry along a key
+  -- so is that of the longest prefix of a key
   longest_found : (m : map.FinMap key_cmp V) (key : List ℕ) (e : List ℕ × V)
       → longest key (map.entries m) ≡ Some e → map.get m e.0 ≡ Some e.1
   longest_found m key e is = elim (has_last None (along key (map.entries m)) e is) [

@@ -31,7 +31,7 @@ module _ {V : Type 0} where
       ∙ ap map.entries (sym (from_sorted-others es k (entries_sorted m)))
       ∙ entries-from_sorted key_cmp (others k es) (is_sorted-where_key key_cmp (λ x. not (eq_by_cmp key_cmp k x)) es (entries_sorted m))
 
-  -- rows that all come after a key are those of other keys
+  -- entries that all come after a key are those of other keys
   others_above : (k : List ℕ) (es : List (List ℕ × V)) → T (below_all key_cmp k es) → others k es ≡ es
   others_above k [] h = refl
   others_above k (e ∷ es) h = rw (less_so (key_cmp k e.0) (first_part _ _ h)) (ap (λ r. e ∷ r) (others_above k es (second_part _ _ h)))
@@ -60,19 +60,19 @@ module _ {V : Type 0} where
       let less = last_above x.0 y ys e (less_so (key_cmp x.0 y.0) (first_part _ _ below)) (second_part _ _ below) is in
       rw (key_cmp-turned x.0 e.0 less) (ap (λ r. x ∷ r) (others_last y ys e (second_part _ _ sorted) is))
 
-  -- the last row is one of them
+  -- the last entry is one of them
   has_last : (x : List ℕ × V) (xs : List (List ℕ × V)) (e : List ℕ × V) → last_or (Some x) xs ≡ Some e
       → Has (x ∷ xs) e
   has_last x [] e is = inl (let same : x ≡ e = cc in same)
   has_last x (y ∷ ys) e is = inr (has_last y ys e is)
 
-  -- the value at the key of a row
+  -- the value at the key of an entry
   found : (m : FinMap key_cmp V) (e : List ℕ × V) → Has (map.entries m) e → map.get m e.0 ≡ Some e.1
   found m e h = get-entries m e.0 ∙ find_has (map.entries m) (entries_sorted m) e h
 
 module _ {A V : Type 0} (shows : A → List ℕ × V) (m : FinMap key_cmp V) (k : List ℕ) (r : Option A)
     (is : option_map shows r ≡ option_map (λ v. (k, v)) (map.get m k)) where
-  -- what was removed is the row, where its value is there
+  -- what was removed is the entry, where its value is there
   shown : (v : V) → map.get m k ≡ Some v → (a : A) × (r ≡ Some a) × (shows a ≡ (k, v))
   shown v there = by r (is ∙ ap (option_map (λ v. (k, v))) there)
     where
@@ -88,15 +88,15 @@ module _ {A V : Type 0} (shows : A → List ℕ × V) (m : FinMap key_cmp V) (k 
       by : (es : List (List ℕ × V)) → map.entries m ≡ es
           → TakesFirst shows (map.entries m) r (map.entries (map.remove m k))
       by [] none = absurd (let no : Some k ≡ None = rw none at first in cc)
-      by (e ∷ es) rows =
-          let same : k ≡ e.0 = (let f : Some k ≡ Some e.0 = rw rows at first in cc) in
-          let has : Has (map.entries m) e = rw rows (inl refl) in
+      by (e ∷ es) entries =
+          let same : k ≡ e.0 = (let f : Some k ≡ Some e.0 = rw entries at first in cc) in
+          let has : Has (map.entries m) e = rw entries (inl refl) in
           let there : map.get m k ≡ Some e.1 = ap (map.get m) same ∙ found m e has in
           let a = shown e.1 there in
-          let sorted : T (is_sorted key_cmp (e ∷ es)) = subst (λ l. T (is_sorted key_cmp l)) rows (entries_sorted m) in
-          let left : map.entries (map.remove m k) ≡ es = entries_remove m k ∙ ap (others k) rows ∙ ap (λ q. others q (e ∷ es)) same ∙ others_first e es sorted in
-          let row : shows a.0 ≡ e = a.2 ∙ ap (λ q. (q, e.1)) same in
-          rw (a.1, rows, left, row) refl
+          let sorted : T (is_sorted key_cmp (e ∷ es)) = subst (λ l. T (is_sorted key_cmp l)) entries (entries_sorted m) in
+          let left : map.entries (map.remove m k) ≡ es = entries_remove m k ∙ ap (others k) entries ∙ ap (λ q. others q (e ∷ es)) same ∙ others_first e es sorted in
+          let entry : shows a.0 ≡ e = a.2 ∙ ap (λ q. (q, e.1)) same in
+          rw (a.1, entries, left, entry) refl
 
   -- and that of the last key the last one
   pub pops_last : Some k ≡ option_map (λ e. e.0) (last_or None (map.entries m))
@@ -106,39 +106,39 @@ module _ {A V : Type 0} (shows : A → List ℕ × V) (m : FinMap key_cmp V) (k 
       by : (es : List (List ℕ × V)) → map.entries m ≡ es
           → TakesLast shows (map.entries m) r (map.entries (map.remove m k))
       by [] none = absurd (let no : Some k ≡ None = rw none at last in cc)
-      by (x ∷ xs) rows = at (last_or (Some x) xs) refl
+      by (x ∷ xs) entries = at (last_or (Some x) xs) refl
         where
           at : (o : Option (List ℕ × V)) → last_or (Some x) xs ≡ o
               → TakesLast shows (map.entries m) r (map.entries (map.remove m k))
-          at None e_is = absurd (let no : Some k ≡ None = rw (rows, e_is) at last in cc)
+          at None e_is = absurd (let no : Some k ≡ None = rw (entries, e_is) at last in cc)
           at (Some e) e_is =
-              let same : k ≡ e.0 = (let f : Some k ≡ Some e.0 = rw (rows, e_is) at last in cc) in
-              let has : Has (map.entries m) e = rw rows (has_last x xs e e_is) in
+              let same : k ≡ e.0 = (let f : Some k ≡ Some e.0 = rw (entries, e_is) at last in cc) in
+              let has : Has (map.entries m) e = rw entries (has_last x xs e e_is) in
               let there : map.get m k ≡ Some e.1 = ap (map.get m) same ∙ found m e has in
               let a = shown e.1 there in
-              let sorted : T (is_sorted key_cmp (x ∷ xs)) = subst (λ l. T (is_sorted key_cmp l)) rows (entries_sorted m) in
-              let left : map.entries (map.remove m k) ≡ others e.0 (x ∷ xs) = entries_remove m k ∙ ap (others k) rows ∙ ap (λ q. others q (x ∷ xs)) same in
-              let row : shows a.0 ≡ e = a.2 ∙ ap (λ q. (q, e.1)) same in
-              rw (a.1, rows, left, row) (others_last x xs e sorted e_is)
+              let sorted : T (is_sorted key_cmp (x ∷ xs)) = subst (λ l. T (is_sorted key_cmp l)) entries (entries_sorted m) in
+              let left : map.entries (map.remove m k) ≡ others e.0 (x ∷ xs) = entries_remove m k ∙ ap (others k) entries ∙ ap (λ q. others q (x ∷ xs)) same in
+              let entry : shows a.0 ≡ e = a.2 ∙ ap (λ q. (q, e.1)) same in
+              rw (a.1, entries, left, entry) (others_last x xs e sorted e_is)
 
 module _ {V : Type 0} where
-  -- where there is no first key there is no row
-  pub no_first : (rows : List (List ℕ × V)) → None ≡ option_map (λ e. e.0) (slice_get rows 0) → rows ≡ []
+  -- where there is no first key there is no entry
+  pub no_first : (entries : List (List ℕ × V)) → None ≡ option_map (λ e. e.0) (slice_get entries 0) → entries ≡ []
   no_first [] e = refl
   no_first (x ∷ xs) e = absurd (cc)
 
-  -- and where there is one there are rows
-  pub has_first_key : (rows : List (List ℕ × V)) (k : List ℕ)
-      → Some k ≡ option_map (λ e. e.0) (slice_get rows 0) → rows ≢ []
-  has_first_key rows k e none = absurd (let no : Some k ≡ None = rw none at e in cc)
+  -- and where there is one there are entries
+  pub has_first_key : (entries : List (List ℕ × V)) (k : List ℕ)
+      → Some k ≡ option_map (λ e. e.0) (slice_get entries 0) → entries ≢ []
+  has_first_key entries k e none = absurd (let no : Some k ≡ None = rw none at e in cc)
 
   -- a list with an item has a last one
   some_last : (x : List ℕ × V) (xs : List (List ℕ × V)) → last_or (Some x) xs ≡ None → ⊥
   some_last x [] e = absurd (cc)
   some_last x (y ∷ ys) e = some_last y ys e
 
-  -- where there is no last key there is no row
-  pub no_last : (rows : List (List ℕ × V)) → None ≡ option_map (λ e. e.0) (last_or None rows) → rows ≡ []
+  -- where there is no last key there is no entry
+  pub no_last : (entries : List (List ℕ × V)) → None ≡ option_map (λ e. e.0) (last_or None entries) → entries ≡ []
   no_last [] e = refl
   no_last (x ∷ xs) e = by (last_or (Some x) xs) refl
     where
@@ -146,10 +146,10 @@ module _ {V : Type 0} where
       by None is = absurd (some_last x xs is)
       by (Some y) is = absurd (let no : None ≡ Some y.0 = rw is at e in cc)
 
-  -- and where there is one there are rows
-  pub has_last_key : (rows : List (List ℕ × V)) (k : List ℕ)
-      → Some k ≡ option_map (λ e. e.0) (last_or None rows) → rows ≢ []
-  has_last_key rows k e none = absurd (let no : Some k ≡ None = rw none at e in cc)
+  -- and where there is one there are entries
+  pub has_last_key : (entries : List (List ℕ × V)) (k : List ℕ)
+      → Some k ≡ option_map (λ e. e.0) (last_or None entries) → entries ≢ []
+  has_last_key entries k e none = absurd (let no : Some k ≡ None = rw none at e in cc)
 
 module _ {A E V : Type 0} (shows : A → List ℕ × V) (m n : FinMap key_cmp V) (k : List ℕ)
     (r : Result (Option A) E)

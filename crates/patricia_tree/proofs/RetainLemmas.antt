@@ -1,4 +1,4 @@
--- What a test leaves of the rows of a map, where it is called at each in turn.
+-- What a test leaves of the entries of a map, where it is called at each in turn.
 use Rattle.std.proofs.Common.{◌≡◌, ◌≢◌, ℕ, T, Bool, true, false, List, [], ◌∷◌, length, drop}
 use Rattle.std.proofs.Common.{Option, Some, None, slice_get, refl, sym, ap, subst, ◌∙◌}
 use Rattle.std.specs.Prelude.{suc, ◌&&◌, map as list_map}
@@ -21,9 +21,9 @@ both_parts true b p q = q
 both_parts false b p q = absurd p
 
 module _ {V : Type 0} where
-  -- the keys of rows
-  abbrev pub keys_of_rows : List (List ℕ × V) → List (List ℕ)
-  keys_of_rows rows = list_map (λ e. e.0) rows
+  -- the keys of entries
+  abbrev pub keys_of_entries : List (List ℕ × V) → List (List ℕ)
+  keys_of_entries entries = list_map (λ e. e.0) entries
 
   below_picked : (q : List ℕ) (bs : List Bool) (es : List (List ℕ × V)) → T (below_all key_cmp q es)
       → T (below_all key_cmp q (items_where_true bs es))
@@ -32,7 +32,7 @@ module _ {V : Type 0} where
   below_picked q (true ∷ bs) (e ∷ es) h = both_parts _ _ (first_part _ _ h) (below_picked q bs es (second_part _ _ h))
   below_picked q (false ∷ bs) (e ∷ es) h = below_picked q bs es (second_part _ _ h)
 
-  -- some of the rows in order are in order
+  -- some of the entries in order are in order
   sorted_picked : (bs : List Bool) (es : List (List ℕ × V)) → T (is_sorted key_cmp es)
       → T (is_sorted key_cmp (items_where_true bs es))
   sorted_picked [] es h = tt
@@ -41,7 +41,7 @@ module _ {V : Type 0} where
   sorted_picked (false ∷ bs) (e ∷ es) h = sorted_picked bs es (second_part _ _ h)
 
   keys_picked : (bs : List Bool) (es : List (List ℕ × V))
-      → keys_of_rows (items_where_true bs es) ≡ items_where_true bs (keys_of_rows es)
+      → keys_of_entries (items_where_true bs es) ≡ items_where_true bs (keys_of_entries es)
   keys_picked [] es = refl
   keys_picked (b ∷ bs) [] = refl
   keys_picked (true ∷ bs) (e ∷ es) = ap (λ ks. e.0 ∷ ks) (keys_picked bs es)
@@ -51,21 +51,21 @@ module _ {V : Type 0} where
   or_none None = refl
   or_none (Some v) = refl
 
-  -- rows in order, inserted into the empty map, are its entries
-  pub entries_inserted : (rows : List (List ℕ × V)) → T (is_sorted key_cmp rows)
-      → map.entries (insert_all map.empty rows) ≡ rows
-  entries_inserted rows sorted =
-      let made = insert_all map.empty rows in
-      same_entries key_cmp nat_list_cmp_total key_cmp-equal (map.entries made) rows (entries_sorted made) sorted
-      (λ q. sym (get-entries made q) ∙ get-insert_all rows sorted map.empty q ∙ ap (option_or (find key_cmp q rows)) (get-empty key_cmp q) ∙ or_none _)
+  -- entries in order, inserted into the empty map, are its entries
+  pub entries_inserted : (entries : List (List ℕ × V)) → T (is_sorted key_cmp entries)
+      → map.entries (insert_all map.empty entries) ≡ entries
+  entries_inserted entries sorted =
+      let made = insert_all map.empty entries in
+      same_entries key_cmp nat_list_cmp_total key_cmp-equal (map.entries made) entries (entries_sorted made) sorted
+      (λ q. sym (get-entries made q) ∙ get-insert_all entries sorted map.empty q ∙ ap (option_or (find key_cmp q entries)) (get-empty key_cmp q) ∙ or_none _)
 
 -- `R` says what a test may answer at a key, and what it may become
 module _ {F V : Type 0} (R : F → List ℕ → Bool → F → Type 0) (start : F) (all : List (List ℕ × V)) where
-  -- so far f is what calls have made of the test, and made has the rows that they chose: whatever
-  -- is answered at the rows that are left, it is what calls at all of them answer
+  -- so far f is what calls have made of the test, and made has the entries that they chose:
+  -- whatever is answered at the entries that are left, it is what calls at all of them answer
   pub record IsChoosing (f : F) (made : FinMap key_cmp V) (left : List (List ℕ × V)) : Type 0 where
-    pub at : (bs : List Bool) (q : F) → length bs ≡ length left → ReturnsInTurn R f bs (keys_of_rows left) q
-        → (cs : List Bool) × (length cs ≡ length all) × ReturnsInTurn R start cs (keys_of_rows all) q
+    pub at : (bs : List Bool) (q : F) → length bs ≡ length left → ReturnsInTurn R f bs (keys_of_entries left) q
+        → (cs : List Bool) × (length cs ≡ length all) × ReturnsInTurn R start cs (keys_of_entries all) q
         × (insert_all made (items_where_true bs left) ≡ insert_all map.empty (items_where_true cs all))
 
   pub choosing_starts : (made : FinMap key_cmp V) → made ≡ map.empty → IsChoosing start made all
@@ -100,13 +100,13 @@ module _ {F V : Type 0} (R : F → List ℕ → Bool → F → Type 0) (start : 
 
   -- the end
   pub choosing_ends : (f : F) (made : FinMap key_cmp V) (left : List (List ℕ × V)) → left ≡ []
-      → T (is_sorted key_cmp all) → IsChoosing f made left → IsFiltered R start (keys_of_rows all) (keys_of_rows (map.entries made))
+      → T (is_sorted key_cmp all) → IsChoosing f made left → IsFiltered R start (keys_of_entries all) (keys_of_entries (map.entries made))
   choosing_ends f made (x ∷ left) none sorted so_far = absurd (cc)
   choosing_ends f made [] none sorted so_far =
       let found = so_far.at [] f refl refl in
       let kept : map.entries made ≡ items_where_true found.0 all = ap map.entries found.3 ∙ entries_inserted (items_where_true found.0 all) (sorted_picked found.0 all sorted) in
-      (found.0, f, found.1 ∙ long_keys all, found.2, ap keys_of_rows kept ∙ keys_picked found.0 all)
+      (found.0, f, found.1 ∙ long_keys all, found.2, ap keys_of_entries kept ∙ keys_picked found.0 all)
     where
-      long_keys : (es : List (List ℕ × V)) → length es ≡ length (keys_of_rows es)
+      long_keys : (es : List (List ℕ × V)) → length es ≡ length (keys_of_entries es)
       long_keys [] = refl
       long_keys (e ∷ es) = ap suc (long_keys es)

@@ -21,21 +21,21 @@ use Rattle.patricia_model.proofs.ListLemmas.{key_cmp-equal}
 use Rattle.patricia_model.proofs.TestLemmas.{first_part, second_part, less_so}
 use Rattle.patricia_tree.proofs.AfterLemmas.{nothing_left}
 use Rattle.patricia_tree.specs.Bulk.{insert_all}
-use Rattle.patricia_tree.specs.Whole.{is_same_row, are_same_rows}
+use Rattle.patricia_tree.specs.Whole.{is_same_entry, are_same_entries}
 
 module _ {V : Type 0} (eq : V → V → Bool) where
   -- lists of other lengths are not the same
-  pub other_len : (xs ys : List (List ℕ × V)) → length xs ≢ length ys → false ≡ are_same_rows eq xs ys
-  other_len xs ys other = by (are_same_rows eq xs ys) refl
+  pub other_len : (xs ys : List (List ℕ × V)) → length xs ≢ length ys → false ≡ are_same_entries eq xs ys
+  other_len xs ys other = by (are_same_entries eq xs ys) refl
     where
-      by : (b : Bool) → are_same_rows eq xs ys ≡ b → false ≡ b
-      by true is = absurd (other (as_long (is_same_row eq) xs ys is))
+      by : (b : Bool) → are_same_entries eq xs ys ≡ b → false ≡ b
+      by true is = absurd (other (as_long (is_same_entry eq) xs ys is))
       by false is = refl
 
 -- what two maps of `()` hold is the same exactly where they are
 module _ (eq : Unit {0} → Unit {0} → Bool) (all : (u v : Unit {0}) → eq u v ≡ true) where
-  row_decides : (e f : List ℕ × Unit {0}) → (is_same_row eq e f ≡ true → e ≡ f) × (e ≡ f → is_same_row eq e f ≡ true)
-  row_decides e f = (
+  entry_decides : (e f : List ℕ × Unit {0}) → (is_same_entry eq e f ≡ true → e ≡ f) × (e ≡ f → is_same_entry eq e f ≡ true)
+  entry_decides e f = (
     λ is. ap (λ k. (k, tt)) ((bytes_decides e.0 f.0).0 (first_of_two (pointwise nat_eq e.0 f.0) (eq e.1 f.1) is)),
     λ is. both_of_two (pointwise nat_eq e.0 f.0) (eq e.1 f.1) ((bytes_decides e.0 f.0).1 (ap (λ r. r.0) is)) (all e.1 f.1),
   )
@@ -47,21 +47,21 @@ module _ (eq : Unit {0} → Unit {0} → Bool) (all : (u v : Unit {0}) → eq u 
       both_of_two : (a b : Bool) → a ≡ true → b ≡ true → (a && b) ≡ true
       both_of_two a b p q = rw (p, q) refl
 
-  pub same_sets : (s t : FinMap key_cmp (Unit {0})) (b : Bool) → b ≡ are_same_rows eq (map.entries s) (map.entries t)
+  pub same_sets : (s t : FinMap key_cmp (Unit {0})) (b : Bool) → b ≡ are_same_entries eq (map.entries s) (map.entries t)
       → IsTrue b ↔ (s ≡ t)
   same_sets s t b is =
-      let decides = pointwise_decides row_decides (map.entries s) (map.entries t) in (
+      let decides = pointwise_decides entry_decides (map.entries s) (map.entries t) in (
         λ yes. same_entries_map s t (decides.0 (sym is ∙ yes)),
         λ same. is ∙ decides.1 (ap map.entries same),
       )
 
 module _ {V : Type 0} where
-  -- a key below all rows is not found among them
+  -- a key below all entries is not found among them
   pub below_none : (q : List ℕ) (es : List (List ℕ × V)) → T (below_all key_cmp q es) → find key_cmp q es ≡ None
   below_none q [] h = refl
   below_none q (e ∷ es) h = rw (less_so (key_cmp q e.0) (first_part _ _ h)) (below_none q es (second_part _ _ h))
 
-  -- where rows in order are inserted, a key has the value of its row, or else that of before
+  -- where entries in order are inserted, a key has the value of its entry, or else that of before
   pub get-insert_all : (es : List (List ℕ × V)) → T (is_sorted key_cmp es) → (m : FinMap key_cmp V) (q : List ℕ)
       → map.get (insert_all m es) q ≡ option_or (find key_cmp q es) (map.get m q)
   get-insert_all [] sorted m q = refl
@@ -85,7 +85,7 @@ module _ {V : Type 0} where
   or_none None = refl
   or_none (Some v) = refl
 
-  -- the rows whose keys pass a test, inserted into the empty map, are what is retained by it
+  -- the entries whose keys pass a test, inserted into the empty map, are what is retained by it
   pub retained : (m : FinMap key_cmp V) (p : List ℕ → Bool)
       → insert_all map.empty (filter (λ e. p e.0) (map.entries m)) ≡ map.retain_keys m p
   retained m p = same_map nat_list_cmp_total key_cmp-equal _ _ (λ q. at q)
@@ -103,11 +103,11 @@ module _ {V : Type 0} where
           ∙ ap (λ o. cond (p q) o None) (sym (get-entries m q))
           ∙ sym (get-retain_keys m p q (alike q))
 
--- where no row was found, none is left
-pub none_left : {A : Type 0} (rows : List A) (b : Bool) → b ≡ false → (IsTrue b ↔ (rows ≢ [])) → rows ≡ []
-none_left rows b e found = nil_from_length rows (nothing_left rows b e found)
+-- where no entry was found, none is left
+pub none_left : {A : Type 0} (entries : List A) (b : Bool) → b ≡ false → (IsTrue b ↔ (entries ≢ [])) → entries ≡ []
+none_left entries b e found = nil_from_length entries (nothing_left entries b e found)
 
--- a map with a length has rows
+-- a map with a length has entries
 pub len_filled : {V : Type 0} (m : FinMap key_cmp V) → map.len m ≢ 0 → map.entries m ≢ []
 len_filled m some none = some (len-entries m ∙ ap length none)
 
@@ -120,18 +120,18 @@ pub filled_right : {A : Type 0} (xs ys : List A) → ys ≢ [] → xs ++ ys ≢ 
 filled_right [] ys some none = some none
 filled_right (x ∷ xs) ys some none = absurd (cc)
 
--- a map that is no shorter than one with rows has rows
+-- a map that is no shorter than one with entries has entries
 pub filled_too : {V W : Type 0} (m : FinMap key_cmp V) (n : FinMap key_cmp W) → map.len m ≤ map.len n
     → map.entries m ≢ [] → map.entries n ≢ []
 filled_too m n most some none =
     some (nil_from_length (map.entries m) (omega (arith, len-entries m, len-entries n, ap length none)))
 
--- of two maps with rows together the one that is no shorter has rows
+-- of two maps with entries together the one that is no shorter has entries
 pub filled_longer : {V : Type 0} (m n : FinMap key_cmp V) → map.len n ≤ map.len m
     → map.entries m ++ map.entries n ≢ [] → map.entries m ≢ []
 filled_longer m n most some none =
     let none_too = nil_from_length (map.entries n) (omega (arith, len-entries m, len-entries n, ap length none, most)) in
-    some (subst (λ rows. rows ++ map.entries n ≡ []) (sym none) none_too)
+    some (subst (λ entries. entries ++ map.entries n ≡ []) (sym none) none_too)
 
 -- the same elements, inserted the other way round
 pub all_turned : (s t : FinMap key_cmp (Unit {0})) → insert_all s (map.entries t) ≡ insert_all t (map.entries s)
@@ -165,27 +165,27 @@ both_turned s t = same_map nat_list_cmp_total key_cmp-equal _ _ (λ q.
     at m n q = get-retain_keys m (map.contains_key n) q (λ x tie. ap (map.contains_key n) (sym (key_cmp-equal q x tie)))
 
 module _ {V W : Type 0} where
-  -- what is left of a map where the keys of rows are removed
+  -- what is left of a map where the keys of entries are removed
   abbrev pub without_keys : FinMap key_cmp V → List (List ℕ × W) → FinMap key_cmp V
-  without_keys m rows = map.retain_keys m (λ k. not (is_some (find key_cmp k rows)))
+  without_keys m entries = map.retain_keys m (λ k. not (is_some (find key_cmp k entries)))
 
-  get-without_keys : (m : FinMap key_cmp V) (rows : List (List ℕ × W)) (q : List ℕ)
-      → map.get (without_keys m rows) q ≡ cond (not (is_some (find key_cmp q rows))) (map.get m q) None
-  get-without_keys m rows q = get-retain_keys m (λ k. not (is_some (find key_cmp k rows))) q
-      (λ x tie. ap (λ k. not (is_some (find key_cmp k rows))) (sym (key_cmp-equal q x tie)))
+  get-without_keys : (m : FinMap key_cmp V) (entries : List (List ℕ × W)) (q : List ℕ)
+      → map.get (without_keys m entries) q ≡ cond (not (is_some (find key_cmp q entries))) (map.get m q) None
+  get-without_keys m entries q = get-retain_keys m (λ k. not (is_some (find key_cmp k entries))) q
+      (λ x tie. ap (λ k. not (is_some (find key_cmp k entries))) (sym (key_cmp-equal q x tie)))
 
-  pub without_none : (m : FinMap key_cmp V) (rows : List (List ℕ × W)) → rows ≡ [] → without_keys m rows ≡ m
+  pub without_none : (m : FinMap key_cmp V) (entries : List (List ℕ × W)) → entries ≡ [] → without_keys m entries ≡ m
   without_none m [] none = same_map nat_list_cmp_total key_cmp-equal _ _ (λ q. get-without_keys m [] q)
-  without_none m (e ∷ rows) none = absurd (cc)
+  without_none m (e ∷ entries) none = absurd (cc)
 
   -- a key that was removed already need not be any more
-  without_one : (m : FinMap key_cmp V) (e : List ℕ × W) (rows : List (List ℕ × W))
-      → without_keys (map.remove m e.0) rows ≡ without_keys m (e ∷ rows)
-  without_one m e rows = same_map nat_list_cmp_total key_cmp-equal _ _ (λ q.
-      get-without_keys (map.remove m e.0) rows q
-      ∙ ap (λ o. cond (not (is_some (find key_cmp q rows))) o None) (get-remove nat_list_cmp_total m e.0 q)
-      ∙ by (map.get m q) (eq_by_cmp key_cmp q e.0) (find key_cmp q rows)
-      ∙ sym (get-without_keys m (e ∷ rows) q))
+  without_one : (m : FinMap key_cmp V) (e : List ℕ × W) (entries : List (List ℕ × W))
+      → without_keys (map.remove m e.0) entries ≡ without_keys m (e ∷ entries)
+  without_one m e entries = same_map nat_list_cmp_total key_cmp-equal _ _ (λ q.
+      get-without_keys (map.remove m e.0) entries q
+      ∙ ap (λ o. cond (not (is_some (find key_cmp q entries))) o None) (get-remove nat_list_cmp_total m e.0 q)
+      ∙ by (map.get m q) (eq_by_cmp key_cmp q e.0) (find key_cmp q entries)
+      ∙ sym (get-without_keys m (e ∷ entries) q))
     where
       by : (v : Option V) (b : Bool) (o : Option W)
           → cond (not (is_some o)) (cond b None v) None ≡ cond (not (is_some (cond b (Some e.1) o))) v None
@@ -281,6 +281,6 @@ filled_turned (x ∷ xs) ys some none = absurd (cc)
 -- the result of comparing two sets
 pub same_sets_if : {E : Type 0} (eq : Unit {0} → Unit {0} → Bool) → ((u v : Unit {0}) → eq u v ≡ true)
     → (s t : FinMap key_cmp (Unit {0})) (r : Result Bool E)
-    → IfOk r (λ b. b ≡ are_same_rows eq (map.entries s) (map.entries t)) → IfOk r (λ b. IsTrue b ↔ (s ≡ t))
+    → IfOk r (λ b. b ≡ are_same_entries eq (map.entries s) (map.entries t)) → IfOk r (λ b. IsTrue b ↔ (s ≡ t))
 same_sets_if eq all s t (Ok b) is = same_sets eq all s t b is
 same_sets_if eq all s t (Err e) is = tt

@@ -22,28 +22,29 @@ module _ {F V : Type 0}
       pub called : Called call f (key, (shown, tt)) (stays, (after, tt)) g
       pub leaves : after.now ≡ left
 
-  -- at a row where it returned true the map has what it left of the value, and else the row is gone
-  pub record RetainsRow (old : F × map.FinMap key_cmp V) (row : List ℕ × V)
+  -- at an entry where it returned true the map has what it left of the value, and else the entry is
+  -- gone
+  pub record RetainsEntry (old : F × map.FinMap key_cmp V) (entry : List ℕ × V)
       (new : F × map.FinMap key_cmp V) : Type 0 where
     pub stays : Bool
     pub left : V
-    pub asked : IsAskedAtEntry old.0 row stays new.0 left
-    pub is_new : new.1 ≡ cond stays (map.insert old.1 row.0 left) (map.remove old.1 row.0)
+    pub asked : IsAskedAtEntry old.0 entry stays new.0 left
+    pub is_new : new.1 ≡ cond stays (map.insert old.1 entry.0 left) (map.remove old.1 entry.0)
 
-  -- so at all rows, in order
+  -- so at all entries, in order
   abbrev pub RetainsAll : F → map.FinMap key_cmp V → map.FinMap key_cmp V → Type 0
-  RetainsAll f old new = (last : F) × FoldsTo RetainsRow (f, old) (map.entries old) (last, new)
+  RetainsAll f old new = (last : F) × FoldsTo RetainsEntry (f, old) (map.entries old) (last, new)
 
-  -- so at some rows, in order; at the row after them it returned false, and without this row labels
-  -- would be joined: it stays, with what it left of the value, as do the rows behind it
+  -- so at some entries, in order; at the entry after them it returned false, and without this entry
+  -- labels would be joined: it stays, with what it left of the value, as do the entries behind it
   pub record IsRetainStopped (item : List ℕ → Type 0) (f : F) (old new : map.FinMap key_cmp V)
       : Type 0 where
     pub done : List (List ℕ × V)
     pub refused : List ℕ × V
     pub behind : List (List ℕ × V)
-    pub are_rows : map.entries old ≡ done ++ refused ∷ behind
+    pub are_entries : map.entries old ≡ done ++ refused ∷ behind
     pub before : F × map.FinMap key_cmp V
-    pub retained : FoldsTo RetainsRow (f, old) done before
+    pub retained : FoldsTo RetainsEntry (f, old) done before
     pub last : F
     pub left : V
     pub asked : IsAskedAtEntry before.0 refused false last left

@@ -3,7 +3,7 @@ use Rattle.std.specs.Prelude.{◌≡◌, ℕ, List, Some}
 use Rattle.std.specs.Borrow.{MutBor}
 use Rattle.std.specs.Fn.{Once}
 use Rattle.std.specs.FinMap as map
-use Rattle.patricia_model.specs.Cursors.{CursorView, next_row, next_value, stepped, written}
+use Rattle.patricia_model.specs.Cursors.{CursorView, next_entry, next_value, stepped, written}
 
 -- `call` says of a closure when it may be called at a key and a loan of a value, and what it may
 -- then answer and leave there; `bytes` what the bytes of a key are
@@ -13,7 +13,7 @@ module _ {F K V R : Type 0}
   -- f may be called at the entry that the cursor lends next
   abbrev pub TakesNext : F → CursorView V → Type 0
   TakesNext f s =
-      (key : K) (shown : MutBor V) → next_row s ≡ Some (bytes key, shown.now)
+      (key : K) (shown : MutBor V) → next_entry s ≡ Some (bytes key, shown.now)
       → call.pre f (key, (shown, tt))
 
   -- f was called at that entry and answered r; the cursor advanced to it, and what f left is there:
@@ -22,7 +22,7 @@ module _ {F K V R : Type 0}
     pub key : K
     pub shown : MutBor V
     pub left : MutBor V
-    pub is_next : next_row s ≡ Some (bytes key, shown.now)
+    pub is_next : next_entry s ≡ Some (bytes key, shown.now)
     pub met : call.post f (key, (shown, tt)) (r, (left, tt))
     pub put_in : t ≡ written (stepped s) left.now
     pub map_is : t.map ≡ map.insert s.map (bytes key) left.now

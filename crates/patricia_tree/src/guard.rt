@@ -1,4 +1,4 @@
-//! What a cursor holds: the place of a map, and the map itself.
+//! The guard of a cursor, which holds the place of a map, and the map itself.
 ghost use Rattle.std.specs.Prelude.{◌≡◌};
 
 /// What was made of a value, and can be made into it again.
@@ -10,7 +10,7 @@ pub trait IntoMap<T>: Drop {
         ensures { result ≡ back self };
 }
 
-/// A cursor over a map that is lent to it. The map is put back where this is dropped.
+/// A guard: a cursor over a map that is lent to it. The map is put back where the guard is dropped.
 ///
 /// While it lives the map's place holds the empty map, which does not allocate; so a cursor that is
 /// forgotten (`std::mem::forget`) keeps the entries.

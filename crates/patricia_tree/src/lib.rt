@@ -6,6 +6,8 @@
 //!
 //! Keys are in the order of their bytes. A prefix that keys share is stored once. A look-up takes
 //! time in proportion to the nodes that it visits, at most 256 for each byte of the key.
+//! `get_longest_common_prefix` is a longest-prefix match, as routers make it, `iter_prefix` lists
+//! what an autocomplete shows, and `within` is a fuzzy search by Levenshtein distance.
 //!
 //! A call that returns no `Result` does not allocate. One that does returns an error where memory
 //! runs out, and its documentation says what stays as it was: mostly everything.

@@ -3,7 +3,7 @@ ghost use Rattle.std.specs.Prelude.{◌≡◌, ◌≢◌, ◌+◌, None, Some, I
 ghost use Rattle.std.specs.Prelude.{MatchOption};
 ghost use Rattle.std.specs.Borrow.{sem};
 ghost use Rattle.std.specs.Option.{option_copied_mut, option_map};
-ghost use Rattle.patricia_model.specs.Cursors.{last_value, next_key, next_row, stepped, written};
+ghost use Rattle.patricia_model.specs.Cursors.{last_value, next_key, next_entry, stepped, written};
 
 use crate::guard::{CursorGuard, IntoMap};
 use patricia_keys::{BorrowedBytes, Bytes};
@@ -39,7 +39,7 @@ where
         ensures left { IfOk result (λ key. MatchOption key (left self.old.at ≡ 0)
             (λ _. left self.old.at ≡ left self.new.at + 1)) }
         ensures unchanged { OnErr result (self.new.at ≡ self.old.at) }
-        ensures err_only_if_left { OnErr result (next_row self.old.at ≢ None) }
+        ensures err_only_if_left { OnErr result (next_entry self.old.at ≢ None) }
     {
         self.at.advance()
     }
@@ -61,10 +61,10 @@ where
     fn go_on(&mut self) -> Result<Option<K>, AllocError>
         ensures owner { self.new.owner.ghost_name ≡ self.old.owner.ghost_name }
         ensures ok { IfOk result (λ key. MatchOption key
-            ((next_row self.old.at ≡ None) × (self.new.at ≡ self.old.at))
+            ((next_entry self.old.at ≡ None) × (self.new.at ≡ self.old.at))
             (λ key. IsNext self.old.at (K.key key) × (self.new.at ≡ stepped self.old.at))) }
         ensures unchanged { OnErr result (self.new.at ≡ self.old.at) }
-        ensures err_only_if_left { OnErr result (next_row self.old.at ≢ None) }
+        ensures err_only_if_left { OnErr result (next_entry self.old.at ≢ None) }
     {
         match self.advance()? {
             Some(key) => Ok(Some(key)),
@@ -98,9 +98,9 @@ where
     /// The contract says no more than what is read: what the map is after an error, at the end or
     /// after the loan, those of `next_with`, and of `advance` and `value`, say.
     pub fn next(&mut self) -> Result<Option<(K, &mut V)>, AllocError>
-        ensures row { IfOk result (λ e.
-            option_map (λ e. (K.key e.0, e.1.now)) e ≡ next_row self.old.at) }
-        ensures err_only_if_left { OnErr result (next_row self.old.at ≢ None) }
+        ensures entry { IfOk result (λ e.
+            option_map (λ e. (K.key e.0, e.1.now)) e ≡ next_entry self.old.at) }
+        ensures err_only_if_left { OnErr result (next_entry self.old.at ≢ None) }
     {
         match self.go_on()? {
             Some(key) => Ok(Some((key, self.there()))),
@@ -121,12 +121,12 @@ where
         requires callable { TakesNext F.FnOnce K.key f self.old.at }
         ensures owner { self.new.owner.ghost_name ≡ self.old.owner.ghost_name }
         ensures ok { IfOk result (λ r. MatchOption r
-            ((next_row self.old.at ≡ None) × (self.new.at ≡ self.old.at))
+            ((next_entry self.old.at ≡ None) × (self.new.at ≡ self.old.at))
             (λ r. StepsWith F.FnOnce K.key f self.old.at r self.new.at)) }
         ensures left { IfOk result (λ r. MatchOption r (left self.old.at ≡ 0)
             (λ _. left self.old.at ≡ left self.new.at + 1)) }
         ensures unchanged { OnErr result (self.new.at ≡ self.old.at) }
-        ensures err_only_if_left { OnErr result (next_row self.old.at ≢ None) }
+        ensures err_only_if_left { OnErr result (next_entry self.old.at ≢ None) }
     {
         let Some(key) = self.go_on()? else {
             return Ok(None);

@@ -13,8 +13,9 @@ use std::marker::Model;
 
 /// A table of routes: prefixes, each with its target.
 ///
-/// A key is routed by the longest prefix in the table that it begins with, as a path is by a web
-/// server and an address by a routing table. A router keeps the allocator that it was made with.
+/// A key is routed by a longest-prefix match: by the longest prefix in the table that it begins
+/// with, as a path is by a web server and an address by a routing table. A router keeps the
+/// allocator that it was made with.
 ///
 /// # Examples
 ///
@@ -118,7 +119,7 @@ impl<K: Bytes, V: Drop> Router<K, V> {
     /// The prefix that is returned is a part of the key that is passed, and does not borrow the
     /// router.
     pub fn route<Q: BorrowedBytes<Owned = K>>(&self, key: Q) -> Option<(Q, &V)>
-        ensures row { option_map (λ e. (Q.key e.0, e.1.now)) result
+        ensures entry { option_map (λ e. (Q.key e.0, e.1.now)) result
             ≡ longest (Q.key key) (map.entries self.now) }
         ensures part { IfSome result (λ e. Begins (Q.key e.0) (Q.key key)) }
     {
@@ -135,7 +136,7 @@ impl<K: Bytes, V: Drop> Router<K, V> {
         &self,
         keys: &[Q],
     ) -> Result<Vec<Option<(Q, &V)>>, AllocError>
-        ensures rows { IfOk result (λ routes.
+        ensures entries { IfOk result (λ routes.
             list_map (option_map (λ e. (Q.key e.0, e.1.now))) routes.items
             ≡ list_map (λ key. longest (Q.key key) (map.entries self.now)) keys.now) }
         ensures err_only_nonempty { OnErr result (keys.now ≢ []) }

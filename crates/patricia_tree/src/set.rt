@@ -141,8 +141,8 @@ impl<T: Bytes> GenericPatriciaSet<T> {
         self.map.contains_key(element)
     }
 
-    /// Returns the longest element that is a prefix of the key, or `None` where there is none. Does
-    /// not allocate.
+    /// Returns the longest element that is a prefix of the key, or `None` where there is none: a
+    /// longest-prefix match. Does not allocate.
     ///
     /// What is returned is a part of the key that is passed, and does not borrow the set.
     ///

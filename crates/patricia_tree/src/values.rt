@@ -3,7 +3,8 @@ ghost use Rattle.std.specs.Prelude.{◌≡◌, ◌≢◌, ◌+◌, ◌↔◌, No
 ghost use Rattle.std.specs.Prelude.{IsSome, IsTrue, MatchOption};
 ghost use Rattle.std.specs.Borrow.{sem};
 ghost use Rattle.std.specs.Option.{option_copied_mut};
-ghost use Rattle.patricia_model.specs.Cursors.{last_value, next_row, next_value, stepped, written};
+ghost use Rattle.patricia_model.specs.Cursors.{last_value, next_entry, next_value, stepped};
+ghost use Rattle.patricia_model.specs.Cursors.{written};
 
 use crate::guard::{CursorGuard, IntoMap};
 use patricia_keys::Bytes;
@@ -30,13 +31,13 @@ where
     /// Out of memory: nothing is changed, and the next call tries the same value.
     pub fn advance(&mut self) -> Result<bool, AllocError>
         ensures owner { self.new.owner.ghost_name ≡ self.old.owner.ghost_name }
-        ensures found { IfOk result (λ found. IsTrue found ↔ (next_row self.old.at ≢ None)) }
+        ensures found { IfOk result (λ found. IsTrue found ↔ (next_entry self.old.at ≢ None)) }
         ensures stepped { OnOk result (self.new.at ≡ stepped self.old.at) }
         ensures left { IfOk result (λ found.
             IsTrue found → left self.old.at ≡ left self.new.at + 1) }
         ensures none_left { IfOk result (λ found. found ≡ false → left self.old.at ≡ 0) }
         ensures unchanged { OnErr result (self.new.at ≡ self.old.at) }
-        ensures err_only_if_left { OnErr result (next_row self.old.at ≢ None) }
+        ensures err_only_if_left { OnErr result (next_entry self.old.at ≢ None) }
     {
         self.at.advance()
     }
@@ -56,10 +57,10 @@ where
     fn go_on(&mut self) -> Result<bool, AllocError>
         ensures owner { self.new.owner.ghost_name ≡ self.old.owner.ghost_name }
         ensures some { IfOk result (λ found. IsTrue found → IsNextValue self.old.at) }
-        ensures none { IfOk result (λ found. found ≡ false → next_row self.old.at ≡ None) }
+        ensures none { IfOk result (λ found. found ≡ false → next_entry self.old.at ≡ None) }
         ensures stepped { OnOk result (self.new.at ≡ stepped self.old.at) }
         ensures unchanged { OnErr result (self.new.at ≡ self.old.at) }
-        ensures err_only_if_left { OnErr result (next_row self.old.at ≢ None) }
+        ensures err_only_if_left { OnErr result (next_entry self.old.at ≢ None) }
     {
         if self.advance()? { Ok(true) } else { Ok(false) }
     }
@@ -89,7 +90,7 @@ where
     /// after the loan, those of `next_with`, and of `advance` and `value`, say.
     pub fn next(&mut self) -> Result<Option<&mut V>, AllocError>
         ensures value { IfOk result (λ v. option_copied_mut v ≡ next_value self.old.at) }
-        ensures err_only_if_left { OnErr result (next_row self.old.at ≢ None) }
+        ensures err_only_if_left { OnErr result (next_entry self.old.at ≢ None) }
     {
         if self.go_on()? {
             Ok(Some(self.there()))
@@ -110,12 +111,12 @@ where
         requires callable { TakesNextValue F.FnOnce f self.old.at }
         ensures owner { self.new.owner.ghost_name ≡ self.old.owner.ghost_name }
         ensures ok { IfOk result (λ r. MatchOption r
-            ((next_row self.old.at ≡ None) × (self.new.at ≡ self.old.at))
+            ((next_entry self.old.at ≡ None) × (self.new.at ≡ self.old.at))
             (λ r. StepsWithValue F.FnOnce f self.old.at r self.new.at)) }
         ensures left { IfOk result (λ r. MatchOption r (left self.old.at ≡ 0)
             (λ _. left self.old.at ≡ left self.new.at + 1)) }
         ensures unchanged { OnErr result (self.new.at ≡ self.old.at) }
-        ensures err_only_if_left { OnErr result (next_row self.old.at ≢ None) }
+        ensures err_only_if_left { OnErr result (next_entry self.old.at ≢ None) }
     {
         if !self.go_on()? {
             return Ok(None);

@@ -1,4 +1,4 @@
--- The rows that wait come after the bytes that are passed.
+-- The siblings that wait come after the bytes that are passed.
 use Rattle.std.proofs.Common.{◌≡◌, ◌≢◌, ℕ, ◌+◌, ◌-◌, ◌<◌, ◌≤◌, List, [], ◌∷◌, ◌++◌, length, take, drop}
 use Rattle.std.proofs.Common.{refl, sym, ap, subst, ◌∙◌, arith}
 use Rattle.std.proofs.lemmas.List.{length-append, length-drop, length-take}
@@ -104,7 +104,7 @@ module _ (item : List ℕ → Type 0) {V : Type 0} where
         less = b.less;
       }
 
-  -- behind the bytes of the last row the others come after these
+  -- behind the bytes of the last siblings the others come after these
   pub after-back : IsKeyKind item → (path : List ℕ) (fs : List (ℕ × Siblings V)) (n : ℕ) (r : Siblings V)
       → WaitsWithin item path (fs ++ (n, r) ∷ []) → WaitsAfter item path (fs ++ (n, r) ∷ [])
       → IsValid item (take n path) → WaitsAfter item (take n path) fs

@@ -1,4 +1,4 @@
--- The steps of a walk along a key.
+-- The steps of a walk over the common prefixes of a key.
 use Rattle.std.proofs.Common.{◌≡◌, ◌≢◌, ◌<◌, ◌∷◌, [], ℕ, ◌+◌, ◌-◌, ◌≤◌, true, false, List, ◌++◌, length, get_or, take}
 use Rattle.std.proofs.Common.{drop, Option, Some, None, refl, sym, ap, subst, ◌∙◌, arith}
 use Rattle.std.specs.Option.{option_copied}
@@ -15,18 +15,18 @@ use Rattle.patricia_keys.proofs.KeyLemmas.{IsValid-nil, IsValid-append}
 use Rattle.patricia_model.specs.Prefixes.{begins, along}
 use Rattle.patricia_model.specs.Internal.WalkStates.{steps_in}
 use Rattle.patricia_model.specs.Siblings.{Siblings, end, node, prefixed, own, entries, IsCanonical}
-use Rattle.patricia_model.proofs.RowLemmas.{prefixed-prefixed}
+use Rattle.patricia_model.proofs.SiblingsLemmas.{prefixed-prefixed}
 use Rattle.patricia_model.proofs.WalkLemmas.{prefixed-nil}
 use Rattle.patricia_model.proofs.PrefixLemmas.{begins_is, begins_other, along-append, along_own}
 use Rattle.patricia_model.proofs.PrefixLemmas.{along_down, along_past, along_stop}
 use Rattle.patricia_nodes.specs.declared.arena.Node.{Node}
 use Rattle.patricia_nodes.specs.declared.arena.NodeArena.{NodeArena}
-use Rattle.patricia_nodes.specs.Internal.Plans.{Nil, row, plan_at, IsPlan, IsWellFormed}
-use Rattle.patricia_nodes.specs.Internal.Plans.{siblings_of as slots_row}
+use Rattle.patricia_nodes.specs.Internal.Plans.{Nil, siblings_in, plan_at, IsPlan, IsWellFormed}
+use Rattle.patricia_nodes.specs.Internal.Plans.{siblings_of as slots_siblings}
 use Rattle.patricia_nodes.proofs.PlanLemmas.{plan_is}
 use Rattle.patricia_nodes.proofs.SeekLemmas.{head_within, opened, whole_plan}
-use Rattle.patricia_walks.specs.Internal.Positions.{row_at}
-use Rattle.patricia_walks.proofs.PositionLemmas.{row_none}
+use Rattle.patricia_walks.specs.Internal.Positions.{siblings_at}
+use Rattle.patricia_walks.proofs.PositionLemmas.{siblings_none}
 use Rattle.patricia_walks.specs.declared.along.Descent.{Descent}
 use Rattle.patricia_walks.specs.Internal.Descents.{IsDescent, Moves, siblings_left, along_left}
 use Rattle.patricia_walks.specs.Internal.Descents.{left_from}
@@ -53,7 +53,7 @@ module _ (k l t : List ℕ) (n : ℕ) (within : n ≤ length k) (rest : l ++ t �
   pub more_within : n + length l ≤ length k
   more_within = omega (arith, ap length rest, length-append l t, length-drop n k, within)
 
--- a walk over a row takes a step
+-- a walk over siblings takes a step
 pub some_step : {V : Type 0} (r : Siblings V) → 1 ≤ steps_in r
 some_step end = omega arith
 some_step (node l v c s) = omega arith
@@ -88,40 +88,40 @@ module _ (item : List ℕ → Type 0) (kind : IsKeyKind item) {V : Type 0} (k : 
     (d e : Descent V) (id : ℕ) (n : Node V) (w : IsDescent item k d) (taken : d.pending ≡ None)
     (next : d.next ≡ Some id) (reads : n ≡ get_or d.arena.now.nodes.items id n)
     (arena : e.arena ≡ d.arena) where
-  -- the row that is next
-  abbrev child_row : Siblings V
-  child_row = row_at d.arena.now.nodes.items n.child
+  -- the siblings that are next
+  abbrev child_siblings : Siblings V
+  child_siblings = siblings_at d.arena.now.nodes.items n.child
 
-  abbrev sibling_row : Siblings V
-  sibling_row = row_at d.arena.now.nodes.items n.sibling
+  abbrev sibling_siblings : Siblings V
+  sibling_siblings = siblings_at d.arena.now.nodes.items n.sibling
 
   record Opens : Type 0 where
-    is : siblings_left d ≡ node n.label n.value child_row sibling_row
+    is : siblings_left d ≡ node n.label n.value child_siblings sibling_siblings
     child_plan : IsPlan d.arena.now.nodes.items n.child (plan_at d.arena.now.nodes.items n.child)
     sibling_plan :
         IsPlan d.arena.now.nodes.items n.sibling (plan_at d.arena.now.nodes.items n.sibling)
 
-  -- the row that is next is its first node, with the rows that its two links lead to
+  -- the siblings that are next are their first node, with the siblings that its two links lead to
   opens : Opens
   opens =
       let nodes = d.arena.now.nodes.items in
       let o = opened nodes d.next (plan_at nodes d.next) id n w.plan next reads in
       let c_is = plan_is nodes n.child o.child o.child_plan in
       let s_is = plan_is nodes n.sibling o.sibling o.sibling_plan in
-      record { is = rw (c_is, s_is) (ap row o.is); child_plan = rw c_is o.child_plan; sibling_plan = rw s_is o.sibling_plan }
+      record { is = rw (c_is, s_is) (ap siblings_in o.is); child_plan = rw c_is o.child_plan; sibling_plan = rw s_is o.sibling_plan }
 
-  -- that row keeps the invariant
-  node_row : IsCanonical item (node n.label n.value child_row sibling_row)
-  node_row = subst (IsCanonical item) opens.is w.canonical
+  -- those siblings keep the invariant
+  node_siblings : IsCanonical item (node n.label n.value child_siblings sibling_siblings)
+  node_siblings = subst (IsCanonical item) opens.is w.canonical
 
-  -- before the step, the entries along the key of that node and of what follows are left
+  -- before the step, the common prefixes at that node and at what follows are left
   before : along_left k d ≡ prefixed (take d.len k)
-      (along (drop d.len k) (entries (node n.label n.value child_row sibling_row)))
+      (along (drop d.len k) (entries (node n.label n.value child_siblings sibling_siblings)))
   before = ap (λ v. left_from k d.len (option_copied v) (siblings_left d)) taken ∙ ap (λ r. prefixed (take d.len k) (along (drop d.len k) (entries r))) opens.is
 
   -- its label has a byte
   pub labelled : n.label ≢ []
-  labelled = node_row.nonempty
+  labelled = node_siblings.nonempty
 
   -- where a node's label begins what is left of the key, the step goes to its children
   pub moves_down : begins n.label (drop d.len k) ≡ true → e.len ≡ d.len + length n.label
@@ -131,58 +131,58 @@ module _ (item : List ℕ → Type 0) (kind : IsKeyKind item) {V : Type 0} (k : 
       let front = front_then k n.label begun.0 d.len w.within begun.1 in
       let rest = left_then k n.label begun.0 d.len w.within begun.1 in
       let more = more_within k n.label begun.0 d.len w.within begun.1 in
-      let row_is : siblings_left e ≡ child_row = rw (arena, child) refl in
+      let siblings_are : siblings_left e ≡ child_siblings = rw (arena, child) refl in
       record {
         descent = record {
           within = rw len more;
-          valid = rw (len, front) (IsValid-append item (take d.len k) n.label w.valid node_row.valid);
+          valid = rw (len, front) (IsValid-append item (take d.len k) n.label w.valid node_siblings.valid);
           plan = rw (arena, child) opens.child_plan;
-          canonical = rw row_is node_row.child;
+          canonical = rw siblings_are node_siblings.child;
         };
         same =
-            rw (len, pending, row_is, front, rest) (sym (prefixed-prefixed (take d.len k) n.label (own n.value ++ along begun.0 (entries child_row))))
+            rw (len, pending, siblings_are, front, rest) (sym (prefixed-prefixed (take d.len k) n.label (own n.value ++ along begun.0 (entries child_siblings))))
             ∙ ap (prefixed (take d.len k))
-            (sym (along_down item kind n.label n.value child_row sibling_row node_row begun.0)
-            ∙ ap (λ r. along r (entries (node n.label n.value child_row sibling_row))) begun.1)
+            (sym (along_down item kind n.label n.value child_siblings sibling_siblings node_siblings begun.0)
+            ∙ ap (λ r. along r (entries (node n.label n.value child_siblings sibling_siblings))) begun.1)
             ∙ sym before;
-        less = rw (row_is, opens.is) (omega arith);
+        less = rw (siblings_are, opens.is) (omega arith);
       }
 
   -- where it does not, the step goes to the sibling
   pub moves_past : begins n.label (drop d.len k) ≡ false → e.len ≡ d.len → e.pending ≡ d.pending
       → e.next ≡ n.sibling → Moves item k d e
   moves_past other len pending sibling =
-      let row_is : siblings_left e ≡ sibling_row = rw (arena, sibling) refl in
+      let siblings_are : siblings_left e ≡ sibling_siblings = rw (arena, sibling) refl in
       record {
         descent = record {
           within = rw len w.within;
           valid = rw len w.valid;
           plan = rw (arena, sibling) opens.sibling_plan;
-          canonical = rw row_is node_row.sibling;
+          canonical = rw siblings_are node_siblings.sibling;
         };
         same =
-            rw (len, pending, taken, row_is)
+            rw (len, pending, taken, siblings_are)
             (ap (prefixed (take d.len k))
-            (sym (along_past item kind n.label n.value child_row sibling_row node_row
+            (sym (along_past item kind n.label n.value child_siblings sibling_siblings node_siblings
             (drop d.len k) (begins_other n.label (drop d.len k) other))))
             ∙ sym before;
-        less = rw (row_is, opens.is) (omega arith);
+        less = rw (siblings_are, opens.is) (omega arith);
       }
 
   -- or to the end, where the key comes before the label
   pub moves_off : begins n.label (drop d.len k) ≡ false → key_cmp (drop d.len k) n.label ≡ Less
       → e.len ≡ d.len → e.pending ≡ d.pending → e.next ≡ None → Moves item k d e
   moves_off other less len pending none =
-      let row_is : siblings_left e ≡ end = rw (arena, none) (row_none d.arena.now.nodes.items) in
+      let siblings_are : siblings_left e ≡ end = rw (arena, none) (siblings_none d.arena.now.nodes.items) in
       record {
-        descent = record { within = rw len w.within; valid = rw len w.valid; plan = rw none (plan_none e.arena.now.nodes.items); canonical = rw row_is tt };
+        descent = record { within = rw len w.within; valid = rw len w.valid; plan = rw none (plan_none e.arena.now.nodes.items); canonical = rw siblings_are tt };
         same =
-            rw (len, pending, taken, row_is)
+            rw (len, pending, taken, siblings_are)
             (ap (prefixed (take d.len k))
-            (sym (along_stop item kind n.label n.value child_row sibling_row node_row
+            (sym (along_stop item kind n.label n.value child_siblings sibling_siblings node_siblings
             (drop d.len k) (begins_other n.label (drop d.len k) other) less)))
             ∙ sym before;
-        less = rw (row_is, opens.is) (omega (arith, some_step child_row, some_step sibling_row));
+        less = rw (siblings_are, opens.is) (omega (arith, some_step child_siblings, some_step sibling_siblings));
       }
 
   -- a key without a byte more, or with the lesser one, ends the walk
@@ -224,9 +224,9 @@ less_is Equal e = absurd (cc)
 less_is Greater e = absurd (cc)
 
 module _ (item : List ℕ → Type 0) {V : Type 0} (k : List ℕ) where
-  -- at its start a walk stands at the first row
+  -- at its start a walk stands at the top siblings
   pub descent_start : (d : Descent V) (s : NodeArena V) → d.arena.now ≡ s → d.len ≡ 0
-      → d.next ≡ s.root → IsWellFormed s → IsCanonical item (slots_row s) → IsDescent item k d
+      → d.next ≡ s.root → IsWellFormed s → IsCanonical item (slots_siblings s) → IsDescent item k d
   descent_start d s arena len next whole ok = record {
     within = rw len (omega arith);
     valid = rw len (IsValid-nil item);
@@ -234,7 +234,7 @@ module _ (item : List ℕ → Type 0) {V : Type 0} (k : List ℕ) where
     canonical = rw (arena, next) ok;
   }
 
--- at first all entries along the key are left
+-- at first all common prefixes are left
 pub left_start : {V : Type 0} (k : List ℕ) (pending : Option V) (r : Siblings V)
     → left_from k 0 pending r ≡ along k (own pending ++ entries r)
 left_start k pending r =

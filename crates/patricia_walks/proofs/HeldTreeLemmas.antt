@@ -6,7 +6,7 @@ use Rattle.std.specs.Option.{option_map, is_some}
 use Rattle.std.specs.FinMap.{is_sorted}
 use Rattle.std.specs.FinMap.Entries.{is_sorted-where_key}
 use Rattle.patricia_keys.specs.Keys.{IsKeyKind, key_cmp}
-use Rattle.patricia_model.specs.Cursors.{CursorView, after, remaining_rows, next_key, stepped}
+use Rattle.patricia_model.specs.Cursors.{CursorView, after, remaining_entries, next_key, stepped}
 use Rattle.patricia_model.specs.Points.{Has}
 use Rattle.patricia_model.specs.Prefixes.{begins, under}
 use Rattle.patricia_model.specs.Siblings.{own}
@@ -19,25 +19,26 @@ use Rattle.patricia_walks.specs.declared.held_tree.HeldTree.{HeldTree}
 use Rattle.patricia_walks.specs.declared.held_tree.TreeParts.{TreeParts}
 use Rattle.patricia_walks.specs.declared.held_tree.ValueSlot.{ValueSlot}
 use Rattle.patricia_walks.specs.Internal.Holders.{holders, held, key_at, ReadsHeld}
-use Rattle.patricia_walks.specs.Internal.HeldTrees.{last_key, standing, rows_left, AreEntriesLeft}
+use Rattle.patricia_walks.specs.Internal.HeldTrees.{last_key, standing, entries_to_lend}
+use Rattle.patricia_walks.specs.Internal.HeldTrees.{AreEntriesLeft}
 use Rattle.patricia_walks.specs.Internal.HeldTrees.{IsHeld, IsMadeOf, IsSameTree, Refuses, Takes}
 use Rattle.patricia_walks.proofs.HolderLemmas.{holders_read, holders_once, holders_sorted}
 use Rattle.patricia_walks.proofs.ReadLemmas.{key_of_once, reads_after, reads_first, reads_none}
 
 module _ (item : List ℕ → Type 0) (kind : IsKeyKind item) {V : Type 0} (t : HeldTree V)
     (prefix : List ℕ) (w : IsHeld item t) where
-  -- the rows that are left are those that the cursor has still to lend
-  read_left : (rows : List (List ℕ × ValueSlot)) → AreEntriesLeft t prefix rows
-      → ReadsHeld (held t.value t.arena.nodes.items) rows (remaining_rows (standing t prefix))
-  read_left rows is =
+  -- the entries that are left are those that the cursor has still to lend
+  read_left : (entries : List (List ℕ × ValueSlot)) → AreEntriesLeft t prefix entries
+      → ReadsHeld (held t.value t.arena.nodes.items) entries (remaining_entries (standing t prefix))
+  read_left entries is =
       rw (is, entries_map item kind t.value (siblings_of t.arena) w.tree.canonical)
       (reads_after (held t.value t.arena.nodes.items) (last_key t) prefix (holders t.value t.arena)
       (own t.value ++ entries_of t.arena) (holders_read t.arena w.whole t.value))
 
   -- where none is left there is no next key
   pub next_none : AreEntriesLeft t prefix [] → next_key (standing t prefix) ≡ None
-  next_none is = ap (λ rows. option_map (λ e. e.0) (slice_get rows 0))
-      (reads_none (held t.value t.arena.nodes.items) (remaining_rows (standing t prefix))
+  next_none is = ap (λ entries. option_map (λ e. e.0) (slice_get entries 0))
+      (reads_none (held t.value t.arena.nodes.items) (remaining_entries (standing t prefix))
       (read_left [] is))
 
   -- and else it is the first
@@ -45,10 +46,10 @@ module _ (item : List ℕ → Type 0) (kind : IsKeyKind item) {V : Type 0} (t : 
       → AreEntriesLeft t prefix ((key, h) ∷ rest) → next_key (standing t prefix) ≡ Some key
   next_some key h rest is = ap (option_map (λ e. e.0))
       (reads_first (held t.value t.arena.nodes.items) (key, h) rest
-      (remaining_rows (standing t prefix)) (read_left ((key, h) ∷ rest) is)).1
+      (remaining_entries (standing t prefix)) (read_left ((key, h) ∷ rest) is)).1
 
-  -- so there is one where a row is left
-  pub next_filled : (rows : List (List ℕ × ValueSlot)) → AreEntriesLeft t prefix rows → rows ≢ []
+  -- so there is one where an entry is left
+  pub next_filled : (entries : List (List ℕ × ValueSlot)) → AreEntriesLeft t prefix entries → entries ≢ []
       → next_key (standing t prefix) ≢ None
   next_filled [] is nonempty = λ none. nonempty refl
   next_filled ((key, h) ∷ rest) is nonempty = λ none. let some = next_some key h rest is in absurd (cc)
@@ -57,13 +58,13 @@ module _ (item : List ℕ → Type 0) (kind : IsKeyKind item) {V : Type 0} (t : 
   under_sorted : T (is_sorted key_cmp (under prefix (holders t.value t.arena)))
   under_sorted = is_sorted-where_key key_cmp (begins prefix) (holders t.value t.arena) (holders_sorted t.arena w.whole item kind t.value w.tree.canonical)
 
-  -- the holder of the first row that is left has its key
+  -- the holder of the first entry that is left has its key
   pub first_key : (key : List ℕ) (h : ValueSlot) (rest : List (List ℕ × ValueSlot))
       → AreEntriesLeft t prefix ((key, h) ∷ rest) → key_at (holders t.value t.arena) h ≡ Some key
   first_key key h rest is =
-      let rows = holders t.value t.arena in
-      let first = after_has (last_key t) (under prefix rows) (key, h) (subst (λ r. Has r (key, h)) is (inl refl)) in
-      key_of_once h rows (holders_once t.arena w.whole t.value h) key (has_filter (λ e. begins prefix e.0) rows (key, h) first).0
+      let entries = holders t.value t.arena in
+      let first = after_has (last_key t) (under prefix entries) (key, h) (subst (λ r. Has r (key, h)) is (inl refl)) in
+      key_of_once h entries (holders_once t.arena w.whole t.value h) key (has_filter (λ e. begins prefix e.0) entries (key, h) first).0
 
   -- and behind it are the others
   pub rest_left : (key : List ℕ) (h : ValueSlot) (rest : List (List ℕ × ValueSlot))
@@ -78,10 +79,10 @@ same_held : (item : List ℕ → Type 0) {V : Type 0} (t u : HeldTree V) → IsH
     → IsHeld item u
 same_held item t u w s known = record { whole = rw s.arena w.whole; tree = rw (s.arena, s.count) w.tree; known = rw (s.value, s.arena) known }
 
--- the rows that are left of a tree that is held
-pub record Leaves (item : List ℕ → Type 0) {V : Type 0} (t : HeldTree V) (prefix : List ℕ) (rows : List (List ℕ × ValueSlot)) : Type 0 where
+-- the entries that are left of a tree that is held
+pub record Leaves (item : List ℕ → Type 0) {V : Type 0} (t : HeldTree V) (prefix : List ℕ) (entries : List (List ℕ × ValueSlot)) : Type 0 where
   pub held : IsHeld item t
-  pub left_is : AreEntriesLeft t prefix rows
+  pub left_is : AreEntriesLeft t prefix entries
 
 module _ (item : List ℕ → Type 0) {V : Type 0} (t u : HeldTree V) (prefix : List ℕ) (later : List (List ℕ × ValueSlot)) where
   -- a cursor went on
@@ -97,33 +98,33 @@ module _ (item : List ℕ → Type 0) {V : Type 0} (t u : HeldTree V) (prefix : 
     pub some : next_key (standing t prefix) ≢ None
 
 module _ (item : List ℕ → Type 0) (kind : IsKeyKind item) {V : Type 0} (t u : HeldTree V)
-    (prefix : List ℕ) (rows later : List (List ℕ × ValueSlot)) (w : Leaves item t prefix rows)
+    (prefix : List ℕ) (entries later : List (List ℕ × ValueSlot)) (w : Leaves item t prefix entries)
     (s : IsSameTree t u) where
   -- with the last holder the whole stays
   same_standing : u.last ≡ t.last → standing u prefix ≡ standing t prefix
   same_standing last = rw (s.value, s.arena, last) refl
 
-  -- with the last holder, the rows behind its key are the same
-  same_rows : u.last ≡ t.last → rows_left u prefix ≡ rows_left t prefix
-  same_rows last = rw (s.value, s.arena, last) refl
+  -- with the last holder, the entries behind its key are the same
+  same_entries : u.last ≡ t.last → entries_to_lend u prefix ≡ entries_to_lend t prefix
+  same_entries last = rw (s.value, s.arena, last) refl
 
-  -- where the last holder and the rows are kept, these are left still
-  same_last : u.last ≡ t.last → later ≡ rows → Leaves item u prefix later
+  -- where the last holder and the entries are kept, these are left still
+  same_last : u.last ≡ t.last → later ≡ entries → Leaves item u prefix later
   same_last last left = record {
     held = same_held item t u w.held s (λ h is. w.held.known h (sym last ∙ is));
-    left_is = left ∙ w.left_is ∙ sym (same_rows last);
+    left_is = left ∙ w.left_is ∙ sym (same_entries last);
   }
 
   -- a refusal keeps the cursor where it stands
-  pub refused : Refuses t rows u later → Kept item t u prefix later
+  pub refused : Refuses t entries u later → Kept item t u prefix later
   refused r = record {
     leaves = same_last r.last r.left;
     stands = same_standing r.last;
-    some = next_filled item kind t prefix w.held rows w.left_is r.some;
+    some = next_filled item kind t prefix w.held entries w.left_is r.some;
   }
 
   -- and a step advances to the next key
-  pub gone_on : (key : Option (List ℕ)) → Takes t rows key u later → Gone item t u prefix later key
+  pub gone_on : (key : Option (List ℕ)) → Takes t entries key u later → Gone item t u prefix later key
   gone_on None g =
       let none = next_none item kind t prefix w.held (subst (AreEntriesLeft t prefix) g.0 w.left_is) in
       record {
@@ -151,42 +152,42 @@ module _ (item : List ℕ → Type 0) (kind : IsKeyKind item) {V : Type 0} (t u 
             }) (let l = rw (s.value, s.arena) at last in l));
       }
 
-  -- a step by its answer: these rows are left, whatever came of it
+  -- a step by its answer: these entries are left, whatever came of it
   pub step_leaves : {A E : Type 0} (r : Result A E)
-      → ((a : A) → r ≡ Ok a → (key : Option (List ℕ)) × Takes t rows key u later)
-      → OnErr r (Refuses t rows u later) → Leaves item u prefix later
+      → ((a : A) → r ≡ Ok a → (key : Option (List ℕ)) × Takes t entries key u later)
+      → OnErr r (Refuses t entries u later) → Leaves item u prefix later
   step_leaves (Ok a) goes err = (gone_on (goes a refl).0 (goes a refl).1).leaves
   step_leaves (Err e) goes err = (refused err).leaves
 
   module _ (x : CursorView V) (is : standing t prefix ≡ x) where
     -- the cursor goes on, or it stays where a key is left
     pub step_stands : {A E : Type 0} (r : Result A E)
-        → ((a : A) → r ≡ Ok a → (key : Option (List ℕ)) × Takes t rows key u later)
+        → ((a : A) → r ≡ Ok a → (key : Option (List ℕ)) × Takes t entries key u later)
         → OnOk r (standing u prefix ≡ stepped x)
     step_stands (Ok a) goes = (gone_on (goes a refl).0 (goes a refl).1).stands ∙ ap stepped is
     step_stands (Err e) goes = tt
 
     -- a step that is refused keeps the view
-    pub step_kept : {A E : Type 0} (r : Result A E) → OnErr r (Refuses t rows u later)
+    pub step_kept : {A E : Type 0} (r : Result A E) → OnErr r (Refuses t entries u later)
         → OnErr r (standing u prefix ≡ x)
     step_kept (Ok a) err = tt
     step_kept (Err e) err = (refused err).stands ∙ is
 
     -- and a key is left then
-    pub step_left : {A E : Type 0} (r : Result A E) → OnErr r (Refuses t rows u later)
+    pub step_left : {A E : Type 0} (r : Result A E) → OnErr r (Refuses t entries u later)
         → OnErr r (next_key x ≢ None)
     step_left (Ok a) err = tt
     step_left (Err e) err = subst (λ x. next_key x ≢ None) is (refused err).some
 
     -- and its key is the next one
     pub step_key : {A E : Type 0} (shows : A → Option (List ℕ)) (r : Result A E)
-        → IfOk r (λ a. Takes t rows (shows a) u later) → IfOk r (λ a. shows a ≡ next_key x)
+        → IfOk r (λ a. Takes t entries (shows a) u later) → IfOk r (λ a. shows a ≡ next_key x)
     step_key shows (Ok a) goes = sym (gone_on (shows a) goes).next ∙ ap next_key is
     step_key shows (Err e) goes = tt
 
     -- a step that succeeds says whether there was a key
     pub step_found : {E : Type 0} (r : Result Bool E)
-        → IfOk r (λ found. (key : Option (List ℕ)) × (found ≡ is_some key) × Takes t rows key u later)
+        → IfOk r (λ found. (key : Option (List ℕ)) × (found ≡ is_some key) × Takes t entries key u later)
         → IfOk r (λ found. IsTrue found ↔ (next_key x ≢ None))
     step_found (Ok found) goes = rw (goes.1, ← is, (gone_on goes.0 goes.2).next) (by goes.0)
       where
@@ -208,10 +209,10 @@ module _ (item : List ℕ → Type 0) {V : Type 0} (p : TreeParts V) (t : HeldTr
   pub made_held : IsHeld item t
   made_held = record { whole = rw (← made.arena) whole; tree = rw (← made.arena, ← made.count) tree; known = λ h is. absurd (let no = sym last ∙ is in cc) }
 
-  -- the rows that are left are all those under the prefix
-  pub made_left : (rows : List (List ℕ × ValueSlot)) → rows ≡ under prefix (holders p.value p.arena)
-      → AreEntriesLeft t prefix rows
-  made_left rows is = is ∙ rw (last, made.value, made.arena) refl
+  -- the entries that are left are all those under the prefix
+  pub made_left : (entries : List (List ℕ × ValueSlot)) → entries ≡ under prefix (holders p.value p.arena)
+      → AreEntriesLeft t prefix entries
+  made_left entries is = is ∙ rw (last, made.value, made.arena) refl
 
   -- a new cursor is before the first key
   pub made_stands :

@@ -15,7 +15,7 @@ use Rattle.patricia_nodes.specs.Internal.Places.{Frame, InChild, InSibling, fill
 use Rattle.patricia_nodes.specs.Internal.Places.{above_of, Leads, Matches, Placed}
 use Rattle.patricia_nodes.proofs.PlanLemmas.{plan_is, below_le}
 use Rattle.patricia_nodes.proofs.SeekLemmas.{whole_plan}
-use Rattle.patricia_walks.specs.Internal.Positions.{row_at}
+use Rattle.patricia_walks.specs.Internal.Positions.{siblings_at}
 use Rattle.patricia_walks.specs.declared.held_tree.ValueSlot.{ValueSlot}
 use Rattle.patricia_walks.specs.declared.held_tree.ValueSlot.TheVariants.{OfEmptyKey, OfNode}
 use Rattle.patricia_walks.specs.Internal.Holders.{numbered_slots, holders, held, uses, ReadsHeld}
@@ -45,7 +45,7 @@ module _ {V : Type 0} where
   above-marks (InChild id l v d ∷ fs) = refl
   above-marks (InSibling id l v c ∷ fs) = above-marks fs
 
-  -- the spot of the place is the same
+  -- the link to the place is the same
   link_ref-marks : (fs : List (Frame V)) → link_ref_of (mark_frames fs) ≡ link_ref_of fs
   link_ref-marks [] = refl
   link_ref-marks (InChild id l v d ∷ fs) = refl
@@ -97,14 +97,14 @@ module _ {V : Type 0} (s : NodeArena V) (whole : IsWellFormed s) where
       plan_at (numbered_slots 0 s.nodes.items) s.root ≡ marks (plan_at s.nodes.items s.root)
   plan_marked = plan_at-marks s.nodes.items s.root (whole_plan s whole)
 
-  -- their row keeps the invariant where the row does
-  pub row_marked : (item : List ℕ → Type 0)
-      → IsCanonical item (siblings_of s) ↔ IsCanonical item (row_at (numbered_slots 0 s.nodes.items) s.root)
-  row_marked item = rw plan_marked (canonical-marks item (plan_at s.nodes.items s.root))
+  -- their siblings keep the invariant where the siblings do
+  pub siblings_marked : (item : List ℕ → Type 0)
+      → IsCanonical item (siblings_of s) ↔ IsCanonical item (siblings_at (numbered_slots 0 s.nodes.items) s.root)
+  siblings_marked item = rw plan_marked (canonical-marks item (plan_at s.nodes.items s.root))
 
   -- and there are as many
   pub length_marked :
-      length (entries (row_at (numbered_slots 0 s.nodes.items) s.root)) ≡ length (entries_of s)
+      length (entries (siblings_at (numbered_slots 0 s.nodes.items) s.root)) ≡ length (entries_of s)
   length_marked = rw plan_marked (length-marks (plan_at s.nodes.items s.root))
 
   -- the place of a key is that among the numbered nodes
@@ -152,4 +152,4 @@ module _ {V : Type 0} (s : NodeArena V) (whole : IsWellFormed s) where
   pub holders_sorted : (item : List ℕ → Type 0) → IsKeyKind item → (v : Option V)
       → IsCanonical item (siblings_of s) → T (is_sorted key_cmp (holders v s))
   holders_sorted item kind v ok = tree_sorted item kind (option_map (λ _. OfEmptyKey) v)
-      (row_at (numbered_slots 0 s.nodes.items) s.root) ((row_marked item).0 ok)
+      (siblings_at (numbered_slots 0 s.nodes.items) s.root) ((siblings_marked item).0 ok)

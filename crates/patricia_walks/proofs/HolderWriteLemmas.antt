@@ -16,7 +16,7 @@ use Rattle.patricia_nodes.specs.Internal.NodeVecs.{value_in}
 use Rattle.patricia_walks.specs.Internal.Holders.{numbered_slots, holders, held, is_same}
 use Rattle.patricia_walks.proofs.NumberLemmas.{mark, marked_node, marks, numbered_slots-get}
 use Rattle.patricia_walks.proofs.NumberLemmas.{numbered_slots-length, sound-marks}
-use Rattle.patricia_walks.proofs.HolderLemmas.{length_marked, row_marked}
+use Rattle.patricia_walks.proofs.HolderLemmas.{length_marked, siblings_marked}
 
 module _ {V : Type 0} (nodes : List (Node V)) where
   -- the plan with the values that the nodes have
@@ -97,7 +97,7 @@ module _ {V : Type 0} where
 module _ {V : Type 0} (s u : NodeArena V)
     (same : numbered_slots 0 u.nodes.items ≡ numbered_slots 0 s.nodes.items)
     (root : u.root ≡ s.root) (free : u.free ≡ s.free) where
-  -- with the same holders there are the same rows of holders
+  -- with the same holders there are the same entries of holders
   pub same_holders : (v : Option V) → holders v u ≡ holders v s
   same_holders v = rw (same, root) refl
 
@@ -111,7 +111,7 @@ module _ {V : Type 0} (s u : NodeArena V)
   pub same_tree : (item : List ℕ → Type 0) (n : ℕ) → IsWellFormed s → IsTree item (siblings_of s) n
       → IsTree item (siblings_of u) n
   same_tree item n w t = record {
-    canonical = (row_marked u (same_whole w) item).1 (rw (same, root) ((row_marked s w item).0 t.canonical));
+    canonical = (siblings_marked u (same_whole w) item).1 (rw (same, root) ((siblings_marked s w item).0 t.canonical));
     counted = t.counted ∙ sym (length_marked s w) ∙ rw (← same, ← root) (length_marked u (same_whole w));
     fits = t.fits;
   }
@@ -123,7 +123,7 @@ module _ {V : Type 0} (s u : NodeArena V) (id : ℕ) (n : Node V) (w : V)
   pub write_numbered : numbered_slots 0 u.nodes.items ≡ numbered_slots 0 s.nodes.items
   write_numbered = rw items (numbered_slots-set_from 0 s.nodes.items id n w there some)
 
-  -- so the rows of holders stay
+  -- so the entries of holders stay
   pub write_holders : (v : Option V) → holders v u ≡ holders v s
   write_holders v = same_holders s u write_numbered root free v
 

@@ -1,20 +1,20 @@
--- The last row of a list that is made of others.
+-- The last entry of a list that is made of others.
 use Rattle.std.proofs.Common.{◌≡◌, ◌≢◌, ℕ, List, [], ◌∷◌, ◌++◌, length, Option, Some, None, refl, sym, ap}
 use Rattle.std.proofs.Common.{◌∙◌, subst, ◌<◌, get_or, arith}
 use Rattle.std.proofs.lemmas.List.{append-nil}
 use Rattle.std.specs.List.{last_or}
 use Rattle.patricia_keys.specs.Keys.{IsKeyKind}
 use Rattle.patricia_model.specs.Siblings.{Siblings, end, node, prefixed, own, entries, IsCanonical}
-use Rattle.patricia_model.proofs.RowLemmas.{prefixed-append, prefixed-prefixed}
+use Rattle.patricia_model.proofs.SiblingsLemmas.{prefixed-append, prefixed-prefixed}
 use Rattle.patricia_model.proofs.UniqueLemmas.{has_entry}
 use Rattle.patricia_model.specs.Internal.WalkStates.{steps_in}
 use Rattle.patricia_nodes.specs.declared.arena.Node.{Node}
-use Rattle.patricia_nodes.specs.Internal.Plans.{Plan, Nil, Cell, head, row, plan_at}
+use Rattle.patricia_nodes.specs.Internal.Plans.{Plan, Nil, Cell, head, siblings_in, plan_at}
 use Rattle.patricia_nodes.proofs.PlanLemmas.{plan_is}
 use Rattle.patricia_nodes.proofs.SeekLemmas.{opened, head_within}
-use Rattle.patricia_walks.specs.Internal.Lowers.{IsRowAt}
-use Rattle.patricia_walks.specs.Internal.Positions.{row_at, rows_below}
-use Rattle.patricia_walks.proofs.PositionLemmas.{row_none}
+use Rattle.patricia_walks.specs.Internal.Lowers.{AreSiblingsAt}
+use Rattle.patricia_walks.specs.Internal.Positions.{siblings_at, entries_below}
+use Rattle.patricia_walks.proofs.PositionLemmas.{siblings_none}
 
 module _ {A : Type 0} where
   -- the last of two lists
@@ -39,135 +39,135 @@ module _ {A : Type 0} where
 
 module _ (item : List ℕ → Type 0) (kind : IsKeyKind item) {V : Type 0} (l : List ℕ) (v : Option V)
     (c s : Siblings V) (ok : IsCanonical item (node l v c s)) where
-  -- there are rows below a node
-  pub below_filled : (front : List ℕ) → rows_below front (node l v c s) ≢ []
+  -- there are entries below a node
+  pub below_filled : (front : List ℕ) → entries_below front (node l v c s) ≢ []
   below_filled front none =
       let some = has_entry item kind None l v c s ok in
       let no = rw some.2 at none in
       absurd (cc)
 
--- the row from a number on is the node with that number, and the rows of its two links
-pub record RowOpens (item : List ℕ → Type 0) {V : Type 0} (nodes : List (Node V)) (at : Option ℕ) (n : Node V) : Type 0 where
-  pub row_is : row_at nodes at ≡ node n.label n.value (row_at nodes n.child) (row_at nodes n.sibling)
-  pub canonical : IsCanonical item (node n.label n.value (row_at nodes n.child) (row_at nodes n.sibling))
-  pub child_at : IsRowAt item nodes n.child
-  pub sibling_at : IsRowAt item nodes n.sibling
+-- the siblings from a number on are the node with that number, and the siblings of its two links
+pub record SiblingsOpen (item : List ℕ → Type 0) {V : Type 0} (nodes : List (Node V)) (at : Option ℕ) (n : Node V) : Type 0 where
+  pub siblings_are : siblings_at nodes at ≡ node n.label n.value (siblings_at nodes n.child) (siblings_at nodes n.sibling)
+  pub canonical : IsCanonical item (node n.label n.value (siblings_at nodes n.child) (siblings_at nodes n.sibling))
+  pub child_at : AreSiblingsAt item nodes n.child
+  pub sibling_at : AreSiblingsAt item nodes n.sibling
 
-pub row_opens : (item : List ℕ → Type 0) {V : Type 0} (nodes : List (Node V)) (at : Option ℕ) (id : ℕ)
-    (n : Node V) → IsRowAt item nodes at → at ≡ Some id → n ≡ get_or nodes id n
-    → RowOpens item nodes at n
-row_opens item nodes at id n w next reads =
+pub siblings_open : (item : List ℕ → Type 0) {V : Type 0} (nodes : List (Node V)) (at : Option ℕ) (id : ℕ)
+    (n : Node V) → AreSiblingsAt item nodes at → at ≡ Some id → n ≡ get_or nodes id n
+    → SiblingsOpen item nodes at n
+siblings_open item nodes at id n w next reads =
     let o = opened nodes at (plan_at nodes at) id n w.plan next reads in
     let c_is = plan_is nodes n.child o.child o.child_plan in
     let s_is = plan_is nodes n.sibling o.sibling o.sibling_plan in
-    let is : row_at nodes at ≡ node n.label n.value (row_at nodes n.child) (row_at nodes n.sibling) = rw (c_is, s_is) (ap row o.is) in
+    let is : siblings_at nodes at ≡ node n.label n.value (siblings_at nodes n.child) (siblings_at nodes n.sibling) = rw (c_is, s_is) (ap siblings_in o.is) in
     let ok = subst (IsCanonical item) is w.canonical in
     record {
-      row_is = is;
+      siblings_are = is;
       canonical = ok;
       child_at = record { plan = rw c_is o.child_plan; canonical = ok.child };
       sibling_at = record { plan = rw s_is o.sibling_plan; canonical = ok.sibling };
     }
 
--- the number of a row is that of a node
-pub row_within : (item : List ℕ → Type 0) {V : Type 0} (nodes : List (Node V)) (id : ℕ)
-    → IsRowAt item nodes (Some id) → id < length nodes
-row_within item nodes id w = head_within nodes (Some id) (plan_at nodes (Some id)) id w.plan refl
+-- the number of siblings is that of a node
+pub siblings_within : (item : List ℕ → Type 0) {V : Type 0} (nodes : List (Node V)) (id : ℕ)
+    → AreSiblingsAt item nodes (Some id) → id < length nodes
+siblings_within item nodes id w = head_within nodes (Some id) (plan_at nodes (Some id)) id w.plan refl
 
 module _ (item : List ℕ → Type 0) (kind : IsKeyKind item) {V : Type 0} (nodes : List (Node V)) where
-  -- a row that begins at a number has rows
-  pub row_filled : (front : List ℕ) (id : ℕ) → IsRowAt item nodes (Some id)
-      → prefixed front (entries (row_at nodes (Some id))) ≢ []
-  row_filled front id w = by (plan_at nodes (Some id)) w.plan.at_is w.canonical
+  -- siblings that begin at a number have entries
+  pub siblings_filled : (front : List ℕ) (id : ℕ) → AreSiblingsAt item nodes (Some id)
+      → prefixed front (entries (siblings_at nodes (Some id))) ≢ []
+  siblings_filled front id w = by (plan_at nodes (Some id)) w.plan.at_is w.canonical
     where
-      by : (q : Plan V) → Some id ≡ head q → IsCanonical item (row q)
-          → prefixed front (entries (row q)) ≢ []
+      by : (q : Plan V) → Some id ≡ head q → IsCanonical item (siblings_in q)
+          → prefixed front (entries (siblings_in q)) ≢ []
       by Nil e ok none = absurd (cc)
       by (Cell i l v c d) e ok none =
-          let some = has_entry item kind None l v (row c) (row d) ok in
+          let some = has_entry item kind None l v (siblings_in c) (siblings_in d) ok in
           let no = rw some.2 at none in
           absurd (cc)
 
   -- and so has the node there, itself and below it
-  pub top_filled : (front : List ℕ) (id : ℕ) → IsRowAt item nodes (Some id)
-      → rows_below front (row_at nodes (Some id)) ≢ []
+  pub top_filled : (front : List ℕ) (id : ℕ) → AreSiblingsAt item nodes (Some id)
+      → entries_below front (siblings_at nodes (Some id)) ≢ []
   top_filled front id w = by (plan_at nodes (Some id)) w.plan.at_is w.canonical
     where
-      by : (q : Plan V) → Some id ≡ head q → IsCanonical item (row q) → rows_below front (row q) ≢ []
+      by : (q : Plan V) → Some id ≡ head q → IsCanonical item (siblings_in q) → entries_below front (siblings_in q) ≢ []
       by Nil e ok none = absurd (cc)
-      by (Cell i l v c d) e ok none = below_filled item kind l v (row c) (row d) ok front none
+      by (Cell i l v c d) e ok none = below_filled item kind l v (siblings_in c) (siblings_in d) ok front none
 
 module _ (item : List ℕ → Type 0) (kind : IsKeyKind item) {V : Type 0} (nodes : List (Node V)) (id : ℕ)
-    (n : Node V) (w : IsRowAt item nodes (Some id)) (reads : n ≡ get_or nodes id n) where
-  opens : RowOpens item nodes (Some id) n
-  opens = row_opens item nodes (Some id) id n w refl reads
+    (n : Node V) (w : AreSiblingsAt item nodes (Some id)) (reads : n ≡ get_or nodes id n) where
+  opens : SiblingsOpen item nodes (Some id) n
+  opens = siblings_open item nodes (Some id) id n w refl reads
 
-  -- the rows of the node itself
-  abbrev own_rows : List (List ℕ × V)
-  own_rows = prefixed n.label (own n.value ++ entries (row_at nodes n.child))
+  -- the entries of the node itself
+  abbrev own_entries : List (List ℕ × V)
+  own_entries = prefixed n.label (own n.value ++ entries (siblings_at nodes n.child))
 
-  -- behind a node with a sibling the last row is the last of the sibling's
+  -- behind a node with a sibling the last entry is the last of the sibling's
   pub last_on : (front : List ℕ) (next : ℕ) → n.sibling ≡ Some next
-      → last_or None (prefixed front (entries (row_at nodes (Some next))))
-      ≡ last_or None (prefixed front (entries (row_at nodes (Some id))))
+      → last_or None (prefixed front (entries (siblings_at nodes (Some next))))
+      ≡ last_or None (prefixed front (entries (siblings_at nodes (Some id))))
   last_on front next is =
-      let rest = entries (row_at nodes n.sibling) in
-      let some : prefixed front rest ≢ [] = rw is (row_filled item kind nodes front next (rw is at opens.sibling_at)) in
+      let rest = entries (siblings_at nodes n.sibling) in
+      let some : prefixed front rest ≢ [] = rw is (siblings_filled item kind nodes front next (rw is at opens.sibling_at)) in
       sym
-      (ap (λ r. last_or None (prefixed front (entries r))) opens.row_is
-      ∙ ap (last_or None) (prefixed-append front own_rows rest)
-      ∙ last-append None (prefixed front own_rows) (prefixed front rest)
-      ∙ last_filled (last_or None (prefixed front own_rows)) (prefixed front rest) some
-      ∙ ap (λ at. last_or None (prefixed front (entries (row_at nodes at)))) is)
+      (ap (λ r. last_or None (prefixed front (entries r))) opens.siblings_are
+      ∙ ap (last_or None) (prefixed-append front own_entries rest)
+      ∙ last-append None (prefixed front own_entries) (prefixed front rest)
+      ∙ last_filled (last_or None (prefixed front own_entries)) (prefixed front rest) some
+      ∙ ap (λ at. last_or None (prefixed front (entries (siblings_at nodes at)))) is)
 
   -- and without one it is the last below the node
   pub last_own : (front : List ℕ) → n.sibling ≡ None
-      → last_or None (prefixed front (entries (row_at nodes (Some id))))
-      ≡ last_or None (rows_below front (row_at nodes (Some id)))
+      → last_or None (prefixed front (entries (siblings_at nodes (Some id))))
+      ≡ last_or None (entries_below front (siblings_at nodes (Some id)))
   last_own front is =
-      let none : row_at nodes n.sibling ≡ end = rw is (row_none nodes) in
-      ap (λ r. last_or None (prefixed front (entries r))) opens.row_is
-      ∙ ap (λ r. last_or None (prefixed front (own_rows ++ entries r))) none
-      ∙ ap (λ rs. last_or None (prefixed front rs)) (append-nil own_rows)
-      ∙ ap (last_or None) (prefixed-prefixed front n.label (own n.value ++ entries (row_at nodes n.child)))
-      ∙ sym (ap (λ r. last_or None (rows_below front r)) opens.row_is)
+      let none : siblings_at nodes n.sibling ≡ end = rw is (siblings_none nodes) in
+      ap (λ r. last_or None (prefixed front (entries r))) opens.siblings_are
+      ∙ ap (λ r. last_or None (prefixed front (own_entries ++ entries r))) none
+      ∙ ap (λ rs. last_or None (prefixed front rs)) (append-nil own_entries)
+      ∙ ap (last_or None) (prefixed-prefixed front n.label (own n.value ++ entries (siblings_at nodes n.child)))
+      ∙ sym (ap (λ r. last_or None (entries_below front r)) opens.siblings_are)
 
   -- a sibling is further on
   pub sibling_less : (next : ℕ) → n.sibling ≡ Some next
-      → steps_in (row_at nodes (Some next)) < steps_in (row_at nodes (Some id))
-  sibling_less next is = rw (← is, opens.row_is) (omega (arith))
+      → steps_in (siblings_at nodes (Some next)) < steps_in (siblings_at nodes (Some id))
+  sibling_less next is = rw (← is, opens.siblings_are) (omega (arith))
 
   -- and so is a child
   pub child_less : (child : ℕ) → n.child ≡ Some child
-      → steps_in (row_at nodes (Some child)) < steps_in (row_at nodes (Some id))
-  child_less child is = rw (← is, opens.row_is) (omega (arith))
+      → steps_in (siblings_at nodes (Some child)) < steps_in (siblings_at nodes (Some id))
+  child_less child is = rw (← is, opens.siblings_are) (omega (arith))
 
-  -- below a node with children the last row is the last of theirs
+  -- below a node with children the last entry is the last of theirs
   pub last_child : (front : List ℕ) (child : ℕ) → n.child ≡ Some child
-      → last_or None (rows_below front (row_at nodes (Some id)))
-      ≡ last_or None (prefixed (front ++ n.label) (entries (row_at nodes (Some child))))
+      → last_or None (entries_below front (siblings_at nodes (Some id)))
+      ≡ last_or None (prefixed (front ++ n.label) (entries (siblings_at nodes (Some child))))
   last_child front child is =
-      let es = entries (row_at nodes n.child) in
+      let es = entries (siblings_at nodes n.child) in
       let path = front ++ n.label in
-      let some : prefixed path es ≢ [] = rw is (row_filled item kind nodes path child (rw is at opens.child_at)) in
-      ap (λ r. last_or None (rows_below front r)) opens.row_is
+      let some : prefixed path es ≢ [] = rw is (siblings_filled item kind nodes path child (rw is at opens.child_at)) in
+      ap (λ r. last_or None (entries_below front r)) opens.siblings_are
       ∙ ap (last_or None) (prefixed-append path (own n.value) es)
       ∙ last-append None (prefixed path (own n.value)) (prefixed path es)
       ∙ last_filled (last_or None (prefixed path (own n.value))) (prefixed path es) some
-      ∙ ap (λ at. last_or None (prefixed path (entries (row_at nodes at)))) is
+      ∙ ap (λ at. last_or None (prefixed path (entries (siblings_at nodes at)))) is
 
   -- and below one without, it is its own value
   pub last_value : (front : List ℕ) (v : V) → n.child ≡ None → n.value ≡ Some v
-      → last_or None (rows_below front (row_at nodes (Some id))) ≡ Some (front ++ n.label, v)
+      → last_or None (entries_below front (siblings_at nodes (Some id))) ≡ Some (front ++ n.label, v)
   last_value front v is value =
-      let none : row_at nodes n.child ≡ end = rw is (row_none nodes) in
-      ap (λ r. last_or None (rows_below front r)) opens.row_is
+      let none : siblings_at nodes n.child ≡ end = rw is (siblings_none nodes) in
+      ap (λ r. last_or None (entries_below front r)) opens.siblings_are
       ∙ rw (value, none) (ap (λ k. Some (k, v)) (append-nil (front ++ n.label)))
 
   -- a node without children has a value
   pub has_value : n.child ≡ None → n.value ≡ None → ⊥
   has_value is none =
       let ok = opens.canonical in
-      let row_end : row_at nodes n.child ≡ end = rw is (row_none nodes) in
-      let earns = rw (none, row_end) at ok.earns in
+      let siblings_end : siblings_at nodes n.child ≡ end = rw is (siblings_none nodes) in
+      let earns = rw (none, siblings_end) at ok.earns in
       earns

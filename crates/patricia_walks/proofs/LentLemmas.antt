@@ -1,4 +1,4 @@
--- What a write through a loan leaves of a tree that is held, and of a trail.
+-- What a write through a loan leaves of a tree that is held, and of a cursor's state.
 use Rattle.std.proofs.Common.{◌≡◌, ◌≢◌, ℕ, ◌<◌, false, List, ◌++◌, length, set, Option, Some, None}
 use Rattle.std.proofs.Common.{slice_get, refl, sym, ap, subst, ◌∙◌}
 use Rattle.std.specs.FinMap as map
@@ -23,9 +23,9 @@ use Rattle.patricia_walks.specs.declared.cursor_state.CursorState.{CursorState}
 use Rattle.patricia_walks.specs.declared.held_tree.HeldTree.{HeldTree}
 use Rattle.patricia_walks.specs.Internal.Holders.{numbered_slots, holders, held, is_same, key_at}
 use Rattle.patricia_walks.specs.Internal.Holders.{ReadsHeld}
-use Rattle.patricia_walks.specs.Internal.HeldTrees.{key_of, last_key, rows_left, standing, with_held}
+use Rattle.patricia_walks.specs.Internal.HeldTrees.{key_of, last_key, entries_to_lend, standing, with_held}
 use Rattle.patricia_walks.specs.Internal.HeldTrees.{held_last, IsHeld}
-use Rattle.patricia_walks.specs.Internal.Trails.{position_of, IsTrail, IsPrefixCursor}
+use Rattle.patricia_walks.specs.Internal.CursorStates.{position_of, IsCursorState, IsPrefixCursor}
 use Rattle.patricia_walks.proofs.HolderLemmas.{holders_read, holders_once}
 use Rattle.patricia_walks.proofs.HolderWriteLemmas.{write_numbered, write_holders, write_whole}
 use Rattle.patricia_walks.proofs.HolderWriteLemmas.{write_tree, write_held, write_kept}
@@ -61,7 +61,7 @@ pub record Wrote (item : List ℕ → Type 0) {V : Type 0} (t u : HeldTree V) (p
   pub held : IsHeld item u
   pub stands : standing u prefix ≡ written (standing t prefix) x
   pub nodes : numbered_slots 0 u.arena.nodes.items ≡ numbered_slots 0 t.arena.nodes.items
-  pub rows : rows_left u prefix ≡ rows_left t prefix
+  pub entries : entries_to_lend u prefix ≡ entries_to_lend t prefix
 
 module _ (item : List ℕ → Type 0) (kind : IsKeyKind item) {V : Type 0} (t u : HeldTree V)
     (prefix : List ℕ) (w : IsHeld item t) (h : ValueSlot) (lent : t.last ≡ Some h)
@@ -77,15 +77,15 @@ module _ (item : List ℕ → Type 0) (kind : IsKeyKind item) {V : Type 0} (t u 
       → standing u prefix ≡ written_at (standing t prefix) k x
   key_is None e = absurd (w.known h lent e)
   key_is (Some k) e =
-      let rows = own t.value ++ entries_of t.arena in
+      let entries = own t.value ++ entries_of t.arena in
       let sorted = tree_sorted item kind t.value (siblings_of t.arena) w.tree.canonical in
       let reads = subst (λ es. ReadsHeld (held u.value u.arena.nodes.items) es (own u.value ++ entries_of u.arena)) same (holders_read u.arena whole u.value) in
       let put_in = put_read (held t.value t.arena.nodes.items) (held u.value u.arena.nodes.items) h
-      x here others k (holders t.value t.arena) rows _
+      x here others k (holders t.value t.arena) entries _
       (holders_read t.arena w.whole t.value) reads
       (holders_once t.arena w.whole t.value h) sorted e in
       let keys : last_key u ≡ last_key t = rw (same, last) refl in
-      ap (λ m. record { map = m; prefix = prefix; last = last_key u }) (ap from_sorted put_in ∙ sym (from_sorted-put rows k x sorted))
+      ap (λ m. record { map = m; prefix = prefix; last = last_key u }) (ap from_sorted put_in ∙ sym (from_sorted-put entries k x sorted))
       ∙ ap (λ l. record { map = map.insert (map_of t.value (siblings_of t.arena)) k x; prefix = prefix; last = l }) keys
 
   -- a write through the loan changes the value at that key alone
@@ -97,7 +97,7 @@ module _ (item : List ℕ → Type 0) (kind : IsKeyKind item) {V : Type 0} (t u 
         (key_of (holders t.value t.arena) o) x) (sym lent)
         (key_is (key_at (holders t.value t.arena) h) refl);
     nodes = nodes;
-    rows = rw (same, last) refl;
+    entries = rw (same, last) refl;
   }
 
 module _ (item : List ℕ → Type 0) (kind : IsKeyKind item) {V : Type 0} (t : HeldTree V)
@@ -113,7 +113,7 @@ module _ (item : List ℕ → Type 0) (kind : IsKeyKind item) {V : Type 0} (t : 
             (λ o. standing t prefix ≡ written_at (standing t prefix)
             (key_of (holders t.value t.arena) o) x) (sym is) refl;
         nodes = refl;
-        rows = refl;
+        entries = refl;
       }
       by (Some OfEmptyKey) is =
           let v = holds item t w OfEmptyKey is in
@@ -153,21 +153,21 @@ module _ (item : List ℕ → Type 0) (kind : IsKeyKind item) {V : Type 0} (t : 
               → held t.value t.arena.nodes.items h ≡ value_at (standing t prefix) k
           at None e = absurd (w.known h is e)
           at (Some k) e =
-              let rows = own t.value ++ entries_of t.arena in
+              let entries = own t.value ++ entries_of t.arena in
               let sorted = tree_sorted item kind t.value (siblings_of t.arena) w.tree.canonical in
-              sym (get-from_sorted key_cmp rows k sorted ∙ find_read
-              (held t.value t.arena.nodes.items) h k (holders t.value t.arena) rows
+              sym (get-from_sorted key_cmp entries k sorted ∙ find_read
+              (held t.value t.arena.nodes.items) h k (holders t.value t.arena) entries
               (holders_read t.arena w.whole t.value) sorted e)
 
 module _ (item : List ℕ → Type 0) (kind : IsKeyKind item) {V : Type 0} (t : CursorState V)
     (prefix : List ℕ) (x : V) where
-  -- the same trail with the value in
+  -- the same state with the value in
   abbrev pub with_last : CursorState V
   with_last = record t { tree = with_held t.tree t.tree.last x }
 
-  -- a write through the loan keeps a trail
-  pub wrote_trail : IsTrail item t prefix → IsTrail item with_last prefix
-  wrote_trail w =
+  -- a write through the loan keeps a state
+  pub wrote_state : IsCursorState item t prefix → IsCursorState item with_last prefix
+  wrote_state w =
       let wrote = wrote_last item kind t.tree prefix w.held x in
       let place : position_of with_last ≡ position_of t = ap
       (λ ns.
@@ -181,13 +181,13 @@ module _ (item : List ℕ → Type 0) (kind : IsKeyKind item) {V : Type 0} (t : 
       record {
         held = wrote.held;
         position = subst (IsPosition item) (sym place) w.position;
-        left_is = ap (λ p. entries_left (state_of p)) place ∙ w.left_is ∙ sym wrote.rows;
+        left_is = ap (λ p. entries_left (state_of p)) place ∙ w.left_is ∙ sym wrote.entries;
       }
 
   -- and a cursor under a prefix, even before it has begun, when nothing is lent
   pub wrote_under : (o : Option Start) → IsPrefixCursor item t prefix o
       → IsPrefixCursor item with_last prefix o
-  wrote_under None w = wrote_trail w
+  wrote_under None w = wrote_state w
   wrote_under (Some s) w = subst
       (λ o. IsPrefixCursor item (record t { tree = with_held t.tree o x }) prefix (Some s))
       (sym w.none) w

@@ -16,8 +16,8 @@ pub mod ReadLemmas
 pub mod SearchLemmas
 pub mod SkipLemmas
 pub mod StartLemmas
-pub mod TrailLemmas
+pub mod CursorStateLemmas
 pub mod UnderLemmas
 pub mod ValuePositionLemmas
-pub mod ValueTrailLemmas
+pub mod ValueCursorStateLemmas
 pub mod WaitingLemmas

@@ -1,4 +1,4 @@
--- The steps of a descent to the last row before a key.
+-- The steps of a descent to the last entry before a key.
 use Rattle.std.proofs.Common.{◌≡◌, ◌≢◌, ℕ, ◌+◌, true, false, List, [], ◌∷◌, ◌++◌, length, get_or, take}
 use Rattle.std.proofs.Common.{drop, Option, Some, None, refl, sym, ap, subst, ◌∙◌, arith}
 use Rattle.std.specs.List.{last_or}
@@ -14,7 +14,7 @@ use Rattle.patricia_model.specs.Prefixes.{begins}
 use Rattle.patricia_model.specs.Ranges.{before}
 use Rattle.patricia_model.specs.Siblings.{Siblings, end, node, prefixed, own, entries, IsCanonical}
 use Rattle.patricia_model.proofs.ListLemmas.{key_cmp-equal}
-use Rattle.patricia_model.proofs.RowLemmas.{prefixed-prefixed, prefixed-append}
+use Rattle.patricia_model.proofs.SiblingsLemmas.{prefixed-prefixed, prefixed-append}
 use Rattle.patricia_model.proofs.WalkLemmas.{prefixed-nil}
 use Rattle.patricia_model.proofs.PrefixLemmas.{begins_is, begins_other, stop_below, not_above}
 use Rattle.patricia_model.proofs.RangeLemmas.{IsFrom, before-append, before-prefixed, before_all}
@@ -25,16 +25,17 @@ use Rattle.patricia_nodes.specs.declared.arena.NodeArena.{NodeArena}
 use Rattle.patricia_nodes.specs.Internal.Plans.{IsWellFormed}
 use Rattle.patricia_nodes.specs.Internal.Plans.{siblings_of}
 use Rattle.patricia_nodes.proofs.SeekLemmas.{whole_plan}
-use Rattle.patricia_walks.specs.Internal.Positions.{row_at, rows_below}
-use Rattle.patricia_walks.specs.Internal.Lowers.{IsRowAt, IsFront, IsLower, IsLowerDescent}
-use Rattle.patricia_walks.specs.Internal.Lowers.{LowerMoves, last_lower, lower_row, row_ahead}
+use Rattle.patricia_walks.specs.Internal.Positions.{siblings_at, entries_below}
+use Rattle.patricia_walks.specs.Internal.Lowers.{AreSiblingsAt, IsFront, IsLower, IsLowerDescent}
+use Rattle.patricia_walks.specs.Internal.Lowers.{LowerMoves, last_lower, lower_entry}
+use Rattle.patricia_walks.specs.Internal.Lowers.{siblings_ahead}
 use Rattle.patricia_walks.specs.declared.last.Lower.{Lower}
 use Rattle.patricia_walks.specs.declared.last.Lower.TheVariants.{Below}
 use Rattle.patricia_walks.specs.declared.last.LowerDescent.{LowerDescent}
 use Rattle.patricia_walks.proofs.AlongLemmas.{front_then, left_then, more_within, some_step, plan_none}
-use Rattle.patricia_walks.proofs.LastLemmas.{last-append, last_filled, last_there, filled_last, below_filled, top_filled, RowOpens}
-use Rattle.patricia_walks.proofs.LastLemmas.{row_opens, row_filled}
-use Rattle.patricia_walks.proofs.PositionLemmas.{row_none}
+use Rattle.patricia_walks.proofs.LastLemmas.{last-append, last_filled, last_there, filled_last, below_filled, top_filled, SiblingsOpen}
+use Rattle.patricia_walks.proofs.LastLemmas.{siblings_open, siblings_filled}
+use Rattle.patricia_walks.proofs.PositionLemmas.{siblings_none}
 
 -- no key comes before the empty one
 nothing_before : {V : Type 0} (es : List (List ℕ × V)) → before [] es ≡ []
@@ -47,14 +48,15 @@ nothing_before (e ∷ es) = rw (nothing e.0) (nothing_before es)
 
 module _ (item : List ℕ → Type 0) (kind : IsKeyKind item) {V : Type 0} (l : List ℕ) (v : Option V)
     (c s : Siblings V) (ok : IsCanonical item (node l v c s)) where
-  -- before a key past the label are all rows of the node, and those of its siblings before the key
+  -- before a key past the label are all entries of the node, and those of its siblings before the
+  -- key
   before_past : (q : List ℕ) → (Begins l q → ⊥) → key_cmp l q ≡ Less
       → before q (entries (node l v c s)) ≡ prefixed l (own v ++ entries c) ++ before q (entries s)
   before_past q other less =
       before-append q (prefixed l (own v ++ entries c)) (entries s)
       ∙ ap (λ r. r ++ before q (entries s)) (before_all q _ (first_above item kind l v c s ok q other less))
 
-  -- before a key that the label begins are rows of the node alone
+  -- before a key that the label begins are entries of the node alone
   before_through : (t : List ℕ)
       → before (l ++ t) (entries (node l v c s)) ≡ prefixed l (before t (own v ++ entries c))
   before_through t =
@@ -69,7 +71,7 @@ module _ (item : List ℕ → Type 0) (kind : IsKeyKind item) {V : Type 0} (l : 
   before_down t some = before_through t ∙ ap (prefixed l)
       (before-append t (own v) (entries c) ∙ ap (λ r. r ++ before t (entries c)) (before_own t some v))
 
-  -- before a key that does not come after the label is no row
+  -- before a key that does not come after the label is no entry
   before_off : (q : List ℕ) → (key_cmp q l ≡ Greater → ⊥) → before q (entries (node l v c s)) ≡ []
   before_off q not_after = by (key_cmp q l) refl
     where
@@ -89,12 +91,12 @@ module _ (item : List ℕ → Type 0) (kind : IsKeyKind item) {V : Type 0} (key 
   abbrev nodes : List (Node V)
   nodes = d.arena.now.nodes.items
 
-  -- the rows that the node's two links lead to
-  abbrev child_row : Siblings V
-  child_row = row_at nodes n.child
+  -- the siblings that the node's two links lead to
+  abbrev child_siblings : Siblings V
+  child_siblings = siblings_at nodes n.child
 
-  abbrev sibling_row : Siblings V
-  sibling_row = row_at nodes n.sibling
+  abbrev sibling_siblings : Siblings V
+  sibling_siblings = siblings_at nodes n.sibling
 
   -- the bytes that are passed, and what is left of the key
   abbrev front : List ℕ
@@ -103,69 +105,70 @@ module _ (item : List ℕ → Type 0) (kind : IsKeyKind item) {V : Type 0} (key 
   abbrev rest : List ℕ
   rest = drop d.len key
 
-  -- the row that is next is that node's
-  opens : RowOpens item nodes d.next n
-  opens = row_opens item nodes d.next id n w.next_row next reads
+  -- the siblings that are next are that node's
+  opens : SiblingsOpen item nodes d.next n
+  opens = siblings_open item nodes d.next id n w.next_siblings next reads
 
-  -- the last row before the key, where the row that is next is that node's
-  last_is : last_lower key d ≡ last_or (lower_row key nodes d.lower)
-      (prefixed front (before rest (entries (node n.label n.value child_row sibling_row))))
-  last_is = ap (λ r. last_or (lower_row key nodes d.lower) (prefixed front (before rest (entries r)))) opens.row_is
+  -- the last entry before the key, where the siblings that are next are that node's
+  last_is : last_lower key d ≡ last_or (lower_entry key nodes d.lower)
+      (prefixed front (before rest (entries (node n.label n.value child_siblings sibling_siblings))))
+  last_is = ap (λ r. last_or (lower_entry key nodes d.lower) (prefixed front (before rest (entries r)))) opens.siblings_are
 
   -- where what is left of the key does not come after the label, the descent is over
   pub lower_off : (key_cmp rest n.label ≡ Greater → ⊥) → e.len ≡ d.len → e.lower ≡ d.lower
       → e.next ≡ None → LowerMoves item key d e
   lower_off not_after len lower none =
-      let row_end : row_ahead e ≡ end = rw (arena, none) (row_none nodes) in
+      let siblings_end : siblings_ahead e ≡ end = rw (arena, none) (siblings_none nodes) in
       record {
         descent = record {
           front = rw len w.front;
-          next_row = record { plan = rw none (plan_none e.arena.now.nodes.items); canonical = rw row_end tt };
+          next_siblings = record { plan = rw none (plan_none e.arena.now.nodes.items); canonical = rw siblings_end tt };
           found = rw (arena, lower) w.found;
         };
-        same = rw (arena, len, lower, none, row_none nodes) (
-            sym (ap (λ rs. last_or (lower_row key nodes d.lower) (prefixed front rs))
-            (before_off item kind n.label n.value child_row sibling_row opens.canonical rest not_after))
+        same = rw (arena, len, lower, none, siblings_none nodes) (
+            sym (ap (λ rs. last_or (lower_entry key nodes d.lower) (prefixed front rs))
+            (before_off item kind n.label n.value child_siblings sibling_siblings opens.canonical rest not_after))
             ∙ sym last_is);
-        less = rw (row_end, opens.row_is) (omega (arith, some_step child_row, some_step sibling_row));
+        less = rw (siblings_end, opens.siblings_are) (omega (arith, some_step child_siblings, some_step sibling_siblings));
         arena = arena;
       }
 
-  -- where the label comes before it and does not begin it, the last row is below the node, or behind
+  -- where the label comes before it and does not begin it, the last entry is below the node, or
+  -- behind
   pub lower_past : begins n.label rest ≡ false → key_cmp n.label rest ≡ Less → e.len ≡ d.len
       → e.lower ≡ Below d.len id → e.next ≡ n.sibling → LowerMoves item key d e
   lower_past other_is less len lower sibling =
       let other = begins_other n.label rest other_is in
-      let es = own n.value ++ entries child_row in
-      let later = before rest (entries sibling_row) in
-      let below : prefixed front (prefixed n.label es) ≡ rows_below front (node n.label n.value child_row sibling_row) = prefixed-prefixed front n.label es in
-      let top_is : row_at nodes (Some id) ≡ node n.label n.value child_row sibling_row = ap (row_at nodes) (sym next) ∙ opens.row_is in
+      let es = own n.value ++ entries child_siblings in
+      let later = before rest (entries sibling_siblings) in
+      let below : prefixed front (prefixed n.label es) ≡ entries_below front (node n.label n.value child_siblings sibling_siblings) = prefixed-prefixed front n.label es in
+      let top_is : siblings_at nodes (Some id) ≡ node n.label n.value child_siblings sibling_siblings = ap (siblings_at nodes) (sym next) ∙ opens.siblings_are in
       record {
         descent = record {
           front = rw len w.front;
-          next_row = rw (arena, sibling) opens.sibling_at;
-          found = rw (arena, lower) (w.front, subst (IsRowAt item nodes) next w.next_row);
+          next_siblings = rw (arena, sibling) opens.sibling_at;
+          found = rw (arena, lower) (w.front, subst (AreSiblingsAt item nodes) next w.next_siblings);
         };
         same = rw (arena, len, lower, sibling) (
-            ap (λ r. last_or (last_or None (rows_below front r)) (prefixed front later)) top_is
+            ap (λ r. last_or (last_or None (entries_below front r)) (prefixed front later)) top_is
             ∙ ap (λ o. last_or o (prefixed front later))
-            (sym (last_filled (lower_row key nodes d.lower) (rows_below front (node n.label n.value child_row sibling_row))
-            (below_filled item kind n.label n.value child_row sibling_row opens.canonical front)))
-            ∙ ap (λ rs. last_or (last_or (lower_row key nodes d.lower) rs) (prefixed front later)) (sym below)
-            ∙ sym (last-append (lower_row key nodes d.lower) (prefixed front (prefixed n.label es)) (prefixed front later))
-            ∙ ap (last_or (lower_row key nodes d.lower)) (sym (prefixed-append front (prefixed n.label es) later))
-            ∙ sym (ap (λ rs. last_or (lower_row key nodes d.lower) (prefixed front rs))
-            (before_past item kind n.label n.value child_row sibling_row opens.canonical rest other less))
+            (sym (last_filled (lower_entry key nodes d.lower) (entries_below front (node n.label n.value child_siblings sibling_siblings))
+            (below_filled item kind n.label n.value child_siblings sibling_siblings opens.canonical front)))
+            ∙ ap (λ rs. last_or (last_or (lower_entry key nodes d.lower) rs) (prefixed front later)) (sym below)
+            ∙ sym (last-append (lower_entry key nodes d.lower) (prefixed front (prefixed n.label es)) (prefixed front later))
+            ∙ ap (last_or (lower_entry key nodes d.lower)) (sym (prefixed-append front (prefixed n.label es) later))
+            ∙ sym (ap (λ rs. last_or (lower_entry key nodes d.lower) (prefixed front rs))
+            (before_past item kind n.label n.value child_siblings sibling_siblings opens.canonical rest other less))
             ∙ sym last_is);
-        less = rw (arena, sibling, opens.row_is) (omega arith);
+        less = rw (arena, sibling, opens.siblings_are) (omega arith);
         arena = arena;
       }
 
-  -- where the label begins it and it goes on, the last row is below the node, or its own value
+  -- where the label begins it and it goes on, the last entry is below the node, or its own value
   pub lower_down : begins n.label rest ≡ true → key_cmp rest n.label ≡ Greater
       → e.len ≡ d.len + length n.label → e.next ≡ n.child
       → (IsFront item key e.len → IsLower item key nodes e.lower)
-      → lower_row key nodes e.lower ≡ last_or (lower_row key nodes d.lower) (prefixed (take e.len key) (own n.value))
+      → lower_entry key nodes e.lower ≡ last_or (lower_entry key nodes d.lower) (prefixed (take e.len key) (own n.value))
       → LowerMoves item key d e
   lower_down begun_is after len child found lower =
       let begun = begins_is n.label rest begun_is in
@@ -174,19 +177,19 @@ module _ (item : List ℕ → Type 0) (kind : IsKeyKind item) {V : Type 0} (key 
       let front_is = front_then key n.label t d.len w.front.0 begun.1 in
       let rest_is = left_then key n.label t d.len w.front.0 begun.1 in
       let more = more_within key n.label t d.len w.front.0 begun.1 in
-      let es = before t (entries child_row) in
+      let es = before t (entries child_siblings) in
       let longer : IsFront item key e.len = rw (len, front_is) (more, IsValid-append item front n.label w.front.1 opens.canonical.valid) in
       record {
-        descent = record { front = longer; next_row = rw (arena, child) opens.child_at; found = rw arena (found longer) };
+        descent = record { front = longer; next_siblings = rw (arena, child) opens.child_at; found = rw arena (found longer) };
         same = rw (arena, child, lower, len, front_is, rest_is) (
-            sym (last-append (lower_row key nodes d.lower) (prefixed (front ++ n.label) (own n.value)) (prefixed (front ++ n.label) es))
-            ∙ ap (last_or (lower_row key nodes d.lower))
+            sym (last-append (lower_entry key nodes d.lower) (prefixed (front ++ n.label) (own n.value)) (prefixed (front ++ n.label) es))
+            ∙ ap (last_or (lower_entry key nodes d.lower))
             (sym (prefixed-append (front ++ n.label) (own n.value) es) ∙ sym (prefixed-prefixed front n.label (own n.value ++ es)))
-            ∙ ap (λ rs. last_or (lower_row key nodes d.lower) (prefixed front rs))
-            (sym (before_down item kind n.label n.value child_row sibling_row opens.canonical t some))
-            ∙ ap (λ k. last_or (lower_row key nodes d.lower) (prefixed front (before k (entries (node n.label n.value child_row sibling_row))))) begun.1
+            ∙ ap (λ rs. last_or (lower_entry key nodes d.lower) (prefixed front rs))
+            (sym (before_down item kind n.label n.value child_siblings sibling_siblings opens.canonical t some))
+            ∙ ap (λ k. last_or (lower_entry key nodes d.lower) (prefixed front (before k (entries (node n.label n.value child_siblings sibling_siblings))))) begun.1
             ∙ sym last_is);
-        less = rw (arena, child, opens.row_is) (omega arith);
+        less = rw (arena, child, opens.siblings_are) (omega arith);
         arena = arena;
       }
     where
@@ -210,7 +213,7 @@ pub before_it : (a b : List ℕ) → key_cmp a b ≡ Greater → key_cmp b a ≡
 before_it a b e = nat_list_cmp_total.antisymm b a ∙ ap ordering_reverse e
 
 module _ {V : Type 0} (key : List ℕ) (v : Option V) (r : Siblings V) where
-  -- at the start the last row before the key is the last of the value's and those ahead
+  -- at the start the last entry before the key is the last of the value's and those ahead
   pub lower_start : key ≢ []
       → last_or (last_or None (prefixed (take 0 key) (own v))) (prefixed (take 0 key) (before (drop 0 key) (entries r)))
       ≡ last_or None (before key (own v ++ entries r))
@@ -227,7 +230,7 @@ module _ {V : Type 0} (key : List ℕ) (v : Option V) (r : Siblings V) where
       ≡ last_or None (before key (own v ++ entries r))
   last_start o is some = ap (λ x. last_or x (prefixed (take 0 key) (before (drop 0 key) (entries r)))) is ∙ lower_start some
 
-  -- no row comes before the empty key
+  -- no entry comes before the empty key
   pub lower_none : key ≡ [] → None ≡ last_or None (before key (own v ++ entries r))
   lower_none none = rw none (sym (ap (last_or None) (nothing_before (own v ++ entries r))))
 
@@ -235,45 +238,46 @@ module _ {V : Type 0} (key : List ℕ) (v : Option V) (r : Siblings V) where
 pub front_start : (item : List ℕ → Type 0) (key : List ℕ) → IsFront item key 0
 front_start item key = (omega arith, IsValid-nil item)
 
--- the row of whole nodes
-pub row_start : (item : List ℕ → Type 0) {V : Type 0} (s : NodeArena V) → IsWellFormed s
-    → IsCanonical item (siblings_of s) → IsRowAt item s.nodes.items s.root
-row_start item s whole ok = record { plan = whole_plan s whole; canonical = ok }
+-- the siblings of whole nodes
+pub siblings_start : (item : List ℕ → Type 0) {V : Type 0} (s : NodeArena V) → IsWellFormed s
+    → IsCanonical item (siblings_of s) → AreSiblingsAt item s.nodes.items s.root
+siblings_start item s whole ok = record { plan = whole_plan s whole; canonical = ok }
 
 module _ (item : List ℕ → Type 0) (kind : IsKeyKind item) {V : Type 0} (nodes : List (Node V))
-    (root : Option ℕ) (w : IsRowAt item nodes root) (v : Option V) where
-  -- the last row of nodes is that of their top row, where there is one
+    (root : Option ℕ) (w : AreSiblingsAt item nodes root) (v : Option V) where
+  -- the last entry of nodes is that of their top siblings, where there is one
   pub last_some : (first : ℕ) → root ≡ Some first
-      → last_or None (prefixed [] (entries (row_at nodes (Some first)))) ≡ last_or None (own v ++ entries (row_at nodes root))
+      → last_or None (prefixed [] (entries (siblings_at nodes (Some first)))) ≡ last_or None (own v ++ entries (siblings_at nodes root))
   last_some first is =
-      let es = entries (row_at nodes (Some first)) in
-      let some : es ≢ [] = subst (λ xs. xs ≢ []) (prefixed-nil es) (row_filled item kind nodes [] first (subst (IsRowAt item nodes) is w)) in
+      let es = entries (siblings_at nodes (Some first)) in
+      let some : es ≢ [] = subst (λ xs. xs ≢ []) (prefixed-nil es) (siblings_filled item kind nodes [] first (subst (AreSiblingsAt item nodes) is w)) in
       ap (last_or None) (prefixed-nil es)
       ∙ sym (last_filled (last_or None (own v)) es some)
       ∙ sym (last-append None (own v) es)
-      ∙ ap (λ at. last_or None (own v ++ entries (row_at nodes at))) (sym is)
+      ∙ ap (λ at. last_or None (own v ++ entries (siblings_at nodes at))) (sym is)
 
   -- and else that of the empty key
   pub last_none : root ≡ None
-      → last_or None (prefixed (take 0 []) (own v)) ≡ last_or None (own v ++ entries (row_at nodes root))
+      → last_or None (prefixed (take 0 []) (own v)) ≡ last_or None (own v ++ entries (siblings_at nodes root))
   last_none is =
-      let none : entries (row_at nodes root) ≡ [] = rw (is, row_none nodes) refl in
+      let none : entries (siblings_at nodes root) ≡ [] = rw (is, siblings_none nodes) refl in
       ap (last_or None) (prefixed-nil (own v) ∙ sym (append-nil (own v)) ∙ ap (λ es. own v ++ es) (sym none))
 
--- below a node there is a row
+-- below a node there is an entry
 pub below_there : (item : List ℕ → Type 0) (kind : IsKeyKind item) {V : Type 0} (key : List ℕ)
     (nodes : List (Node V)) (lower : Lower V) (len top : ℕ) → lower ≡ Below len top
-    → IsLower item key nodes lower → lower_row key nodes lower ≢ None
+    → IsLower item key nodes lower → lower_entry key nodes lower ≢ None
 below_there item kind key nodes lower len top is w =
-    let there : IsFront item key len × IsRowAt item nodes (Some top) = rw is at w in
-    rw is (last_there None (rows_below (take len key) (row_at nodes (Some top))) (top_filled item kind nodes (take len key) top there.1))
+    let there : IsFront item key len × AreSiblingsAt item nodes (Some top) = rw is at w in
+    rw is (last_there None (entries_below (take len key) (siblings_at nodes (Some top))) (top_filled item kind nodes (take len key) top there.1))
 
 -- what holds, holds at an error
 pub at_error : {A E : Type 0} (P : Type 0) (r : Result A E) → P → OnErr r P
 at_error P (Ok x) holds = tt
 at_error P (Err e) holds = holds
 
--- where an error comes where a row is there, and the row is the last of some, it comes where they are
+-- where an error comes where an entry is there, and the entry is the last of some, it comes where
+-- they are
 pub filled_error : {A B E : Type 0} (xs : List A) (o : Option A) (r : Result B E) → o ≡ last_or None xs
     → OnErr r (o ≢ None) → OnErr r (xs ≢ [])
 filled_error xs o (Ok x) is h = tt

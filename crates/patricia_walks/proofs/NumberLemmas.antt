@@ -7,7 +7,8 @@ use Rattle.std.proofs.lemmas.Option.{slice_get-get_or, get_or_from_slice_get}
 use Rattle.patricia_model.specs.Siblings.{own, prefixed, entries, keys_of, EarnsWithin}
 use Rattle.patricia_model.specs.Siblings.{IsBeforeSiblings, IsCanonical}
 use Rattle.patricia_nodes.specs.declared.arena.Node.{Node}
-use Rattle.patricia_nodes.specs.Internal.Plans.{Plan, Nil, Cell, linked, head, row, size, count}
+use Rattle.patricia_nodes.specs.Internal.Plans.{Plan, Nil, Cell, linked, head, siblings_in, size}
+use Rattle.patricia_nodes.specs.Internal.Plans.{count}
 use Rattle.patricia_nodes.specs.Internal.Plans.{LaidOut, IsChain, IsPlan, IsSound, plan_at}
 use Rattle.patricia_nodes.proofs.PlanLemmas.{plan_is}
 use Rattle.patricia_walks.specs.declared.held_tree.ValueSlot.{ValueSlot}
@@ -143,28 +144,28 @@ module _ {V : Type 0} where
 
   -- a mark stands where a value does, so the invariant is the same
   earns-marks : (id : ℕ) (l : List ℕ) (v : Option V) (c : Plan V) (item : List ℕ → Type 0)
-      → EarnsWithin item None l (mark id v) (row (marks c)) ≡ EarnsWithin item None l v (row c)
+      → EarnsWithin item None l (mark id v) (siblings_in (marks c)) ≡ EarnsWithin item None l v (siblings_in c)
   earns-marks id l (Some x) c item = refl
   earns-marks id l None Nil item = refl
   earns-marks id l None (Cell i m w d Nil) item = refl
   earns-marks id l None (Cell i m w d (Cell j k u e f)) item = refl
 
-  -- a label comes before a row with marks where it comes before the row
+  -- a label comes before siblings with marks where it comes before the siblings
   rises-marks : (l : List ℕ) (d : Plan V) (item : List ℕ → Type 0)
-      → IsBeforeSiblings item l (row (marks d)) ≡ IsBeforeSiblings item l (row d)
+      → IsBeforeSiblings item l (siblings_in (marks d)) ≡ IsBeforeSiblings item l (siblings_in d)
   rises-marks l Nil item = refl
   rises-marks l (Cell id m v c d) item = refl
 
-  -- the invariant of a row with marks is that of the row
-  pub row-marks : (item : List ℕ → Type 0) (p : Plan V)
-      → IsCanonical item (row (marks p)) ≡ IsCanonical item (row p)
-  row-marks item Nil = refl
-  row-marks item (Cell id l v c d) = rw (earns-marks id l v c item, rises-marks l d item, row-marks item c, row-marks item d) refl
+  -- the invariant of siblings with marks is that of the siblings
+  pub siblings-marks : (item : List ℕ → Type 0) (p : Plan V)
+      → IsCanonical item (siblings_in (marks p)) ≡ IsCanonical item (siblings_in p)
+  siblings-marks item Nil = refl
+  siblings-marks item (Cell id l v c d) = rw (earns-marks id l v c item, rises-marks l d item, siblings-marks item c, siblings-marks item d) refl
 
   -- so one keeps it where the other does
   pub canonical-marks : (item : List ℕ → Type 0) (p : Plan V)
-      → IsCanonical item (row p) ↔ IsCanonical item (row (marks p))
-  canonical-marks item p = (λ ok. rw (row-marks item p) ok, λ ok. rw (← row-marks item p) ok)
+      → IsCanonical item (siblings_in p) ↔ IsCanonical item (siblings_in (marks p))
+  canonical-marks item p = (λ ok. rw (siblings-marks item p) ok, λ ok. rw (← siblings-marks item p) ok)
 
   -- another value has the same key
   pub keys-own : (f : V → ValueSlot) (v : Option V)
@@ -172,16 +173,16 @@ module _ {V : Type 0} where
   keys-own f None = refl
   keys-own f (Some x) = refl
 
-  -- a row with marks has the same keys
-  pub keys-marks : (p : Plan V) → keys_of (entries (row (marks p))) ≡ keys_of (entries (row p))
+  -- siblings with marks have the same keys
+  pub keys-marks : (p : Plan V) → keys_of (entries (siblings_in (marks p))) ≡ keys_of (entries (siblings_in p))
   keys-marks Nil = refl
   keys-marks (Cell id l v c d) = simp (map-append, keys-prefixed, keys-own (λ _. OfNode id) v, keys-marks c, keys-marks d)
 
   -- and as many
-  pub length-marks : (p : Plan V) → length (entries (row (marks p))) ≡ length (entries (row p))
+  pub length-marks : (p : Plan V) → length (entries (siblings_in (marks p))) ≡ length (entries (siblings_in p))
   length-marks p = let same = ap length (keys-marks p) in simp length-map at same
 
-  -- where each of two lists reads its rows, both together read theirs
+  -- where each of two lists reads its entries, both together read theirs
   pub reads-append :
       (h : ValueSlot → Option V) (es fs : List (List ℕ × ValueSlot)) (rs ss : List (List ℕ × V))
       → ReadsHeld h es rs → ReadsHeld h fs ss → ReadsHeld h (es ++ fs) (rs ++ ss)
@@ -190,7 +191,7 @@ module _ {V : Type 0} where
   reads-append h (e ∷ es) fs [] ss a b = absurd a
   reads-append h (e ∷ es) fs (r ∷ rs) ss a b = (a.0, a.1, reads-append h es fs rs ss a.2 b)
 
-  -- a label before the keys of both lists leaves them the same rows
+  -- a label before the keys of both lists leaves them the same entries
   reads-prefixed : (h : ValueSlot → Option V) (l : List ℕ) (es : List (List ℕ × ValueSlot))
       (rs : List (List ℕ × V)) → ReadsHeld h es rs → ReadsHeld h (prefixed l es) (prefixed l rs)
   reads-prefixed h l [] [] a = tt
@@ -206,7 +207,7 @@ module _ {V : Type 0} where
 
   -- each mark is read as the value in its place
   pub reads-marks : (value : Option V) (nodes : List (Node V)) (p : Plan V) → LaidOut nodes p
-      → ReadsHeld (held value nodes) (entries (row (marks p))) (entries (row p))
+      → ReadsHeld (held value nodes) (entries (siblings_in (marks p))) (entries (siblings_in p))
   reads-marks value nodes Nil s = tt
   reads-marks value nodes (Cell id l v c d) s =
       let h = held value nodes in
@@ -221,11 +222,11 @@ module _ {V : Type 0} where
   own-uses x h (Some y) = omega arith
 
   -- a mark stands no more often than the node
-  pub uses-marks : (p : Plan V) (at : ℕ) → uses (entries (row (marks p))) (OfNode at) ≤ count p at
+  pub uses-marks : (p : Plan V) (at : ℕ) → uses (entries (siblings_in (marks p))) (OfNode at) ≤ count p at
   uses-marks Nil at = omega arith
   uses-marks (Cell id l v c d) at = simp (uses-append, uses-prefixed) (omega (arith, own-uses (OfNode id) (OfNode at) v, uses-marks c at, uses-marks d at))
 
   -- and the tree's own value is that of no node
-  pub uses-top : (p : Plan V) → uses (entries (row (marks p))) OfEmptyKey ≡ 0
+  pub uses-top : (p : Plan V) → uses (entries (siblings_in (marks p))) OfEmptyKey ≡ 0
   uses-top Nil = refl
   uses-top (Cell id l v c d) = simp (uses-append, uses-prefixed) (omega (arith, own-uses (OfNode id) OfEmptyKey v, uses-top c, uses-top d))

@@ -9,11 +9,13 @@ use Rattle.patricia_model.specs.Internal.WalkStates.{entries_left, WaitsWithin}
 use Rattle.patricia_model.proofs.WalkLemmas.{step_down, step_back, left_filled}
 use Rattle.patricia_nodes.specs.declared.arena.Node.{Node}
 use Rattle.patricia_nodes.specs.declared.arena.NodeArena.{NodeArena}
-use Rattle.patricia_nodes.specs.Internal.Plans.{Plan, Nil, Cell, head, row, count, plan_at}
+use Rattle.patricia_nodes.specs.Internal.Plans.{Plan, Nil, Cell, head, siblings_in, count, plan_at}
 use Rattle.patricia_nodes.specs.Internal.Plans.{siblings_of, IsPlan, IsWellFormed}
-use Rattle.patricia_walks.specs.Internal.Positions.{Position, row_at, rows_at, state_of, AllPlans}
-use Rattle.patricia_walks.specs.Internal.Positions.{count_all, Stand, IsPosition, IsTop, rows_below}
-use Rattle.patricia_walks.specs.Internal.Positions.{AdvancesTo, with_row, WaitsAfter}
+use Rattle.patricia_walks.specs.Internal.Positions.{Position, siblings_at, siblings_waiting}
+use Rattle.patricia_walks.specs.Internal.Positions.{state_of, AllPlans}
+use Rattle.patricia_walks.specs.Internal.Positions.{count_all, Stand, IsPosition, IsTop}
+use Rattle.patricia_walks.specs.Internal.Positions.{entries_below}
+use Rattle.patricia_walks.specs.Internal.Positions.{AdvancesTo, with_siblings, WaitsAfter}
 use Rattle.patricia_nodes.proofs.PlanLemmas.{one-same, below_le, plan_is}
 use Rattle.patricia_nodes.proofs.SeekLemmas.{Opened, head_within, opened, whole_plan}
 use Rattle.patricia_nodes.proofs.WriteLemmas.{stands-keep}
@@ -21,27 +23,27 @@ use Rattle.patricia_walks.proofs.AfterLemmas.{after-push, after-front, after-bac
 use Rattle.patricia_walks.proofs.WaitingLemmas.{step_without}
 
 module _ {V : Type 0} (nodes : List (Node V)) where
-  -- where the rows that wait stand in the nodes, they do with one more that does
+  -- where the siblings that wait stand in the nodes, they do with more that do
   all_plans-snoc : (fs : List (ℕ × Option ℕ)) (n : ℕ) (at : Option ℕ) → AllPlans nodes fs
       → IsPlan nodes at (plan_at nodes at) → AllPlans nodes (fs ++ (n, at) ∷ [])
   all_plans-snoc [] n at ps p = (p, tt)
   all_plans-snoc (f ∷ fs) n at ps p = (ps.0, all_plans-snoc fs n at ps.1 p)
 
-  -- where all rows that wait stand in the nodes, so does the last, and so do those before it
+  -- where all siblings that wait stand in the nodes, so do the last, and so do those before them
   pub all_plans-last : (fs : List (ℕ × Option ℕ)) (n : ℕ) (at : Option ℕ)
       → AllPlans nodes (fs ++ (n, at) ∷ []) → IsPlan nodes at (plan_at nodes at) × AllPlans nodes fs
   all_plans-last [] n at ps = (ps.0, tt)
   all_plans-last (f ∷ fs) n at ps = let later = all_plans-last fs n at ps.1 in (later.0, (ps.0, later.1))
 
-  -- one more row that waits adds its numbers to those of the others
+  -- siblings that wait behind others add their numbers to theirs
   pub count_all-snoc : (fs : List (ℕ × Option ℕ)) (n : ℕ) (at : Option ℕ) (i : ℕ)
       → count_all nodes (fs ++ (n, at) ∷ []) i ≡ count (plan_at nodes at) i + count_all nodes fs i
   count_all-snoc [] n at i = omega arith
   count_all-snoc (f ∷ fs) n at i = omega (arith, count_all-snoc fs n at i)
 
-  -- where there is no number, there is no row
-  pub row_none : row_at nodes None ≡ end
-  row_none = ap row (plan_is nodes None Nil (record { stands = tt; at_is = refl; fits = omega arith }))
+  -- where there is no number, there are no siblings
+  pub siblings_none : siblings_at nodes None ≡ end
+  siblings_none = ap siblings_in (plan_is nodes None Nil (record { stands = tt; at_is = refl; fits = omega arith }))
 
 -- after a write to a node
 module _ {V : Type 0} (nodes later : List (Node V)) (id : ℕ) (long : length later ≡ length nodes)
@@ -56,22 +58,22 @@ module _ {V : Type 0} (nodes later : List (Node V)) (id : ℕ) (long : length la
         fits = rw long w.fits;
       }
 
-  -- and so are those of the rows that wait
+  -- and so are those of the siblings that wait
   record Keeps (fs : List (ℕ × Option ℕ)) : Type 0 where
     plans : AllPlans later fs
-    rows : rows_at later fs ≡ rows_at nodes fs
+    siblings : siblings_waiting later fs ≡ siblings_waiting nodes fs
     counts : (i : ℕ) → count_all later fs i ≡ count_all nodes fs i
 
-  -- rows that wait and do not have the node are as they were
+  -- siblings that wait and do not have the node are as they were
   all-keep : (fs : List (ℕ × Option ℕ)) → AllPlans nodes fs → count_all nodes fs id ≡ 0 → Keeps fs
-  all-keep [] ps none = record { plans = tt; rows = refl; counts = λ i. refl }
+  all-keep [] ps none = record { plans = tt; siblings = refl; counts = λ i. refl }
   all-keep (f ∷ fs) ps none =
       let kept = plan-keep f.1 (plan_at nodes f.1) ps.0 (omega (arith, none)) in
       let same = plan_is later f.1 (plan_at nodes f.1) kept in
       let rest = all-keep fs ps.1 (omega (arith, none)) in
       record {
         plans = (rw same kept, rest.plans);
-        rows = let rows = rest.rows in cc;
+        siblings = let siblings = rest.siblings in cc;
         counts = λ i. omega (arith, rest.counts i, ap (λ p. count p i) same);
       }
 
@@ -80,15 +82,15 @@ module _ {V : Type 0} (p q : Position V) (id : ℕ) (n : Node V) (stands : Stand
     (long : length q.nodes ≡ length p.nodes)
     (others : (i : ℕ) → i ≢ id → slice_get q.nodes i ≡ slice_get p.nodes i) (front : ℕ)
     (child : q.next ≡ n.child) (stack : q.stack ≡ p.stack ++ (front, n.sibling) ∷ []) where
-  -- the rows after the step to the children
+  -- the siblings after the step to the children
   record Down : Type 0 where
-    row_is : row_at p.nodes p.next ≡ node n.label n.value (row_at q.nodes q.next)
-        (row_at q.nodes n.sibling)
+    siblings_are : siblings_at p.nodes p.next ≡ node n.label n.value (siblings_at q.nodes q.next)
+        (siblings_at q.nodes n.sibling)
     stack_is :
-        rows_at q.nodes q.stack ≡ rows_at p.nodes p.stack ++ (front, row_at q.nodes n.sibling) ∷ []
+        siblings_waiting q.nodes q.stack ≡ siblings_waiting p.nodes p.stack ++ (front, siblings_at q.nodes n.sibling) ∷ []
     stand : Stand q
 
-  -- the step to a node's children leaves their row next, and its siblings waiting
+  -- the step to a node's children leaves them next, and its siblings waiting
   down : Down
   down =
       let o = opened p.nodes p.next (plan_at p.nodes p.next) id n stands.next_plan next reads in
@@ -100,8 +102,8 @@ module _ {V : Type 0} (p q : Position V) (id : ℕ) (n : Node V) (stands : Stand
       let s_is = plan_is q.nodes n.sibling o.sibling s in
       let kept = all-keep p.nodes q.nodes id long others p.stack stands.plans (omega (arith, alone)) in
       record {
-        row_is = rw (child, c_is, s_is) (ap row o.is);
-        stack_is = rw stack (map-append _ _ _ ∙ ap (λ r. r ++ (front, row_at q.nodes n.sibling) ∷ []) kept.rows);
+        siblings_are = rw (child, c_is, s_is) (ap siblings_in o.is);
+        stack_is = rw stack (map-append _ _ _ ∙ ap (λ r. r ++ (front, siblings_at q.nodes n.sibling) ∷ []) kept.siblings);
         stand = record {
           next_plan = rw (child, c_is) c;
           plans = rw stack (all_plans-snoc q.nodes p.stack front n.sibling kept.plans (rw s_is s));
@@ -131,33 +133,33 @@ module _ (item : List ℕ → Type 0) {V : Type 0} where
       record {
         stand = d.stand;
         step = step_down item (state_of p) (state_of q) n.label n.value _ _ w.state pending
-            d.row_is (rw (sym label_is) path) pending' refl d.stack_is;
+            d.siblings_are (rw (sym label_is) path) pending' refl d.stack_is;
         after =
-            let node_ok = subst (IsCanonical item) d.row_is w.state.canonical in
-            subst (λ k. WaitsAfter item k (rows_at q.nodes q.stack)) (sym (path ∙ ap (λ k. p.path ++ k) label_is))
+            let node_ok = subst (IsCanonical item) d.siblings_are w.state.canonical in
+            subst (λ k. WaitsAfter item k (siblings_waiting q.nodes q.stack)) (sym (path ∙ ap (λ k. p.path ++ k) label_is))
             (subst (WaitsAfter item (p.path ++ n.label)) (sym d.stack_is)
-            (after-push item p.path n.label (rows_at p.nodes p.stack) _ w.after node_ok.nonempty node_ok.rises));
+            (after-push item p.path n.label (siblings_waiting p.nodes p.stack) _ w.after node_ok.nonempty node_ok.rises));
       }
 
-  -- a row without nodes need not wait
+  -- siblings without nodes need not wait
   without_none : (p q r : Position V) (front : ℕ) → AdvancesTo item p q
       → q.stack ≡ r.stack ++ (front, None) ∷ [] → r.nodes ≡ q.nodes → r.path ≡ q.path
       → r.pending ≡ q.pending → r.next ≡ q.next → AdvancesTo item p r
   without_none p q r front w stack nodes path pending next =
       let last = all_plans-last q.nodes r.stack front None (subst (AllPlans q.nodes) stack w.stand.plans) in
-      let rows : rows_at q.nodes q.stack ≡ rows_at r.nodes r.stack ++ (front, end) ∷ [] = rw nodes
-      (ap (rows_at q.nodes) stack
-      ∙ map-append (λ (f : ℕ × Option ℕ). (f.0, row_at q.nodes f.1)) r.stack ((front, None) ∷ [])
-      ∙ ap (λ e. rows_at q.nodes r.stack ++ (front, e) ∷ []) (row_none q.nodes)) in
+      let siblings : siblings_waiting q.nodes q.stack ≡ siblings_waiting r.nodes r.stack ++ (front, end) ∷ [] = rw nodes
+      (ap (siblings_waiting q.nodes) stack
+      ∙ map-append (λ (f : ℕ × Option ℕ). (f.0, siblings_at q.nodes f.1)) r.stack ((front, None) ∷ [])
+      ∙ ap (λ e. siblings_waiting q.nodes r.stack ++ (front, e) ∷ []) (siblings_none q.nodes)) in
       record {
         stand = record {
           next_plan = rw (nodes, next) w.stand.next_plan;
           plans = rw nodes last.1;
           once = λ i. rw (nodes, next) (omega (arith, w.stand.once i, ap (λ f. count_all q.nodes f i) stack, count_all-snoc q.nodes r.stack front None i));
         };
-        step = step_without item (state_of p) (state_of q) (state_of r) front w.step rows path pending (rw (nodes, next) refl);
-        after = subst (λ k. WaitsAfter item k (rows_at r.nodes r.stack)) (sym path)
-            (after-front item q.path (rows_at r.nodes r.stack) front end (subst (WaitsAfter item q.path) rows w.after));
+        step = step_without item (state_of p) (state_of q) (state_of r) front w.step siblings path pending (rw (nodes, next) refl);
+        after = subst (λ k. WaitsAfter item k (siblings_waiting r.nodes r.stack)) (sym path)
+            (after-front item q.path (siblings_waiting r.nodes r.stack) front end (subst (WaitsAfter item q.path) siblings w.after));
       }
 
   -- the step to a node's value and its children, where only that node is written to and its
@@ -167,10 +169,10 @@ module _ (item : List ℕ → Type 0) {V : Type 0} where
       → length q.nodes ≡ length p.nodes
       → ((i : ℕ) → i ≢ id → slice_get q.nodes i ≡ slice_get p.nodes i) → l ≡ n.label
       → front ≡ length p.path → q.path ≡ p.path ++ l → q.pending ≡ n.value → q.next ≡ n.child
-      → q.stack ≡ with_row p.stack front n.sibling → AdvancesTo item p q
+      → q.stack ≡ with_siblings p.stack front n.sibling → AdvancesTo item p q
   goes_down p q id n l front w pending next reads long others label_is front_is path pending' child = by n.sibling refl
     where
-      by : (at : Option ℕ) → n.sibling ≡ at → q.stack ≡ with_row p.stack front at
+      by : (at : Option ℕ) → n.sibling ≡ at → q.stack ≡ with_siblings p.stack front at
           → AdvancesTo item p q
       by (Some i) is stack = goes_waiting p q id n l front w pending next reads long others label_is front_is path pending' child (rw is stack)
       by None is stack =
@@ -179,15 +181,15 @@ module _ (item : List ℕ → Type 0) {V : Type 0} where
           (goes_waiting p more id n l front w pending next reads long others label_is front_is path pending' child refl)
           (rw (is, stack) refl) refl refl refl refl
 
-  -- the step back to the row that waits last
+  -- the step back to the siblings that wait last
   pub goes_back : IsKeyKind item → (p q : Position V) (n : ℕ) (at : Option ℕ) → IsPosition item p → p.pending ≡ None
       → p.next ≡ None → p.stack ≡ q.stack ++ (n, at) ∷ [] → q.nodes ≡ p.nodes
       → q.path ≡ take n p.path → q.pending ≡ p.pending → q.next ≡ at → AdvancesTo item p q
   goes_back kind p q n at w pending next stack nodes path pending' at_is =
       let last = all_plans-last p.nodes q.stack n at (rw stack at w.stand.plans) in
-      let rows : rows_at p.nodes p.stack ≡ rows_at q.nodes q.stack ++ (n, row_at p.nodes at) ∷ [] = rw (stack, nodes) (map-append _ _ _) in
-      let step = step_back item (state_of p) (state_of q) n (row_at p.nodes at) w.state pending (ap (row_at p.nodes) next ∙ row_none p.nodes)
-      rows path pending' (rw (nodes, at_is) refl) in
+      let siblings : siblings_waiting p.nodes p.stack ≡ siblings_waiting q.nodes q.stack ++ (n, siblings_at p.nodes at) ∷ [] = rw (stack, nodes) (map-append _ _ _) in
+      let step = step_back item (state_of p) (state_of q) n (siblings_at p.nodes at) w.state pending (ap (siblings_at p.nodes) next ∙ siblings_none p.nodes)
+      siblings path pending' (rw (nodes, at_is) refl) in
       record {
         stand = record {
           next_plan = rw (nodes, at_is) last.0;
@@ -195,9 +197,9 @@ module _ (item : List ℕ → Type 0) {V : Type 0} where
           once = λ i. rw (nodes, at_is) (omega (arith, w.stand.once i, ap (λ f. count_all p.nodes f i) stack, count_all-snoc p.nodes q.stack n at i));
         };
         step = step;
-        after = subst (λ k. WaitsAfter item k (rows_at q.nodes q.stack)) (sym path)
-            (after-back item kind p.path (rows_at q.nodes q.stack) n (row_at p.nodes at)
-            (subst (WaitsWithin item p.path) rows w.state.waits) (subst (WaitsAfter item p.path) rows w.after)
+        after = subst (λ k. WaitsAfter item k (siblings_waiting q.nodes q.stack)) (sym path)
+            (after-back item kind p.path (siblings_waiting q.nodes q.stack) n (siblings_at p.nodes at)
+            (subst (WaitsWithin item p.path) siblings w.state.waits) (subst (WaitsAfter item p.path) siblings w.after)
             (subst (IsValid item) path step.state.valid));
       }
 
@@ -208,14 +210,14 @@ module _ (item : List ℕ → Type 0) {V : Type 0} where
     where
       by : (r : Plan V) → plan_at p.nodes p.next ≡ r → p.next ≡ head r → entries_left (state_of p) ≢ []
       by Nil is at = absurd (cc)
-      by (Cell i l v c d) is at = left_filled item (state_of p) l v (row c) (row d) w.state (ap row is)
+      by (Cell i l v c d) is at = left_filled item (state_of p) l v (siblings_in c) (siblings_in d) w.state (ap siblings_in is)
 
   -- a number that is next is that of a node
   pub position_within : (p : Position V) (id : ℕ) → IsPosition item p → p.next ≡ Some id
       → id < length p.nodes
   position_within p id w next = head_within p.nodes p.next (plan_at p.nodes p.next) id w.stand.next_plan next
 
-  -- at its start a walk stands at the first row
+  -- at its start a walk stands at the top siblings
   pub position_start : (s : NodeArena V) (p : Position V) → IsWellFormed s
       → IsCanonical item (siblings_of s) → p.nodes ≡ s.nodes.items → p.path ≡ [] → p.next ≡ s.root
       → p.stack ≡ [] → IsPosition item p
@@ -233,7 +235,7 @@ module _ (item : List ℕ → Type 0) {V : Type 0} where
         after = rw stack tt;
       }
 
-  -- with no row left a walk stands at its end
+  -- with no siblings left a walk stands at its end
   pub position_end : (p : Position V) → p.path ≡ [] → p.next ≡ None → p.stack ≡ []
       → IsPosition item p
   position_end p path next stack =
@@ -251,11 +253,11 @@ module _ (item : List ℕ → Type 0) {V : Type 0} (arena : NodeArena V) (front 
   top_opened : Opened arena.nodes.items (plan_at arena.nodes.items (Some top)) top n
   top_opened = opened arena.nodes.items (Some top) (plan_at arena.nodes.items (Some top)) top n w.plan refl reads
 
-  -- the row from that node on is the node with the rows of its two links
-  top_row :
-      row_at arena.nodes.items (Some top) ≡ node n.label n.value (row_at arena.nodes.items n.child)
-      (row top_opened.sibling)
-  top_row = ap row top_opened.is ∙ ap (λ c. node n.label n.value (row c) (row top_opened.sibling))
+  -- the siblings from that node on are the node with the siblings of its two links
+  top_siblings :
+      siblings_at arena.nodes.items (Some top) ≡ node n.label n.value (siblings_at arena.nodes.items n.child)
+      (siblings_in top_opened.sibling)
+  top_siblings = ap siblings_in top_opened.is ∙ ap (λ c. node n.label n.value (siblings_in c) (siblings_in top_opened.sibling))
       (sym (plan_is arena.nodes.items n.child top_opened.child top_opened.child_plan))
 
   -- a walk below a node stands at its value and its children
@@ -263,7 +265,7 @@ module _ (item : List ℕ → Type 0) {V : Type 0} (arena : NodeArena V) (front 
       → p.next ≡ n.child → p.stack ≡ [] → IsPosition item p
   position_top p nodes path next stack =
       let is = plan_is arena.nodes.items n.child top_opened.child top_opened.child_plan in
-      let ok = subst (IsCanonical item) top_row w.canonical in
+      let ok = subst (IsCanonical item) top_siblings w.canonical in
       record {
         stand = record {
           next_plan = rw (nodes, next, is) top_opened.child_plan;
@@ -274,8 +276,8 @@ module _ (item : List ℕ → Type 0) {V : Type 0} (arena : NodeArena V) (front 
         after = rw stack tt;
       }
 
-  -- all rows below the node are left then
+  -- all entries below the node are left then
   pub left_top : (p : Position V) → p.nodes ≡ arena.nodes.items → p.path ≡ front ++ n.label
       → p.pending ≡ n.value → p.next ≡ n.child → p.stack ≡ []
-      → entries_left (state_of p) ≡ rows_below front (row_at arena.nodes.items (Some top))
-  left_top p nodes path pending next stack = rw (nodes, path, pending, next, stack, top_row) (append-nil _)
+      → entries_left (state_of p) ≡ entries_below front (siblings_at arena.nodes.items (Some top))
+  left_top p nodes path pending next stack = rw (nodes, path, pending, next, stack, top_siblings) (append-nil _)

@@ -1,4 +1,4 @@
--- Rows, and the same rows with who holds each value.
+-- Entries, and the same entries with who holds each value.
 use Rattle.std.proofs.Common.{◌≡◌, ◌≢◌, ℕ, ◌+◌, ◌≤◌, Bool, true, false, T, cond, List, [], ◌∷◌}
 use Rattle.std.proofs.Common.{Option, Some, None, slice_get, inl, inr, refl, sym, ap, subst, ◌∙◌}
 use Rattle.std.proofs.Common.{arith}
@@ -20,8 +20,8 @@ use Rattle.patricia_walks.specs.declared.held_tree.ValueSlot.TheVariants.{OfEmpt
 use Rattle.patricia_walks.specs.Internal.Holders.{is_same, key_at, uses, ReadsHeld}
 
 -- two entries with the same key and the same value are one
-same_row : {V : Type 0} (x y : List ℕ × V) → x.0 ≡ y.0 → x.1 ≡ y.1 → x ≡ y
-same_row (k, v) (q, w) a b = cc
+same_entry : {V : Type 0} (x y : List ℕ × V) → x.0 ≡ y.0 → x.1 ≡ y.1 → x ≡ y
+same_entry (k, v) (q, w) a b = cc
 
 -- holders that are found to be the same are the same
 same_is : (g h : ValueSlot) → is_same g h ≡ true → g ≡ h
@@ -35,7 +35,7 @@ same_self : (h : ValueSlot) → is_same h h ≡ true
 same_self OfEmptyKey = refl
 same_self (OfNode i) = eq-eqb i i refl
 
--- a holder that stands in no row has no key, and one that stands once has one
+-- a holder that stands in no entry has no key, and one that stands once has one
 module _ (h : ValueSlot) where
   -- a holder that is used nowhere in a list stands at no key of it
   unused_key : (es : List (List ℕ × ValueSlot)) → uses es h ≡ 0 → (k : List ℕ) → Has es (k, h) → ⊥
@@ -67,7 +67,7 @@ module _ (h : ValueSlot) where
       ]
 
 module _ {V : Type 0} (held : ValueSlot → Option V) where
-  -- the rows whose keys pass a test are read where all are
+  -- the entries whose keys pass a test are read where all are
   reads_filter : (f : List ℕ → Bool) (es : List (List ℕ × ValueSlot)) (rs : List (List ℕ × V))
       → ReadsHeld held es rs → ReadsHeld held (filter (λ e. f e.0) es) (filter (λ e. f e.0) rs)
   reads_filter f [] [] r = tt
@@ -91,7 +91,7 @@ module _ {V : Type 0} (held : ValueSlot → Option V) where
   reads_after None p es rs r = reads_filter (λ k. begins p k) es rs r
   reads_after (Some q) p es rs r = reads_filter (λ k. is_lt (key_cmp q k)) _ _ (reads_filter (λ k. begins p k) es rs r)
 
-  -- where no holder is, no row is read
+  -- where no holder is, no entry is read
   pub reads_none : (rs : List (List ℕ × V)) → ReadsHeld held [] rs → rs ≡ []
   reads_none [] r = refl
   reads_none (x ∷ rs) r = absurd r
@@ -103,7 +103,7 @@ module _ {V : Type 0} (held : ValueSlot → Option V) where
   reads_first e es [] r = absurd r
   reads_first e es (x ∷ rs) r = (x.1, ap (λ k. Some (k, x.1)) (sym r.0), r.1)
 
-  -- a key that is below all rows is below that of a holder
+  -- a key that is below all entries is below that of a holder
   key_below : (q : List ℕ) (h : ValueSlot) (k : List ℕ) (es : List (List ℕ × ValueSlot))
       (rs : List (List ℕ × V)) → ReadsHeld held es rs → T (below_all key_cmp q rs)
       → key_at es h ≡ Some k → key_cmp q k ≡ Less
@@ -116,7 +116,7 @@ module _ {V : Type 0} (held : ValueSlot → Option V) where
       by true at rest = let same : e.0 ≡ k = cc in rw (← same, r.0) (less_so (key_cmp q x.0) (first_part _ _ below))
       by false at rest = rest at
 
-  -- a holder that stands in the rows holds a value
+  -- a holder that stands in the entries holds a value
   pub key_value : (h : ValueSlot) (es : List (List ℕ × ValueSlot)) (rs : List (List ℕ × V))
       → ReadsHeld held es rs → key_at es h ≢ None → (v : V) × (held h ≡ Some v)
   key_value h [] rs r some = absurd (some refl)
@@ -150,7 +150,7 @@ module _ {V : Type 0} (held : ValueSlot → Option V) where
 
 module _ {V : Type 0} (old new : ValueSlot → Option V) (h : ValueSlot) (w : V)
     (here : new h ≡ Some w) (others : (x : ValueSlot) → is_same x h ≡ false → new x ≡ old x) where
-  -- where the holder does not stand, no row changes
+  -- where the holder does not stand, no entry changes
   put_unused : (es : List (List ℕ × ValueSlot)) (rs ts : List (List ℕ × V)) → ReadsHeld old es rs
       → ReadsHeld new es ts → uses es h ≡ 0 → ts ≡ rs
   put_unused [] rs ts r t none = reads_none new ts t ∙ sym (reads_none old rs r)
@@ -163,7 +163,7 @@ module _ {V : Type 0} (old new : ValueSlot → Option V) (h : ValueSlot) (w : V)
       by false f rest =
           let later = rest (let all : uses (e ∷ es) h ≡ 0 + uses es h = rw f refl in omega (arith, none, all)) in
           let value : y.1 ≡ x.1 = (let both = sym t.1 ∙ others e.1 f ∙ r.1 in cc) in
-          let same = same_row y x (sym t.0 ∙ r.0) value in
+          let same = same_entry y x (sym t.0 ∙ r.0) value in
           cc
 
   -- a write to what a holder holds puts the value in at its key
@@ -183,12 +183,12 @@ module _ {V : Type 0} (old new : ValueSlot → Option V) (h : ValueSlot) (w : V)
           let key : x.0 ≡ k = (let first : e.0 ≡ k = cc in sym r.0 ∙ first) in
           let tie : key_cmp k x.0 ≡ Equal = rw key (key_cmp-same k) in
           let value : y.1 ≡ w = (let both = sym t.1 ∙ ap new (same_is e.1 h f) ∙ here in cc) in
-          let same : y ≡ (x.0, w) = same_row y (x.0, w) (sym t.0 ∙ r.0) value in
+          let same : y ≡ (x.0, w) = same_entry y (x.0, w) (sym t.0 ∙ r.0) value in
           rw tie (cc)
       by false f at rest =
           let less = key_below old x.0 h k es rs r.2 (first_part _ _ sorted) at in
           let more : key_cmp k x.0 ≡ Greater = key_cmp-turned x.0 k less in
           let later = rest (let all : uses (e ∷ es) h ≡ 0 + uses es h = rw f refl in omega (arith, once, all)) at in
           let value : y.1 ≡ x.1 = (let both = sym t.1 ∙ others e.1 f ∙ r.1 in cc) in
-          let same = same_row y x (sym t.0 ∙ r.0) value in
+          let same = same_entry y x (sym t.0 ∙ r.0) value in
           rw more (cc)

@@ -1,4 +1,4 @@
--- The steps of a walk that goes past the rows before a key.
+-- The steps of a walk that goes past the entries before a key.
 use Rattle.std.proofs.Common.{◌≡◌, ◌≢◌, ℕ, ◌≤◌, List, [], ◌∷◌, ◌++◌, length, get_or, drop}
 use Rattle.std.proofs.Common.{true, false, Option, Some, None, refl, sym, ap, subst, ◌∙◌, arith}
 use Rattle.std.specs.declared.cmp.Ordering.{Ordering}
@@ -19,14 +19,14 @@ use Rattle.patricia_model.proofs.PrefixLemmas.{begins_is, begins_other, stop_bel
 use Rattle.patricia_model.proofs.RangeLemmas.{from-append, from-prefixed, from_all, from_start}
 use Rattle.patricia_model.proofs.RangeLemmas.{from_own, from_past, siblings_from, below_from}
 use Rattle.patricia_nodes.specs.declared.arena.Node.{Node}
-use Rattle.patricia_nodes.specs.Internal.Plans.{row, count, plan_at}
+use Rattle.patricia_nodes.specs.Internal.Plans.{siblings_in, count, plan_at}
 use Rattle.patricia_nodes.proofs.PlanLemmas.{plan_is}
 use Rattle.patricia_nodes.proofs.SeekLemmas.{Opened, opened}
-use Rattle.patricia_walks.specs.Internal.Positions.{Position, IsPosition, row_at}
-use Rattle.patricia_walks.specs.Internal.Positions.{rows_at, with_row}
-use Rattle.patricia_walks.specs.Internal.Skips.{IsTowards, Approaches, HasReached, rows_ahead}
-use Rattle.patricia_walks.specs.Internal.Skips.{rows_waiting}
-use Rattle.patricia_walks.proofs.PositionLemmas.{goes_down, row_none}
+use Rattle.patricia_walks.specs.Internal.Positions.{Position, IsPosition, siblings_at}
+use Rattle.patricia_walks.specs.Internal.Positions.{siblings_waiting, with_siblings}
+use Rattle.patricia_walks.specs.Internal.Skips.{IsTowards, Approaches, HasReached, entries_ahead}
+use Rattle.patricia_walks.specs.Internal.Skips.{entries_waiting}
+use Rattle.patricia_walks.proofs.PositionLemmas.{goes_down, siblings_none}
 
 -- a key is a front of it and what is left
 key_splits : (key path : List ℕ) → Begins path key → path ++ drop (length path) key ≡ key
@@ -43,30 +43,31 @@ module _ (item : List ℕ → Type 0) (key : List ℕ) {V : Type 0} (p : Positio
   pub splits : p.path ++ rest ≡ key
   splits = key_splits key p.path w.begins
 
-  -- the rows from the key on are those from its rest on in the row that is next, and all that wait
-  pub ahead_from : from key (rows_ahead p)
-      ≡ prefixed p.path (from rest (own p.pending ++ entries (row_at p.nodes p.next))) ++ rows_waiting p
+  -- the entries from the key on are those from its rest on among the siblings that are next, and
+  -- all that wait
+  pub ahead_from : from key (entries_ahead p)
+      ≡ prefixed p.path (from rest (own p.pending ++ entries (siblings_at p.nodes p.next))) ++ entries_waiting p
   ahead_from =
-      let es = own p.pending ++ entries (row_at p.nodes p.next) in
-      from-append key (prefixed p.path es) (rows_waiting p)
+      let es = own p.pending ++ entries (siblings_at p.nodes p.next) in
+      from-append key (prefixed p.path es) (entries_waiting p)
       ∙ ap (λ r. from key (prefixed p.path es) ++ r) w.waits
-      ∙ ap (λ k. from k (prefixed p.path es) ++ rows_waiting p) (sym splits)
-      ∙ ap (λ r. r ++ rows_waiting p) (from-prefixed p.path rest es)
+      ∙ ap (λ k. from k (prefixed p.path es) ++ entries_waiting p) (sym splits)
+      ∙ ap (λ r. r ++ entries_waiting p) (from-prefixed p.path rest es)
 
-  -- at the end of the key no row comes before it
+  -- at the end of the key no entry comes before it
   pub reached_end : length key ≤ length p.path → HasReached item key p
   reached_end long =
       let none : rest ≡ [] = nil_from_length rest (omega (arith, ap length splits, length-append p.path rest)) in
-      let es = own p.pending ++ entries (row_at p.nodes p.next) in
-      ahead_from ∙ ap (λ k. prefixed p.path (from k es) ++ rows_waiting p) none
-      ∙ ap (λ r. prefixed p.path r ++ rows_waiting p) (from_start es)
+      let es = own p.pending ++ entries (siblings_at p.nodes p.next) in
+      ahead_from ∙ ap (λ k. prefixed p.path (from k es) ++ entries_waiting p) none
+      ∙ ap (λ r. prefixed p.path r ++ entries_waiting p) (from_start es)
 
-  -- nor where no row is next
+  -- nor where no siblings are next
   pub reached_none : p.pending ≡ None → p.next ≡ None → HasReached item key p
   reached_none pending next =
-      let es_is : own p.pending ++ entries (row_at p.nodes p.next) ≡ [] = rw (pending, next, row_none p.nodes) refl in
-      ahead_from ∙ ap (λ es. prefixed p.path (from rest es) ++ rows_waiting p) es_is
-      ∙ sym (ap (λ es. prefixed p.path es ++ rows_waiting p) es_is)
+      let es_is : own p.pending ++ entries (siblings_at p.nodes p.next) ≡ [] = rw (pending, next, siblings_none p.nodes) refl in
+      ahead_from ∙ ap (λ es. prefixed p.path (from rest es) ++ entries_waiting p) es_is
+      ∙ sym (ap (λ es. prefixed p.path es ++ entries_waiting p) es_is)
 
 -- the same walk, but its value is passed
 abbrev pub passed_value : {V : Type 0} → Position V → Position V
@@ -82,30 +83,30 @@ module _ (item : List ℕ → Type 0) (key : List ℕ) {V : Type 0} (p : Positio
     waits = w.waits;
   }
 
-  -- and no row from the key on is lost
-  pub value_same : length p.path ≢ length key → from key (rows_ahead (passed_value p)) ≡ from key (rows_ahead p)
+  -- and no entry from the key on is lost
+  pub value_same : length p.path ≢ length key → from key (entries_ahead (passed_value p)) ≡ from key (entries_ahead p)
   value_same short =
       let r = rest item key p w in
-      let es = entries (row_at p.nodes p.next) in
+      let es = entries (siblings_at p.nodes p.next) in
       let some : r ≢ [] = λ none. short (omega (arith, ap length (splits item key p w), length-append p.path r, ap length none)) in
       ahead_from item key (passed_value p) value_towards
-      ∙ ap (λ rs. prefixed p.path rs ++ rows_waiting p)
+      ∙ ap (λ rs. prefixed p.path rs ++ entries_waiting p)
       (sym (from-append r (own p.pending) es ∙ ap (λ rs. rs ++ from r es) (from_own r some p.pending)))
       ∙ sym (ahead_from item key p w)
 
 module _ (item : List ℕ → Type 0) {V : Type 0} where
-  -- the rows that wait once a walk has gone on to the children of a node
+  -- the siblings that wait once a walk has gone on to the children of a node
   waiting_down : (p q : Position V) (l : List ℕ) (at : Option ℕ)
-      → WaitsWithin item p.path (rows_at p.nodes p.stack) → q.nodes ≡ p.nodes → q.path ≡ p.path ++ l
-      → q.stack ≡ with_row p.stack (length p.path) at
-      → rows_waiting q ≡ prefixed p.path (entries (row_at p.nodes at)) ++ rows_waiting p
+      → WaitsWithin item p.path (siblings_waiting p.nodes p.stack) → q.nodes ≡ p.nodes → q.path ≡ p.path ++ l
+      → q.stack ≡ with_siblings p.stack (length p.path) at
+      → entries_waiting q ≡ prefixed p.path (entries (siblings_at p.nodes at)) ++ entries_waiting p
   waiting_down p q l None w nodes path stack =
-      rw (nodes, path, stack, row_none p.nodes) (waiting-longer item p.path l (rows_at p.nodes p.stack) w)
+      rw (nodes, path, stack, siblings_none p.nodes) (waiting-longer item p.path l (siblings_waiting p.nodes p.stack) w)
   waiting_down p q l (Some i) w nodes path stack =
-      let fs = rows_at p.nodes p.stack in
-      let r = row_at p.nodes (Some i) in
+      let fs = siblings_waiting p.nodes p.stack in
+      let r = siblings_at p.nodes (Some i) in
       let n = length p.path in
-      let all : rows_at p.nodes (p.stack ++ (n, Some i) ∷ []) ≡ fs ++ (n, r) ∷ [] = map-append _ _ _ in
+      let all : siblings_waiting p.nodes (p.stack ++ (n, Some i) ∷ []) ≡ fs ++ (n, r) ∷ [] = map-append _ _ _ in
       rw (nodes, path, stack, all)
       (waiting-snoc (p.path ++ l) fs n r
       ∙ ap (λ k. prefixed k (entries r) ++ waiting (p.path ++ l) fs) (take_at p.path l n refl)
@@ -114,67 +115,67 @@ module _ (item : List ℕ → Type 0) {V : Type 0} where
 module _ (item : List ℕ → Type 0) (kind : IsKeyKind item) (key : List ℕ) {V : Type 0}
     (p q : Position V) (id : ℕ) (n : Node V) (w : IsTowards item key p) (taken : p.pending ≡ None)
     (next : p.next ≡ Some id) (reads : n ≡ get_or p.nodes id n) (nodes : q.nodes ≡ p.nodes) where
-  -- the row that is next
-  abbrev child_row : Siblings V
-  child_row = row_at p.nodes n.child
+  -- the siblings that are next
+  abbrev child_siblings : Siblings V
+  child_siblings = siblings_at p.nodes n.child
 
-  abbrev sibling_row : Siblings V
-  sibling_row = row_at p.nodes n.sibling
+  abbrev sibling_siblings : Siblings V
+  sibling_siblings = siblings_at p.nodes n.sibling
 
   -- what is left of the key
   abbrev left : List ℕ
   left = rest item key p w
 
-  -- the node, with the rows that its two links lead to
+  -- the node, with the siblings that its two links lead to
   o : Opened p.nodes (plan_at p.nodes p.next) id n
   o = opened p.nodes p.next (plan_at p.nodes p.next) id n w.position.stand.next_plan next reads
 
-  -- the plans of those two rows
+  -- the plans of those siblings
   c_is : plan_at p.nodes n.child ≡ o.child
   c_is = plan_is p.nodes n.child o.child o.child_plan
 
   s_is : plan_at p.nodes n.sibling ≡ o.sibling
   s_is = plan_is p.nodes n.sibling o.sibling o.sibling_plan
 
-  -- the row that is next is that node's
-  row_is : row_at p.nodes p.next ≡ node n.label n.value child_row sibling_row
-  row_is = rw (c_is, s_is) (ap row o.is)
+  -- the siblings that are next are that node's
+  siblings_are : siblings_at p.nodes p.next ≡ node n.label n.value child_siblings sibling_siblings
+  siblings_are = rw (c_is, s_is) (ap siblings_in o.is)
 
   -- it keeps the invariant
-  node_row : IsCanonical item (node n.label n.value child_row sibling_row)
-  node_row = subst (IsCanonical item) row_is w.position.state.canonical
+  node_siblings : IsCanonical item (node n.label n.value child_siblings sibling_siblings)
+  node_siblings = subst (IsCanonical item) siblings_are w.position.state.canonical
 
-  -- the rows from the key on, where the row is that node's
-  ahead_node : from key (rows_ahead p)
-      ≡ prefixed p.path (from left (entries (node n.label n.value child_row sibling_row)))
-      ++ rows_waiting p
+  -- the entries from the key on, where the siblings are that node's
+  ahead_node : from key (entries_ahead p)
+      ≡ prefixed p.path (from left (entries (node n.label n.value child_siblings sibling_siblings)))
+      ++ entries_waiting p
   ahead_node = ahead_from item key p w
-      ∙ ap (λ v. prefixed p.path (from left (own v ++ entries (row_at p.nodes p.next))) ++ rows_waiting p) taken
-      ∙ ap (λ r. prefixed p.path (from left (entries r)) ++ rows_waiting p) row_is
+      ∙ ap (λ v. prefixed p.path (from left (own v ++ entries (siblings_at p.nodes p.next))) ++ entries_waiting p) taken
+      ∙ ap (λ r. prefixed p.path (from left (entries r)) ++ entries_waiting p) siblings_are
 
   -- where a node's label begins what is left of the key, the walk advances to its children
   pub towards_down : begins n.label left ≡ true → (l : List ℕ) → l ≡ n.label → (front : ℕ)
       → front ≡ length p.path → q.path ≡ p.path ++ l
-      → q.pending ≡ n.value → q.next ≡ n.child → q.stack ≡ with_row p.stack front n.sibling
+      → q.pending ≡ n.value → q.next ≡ n.child → q.stack ≡ with_siblings p.stack front n.sibling
       → Approaches item key p q
   towards_down begun_is l l_is front front_is path pending child stack =
       let begun = begins_is n.label left begun_is in
       let step = goes_down item p q id n l front w.position taken next reads (ap length nodes) (λ i _. rw nodes refl) l_is front_is path pending child stack in
-      let es = entries sibling_row in
+      let es = entries sibling_siblings in
       let path_is : q.path ≡ p.path ++ n.label = path ∙ ap (λ k. p.path ++ k) l_is in
-      let wait_is : rows_waiting q ≡ prefixed p.path es ++ rows_waiting p =
-      waiting_down item p q n.label n.sibling w.position.state.waits nodes path_is (stack ∙ ap (λ f. with_row p.stack f n.sibling) front_is) in
+      let wait_is : entries_waiting q ≡ prefixed p.path es ++ entries_waiting p =
+      waiting_down item p q n.label n.sibling w.position.state.waits nodes path_is (stack ∙ ap (λ f. with_siblings p.stack f n.sibling) front_is) in
       let here : p.path ++ (n.label ++ begun.0) ≡ key = ap (λ k. p.path ++ k) begun.1 ∙ splits item key p w in
       record {
         towards = record {
           position = record { stand = step.stand; state = step.step.state; after = step.after };
           begins = (begun.0, ap (λ k. k ++ begun.0) path_is ∙ append_assoc p.path n.label begun.0 ∙ here);
-          waits = ap (from key) wait_is ∙ from-append key (prefixed p.path es) (rows_waiting p)
+          waits = ap (from key) wait_is ∙ from-append key (prefixed p.path es) (entries_waiting p)
               ∙ ap (λ r. from key (prefixed p.path es) ++ r) w.waits
-              ∙ ap (λ k. from k (prefixed p.path es) ++ rows_waiting p) (sym here)
-              ∙ ap (λ r. r ++ rows_waiting p)
+              ∙ ap (λ k. from k (prefixed p.path es) ++ entries_waiting p) (sym here)
+              ∙ ap (λ r. r ++ entries_waiting p)
               (from-prefixed p.path (n.label ++ begun.0) es
-              ∙ ap (prefixed p.path) (from_all (n.label ++ begun.0) es (siblings_from item kind n.label n.value child_row sibling_row node_row begun.0)))
+              ∙ ap (prefixed p.path) (from_all (n.label ++ begun.0) es (siblings_from item kind n.label n.value child_siblings sibling_siblings node_siblings begun.0)))
               ∙ sym wait_is;
         };
         same = ap (from key) step.step.same;
@@ -198,7 +199,7 @@ module _ (item : List ℕ → Type 0) (kind : IsKeyKind item) (key : List ℕ) {
           };
           state = record {
             valid = rw path state.valid;
-            canonical = rw (nodes, sibling) node_row.sibling;
+            canonical = rw (nodes, sibling) node_siblings.sibling;
             waits = rw (path, nodes, stack) state.waits;
           };
           after = rw (path, nodes, stack) w.position.after;
@@ -209,20 +210,20 @@ module _ (item : List ℕ → Type 0) (kind : IsKeyKind item) (key : List ℕ) {
       record {
         towards = to;
         same = ahead_from item key q to
-            ∙ rw (path, pending, nodes, sibling, stack, taken) (ap (λ rs. prefixed p.path rs ++ rows_waiting p) (sym (from_past item kind n.label n.value child_row sibling_row node_row left other less)))
+            ∙ rw (path, pending, nodes, sibling, stack, taken) (ap (λ rs. prefixed p.path rs ++ entries_waiting p) (sym (from_past item kind n.label n.value child_siblings sibling_siblings node_siblings left other less)))
             ∙ sym ahead_node;
-        less = rw (nodes, sibling, stack, row_is) (omega (arith));
+        less = rw (nodes, sibling, stack, siblings_are) (omega (arith));
       }
 
-  -- where it comes after that, no row that is left comes before the key
+  -- where it comes after that, no entry that is left comes before the key
   pub reached_label : begins n.label left ≡ false → key_cmp left n.label ≡ Less → HasReached item key p
   reached_label other_is less =
       let other = begins_other n.label left other_is in
-      let es = entries (node n.label n.value child_row sibling_row) in
+      let es = entries (node n.label n.value child_siblings sibling_siblings) in
       ahead_node
-      ∙ ap (λ rs. prefixed p.path rs ++ rows_waiting p) (from_all left es (below_from left es (stop_below item kind n.label n.value child_row sibling_row node_row left other less)))
-      ∙ sym (ap (λ v. prefixed p.path (own v ++ entries (row_at p.nodes p.next)) ++ rows_waiting p) taken
-      ∙ ap (λ r. prefixed p.path (entries r) ++ rows_waiting p) row_is)
+      ∙ ap (λ rs. prefixed p.path rs ++ entries_waiting p) (from_all left es (below_from left es (stop_below item kind n.label n.value child_siblings sibling_siblings node_siblings left other less)))
+      ∙ sym (ap (λ v. prefixed p.path (own v ++ entries (siblings_at p.nodes p.next)) ++ entries_waiting p) taken
+      ∙ ap (λ r. prefixed p.path (entries r) ++ entries_waiting p) siblings_are)
 
 -- an order that is not less, of keys that differ, is that of the other way round
 pub turned_less : (a b : List ℕ) → (a ≡ b → ⊥) → (key_cmp a b ≡ Less → ⊥) → key_cmp b a ≡ Less

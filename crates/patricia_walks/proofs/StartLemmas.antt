@@ -12,18 +12,19 @@ use Rattle.patricia_nodes.specs.declared.arena.seek.Match.{Match}
 use Rattle.patricia_nodes.specs.Internal.Plans.{IsWellFormed, siblings_of, plan_at}
 use Rattle.patricia_nodes.proofs.SeekLemmas.{head_within}
 use Rattle.patricia_nodes.specs.Internal.Places.{Placed, node_under}
-use Rattle.patricia_walks.specs.Internal.Positions.{Position, IsPosition, IsTop, row_at, rows_below}
+use Rattle.patricia_walks.specs.Internal.Positions.{Position, IsPosition, IsTop, siblings_at}
+use Rattle.patricia_walks.specs.Internal.Positions.{entries_below}
 use Rattle.patricia_walks.specs.Internal.Positions.{state_of}
 use Rattle.patricia_walks.proofs.PositionLemmas.{position_top, left_top, position_end}
-use Rattle.patricia_walks.proofs.PositionLemmas.{position_start, row_none}
+use Rattle.patricia_walks.proofs.PositionLemmas.{position_start, siblings_none}
 use Rattle.patricia_model.proofs.WalkLemmas.{left_start}
 use Rattle.patricia_model.specs.Internal.WalkStates.{entries_left}
-use Rattle.patricia_walks.proofs.UnderLemmas.{place_top, place_rows, place_nothing, top_filled}
+use Rattle.patricia_walks.proofs.UnderLemmas.{place_top, place_entries, place_nothing, top_filled}
 use Rattle.patricia_walks.specs.declared.held_tree.ValueSlot.{ValueSlot}
 use Rattle.patricia_walks.specs.declared.held_tree.ValueSlot.TheVariants.{OfEmptyKey, OfNode}
 use Rattle.patricia_walks.specs.Internal.Holders.{numbered_slots, holders}
-use Rattle.patricia_walks.specs.Internal.Trails.{IsAtStart, StartsUnder}
-use Rattle.patricia_walks.proofs.HolderLemmas.{Marked, marked, place_marked, row_marked}
+use Rattle.patricia_walks.specs.Internal.CursorStates.{IsAtStart, StartsUnder}
+use Rattle.patricia_walks.proofs.HolderLemmas.{Marked, marked, place_marked, siblings_marked}
 use Rattle.patricia_walks.proofs.NumberLemmas.{marked_node, numbered_slots-length}
 use Rattle.patricia_walks.proofs.NumberLemmas.{numbered_slots-read}
 
@@ -43,9 +44,9 @@ module _ (item : List ℕ → Type 0) (kind : IsKeyKind item) {V : Type 0} (s : 
     (m : NodeArena ValueSlot) (is : Marked s m) (whole : IsWellFormed s)
     (ok : IsCanonical item (siblings_of s)) (key : List ℕ) (link_ref : LinkRef) (at : Option ℕ)
     (rest : List ℕ) (matched : Match) (p : Placed item s key link_ref at rest matched) where
-  -- the row of the numbered nodes keeps the invariant
-  m_row : IsCanonical item (siblings_of m)
-  m_row = rw (is.nodes, is.root) ((row_marked s whole item).0 ok)
+  -- the siblings of the numbered nodes keep the invariant
+  m_siblings : IsCanonical item (siblings_of m)
+  m_siblings = rw (is.nodes, is.root) ((siblings_marked s whole item).0 ok)
 
   -- the place of the key among them is the same
   m_place : Placed item m key link_ref at rest matched
@@ -57,14 +58,14 @@ module _ (item : List ℕ → Type 0) (kind : IsKeyKind item) {V : Type 0} (s : 
       → StartsUnder item s key (record { front = front; top = top })
   starts_under front front_is top e = record {
     within = omega (arith, front_is);
-    start = starts_at item m _ is.nodes (take front key) top (place_top item kind m is.whole m_row key link_ref at rest matched m_place front front_is top e);
-    rows = rw (← is.nodes, ← is.root) (place_rows item kind m is.whole m_row key link_ref at rest matched m_place front front_is top e);
+    start = starts_at item m _ is.nodes (take front key) top (place_top item kind m is.whole m_siblings key link_ref at rest matched m_place front front_is top e);
+    entries = rw (← is.nodes, ← is.root) (place_entries item kind m is.whole m_siblings key link_ref at rest matched m_place front front_is top e);
   }
 
-  -- and where there is none, no row is under the key
+  -- and where there is none, no entry is under the key
   pub starts_nowhere : IsValid item rest → node_under rest matched ≡ None
       → under key (holders None s) ≡ []
-  starts_nowhere valid none = rw (← is.nodes, ← is.root) (place_nothing item kind m is.whole m_row key link_ref at rest matched m_place valid none)
+  starts_nowhere valid none = rw (← is.nodes, ← is.root) (place_nothing item kind m is.whole m_siblings key link_ref at rest matched m_place valid none)
 
 -- the node at which a walk can begin is in the vector
 pub start_within :
@@ -95,16 +96,16 @@ module _ (item : List ℕ → Type 0) {V : Type 0} (s : NodeArena V) (m : NodeAr
   pub start_position : IsPosition item p
   start_position = position_top item m front top (marked_node top n) m_top m_reads p (nodes ∙ sym is.nodes) path next stack
 
-  -- all rows below the topmost node are left
+  -- all entries below the topmost node are left
   pub start_left : p.pending ≡ option_map (λ _. OfNode top) n.value
-      → entries_left (state_of p) ≡ rows_below front (row_at (numbered_slots 0 s.nodes.items) (Some top))
+      → entries_left (state_of p) ≡ entries_below front (siblings_at (numbered_slots 0 s.nodes.items) (Some top))
   start_left pending = rw (← is.nodes) (left_top item m front top (marked_node top n) m_top m_reads p (nodes ∙ sym is.nodes) path pending next stack)
 
--- where a walk can begin, a row is left
+-- where a walk can begin, an entry is left
 pub start_filled : (item : List ℕ → Type 0) (kind : IsKeyKind item) {V : Type 0} (s : NodeArena V)
     (m : NodeArena ValueSlot) → Marked s m → (front : List ℕ) (top : ℕ)
     → IsAtStart item (numbered_slots 0 s.nodes.items) front top
-    → rows_below front (row_at (numbered_slots 0 s.nodes.items) (Some top)) ≢ []
+    → entries_below front (siblings_at (numbered_slots 0 s.nodes.items) (Some top)) ≢ []
 start_filled item kind s m is front top w = rw (← is.nodes)
     (top_filled item kind m front top
     (top_at item m (numbered_slots 0 s.nodes.items) is.nodes front top w))
@@ -114,24 +115,24 @@ module _ {V : Type 0} (nodes : List (Node V)) (next : Option ℕ) where
   abbrev fresh : Option ValueSlot → Position ValueSlot
   fresh pending = record { nodes = numbered_slots 0 nodes; path = []; pending = pending; next = next; stack = [] }
 
-  -- with no row left it is over
+  -- with no entry left it is over
   pub ended_position : (item : List ℕ → Type 0) (p : Position ValueSlot) → next ≡ None
       → p ≡ fresh None → IsPosition item p
   ended_position item p none is = rw is (position_end item (fresh None) refl none refl)
 
   -- at the end nothing is left
   pub ended_left : (p : Position ValueSlot) → next ≡ None → p ≡ fresh None → entries_left (state_of p) ≡ []
-  ended_left p none is = rw (is, none, row_none (numbered_slots 0 nodes)) refl
+  ended_left p none is = rw (is, none, siblings_none (numbered_slots 0 nodes)) refl
 
 module _ (item : List ℕ → Type 0) {V : Type 0} (s : NodeArena V) (whole : IsWellFormed s)
     (p : Position ValueSlot) (pending : Option ValueSlot)
     (is : p ≡ fresh s.nodes.items s.root pending) where
-  -- at the first row nothing is passed
+  -- at the first entry nothing is passed
   pub first_position : IsCanonical item (siblings_of s) → IsPosition item p
   first_position ok =
       let m = marked s whole in
       rw is (position_start item m.0 (fresh s.nodes.items s.root pending) m.1.whole
-      (rw (m.1.nodes, m.1.root) ((row_marked s whole item).0 ok)) (sym m.1.nodes) refl
+      (rw (m.1.nodes, m.1.root) ((siblings_marked s whole item).0 ok)) (sym m.1.nodes) refl
       (sym m.1.root) refl)
 
   -- at first all holders are left

@@ -1,4 +1,4 @@
--- The node under which the rows of a prefix stand.
+-- The node under which the entries of a prefix stand.
 use Rattle.std.proofs.Common.{◌≡◌, ◌≢◌, ℕ, ◌+◌, ◌-◌, ◌≤◌, Bool, true, false, List, [], ◌++◌, length}
 use Rattle.std.proofs.Common.{take, Option, Some, None, refl, sym, ap, subst, ◌∙◌, arith}
 use Rattle.std.specs.Prelude.{nat_eq, IfSome, IfNone}
@@ -7,7 +7,7 @@ use Rattle.std.proofs.lemmas.List.{take_all, take_at, length-append}
 use Rattle.patricia_keys.specs.Keys.{Begins, IsKeyKind, IsValid}
 use Rattle.patricia_model.specs.Prefixes.{under}
 use Rattle.patricia_model.specs.Siblings.{Siblings, end, node, prefixed, own, entries, IsCanonical}
-use Rattle.patricia_model.proofs.RowLemmas.{prefixed-prefixed}
+use Rattle.patricia_model.proofs.SiblingsLemmas.{prefixed-prefixed}
 use Rattle.patricia_model.proofs.GetLemmas.{common_whole}
 use Rattle.patricia_model.proofs.UniqueLemmas.{has_entry}
 use Rattle.patricia_model.proofs.PrefixLemmas.{under-append, under_own, under_before, under_here}
@@ -16,16 +16,17 @@ use Rattle.patricia_nodes.specs.declared.arena.NodeArena.{NodeArena}
 use Rattle.patricia_nodes.specs.declared.arena.seek.LinkRef.{LinkRef}
 use Rattle.patricia_nodes.specs.declared.arena.seek.Match.{Match}
 use Rattle.patricia_nodes.specs.declared.arena.seek.Match.TheVariants.{Absent, InsideLabel, Exact}
-use Rattle.patricia_nodes.specs.Internal.Plans.{Plan, Nil, Cell, head, row, count, plan_at}
+use Rattle.patricia_nodes.specs.Internal.Plans.{Plan, Nil, Cell, head, siblings_in, count, plan_at}
 use Rattle.patricia_nodes.specs.Internal.Plans.{siblings_of, entries_of, IsPlan, IsWellFormed}
 use Rattle.patricia_nodes.specs.Internal.Places.{Matches, Placed, fill, node_under}
 use Rattle.patricia_nodes.proofs.PlanLemmas.{plan_is, below_le}
-use Rattle.patricia_nodes.proofs.FillLemmas.{plan_within, row-within, count-fill}
+use Rattle.patricia_nodes.proofs.FillLemmas.{plan_within, siblings-within, count-fill}
 use Rattle.patricia_nodes.proofs.SeekLemmas.{whole_plan}
 use Rattle.patricia_walks.specs.Internal.Depths.{first_label}
-use Rattle.patricia_walks.specs.Internal.Positions.{IsTop, row_at, rows_below}
+use Rattle.patricia_walks.specs.Internal.Positions.{IsTop, siblings_at, entries_below}
 use Rattle.patricia_walks.specs.declared.under.UnderStart.{UnderStart}
-use Rattle.patricia_walks.specs.Internal.Starts.{IsStartUnder, IsUnderWalk, rows_from, rows_left}
+use Rattle.patricia_walks.specs.Internal.Starts.{IsStartUnder, IsUnderWalk, entries_from}
+use Rattle.patricia_walks.specs.Internal.Starts.{entries_to_lend}
 use Rattle.patricia_walks.proofs.PlaceLemmas.{Passed, passed-fill}
 
 -- the node under a key that ends within a label is that of the label, and the whole rest of the key
@@ -43,36 +44,36 @@ within_none : (i n : ℕ) (rest : List ℕ) → node_under rest (InsideLabel i n
 within_none i n rest e same = let some = rw (eq-eqb n (length rest) same) at e in absurd (cc)
 
 module _ (item : List ℕ → Type 0) (kind : IsKeyKind item) {V : Type 0} where
-  -- the rows below a node, with a path before their keys, are its rows behind that path
-  behind : (path : List ℕ) (r : Siblings V) → prefixed path (rows_below [] r) ≡ rows_below path r
+  -- the entries below a node, with a path before their keys, are its entries behind that path
+  behind : (path : List ℕ) (r : Siblings V) → prefixed path (entries_below [] r) ≡ entries_below path r
   behind path end = refl
   behind path (node l v c s) = prefixed-prefixed path l (own v ++ entries c)
 
-  -- the rows under the key are those of the topmost node
-  pub stop_some : (focus : Plan V) → IsCanonical item (row focus)
+  -- the entries under the key are those of the topmost node
+  pub stop_some : (focus : Plan V) → IsCanonical item (siblings_in focus)
       → (rest : List ℕ) (matched : Match) → Matches item focus rest matched → (id : ℕ)
       → node_under rest matched ≡ Some id
-      → (head focus ≡ Some id) × (under rest (entries (row focus)) ≡ rows_below [] (row focus))
+      → (head focus ≡ Some id) × (under rest (entries (siblings_in focus)) ≡ entries_below [] (siblings_in focus))
   stop_some Nil ok rest matched h id e = absurd (let f = rw h at e in cc)
   stop_some (Cell i l v c d) ok rest Absent h id e = absurd (cc)
   stop_some (Cell i l v c d) ok rest (InsideLabel k n) h id e =
       let same = within_node k id n rest e in
       let all : take n rest ≡ rest = take_all n rest (omega (arith, same.1)) in
-      (ap Some (sym h.0 ∙ same.0), under_within item kind l v (row c) (row d) ok rest h.1.shares (subst (λ k. Begins k l) all h.1.common.begins))
-  stop_some (Cell i l v c d) ok rest (Exact k) h id e = (let f = h.0 in cc, under_here item kind l v (row c) (row d) ok rest h.1)
+      (ap Some (sym h.0 ∙ same.0), under_within item kind l v (siblings_in c) (siblings_in d) ok rest h.1.shares (subst (λ k. Begins k l) all h.1.common.begins))
+  stop_some (Cell i l v c d) ok rest (Exact k) h id e = (let f = h.0 in cc, under_here item kind l v (siblings_in c) (siblings_in d) ok rest h.1)
 
-  -- without such a node no row is under the key
-  pub stop_none : (focus : Plan V) → IsCanonical item (row focus) → (rest : List ℕ)
+  -- without such a node no entry is under the key
+  pub stop_none : (focus : Plan V) → IsCanonical item (siblings_in focus) → (rest : List ℕ)
       → IsValid item rest → (matched : Match) → Matches item focus rest matched
-      → node_under rest matched ≡ None → under rest (entries (row focus)) ≡ []
+      → node_under rest matched ≡ None → under rest (entries (siblings_in focus)) ≡ []
   stop_none Nil ok rest valid matched h e = refl
-  stop_none (Cell i l v c d) ok rest valid Absent h e = under_before item kind l v (row c) (row d) ok rest h
+  stop_none (Cell i l v c d) ok rest valid Absent h e = under_before item kind l v (siblings_in c) (siblings_in d) ok rest h
   stop_none (Cell i l v c d) ok rest valid (InsideLabel k n) h e =
       let other = within_none k n rest e in
       let all : take (length rest) rest ≡ rest = take_all (length rest) rest (omega arith) in
       let within = h.1.common.within in
       let short = h.1.short in
-      under_beside item kind l v (row c) (row d) ok rest h.1.shares
+      under_beside item kind l v (siblings_in c) (siblings_in d) ok rest h.1.shares
       (λ b. let long = h.1.common.greatest (length rest) (omega arith) (rw all valid) (rw all b) in other (omega arith))
       (λ b. let long = common_whole item rest l n ok.valid h.1.common b in absurd (omega arith))
   stop_none (Cell i l v c d) ok rest valid (Exact k) h e = absurd (cc)
@@ -80,7 +81,7 @@ module _ (item : List ℕ → Type 0) (kind : IsKeyKind item) {V : Type 0} where
 -- the key ends within the label of the topmost node
 stop_label : (item : List ℕ → Type 0) {V : Type 0} (focus : Plan V) (rest : List ℕ) (matched : Match)
     → Matches item focus rest matched → (id : ℕ) → node_under rest matched ≡ Some id
-    → length rest ≤ length (first_label (row focus))
+    → length rest ≤ length (first_label (siblings_in focus))
 stop_label item Nil rest matched h id e = absurd (let f = rw h at e in cc)
 stop_label item (Cell i l v c d) rest Absent h id e = absurd (cc)
 stop_label item (Cell i l v c d) rest (InsideLabel k n) h id e =
@@ -93,21 +94,21 @@ module _ (item : List ℕ → Type 0) (kind : IsKeyKind item) {V : Type 0} (s : 
     (whole : IsWellFormed s) (ok : IsCanonical item (siblings_of s)) (key : List ℕ)
     (link_ref : LinkRef) (at : Option ℕ) (rest : List ℕ) (matched : Match)
     (p : Placed item s key link_ref at rest matched) where
-  -- the whole row, with the place filled, keeps the invariant
-  place_row : IsCanonical item (row (fill p.frames p.focus))
-  place_row = rw p.fills ok
+  -- the top siblings, with the place filled, keep the invariant
+  place_siblings : IsCanonical item (siblings_in (fill p.frames p.focus))
+  place_siblings = rw p.fills ok
 
-  -- the row in the place keeps the invariant
-  focus_row : IsCanonical item (row p.focus)
-  focus_row = row-within item p.frames p.focus place_row
+  -- the siblings in the place keep the invariant
+  focus_siblings : IsCanonical item (siblings_in p.focus)
+  focus_siblings = siblings-within item p.frames p.focus place_siblings
 
-  -- the rows under the key are those under its rest in the place, with the path before
-  passed : Passed item kind (row (fill p.frames p.focus)) (row p.focus) key rest
-  passed = passed-fill item kind p.frames p.focus place_row key rest p.leads
+  -- the entries under the key are those under its rest in the place, with the path before
+  passed : Passed item kind (siblings_in (fill p.frames p.focus)) (siblings_in p.focus) key rest
+  passed = passed-fill item kind p.frames p.focus place_siblings key rest p.leads
 
   -- and so are those of the nodes
-  under_is : under key (entries_of s) ≡ prefixed passed.path (under rest (entries (row p.focus)))
-  under_is = ap (λ (q : Plan V). under key (entries (row q))) (sym p.fills) ∙ passed.under_is
+  under_is : under key (entries_of s) ≡ prefixed passed.path (under rest (entries (siblings_in p.focus)))
+  under_is = ap (λ (q : Plan V). under key (entries (siblings_in q))) (sym p.fills) ∙ passed.under_is
 
   module _ (front : ℕ) (front_is : front ≡ length key - length rest) where
     -- the key is as long as the path and the rest of it
@@ -119,10 +120,10 @@ module _ (item : List ℕ → Type 0) (kind : IsKeyKind item) {V : Type 0} (s : 
     path_is = ap (take front) (sym passed.splits) ∙ take_at passed.path rest front (omega (arith, front_is, long))
 
     module _ (id : ℕ) (e : node_under rest matched ≡ Some id) where
-      -- the place begins with that node, and the rows under the rest are those of the node
+      -- the place begins with that node, and the entries under the rest are those of the node
       here :
-          (head p.focus ≡ Some id) × (under rest (entries (row p.focus)) ≡ rows_below [] (row p.focus))
-      here = stop_some item kind p.focus focus_row rest matched p.is_match id e
+          (head p.focus ≡ Some id) × (under rest (entries (siblings_in p.focus)) ≡ entries_below [] (siblings_in p.focus))
+      here = stop_some item kind p.focus focus_siblings rest matched p.is_match id e
 
       -- what is read from that node's number is the plan in the place
       plan : IsPlan s.nodes.items (Some id) p.focus
@@ -148,12 +149,12 @@ module _ (item : List ℕ → Type 0) (kind : IsKeyKind item) {V : Type 0} (s : 
               ap (λ q. count q i) p.fills,
               count-fill p.frames p.focus i,
             ));
-        canonical = rw focus_is focus_row;
+        canonical = rw focus_is focus_siblings;
       }
 
       -- the key ends within its label
       pub place_label :
-          length key ≤ front + length (first_label (row_at s.nodes.items (Some id)))
+          length key ≤ front + length (first_label (siblings_at s.nodes.items (Some id)))
       place_label = rw focus_is
           (omega (
             arith,
@@ -162,18 +163,18 @@ module _ (item : List ℕ → Type 0) (kind : IsKeyKind item) {V : Type 0} (s : 
             stop_label item p.focus rest matched p.is_match id e,
           ))
 
-      -- and its rows are those under the key
-      pub place_rows :
-          rows_below (take front key) (row_at s.nodes.items (Some id)) ≡ under key (entries_of s)
-      place_rows = sym
-          (under_is ∙ ap (prefixed passed.path) here.1 ∙ behind item kind passed.path (row p.focus)
-          ∙ ap (λ k. rows_below k (row p.focus)) (sym path_is) ∙ ap
-          (λ q. rows_below (take front key) (row q)) (sym focus_is))
+      -- and its entries are those under the key
+      pub place_entries :
+          entries_below (take front key) (siblings_at s.nodes.items (Some id)) ≡ under key (entries_of s)
+      place_entries = sym
+          (under_is ∙ ap (prefixed passed.path) here.1 ∙ behind item kind passed.path (siblings_in p.focus)
+          ∙ ap (λ k. entries_below k (siblings_in p.focus)) (sym path_is) ∙ ap
+          (λ q. entries_below (take front key) (siblings_in q)) (sym focus_is))
 
-  -- where there is none, no row is under the key
+  -- where there is none, no entry is under the key
   pub place_nothing : IsValid item rest → node_under rest matched ≡ None
       → under key (entries_of s) ≡ []
-  place_nothing valid e = under_is ∙ ap (prefixed passed.path) (stop_none item kind p.focus focus_row rest valid matched p.is_match e)
+  place_nothing valid e = under_is ∙ ap (prefixed passed.path) (stop_none item kind p.focus focus_siblings rest valid matched p.is_match e)
 
 -- what holds in any case holds where there is none
 pub if_none : {A X : Type 0} (r : Option A) → X → IfNone r X
@@ -182,30 +183,30 @@ if_none (Some a) x = tt
 
 module _ (item : List ℕ → Type 0) (kind : IsKeyKind item) {V : Type 0} (s : NodeArena V)
     (front : List ℕ) (id : ℕ) (top : IsTop item s front id) where
-  -- where a walk can begin, a row is left
-  pub top_filled : rows_below front (row_at s.nodes.items (Some id)) ≢ []
+  -- where a walk can begin, an entry is left
+  pub top_filled : entries_below front (siblings_at s.nodes.items (Some id)) ≢ []
   top_filled = by (plan_at s.nodes.items (Some id)) top.plan.at_is top.canonical
     where
-      by : (q : Plan V) → Some id ≡ head q → IsCanonical item (row q)
-          → rows_below front (row q) ≢ []
+      by : (q : Plan V) → Some id ≡ head q → IsCanonical item (siblings_in q)
+          → entries_below front (siblings_in q) ≢ []
       by Nil e ok none = absurd (cc)
       by (Cell i l v c d) e ok none =
-          let some = has_entry item kind None l v (row c) (row d) ok in
+          let some = has_entry item kind None l v (siblings_in c) (siblings_in d) ok in
           let no = rw some.2 at none in
           absurd (cc)
 
 module _ (item : List ℕ → Type 0) (kind : IsKeyKind item) {Q V : Type 0} (key_of : Q → List ℕ) where
-  -- the rows of a walk that begins at the node, or is over where there is none
-  pub left_at : (start : Option (UnderStart Q V)) (walk rows : List (List ℕ × V))
-      → IfSome start (λ s. IsStartUnder item key_of s × (rows_from key_of s ≡ rows))
-      → IfNone start (rows ≡ []) → walk ≡ [] → rows_left key_of start walk ≡ rows
-  left_at None walk rows some none over = over ∙ sym none
-  left_at (Some s) walk rows some none over = some.1
+  -- the entries of a walk that begins at the node, or is over where there is none
+  pub left_at : (start : Option (UnderStart Q V)) (walk pairs : List (List ℕ × V))
+      → IfSome start (λ s. IsStartUnder item key_of s × (entries_from key_of s ≡ pairs))
+      → IfNone start (pairs ≡ []) → walk ≡ [] → entries_to_lend key_of start walk ≡ pairs
+  left_at None walk pairs some none over = over ∙ sym none
+  left_at (Some s) walk pairs some none over = some.1
 
-  -- before a walk has begun, rows are left, and once it is refused, none
+  -- before a walk has begun, entries are left, and once it is refused, none
   pub not_begun : (start : Option (UnderStart Q V)) (walk : List (List ℕ × V)) (s : UnderStart Q V)
       → start ≡ Some s → IsUnderWalk item key_of start walk
-      → (rows_left key_of start walk ≢ []) × (walk ≡ [])
+      → (entries_to_lend key_of start walk ≢ []) × (walk ≡ [])
   not_begun None walk s e h = absurd (cc)
   not_begun (Some t) walk s e h = (top_filled item kind t.arena.now (take t.front (key_of t.prefix)) t.top h.0.top, h.1)
 

@@ -7,16 +7,17 @@ use Rattle.patricia_model.specs.Walks.{values_of}
 use Rattle.patricia_model.specs.Internal.WalkStates.{steps_in}
 use Rattle.patricia_nodes.specs.declared.arena.Node.{Node}
 use Rattle.patricia_nodes.specs.declared.arena.NodeArena.{NodeArena}
-use Rattle.patricia_nodes.specs.Internal.Plans.{Plan, Nil, Cell, head, row, plan_at, siblings_of}
+use Rattle.patricia_nodes.specs.Internal.Plans.{Plan, Nil, Cell, head, siblings_in, plan_at}
+use Rattle.patricia_nodes.specs.Internal.Plans.{siblings_of}
 use Rattle.patricia_nodes.specs.Internal.Plans.{entries_of, IsPlan, IsWellFormed}
 use Rattle.patricia_nodes.proofs.PlanLemmas.{plan_is}
 use Rattle.patricia_nodes.proofs.SeekLemmas.{head_within, opened, whole_plan}
-use Rattle.patricia_walks.specs.Internal.Positions.{row_at}
+use Rattle.patricia_walks.specs.Internal.Positions.{siblings_at}
 use Rattle.patricia_walks.specs.Internal.ValuePositions.{ValuePosition, values_in, values_waiting}
 use Rattle.patricia_walks.specs.Internal.ValuePositions.{values_left, value_steps_waiting}
-use Rattle.patricia_walks.specs.Internal.ValuePositions.{HasValues, IsValueRow}
-use Rattle.patricia_walks.specs.Internal.ValuePositions.{AreValueRows, IsValuePosition, GoesTo}
-use Rattle.patricia_walks.proofs.PositionLemmas.{row_none}
+use Rattle.patricia_walks.specs.Internal.ValuePositions.{HasValues, AreValueSiblings}
+use Rattle.patricia_walks.specs.Internal.ValuePositions.{AllValueSiblings, IsValuePosition, GoesTo}
+use Rattle.patricia_walks.proofs.PositionLemmas.{siblings_none}
 
 module _ {A : Type 0} where
   -- two lists are empty only where the first is
@@ -41,55 +42,56 @@ module _ {V : Type 0} where
       → values_of (xs ++ ys) ≡ values_of xs ++ values_of ys
   values_of-append xs ys = map-append (λ (e : List ℕ × V). e.1) xs ys
 
-  -- the values of a row are those of its first node with what is below it, and those beside it
+  -- the values of siblings are those of the first of them with what is below it, and those beside
+  -- it
   values_in-first : (l : List ℕ) (v : Option V) (c s : Siblings V)
       → values_in (node l v c s) ≡ values_of (own v ++ entries c) ++ values_in s
   values_in-first l v c s =
       values_of-append (prefixed l (own v ++ entries c)) (entries s)
       ∙ ap (λ r. r ++ values_in s) (values_of-prefixed l (own v ++ entries c))
 
-  -- where each node has a value or one below it, a row that has a node has a value
+  -- where each node has a value or one below it, siblings have a value where there is a node
   values_in-filled : (l : List ℕ) (v : Option V) (c s : Siblings V) → HasValues (node l v c s)
       → values_in (node l v c s) ≢ []
   values_in-filled l v c s has none =
       first_filled (values_of (own v ++ entries c)) (values_in s) has.0
       (sym (values_in-first l v c s) ∙ none)
 
-  -- the row that waits last is walked first
+  -- the siblings that wait last are walked first
   values_waiting-snoc : (nodes : List (Node V)) (ats : List (Option ℕ)) (at : Option ℕ)
-      → values_waiting nodes (ats ++ at ∷ []) ≡ values_in (row_at nodes at) ++ values_waiting nodes ats
-  values_waiting-snoc nodes [] at = sym (append-nil (values_in (row_at nodes at)))
+      → values_waiting nodes (ats ++ at ∷ []) ≡ values_in (siblings_at nodes at) ++ values_waiting nodes ats
+  values_waiting-snoc nodes [] at = sym (append-nil (values_in (siblings_at nodes at)))
   values_waiting-snoc nodes (a ∷ ats) at =
-      ap (λ l. l ++ values_in (row_at nodes a)) (values_waiting-snoc nodes ats at)
-      ∙ append_assoc (values_in (row_at nodes at)) (values_waiting nodes ats) (values_in (row_at nodes a))
+      ap (λ l. l ++ values_in (siblings_at nodes a)) (values_waiting-snoc nodes ats at)
+      ∙ append_assoc (values_in (siblings_at nodes at)) (values_waiting nodes ats) (values_in (siblings_at nodes a))
 
-  -- one more row that waits adds its steps
+  -- siblings that wait behind others add their steps
   value_steps_waiting-snoc : (nodes : List (Node V)) (ats : List (Option ℕ)) (at : Option ℕ)
       → value_steps_waiting nodes (ats ++ at ∷ [])
-      ≡ steps_in (row_at nodes at) + value_steps_waiting nodes ats
+      ≡ steps_in (siblings_at nodes at) + value_steps_waiting nodes ats
   value_steps_waiting-snoc nodes [] at = omega arith
   value_steps_waiting-snoc nodes (a ∷ ats) at = omega (arith, value_steps_waiting-snoc nodes ats at)
 
-  -- one more row may wait
-  value_rows-snoc : (nodes : List (Node V)) (ats : List (Option ℕ)) (at : Option ℕ)
-      → AreValueRows nodes ats → IsValueRow nodes at → AreValueRows nodes (ats ++ at ∷ [])
-  value_rows-snoc nodes [] at all one = (one, tt)
-  value_rows-snoc nodes (a ∷ ats) at all one = (all.0, value_rows-snoc nodes ats at all.1 one)
+  -- siblings may wait behind others
+  value_siblings-snoc : (nodes : List (Node V)) (ats : List (Option ℕ)) (at : Option ℕ)
+      → AllValueSiblings nodes ats → AreValueSiblings nodes at → AllValueSiblings nodes (ats ++ at ∷ [])
+  value_siblings-snoc nodes [] at all one = (one, tt)
+  value_siblings-snoc nodes (a ∷ ats) at all one = (all.0, value_siblings-snoc nodes ats at all.1 one)
 
-  -- where all rows wait so, the last does, and those before it
-  value_rows-last : (nodes : List (Node V)) (ats : List (Option ℕ)) (at : Option ℕ)
-      → AreValueRows nodes (ats ++ at ∷ []) → IsValueRow nodes at × AreValueRows nodes ats
-  value_rows-last nodes [] at all = (all.0, tt)
-  value_rows-last nodes (a ∷ ats) at all =
-      let later = value_rows-last nodes ats at all.1 in (later.0, (all.0, later.1))
+  -- where all siblings wait so, the last do, and those before them
+  value_siblings-last : (nodes : List (Node V)) (ats : List (Option ℕ)) (at : Option ℕ)
+      → AllValueSiblings nodes (ats ++ at ∷ []) → AreValueSiblings nodes at × AllValueSiblings nodes ats
+  value_siblings-last nodes [] at all = (all.0, tt)
+  value_siblings-last nodes (a ∷ ats) at all =
+      let later = value_siblings-last nodes ats at all.1 in (later.0, (all.0, later.1))
 
-  -- where there is no number, there is no row
-  no_row : (nodes : List (Node V)) → IsValueRow nodes None
-  no_row nodes =
+  -- where there is no number, there are no siblings
+  no_siblings : (nodes : List (Node V)) → AreValueSiblings nodes None
+  no_siblings nodes =
       let plan : IsPlan nodes None Nil = record { stands = tt; at_is = refl; fits = omega arith } in
       record {
         plan = rw (plan_is nodes None Nil plan) plan;
-        has_values = subst HasValues (sym (row_none nodes)) tt;
+        has_values = subst HasValues (sym (siblings_none nodes)) tt;
       }
 
 module _ (item : List ℕ → Type 0) {V : Type 0} where
@@ -108,24 +110,24 @@ module _ (item : List ℕ → Type 0) {V : Type 0} where
       (earned l v c s ok below, below, canonical_values s ok.sibling)
 
 module _ {V : Type 0} (nodes : List (Node V)) (at : Option ℕ) (id : ℕ) (n : Node V)
-    (w : IsValueRow nodes at) (is : at ≡ Some id) (reads : n ≡ get_or nodes id n) where
-  -- a row by its first node, as it is read
+    (w : AreValueSiblings nodes at) (is : at ≡ Some id) (reads : n ≡ get_or nodes id n) where
+  -- siblings by the first of them, as it is read
   record First : Type 0 where
-    row_is : row_at nodes at
-        ≡ node n.label n.value (row_at nodes n.child) (row_at nodes n.sibling)
-    child : IsValueRow nodes n.child
-    sibling : IsValueRow nodes n.sibling
+    siblings_are : siblings_at nodes at
+        ≡ node n.label n.value (siblings_at nodes n.child) (siblings_at nodes n.sibling)
+    child : AreValueSiblings nodes n.child
+    sibling : AreValueSiblings nodes n.sibling
 
-  -- each row is its first node with the rows of its two links
-  first_of_row : First
-  first_of_row =
+  -- siblings are the first of them with the siblings of its two links
+  first_of_siblings : First
+  first_of_siblings =
       let o = opened nodes at (plan_at nodes at) id n w.plan is reads in
       let c_is = plan_is nodes n.child o.child o.child_plan in
       let s_is = plan_is nodes n.sibling o.sibling o.sibling_plan in
-      let row_is : row_at nodes at ≡ node n.label n.value (row_at nodes n.child) (row_at nodes n.sibling) = rw (c_is, s_is) (ap row o.is) in
-      let has = subst HasValues row_is w.has_values in
+      let siblings_are : siblings_at nodes at ≡ node n.label n.value (siblings_at nodes n.child) (siblings_at nodes n.sibling) = rw (c_is, s_is) (ap siblings_in o.is) in
+      let has = subst HasValues siblings_are w.has_values in
       record {
-        row_is = row_is;
+        siblings_are = siblings_are;
         child = record { plan = rw c_is o.child_plan; has_values = has.1 };
         sibling = record { plan = rw s_is o.sibling_plan; has_values = has.2 };
       }
@@ -133,21 +135,21 @@ module _ {V : Type 0} (nodes : List (Node V)) (at : Option ℕ) (id : ℕ) (n : 
 module _ {V : Type 0} (p q : ValuePosition V) (id : ℕ) (n : Node V) (w : IsValuePosition p)
     (taken : p.pending ≡ None) (next : p.next ≡ Some id) (reads : n ≡ get_or p.nodes id n)
     (nodes : q.nodes ≡ p.nodes) (pending : q.pending ≡ n.value) where
-  -- the row that is next, by its first node
-  next_first : First p.nodes p.next id n w.next_row next reads
-  next_first = first_of_row p.nodes p.next id n w.next_row next reads
+  -- the siblings that are next, by the first of them
+  next_first : First p.nodes p.next id n w.next_siblings next reads
+  next_first = first_of_siblings p.nodes p.next id n w.next_siblings next reads
 
   -- what is left is the node's value, the values below it, those beside it, and those that wait
   left_first : values_left p
-      ≡ values_of (own n.value) ++ (values_in (row_at p.nodes n.child)
-      ++ (values_in (row_at p.nodes n.sibling) ++ values_waiting p.nodes p.stack))
+      ≡ values_of (own n.value) ++ (values_in (siblings_at p.nodes n.child)
+      ++ (values_in (siblings_at p.nodes n.sibling) ++ values_waiting p.nodes p.stack))
   left_first =
       let v = values_of (own n.value) in
-      let c = row_at p.nodes n.child in
-      let s = row_at p.nodes n.sibling in
+      let c = siblings_at p.nodes n.child in
+      let s = siblings_at p.nodes n.sibling in
       let rest = values_waiting p.nodes p.stack in
-      ap (λ d. values_of (own d) ++ (values_in (row_at p.nodes p.next) ++ rest)) taken
-      ∙ ap (λ r. values_in r ++ rest) next_first.row_is
+      ap (λ d. values_of (own d) ++ (values_in (siblings_at p.nodes p.next) ++ rest)) taken
+      ∙ ap (λ r. values_in r ++ rest) next_first.siblings_are
       ∙ ap (λ l. l ++ rest) (values_in-first n.label n.value c s)
       ∙ append_assoc (values_of (own n.value ++ entries c)) (values_in s) rest
       ∙ ap (λ l. l ++ (values_in s ++ rest)) (values_of-append (own n.value) (entries c))
@@ -156,57 +158,57 @@ module _ {V : Type 0} (p q : ValuePosition V) (id : ℕ) (n : Node V) (w : IsVal
   -- the step to the siblings of a node without children
   pub goes_beside : n.child ≡ None → q.next ≡ n.sibling → q.stack ≡ p.stack → GoesTo p q
   goes_beside alone next' stack = record {
-    position = record { next_row = rw (nodes, next') next_first.sibling; rows = rw (nodes, stack) w.rows };
+    position = record { next_siblings = rw (nodes, next') next_first.sibling; siblings = rw (nodes, stack) w.siblings };
     same = rw (nodes, pending, next', stack)
         (sym (left_first ∙ ap
         (λ r. values_of (own n.value) ++ (values_in r
-        ++ (values_in (row_at p.nodes n.sibling) ++ values_waiting p.nodes p.stack)))
-        (ap (row_at p.nodes) alone ∙ row_none p.nodes)));
-    less = rw (nodes, next', stack) (omega (arith, ap steps_in next_first.row_is));
+        ++ (values_in (siblings_at p.nodes n.sibling) ++ values_waiting p.nodes p.stack)))
+        (ap (siblings_at p.nodes) alone ∙ siblings_none p.nodes)));
+    less = rw (nodes, next', stack) (omega (arith, ap steps_in next_first.siblings_are));
   }
 
   -- the step to the children of a node without siblings
   pub goes_below : n.sibling ≡ None → q.next ≡ n.child → q.stack ≡ p.stack → GoesTo p q
   goes_below alone next' stack = record {
-    position = record { next_row = rw (nodes, next') next_first.child; rows = rw (nodes, stack) w.rows };
+    position = record { next_siblings = rw (nodes, next') next_first.child; siblings = rw (nodes, stack) w.siblings };
     same = rw (nodes, pending, next', stack)
         (sym (left_first ∙ ap
-        (λ r. values_of (own n.value) ++ (values_in (row_at p.nodes n.child)
+        (λ r. values_of (own n.value) ++ (values_in (siblings_at p.nodes n.child)
         ++ (values_in r ++ values_waiting p.nodes p.stack)))
-        (ap (row_at p.nodes) alone ∙ row_none p.nodes)));
-    less = rw (nodes, next', stack) (omega (arith, ap steps_in next_first.row_is));
+        (ap (siblings_at p.nodes) alone ∙ siblings_none p.nodes)));
+    less = rw (nodes, next', stack) (omega (arith, ap steps_in next_first.siblings_are));
   }
 
   -- the step to the children of a node whose siblings wait
   pub goes_down : q.next ≡ n.child → q.stack ≡ p.stack ++ n.sibling ∷ [] → GoesTo p q
   goes_down next' stack = record {
     position = record {
-      next_row = rw (nodes, next') next_first.child;
-      rows = rw (nodes, stack) (value_rows-snoc p.nodes p.stack n.sibling w.rows next_first.sibling);
+      next_siblings = rw (nodes, next') next_first.child;
+      siblings = rw (nodes, stack) (value_siblings-snoc p.nodes p.stack n.sibling w.siblings next_first.sibling);
     };
     same = rw (nodes, pending, next', stack)
-        (ap (λ l. values_of (own n.value) ++ (values_in (row_at p.nodes n.child) ++ l))
+        (ap (λ l. values_of (own n.value) ++ (values_in (siblings_at p.nodes n.child) ++ l))
         (values_waiting-snoc p.nodes p.stack n.sibling) ∙ sym left_first);
     less = rw (nodes, next', stack)
         (omega (
           arith,
-          ap steps_in next_first.row_is,
+          ap steps_in next_first.siblings_are,
           value_steps_waiting-snoc p.nodes p.stack
               n.sibling,
         ));
   }
 
 module _ {V : Type 0} where
-  -- the step back to the row that waits last
+  -- the step back to the siblings that wait last
   pub goes_back : (p q : ValuePosition V) (at : Option ℕ) → IsValuePosition p → p.pending ≡ None
       → p.next ≡ None → p.stack ≡ q.stack ++ at ∷ [] → q.nodes ≡ p.nodes → q.pending ≡ p.pending
       → q.next ≡ at → GoesTo p q
   goes_back p q at w taken next stack nodes pending next' =
-      let last = value_rows-last p.nodes q.stack at (subst (AreValueRows p.nodes) stack w.rows) in
-      let over = ap (row_at p.nodes) next ∙ row_none p.nodes in
+      let last = value_siblings-last p.nodes q.stack at (subst (AllValueSiblings p.nodes) stack w.siblings) in
+      let over = ap (siblings_at p.nodes) next ∙ siblings_none p.nodes in
       let rest = values_waiting p.nodes p.stack in
       record {
-        position = record { next_row = rw (nodes, next') last.0; rows = rw nodes last.1 };
+        position = record { next_siblings = rw (nodes, next') last.0; siblings = rw nodes last.1 };
         same = rw (nodes, pending, taken, next')
             (sym (ap (λ r. values_in r ++ rest) over ∙ ap (values_waiting p.nodes) stack
             ∙ values_waiting-snoc p.nodes q.stack at));
@@ -219,42 +221,42 @@ module _ {V : Type 0} where
             ));
       }
 
-  -- where no row is next and none waits, no value is left
+  -- where no siblings are next and none wait, no value is left
   pub nothing_left : (p : ValuePosition V) → p.pending ≡ None → p.next ≡ None → p.stack ≡ []
       → values_left p ≡ []
   nothing_left p taken next stack =
-      rw (taken, next, stack) (ap (λ r. values_in r ++ []) (row_none p.nodes))
+      rw (taken, next, stack) (ap (λ r. values_in r ++ []) (siblings_none p.nodes))
 
   -- and the walk stands at its end
   pub stands_at_end : (p : ValuePosition V) → p.next ≡ None → p.stack ≡ [] → IsValuePosition p
-  stands_at_end p next stack = record { next_row = rw next (no_row p.nodes); rows = rw stack tt }
+  stands_at_end p next stack = record { next_siblings = rw next (no_siblings p.nodes); siblings = rw stack tt }
 
   -- a number that is next is that of a node
   pub value_within : (p : ValuePosition V) (id : ℕ) → IsValuePosition p → p.next ≡ Some id
       → id < length p.nodes
   value_within p id w next =
-      head_within p.nodes p.next (plan_at p.nodes p.next) id w.next_row.plan next
+      head_within p.nodes p.next (plan_at p.nodes p.next) id w.next_siblings.plan next
 
   -- where a node is next, a value is left
   pub value_filled : (p : ValuePosition V) (id : ℕ) → IsValuePosition p → p.next ≡ Some id
       → values_left p ≢ []
-  value_filled p id w next = by (plan_at p.nodes p.next) refl w.next_row.plan.at_is
+  value_filled p id w next = by (plan_at p.nodes p.next) refl w.next_siblings.plan.at_is
     where
       by : (r : Plan V) → plan_at p.nodes p.next ≡ r → p.next ≡ head r → values_left p ≢ []
       by Nil is at = absurd (cc)
       by (Cell i l v c d) is at =
-          let has = subst HasValues (ap row is) w.next_row.has_values in
-          let some = subst (λ (r : Siblings V). values_in r ≢ []) (sym (ap row is)) (values_in-filled l v (row c) (row d) has) in
+          let has = subst HasValues (ap siblings_in is) w.next_siblings.has_values in
+          let some = subst (λ (r : Siblings V). values_in r ≢ []) (sym (ap siblings_in is)) (values_in-filled l v (siblings_in c) (siblings_in d) has) in
           second_filled (values_of (own p.pending)) _
-          (first_filled (values_in (row_at p.nodes p.next)) (values_waiting p.nodes p.stack) some)
+          (first_filled (values_in (siblings_at p.nodes p.next)) (values_waiting p.nodes p.stack) some)
 
-  -- at its start a walk stands at the first row
+  -- at its start a walk stands at the top siblings
   pub stands_at_start : (item : List ℕ → Type 0) (s : NodeArena V) (p : ValuePosition V)
       → IsWellFormed s → IsCanonical item (siblings_of s) → p.nodes ≡ s.nodes.items
       → p.next ≡ s.root → p.stack ≡ [] → IsValuePosition p
   stands_at_start item s p whole ok nodes next stack = record {
-    next_row = rw (nodes, next) (record { plan = whole_plan s whole; has_values = canonical_values item (siblings_of s) ok });
-    rows = rw stack tt;
+    next_siblings = rw (nodes, next) (record { plan = whole_plan s whole; has_values = canonical_values item (siblings_of s) ok });
+    siblings = rw stack tt;
   }
 
   -- and all values are left

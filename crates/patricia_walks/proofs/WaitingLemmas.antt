@@ -1,4 +1,4 @@
--- A row without nodes need not wait.
+-- Siblings without nodes need not wait.
 use Rattle.std.proofs.Common.{◌≡◌, ℕ, ◌<◌, List, [], ◌∷◌, ◌++◌, take, refl, sym, ap, subst, ◌∙◌}
 use Rattle.std.proofs.Common.{arith}
 use Rattle.patricia_model.specs.Siblings.{Siblings, end, prefixed, own, entries}
@@ -26,7 +26,7 @@ module _ {V : Type 0} where
   within_all-front m (g ∷ fs) f h = (h.0, within_all-front m fs f h.1)
 
 module _ (item : List ℕ → Type 0) {V : Type 0} where
-  -- the rows before the last wait without it too
+  -- the siblings before the last wait without it too
   pub WaitsWithin-front : (path : List ℕ) (fs : List (ℕ × Siblings V)) (f : ℕ × Siblings V)
       → WaitsWithin item path (fs ++ f ∷ []) → WaitsWithin item path fs
   WaitsWithin-front path [] f w = tt
@@ -39,25 +39,25 @@ module _ (item : List ℕ → Type 0) {V : Type 0} where
         rest = WaitsWithin-front path fs f w.rest;
       }
 
-  -- a step after which such a row waits last is one without it
+  -- a step after which such siblings wait last is one without it
   pub step_without : (s t u : WalkState V) (n : ℕ) → IsStep item s t
       → t.stack ≡ u.stack ++ (n, end) ∷ [] → u.path ≡ t.path → u.pending ≡ t.pending
-      → u.row ≡ t.row → IsStep item s u
-  step_without s t u n w stack path pending row =
+      → u.siblings ≡ t.siblings → IsStep item s u
+  step_without s t u n w stack path pending siblings =
       record {
         state = record {
           valid = rw path w.state.valid;
-          canonical = rw row w.state.canonical;
+          canonical = rw siblings w.state.canonical;
           waits = rw path (WaitsWithin-front t.path u.stack (n, end) (subst (WaitsWithin item t.path) stack w.state.waits));
         };
-        same = rw (path, pending, row)
-            (ap (λ l. prefixed t.path (own t.pending ++ entries t.row) ++ l)
+        same = rw (path, pending, siblings)
+            (ap (λ l. prefixed t.path (own t.pending ++ entries t.siblings) ++ l)
             (sym (ap (waiting t.path) stack ∙ waiting-none t.path u.stack n)) ∙ w.same);
         less = omega (
           arith,
           w.less,
           ap steps_waiting stack,
           steps_waiting-none u.stack n,
-          ap steps_in row,
+          ap steps_in siblings,
         );
       }

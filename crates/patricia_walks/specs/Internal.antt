@@ -11,6 +11,6 @@ pub mod SearchCodes
 pub mod SearchGauges
 pub mod Skips
 pub mod Starts
-pub mod Trails
+pub mod CursorStates
 pub mod ValuePositions
-pub mod ValueTrails
+pub mod ValueCursorStates

@@ -1,4 +1,4 @@
-//! The values along a key: those of its stored prefixes, the shortest first.
+//! The common prefixes of a key, the shortest first.
 ghost use Rattle.std.specs.Prelude.{◌≡◌, ◌++◌, Some, None, take, length};
 ghost use Rattle.std.specs.Iterator.{at_most};
 ghost use Rattle.std.specs.Map.Iter.{TakesFirst};
@@ -16,7 +16,7 @@ use std::cmp::Ordering;
 use std::iter::FusedIterator;
 use std::marker::Model;
 
-// How far a walk along a key has come.
+// How far a walk over the common prefixes of a key has come.
 #[derive(Drop)]
 struct Descent<'a, V> {
     arena: &'a NodeArena<V>,
@@ -24,7 +24,7 @@ struct Descent<'a, V> {
     len: usize,
     // the value at these bytes, while it is due
     pending: Option<&'a V>,
-    // the row behind them
+    // the siblings behind them
     next: Link,
 }
 
@@ -32,7 +32,7 @@ impl<'a, V> Descent<'a, V> {
     // At the root.
     fn new<K: Bytes>(pending: Option<&'a V>, arena: &'a NodeArena<V>, key: &[u8]) -> Self
         requires whole { IsWellFormed arena.now }
-        requires row { IsCanonical K.item (siblings_of arena.now) }
+        requires siblings { IsCanonical K.item (siblings_of arena.now) }
         ensures descent { IsDescent K.item key.now result }
         ensures left { along_left key.now result
             ≡ along key.now (own (option_copied pending.entry) ++ entries_of arena.now) }
@@ -99,7 +99,8 @@ impl<'a, V> Descent<'a, V> {
     }
 }
 
-/// The entries whose key begins a borrowed key, the shortest first. Each key is a part of that key.
+/// The common prefixes of a borrowed key: the entries whose key begins it, the shortest first. Each
+/// key is a part of that key.
 #[derive(Drop)]
 pub struct Along<'a, Q: BorrowedBytes, V> {
     key: Q,
@@ -122,7 +123,7 @@ impl<'a, Q: BorrowedBytes, V> Along<'a, Q, V> {
     /// The walk over the empty key's value and the nodes. Neither it nor its steps take memory.
     pub fn new(pending: Option<&'a V>, arena: &'a NodeArena<V>, key: Q) -> Self
         requires whole { IsWellFormed arena.now }
-        requires row { IsCanonical Q.Owned.item (siblings_of arena.now) }
+        requires siblings { IsCanonical Q.Owned.item (siblings_of arena.now) }
         ensures { result
             ≡ along (Q.key key) (own (option_copied pending.entry) ++ entries_of arena.now) }
     {
@@ -155,7 +156,7 @@ impl<'a, Q: BorrowedBytes, V> Iterator for Along<'a, Q, V> {
 
 impl<'a, Q: BorrowedBytes, V> FusedIterator for Along<'a, Q, V> {}
 
-/// The values of the same entries, along an owned key.
+/// The values of the same entries, for an owned key.
 #[derive(Drop)]
 pub struct AlongOwned<'a, K: Bytes, V> {
     key: K,
@@ -179,7 +180,7 @@ impl<'a, K: Bytes, V> AlongOwned<'a, K, V> {
     /// The walk over the empty key's value and the nodes. Neither it nor its steps take memory.
     pub fn new(pending: Option<&'a V>, arena: &'a NodeArena<V>, key: K) -> Self
         requires whole { IsWellFormed arena.now }
-        requires row { IsCanonical K.item (siblings_of arena.now) }
+        requires siblings { IsCanonical K.item (siblings_of arena.now) }
         ensures { result ≡ values_of
             (along (K.key key) (own (option_copied pending.entry) ++ entries_of arena.now)) }
     {

@@ -7,7 +7,7 @@ ghost use Rattle.patricia_model.specs.Siblings.{IsCanonical};
 ghost use Rattle.patricia_model.specs.Trees.{map_of, IsTree};
 ghost use Rattle.patricia_nodes.specs.Internal.Plans.{IsWellFormed, siblings_of};
 ghost use Rattle.patricia_walks.specs.Internal.HeldTrees.{standing};
-ghost use Rattle.patricia_walks.specs.Internal.Trails.{IsTrail, IsPrefixCursor};
+ghost use Rattle.patricia_walks.specs.Internal.CursorStates.{IsCursorState, IsPrefixCursor};
 
 use crate::cursor_state::{CursorState, Start, find_start};
 use crate::held_tree::TreeParts;
@@ -28,7 +28,7 @@ impl<K: Bytes, V> Model for Cursor<K, V> {
     ghost use Rattle.patricia_model.specs.Cursors.{CursorView};
     ghost use Rattle.patricia_model.specs.Internal.Codes.{cursor_view_code};
     ghost use Rattle.patricia_walks.specs.Internal.HeldTrees.{standing};
-    ghost use Rattle.patricia_walks.specs.Internal.Trails.{IsTrail};
+    ghost use Rattle.patricia_walks.specs.Internal.CursorStates.{IsCursorState};
 
     ghost Value = { CursorView V };
 
@@ -36,7 +36,7 @@ impl<K: Bytes, V> Model for Cursor<K, V> {
 
     ghost view = { λ c. standing c.state.tree [] };
 
-    ghost invariant = { λ c. IsTrail K.item c.state [] };
+    ghost invariant = { λ c. IsCursorState K.item c.state [] };
 }
 
 impl<K: Bytes, V: Drop> Cursor<K, V> {
@@ -97,7 +97,7 @@ fn start_at<Q: BorrowedBytes, V>(
 ) -> Result<(), AllocError>
     requires { IsPrefixCursor Q.Owned.item state.old (Q.key prefix) start.old }
     ensures begun { OnOk result (start.new ≡ None) }
-    ensures state { OnOk result (IsTrail Q.Owned.item state.new (Q.key prefix)) }
+    ensures state { OnOk result (IsCursorState Q.Owned.item state.new (Q.key prefix)) }
     ensures stands { standing state.new.tree (Q.key prefix)
         ≡ standing state.old.tree (Q.key prefix) }
     ensures ahead { OnErr result (IsPrefixCursor Q.Owned.item state.new (Q.key prefix) start.new) }
@@ -127,7 +127,7 @@ impl<Q: BorrowedBytes, V> Model for PrefixCursor<Q, V> {
     ghost use Rattle.patricia_model.specs.Cursors.{CursorView};
     ghost use Rattle.patricia_model.specs.Internal.Codes.{cursor_view_code};
     ghost use Rattle.patricia_walks.specs.Internal.HeldTrees.{standing};
-    ghost use Rattle.patricia_walks.specs.Internal.Trails.{IsPrefixCursor};
+    ghost use Rattle.patricia_walks.specs.Internal.CursorStates.{IsPrefixCursor};
 
     ghost Value = { CursorView V };
 

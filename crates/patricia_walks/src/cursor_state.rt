@@ -7,14 +7,15 @@ ghost use Rattle.patricia_model.specs.Siblings.{IsCanonical};
 ghost use Rattle.patricia_model.specs.Internal.WalkStates.{entries_left};
 ghost use Rattle.patricia_nodes.specs.Internal.Plans.{IsWellFormed, siblings_of};
 ghost use Rattle.patricia_walks.specs.Internal.HeldTrees.{IsMadeOf, IsSameTree};
-ghost use Rattle.patricia_walks.specs.Internal.Positions.{IsPosition, AdvancesTo, state_of, row_at};
-ghost use Rattle.patricia_walks.specs.Internal.Positions.{rows_below};
+ghost use Rattle.patricia_walks.specs.Internal.Positions.{IsPosition, AdvancesTo, state_of};
+ghost use Rattle.patricia_walks.specs.Internal.Positions.{siblings_at};
+ghost use Rattle.patricia_walks.specs.Internal.Positions.{entries_below};
 ghost use Rattle.patricia_walks.specs.Internal.Holders.{numbered_slots, holders};
-ghost use Rattle.patricia_walks.specs.Internal.Trails.{position_of, left_of, Advances};
-ghost use Rattle.patricia_walks.specs.Internal.Trails.{StepIsRefused, IsAtStart, StartsUnder};
+ghost use Rattle.patricia_walks.specs.Internal.CursorStates.{position_of, left_of, Advances};
+ghost use Rattle.patricia_walks.specs.Internal.CursorStates.{StepIsRefused, IsAtStart, StartsUnder};
 
 use crate::held_tree::{HeldTree, TreeParts, ValueSlot, held_by};
-use crate::waiting::push_row;
+use crate::waiting::push_siblings;
 use patricia_keys::{BorrowedBytes, Bytes};
 use patricia_nodes::arena::NodeArena;
 use patricia_nodes::link::{Link, NodeId};
@@ -32,20 +33,20 @@ pub struct Start {
 #[derive(Drop)]
 pub struct CursorState<V> {
     pub tree: HeldTree<V>,
-    // the key of the value that is due, which stands before the keys of the row
+    // the key of the value that is due, which stands before the keys of the siblings
     pub path: Vec<u8>,
     // who holds the value at the path, while it is due
     pub pending: Option<ValueSlot>,
-    // the row that is next
+    // the siblings that are next
     pub next: Link,
-    // the rows that wait, each behind so many bytes of the path
+    // the siblings that wait, behind so many bytes of the path
     pub stack: Vec<(usize, Link)>,
 }
 
 /// Where a walk under a prefix that is not empty begins, if there is a key under it.
 pub fn find_start<Q: BorrowedBytes, V>(arena: &NodeArena<V>, prefix: Q) -> Option<Start>
     requires whole { IsWellFormed arena.now }
-    requires row { IsCanonical Q.Owned.item (siblings_of arena.now) }
+    requires siblings { IsCanonical Q.Owned.item (siblings_of arena.now) }
     requires nonempty { Q.key prefix ≢ [] }
     ensures some { IfSome result (λ s. StartsUnder Q.Owned.item arena.now (Q.key prefix) s) }
     ensures none { IfNone result (under (Q.key prefix) (holders None arena.now) ≡ []) }
@@ -57,7 +58,7 @@ pub fn find_start<Q: BorrowedBytes, V>(arena: &NodeArena<V>, prefix: Q) -> Optio
 }
 
 impl<V> CursorState<V> {
-    // A trail that has not gone on to a value.
+    // The state of a cursor that has not advanced yet.
     fn from(alloc: Global, tree: HeldTree<V>, pending: Option<ValueSlot>, next: Link) -> Self
         ensures tree { result.tree ≡ tree }
         ensures seen { position_of result ≡ record {
@@ -77,10 +78,10 @@ impl<V> CursorState<V> {
         }
     }
 
-    /// A trail over all entries.
+    /// The state of a cursor before the first of all entries.
     pub fn new<K: Bytes>(parts: TreeParts<V>) -> CursorState<V>
         requires whole { IsWellFormed parts.arena }
-        requires row { IsCanonical K.item (siblings_of parts.arena) }
+        requires siblings { IsCanonical K.item (siblings_of parts.arena) }
         ensures tree { IsMadeOf parts result.tree }
         ensures position { IsPosition K.item (position_of result) }
         ensures left { left_of result ≡ holders parts.value parts.arena }
@@ -93,7 +94,7 @@ impl<V> CursorState<V> {
         CursorState::from(alloc, tree, pending, next)
     }
 
-    /// A trail that is over.
+    /// The state of a cursor at its end.
     pub fn ended<K: Bytes>(parts: TreeParts<V>) -> CursorState<V>
         ensures tree { IsMadeOf parts result.tree }
         ensures position { IsPosition K.item (position_of result) }
@@ -119,7 +120,7 @@ impl<V> CursorState<V> {
         let node = &self.tree.arena.nodes[id.index()];
         let front = self.path.len();
         self.path.extend_from_slice(node.label.as_slice())?;
-        let Ok(()) = push_row(&mut self.stack, front, node.sibling) else {
+        let Ok(()) = push_siblings(&mut self.stack, front, node.sibling) else {
             self.path.truncate(front);
             return Err(AllocError);
         };
@@ -128,7 +129,7 @@ impl<V> CursorState<V> {
         Ok(())
     }
 
-    // Goes back to the row that waits last, if there is one.
+    // Goes back to the siblings that wait last, if any wait.
     fn back<K: Bytes>(&mut self) -> bool
         requires position { IsPosition K.item (position_of self.old) }
         requires taken { self.old.pending ≡ None }
@@ -140,11 +141,11 @@ impl<V> CursorState<V> {
         ensures tree { IsSameTree self.old.tree self.new.tree }
         ensures last { self.new.tree.last ≡ self.old.tree.last }
     {
-        let Some((front, row)) = self.stack.pop() else {
+        let Some((front, siblings)) = self.stack.pop() else {
             return false;
         };
         self.path.truncate(front);
-        self.next = row;
+        self.next = siblings;
         true
     }
 
@@ -214,8 +215,8 @@ impl<V> CursorState<V> {
             (numbered_slots 0 self.old.tree.arena.nodes.items) front.now top }
         requires stack { self.old.stack.items ≡ [] }
         ensures position { OnOk result (IsPosition K.item (position_of self.new)) }
-        ensures left { OnOk result (left_of self.new ≡ rows_below front.now
-            (row_at (numbered_slots 0 self.old.tree.arena.nodes.items) (Some top))) }
+        ensures left { OnOk result (left_of self.new ≡ entries_below front.now
+            (siblings_at (numbered_slots 0 self.old.tree.arena.nodes.items) (Some top))) }
         ensures unchanged { OnErr result (self.new ≡ self.old) }
         ensures tree { IsSameTree self.old.tree self.new.tree }
         ensures last { self.new.tree.last ≡ self.old.tree.last }

@@ -86,7 +86,7 @@ impl<V> HeldTree<V> {
         }
     }
 
-    /// The first row of nodes.
+    /// The first of the top siblings.
     pub fn root(&self) -> Link
         ensures { result ≡ self.now.arena.root }
     {

@@ -10,7 +10,7 @@ ghost use Rattle.patricia_model.specs.Walks.{YieldsOrErr};
 ghost use Rattle.patricia_nodes.specs.Internal.Plans.{IsWellFormed, siblings_of, entries_of};
 ghost use Rattle.patricia_walks.specs.Internal.Positions.{IsPosition, AdvancesTo, state_of, owned};
 
-use crate::waiting::push_row;
+use crate::waiting::push_siblings;
 use patricia_keys::Bytes;
 use patricia_nodes::arena::NodeArena;
 use patricia_nodes::link::{Link, NodeId};
@@ -22,13 +22,13 @@ use std::marker::{Model, PhantomData};
 #[derive(Drop)]
 struct OwnedTraversal<V> {
     arena: NodeArena<V>,
-    // the key of the last value, which stands before the keys of the row
+    // the key of the last value, which stands before the keys of the siblings
     path: Vec<u8>,
     // the value at the path, while it is due
     pending: Option<V>,
-    // the row that is next
+    // the siblings that are next
     next: Link,
-    // the rows that wait, each behind so many bytes of the path
+    // the siblings that wait, behind so many bytes of the path
     stack: Vec<(usize, Link)>,
 }
 
@@ -54,14 +54,14 @@ impl<V: Drop> OwnedTraversal<V> {
     {
         let node = &self.arena.nodes[id.index()];
         let front = self.path.len();
-        push_row(&mut self.stack, front, node.sibling)?;
+        push_siblings(&mut self.stack, front, node.sibling)?;
         self.path.extend_from_slice(node.label.as_slice())?;
         self.next = node.child;
         self.pending = self.arena.nodes.replace_value(id, None);
         Ok(())
     }
 
-    // Goes back to the row that waits last, if there is one.
+    // Goes back to the siblings that wait last, if any wait.
     fn back<K: Bytes>(&mut self) -> bool
         requires position { IsPosition K.item (owned self.old) }
         requires taken { self.old.pending ≡ None }
@@ -70,11 +70,11 @@ impl<V: Drop> OwnedTraversal<V> {
         ensures over { result ≡ false → entries_left (state_of (owned self.old)) ≡ [] }
         ensures stays { result ≡ false → owned self.new ≡ owned self.old }
     {
-        let Some((front, row)) = self.stack.pop() else {
+        let Some((front, siblings)) = self.stack.pop() else {
             return false;
         };
         self.path.truncate(front);
-        self.next = row;
+        self.next = siblings;
         true
     }
 
@@ -128,7 +128,7 @@ impl<K: Bytes, V: Drop> IntoWalk<K, V> {
     /// A walk over the empty key's value and the nodes. Making it does not allocate.
     pub fn new(alloc: Global, pending: Option<V>, arena: NodeArena<V>) -> Self
         requires whole { IsWellFormed arena }
-        requires row { IsCanonical K.item (siblings_of arena) }
+        requires siblings { IsCanonical K.item (siblings_of arena) }
         ensures { result ≡ own pending ++ entries_of arena }
     {
         let next = arena.root;

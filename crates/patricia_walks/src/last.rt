@@ -8,11 +8,11 @@ ghost use Rattle.patricia_model.specs.Internal.WalkStates.{steps_in};
 ghost use Rattle.patricia_model.specs.Ranges.{before};
 ghost use Rattle.patricia_model.specs.Siblings.{own, prefixed, entries, IsCanonical};
 ghost use Rattle.patricia_nodes.specs.Internal.Plans.{IsWellFormed, siblings_of, entries_of};
-ghost use Rattle.patricia_walks.specs.Internal.Lowers.{IsRowAt, IsLower, IsLowerDescent};
+ghost use Rattle.patricia_walks.specs.Internal.Lowers.{AreSiblingsAt, IsLower, IsLowerDescent};
 ghost use Rattle.patricia_walks.specs.Internal.Lowers.{LowerMoves};
-ghost use Rattle.patricia_walks.specs.Internal.Lowers.{IsFront, lower_row};
+ghost use Rattle.patricia_walks.specs.Internal.Lowers.{IsFront, lower_entry};
 ghost use Rattle.patricia_nodes.specs.declared.arena.Node.{Node};
-ghost use Rattle.patricia_walks.specs.Internal.Positions.{row_at, rows_below};
+ghost use Rattle.patricia_walks.specs.Internal.Positions.{siblings_at, entries_below};
 
 use patricia_keys::{BorrowedBytes, Bytes};
 use patricia_nodes::arena::NodeArena;
@@ -20,7 +20,7 @@ use patricia_nodes::link::{Link, NodeId};
 use std::alloc::{AllocError, Global};
 use std::cmp::Ordering;
 
-// Where the last row before a key stands.
+// Where the last entry before a key stands.
 #[derive(Drop)]
 enum Lower<'a, V> {
     Nowhere,
@@ -30,23 +30,23 @@ enum Lower<'a, V> {
     Below(usize, NodeId),
 }
 
-// How far a descent to the last row before a key has come.
+// How far a descent to the last entry before a key has come.
 #[derive(Drop)]
 struct LowerDescent<'a, V> {
     arena: &'a NodeArena<V>,
     // how many bytes of the key are passed
     len: usize,
-    // the row behind them
+    // the siblings behind them
     next: Link,
-    // the last row before the key among those that are passed
+    // the last entry before the key among those that are passed
     lower: Lower<'a, V>,
 }
 
 // Puts the value behind so many bytes of the key in the place of what was found before it, where
 // there is a value.
 fn put_value<'a, K: Bytes, V>(lower: &mut Lower<'a, V>, len: usize, value: Option<&'a V>)
-    ensures row { (key : List ℕ) → (nodes : List (Node V)) → lower_row key nodes lower.new
-        ≡ last_or (lower_row key nodes lower.old)
+    ensures entry { (key : List ℕ) → (nodes : List (Node V)) → lower_entry key nodes lower.new
+        ≡ last_or (lower_entry key nodes lower.old)
         (prefixed (take len key) (own (option_copied value.entry))) }
     ensures found { (key : List ℕ) → (nodes : List (Node V)) → IsFront K.item key len
         → IsLower K.item key nodes lower.old → IsLower K.item key nodes lower.new }
@@ -80,16 +80,16 @@ impl<'a, V> LowerDescent<'a, V> {
     }
 }
 
-// Where the last row before a key stands. Does not allocate.
+// Where the last entry before a key stands. Does not allocate.
 fn find_lower<'a, K: Bytes, V>(
     pending: Option<&'a V>,
     arena: &'a NodeArena<V>,
     key: &[u8],
 ) -> Lower<'a, V>
     requires whole { IsWellFormed arena.now }
-    requires row { IsCanonical K.item (siblings_of arena.now) }
+    requires siblings { IsCanonical K.item (siblings_of arena.now) }
     ensures lower { IsLower K.item key.now arena.now.nodes.items result }
-    ensures row { lower_row key.now arena.now.nodes.items result
+    ensures entry { lower_entry key.now arena.now.nodes.items result
         ≡ last_or None
         (before key.now (own (option_copied pending.entry) ++ entries_of arena.now)) }
 {
@@ -110,15 +110,15 @@ fn find_lower<'a, K: Bytes, V>(
     descent.lower
 }
 
-// The last node of a row.
+// The last of the siblings.
 fn last_sibling<K: Bytes, V>(arena: &NodeArena<V>, first: NodeId) -> NodeId
-    requires { IsRowAt K.item arena.now.nodes.items (Some first) }
-    ensures row { IsRowAt K.item arena.now.nodes.items (Some result) }
+    requires { AreSiblingsAt K.item arena.now.nodes.items (Some first) }
+    ensures siblings { AreSiblingsAt K.item arena.now.nodes.items (Some result) }
     ensures last { (front : List ℕ)
-        → last_or None (prefixed front (entries (row_at arena.now.nodes.items (Some first))))
-        ≡ last_or None (rows_below front (row_at arena.now.nodes.items (Some result))) }
-    ensures fewer { steps_in (row_at arena.now.nodes.items (Some result))
-        ≤ steps_in (row_at arena.now.nodes.items (Some first)) }
+        → last_or None (prefixed front (entries (siblings_at arena.now.nodes.items (Some first))))
+        ≡ last_or None (entries_below front (siblings_at arena.now.nodes.items (Some result))) }
+    ensures fewer { steps_in (siblings_at arena.now.nodes.items (Some result))
+        ≤ steps_in (siblings_at arena.now.nodes.items (Some first)) }
 {
     let mut id = first;
     while let Some(next) = arena.nodes[id.index()].sibling.get() {
@@ -133,10 +133,10 @@ fn last_below<'a, K: Bytes, V>(
     path: &mut Vec<u8>,
     top: NodeId,
 ) -> Result<&'a V, AllocError>
-    requires row { IsRowAt K.item arena.now.nodes.items (Some top) }
+    requires siblings { AreSiblingsAt K.item arena.now.nodes.items (Some top) }
     requires valid { IsValid K.item path.old.items }
     ensures last { IfOk result (λ v.
-        last_or None (rows_below path.old.items (row_at arena.now.nodes.items (Some top)))
+        last_or None (entries_below path.old.items (siblings_at arena.now.nodes.items (Some top)))
         ≡ Some (path.new.items, v.now)) }
     ensures valid { OnOk result (IsValid K.item path.new.items) }
 {
@@ -163,9 +163,9 @@ fn entry_at<'a, K: Bytes, V>(
 ) -> Result<Option<(K, &'a V)>, AllocError>
     requires { IsLower K.item key.now arena.now.nodes.items lower }
     ensures entry { IfOk result (λ entry. option_map (λ e. (K.key e.0, e.1.now)) entry
-        ≡ lower_row key.now arena.now.nodes.items lower.entry) }
+        ≡ lower_entry key.now arena.now.nodes.items lower.entry) }
     ensures err_only_there { OnErr result
-        (lower_row key.now arena.now.nodes.items lower.entry ≢ None) }
+        (lower_entry key.now arena.now.nodes.items lower.entry ≢ None) }
 {
     match lower {
         Lower::Nowhere => Ok(None),
@@ -189,7 +189,7 @@ pub fn last_before<'a, Q: BorrowedBytes, V>(
     key: Q,
 ) -> Result<Option<(Q::Owned, &'a V)>, AllocError>
     requires whole { IsWellFormed arena.now }
-    requires row { IsCanonical Q.Owned.item (siblings_of arena.now) }
+    requires siblings { IsCanonical Q.Owned.item (siblings_of arena.now) }
     ensures entry { IfOk result (λ entry. option_map (λ e. (Q.Owned.key e.0, e.1.now)) entry
         ≡ last_or None (before (Q.key key)
         (own (option_copied pending.entry) ++ entries_of arena.now))) }
@@ -208,7 +208,7 @@ pub fn last<'a, K: Bytes, V>(
     arena: &'a NodeArena<V>,
 ) -> Result<Option<(K, &'a V)>, AllocError>
     requires whole { IsWellFormed arena.now }
-    requires row { IsCanonical K.item (siblings_of arena.now) }
+    requires siblings { IsCanonical K.item (siblings_of arena.now) }
     ensures entry { IfOk result (λ entry. option_map (λ e. (K.key e.0, e.1.now)) entry
         ≡ last_or None (own (option_copied pending.entry) ++ entries_of arena.now)) }
     ensures err_only_nonempty { OnErr result

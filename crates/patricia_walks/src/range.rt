@@ -1,4 +1,4 @@
-//! The rows from a key on, up to another one.
+//! The entries from a key on, up to another one.
 ghost use Rattle.std.specs.Prelude.{◌≡◌, ◌≢◌, ◌↔◌, ◌+◌, ◌++◌, Option, [], T, length, slice_get};
 ghost use Rattle.std.specs.Prelude.{drop};
 ghost use Rattle.std.specs.FinMap.{is_sorted};
@@ -6,7 +6,7 @@ ghost use Rattle.std.specs.Prelude.{IsTrue, IfOk, IfSome, OnOk, OnErr};
 ghost use Rattle.std.specs.Map.Iter.{TakesFirst};
 ghost use Rattle.std.specs.Option.{option_copied, option_map};
 ghost use Rattle.patricia_keys.specs.Keys.{IsValid, key_cmp};
-ghost use Rattle.patricia_model.specs.Cursors.{advanced, before_rows};
+ghost use Rattle.patricia_model.specs.Cursors.{advanced, before_entries};
 ghost use Rattle.patricia_model.specs.Ranges.{from};
 ghost use Rattle.patricia_model.specs.Siblings.{own, IsCanonical};
 ghost use Rattle.patricia_nodes.specs.Internal.Plans.{IsWellFormed, siblings_of, entries_of};
@@ -19,7 +19,7 @@ use std::alloc::{AllocError, Global};
 use std::cmp::Ordering;
 use std::marker::Model;
 
-// Where a walk begins: at the first row that does not come before the key.
+// Where a walk begins: at the first entry that does not come before the key.
 #[derive(Clone, Copy)]
 struct RangeStart<'a, Q, V> {
     arena: &'a NodeArena<V>,
@@ -36,7 +36,7 @@ fn begin<'a, Q: BorrowedBytes, V>(
     requires { IsRangeWalk Q.Owned.item start cursor.old }
     ensures left { OnOk result (cursor.new.left ≡ range_left Q.key start.entry cursor.old.left) }
     ensures sorted { OnOk result (T (is_sorted key_cmp cursor.new.left)) }
-    ensures ended { OnErr result (cursor.new ≡ before_rows []) }
+    ensures ended { OnErr result (cursor.new ≡ before_entries []) }
 {
     if let Some(start) = start {
         let key = start.key.as_bytes();
@@ -56,7 +56,7 @@ fn has_passed<Q: BorrowedBytes, V>(cursor: &ReadCursor<'_, Q::Owned, V>, bound: 
     }
 }
 
-// Advances to the next row before the bound.
+// Advances to the next entry before the bound.
 fn step<Q: BorrowedBytes, V>(
     cursor: &mut ReadCursor<'_, Q::Owned, V>,
     bound: Option<Q>,
@@ -69,7 +69,7 @@ fn step<Q: BorrowedBytes, V>(
         (cursor.new.at ≡ slice_get (within (option_map Q.key bound) cursor.old.left) 0) }
     ensures left { OnOk result (within (option_map Q.key bound) cursor.new.left
         ≡ drop 1 (within (option_map Q.key bound) cursor.old.left)) }
-    ensures ended { OnErr result (cursor.new ≡ before_rows []) }
+    ensures ended { OnErr result (cursor.new ≡ before_entries []) }
 {
     let found = cursor.advance()?;
     if has_passed::<Q, V>(cursor, bound) {
@@ -120,8 +120,8 @@ impl<'a, Q: BorrowedBytes, V> RangeReadCursor<'a, Q, V> {
         bound: Option<Q>,
     ) -> Self
         requires whole { IsWellFormed arena.now }
-        requires row { IsCanonical Q.Owned.item (siblings_of arena.now) }
-        ensures { result ≡ before_rows (within (option_map Q.key bound)
+        requires siblings { IsCanonical Q.Owned.item (siblings_of arena.now) }
+        ensures { result ≡ before_entries (within (option_map Q.key bound)
             (from (Q.key key) (own (option_copied pending.entry) ++ entries_of arena.now))) }
     {
         RangeReadCursor {
@@ -149,7 +149,7 @@ impl<'a, Q: BorrowedBytes, V> RangeReadCursor<'a, Q, V> {
         ensures advanced { OnOk result (self.new ≡ advanced self.old) }
         ensures fewer { IfOk result (λ found.
             IsTrue found → length self.old.left ≡ length self.new.left + 1) }
-        ensures ended { OnErr result (self.new ≡ before_rows []) }
+        ensures ended { OnErr result (self.new ≡ before_entries []) }
     {
         begin(self.alloc, self.start.take(), &mut self.cursor)?;
         step(&mut self.cursor, self.bound)
@@ -180,7 +180,7 @@ impl<'a, Q: BorrowedBytes, V> RangeReadCursor<'a, Q, V> {
 impl<'a, Q: BorrowedBytes, V> RangeReadCursor<'a, Q, V> {
     // Ends the cursor.
     fn end(&mut self)
-        ensures { self.new ≡ before_rows [] }
+        ensures { self.new ≡ before_entries [] }
     {
         self.start = None;
         self.cursor.end();
@@ -207,7 +207,7 @@ impl<'a, Q: BorrowedBytes, V> RangeReadCursor<'a, Q, V> {
     pub fn next_entry(&mut self) -> Result<Option<(Q::Owned, &'a V)>, AllocError>
         ensures entry { IfOk result (λ entry. TakesFirst (λ e. (Q.Owned.key e.0, e.1.now))
             self.old.left entry self.new.left) }
-        ensures ended { OnErr result (self.new ≡ before_rows []) }
+        ensures ended { OnErr result (self.new ≡ before_entries []) }
     {
         if !self.advance()? {
             return Ok(None);

@@ -1,4 +1,4 @@
-//! How far the keys go with a key.
+//! The common length of a key with the keys.
 ghost use Rattle.std.specs.Prelude.{◌++◌, Option};
 ghost use Rattle.patricia_model.specs.Prefixes.{IsReach};
 ghost use Rattle.patricia_model.specs.Siblings.{own, keys_of, IsCanonical};
@@ -8,10 +8,11 @@ use patricia_keys::{BorrowedBytes, Bytes};
 use patricia_nodes::arena::NodeArena;
 use patricia_nodes::arena::seek::Match;
 
-/// The greatest common length of a key with the keys of the nodes. The empty key changes nothing.
+/// The common length of a key with the keys of the nodes: the greatest that it has with one of
+/// them. The empty key changes nothing.
 pub fn reach<Q: BorrowedBytes, V>(arena: &NodeArena<V>, key: Q) -> usize
     requires whole { IsWellFormed arena.now }
-    requires row { IsCanonical Q.Owned.item (siblings_of arena.now) }
+    requires siblings { IsCanonical Q.Owned.item (siblings_of arena.now) }
     ensures { (v : Option V)
         → IsReach Q.Owned.item (keys_of (own v ++ entries_of arena.now)) (Q.key key) result }
 {

@@ -1,4 +1,4 @@
-//! The rows under a prefix.
+//! The entries under a prefix.
 ghost use Rattle.std.specs.Prelude.{◌≡◌, ◌≢◌, ◌++◌, ◌+◌, ◌≤◌, [], Some, IfOk, IfSome, IfNone};
 ghost use Rattle.std.specs.Prelude.{length, take};
 ghost use Rattle.std.specs.Iterator.{at_most};
@@ -8,8 +8,8 @@ ghost use Rattle.patricia_model.specs.Siblings.{own, entries, IsCanonical};
 ghost use Rattle.patricia_model.specs.Walks.{YieldsOrErr};
 ghost use Rattle.patricia_nodes.specs.Internal.Plans.{IsWellFormed, siblings_of, entries_of};
 ghost use Rattle.patricia_walks.specs.Internal.Depths.{first_label};
-ghost use Rattle.patricia_walks.specs.Internal.Positions.{row_at};
-ghost use Rattle.patricia_walks.specs.Internal.Starts.{IsStartUnder, rows_from};
+ghost use Rattle.patricia_walks.specs.Internal.Positions.{siblings_at};
+ghost use Rattle.patricia_walks.specs.Internal.Starts.{IsStartUnder, entries_from};
 
 mod counting;
 mod reading;
@@ -39,12 +39,12 @@ fn find_start<'a, Q: BorrowedBytes, V>(
     prefix: Q,
 ) -> Option<UnderStart<'a, Q, V>>
     requires whole { IsWellFormed arena.now }
-    requires row { IsCanonical Q.Owned.item (siblings_of arena.now) }
+    requires siblings { IsCanonical Q.Owned.item (siblings_of arena.now) }
     requires nonempty { Q.key prefix ≢ [] }
     ensures some { IfSome result (λ s. IsStartUnder Q.Owned.item Q.key s
-        × (rows_from Q.key s ≡ under (Q.key prefix) (entries_of arena.now))) }
+        × (entries_from Q.key s ≡ under (Q.key prefix) (entries_of arena.now))) }
     ensures label { IfSome result (λ s. length (Q.key prefix)
-        ≤ s.front + length (first_label (row_at s.arena.now.nodes.items (Some s.top)))) }
+        ≤ s.front + length (first_label (siblings_at s.arena.now.nodes.items (Some s.top)))) }
     ensures none { IfNone result (under (Q.key prefix) (entries_of arena.now) ≡ []) }
 {
     let place = arena.seek(prefix);
@@ -58,7 +58,7 @@ fn find_start<'a, Q: BorrowedBytes, V>(
     })
 }
 
-/// What a walk over the rows under a prefix has left, in key order.
+/// What a walk over the entries under a prefix has left, in key order.
 #[derive(Drop)]
 pub struct Under<'a, Q: BorrowedBytes, V> {
     alloc: Global,
@@ -72,9 +72,9 @@ impl<'a, Q: BorrowedBytes, V> Model for Under<'a, Q, V> {
 
     ghost Value = { List (List ℕ × V) };
 
-    ghost use Rattle.patricia_walks.specs.Internal.Starts.{IsUnderWalk, rows_left};
+    ghost use Rattle.patricia_walks.specs.Internal.Starts.{IsUnderWalk, entries_to_lend};
 
-    ghost view = { λ u. rows_left Q.key u.start u.walk };
+    ghost view = { λ u. entries_to_lend Q.key u.start u.walk };
 
     ghost invariant = { λ u. IsUnderWalk Q.Owned.item Q.key u.start u.walk };
 }
@@ -83,7 +83,7 @@ impl<'a, Q: BorrowedBytes, V> Under<'a, Q, V> {
     /// A walk over the empty key's value and the nodes. Making it does not allocate.
     pub fn new(alloc: Global, pending: Option<&'a V>, arena: &'a NodeArena<V>, prefix: Q) -> Self
         requires whole { IsWellFormed arena.now }
-        requires row { IsCanonical Q.Owned.item (siblings_of arena.now) }
+        requires siblings { IsCanonical Q.Owned.item (siblings_of arena.now) }
         ensures { result
             ≡ under (Q.key prefix) (own (option_copied pending.entry) ++ entries_of arena.now) }
     {

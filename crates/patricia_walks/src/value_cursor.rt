@@ -1,6 +1,6 @@
 //! A cursor that owns a tree and lends its values one at a time, in the order of their keys.
 //!
-//! It reads no label and keeps no key, only the rows that are still to come.
+//! It reads no label and keeps no key, only the siblings that are still to come.
 ghost use Rattle.std.specs.Prelude.{◌≡◌, ◌≢◌, ◌↔◌, [], Some, None, true, false, IfOk, OnOk};
 ghost use Rattle.std.specs.Prelude.{OnErr, IsTrue};
 ghost use Rattle.std.specs.Borrow.{sem};
@@ -13,8 +13,8 @@ ghost use Rattle.patricia_nodes.specs.Internal.Plans.{IsWellFormed, siblings_of}
 ghost use Rattle.patricia_walks.specs.Internal.HeldTrees.{IsMadeOf, IsSameTree};
 ghost use Rattle.patricia_walks.specs.Internal.Holders.{holders};
 ghost use Rattle.patricia_walks.specs.Internal.ValuePositions.{IsValuePosition, GoesTo};
-ghost use Rattle.patricia_walks.specs.Internal.ValueTrails.{spot_of, holders_left, Moves};
-ghost use Rattle.patricia_walks.specs.Internal.ValueTrails.{MoveIsRefused};
+ghost use Rattle.patricia_walks.specs.Internal.ValueCursorStates.{spot_of, holders_left, Moves};
+ghost use Rattle.patricia_walks.specs.Internal.ValueCursorStates.{MoveIsRefused};
 
 use crate::held_tree::{HeldTree, TreeParts, ValueSlot, held_by};
 use patricia_keys::Bytes;
@@ -24,21 +24,21 @@ use std::marker::{Model, PhantomData};
 
 // A tree, and how far a walk over its values has come.
 #[derive(Drop)]
-struct ValueTrail<V> {
+struct ValueCursorState<V> {
     tree: HeldTree<V>,
     // who holds the value that is due
     pending: Option<ValueSlot>,
-    // the row that is next
+    // the siblings that are next
     next: Link,
-    // the rows that wait
+    // the siblings that wait
     stack: Vec<Link>,
 }
 
-impl<V> ValueTrail<V> {
-    // A trail over all values.
-    fn new<K: Bytes>(parts: TreeParts<V>) -> ValueTrail<V>
+impl<V> ValueCursorState<V> {
+    // The state of a cursor before the first of all values.
+    fn new<K: Bytes>(parts: TreeParts<V>) -> ValueCursorState<V>
         requires whole { IsWellFormed parts.arena }
-        requires row { IsCanonical K.item (siblings_of parts.arena) }
+        requires siblings { IsCanonical K.item (siblings_of parts.arena) }
         ensures tree { IsMadeOf parts result.tree }
         ensures position { IsValuePosition (spot_of result) }
         ensures left { holders_left result ≡ values_of (holders parts.value parts.arena) }
@@ -48,7 +48,7 @@ impl<V> ValueTrail<V> {
         let tree = HeldTree::new(parts);
         let pending = tree.root_value_slot();
         let next = tree.root();
-        ValueTrail {
+        ValueCursorState {
             tree,
             pending,
             next,
@@ -80,7 +80,7 @@ impl<V> ValueTrail<V> {
         Ok(())
     }
 
-    // Goes back to the row that waits last, if there is one.
+    // Goes back to the siblings that wait last, if any wait.
     fn back(&mut self) -> bool
         requires position { IsValuePosition (spot_of self.old) }
         requires taken { self.old.pending ≡ None }
@@ -90,10 +90,10 @@ impl<V> ValueTrail<V> {
         ensures stays { result ≡ false → spot_of self.new ≡ spot_of self.old }
         ensures tree { self.new.tree ≡ self.old.tree }
     {
-        let Some(row) = self.stack.pop() else {
+        let Some(siblings) = self.stack.pop() else {
             return false;
         };
-        self.next = row;
+        self.next = siblings;
         true
     }
 
@@ -153,7 +153,7 @@ impl<V> ValueTrail<V> {
 #[derive(Drop)]
 pub struct ValueCursor<K: Bytes, V> {
     alloc: Global,
-    trail: ValueTrail<V>,
+    state: ValueCursorState<V>,
     kind: PhantomData<K>,
 }
 
@@ -162,15 +162,15 @@ impl<K: Bytes, V> Model for ValueCursor<K, V> {
     ghost use Rattle.patricia_model.specs.Cursors.{CursorView};
     ghost use Rattle.patricia_model.specs.Internal.Codes.{cursor_view_code};
     ghost use Rattle.patricia_walks.specs.Internal.HeldTrees.{standing};
-    ghost use Rattle.patricia_walks.specs.Internal.ValueTrails.{IsValueTrail};
+    ghost use Rattle.patricia_walks.specs.Internal.ValueCursorStates.{IsValueCursorState};
 
     ghost Value = { CursorView V };
 
     ghost coded = { cursor_view_code V.code };
 
-    ghost view = { λ c. standing c.trail.tree [] };
+    ghost view = { λ c. standing c.state.tree [] };
 
-    ghost invariant = { λ c. IsValueTrail K.item c.trail };
+    ghost invariant = { λ c. IsValueCursorState K.item c.state };
 }
 
 impl<K: Bytes, V: Drop> ValueCursor<K, V> {
@@ -188,7 +188,7 @@ impl<K: Bytes, V: Drop> ValueCursor<K, V> {
     {
         ValueCursor {
             alloc: parts.alloc,
-            trail: ValueTrail::new::<K>(parts),
+            state: ValueCursorState::new::<K>(parts),
             kind: PhantomData,
         }
     }
@@ -199,8 +199,8 @@ impl<K: Bytes, V: Drop> ValueCursor<K, V> {
         ensures tree { IsTree K.item (siblings_of result.arena) result.count }
         ensures map { map_of result.value (siblings_of result.arena) ≡ self.map }
     {
-        let ValueCursor { alloc, trail, .. } = self;
-        trail.tree.into_parts(alloc)
+        let ValueCursor { alloc, state, .. } = self;
+        state.tree.into_parts(alloc)
     }
 
     /// Advances to the next value, and returns whether there is one. The error is out of memory.
@@ -210,7 +210,7 @@ impl<K: Bytes, V: Drop> ValueCursor<K, V> {
         ensures unchanged { OnErr result (self.new ≡ self.old) }
         ensures err_only_if_left { OnErr result (next_key self.old ≢ None) }
     {
-        self.trail.advance()
+        self.state.advance()
     }
 
     /// Lends the value that it advanced to last, or returns `None` where it has not advanced yet.
@@ -218,6 +218,6 @@ impl<K: Bytes, V: Drop> ValueCursor<K, V> {
         ensures* writes { sem 𝓛 (value_cursor_lends_last K.row V.row K.Bytes self.entry result) }
         ensures value { option_copied_mut result ≡ last_value self.old }
     {
-        self.trail.tree.value::<K>()
+        self.state.tree.value::<K>()
     }
 }

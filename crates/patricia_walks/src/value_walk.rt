@@ -1,6 +1,6 @@
 //! A walk over the values of nodes in one vector, in the order of their keys.
 //!
-//! It reads no label and keeps no key, only the rows that are still to come.
+//! It reads no label and keeps no key, only the siblings that are still to come.
 ghost use Rattle.std.specs.Prelude.{◌≡◌, ◌≢◌, ◌++◌, [], Some, None, false, IfOk, OnOk, OnErr};
 ghost use Rattle.std.specs.Prelude.{IsTrue};
 ghost use Rattle.std.specs.Option.{option_copied};
@@ -22,9 +22,9 @@ struct ValueTraversal<'a, V> {
     arena: &'a NodeArena<V>,
     // the value that is due
     pending: Option<&'a V>,
-    // the row that is next
+    // the siblings that are next
     next: Link,
-    // the rows that wait
+    // the siblings that wait
     stack: Vec<Link>,
 }
 
@@ -61,7 +61,7 @@ impl<'a, V> ValueTraversal<'a, V> {
         Ok(())
     }
 
-    // Goes back to the row that waits last, if there is one.
+    // Goes back to the siblings that wait last, if any wait.
     fn back(&mut self) -> bool
         requires position { IsValuePosition (place_of self.old) }
         requires taken { self.old.pending ≡ None }
@@ -70,10 +70,10 @@ impl<'a, V> ValueTraversal<'a, V> {
         ensures over { result ≡ false → values_left (place_of self.old) ≡ [] }
         ensures stays { result ≡ false → place_of self.new ≡ place_of self.old }
     {
-        let Some(row) = self.stack.pop() else {
+        let Some(siblings) = self.stack.pop() else {
             return false;
         };
-        self.next = row;
+        self.next = siblings;
         true
     }
 
@@ -124,7 +124,7 @@ impl<'a, V> ValueWalk<'a, V> {
     /// A walk over the empty key's value and those of the nodes. Making it does not allocate.
     pub fn new<K: Bytes>(alloc: Global, pending: Option<&'a V>, arena: &'a NodeArena<V>) -> Self
         requires whole { IsWellFormed arena.now }
-        requires row { IsCanonical K.item (siblings_of arena.now) }
+        requires siblings { IsCanonical K.item (siblings_of arena.now) }
         ensures { result ≡ values_of (own (option_copied pending.entry) ++ entries_of arena.now) }
     {
         ValueWalk {

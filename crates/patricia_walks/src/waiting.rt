@@ -1,18 +1,22 @@
-//! The rows that wait while a walk is below a node beside which they stand.
+//! The siblings that wait while a walk is below a node beside which they stand.
 ghost use Rattle.std.specs.Prelude.{◌≡◌, OnOk, OnErr};
-ghost use Rattle.patricia_walks.specs.Internal.Positions.{with_row};
+ghost use Rattle.patricia_walks.specs.Internal.Positions.{with_siblings};
 
 use patricia_nodes::link::Link;
 use std::alloc::AllocError;
 
-/// Lets a row wait behind so many bytes of the path, where there is one.
-pub fn push_row(stack: &mut Vec<(usize, Link)>, front: usize, row: Link) -> Result<(), AllocError>
-    ensures items { OnOk result (stack.new.items ≡ with_row stack.old.items front row) }
+/// Lets siblings wait behind so many bytes of the path, where there are any.
+pub fn push_siblings(
+    stack: &mut Vec<(usize, Link)>,
+    front: usize,
+    siblings: Link,
+) -> Result<(), AllocError>
+    ensures items { OnOk result (stack.new.items ≡ with_siblings stack.old.items front siblings) }
     ensures same { OnErr result (stack.new.items ≡ stack.old.items) }
 {
-    if row.get().is_none() {
+    if siblings.get().is_none() {
         return Ok(());
     }
-    stack.push((front, row))?;
+    stack.push((front, siblings))?;
     Ok(())
 }

@@ -9,12 +9,13 @@ ghost use Rattle.patricia_model.specs.Internal.WalkStates.{entries_left, TakesEn
 ghost use Rattle.patricia_model.specs.Walks.{YieldsOrErr};
 ghost use Rattle.patricia_nodes.specs.Internal.Plans.{IsWellFormed, siblings_of, entries_of};
 ghost use Rattle.patricia_walks.specs.Internal.Positions.{IsPosition, IsTop, AdvancesTo, state_of};
-ghost use Rattle.patricia_walks.specs.Internal.Positions.{lent, row_at, rows_below, HasPassed};
+ghost use Rattle.patricia_walks.specs.Internal.Positions.{lent, siblings_at, entries_below};
+ghost use Rattle.patricia_walks.specs.Internal.Positions.{HasPassed};
 
 mod reading;
 mod skipping;
 
-use crate::waiting::push_row;
+use crate::waiting::push_siblings;
 use patricia_keys::Bytes;
 use patricia_nodes::arena::NodeArena;
 use patricia_nodes::link::{Link, NodeId};
@@ -27,13 +28,13 @@ use std::marker::{Model, PhantomData};
 #[derive(Drop)]
 struct Traversal<'a, V> {
     arena: &'a NodeArena<V>,
-    // the key of the last value, which stands before the keys of the row
+    // the key of the last value, which stands before the keys of the siblings
     path: Vec<u8>,
     // the value at the path, while it is due
     pending: Option<&'a V>,
-    // the row that is next
+    // the siblings that are next
     next: Link,
-    // the rows that wait, each behind so many bytes of the path
+    // the siblings that wait, behind so many bytes of the path
     stack: Vec<(usize, Link)>,
 }
 
@@ -58,14 +59,14 @@ impl<'a, V> Traversal<'a, V> {
     {
         let node = &self.arena.nodes[id.index()];
         let front = self.path.len();
-        push_row(&mut self.stack, front, node.sibling)?;
+        push_siblings(&mut self.stack, front, node.sibling)?;
         self.path.extend_from_slice(node.label.as_slice())?;
         self.pending = node.value.as_ref();
         self.next = node.child;
         Ok(())
     }
 
-    // Goes back to the row that waits last, if there is one.
+    // Goes back to the siblings that wait last, if any wait.
     fn back<K: Bytes>(&mut self) -> bool
         requires position { IsPosition K.item (lent self.old) }
         requires taken { self.old.pending ≡ None }
@@ -74,15 +75,15 @@ impl<'a, V> Traversal<'a, V> {
         ensures over { result ≡ false → entries_left (state_of (lent self.old)) ≡ [] }
         ensures stays { result ≡ false → lent self.new ≡ lent self.old }
     {
-        let Some((front, row)) = self.stack.pop() else {
+        let Some((front, siblings)) = self.stack.pop() else {
             return false;
         };
         self.path.truncate(front);
-        self.next = row;
+        self.next = siblings;
         true
     }
 
-    // Passes the rows that begin with the first bytes of the path, which are whole items.
+    // Passes the entries that begin with the first bytes of the path, which are whole items.
     fn skip<K: Bytes>(&mut self, len: usize)
         requires position { IsPosition K.item (lent self.old) }
         requires within { len ≤ length self.old.path.items }
@@ -152,7 +153,7 @@ impl<'a, K: Bytes, V> Walk<'a, K, V> {
     /// A walk over the empty key's value and the nodes. Making it does not allocate.
     pub fn new(alloc: Global, pending: Option<&'a V>, arena: &'a NodeArena<V>) -> Self
         requires whole { IsWellFormed arena.now }
-        requires row { IsCanonical K.item (siblings_of arena.now) }
+        requires siblings { IsCanonical K.item (siblings_of arena.now) }
         ensures { result ≡ own (option_copied pending.entry) ++ entries_of arena.now }
     {
         Walk {
@@ -194,7 +195,7 @@ impl<'a, K: Bytes, V> Walk<'a, K, V> {
     ) -> Result<Self, AllocError>
         requires { IsTop K.item arena.now front.now top }
         ensures { IfOk result (λ walk.
-            walk ≡ rows_below front.now (row_at arena.now.nodes.items (Some top))) }
+            walk ≡ entries_below front.now (siblings_at arena.now.nodes.items (Some top))) }
     {
         let node = &arena.nodes[top.index()];
         let label = node.label.as_slice();

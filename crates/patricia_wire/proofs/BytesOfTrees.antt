@@ -1,4 +1,4 @@
--- An encoding of the keys of rows is their tree bytes.
+-- An encoding of the keys of entries is their tree bytes.
 use Rattle.std.proofs.Common.{◌≡◌, ℕ, List, refl, sym, subst}
 use Rattle.patricia_keys.specs.Keys.{IsKeyKind}
 use Rattle.patricia_model.specs.Siblings.{keys_of}
@@ -15,14 +15,14 @@ use Rattle.patricia_wire.proofs.FrontLemmas.{labels_are_fronts}
 use Rattle.patricia_wire.proofs.CountLemmas.{records_are_points, records_are_few}
 
 module _ (item : List ℕ → Type 0) (kind : IsKeyKind item) where
-  -- the encoding of the keys of rows is the tree bytes of the rows
-  pub tree_bytes : {V : Type 0} (w : ℕ) (b : List ℕ) (rows : List (List ℕ × V))
-      → Canon item w b (keys_of rows) → AreTreeBytes item w b rows
-  tree_bytes w b rows x =
-      let S = keys_of rows in
+  -- the encoding of the keys of entries is the tree bytes of the entries
+  pub tree_bytes : {V : Type 0} (w : ℕ) (b : List ℕ) (entries : List (List ℕ × V))
+      → Canon item w b (keys_of entries) → AreTreeBytes item w b entries
+  tree_bytes w b entries x =
+      let S = keys_of entries in
       let one : (R : List Record) → EncodeAll w R b → x.records ≡ R = λ R spelled. one_list w x.records R b (meaning.writing_spells item w b S x) spelled in
       record {
-        means = meaning.writing_means item w b rows x;
+        means = meaning.writing_means item w b entries x;
         one_writing = λ c. (λ y. tree.one_writing item kind w c b S y x, λ e. subst (λ d. Canon item w d S) (sym e) x);
         one_key_set = λ T. (λ y. meaning.one_key_set item w b T S y x, λ e. subst (Canon item w b) (sym e) x);
         not_too_deep = never_both item kind w b S x;
@@ -31,21 +31,21 @@ module _ (item : List ℕ → Type 0) (kind : IsKeyKind item) where
         few = λ R spelled. subst (λ X. AreFew X S) (one R spelled) (records_are_few item kind x.records S x.root x.tight);
       }
 
-  -- the tree bytes of rows are the encoding of their keys
-  canon : {V : Type 0} (w : ℕ) (b : List ℕ) (rows : List (List ℕ × V)) → AreTreeBytes item w b rows
-      → Canon item w b (keys_of rows)
-  canon w b rows x = (let one = x.one_key_set (keys_of rows) in one.1 refl)
+  -- the tree bytes of entries are the encoding of their keys
+  canon : {V : Type 0} (w : ℕ) (b : List ℕ) (entries : List (List ℕ × V)) → AreTreeBytes item w b entries
+      → Canon item w b (keys_of entries)
+  canon w b entries x = (let one = x.one_key_set (keys_of entries) in one.1 refl)
 
   -- tree bytes are equal exactly where the key sets are
   pub tells_key_sets : (V W : Type 0) → TellsKeySets item V W
-  tells_key_sets V W w b c rows others x y = (
-    λ e. (let one = y.one_key_set (keys_of rows) in one.0 (subst (λ d. Canon item w d (keys_of rows)) e (canon w b rows x))),
-    λ e. (let one = y.one_writing b in one.0 (subst (Canon item w b) e (canon w b rows x))),
+  tells_key_sets V W w b c entries others x y = (
+    λ e. (let one = y.one_key_set (keys_of entries) in one.0 (subst (λ d. Canon item w d (keys_of entries)) e (canon w b entries x))),
+    λ e. (let one = y.one_writing b in one.0 (subst (Canon item w b) e (canon w b entries x))),
   )
 
   -- which bytes are the tree bytes does not depend on the values
   pub depends_on_keys_alone : (V W : Type 0) → DependsOnKeysAlone item V W
-  depends_on_keys_alone V W w b rows others e = (
-    λ x. tree_bytes w b others (subst (Canon item w b) e (canon w b rows x)),
-    λ y. tree_bytes w b rows (subst (Canon item w b) (sym e) (canon w b others y)),
+  depends_on_keys_alone V W w b entries others e = (
+    λ x. tree_bytes w b others (subst (Canon item w b) e (canon w b entries x)),
+    λ y. tree_bytes w b entries (subst (Canon item w b) (sym e) (canon w b others y)),
   )

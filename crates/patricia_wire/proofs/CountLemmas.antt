@@ -14,14 +14,14 @@ use Rattle.patricia_model.proofs.PointLemmas.{IsPoint-within, has_prefixed, has_
 use Rattle.patricia_model.proofs.PointLemmas.{within_own, paths_points, paths_apart}
 use Rattle.patricia_wire.specs.Records.{Record}
 use Rattle.patricia_wire.specs.Forests.{Root}
-use Rattle.patricia_wire.specs.Internal.WrittenRows.{records_of}
+use Rattle.patricia_wire.specs.Internal.WrittenSiblings.{records_of}
 use Rattle.patricia_wire.specs.Writings.{IsTight}
 use Rattle.patricia_wire.specs.Counts.{IsCount, AreShort, AreFew, RecordsArePoints}
 use Rattle.patricia_wire.proofs.OneTree.{tight_within}
-use Rattle.patricia_wire.proofs.RowTrees.{Nothing, stands_tree}
+use Rattle.patricia_wire.proofs.SiblingsTrees.{Nothing, stands_tree}
 
 module _ {V : Type 0} where
-  -- a row has as many records as its nodes have paths
+  -- siblings have as many records as their nodes have paths
   as_many : (d : ℕ) (r : Siblings V) → length (records_of d r) ≡ length (paths r)
   as_many d end = refl
   as_many d (node l v c s) = omega (
@@ -50,7 +50,7 @@ module _ (item : List ℕ → Type 0) (kind : IsKeyKind item) {V : Type 0} where
       omega (arith, length-append l i, length-append l (m ++ some.0.0), length-append m some.0.0, length-append i begun.0, ap length begun.1))
   earns_short l None (node m w d (node m' w' d' t')) s ok short earns = tt
 
-  -- where keys are short, a row that keeps to the wire's limit keeps the invariant in memory
+  -- where keys are short, siblings that keep to the wire's limit keep the invariant in memory
   pub in_memory : (r : Siblings V) → IsCanonicalWithin item (Some 255) r
       → AreShort (keys_of (entries r)) → IsCanonical item r
   in_memory end ok short = tt
@@ -71,25 +71,25 @@ module _ (item : List ℕ → Type 0) (kind : IsKeyKind item) where
       → RecordsArePoints item R E
   records_are_points R E root tight short =
       let stood = stands_tree item R E root in
-      let es = entries stood.row in
+      let es = entries stood.siblings in
       let short' : AreShort (keys_of es) = λ k h. short k (subst (λ S. Has S k) stood.keys (has_after (own stood.value) es k h)) in
-      let ok = in_memory item kind stood.row (tight_within item R E stood tight) short' in
-      let count : IsCount (IsPoint item (keys_of (own stood.value ++ es))) (length (paths stood.row)) = record {
-        counted = paths stood.row;
-        once = paths_apart item kind stood.row ok;
+      let ok = in_memory item kind stood.siblings (tight_within item R E stood tight) short' in
+      let count : IsCount (IsPoint item (keys_of (own stood.value ++ es))) (length (paths stood.siblings)) = record {
+        counted = paths stood.siblings;
+        once = paths_apart item kind stood.siblings ok;
         exactly = λ p. (
           λ h. IsPoint-within item kind (keys_of es) (keys_of (own stood.value ++ es))
-              (own_within stood.value es) p ((paths_points item kind stood.row ok p).0 h),
-          λ h. (paths_points item kind stood.row ok p).1
+              (own_within stood.value es) p ((paths_points item kind stood.siblings ok p).0 h),
+          λ h. (paths_points item kind stood.siblings ok p).1
               (IsPoint-within item kind (keys_of (own stood.value ++ es)) (keys_of es)
               (within_own stood.value es) p h),
         );
         is = refl;
       } in (
-        length (paths stood.row),
-        subst (λ S. IsCount (IsPoint item S) (length (paths stood.row)))
+        length (paths stood.siblings),
+        subst (λ S. IsCount (IsPoint item S) (length (paths stood.siblings)))
             stood.keys count,
-        sym (ap length stood.records) ∙ ap suc (as_many 1 stood.row) ∙ omega
+        sym (ap length stood.records) ∙ ap suc (as_many 1 stood.siblings) ∙ omega
             arith,
       )
 
@@ -142,22 +142,22 @@ module _ (item : List ℕ → Type 0) (kind : IsKeyKind item) where
       → AreFew R E
   records_are_few R E root tight short some =
       let stood = stands_tree item R E root in
-      let es = entries stood.row in
+      let es = entries stood.siblings in
       let short' : AreShort (keys_of es) = λ k h. short k (subst (λ S. Has S k) stood.keys (has_after (own stood.value) es k h)) in
-      let ok = in_memory item kind stood.row (tight_within item R E stood tight) short' in
-      let few = few_paths stood.row ok in
-      let records : length R ≡ suc (length (paths stood.row)) = sym (ap length stood.records) ∙ ap suc (as_many 1 stood.row) in
+      let ok = in_memory item kind stood.siblings (tight_within item R E stood tight) short' in
+      let few = few_paths stood.siblings ok in
+      let records : length R ≡ suc (length (paths stood.siblings)) = sym (ap length stood.records) ∙ ap suc (as_many 1 stood.siblings) in
       let keys : length E ≡ length (own stood.value) + length es = sym (ap length stood.keys) ∙
       length-map (own stood.value ++ es) (λ e. e.0) ∙ length-append (own stood.value) es in
-      by (length (own stood.value)) stood.row few records keys some
+      by (length (own stood.value)) stood.siblings few records keys some
     where
       at_least : (E : List (List ℕ)) → E ≢ [] → 1 ≤ length E
       at_least [] some = absurd (some refl)
       at_least (k ∷ E) some = omega arith
 
-      by : (n : ℕ) (row : Siblings Nothing)
-          → length (paths row) + width row ≤ 2 * length (entries row)
-          → length R ≡ suc (length (paths row)) → length E ≡ n + length (entries row) → E ≢ []
+      by : (n : ℕ) (siblings : Siblings Nothing)
+          → length (paths siblings) + width siblings ≤ 2 * length (entries siblings)
+          → length R ≡ suc (length (paths siblings)) → length E ≡ n + length (entries siblings) → E ≢ []
           → length R ≤ 2 * length E
       by n end few records keys some = omega (arith, at_least E some)
       by n (node l v c s) few records keys some = omega arith

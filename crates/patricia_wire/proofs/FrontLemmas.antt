@@ -10,7 +10,7 @@ use Rattle.patricia_model.specs.Siblings.{Siblings, end, node, own, entries, key
 use Rattle.patricia_model.specs.Siblings.{IsCanonicalWithin}
 use Rattle.patricia_model.specs.Points.{Has, AreApart}
 use Rattle.patricia_keys.proofs.KeyLemmas.{begins_either, Begins-trans, first_of}
-use Rattle.patricia_model.proofs.RowLemmas.{AllKeys, lacks_item}
+use Rattle.patricia_model.proofs.SiblingsLemmas.{AllKeys, lacks_item}
 use Rattle.patricia_model.proofs.UniqueLemmas.{has_entry}
 use Rattle.patricia_model.proofs.MemberLemmas.{Has-left, Has-right, Has-either, AreApart-append}
 use Rattle.patricia_model.proofs.MemberLemmas.{Has-behind, Has-behind_of, AreApart-behind}
@@ -19,11 +19,11 @@ use Rattle.patricia_model.proofs.PointLemmas.{has_prefixed, has_after, has_one, 
 use Rattle.patricia_model.proofs.PointLemmas.{within_own}
 use Rattle.patricia_wire.specs.Records.{Record}
 use Rattle.patricia_wire.specs.Forests.{Root}
-use Rattle.patricia_wire.specs.Internal.WrittenRows.{record_of, records_of}
+use Rattle.patricia_wire.specs.Internal.WrittenSiblings.{record_of, records_of}
 use Rattle.patricia_wire.specs.Writings.{IsTight}
 use Rattle.patricia_wire.specs.Counts.{IsCount, IsFront, LabelsAreFronts}
 use Rattle.patricia_wire.proofs.OneTree.{tight_within}
-use Rattle.patricia_wire.proofs.RowTrees.{stands_tree}
+use Rattle.patricia_wire.proofs.SiblingsTrees.{stands_tree}
 
 -- the byte lists that are not empty and begin this one
 abbrev firsts : List ℕ → List (List ℕ)
@@ -76,7 +76,7 @@ front_within S T w p f = record {
 }
 
 module _ {V : Type 0} where
-  -- the fronts of a row's keys, label by label
+  -- the fronts of the keys of siblings, label by label
   abbrev pub fronts : Siblings V → List (List ℕ)
   fronts end = []
   fronts (node l v c s) = firsts l ++ (map (λ p. l ++ p) (fronts c) ++ fronts s)
@@ -111,7 +111,7 @@ module _ {V : Type 0} where
   has_key P (e ∷ es) k all (inr h) = has_key P es k all.1 h
 
 module _ (item : List ℕ → Type 0) (kind : IsKeyKind item) {V : Type 0} where
-  -- each front of a row is a front of its keys
+  -- each front of siblings is a front of their keys
   fronts-of : (r : Siblings V) → IsCanonicalWithin item (Some 255) r → (p : List ℕ)
       → Has (fronts r) p → IsFront (keys_of (entries r)) p
   fronts-of end ok p h = absurd h
@@ -142,7 +142,7 @@ module _ (item : List ℕ → Type 0) (kind : IsKeyKind item) {V : Type 0} where
     ]
   ]
 
-  -- each front of a row's keys is one of the row
+  -- each front of their keys is one of the siblings'
   of-fronts : (r : Siblings V) → (p : List ℕ) → IsFront (keys_of (entries r)) p → Has (fronts r) p
   of-fronts end p f = absurd f.has
   of-fronts (node l v c s) p f = elim (has_one l (own v ++ entries c) (entries s) f.key f.has) [
@@ -174,7 +174,7 @@ module _ (item : List ℕ → Type 0) (kind : IsKeyKind item) {V : Type 0} where
           (Has-behind l (fronts c) (y ∷ q) found)))
 
   -- where items are bytes, what begins a label, or what the label begins, is no front of the rest
-  -- of its row
+  -- of its siblings
   apart_beside : AreSingle item → (l : List ℕ) (v : Option V) (c s : Siblings V)
       → IsCanonicalWithin item (Some 255) (node l v c s) → (p : List ℕ) → p ≢ []
       → (Begins p l ⊎ Begins l p) → Has (fronts s) p → ⊥
@@ -203,7 +203,7 @@ module _ (item : List ℕ → Type 0) (kind : IsKeyKind item) {V : Type 0} where
         ]
       ]
 
-  -- where items are bytes, no front of a row stands twice among them
+  -- where items are bytes, no front of siblings stands twice among them
   fronts-apart : AreSingle item → (r : Siblings V) → IsCanonicalWithin item (Some 255) r
       → AreApart (fronts r)
   fronts-apart single end ok = tt
@@ -233,18 +233,18 @@ module _ (item : List ℕ → Type 0) (kind : IsKeyKind item) where
       → LabelsAreFronts item R E
   labels_are_fronts R E root tight single =
       let stood = stands_tree item R E root in
-      let row = stood.row in
+      let siblings = stood.siblings in
       let ok = tight_within item R E stood tight in
-      let S = keys_of (own stood.value ++ entries row) in
-      let count : IsCount (IsFront S) (length (fronts row)) = record {
-        counted = fronts row;
-        once = fronts-apart item kind single row ok;
+      let S = keys_of (own stood.value ++ entries siblings) in
+      let count : IsCount (IsFront S) (length (fronts siblings)) = record {
+        counted = fronts siblings;
+        once = fronts-apart item kind single siblings ok;
         exactly = λ p. (
-          λ h. front_within (keys_of (entries row)) S (own_within stood.value (entries row)) p (fronts-of item kind row ok p h),
-          λ f. of-fronts item kind row p (front_within S (keys_of (entries row)) (within_own stood.value (entries row)) p f),
+          λ h. front_within (keys_of (entries siblings)) S (own_within stood.value (entries siblings)) p (fronts-of item kind siblings ok p h),
+          λ f. of-fronts item kind siblings p (front_within S (keys_of (entries siblings)) (within_own stood.value (entries siblings)) p f),
         );
         is = refl;
       } in
-      let sums : sum_by (λ (x : Record). length x.label) R ≡ length (fronts row) = ap
-      (sum_by (λ (x : Record). length x.label)) (sym stood.records) ∙ length-fronts 1 row in
-      subst (IsCount (IsFront E)) (sym sums) (subst (λ T. IsCount (IsFront T) (length (fronts row))) stood.keys count)
+      let sums : sum_by (λ (x : Record). length x.label) R ≡ length (fronts siblings) = ap
+      (sum_by (λ (x : Record). length x.label)) (sym stood.records) ∙ length-fronts 1 siblings in
+      subst (IsCount (IsFront E)) (sym sums) (subst (λ T. IsCount (IsFront T) (length (fronts siblings))) stood.keys count)

@@ -13,9 +13,9 @@ use Rattle.patricia_model.proofs.ValidLemmas.{keys_valid}
 use Rattle.patricia_wire.specs.Records.{Record}
 use Rattle.patricia_wire.specs.Forests.{Root}
 use Rattle.patricia_wire.specs.Writings.{Means}
-use Rattle.patricia_wire.specs.Internal.WrittenRows.{joined}
-use Rattle.patricia_wire.proofs.JoinedRows.{joined_is}
-use Rattle.patricia_wire.proofs.RowTrees.{Nothing, stands_tree}
+use Rattle.patricia_wire.specs.Internal.WrittenSiblings.{joined}
+use Rattle.patricia_wire.proofs.JoinedSiblings.{joined_is}
+use Rattle.patricia_wire.proofs.SiblingsTrees.{Nothing, stands_tree}
 
 module _ (item : List ℕ → Type 0) (kind : IsKeyKind item) where
   -- the keys of a tree of records are those of a finite map, and valid
@@ -23,10 +23,10 @@ module _ (item : List ℕ → Type 0) (kind : IsKeyKind item) where
       → (m : map.FinMap key_cmp Nothing) × (map.keys m ≡ S) × All (IsValid item) S
   keys_of_tree R S root =
       let tree = stands_tree item R S root in
-      let row = joined_is item kind tree.row tree.ok in
-      let inside = row.same in
-      let same = keys_map item kind tree.value (joined tree.row) row.ok ∙ (λ i. keys_of (own tree.value ++ inside i)) ∙ tree.keys in
-      (map_of tree.value (joined tree.row), same, subst (All (IsValid item)) same (keys_valid item kind tree.value (joined tree.row) row.ok))
+      let siblings = joined_is item kind tree.siblings tree.ok in
+      let inside = siblings.same in
+      let same = keys_map item kind tree.value (joined tree.siblings) siblings.ok ∙ (λ i. keys_of (own tree.value ++ inside i)) ∙ tree.keys in
+      (map_of tree.value (joined tree.siblings), same, subst (All (IsValid item)) same (keys_valid item kind tree.value (joined tree.siblings) siblings.ok))
 
 -- the order of entries is that of their keys
 below-keys : {V W : Type 0} (k : List ℕ) (xs : List (List ℕ × V)) (ys : List (List ℕ × W))
@@ -54,12 +54,12 @@ sorted-keys (x ∷ xs) (y ∷ ys) e =
     λ i. below i && rest i
 
 module _ (item : List ℕ → Type 0) (kind : IsKeyKind item) {V : Type 0} where
-  -- what bytes and values mean is the rows of a finite map, and its keys are valid
+  -- what bytes and values mean is the entries of a finite map, and its keys are valid
   pub meant_map : (w : ℕ) (b : List ℕ) (values : List V) (M : List (List ℕ × V))
       → Means item w b values M
       → (m : map.FinMap key_cmp V) × (map.entries m ≡ M) × All (IsValid item) (map.keys m)
   meant_map w b values M means =
       let (m, same, valid) = keys_of_tree item kind means.records (keys_of M) means.root in
       let sorted = subst T (sorted-keys (map.entries m) M same) (entries_sorted m) in
-      let rows = entries-from_sorted key_cmp M sorted in
-      (from_sorted M, rows, subst (λ es. All (IsValid item) (keys_of es)) (sym rows) valid)
+      let entries = entries-from_sorted key_cmp M sorted in
+      (from_sorted M, entries, subst (λ es. All (IsValid item) (keys_of es)) (sym entries) valid)

@@ -1,4 +1,4 @@
--- Bytes and values mean rows, or a fault is their first.
+-- Bytes and values mean entries, or a fault is their first.
 use Rattle.std.proofs.Common.{◌≡◌, ◌≢◌, ◌⊎◌, inl, inr, ℕ, zero, suc, ◌+◌, ◌<◌, ◌≤◌, Bool, true}
 use Rattle.std.proofs.Common.{false, List, [], ◌∷◌, ◌++◌, length, Option, Some, None, refl, sym, ap}
 use Rattle.std.proofs.Common.{subst, ◌∙◌, arith, append_assoc, append-nil}
@@ -55,14 +55,14 @@ set_or_clear true = inl refl
 set_or_clear false = inr refl
 
 module _ {V : Type 0} where
-  -- rows with these keys and these values, of which there are as many
-  rows_with : (E : List (List ℕ)) (values : List V) → length E ≡ length values
+  -- entries with these keys and these values, of which there are as many
+  entries_with : (E : List (List ℕ)) (values : List V) → length E ≡ length values
       → (M : List (List ℕ × V)) × (keys_of M ≡ E) × (values ≡ values_of M)
-  rows_with [] [] same = ([], refl, refl)
-  rows_with [] (v ∷ values) same = absurd (cc)
-  rows_with (k ∷ E) [] same = absurd (cc)
-  rows_with (k ∷ E) (v ∷ values) same =
-      let rest = rows_with E values (cc) in
+  entries_with [] [] same = ([], refl, refl)
+  entries_with [] (v ∷ values) same = absurd (cc)
+  entries_with (k ∷ E) [] same = absurd (cc)
+  entries_with (k ∷ E) (v ∷ values) same =
+      let rest = entries_with E values (cc) in
       let keys = rest.1 in
       let is = rest.2 in
       ((k, v) ∷ rest.0, (λ i. k ∷ keys i), (λ i. v ∷ is i))
@@ -266,7 +266,7 @@ module _ (item : List ℕ → Type 0) (kind : IsKeyKind item) where
       after : AllAfter D
       bytes : All (λ x. x < 256) rest
 
-    -- where nothing is due, the input means rows or has a first fault
+    -- where nothing is due, the input means entries or has a first fault
     ends : (left : ℕ) (before : List Record) (offset : ℕ) (rest : List ℕ)
         → IsSoFar left before [] offset rest → G
     ends left before offset (x ∷ rest) s =
@@ -279,8 +279,8 @@ module _ (item : List ℕ → Type 0) (kind : IsKeyKind item) where
 
         go : (E : List (List ℕ)) × Root item before E → (left ≡ 0) ⊎ (left ≢ 0) → G
         go (E, tree) (inl none) =
-            let rows = rows_with E values (omega (arith, s.counted, none, marks item before E tree)) in
-            meant rows.0 (record { records = before; spelled = spelled; root = subst (Root item before) (sym rows.1) tree; in_place = rows.2 })
+            let entries = entries_with E values (omega (arith, s.counted, none, marks item before E tree)) in
+            meant entries.0 (record { records = before; spelled = spelled; root = subst (Root item before) (sym entries.1) tree; in_place = entries.2 })
         go (E, tree) (inr some) = refused TooManyValues (first_too_many item (length values) w b before E s.read spelled tree (omega (arith, s.counted, some)))
 
     -- a record that keeps all rules is read
@@ -312,7 +312,7 @@ module _ (item : List ℕ → Type 0) (kind : IsKeyKind item) where
         rest_bytes [] y a = a
         rest_bytes (z ∷ x) y a = rest_bytes x y (All-tail (λ z. z < 256) z (x ++ y) a)
 
-    -- whatever of the bytes is left to be read, the input means rows or has a first fault
+    -- whatever of the bytes is left to be read, the input means entries or has a first fault
     run : (fuel left : ℕ) (before : List Record) (D : List Due) (offset : ℕ) (rest : List ℕ)
         → length rest < fuel → IsSoFar left before D offset rest → G
     run zero left before D offset rest less s = absurd (omega (arith, less))
@@ -337,7 +337,7 @@ module _ (item : List ℕ → Type 0) (kind : IsKeyKind item) where
           ))
     ]
 
-    -- so the input means rows or has a first fault
+    -- so the input means entries or has a first fault
     pub meant_or_refused : All (λ x. x < 256) b → G
     meant_or_refused bytes =
         run (suc (length b)) (length values) [] _ 0 b (omega arith) (record {
@@ -360,5 +360,5 @@ meant_or_first item kind V told w b values bytes =
 
 -- and none is neither
 pub never_neither : (item : List ℕ → Type 0) → IsKeyKind item → (V : Type 0) → NeverLacksBoth item V
-never_neither item kind V w b values bytes no_rows no_fault =
-    meant_or_refused item kind w b values ⊥ (λ l yes not_so. not_so yes) no_rows no_fault bytes
+never_neither item kind V w b values bytes no_entries no_fault =
+    meant_or_refused item kind w b values ⊥ (λ l yes not_so. not_so yes) no_entries no_fault bytes

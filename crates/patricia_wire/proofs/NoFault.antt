@@ -12,8 +12,8 @@ use Rattle.patricia_model.specs.Siblings.{IsBefore}
 use Rattle.patricia_keys.proofs.KeyLemmas.{IsValid-nil}
 use Rattle.patricia_wire.specs.Records.{Record, Encodes, EncodeAll, bit_if, after_flags}
 use Rattle.patricia_wire.specs.Forests.{Root}
-use Rattle.patricia_wire.specs.Internal.WrittenRows.{record_of, records_of, tree_records}
-use Rattle.patricia_wire.specs.Internal.WrittenRows.{IsWritable}
+use Rattle.patricia_wire.specs.Internal.WrittenSiblings.{record_of, records_of, tree_records}
+use Rattle.patricia_wire.specs.Internal.WrittenSiblings.{IsWritable}
 use Rattle.patricia_wire.specs.Writings.{Means}
 use Rattle.patricia_wire.specs.Faults.{value_marks, IsLastUpTo, Breaks, other_level, labelled_root}
 use Rattle.patricia_wire.specs.Faults.{root_of_siblings, no_label, not_valid, falling, bare}
@@ -23,9 +23,9 @@ use Rattle.patricia_wire.specs.declared.error.DecodeError.{DecodeError}
 use Rattle.patricia_wire.proofs.CountLemmas.{length-prefixed}
 use Rattle.patricia_wire.proofs.Orders.{before_compares}
 use Rattle.patricia_wire.proofs.Places.{nil_split, deep, tree_due, behind, IsGood, good, rising}
-use Rattle.patricia_wire.proofs.OneMeaning.{row_of}
+use Rattle.patricia_wire.proofs.OneMeaning.{siblings_told}
 use Rattle.patricia_wire.proofs.Spellings.{record_same, one_list, length-high_first}
-use Rattle.patricia_wire.proofs.RowTrees.{Nothing, StandsTree, stands_tree}
+use Rattle.patricia_wire.proofs.SiblingsTrees.{Nothing, StandsTree, stands_tree}
 
 -- the bytes of a record are some
 pub not_empty : (w : ℕ) (r : Record) (b c : List ℕ) → Encodes w r b → [] ≡ b ++ c → ⊥
@@ -69,13 +69,13 @@ marks_own : (v : Option Nothing) → bit_if (is_some v) 1 ≡ length (own v)
 marks_own None = refl
 marks_own (Some x) = refl
 
--- the records of a row have a value mark for each entry
-marks_row : (d : ℕ) (row : Siblings Nothing) → value_marks (records_of d row) ≡ length (entries row)
-marks_row d end = refl
-marks_row d (node l v c s) = omega (
+-- the records of siblings have a value mark for each entry
+marks_siblings : (d : ℕ) (siblings : Siblings Nothing) → value_marks (records_of d siblings) ≡ length (entries siblings)
+marks_siblings d end = refl
+marks_siblings d (node l v c s) = omega (
   arith,
-  marks_row (d + 1) c,
-  marks_row d s,
+  marks_siblings (d + 1) c,
+  marks_siblings d s,
   marks_own v,
   sum_by-cons one_if
       (record_of d l v c s) (records_of (d + 1) c ++ records_of d s),
@@ -88,15 +88,15 @@ marks_row d (node l v c s) = omega (
 )
 
 -- and so have those of a tree, with the root's
-marks_tree : (v : Option Nothing) (row : Siblings Nothing)
-    → value_marks (tree_records v row) ≡ length (own v ++ entries row)
-marks_tree v row = omega (
+marks_tree : (v : Option Nothing) (siblings : Siblings Nothing)
+    → value_marks (tree_records v siblings) ≡ length (own v ++ entries siblings)
+marks_tree v siblings = omega (
   arith,
-  marks_row 1 row,
+  marks_siblings 1 siblings,
   marks_own v,
-  sum_by-cons one_if (record_of 0 [] v row end)
-      (records_of 1 row),
-  length-append (own v) (entries row),
+  sum_by-cons one_if (record_of 0 [] v siblings end)
+      (records_of 1 siblings),
+  length-append (own v) (entries siblings),
 )
 
 module _ (item : List ℕ → Type 0) where
@@ -104,7 +104,7 @@ module _ (item : List ℕ → Type 0) where
   pub marks : (R : List Record) (E : List (List ℕ)) → Root item R E → value_marks R ≡ length E
   marks R E root =
       let t = stands_tree item R E root in
-      ap value_marks (sym t.records) ∙ marks_tree t.value t.row ∙ sym (length-map (own t.value ++ entries t.row) (λ e. e.0)) ∙ ap length t.keys
+      ap value_marks (sym t.records) ∙ marks_tree t.value t.siblings ∙ sym (length-map (own t.value ++ entries t.siblings) (λ e. e.0)) ∙ ap length t.keys
 
   -- no tree is a proper prefix of another
   whole : (R P Y : List Record) (E F : List (List ℕ)) → Root item R E → Root item P F → R ≡ P ++ Y
@@ -112,35 +112,35 @@ module _ (item : List ℕ → Type 0) where
   whole R P Y E F x y e =
       let a = stands_tree item R E x in
       let b = stands_tree item P F y in
-      let same : tree_records a.value a.row ≡ tree_records b.value b.row ++ Y = a.records ∙ e ∙ ap (λ p. p ++ Y) (sym b.records) in
-      let heads : record_of 0 [] a.value a.row end ≡ record_of 0 [] b.value b.row end = cc in
-      let tails : records_of 1 a.row ≡ records_of 1 b.row ++ Y = cc in
-      let rest = row_of 1 a.row b.row [] Y (ap (λ (h : Record). h.child) heads) (append-nil (records_of 1 a.row) ∙ tails) in
+      let same : tree_records a.value a.siblings ≡ tree_records b.value b.siblings ++ Y = a.records ∙ e ∙ ap (λ p. p ++ Y) (sym b.records) in
+      let heads : record_of 0 [] a.value a.siblings end ≡ record_of 0 [] b.value b.siblings end = cc in
+      let tails : records_of 1 a.siblings ≡ records_of 1 b.siblings ++ Y = cc in
+      let rest = siblings_told 1 a.siblings b.siblings [] Y (ap (λ (h : Record). h.child) heads) (append-nil (records_of 1 a.siblings) ∙ tails) in
       sym rest.1
 
   -- a record of a tree keeps what is asked of it
-  root_or : (v : Option Nothing) (row : Siblings Nothing) (before : List Record) (r : Record)
-      (Y : List Record) → IsWritable item row → tree_records v row ≡ before ++ (r ∷ Y)
+  root_or : (v : Option Nothing) (siblings : Siblings Nothing) (before : List Record) (r : Record)
+      (Y : List Record) → IsWritable item siblings → tree_records v siblings ≡ before ++ (r ∷ Y)
       → ((before ≡ []) × (r.label ≡ []) × (r.sibling ≡ false)) ⊎ ((before ≢ []) × IsGood item r)
-  root_or v row [] r Y ok e =
-      let head : record_of 0 [] v row end ≡ r = cc in
+  root_or v siblings [] r Y ok e =
+      let head : record_of 0 [] v siblings end ≡ r = cc in
       inl (refl, ap (λ (h : Record). h.label) (sym head), ap (λ (h : Record). h.sibling) (sym head))
-  root_or v row (h ∷ before) r Y ok e =
-      let tails : records_of 1 row ≡ before ++ (r ∷ Y) = cc in
-      inr ((λ none. cc), good item 1 row ok before r Y tails)
+  root_or v siblings (h ∷ before) r Y ok e =
+      let tails : records_of 1 siblings ≡ before ++ (r ∷ Y) = cc in
+      inr ((λ none. cc), good item 1 siblings ok before r Y tails)
 
   -- a record of a tree comes after the sibling before it
-  tree_rising : (v : Option Nothing) (row : Siblings Nothing) (before : List Record) (r : Record)
-      (Y : List Record) → IsWritable item row → tree_records v row ≡ before ++ (r ∷ Y)
+  tree_rising : (v : Option Nothing) (siblings : Siblings Nothing) (before : List Record) (r : Record)
+      (Y : List Record) → IsWritable item siblings → tree_records v siblings ≡ before ++ (r ∷ Y)
       → (x : Record) → IsLastUpTo before r.level x → x.level ≡ r.level
       → IsBefore item x.label r.label
-  tree_rising v row [] r Y ok e x up same = absurd (nil_split up.ahead x up.after up.is)
-  tree_rising v row (h ∷ before) r Y ok e x up same =
-      let head : record_of 0 [] v row end ≡ h = cc in
-      let tails : records_of 1 row ≡ before ++ (r ∷ Y) = cc in
+  tree_rising v siblings [] r Y ok e x up same = absurd (nil_split up.ahead x up.after up.is)
+  tree_rising v siblings (h ∷ before) r Y ok e x up same =
+      let head : record_of 0 [] v siblings end ≡ h = cc in
+      let tails : records_of 1 siblings ≡ before ++ (r ∷ Y) = cc in
       elim (behind h before r.level x up) [
-        | inl first ↦ absurd (omega (arith, same, ap (λ (g : Record). g.level) (head ∙ first.0), deep 1 row before r Y tails))
-        | inr later ↦ rising item 1 row ok before r Y tails x later same
+        | inl first ↦ absurd (omega (arith, same, ap (λ (g : Record). g.level) (head ∙ first.0), deep 1 siblings before r Y tails))
+        | inr later ↦ rising item 1 siblings ok before r Y tails x later same
       ]
 
   -- no record of a tree breaks a rule, where there are as many values as keys
@@ -152,15 +152,15 @@ module _ (item : List ℕ → Type 0) where
       t : StandsTree item R E
       t = stands_tree item R E root
 
-      place : tree_records t.value t.row ≡ before ++ (r ∷ Y)
+      place : tree_records t.value t.siblings ≡ before ++ (r ∷ Y)
       place = t.records ∙ e
 
       kind :
           ((before ≡ []) × (r.label ≡ []) × (r.sibling ≡ false)) ⊎ ((before ≢ []) × IsGood item r)
-      kind = root_or t.value t.row before r Y t.ok place
+      kind = root_or t.value t.siblings before r Y t.ok place
 
       go : (k : ℕ) (f : DecodeError) → Breaks item before r n at k f → ⊥
-      go k f (other_level h) = h (tree_due t.value t.row before r Y place)
+      go k f (other_level h) = h (tree_due t.value t.siblings before r Y place)
       go k f (labelled_root none some) = elim kind [
         | inl root ↦ some root.1
         | inr inner ↦ inner.0 none
@@ -177,7 +177,7 @@ module _ (item : List ℕ → Type 0) where
         | inl root ↦ h (subst (IsValid item) (sym root.1) (IsValid-nil item))
         | inr inner ↦ h inner.1.valid
       ]
-      go k f (falling x last same h) = h (before_compares item x.label r.label (tree_rising t.value t.row before r Y t.ok place x last same))
+      go k f (falling x last same h) = h (before_compares item x.label r.label (tree_rising t.value t.siblings before r Y t.ok place x last same))
       go k f (bare later value child) = elim kind [
         | inl root ↦ later root.0
         | inr inner ↦ elim inner.1.marked [
@@ -220,7 +220,7 @@ module _ (item : List ℕ → Type 0) where
       let same = one_list w P R b other spelled in
       omega (arith, marks R E root, ap value_marks same, count)
 
-  -- no fault stands in what means rows
+  -- no fault stands in what means entries
   pub no_fault_meant : {V : Type 0} (w : ℕ) (b : List ℕ) (values : List V) (M : List (List ℕ × V))
       (k at : ℕ) (e : DecodeError) → Means item w b values M
       → Stands item w b (length values) k at e → ⊥

@@ -1,4 +1,5 @@
--- What stands at each place of a row's records: the level that is due, and siblings that rise.
+-- What stands at each place of the records of siblings: the level that is due, and siblings that
+-- rise.
 use Rattle.std.proofs.Common.{◌≡◌, ℕ, ◌+◌, ◌<◌, ◌≤◌, ◌≢◌, ◌⊎◌, inl, inr, true, false, List, [], ◌∷◌}
 use Rattle.std.proofs.Common.{◌++◌, Option, refl, sym, ap, subst, ◌∙◌, arith}
 use Rattle.std.specs.Prelude.{All}
@@ -7,12 +8,13 @@ use Rattle.std.proofs.lemmas.List.Elements.{All-nil, All-cons, All-head, All-tai
 use Rattle.patricia_keys.specs.Keys.{IsValid}
 use Rattle.patricia_model.specs.Siblings.{Siblings, end, node, IsBefore, IsBeforeSiblings}
 use Rattle.patricia_wire.specs.Records.{Record}
-use Rattle.patricia_wire.specs.Internal.WrittenRows.{has_node, record_of, records_of, tree_records}
-use Rattle.patricia_wire.specs.Internal.WrittenRows.{IsWritable}
+use Rattle.patricia_wire.specs.Internal.WrittenSiblings.{has_node, record_of, records_of}
+use Rattle.patricia_wire.specs.Internal.WrittenSiblings.{tree_records}
+use Rattle.patricia_wire.specs.Internal.WrittenSiblings.{IsWritable}
 use Rattle.patricia_wire.specs.Faults.{IsLastUpTo, Waits, IsLastWaiting, IsDue, at_first, below}
 use Rattle.patricia_wire.specs.Faults.{beside}
-use Rattle.patricia_wire.proofs.RowTrees.{Nothing}
-use Rattle.patricia_wire.proofs.TightRows.{EndsLow, ends_low}
+use Rattle.patricia_wire.proofs.SiblingsTrees.{Nothing}
+use Rattle.patricia_wire.proofs.TightSiblings.{EndsLow, ends_low}
 
 module _ (P : Record → Type 0) where
   -- what each of a list keeps, the front of the list keeps
@@ -55,7 +57,7 @@ last_of h [] low = ([], h, refl, low)
 last_of h (x ∷ C) low = let rest = last_of x C low in (h ∷ rest.0, rest.1, ap (λ r. h ∷ r) rest.2, rest.3)
 
 module _ {V : Type 0} where
-  -- a place in the records of a row: the first node, below it or beside it
+  -- a place in the records of siblings: the first node, below it or beside it
   data Place (d : ℕ) (l : List ℕ) (v : Option V) (c s : Siblings V) (ahead : List Record) (r : Record) (after : List Record) : Type 0 where
     here : ahead ≡ [] → record_of d l v c s ≡ r → records_of (d + 1) c ++ records_of d s ≡ after
         → Place d l v c s ahead r after
@@ -65,7 +67,7 @@ module _ {V : Type 0} where
     past : (inner : List Record) → ahead ≡ record_of d l v c s ∷ (records_of (d + 1) c ++ inner)
         → records_of d s ≡ inner ++ (r ∷ after) → Place d l v c s ahead r after
 
-  -- a record of a row is its first node's, or one below that node or beside it
+  -- a record of siblings is that of the first of them, or one below that node or beside it
   place : (d : ℕ) (l : List ℕ) (v : Option V) (c s : Siblings V) (ahead : List Record) (r : Record)
       (after : List Record) → records_of d (node l v c s) ≡ ahead ++ (r ∷ after)
       → Place d l v c s ahead r after
@@ -81,9 +83,9 @@ module _ {V : Type 0} where
         | inr x ↦ (let mid = x.1 in past x.0 (λ i. sym head i ∷ sym mid i) x.2)
       ]
 
-  -- no record of a row lies above its level
-  pub deep : (d : ℕ) (row : Siblings V) (ahead : List Record) (r : Record) (after : List Record)
-      → records_of d row ≡ ahead ++ (r ∷ after) → d ≤ r.level
+  -- no record of siblings lies above their level
+  pub deep : (d : ℕ) (siblings : Siblings V) (ahead : List Record) (r : Record) (after : List Record)
+      → records_of d siblings ≡ ahead ++ (r ∷ after) → d ≤ r.level
   deep d end ahead r after e = absurd (nil_split ahead r after e)
   deep d (node l v c s) ahead r after e = elim (place d l v c s ahead r after e) [
     | here a b f ↦ omega (arith, ap (λ (h : Record). h.level) b)
@@ -91,16 +93,16 @@ module _ {V : Type 0} where
     | past inner a b ↦ deep d s inner r after b
   ]
 
-  -- where a row lies below a level, so do all its records
-  all_above : (k d : ℕ) (row : Siblings V) → k < d → All (λ y. k < y.level) (records_of d row)
+  -- where siblings lie below a level, so do all their records
+  all_above : (k d : ℕ) (siblings : Siblings V) → k < d → All (λ y. k < y.level) (records_of d siblings)
   all_above k d end h = All-nil (λ y. k < y.level)
   all_above k d (node l v c s) h =
       All-cons (λ y. k < y.level) (record_of d l v c s) (records_of (d + 1) c ++ records_of d s) h
       (All-append (λ y. k < y.level) (records_of (d + 1) c) (records_of d s) (all_above k (d + 1) c (omega arith)) (all_above k d s h))
 
-  -- a row that has a record has a node
-  is_child : (d : ℕ) (row : Siblings V) (ahead : List Record) (r : Record) (after : List Record)
-      → records_of d row ≡ ahead ++ (r ∷ after) → has_node row ≡ true
+  -- where siblings have a record there is a node
+  is_child : (d : ℕ) (siblings : Siblings V) (ahead : List Record) (r : Record) (after : List Record)
+      → records_of d siblings ≡ ahead ++ (r ∷ after) → has_node siblings ≡ true
   is_child d end ahead r after e = absurd (nil_split ahead r after e)
   is_child d (node l v c s) ahead r after e = refl
 
@@ -116,9 +118,9 @@ module _ {V : Type 0} where
   met P d C end there all = absurd (cc)
   met P d C (node m w b t) there all = (record_of d m w b t, refl, All-middle P C (record_of d m w b t) (records_of (d + 1) b ++ records_of d t) all)
 
-  -- no record of a row waits behind the row
-  pub waited : (d : ℕ) (row : Siblings V) (between : List Record) (y : Record) (rest : List Record)
-      → records_of d row ≡ between ++ (y ∷ rest) → Waits y rest → ⊥
+  -- no record of siblings waits behind the siblings
+  pub waited : (d : ℕ) (siblings : Siblings V) (between : List Record) (y : Record) (rest : List Record)
+      → records_of d siblings ≡ between ++ (y ∷ rest) → Waits y rest → ⊥
   waited d end between y rest e w = nil_split between y rest e
   waited d (node l v c s) between y rest e w = elim (place d l v c s between y rest e) [
     | here a b f ↦
@@ -151,10 +153,10 @@ module _ {V : Type 0} where
       } in
       subst (λ r. IsDue r d) (sym same) (beside (B ++ last.0) last.1 h last.3 (subst (λ r. IsLastWaiting r h) same waiting))
 
-  -- where the level of a row is due, each of its records has the level that is due there
-  pub due : (d : ℕ) (row : Siblings V) (B : List Record) → IsDue B d
+  -- where the level of siblings is due, each of their records has the level that is due there
+  pub due : (d : ℕ) (siblings : Siblings V) (B : List Record) → IsDue B d
       → (ahead : List Record) (r : Record) (after : List Record)
-      → records_of d row ≡ ahead ++ (r ∷ after) → IsDue (B ++ ahead) r.level
+      → records_of d siblings ≡ ahead ++ (r ∷ after) → IsDue (B ++ ahead) r.level
   due d end B given ahead r after e = absurd (nil_split ahead r after e)
   due d (node l v c s) B given ahead r after e = elim (place d l v c s ahead r after e) [
     | here a b f ↦ subst (λ x. IsDue x r.level) (sym (append-nil B) ∙ ap (λ x. B ++ x) (sym a)) (subst (IsDue B) (ap (λ (h : Record). h.level) b) given)
@@ -171,17 +173,17 @@ module _ {V : Type 0} where
 
   -- each record of a tree lies at the level that is due
   pub tree_due :
-      (v : Option V) (row : Siblings V) (before : List Record) (r : Record) (after : List Record)
-      → tree_records v row ≡ before ++ (r ∷ after) → IsDue before r.level
-  tree_due v row [] r after e =
-      let head : record_of 0 [] v row end ≡ r = cc in
+      (v : Option V) (siblings : Siblings V) (before : List Record) (r : Record) (after : List Record)
+      → tree_records v siblings ≡ before ++ (r ∷ after) → IsDue before r.level
+  tree_due v siblings [] r after e =
+      let head : record_of 0 [] v siblings end ≡ r = cc in
       subst (IsDue []) (ap (λ (h : Record). h.level) head) at_first
-  tree_due v row (h ∷ before) r after e =
-      let root = record_of 0 [] v row end in
+  tree_due v siblings (h ∷ before) r after e =
+      let root = record_of 0 [] v siblings end in
       let head : root ≡ h = cc in
-      let tails : records_of 1 row ≡ before ++ (r ∷ after) = cc in
+      let tails : records_of 1 siblings ≡ before ++ (r ∷ after) = cc in
       subst (λ x. IsDue x r.level) (ap (λ x. x ∷ before) head)
-      (due 1 row (root ∷ []) (below [] root (is_child 1 row before r after tails)) before r
+      (due 1 siblings (root ∷ []) (below [] root (is_child 1 siblings before r after tails)) before r
       after tails)
 
 -- the last record up to a level is the first of the list, or it is one of the rest
@@ -216,16 +218,16 @@ skip (h ∷ C) inner d x up = elim (behind h (C ++ inner) d x up) [
     right (c ∷ C) all = right C (All-tail (λ y. d < y.level) c (C ++ inner) all)
 
 module _ (item : List ℕ → Type 0) where
-  -- a record of a row by itself
+  -- a record of siblings by itself
   pub record IsGood (r : Record) : Type 0 where
     pub nonempty : r.label ≢ []
     pub valid : IsValid item r.label
     pub marked : (r.value ≡ true) ⊎ (r.child ≡ true)
 
   -- each record below the root keeps the rules of its label and marks
-  pub good : (d : ℕ) (row : Siblings Nothing) → IsWritable item row
+  pub good : (d : ℕ) (siblings : Siblings Nothing) → IsWritable item siblings
       → (ahead : List Record) (r : Record) (after : List Record)
-      → records_of d row ≡ ahead ++ (r ∷ after) → IsGood r
+      → records_of d siblings ≡ ahead ++ (r ∷ after) → IsGood r
   good d end ok ahead r after e = absurd (nil_split ahead r after e)
   good d (node l v c s) ok ahead r after e = elim (place d l v c s ahead r after e) [
     | here a b f ↦ subst IsGood b (record { nonempty = ok.nonempty; valid = ok.valid; marked = ok.marked })
@@ -233,7 +235,7 @@ module _ (item : List ℕ → Type 0) where
     | past inner a b ↦ good d s ok.sibling inner r after b
   ]
 
-  -- a record of a row that none of the row before it comes up to is its first
+  -- a record of siblings that none of those before it comes up to is their first
   first_beside : (d : ℕ) (l : List ℕ) (s : Siblings Nothing) → IsBeforeSiblings item l s
       → (inner : List Record) (r : Record) (after : List Record)
       → records_of d s ≡ inner ++ (r ∷ after) → All (λ y. r.level < y.level) inner
@@ -247,9 +249,9 @@ module _ (item : List ℕ → Type 0) where
       absurd (omega (arith, ap (λ (h : Record). h.level) head, All-head (λ y. r.level < y.level) i inner all, deep d (node m w b t) (i ∷ inner) r after e))
 
   -- siblings rise
-  pub rising : (d : ℕ) (row : Siblings Nothing) → IsWritable item row
+  pub rising : (d : ℕ) (siblings : Siblings Nothing) → IsWritable item siblings
       → (ahead : List Record) (r : Record) (after : List Record)
-      → records_of d row ≡ ahead ++ (r ∷ after) → (x : Record) → IsLastUpTo ahead r.level x
+      → records_of d siblings ≡ ahead ++ (r ∷ after) → (x : Record) → IsLastUpTo ahead r.level x
       → x.level ≡ r.level → IsBefore item x.label r.label
   rising d end ok ahead r after e x up same = absurd (nil_split ahead r after e)
   rising d (node l v c s) ok ahead r after e x up same = elim (place d l v c s ahead r after e) [

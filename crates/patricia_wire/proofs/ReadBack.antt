@@ -10,12 +10,12 @@ use Rattle.patricia_wire.proofs.NoFault.{no_fault_meant}
 use Rattle.patricia_wire.proofs.OneMeaning.{one_meaning}
 
 module _ (item : List ℕ → Type 0) {V : Type 0} where
-  -- tree bytes mean their rows, and there is one meaning
-  pub reads_back : (w : ℕ) (b : List ℕ) (rows M : List (List ℕ × V)) → AreTreeBytes item w b rows
-      → Means item w b (values_of rows) M → M ≡ rows
-  reads_back w b rows M x means = one_meaning item w b (values_of rows) M rows means x.means
+  -- tree bytes mean their entries, and there is one meaning
+  pub reads_back : (w : ℕ) (b : List ℕ) (entries M : List (List ℕ × V)) → AreTreeBytes item w b entries
+      → Means item w b (values_of entries) M → M ≡ entries
+  reads_back w b entries M x means = one_meaning item w b (values_of entries) M entries means x.means
 
-  -- bytes and values that mean rows have no first fault
+  -- bytes and values that mean entries have no first fault
   pub no_first_fault :
       (w : ℕ) (b : List ℕ) (values : List V) (M : List (List ℕ × V)) (e : DecodeError)
       → Means item w b values M → IsFirst item w b (length values) e → ⊥

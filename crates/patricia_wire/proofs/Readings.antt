@@ -10,12 +10,12 @@ use Rattle.patricia_wire.specs.Records.{Record}
 use Rattle.patricia_wire.specs.Forests.{Root}
 use Rattle.patricia_wire.specs.Internal.Readings.{Due, due_where, due_behind, IsRead, nothing}
 use Rattle.patricia_wire.specs.Internal.Readings.{one_more}
-use Rattle.patricia_wire.specs.Internal.WrittenRows.{record_of, records_of, tree_records}
+use Rattle.patricia_wire.specs.Internal.WrittenSiblings.{record_of, records_of, tree_records}
 use Rattle.patricia_wire.specs.Faults.{IsLastUpTo, Waits, IsLastWaiting, IsDue, at_first, below}
 use Rattle.patricia_wire.specs.Faults.{beside, IsUnfinished, other_level, root_of_siblings}
 use Rattle.patricia_wire.proofs.Places.{All-left, All-middle, nil_split, low_head, waited}
-use Rattle.patricia_wire.proofs.RowTrees.{Nothing, stands_tree}
-use Rattle.patricia_wire.proofs.TightRows.{EndsLow}
+use Rattle.patricia_wire.proofs.SiblingsTrees.{Nothing, stands_tree}
+use Rattle.patricia_wire.proofs.TightSiblings.{EndsLow}
 
 -- numbers are equal where they cannot be told apart
 pub same_number : (m n : ℕ) → ((m ≢ n) → ⊥) → m ≡ n
@@ -379,24 +379,24 @@ module _ (item : List ℕ → Type 0) where
       v : Option Nothing
       v = (let t = stands_tree item before E tree in t.value)
 
-      row : Siblings Nothing
-      row = (let t = stands_tree item before E tree in t.row)
+      top : Siblings Nothing
+      top = (let t = stands_tree item before E tree in t.siblings)
 
-      records : tree_records v row ≡ before
+      records : tree_records v top ≡ before
       records = (let t = stands_tree item before E tree in t.records)
 
-      waiting : (A : List Record) (x : Record) (Z : List Record) → tree_records v row ≡ A ++ (x ∷ Z)
+      waiting : (A : List Record) (x : Record) (Z : List Record) → tree_records v top ≡ A ++ (x ∷ Z)
           → Waits x Z → ⊥
       waiting [] x Z e w =
-          let head : record_of 0 [] v row end ≡ x = cc in
+          let head : record_of 0 [] v top end ≡ x = cc in
           let no : false ≡ true = ap (λ (h : Record). h.sibling) head ∙ w.0 in
           cc
-      waiting (a ∷ A) x Z e w = (let tails : records_of 1 row ≡ A ++ (x ∷ Z) = cc in waited 1 row A x Z tails w)
+      waiting (a ∷ A) x Z e w = (let tails : records_of 1 top ≡ A ++ (x ∷ Z) = cc in waited 1 top A x Z tails w)
 
       fresh : (f : Due) → IsFresh before f → ⊥
-      fresh f (root b l n) = (let none : tree_records v row ≡ [] = records ∙ b in cc)
+      fresh f (root b l n) = (let none : tree_records v top ≡ [] = records ∙ b in cc)
       fresh f (child ahead r b c l n) =
-          let low = subst EndsLow (records ∙ b) (low_head 0 [] v row end) in
+          let low = subst EndsLow (records ∙ b) (low_head 0 [] v top end) in
           let no : true ≡ false = sym c ∙ ends_at ahead r low in
           cc
 

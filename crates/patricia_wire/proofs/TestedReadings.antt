@@ -22,8 +22,8 @@ use Rattle.patricia_wire.specs.Faults.{value_marks, Reads, IsFirst}
 use Rattle.patricia_wire.proofs.Orders.{before_compares}
 use Rattle.patricia_wire.proofs.ReadingsFaults.{faulty, faultless}
 use Rattle.patricia_wire.proofs.ReadingsFirst.{first_in_record}
-use Rattle.patricia_wire.proofs.TestedRows.{are_bytes, byte_valid, either, filled_of, has_room}
-use Rattle.patricia_wire.proofs.TestedRows.{byte_room, byte_rooms}
+use Rattle.patricia_wire.proofs.TestedSiblings.{are_bytes, byte_valid, either, filled_of, has_room}
+use Rattle.patricia_wire.proofs.TestedSiblings.{byte_room, byte_rooms}
 use Rattle.patricia_wire.proofs.Spellings.{clean_spells, clean_spell_all}
 
 -- each rule passes the test

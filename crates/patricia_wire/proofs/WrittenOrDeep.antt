@@ -9,17 +9,17 @@ use Rattle.patricia_keys.proofs.KeyLemmas.{valid_bytes}
 use Rattle.patricia_model.specs.Siblings.{Siblings, end, node, own, entries, keys_of, IsCanonical}
 use Rattle.patricia_model.specs.Siblings.{IsCanonicalWithin}
 use Rattle.patricia_wire.specs.Records.{Record, HasRoom, canonical_bytes_of}
-use Rattle.patricia_wire.specs.Internal.WrittenRows.{record_of, records_of, tree_records}
-use Rattle.patricia_wire.specs.Internal.WrittenRows.{IsWritable}
+use Rattle.patricia_wire.specs.Internal.WrittenSiblings.{record_of, records_of, tree_records}
+use Rattle.patricia_wire.specs.Internal.WrittenSiblings.{IsWritable}
 use Rattle.patricia_wire.specs.Writings.{Canon, TooDeep}
-use Rattle.patricia_wire.proofs.CutRows.{cut_row}
+use Rattle.patricia_wire.proofs.CutSiblings.{cut_siblings}
 use Rattle.patricia_wire.proofs.OneTree.{one_tree}
-use Rattle.patricia_wire.proofs.RowTrees.{tree_of}
-use Rattle.patricia_wire.proofs.RowsOfMaps.{held}
+use Rattle.patricia_wire.proofs.SiblingsTrees.{tree_of}
+use Rattle.patricia_wire.proofs.SiblingsOfMaps.{held}
 use Rattle.patricia_model.proofs.TreeLemmas.{keys_map}
 use Rattle.std.specs.FinMap as map
 use Rattle.patricia_wire.proofs.Spellings.{positive}
-use Rattle.patricia_wire.proofs.TightRows.{within_writable, within_apart}
+use Rattle.patricia_wire.proofs.TightSiblings.{within_writable, within_apart}
 
 module _ (P : Record → Type 0) where
   -- what holds of the first holds of some
@@ -50,7 +50,7 @@ not_deep w R room (k, y, h, e, deep) = let fits = subst (HasRoom w) e (room k y 
 
 module _ (item : List ℕ → Type 0) (kind : IsKeyKind item) where
   module _ {V : Type 0} where
-    -- each record of a row has room in w bytes, or some record lies too deep for them
+    -- each record of siblings has room in w bytes, or some record lies too deep for them
     room_or_deep : (w d : ℕ) (r : Siblings V) → IsWritable item r
         → All (HasRoom w) (records_of d r) ⊎ Any (IsDeep w) (records_of d r)
     room_or_deep w d end ok = inl (All-nil (HasRoom w))
@@ -88,7 +88,7 @@ module _ (item : List ℕ → Type 0) (kind : IsKeyKind item) where
               room)
         ]
 
-    -- a row within the limit of labels is written, or lies too deep
+    -- siblings within the limit of labels are written, or lie too deep
     within_written : (w : ℕ) (v : Option V) (r : Siblings V) → IsCanonicalWithin item (Some 255) r
         → ((b : List ℕ) × Canon item w b (keys_of (own v ++ entries r))) ⊎ TooDeep item w (keys_of (own v ++ entries r))
     within_written w v r within =
@@ -108,20 +108,20 @@ module _ (item : List ℕ → Type 0) (kind : IsKeyKind item) where
           | inr deep ↦ inr (record { records = tree_records v r; root = tree_of item v r ok; tight = tight; deep = deep })
         ]
 
-    -- the keys of a row in memory have an encoding, or lie too deep
-    row_written : (w : ℕ) (v : Option V) (r : Siblings V) → IsCanonical item r
+    -- the keys of siblings in memory have an encoding, or lie too deep
+    siblings_written : (w : ℕ) (v : Option V) (r : Siblings V) → IsCanonical item r
         → ((b : List ℕ) × Canon item w b (keys_of (own v ++ entries r))) ⊎ TooDeep item w (keys_of (own v ++ entries r))
-    row_written w v r ok =
-        let cut = cut_row item kind r ok in
+    siblings_written w v r ok =
+        let cut = cut_siblings item kind r ok in
         subst (λ es. ((b : List ℕ) × Canon item w b (keys_of (own v ++ es))) ⊎ TooDeep item w
-        (keys_of (own v ++ es))) cut.same (within_written w v cut.row cut.ok)
+        (keys_of (own v ++ es))) cut.same (within_written w v cut.siblings cut.ok)
 
     -- the keys of a map have an encoding, or lie too deep
     pub written_or_deep : (w : ℕ) (m : map.FinMap key_cmp V) → All (IsValid item) (map.keys m)
         → ((b : List ℕ) × Canon item w b (map.keys m)) ⊎ TooDeep item w (map.keys m)
     written_or_deep w m valid =
         let (v, r, ok, same) = held item kind m valid in
-        subst (λ S. ((b : List ℕ) × Canon item w b S) ⊎ TooDeep item w S) (sym (keys_map item kind v r ok) ∙ ap map.keys same) (row_written w v r ok)
+        subst (λ S. ((b : List ℕ) × Canon item w b S) ⊎ TooDeep item w S) (sym (keys_map item kind v r ok) ∙ ap map.keys same) (siblings_written w v r ok)
 
   -- and never both
   pub never_both : (w : ℕ) (b : List ℕ) (E : List (List ℕ)) → Canon item w b E → TooDeep item w E

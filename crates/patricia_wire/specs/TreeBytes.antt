@@ -7,18 +7,18 @@ use Rattle.patricia_wire.specs.Writings.{Means, Canon, TooDeep}
 use Rattle.patricia_wire.specs.Counts.{LabelsAreFronts, RecordsArePoints, AreFew}
 
 module _ (item : List ℕ → Type 0) where
-  -- b is the encoding of the rows' keys, and with the rows' values it means the rows
+  -- b is the encoding of the entries' keys, and with the entries' values it means the entries
   pub record AreTreeBytes {V : Type 0} (w : ℕ) (b : List ℕ)
-      (rows : List (List ℕ × V)) : Type 0 where
-    -- the bytes and the values, in key order, mean these rows
-    pub means : Means item w b (values_of rows) rows
+      (entries : List (List ℕ × V)) : Type 0 where
+    -- the bytes and the values, in key order, mean these entries
+    pub means : Means item w b (values_of entries) entries
     -- no other bytes are the encoding of the keys
-    pub one_writing : (c : List ℕ) → Canon item w c (keys_of rows) ↔ (c ≡ b)
+    pub one_writing : (c : List ℕ) → Canon item w c (keys_of entries) ↔ (c ≡ b)
     -- and they are the encoding of no other keys
-    pub one_key_set : (S : List (List ℕ)) → Canon item w b S ↔ (S ≡ keys_of rows)
+    pub one_key_set : (S : List (List ℕ)) → Canon item w b S ↔ (S ≡ keys_of entries)
     -- the keys do not lie too deep
-    pub not_too_deep : TooDeep item w (keys_of rows) → ⊥
+    pub not_too_deep : TooDeep item w (keys_of entries) → ⊥
     -- how many bytes the labels have, and how many records there are
-    pub fronts : (R : List Record) → EncodeAll w R b → LabelsAreFronts item R (keys_of rows)
-    pub points : (R : List Record) → EncodeAll w R b → RecordsArePoints item R (keys_of rows)
-    pub few : (R : List Record) → EncodeAll w R b → AreFew R (keys_of rows)
+    pub fronts : (R : List Record) → EncodeAll w R b → LabelsAreFronts item R (keys_of entries)
+    pub points : (R : List Record) → EncodeAll w R b → RecordsArePoints item R (keys_of entries)
+    pub few : (R : List Record) → EncodeAll w R b → AreFew R (keys_of entries)

@@ -24,23 +24,23 @@ module _ (item : List ℕ → Type 0) where
   HasOneKeySet =
       (w : ℕ) (b : List ℕ) (S T : List (List ℕ)) → Canon item w b S → Canon item w b T → S ≡ T
 
-  -- bytes mean one list of rows with these values
+  -- bytes mean one list of entries with these values
   abbrev pub HasOneMeaning : Type 0 → Type 0
   HasOneMeaning V =
       (w : ℕ) (b : List ℕ) (values : List V) (M N : List (List ℕ × V))
       → Means item w b values M → Means item w b values N → M ≡ N
 
-  -- what bytes mean is the rows of a finite map, and its keys are valid
+  -- what bytes mean is the entries of a finite map, and its keys are valid
   abbrev pub MeansMap : Type 0 → Type 0
   MeansMap V =
       (w : ℕ) (b : List ℕ) (values : List V) (M : List (List ℕ × V)) → Means item w b values M
       → (m : map.FinMap key_cmp V) × (map.entries m ≡ M) × All (IsValid item) (map.keys m)
 
-  -- the encoding of the keys of rows means these rows
-  abbrev pub WritingMeansRows : Type 0 → Type 0
-  WritingMeansRows V =
-      (w : ℕ) (b : List ℕ) (rows : List (List ℕ × V))
-      → Canon item w b (keys_of rows) → Means item w b (values_of rows) rows
+  -- the encoding of the keys of entries means these entries
+  abbrev pub WritingMeansEntries : Type 0 → Type 0
+  WritingMeansEntries V =
+      (w : ℕ) (b : List ℕ) (entries : List (List ℕ × V))
+      → Canon item w b (keys_of entries) → Means item w b (values_of entries) entries
 
   -- the keys of a finite map, if they are valid, have an encoding, or lie too deep for one
   abbrev pub IsWrittenOrTooDeep : Type 0 → Type 0
@@ -91,7 +91,7 @@ module _ (item : List ℕ → Type 0) where
       (w : ℕ) (b : List ℕ) (n : ℕ) (e f : DecodeError)
       → IsFirst item w b n e → IsFirst item w b n f → e ≡ f
 
-  -- no fault stands in bytes that mean rows with so many values
+  -- no fault stands in bytes that mean entries with so many values
   abbrev pub HasNoFaultWhereMeant : Type 0 → Type 0
   HasNoFaultWhereMeant V =
       (w : ℕ) (b : List ℕ) (values : List V) (M : List (List ℕ × V)) (number at : ℕ)
@@ -103,7 +103,7 @@ module _ (item : List ℕ → Type 0) where
       (w : ℕ) (b : List ℕ) (values : List V) (M : List (List ℕ × V)) (e : DecodeError)
       → Means item w b values M → IsFirst item w b (length values) e → ⊥
 
-  -- bytes and values that mean rows are refused by no error but that of memory
+  -- bytes and values that mean entries are refused by no error but that of memory
   abbrev pub RefusesNothingMeant : Type 0 → Type 0
   RefusesNothingMeant V =
       (w : ℕ) (b : List ℕ) (values : List V) (M : List (List ℕ × V)) (e : DecodeError)
@@ -113,35 +113,37 @@ module _ (item : List ℕ → Type 0) where
   abbrev pub TellsValid : Type 0
   TellsValid = (l : List ℕ) → IsValid item l ⊎ (IsValid item l → ⊥)
 
-  -- bytes and values mean rows, or have a first fault
+  -- bytes and values mean entries, or have a first fault
   abbrev pub MeansOrHasFirstFault : Type 0 → Type 0
   MeansOrHasFirstFault V =
       (w : ℕ) (b : List ℕ) (values : List V) → All (λ x. x < 256) b
       → ((M : List (List ℕ × V)) × Means item w b values M)
       ⊎ ((e : DecodeError) × IsFirst item w b (length values) e)
 
-  -- no bytes and values are without rows and without a first fault
+  -- no bytes and values are without entries and without a first fault
   abbrev pub NeverLacksBoth : Type 0 → Type 0
   NeverLacksBoth V =
       (w : ℕ) (b : List ℕ) (values : List V) → All (λ x. x < 256) b
       → ((M : List (List ℕ × V)) → Means item w b values M → ⊥)
       → ((e : DecodeError) → IsFirst item w b (length values) e → ⊥) → ⊥
 
-  -- the tree bytes of rows, with the values of the rows in turn, mean these rows and no others
+  -- the tree bytes of entries, with the values of the entries in turn, mean these entries and no
+  -- others
   abbrev pub ReadsBack : Type 0 → Type 0
   ReadsBack V =
-      (w : ℕ) (b : List ℕ) (rows M : List (List ℕ × V))
-      → AreTreeBytes item w b rows → Means item w b (values_of rows) M → M ≡ rows
+      (w : ℕ) (b : List ℕ) (entries M : List (List ℕ × V))
+      → AreTreeBytes item w b entries → Means item w b (values_of entries) M → M ≡ entries
 
   -- two maps have equal tree bytes exactly where they have the same keys
   abbrev pub TellsKeySets : Type 0 → Type 0 → Type 0
   TellsKeySets V W =
-      (w : ℕ) (b c : List ℕ) (rows : List (List ℕ × V)) (others : List (List ℕ × W))
-      → AreTreeBytes item w b rows → AreTreeBytes item w c others
-      → (b ≡ c) ↔ (keys_of rows ≡ keys_of others)
+      (w : ℕ) (b c : List ℕ) (entries : List (List ℕ × V)) (others : List (List ℕ × W))
+      → AreTreeBytes item w b entries → AreTreeBytes item w c others
+      → (b ≡ c) ↔ (keys_of entries ≡ keys_of others)
 
   -- the values have no part in the tree bytes
   abbrev pub DependsOnKeysAlone : Type 0 → Type 0 → Type 0
   DependsOnKeysAlone V W =
-      (w : ℕ) (b : List ℕ) (rows : List (List ℕ × V)) (others : List (List ℕ × W))
-      → keys_of rows ≡ keys_of others → AreTreeBytes item w b rows ↔ AreTreeBytes item w b others
+      (w : ℕ) (b : List ℕ) (entries : List (List ℕ × V)) (others : List (List ℕ × W))
+      → keys_of entries ≡ keys_of others
+      → AreTreeBytes item w b entries ↔ AreTreeBytes item w b others

@@ -8,13 +8,13 @@ use Rattle.patricia_wire.specs.Records.{Record, HasRoom, EncodeAll, canonical_by
 use Rattle.patricia_wire.specs.Forests.{Root}
 
 module _ (item : List ℕ → Type 0) where
-  -- the bytes spell a tree with the keys of these rows, whose values are the given ones in turn
-  pub record Means {V : Type 0} (w : ℕ) (b : List ℕ) (values : List V) (rows : List (List ℕ × V))
+  -- the bytes spell a tree with the keys of these entries, whose values are the given ones in turn
+  pub record Means {V : Type 0} (w : ℕ) (b : List ℕ) (values : List V) (entries : List (List ℕ × V))
       : Type 0 where
     pub records : List Record
     pub spelled : EncodeAll w records b
-    pub root : Root item records (keys_of rows)
-    pub in_place : values ≡ values_of rows
+    pub root : Root item records (keys_of entries)
+    pub in_place : values ≡ values_of entries
 
   -- where r has no value, and its child, which is the record after it, has no sibling,
   -- the label of r joined with the first item of the child's is longer than 255 bytes

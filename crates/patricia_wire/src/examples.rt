@@ -75,7 +75,7 @@ pub fn long_text()
     ensures bytes { Canon IsByteItem 2 long_text_and_b_written_as_bytes long_text_and_b }
 {}
 
-/// An encoding that is not tight means its rows all the same, and is no key set's encoding.
+/// An encoding that is not tight means its entries all the same, and is no key set's encoding.
 pub fn not_tight()
     ensures meant { Means IsByteItem {V = ℕ} 2 ab_in_two (7 ∷ []) ((ab, 7) ∷ []) }
     ensures loose { (S : List (List ℕ)) → Canon IsByteItem 2 ab_in_two S → ⊥ }

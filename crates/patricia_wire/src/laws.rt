@@ -3,7 +3,7 @@
 ghost use Rattle.patricia_keys.specs.ByteKind.{IsByteItem};
 ghost use Rattle.patricia_keys.specs.TextKind.{IsTextItem};
 ghost use Rattle.patricia_wire.specs.WireLaws.{HasOneWriting, HasOneKeySet, HasOneMeaning};
-ghost use Rattle.patricia_wire.specs.WireLaws.{MeansMap, WritingMeansRows, IsWrittenOrTooDeep};
+ghost use Rattle.patricia_wire.specs.WireLaws.{MeansMap, WritingMeansEntries, IsWrittenOrTooDeep};
 ghost use Rattle.patricia_wire.specs.WireLaws.{IsNeverBoth};
 ghost use Rattle.patricia_wire.specs.WireLaws.{CountsFronts, CountsPoints, HasFewRecords};
 ghost use Rattle.patricia_wire.specs.WireLaws.{HasOneTightTree, HasOneKeyList, HoldsKeysOfMap};
@@ -24,15 +24,15 @@ pub fn one_key_set<K: Bytes>()
     ensures { HasOneKeySet K.item }
 {}
 
-/// Bytes and values mean one list of rows, which is that of a finite map with valid keys.
+/// Bytes and values mean one list of entries, which is that of a finite map with valid keys.
 pub fn one_meaning<K: Bytes, V>()
     ensures one { HasOneMeaning K.item V }
     ensures map { MeansMap K.item V }
 {}
 
-/// The encoding of the keys of rows, with their values in turn, means these rows.
-pub fn writing_means_rows<K: Bytes, V>()
-    ensures { WritingMeansRows K.item V }
+/// The encoding of the keys of entries, with their values in turn, means these entries.
+pub fn writing_means_entries<K: Bytes, V>()
+    ensures { WritingMeansEntries K.item V }
 {}
 
 /// The keys of a finite map, if they are valid, have an encoding or lie too deep for one, and never
@@ -65,7 +65,7 @@ pub fn one_key_list<K: Bytes>()
     ensures keys { HoldsKeysOfMap K.item }
 {}
 
-/// An input has one first fault, and none where it means rows.
+/// An input has one first fault, and none where it means entries.
 pub fn one_first_fault<K: Bytes, V>()
     ensures one { HasOneFirstFault K.item }
     ensures none { HasNoFaultWhereMeant K.item V }
@@ -78,35 +78,35 @@ pub fn tree_bytes_are_keys<K: Bytes, V, W>()
     ensures values { DependsOnKeysAlone K.item V W }
 {}
 
-/// What is decoded from tree bytes and the values that belong to them, in key order, is the rows
+/// What is decoded from tree bytes and the values that belong to them, in key order, is the entries
 /// that were written: the same keys with the same values.
 pub fn tree_bytes_read_back<K: Bytes, V>()
     ensures { ReadsBack K.item V }
 {}
 
-/// Bytes and values that mean rows have no first fault.
+/// Bytes and values that mean entries have no first fault.
 pub fn meant_is_never_faulty<K: Bytes, V>()
     ensures { HasNoFirstFaultWhereMeant K.item V }
 {}
 
-/// Bytes and values that mean rows are refused where memory runs out, and by no other error.
+/// Bytes and values that mean entries are refused where memory runs out, and by no other error.
 pub fn meant_is_never_refused<K: Bytes, V>()
     ensures { RefusesNothingMeant K.item V }
 {}
 
-/// Whatever bytes and values are given, they mean rows or have a first fault: none lack both. Where
-/// it can be told whether a label is valid, it can be told which of the two it is.
+/// Whatever bytes and values are given, they mean entries or have a first fault: none lack both.
+/// Where it can be told whether a label is valid, it can be told which of the two it is.
 pub fn meant_or_faulty<K: Bytes, V>()
     ensures never_neither { NeverLacksBoth K.item V }
     ensures told { TellsValid K.item → MeansOrHasFirstFault K.item V }
 {}
 
-/// For the keys of byte strings bytes and values mean rows or have a first fault.
+/// For the keys of byte strings bytes and values mean entries or have a first fault.
 pub fn meant_or_faulty_bytes<V>()
     ensures { MeansOrHasFirstFault IsByteItem V }
 {}
 
-/// For the keys of texts bytes and values mean rows or have a first fault.
+/// For the keys of texts bytes and values mean entries or have a first fault.
 pub fn meant_or_faulty_texts<V>()
     ensures { MeansOrHasFirstFault IsTextItem V }
 {}

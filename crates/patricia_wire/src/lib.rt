@@ -7,6 +7,6 @@
 pub mod error;
 pub mod examples;
 pub mod laws;
-pub mod rows;
+pub mod siblings;
 
 pub use error::DecodeError;

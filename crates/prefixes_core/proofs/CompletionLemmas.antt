@@ -1,4 +1,4 @@
--- Laws of rows of which the first are kept and all are counted.
+-- Laws of entries of which the first are kept and all are counted.
 use Rattle.std.proofs.Common.{◌≡◌, ◌≢◌, ℕ, zero, suc, ◌+◌, ◌≤◌, ◌<◌, ◌⊎◌, inl, inr, List, [], ◌∷◌}
 use Rattle.std.proofs.Common.{◌++◌, length, take, refl, sym, ap, ◌∙◌, arith}
 use Rattle.std.specs.Prelude.{not, map as list_map}
@@ -9,8 +9,8 @@ use Rattle.std.proofs.lemmas.List.Filters.{length-filter_both}
 use Rattle.patricia_tree.specs.Prefixes.{begins, under}
 use Rattle.prefixes_core.specs.Completions.{Completes}
 
--- of the rows of `whole` these are left, the first `most` of the others are kept, and all of them
--- are counted
+-- of the entries of `whole` these are left, the first `most` of the others are kept, and all of
+-- them are counted
 pub record IsCompleting {R : Type 0} (most : ℕ) (first : List R) (count : ℕ) (left whole : List R)
     : Type 0 where
   pub seen : List R
@@ -30,7 +30,7 @@ cases_le : (a b : ℕ) → (a ≤ b) ⊎ (b < a)
 cases_le a b = elim (cases_lt b a) [ inl more ↦ inr more | inr less ↦ inl less ]
 
 module _ {R : Type 0} (most : ℕ) where
-  -- at first no row is counted
+  -- at first no entry is counted
   pub completing_first : (whole : List R) → IsCompleting most [] 0 whole whole
   completing_first whole = record {
     seen = [];
@@ -40,11 +40,11 @@ module _ {R : Type 0} (most : ℕ) where
     count_is = refl;
   }
 
-  -- one more row is seen
-  seen_more : (seen left later whole : List R) (row : R) → left ≡ row ∷ later → seen ++ left ≡ whole
-      → (seen ++ row ∷ []) ++ later ≡ whole
-  seen_more seen left later whole row e joined =
-      append_assoc seen (row ∷ []) later ∙ ap (λ l. seen ++ l) (sym e) ∙ joined
+  -- one more entry is seen
+  seen_more : (seen left later whole : List R) (entry : R) → left ≡ entry ∷ later → seen ++ left ≡ whole
+      → (seen ++ entry ∷ []) ++ later ≡ whole
+  seen_more seen left later whole entry e joined =
+      append_assoc seen (entry ∷ []) later ∙ ap (λ l. seen ++ l) (sym e) ∙ joined
 
   -- the first of a list and more are those of its first and more
   take_front : (xs ys : List R) → take most (take most xs ++ ys) ≡ take most (xs ++ ys)
@@ -56,22 +56,22 @@ module _ {R : Type 0} (most : ℕ) where
         ∙ take-take most most xs (omega arith) ∙ sym (take-append-le most xs ys (omega arith))
   ]
 
-  -- the next row is kept below the limit, and counted
+  -- the next entry is kept below the limit, and counted
   pub completing_more : {A : Type 0} (f : A → R) (first after : List A) (count : ℕ)
-      (left later whole : List R) (row : A)
-      → left ≡ f row ∷ later → after ≡ take most (first ++ row ∷ [])
+      (left later whole : List R) (entry : A)
+      → left ≡ f entry ∷ later → after ≡ take most (first ++ entry ∷ [])
       → IsCompleting most (list_map f first) count left whole
       → IsCompleting most (list_map f after) (count + 1) later whole
-  completing_more f first after count left later whole row e kept is =
-      let long = length-append is.seen (f row ∷ []) in
+  completing_more f first after count left later whole entry e kept is =
+      let long = length-append is.seen (f entry ∷ []) in
       let counted = is.count_is in
       record {
-        seen = is.seen ++ f row ∷ [];
-        joined = seen_more is.seen left later whole (f row) e is.joined;
+        seen = is.seen ++ f entry ∷ [];
+        joined = seen_more is.seen left later whole (f entry) e is.joined;
         first_is =
-            ap (list_map f) kept ∙ map-take f most (first ++ row ∷ [])
-            ∙ ap (take most) (map-append f first (row ∷ []) ∙ ap (λ l. l ++ f row ∷ []) is.first_is)
-            ∙ take_front is.seen (f row ∷ []);
+            ap (list_map f) kept ∙ map-take f most (first ++ entry ∷ [])
+            ∙ ap (take most) (map-append f first (entry ∷ []) ∙ ap (λ l. l ++ f entry ∷ []) is.first_is)
+            ∙ take_front is.seen (f entry ∷ []);
         count_is = omega arith;
       }
 
@@ -83,15 +83,15 @@ module _ {R : Type 0} (most : ℕ) where
       let short = length-take most is.seen in
       omega (arith, size, short, ap length is.first_is)
 
-  -- where a row is left, fewer than all are counted
-  pub some_left : (first : List R) (count : ℕ) (left later whole : List R) (row : R)
-      → left ≡ row ∷ later → IsCompleting most first count left whole → count < length whole
-  some_left first count left later whole row e is =
+  -- where an entry is left, fewer than all are counted
+  pub some_left : (first : List R) (count : ℕ) (left later whole : List R) (entry : R)
+      → left ≡ entry ∷ later → IsCompleting most first count left whole → count < length whole
+  some_left first count left later whole entry e is =
       let long = length-append is.seen left in
       let counted = is.count_is in
       omega (arith, long, counted, ap length is.joined, ap length e)
 
-  -- where a row is left there is a row
+  -- where an entry is left there is an entry
   pub some_whole : (first : List R) (count : ℕ) (left whole : List R) → left ≢ []
       → IsCompleting most first count left whole → whole ≢ []
   some_whole first count left whole some is none = nothing is.seen left (is.joined ∙ none) some
@@ -100,19 +100,19 @@ module _ {R : Type 0} (most : ℕ) where
       nothing [] b e some = some e
       nothing (x ∷ a) b e some = absurd (cc)
 
--- where no row is left, the completion is done
-pub completing_last : {V : Type 0} (rows : List (List ℕ × V)) (prefix : List ℕ) (most : ℕ)
+-- where no entry is left, the completion is done
+pub completing_last : {V : Type 0} (entries : List (List ℕ × V)) (prefix : List ℕ) (most : ℕ)
     (first : List (List ℕ × V)) (count : ℕ) (left : List (List ℕ × V)) → left ≡ []
-    → IsCompleting most first count left (under prefix rows)
-    → Completes rows prefix most first count
-completing_last rows prefix most first count left none is =
+    → IsCompleting most first count left (under prefix entries)
+    → Completes entries prefix most first count
+completing_last entries prefix most first count left none is =
     let all = sym (append-nil is.seen) ∙ ap (λ l. is.seen ++ l) (sym none) ∙ is.joined in
     record { first_is = is.first_is ∙ ap (take most) all; count_is = is.count_is ∙ ap length all }
 
--- there are no more rows under a prefix than rows
-pub under_fewer : {V : Type 0} (prefix : List ℕ) (rows : List (List ℕ × V))
-    → length (under prefix rows) ≤ length rows
-under_fewer prefix rows =
+-- there are no more entries under a prefix than entries
+pub under_fewer : {V : Type 0} (prefix : List ℕ) (entries : List (List ℕ × V))
+    → length (under prefix entries) ≤ length entries
+under_fewer prefix entries =
     let both = length-filter_both (λ e. begins prefix e.0) (λ e. not (begins prefix e.0))
-    (λ _. refl) rows in
+    (λ _. refl) entries in
     omega arith

@@ -71,7 +71,7 @@ module _ {V : Type 0} where
   has_last [] e h none = absurd h
   has_last (x ∷ es) e h none = some_last x es none
 
-  -- where no row is last along a key, no key of the rows begins it
+  -- where no common prefix is the last, no key of the entries begins the key
   none_begins : (k : List ℕ) (es : List (List ℕ × V)) → longest k es ≡ None
       → (e : List ℕ × V) → Has es e → Begins e.0 k → ⊥
   none_begins k es none e h b = has_last (along k es) e ((along_has k es e).1 (h, b)) none
@@ -87,28 +87,28 @@ contained : {V : Type 0} (m : map.FinMap key_cmp V) (q : List ℕ) → map.conta
     → (v : V) × Has (map.entries m) (q, v)
 contained m q h = found_has q (map.entries m) (ap is_some (sym (map.get-entries m q)) ∙ h)
 
--- the longest row along a key has the longest key that begins it
+-- the longest prefix of a key has the longest key that begins it
 pub longest_key : {V : Type 0} (m : map.FinMap key_cmp V) (k : List ℕ) (r : List ℕ × V)
     → longest k (map.entries m) ≡ Some r → IsLongestKey m k r.0
 longest_key m k r e =
-    let rows = map.entries m in
-    let found = longest_last rows (map.entries_sorted m) k r e in
-    let here = (along_has k rows r).0 found.0 in
+    let entries = map.entries m in
+    let found = longest_last entries (map.entries_sorted m) k r e in
+    let here = (along_has k entries r).0 found.0 in
     record {
-      listed = ap is_some (map.get-entries m r.0) ∙ has_found r.0 r.1 rows here.0;
+      listed = ap is_some (map.get-entries m r.0) ∙ has_found r.0 r.1 entries here.0;
       begins = here.1;
       longest = λ q h b. let has = contained m q h in
-          found.1 (q, has.0) ((along_has k rows (q, has.0)).1 (has.1, b));
+          found.1 (q, has.0) ((along_has k entries (q, has.0)).1 (has.1, b));
     }
 
--- where there is no longest row along a key, no key of the map begins it
+-- where a key has no longest prefix, no key of the map begins it
 pub no_key : {V : Type 0} (m : map.FinMap key_cmp V) (k : List ℕ) → longest k (map.entries m) ≡ None
     → (q : List ℕ) → map.contains_key m q ≡ true → Begins q k → ⊥
 no_key m k none q h b = let has = contained m q h in none_begins k (map.entries m) none
     (q, has.0) has.1 b
 
 module _ {V : Type 0} (m : map.FinMap key_cmp V) (k : List ℕ) where
-  -- the key of the longest row along a key is the longest key that begins it
+  -- the key of the longest prefix of a key is the longest key that begins it
   pub longest_part : (part : List ℕ)
       → Some part ≡ option_map (λ e. e.0) (longest k (map.entries m)) → IsLongestKey m k part
   longest_part part e = by (longest k (map.entries m)) refl e

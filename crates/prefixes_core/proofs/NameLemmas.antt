@@ -49,31 +49,31 @@ contains-insert : (keys : KeySet) (k q : List ℕ)
     → map.contains_key (map.insert keys k tt) q ≡ (eq_by_cmp key_cmp q k || map.contains_key keys q)
 contains-insert keys k q = ap is_some (map.get-insert nat_list_cmp_total keys k tt q) ∙ some_or _ _
 
--- the names of rows, each with nothing beside it
-abbrev named_rows : List (List ℕ × Unit {0}) → List (List ℕ × Unit {0})
-named_rows rows = list_map (λ row. (name_of row.0, tt)) rows
+-- the names of entries, each with nothing beside it
+abbrev named_entries : List (List ℕ × Unit {0}) → List (List ℕ × Unit {0})
+named_entries entries = list_map (λ entry. (name_of entry.0, tt)) entries
 
--- a name of some rows is that of one of them
-named : (n : List ℕ) (rows : List (List ℕ × Unit {0})) → Has (named_rows rows) (n, tt)
-    → (k : List ℕ) × Has rows (k, tt) × (name_of k ≡ n)
+-- a name of some entries is that of one of them
+named : (n : List ℕ) (entries : List (List ℕ × Unit {0})) → Has (named_entries entries) (n, tt)
+    → (k : List ℕ) × Has entries (k, tt) × (name_of k ≡ n)
 named n [] h = absurd h
-named n (row ∷ rows) (inl same) = (row.0, inl refl, ap (λ (r : List ℕ × Unit {0}). r.0) same)
-named n (row ∷ rows) (inr h) = let more = named n rows h in (more.0, inr more.1, more.2)
+named n (entry ∷ entries) (inl same) = (entry.0, inl refl, ap (λ (r : List ℕ × Unit {0}). r.0) same)
+named n (entry ∷ entries) (inr h) = let more = named n entries h in (more.0, inr more.1, more.2)
 
--- the name of one of some rows is a name of them
-has_name : (k : List ℕ) (rows : List (List ℕ × Unit {0})) → Has rows (k, tt)
-    → Has (named_rows rows) (name_of k, tt)
+-- the name of one of some entries is a name of them
+has_name : (k : List ℕ) (entries : List (List ℕ × Unit {0})) → Has entries (k, tt)
+    → Has (named_entries entries) (name_of k, tt)
 has_name k [] h = absurd h
-has_name k (row ∷ rows) (inl same) = inl (ap (λ (r : List ℕ × Unit {0}). (name_of r.0, tt)) same)
-has_name k (row ∷ rows) (inr h) = inr (has_name k rows h)
+has_name k (entry ∷ entries) (inl same) = inl (ap (λ (r : List ℕ × Unit {0}). (name_of r.0, tt)) same)
+has_name k (entry ∷ entries) (inr h) = inr (has_name k entries h)
 
--- what a set contains stands in its rows
+-- what a set contains stands in its entries
 contained : (keys : KeySet) (q : List ℕ) → map.contains_key keys q ≡ true
     → Has (map.entries keys) (q, tt)
 contained keys q h = (found_has q (map.entries keys) (ap is_some (sym (map.get-entries keys q))
     ∙ h)).1
 
--- and what stands in its rows it contains
+-- and what stands in its entries it contains
 contains : (keys : KeySet) (q : List ℕ) → Has (map.entries keys) (q, tt)
     → map.contains_key keys q ≡ true
 contains keys q h = ap is_some (map.get-entries keys q) ∙ has_found q tt (map.entries keys) h
@@ -83,8 +83,8 @@ module _ (keys : KeySet) (named_all : AreKeysOfNames keys) where
   there : (n : List ℕ) → map.contains_key (names_of keys) n ≡ true
       → map.contains_key keys (key_of n) ≡ true
   there n h =
-      let rows = named_rows (map.entries keys) in
-      let one = found_has n rows (ap is_some (sym (map.get-from_entries nat_list_cmp_total rows n))
+      let entries = named_entries (map.entries keys) in
+      let one = found_has n entries (ap is_some (sym (map.get-from_entries nat_list_cmp_total entries n))
       ∙ h) in
       let found = named n (map.entries keys) one.1 in
       let in_keys = contains keys found.0 found.1 in
@@ -95,10 +95,10 @@ module _ (keys : KeySet) (named_all : AreKeysOfNames keys) where
   back : (n : List ℕ) → map.contains_key keys (key_of n) ≡ true
       → map.contains_key (names_of keys) n ≡ true
   back n h =
-      let rows = named_rows (map.entries keys) in
+      let entries = named_entries (map.entries keys) in
       let one = has_name (key_of n) (map.entries keys) (contained keys (key_of n) h) in
-      let found : Has rows (n, tt) = subst (λ x. Has rows (x, tt)) (name_of-key_of n) one in
-      ap is_some (map.get-from_entries nat_list_cmp_total rows n) ∙ has_found n tt rows found
+      let found : Has entries (n, tt) = subst (λ x. Has entries (x, tt)) (name_of-key_of n) one in
+      ap is_some (map.get-from_entries nat_list_cmp_total entries n) ∙ has_found n tt entries found
 
   -- a name is listed exactly where its key is in the set
   pub listed_is : (n : List ℕ) → map.contains_key (names_of keys) n ≡ map.contains_key keys

@@ -168,38 +168,38 @@ head_front bytes rest same e =
     ∙ ap (λ l. head ++ l) (sym e)
 
 -- bytes that do not begin so are not packed
-pub no_head : (bytes : List ℕ) (rows : List (List ℕ × List ℕ))
+pub no_head : (bytes : List ℕ) (entries : List (List ℕ × List ℕ))
     → bytes_eq (take 9 bytes) head ≡ false
-    → Packs bytes rows → ⊥
-no_head bytes rows other packs =
+    → Packs bytes entries → ⊥
+no_head bytes entries other packs =
     let no : true ≡ false = subst (λ b. bytes_eq (take 9 b) head ≡ false) packs.is other in absurd
     (cc)
 
--- behind the head and the tree bytes of packed rows are their values
-pub packed_rest : (bytes tree rest : List ℕ) (rows : List (List ℕ × List ℕ))
-    → length bytes < 2 ^ 64 → bytes ≡ head ++ (counted tree ++ rest) → (packs : Packs bytes rows)
-    → (tree ≡ packs.tree) × (rest ≡ concat (map counted (values_of rows)))
-packed_rest bytes tree rest rows small e packs =
+-- behind the head and the tree bytes of packed entries are their values
+pub packed_rest : (bytes tree rest : List ℕ) (entries : List (List ℕ × List ℕ))
+    → length bytes < 2 ^ 64 → bytes ≡ head ++ (counted tree ++ rest) → (packs : Packs bytes entries)
+    → (tree ≡ packs.tree) × (rest ≡ concat (map counted (values_of entries)))
+packed_rest bytes tree rest entries small e packs =
     let mine = counted tree ++ rest in
-    let others = counted packs.tree ++ concat (map counted (values_of rows)) in
+    let others = counted packs.tree ++ concat (map counted (values_of entries)) in
     let inner : mine ≡ others = append_cancel_left head mine others (sym e ∙ packs.is) in
     let shorter : length others < 2 ^ 64 = (let both = length-append head others in
     let same = ap length packs.is in omega (arith, small)) in
     counted_same tree packs.tree rest _ (front_small tree _ others inner shorter)
     (front_small packs.tree _ others refl shorter) inner
 
--- rows that are packed to the bytes have the values that are read
-pub packed_values : (bytes tree rest : List ℕ) (values : List (List ℕ)) (rows : List
+-- entries that are packed to the bytes have the values that are read
+pub packed_values : (bytes tree rest : List ℕ) (values : List (List ℕ)) (entries : List
     (List ℕ × List ℕ))
     → length bytes < 2 ^ 64 → bytes ≡ head ++ (counted tree ++ rest)
-    → rest ≡ concat (map counted values) → (packs : Packs bytes rows)
-    → Means IsTextItem 2 tree values rows
-packed_values bytes tree rest values rows small e f packs =
-    let parts = packed_rest bytes tree rest rows small e packs in
+    → rest ≡ concat (map counted values) → (packs : Packs bytes entries)
+    → Means IsTextItem 2 tree values entries
+packed_values bytes tree rest values entries small e f packs =
+    let parts = packed_rest bytes tree rest entries small e packs in
     let whole = length-append head (counted tree ++ rest) in
     let last = length-append (counted tree) rest in
-    let short : length (concat (map counted (values_of rows))) < 2 ^ 64 = omega
+    let short : length (concat (map counted (values_of entries))) < 2 ^ 64 = omega
     (arith, small, ap length e, ap length parts.1) in
-    let same = values_same values (values_of rows) short (sym f ∙ parts.1) in
-    subst (λ t. Means IsTextItem 2 t values rows) (sym parts.0)
-    (subst (λ vs. Means IsTextItem 2 packs.tree vs rows) (sym same) packs.means)
+    let same = values_same values (values_of entries) short (sym f ∙ parts.1) in
+    subst (λ t. Means IsTextItem 2 t values entries) (sym parts.0)
+    (subst (λ vs. Means IsTextItem 2 packs.tree vs entries) (sym same) packs.means)

@@ -11,13 +11,13 @@ use Rattle.patricia_tree.specs.Prefixes.{IsReach, begins, under}
 use Rattle.patricia_tree.proofs.PrefixLemmas.{begins_from, begins_is}
 
 module _ {V : Type 0} where
-  -- the keys of rows
+  -- the keys of entries
   abbrev keys_of : List (List ℕ × V) → List (List ℕ)
-  keys_of rows = list_map (λ e. e.0) rows
+  keys_of entries = list_map (λ e. e.0) entries
 
-  -- where a key begins with the name, some row is under it
-  some_under : (name k : List ℕ) (rows : List (List ℕ × V)) → Has (keys_of rows) k
-      → begins name k ≡ true → under name rows ≡ [] → ⊥
+  -- where a key begins with the name, some entry is under it
+  some_under : (name k : List ℕ) (entries : List (List ℕ × V)) → Has (keys_of entries) k
+      → begins name k ≡ true → under name entries ≡ [] → ⊥
   some_under name k [] has begun none = has
   some_under name k (e ∷ es) has begun none =
       by (begins name e.0) refl has (λ later. some_under name k es later begun)
@@ -29,9 +29,9 @@ module _ {V : Type 0} where
           let is : begins name e.0 ≡ true = subst (λ q. begins name q ≡ true) (sym same) begun in cc
       by false f (inr later) rest = rest later (rw f at none)
 
-  -- where no key begins with the name, no row is under it
-  none_under : (name : List ℕ) (rows : List (List ℕ × V))
-      → ((k : List ℕ) → Has (keys_of rows) k → begins name k ≡ true → ⊥) → under name rows ≡ []
+  -- where no key begins with the name, no entry is under it
+  none_under : (name : List ℕ) (entries : List (List ℕ × V))
+      → ((k : List ℕ) → Has (keys_of entries) k → begins name k ≡ true → ⊥) → under name entries ≡ []
   none_under name [] never = refl
   none_under name (e ∷ es) never =
       by (begins name e.0) refl (none_under name es (λ k has. never k (inr has)))
@@ -41,28 +41,28 @@ module _ {V : Type 0} where
       by true f rest = absurd (never e.0 (inl refl) f)
       by false f rest = rest
 
-  -- no rows have no keys
-  no_rows : (rows : List (List ℕ × V)) → keys_of rows ≡ [] → rows ≡ []
-  no_rows [] none = refl
-  no_rows (e ∷ es) none = absurd (cc)
+  -- no entries have no keys
+  without_entries : (entries : List (List ℕ × V)) → keys_of entries ≡ [] → entries ≡ []
+  without_entries [] none = refl
+  without_entries (e ∷ es) none = absurd (cc)
 
-module _ {V : Type 0} (item : List ℕ → Type 0) (name : List ℕ) (rows : List (List ℕ × V)) (n : ℕ)
-    (reach : IsReach item (keys_of rows) name n) where
+module _ {V : Type 0} (item : List ℕ → Type 0) (name : List ℕ) (entries : List (List ℕ × V)) (n : ℕ)
+    (reach : IsReach item (keys_of entries) name n) where
   -- all of the name
   whole_name : take (length name) name ≡ name
   whole_name = take_all (length name) name (omega arith)
 
-  -- where all of a name is reached, some row is under it
-  pub reached_some : rows ≢ [] → n ≡ length name → under name rows ≡ [] → ⊥
+  -- where the common length is all of a name, some entry is under it
+  pub reached_some : entries ≢ [] → n ≡ length name → under name entries ≡ [] → ⊥
   reached_some filled whole none = elim reach.reached [
-    | inl empty ↦ filled (no_rows rows empty.0)
+    | inl empty ↦ filled (without_entries entries empty.0)
     | inr some ↦
         let front : take n name ≡ name = ap (λ m. take m name) whole ∙ whole_name in
         let begun = subst (λ p. Begins p some.0) front some.2.begins in
-        some_under name some.0 rows some.1 (begins_from name some.0 begun) none
+        some_under name some.0 entries some.1 (begins_from name some.0 begun) none
   ]
 
-  -- no more than the name is reached
+  -- the common length is no more than the name
   within_name : n ≤ length name
   within_name = elim reach.reached [
     | inl empty ↦ let none = empty.1 in omega arith
@@ -70,8 +70,8 @@ module _ {V : Type 0} (item : List ℕ → Type 0) (name : List ℕ) (rows : Lis
   ]
 
   -- and where less is, none is
-  pub unreached_none : IsValid item name → (n ≡ length name → ⊥) → under name rows ≡ []
-  unreached_none valid short = none_under name rows (λ k has begun.
+  pub unreached_none : IsValid item name → (n ≡ length name → ⊥) → under name entries ≡ []
+  unreached_none valid short = none_under name entries (λ k has begun.
       let common : IsCommon item name k (length name) = record {
         within = omega arith;
         valid = subst (IsValid item) (sym whole_name) valid;
@@ -83,7 +83,7 @@ module _ {V : Type 0} (item : List ℕ → Type 0) (name : List ℕ) (rows : Lis
       short (omega arith))
 
 module _ {V : Type 0} (m : map.FinMap key_cmp V) where
-  -- a map without length has no row
+  -- a map without length has no entry
   pub no_entries : map.len m ≡ 0 → map.entries m ≡ []
   no_entries none = nil_from_length (map.entries m) (sym (len-entries m) ∙ none)
 

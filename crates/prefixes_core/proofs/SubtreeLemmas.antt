@@ -1,4 +1,4 @@
--- Laws of dotted names: the row of a name comes before those below it.
+-- Laws of dotted names: the entry of a name comes before those below it.
 use Rattle.std.proofs.Common.{◌≡◌, ℕ, Bool, true, false, T, cond, ◌&&◌, ◌||◌, List, [], ◌∷◌, ◌++◌}
 use Rattle.std.proofs.Common.{Option, None, Some, refl, sym, ap, subst, ◌∙◌}
 use Rattle.std.specs.Prelude.{filter, not}
@@ -25,7 +25,7 @@ use Rattle.prefixes_core.proofs.LongestLemmas.{tied_is, tied_from}
 abbrev pub dotted : List ℕ → List ℕ
 dotted name = name ++ 46 ∷ []
 
--- the row of a name with this value, if there is one
+-- the entry of a name with this value, if there is one
 abbrev pub own : {V : Type 0} → List ℕ → Option V → List (List ℕ × V)
 own name value = option_map_or (λ v. (name, v) ∷ []) value []
 
@@ -85,12 +85,12 @@ within_begins name key h = by (bytes_eq key name) refl h
         let b = begins_is (dotted name) key g in
         begins_from name key (46 ∷ b.0, sym (append_assoc name (46 ∷ []) b.0) ∙ b.1)
 
--- a test that the first row fails
+-- a test that the first entry fails
 skipped : {A : Type 0} (b : Bool) (x y : A) → b ≡ false → cond b x y ≡ y
 skipped true x y e = absurd (cc)
 skipped false x y e = refl
 
--- a test that the first row passes
+-- a test that the first entry passes
 taken : {A : Type 0} (b : Bool) (x y : A) → b ≡ true → cond b x y ≡ x
 taken true x y e = refl
 taken false x y e = absurd (cc)
@@ -115,7 +115,7 @@ module _ {V : Type 0} (name : List ℕ) where
       both_hold true b p q = q
       both_hold false b p q = p
 
-  -- where all keys are greater than the name, no row is its own
+  -- where all keys are greater than the name, no entry is its own
   none_own : (es : List (List ℕ × V)) → T (below_all key_cmp name es) → find key_cmp name es ≡ None
   none_own [] all = refl
   none_own (e ∷ es) all =
@@ -124,7 +124,7 @@ module _ {V : Type 0} (name : List ℕ) where
       skipped (eq_by_cmp key_cmp name e.0) (Some e.1) (find key_cmp name es) (ap is_eq less)
       ∙ none_own es (second_part (is_lt (key_cmp name e.0)) (below_all key_cmp name es) all)
 
-  -- and its subtree is the rows below it
+  -- and its subtree is the entries below it
   all_below : (es : List (List ℕ × V)) → T (below_all key_cmp name es)
       → subtree name es ≡ under (dotted name) es
   all_below [] all = refl
@@ -136,7 +136,7 @@ module _ {V : Type 0} (name : List ℕ) where
       ap (λ b. cond b (e ∷ subtree name es) (subtree name es)) test
       ∙ ap (λ l. cond (begins (dotted name) e.0) (e ∷ l) l) rest
 
-  -- the subtree of a name is its own row and then those below it
+  -- the subtree of a name is its own entry and then those below it
   pub own_first : (es : List (List ℕ × V)) → T (is_sorted key_cmp es)
       → subtree name es ≡ own name (find key_cmp name es) ++ under (dotted name) es
   own_first [] sorted = refl
@@ -198,11 +198,11 @@ module _ {V : Type 0} (name : List ℕ) where
   pub all_elsewhere : (es : List (List ℕ × V)) → under name es ≡ [] → elsewhere name es ≡ es
   all_elsewhere es none = (nothing_within es none).1
 
-  -- the rows of other keys than the name
+  -- the entries of other keys than the name
   abbrev pub others : List (List ℕ × V) → List (List ℕ × V)
-  others rows = filter (λ e. not (eq_by_cmp key_cmp name e.0)) rows
+  others entries = filter (λ e. not (eq_by_cmp key_cmp name e.0)) entries
 
-  -- all that is not in the subtree is neither its own row nor below it
+  -- all that is not in the subtree is neither its own entry nor below it
   pub elsewhere_is : (es : List (List ℕ × V)) → outside (dotted name)
       (others es) ≡ elsewhere name es
   elsewhere_is [] = refl
@@ -223,13 +223,13 @@ module _ {V : Type 0} (name : List ℕ) where
           ∙ ap (λ l. cond (not (begins (dotted name) e.0)) (e ∷ l) l) rest
           ∙ sym (ap (λ b. cond (not b) (e ∷ elsewhere name es) (elsewhere name es)) within)
 
-  -- the rows of others rise as all do
+  -- the entries of others rise as all do
   others_sorted : (es : List (List ℕ × V)) → T (is_sorted key_cmp es)
       → T (is_sorted key_cmp (others es))
   others_sorted es sorted = is_sorted-where_key key_cmp (λ k. not
       (eq_by_cmp key_cmp name k)) es sorted
 
-  -- what is left without a key is the rows of others
+  -- what is left without a key is the entries of others
   pub entries-remove : (m : map.FinMap key_cmp V)
       → map.entries (map.remove m name) ≡ others (map.entries m)
   entries-remove m =

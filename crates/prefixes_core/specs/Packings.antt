@@ -19,20 +19,20 @@ counted bytes = to_be_bytes w64 (length bytes) ++ bytes
 abbrev pub packed : List ℕ → List (List ℕ) → List ℕ
 packed tree values = head ++ counted tree ++ concat (map counted values)
 
--- the bytes are tree bytes and values that mean these rows
-pub record Packs (bytes : List ℕ) (rows : List (List ℕ × List ℕ)) : Type 0 where
+-- the bytes are tree bytes and values that mean these entries
+pub record Packs (bytes : List ℕ) (entries : List (List ℕ × List ℕ)) : Type 0 where
   pub tree : List ℕ
-  pub is : bytes ≡ packed tree (values_of rows)
-  pub means : Means IsTextItem 2 tree (values_of rows) rows
+  pub is : bytes ≡ packed tree (values_of entries)
+  pub means : Means IsTextItem 2 tree (values_of entries) entries
 
--- the bytes are those that these rows are packed to: with the one encoding of their keys
-pub record ArePackedBytes (bytes : List ℕ) (rows : List (List ℕ × List ℕ)) : Type 0 where
+-- the bytes are those that these entries are packed to: with the one encoding of their keys
+pub record ArePackedBytes (bytes : List ℕ) (entries : List (List ℕ × List ℕ)) : Type 0 where
   pub tree : List ℕ
-  pub is : bytes ≡ packed tree (values_of rows)
-  pub tree_bytes : AreTreeBytes IsTextItem 2 tree rows
+  pub is : bytes ≡ packed tree (values_of entries)
+  pub tree_bytes : AreTreeBytes IsTextItem 2 tree entries
 
--- what rows are packed to means them and no others
+-- what entries are packed to means them and no others
 abbrev pub PacksOneList : Type 0
 PacksOneList =
-    (bytes : List ℕ) (rows others : List (List ℕ × List ℕ)) → length bytes < 2 ^ 64
-    → ArePackedBytes bytes rows → Packs bytes rows × (Packs bytes others → others ≡ rows)
+    (bytes : List ℕ) (entries others : List (List ℕ × List ℕ)) → length bytes < 2 ^ 64
+    → ArePackedBytes bytes entries → Packs bytes entries × (Packs bytes others → others ≡ entries)

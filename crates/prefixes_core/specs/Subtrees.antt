@@ -9,10 +9,10 @@ abbrev pub is_within : List ℕ → List ℕ → Bool
 is_within name key = bytes_eq key name || begins (name ++ 46 ∷ []) key
 
 module _ {V : Type 0} where
-  -- the row of a name and the rows below it
+  -- the entry of a name and the entries below it
   abbrev pub subtree : List ℕ → List (List ℕ × V) → List (List ℕ × V)
-  subtree name rows = filter (λ row. is_within name row.0) rows
+  subtree name entries = filter (λ entry. is_within name entry.0) entries
 
-  -- all other rows
+  -- all other entries
   abbrev pub elsewhere : List ℕ → List (List ℕ × V) → List (List ℕ × V)
-  elsewhere name rows = filter (λ row. not (is_within name row.0)) rows
+  elsewhere name entries = filter (λ entry. not (is_within name entry.0)) entries

@@ -112,8 +112,13 @@ fn block(
     }
 }
 
-// A row of a tree: two spaces for each dot that its name has behind that of the tree.
-fn write_row(name: &[u8], root: &[u8], value: &[u8], out: &mut Vec<u8>) -> Result<(), AllocError> {
+// An entry of a tree: two spaces for each dot that its name has behind that of the tree.
+fn write_entry(
+    name: &[u8],
+    root: &[u8],
+    value: &[u8],
+    out: &mut Vec<u8>,
+) -> Result<(), AllocError> {
     for b in name.iter().skip(root.len()) {
         if *b == b'.' {
             out.extend_from_slice(b"  ")?;
@@ -129,14 +134,14 @@ fn write_row(name: &[u8], root: &[u8], value: &[u8], out: &mut Vec<u8>) -> Resul
 }
 
 fn tree(alloc: Global, list: &Listing, name: &str, out: &mut Vec<u8>) -> Result<bool, AllocError> {
-    let rows = subtree(alloc, list, name)?;
-    for (key, value) in &rows {
-        write_row(key.as_bytes(), name.as_bytes(), value.as_bytes(), out)?;
+    let entries = subtree(alloc, list, name)?;
+    for (key, value) in &entries {
+        write_entry(key.as_bytes(), name.as_bytes(), value.as_bytes(), out)?;
     }
-    if rows.is_empty() {
+    if entries.is_empty() {
         out.extend_from_slice(b"-\n")?;
     }
-    Ok(!rows.is_empty())
+    Ok(!entries.is_empty())
 }
 
 fn cut(alloc: Global, words: &Names, text: &str, out: &mut Vec<u8>) -> Result<bool, AllocError> {

@@ -1,4 +1,4 @@
-//! The first entries that begin with a prefix.
+//! Autocomplete: the first entries that begin with a prefix.
 
 ghost use Rattle.std.specs.Prelude.{◌≡◌, ◌≢◌, ◌≤◌, [], ◌∷◌, ◌++◌, length, take, IfOk, OnOk, OnErr};
 ghost use Rattle.std.specs.Prelude.{map as list_map};
@@ -16,19 +16,19 @@ pub struct Completions<'a, K: Bytes, V> {
     pub count: usize,
 }
 
-// Puts a row behind the others, unless there are `most` of them.
-fn keep_first<T: Drop>(first: &mut Vec<T>, most: usize, row: T) -> Result<(), AllocError>
+// Puts an entry behind the others, unless there are `most` of them.
+fn keep_first<T: Drop>(first: &mut Vec<T>, most: usize, found: T) -> Result<(), AllocError>
     requires { length first.old.items ≤ most }
-    ensures { OnOk result (first.new.items ≡ take most (first.old.items ++ row ∷ [])) }
+    ensures { OnOk result (first.new.items ≡ take most (first.old.items ++ found ∷ [])) }
 {
     if first.len() < most {
-        first.push(row)?;
+        first.push(found)?;
     }
     Ok(())
 }
 
 /// Returns the first `most` entries whose key begins with the prefix, in key order, and the number
-/// of all such entries.
+/// of all such entries, for an autocomplete.
 ///
 /// Takes a look-up, and time in proportion to all such entries.
 ///
@@ -52,7 +52,7 @@ pub fn complete<'a, Q: BorrowedBytes, V: Drop>(
     most: usize,
 ) -> Result<Completions<'a, Q::Owned, V>, AllocError>
     ensures ok { IfOk result (λ c. Completes (map.entries entries.now) (Q.key prefix) most
-        (list_map (λ row. (Q.Owned.key row.0, row.1.now)) c.first.items) c.count) }
+        (list_map (λ found. (Q.Owned.key found.0, found.1.now)) c.first.items) c.count) }
     ensures err { OnErr result (under (Q.key prefix) (map.entries entries.now) ≢ []) }
 {
     let _bound = entries.len();

@@ -42,34 +42,34 @@ fn begins_some<V: Drop>(names: &StringPatriciaMap<V>, name: &str) -> bool
 /// # Examples
 ///
 /// ```
-/// let rows = [("log", 1), ("log.level", 2), ("logs", 3)];
-/// let names = StringPatriciaMap::from_iter(rt.alloc(), rows)?;
-/// let rows = subtree(rt.alloc(), &names, "log")?;
-/// assert_eq!(rt; rows.len(), 2);
-/// assert_eq!(rt; rows[1].0.as_str(), "log.level");
+/// let entries = [("log", 1), ("log.level", 2), ("logs", 3)];
+/// let names = StringPatriciaMap::from_iter(rt.alloc(), entries)?;
+/// let entries = subtree(rt.alloc(), &names, "log")?;
+/// assert_eq!(rt; entries.len(), 2);
+/// assert_eq!(rt; entries[1].0.as_str(), "log.level");
 /// ```
 pub fn subtree<'a, V: Drop>(
     alloc: Global,
     names: &'a StringPatriciaMap<V>,
     name: &str,
 ) -> Result<Vec<(String, &'a V)>, AllocError>
-    ensures rows { IfOk result (λ rows.
-        list_map (λ row. (string_bytes row.0, row.1.now)) rows.items
+    ensures entries { IfOk result (λ entries.
+        list_map (λ entry. (string_bytes entry.0, entry.1.now)) entries.items
         ≡ subtree name.now (map.entries names.now)) }
     ensures err_only_if_begun { OnErr result (under name.now (map.entries names.now) ≢ []) }
 {
-    let mut rows = Vec::new(alloc);
+    let mut entries = Vec::new(alloc);
     if !begins_some(names, name) {
-        return Ok(rows);
+        return Ok(entries);
     }
     let dotted = with_dot(alloc, name)?;
     if let Some(value) = names.get(name) {
-        rows.push((String::from_str(alloc, name)?, value))?;
+        entries.push((String::from_str(alloc, name)?, value))?;
     }
-    for row in names.iter_prefix(dotted.as_str()) {
-        rows.push(row?)?;
+    for entry in names.iter_prefix(dotted.as_str()) {
+        entries.push(entry?)?;
     }
-    Ok(rows)
+    Ok(entries)
 }
 
 /// Drops the entry of a name and those below it.
@@ -84,8 +84,8 @@ pub fn subtree<'a, V: Drop>(
 /// # Examples
 ///
 /// ```
-/// let rows = [("log", 1), ("log.level", 2), ("logs", 3)];
-/// let mut names = StringPatriciaMap::from_iter(rt.alloc(), rows)?;
+/// let entries = [("log", 1), ("log.level", 2), ("logs", 3)];
+/// let mut names = StringPatriciaMap::from_iter(rt.alloc(), entries)?;
 /// drop_subtree(rt.alloc(), &mut names, "log")?;
 /// assert_eq!(rt; names.len(), 1);
 /// ```

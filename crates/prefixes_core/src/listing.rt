@@ -70,13 +70,13 @@ fn fields(line: &[u8], number: u64, values: Values) -> Result<(&[u8], &[u8]), Li
 }
 
 /// What a list is read into.
-pub trait Rows {
+pub trait Destination {
     /// Adds a name with its value. Of two values for one name the later stays.
     ///
     /// # Errors
     ///
     /// Out of memory.
-    fn add_row(&mut self, alloc: Global, name: &str, value: &[u8]) -> Result<(), AllocError>;
+    fn add_entry(&mut self, alloc: Global, name: &str, value: &[u8]) -> Result<(), AllocError>;
 
     /// Adds the names of a list with their values.
     ///
@@ -84,16 +84,16 @@ pub trait Rows {
     ///
     /// Out of memory: some of them are added.
     fn add_list(&mut self, alloc: Global, list: Listing) -> Result<(), AllocError> {
-        for row in list {
-            let (name, value) = row?;
-            self.add_row(alloc, name.as_str(), value.as_bytes())?;
+        for entry in list {
+            let (name, value) = entry?;
+            self.add_entry(alloc, name.as_str(), value.as_bytes())?;
         }
         Ok(())
     }
 }
 
-impl Rows for Listing {
-    fn add_row(&mut self, alloc: Global, name: &str, value: &[u8]) -> Result<(), AllocError> {
+impl Destination for Listing {
+    fn add_entry(&mut self, alloc: Global, name: &str, value: &[u8]) -> Result<(), AllocError> {
         match self.insert(name, Payload::new(alloc, value)?) {
             Ok(_) => Ok(()),
             Err(_) => Err(AllocError),
@@ -101,8 +101,8 @@ impl Rows for Listing {
     }
 }
 
-impl Rows for Names {
-    fn add_row(&mut self, _alloc: Global, name: &str, _value: &[u8]) -> Result<(), AllocError> {
+impl Destination for Names {
+    fn add_entry(&mut self, _alloc: Global, name: &str, _value: &[u8]) -> Result<(), AllocError> {
         match self.insert(name, ()) {
             Ok(_) => Ok(()),
             Err(_) => Err(AllocError),
@@ -110,8 +110,8 @@ impl Rows for Names {
     }
 }
 
-impl Rows for Router<String, Payload> {
-    fn add_row(&mut self, alloc: Global, name: &str, value: &[u8]) -> Result<(), AllocError> {
+impl Destination for Router<String, Payload> {
+    fn add_entry(&mut self, alloc: Global, name: &str, value: &[u8]) -> Result<(), AllocError> {
         match self.add(name, Payload::new(alloc, value)?) {
             Ok(_) => Ok(()),
             Err(_) => Err(AllocError),
@@ -119,8 +119,8 @@ impl Rows for Router<String, Payload> {
     }
 }
 
-impl Rows for BlockList {
-    fn add_row(&mut self, alloc: Global, name: &str, _value: &[u8]) -> Result<(), AllocError> {
+impl Destination for BlockList {
+    fn add_entry(&mut self, alloc: Global, name: &str, _value: &[u8]) -> Result<(), AllocError> {
         let name = folded(alloc, name.as_bytes())?;
         self.add(&name)?;
         Ok(())
@@ -128,9 +128,9 @@ impl Rows for BlockList {
 }
 
 // Adds the name of a line. An empty line has none.
-fn add_line<S: Rows>(
+fn add_line<S: Destination>(
     alloc: Global,
-    rows: &mut S,
+    destination: &mut S,
     line: &[u8],
     number: u64,
     values: Values,
@@ -142,17 +142,17 @@ fn add_line<S: Rows>(
     let Ok(name) = str::from_utf8(name) else {
         return Err(ListError::NotUtf8(number));
     };
-    rows.add_row(alloc, name, value)?;
+    destination.add_entry(alloc, name, value)?;
     Ok(())
 }
 
 // Reads a line for each name. Of two lines with one name the later stays.
-fn read_lines<R: BufRead, W: Write, S: Rows>(
+fn read_lines<R: BufRead, W: Write, S: Destination>(
     alloc: Global,
     reader: &mut R,
     values: Values,
     progress: &mut Option<W>,
-    rows: &mut S,
+    destination: &mut S,
 ) -> Result<(), ListError> {
     let mut line = Vec::new(alloc);
     for number in 1..u64::MAX {
@@ -160,7 +160,7 @@ fn read_lines<R: BufRead, W: Write, S: Rows>(
         if reader.read_until(b'\n', &mut line)? == 0 {
             break;
         }
-        add_line(alloc, rows, without_end(&line), number, values)?;
+        add_line(alloc, destination, without_end(&line), number, values)?;
         if number % 100_000 == 0
             && let Some(progress) = progress
         {
@@ -180,7 +180,7 @@ fn read_head<R: Read>(alloc: Global, file: &mut R) -> io::Result<Vec<u8>> {
     Ok(head)
 }
 
-/// Reads a list and adds its rows: packed, if it begins as packed lists do, and else with a line
+/// Reads a list and adds its entries: packed, if it begins as packed lists do, and else with a line
 /// for each name.
 ///
 /// A line is a name, and behind its first byte 9 the value. Empty lines are passed over. Where
@@ -190,22 +190,22 @@ fn read_head<R: Read>(alloc: Global, file: &mut R) -> io::Result<Vec<u8>> {
 /// # Errors
 ///
 /// Which line is wrong, or what is wrong with a packed list; a failure to read; or out of memory.
-pub fn read_list<R: Read + Drop, W: Write, S: Rows>(
+pub fn read_list<R: Read + Drop, W: Write, S: Destination>(
     alloc: Global,
     mut file: R,
     values: Values,
     progress: &mut Option<W>,
-    rows: &mut S,
+    destination: &mut S,
 ) -> Result<(), ListError> {
     let head = read_head(alloc, &mut file)?;
     let mut reader = BufReader::new(alloc, head.as_slice().chain(file))?;
     if head.as_slice() != HEAD {
-        return read_lines(alloc, &mut reader, values, progress, rows);
+        return read_lines(alloc, &mut reader, values, progress, destination);
     }
     let mut bytes = Vec::new(alloc);
     reader.read_to_end(&mut bytes)?;
     match unpack(alloc, &bytes) {
-        Ok(list) => Ok(rows.add_list(alloc, list)?),
+        Ok(list) => Ok(destination.add_list(alloc, list)?),
         Err(UnpackError::Memory) => Err(ListError::Memory),
         Err(fault) => Err(ListError::Packed(fault)),
     }

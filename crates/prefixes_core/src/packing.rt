@@ -199,7 +199,7 @@ fn tree_fault(fault: DecodeError) -> UnpackError
 pub fn unpack(alloc: Global, bytes: &[u8]) -> Result<StringPatriciaMap<Payload>, UnpackError>
     ensures ok { IfOk result (λ list. Packs bytes.now (map.entries list)) }
     ensures refused { IfErr result (λ e. e ≢ UnpackError.Memory
-        → (rows : List (List ℕ × List ℕ)) → Packs bytes.now rows → ⊥) }
+        → (entries : List (List ℕ × List ℕ)) → Packs bytes.now entries → ⊥) }
     ensures named { IfErr result (λ e. IsUnpackFault bytes.now e) }
 {
     let Some(rest) = bytes.strip_prefix(HEAD) else {

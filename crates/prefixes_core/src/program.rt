@@ -2,7 +2,7 @@
 
 use crate::answering::{AnswerError, Question};
 use crate::blocking::BlockList;
-use crate::listing::{ListError, Listing, Names, Rows, Values, read_list, without_end};
+use crate::listing::{Destination, ListError, Listing, Names, Values, read_list, without_end};
 use crate::options;
 use crate::packing::{PackError, pack};
 use crate::value::Payload;
@@ -49,20 +49,20 @@ fn list_failure(alloc: Global, path: &str, error: ListError) -> Failure {
     }
 }
 
-// Reads the list at a path, and adds its rows.
-fn add_list_at<R: Files, E: Write, S: Rows>(
+// Reads the list at a path, and adds its entries.
+fn add_list_at<R: Files, E: Write, S: Destination>(
     rt: &R,
     alloc: Global,
     path: &str,
     values: Values,
     progress: &mut Option<E>,
-    rows: &mut S,
+    destination: &mut S,
 ) -> Result<(), Failure> {
     let file = match fs::open(rt, path) {
         Ok(file) => file,
         Err(error) => return Err(list_failure(alloc, path, ListError::Read(error))),
     };
-    match read_list(alloc, file, values, progress, rows) {
+    match read_list(alloc, file, values, progress, destination) {
         Ok(()) => Ok(()),
         Err(error) => Err(list_failure(alloc, path, error)),
     }

@@ -1,3 +1,3 @@
-//! The examples of the documentation, which show what contracts say in a few rows.
+//! The examples of the documentation, which show what contracts say in a few entries.
 
 mod examples;

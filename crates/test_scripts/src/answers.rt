@@ -25,7 +25,7 @@ pub trait Answers {
     fn add_key(&mut self, bytes: &[u8]) -> Result<(), AllocError>;
 
     /// Adds an entry, as its key and its value.
-    fn add_row(&mut self, key: &[u8], value: u64) -> Result<(), AllocError>;
+    fn add_pair(&mut self, key: &[u8], value: u64) -> Result<(), AllocError>;
 
     /// Adds tree bytes, or why there are none.
     fn add_tree(&mut self, tree: Result<Vec<u8>, WireError>) -> Result<(), AllocError>;
@@ -90,7 +90,7 @@ impl Answers for String {
         Ok(())
     }
 
-    fn add_row(&mut self, key: &[u8], value: u64) -> Result<(), AllocError> {
+    fn add_pair(&mut self, key: &[u8], value: u64) -> Result<(), AllocError> {
         self.add_key(key)?;
         self.push('=')?;
         write!(self, "{value}")

@@ -108,7 +108,7 @@ fn add_popped<K: Bytes>(
         map.pop_last()
     };
     match popped {
-        Ok(Some((key, value))) => out.add_row(key.as_bytes(), value),
+        Ok(Some((key, value))) => out.add_pair(key.as_bytes(), value),
         Ok(None) => out.add("none"),
         Err(error) => Err(error),
     }

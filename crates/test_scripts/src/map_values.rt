@@ -103,7 +103,7 @@ fn raise<K: Bytes>(
 ) -> Result<bool, AllocError> {
     match cursor.next() {
         Ok(Some((key, value))) => {
-            out.add_row(key.as_bytes(), *value)?;
+            out.add_pair(key.as_bytes(), *value)?;
             *value = value.saturating_add(more);
             Ok(true)
         }

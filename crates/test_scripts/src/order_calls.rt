@@ -77,7 +77,7 @@ fn add_between<Q: BorrowedBytes>(
 // An entry that a call found, or `none`.
 fn add_found<K: Bytes>(found: Option<(K, &u64)>, out: &mut String) -> Result<(), AllocError> {
     match found {
-        Some((key, value)) => out.add_row(key.as_bytes(), *value),
+        Some((key, value)) => out.add_pair(key.as_bytes(), *value),
         None => out.add("none"),
     }
 }
@@ -138,7 +138,7 @@ fn add_folded<Q: BorrowedBytes>(
     let visited = if prefix.is_empty() {
         map.for_each(&mut step)
     } else {
-        map.for_each_under(prefix, &mut step)
+        map.for_each_prefix(prefix, &mut step)
     };
     out.add_number(folded)?;
     visited

@@ -19,7 +19,7 @@ pub(super) fn answer<'a, Q: Readable<'a>>(
 ) -> Result<(), AllocError> {
     match call {
         "longest" | "reach" => add_each::<Q>(map, call == "longest", arguments, out),
-        "along" | "along_values" | "along_owned" | "under" | "cursor_under" => {
+        "along" | "along_values" | "along_owned" | "under" | "cursor_prefix" => {
             add_about::<Q>(alloc, map, call, arguments, out)
         }
         "within" => add_within::<Q>(map, arguments, out),
@@ -53,7 +53,7 @@ fn add_one<Q: BorrowedBytes>(
         return out.add_number(map.longest_common_prefix_len(key) as u64);
     }
     match map.get_longest_common_prefix(key) {
-        Some((front, value)) => out.add_row(front.as_bytes(), *value),
+        Some((front, value)) => out.add_pair(front.as_bytes(), *value),
         None => out.add("none"),
     }
 }
@@ -74,7 +74,7 @@ fn add_about<'a, Q: Readable<'a>>(
     out.add("unknown")
 }
 
-// The answers of a walk along one key or under it.
+// The answers of a walk over the common prefixes of a key or under it.
 fn add_walked<Q: BorrowedBytes>(
     alloc: Global,
     map: &Map<Q::Owned>,
@@ -87,7 +87,7 @@ fn add_walked<Q: BorrowedBytes>(
         "along_values" => add_along_values(map, key, out),
         "along_owned" => add_along_a_copy(alloc, map, key, out),
         "under" => add_walk(map.iter_prefix(key), map.len(), out),
-        _ => add_walk(map.cursor_under(key), map.len(), out),
+        _ => add_walk(map.cursor_prefix(key), map.len(), out),
     }
 }
 
@@ -97,7 +97,7 @@ fn add_along<Q: BorrowedBytes>(
     out: &mut String,
 ) -> Result<(), AllocError> {
     for (front, value) in map.common_prefixes(key) {
-        out.add_row(front.as_bytes(), *value)?;
+        out.add_pair(front.as_bytes(), *value)?;
     }
     Ok(())
 }

@@ -59,7 +59,7 @@ fn add_question<Q: BorrowedBytes>(
         "reach" => out.add_number(set.longest_common_prefix_len(argument) as u64),
         "longest" => add_longest(set, argument, out),
         "under" => add_walk(set.iter_prefix(argument), set.len(), out),
-        "cursor_under" => add_walk(set.cursor_under(argument), set.len(), out),
+        "cursor_prefix" => add_walk(set.cursor_prefix(argument), set.len(), out),
         "beside" => add_beside(set, argument, out),
         "fold" => add_folded(set, argument, out),
         "count" => out.add_number(set.count_prefix(argument)? as u64),
@@ -166,7 +166,7 @@ fn add_folded<Q: BorrowedBytes>(
     let visited = if prefix.is_empty() {
         set.for_each(&mut step)
     } else {
-        set.for_each_under(prefix, &mut step)
+        set.for_each_prefix(prefix, &mut step)
     };
     out.add_number(folded)?;
     visited

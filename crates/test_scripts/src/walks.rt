@@ -52,7 +52,7 @@ fn add_entry<K: Bytes>(
     out: &mut String,
 ) -> Result<bool, AllocError> {
     match entry {
-        Some(Ok((key, value))) => given(out.add_row(key.as_bytes(), *value)),
+        Some(Ok((key, value))) => given(out.add_pair(key.as_bytes(), *value)),
         Some(Err(error)) => Err(error),
         None => Ok(false),
     }
@@ -91,7 +91,7 @@ impl<'a, Q: BorrowedBytes> Walk for Range<'a, Q, u64> {
 impl<K: Bytes> Walk for IntoIter<K, u64> {
     fn step(&mut self, out: &mut String) -> Result<bool, AllocError> {
         match self.next() {
-            Some(Ok((key, value))) => given(out.add_row(key.as_bytes(), value)),
+            Some(Ok((key, value))) => given(out.add_pair(key.as_bytes(), value)),
             Some(Err(error)) => Err(error),
             None => Ok(false),
         }
@@ -146,7 +146,7 @@ pub trait Stored {
 
 impl Stored for u64 {
     fn add_behind(&self, key: &[u8], out: &mut String) -> Result<(), AllocError> {
-        out.add_row(key, *self)
+        out.add_pair(key, *self)
     }
 }
 

@@ -2,7 +2,7 @@
 ghost use Rattle.std.specs.Prelude.{◌≡◌, ℕ, List, [], None, Some, false, IfOk, OnErr, IsTrue};
 ghost use Rattle.std.specs.Prelude.{MatchOption};
 ghost use Rattle.std.specs.FinMap as map;
-ghost use Rattle.patricia_tree.specs.Cursors.{next_row};
+ghost use Rattle.patricia_tree.specs.Cursors.{next_entry};
 
 use patricia_tree::{BorrowedBytes, Bytes, GenericPatriciaMap};
 use std::alloc::AllocError;
@@ -14,9 +14,9 @@ pub fn replace_first<V: Drop, K: Bytes>(
     value: V,
 ) -> Result<Option<V>, AllocError>
     ensures ok { IfOk result (λ r. MatchOption r
-        ((next_row (record { map = m.old; prefix = []; last = None }) ≡ None) × (m.new ≡ m.old))
+        ((next_entry (record { map = m.old; prefix = []; last = None }) ≡ None) × (m.new ≡ m.old))
         (λ old. (key : List ℕ)
-        × (next_row (record { map = m.old; prefix = []; last = None }) ≡ Some (key, old))
+        × (next_entry (record { map = m.old; prefix = []; last = None }) ≡ Some (key, old))
         × (m.new ≡ map.insert m.old key value))) }
     ensures unchanged { OnErr result (m.new ≡ m.old) }
 {
@@ -34,10 +34,11 @@ pub fn replace_first_under<V: Drop, Q: BorrowedBytes>(
     value: V,
 ) -> Result<Option<V>, AllocError>
     ensures ok { IfOk result (λ r. MatchOption r
-        ((next_row (record { map = m.old; prefix = Q.key prefix; last = None }) ≡ None)
+        ((next_entry (record { map = m.old; prefix = Q.key prefix; last = None }) ≡ None)
         × (m.new ≡ m.old))
         (λ old. (key : List ℕ)
-        × (next_row (record { map = m.old; prefix = Q.key prefix; last = None }) ≡ Some (key, old))
+        × (next_entry (record { map = m.old; prefix = Q.key prefix; last = None })
+        ≡ Some (key, old))
         × (m.new ≡ map.insert m.old key value))) }
     ensures unchanged { OnErr result (m.new ≡ m.old) }
 {
@@ -54,9 +55,9 @@ pub fn replace_first_value<V: Drop, K: Bytes>(
     value: V,
 ) -> Result<Option<V>, AllocError>
     ensures ok { IfOk result (λ r. MatchOption r
-        ((next_row (record { map = m.old; prefix = []; last = None }) ≡ None) × (m.new ≡ m.old))
+        ((next_entry (record { map = m.old; prefix = []; last = None }) ≡ None) × (m.new ≡ m.old))
         (λ old. (key : List ℕ)
-        × (next_row (record { map = m.old; prefix = []; last = None }) ≡ Some (key, old))
+        × (next_entry (record { map = m.old; prefix = []; last = None }) ≡ Some (key, old))
         × (m.new ≡ map.insert m.old key value))) }
     ensures unchanged { OnErr result (m.new ≡ m.old) }
 {
@@ -73,10 +74,10 @@ pub fn set_first<V: Drop, K: Bytes>(
     value: V,
 ) -> Result<bool, AllocError>
     ensures put { IfOk result (λ found. IsTrue found → (key : List ℕ) × (old : V)
-        × (next_row (record { map = m.old; prefix = []; last = None }) ≡ Some (key, old))
+        × (next_entry (record { map = m.old; prefix = []; last = None }) ≡ Some (key, old))
         × (m.new ≡ map.insert m.old key value)) }
     ensures none { IfOk result (λ found. found ≡ false →
-        (next_row (record { map = m.old; prefix = []; last = None }) ≡ None) × (m.new ≡ m.old)) }
+        (next_entry (record { map = m.old; prefix = []; last = None }) ≡ None) × (m.new ≡ m.old)) }
     ensures unchanged { OnErr result (m.new ≡ m.old) }
 {
     let mut first = m.iter_mut();

@@ -83,12 +83,12 @@ pub fn with_other_keys(alloc: Global) -> Result<(Vec<u8>, Vec<u8>), WireError>
     encode_both(&first, &second)
 }
 
-/// Writes tree bytes again with levels in four bytes: the same values mean the same rows with both.
-/// Returns `None` where the bytes and the values mean no map, or memory runs out.
+/// Writes tree bytes again with levels in four bytes: the same values mean the same entries with
+/// both. Returns `None` where the bytes and the values mean no map, or memory runs out.
 pub fn widened<K: Bytes, V: Drop>(alloc: Global, bytes: &[u8], values: Vec<V>) -> Option<Vec<u8>>
-    ensures { IfSome result (λ wide. (rows : List (List ℕ × V))
-        × Means K.item 2 bytes.now values.items rows
-        × Means K.item 4 wide.items values.items rows) }
+    ensures { IfSome result (λ wide. (entries : List (List ℕ × V))
+        × Means K.item 2 bytes.now values.items entries
+        × Means K.item 4 wide.items values.items entries) }
 {
     let Ok(map) = GenericPatriciaMap::<K, V>::from_wire(alloc, bytes, values) else {
         return None;

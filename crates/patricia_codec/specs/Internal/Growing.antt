@@ -4,11 +4,11 @@ use Rattle.std.specs.Prelude.{Some, All, slice_get}
 use Rattle.patricia_model.specs.Siblings.{Siblings, own, entries, IsBeforeSiblings}
 use Rattle.patricia_model.specs.Walks.{values_of}
 use Rattle.patricia_nodes.specs.declared.arena.Node.{Node}
-use Rattle.patricia_nodes.specs.Internal.Plans.{Plan, row, head, size, count, below, linked}
+use Rattle.patricia_nodes.specs.Internal.Plans.{Plan, siblings_in, head, size, count, below, linked}
 use Rattle.patricia_nodes.specs.Internal.Plans.{LaidOut}
 use Rattle.patricia_wire.specs.Records.{Record}
-use Rattle.patricia_wire.specs.Internal.WrittenRows.{has_node, records_of, tree_records, over}
-use Rattle.patricia_wire.specs.Internal.WrittenRows.{joined, IsWritable}
+use Rattle.patricia_wire.specs.Internal.WrittenSiblings.{has_node, records_of, tree_records, over}
+use Rattle.patricia_wire.specs.Internal.WrittenSiblings.{joined, IsWritable}
 
 -- the node with this number waits for its sibling, whose record has this level; its record's label
 -- comes before that of the sibling
@@ -25,12 +25,13 @@ module _ {V : Type 0} where
       → (sibling : Option ℕ) × (slice_get later i ≡ Some (linked n.label n.value n.child sibling))
       × (All (λ g. g.id ≢ i) gaps → sibling ≡ n.sibling)
 
-  -- the nodes from a number on, which stand for a row of records with its lone children taken in
+  -- the nodes from a number on, which stand for the siblings of records with their lone children
+  -- taken in
   pub record Hangs (item : List ℕ → Type 0) (nodes : List (Node V))
       (at : Option ℕ) (plan : Plan V) (written : Siblings V) : Type 0 where
     pub stands : LaidOut nodes plan
     pub at_is : at ≡ head plan
-    pub same : row plan ≡ joined written
+    pub same : siblings_in plan ≡ joined written
     pub writable : IsWritable item written
 
 -- a node that is not laid, the next one: its label so far, its value, whether it has a child and a
@@ -45,7 +46,7 @@ pub record Unlaid (V : Type 0) : Type 0 where
   pub own_label : List ℕ
 
 module _ (item : List ℕ → Type 0) {V : Type 0} where
-  -- a row stands beside the node that waits
+  -- siblings stand beside the node that waits
   pub record IsBeside (nodes : List (Node V)) (g : Gap) (plan : Plan V)
       (written : Siblings V) : Type 0 where
     pub waiting : Node V
@@ -54,8 +55,8 @@ module _ (item : List ℕ → Type 0) {V : Type 0} where
     pub there : has_node written ≡ true
     pub rises : IsBeforeSiblings item g.label written
 
-  -- rows stand beside all nodes that wait: their records, their values, their numbers and how many
-  -- nodes they have
+  -- siblings stand beside all nodes that wait: their records, their values, their numbers and how
+  -- many nodes they have
   abbrev pub AreBeside : List (Node V) → List Gap → List Record → List V → (ℕ → ℕ) → ℕ → Type 0
   AreBeside nodes [] R vs ids n =
       (R ≡ []) × (vs ≡ []) × ((at : ℕ) → ids at ≡ 0) × (n ≡ 0)
@@ -94,8 +95,8 @@ module _ (item : List ℕ → Type 0) {V : Type 0} where
       → IsGrown later root value (R ++ R2) (vs ++ vs2)
       (λ at. below (length nodes) at + ids at) (length nodes + n)
 
-  -- besides, a row is open whose first node is the next one; it is at this level, and one that is
-  -- allowed
+  -- besides, siblings are open whose first node is the next one; it is at this level, and one that
+  -- is allowed
   abbrev pub IsOpenAt : List (Node V) → Option ℕ → Option V → (Siblings V → Type 0)
       → ℕ → List Gap → List Record → List V → Type 0
   IsOpenAt nodes root value Allowed level gaps R vs =
@@ -116,7 +117,7 @@ module _ (item : List ℕ → Type 0) {V : Type 0} where
       (later : List (Node V)) → IsLater nodes gaps later
       → (plan : Plan V) (c s : Siblings V)
       → LaidOut later plan → head plan ≡ Some (length nodes)
-      → row plan ≡ over u.label u.value (joined c) (joined s)
+      → siblings_in plan ≡ over u.label u.value (joined c) (joined s)
       → IsWritable item c → IsWritable item s
       → has_node c ≡ u.child → has_node s ≡ u.sibling
       → IsBeforeSiblings item u.own_label s

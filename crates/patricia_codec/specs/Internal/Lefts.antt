@@ -5,7 +5,7 @@ use Rattle.patricia_model.specs.Siblings.{Siblings}
 use Rattle.patricia_nodes.specs.declared.arena.Node.{Node}
 use Rattle.patricia_nodes.specs.declared.arena.NodeArena.{NodeArena}
 use Rattle.patricia_nodes.specs.Internal.Plans.{plan_at, siblings_of, IsPlan}
-use Rattle.patricia_walks.specs.Internal.Positions.{row_at}
+use Rattle.patricia_walks.specs.Internal.Positions.{siblings_at}
 use Rattle.patricia_wire.specs.Records.{Record}
 use Rattle.patricia_codec.specs.declared.records.Records.{Records}
 use Rattle.patricia_codec.specs.Internal.Pieces.{AreRecords, cut_front, weight}
@@ -18,19 +18,19 @@ module _ {V : Type 0} where
   abbrev pub nodes_of : Records V → List (Node V)
   nodes_of p = p.arena.now.nodes.items
 
-  -- the row that is next
+  -- the siblings that are next
   abbrev pub next_siblings : Records V → Siblings V
-  next_siblings p = cut_front p.skipped (row_at (nodes_of p) p.next)
+  next_siblings p = cut_front p.skipped (siblings_at (nodes_of p) p.next)
 
-  -- the weight of the rows that wait, and of all that is left
+  -- the weight of the siblings that wait, and of all that is left
   abbrev pub weight_waiting : List (Node V) → List (ℕ × Option ℕ) → ℕ
   weight_waiting nodes [] = 0
-  weight_waiting nodes (f ∷ fs) = weight (row_at nodes f.1) + weight_waiting nodes fs
+  weight_waiting nodes (f ∷ fs) = weight (siblings_at nodes f.1) + weight_waiting nodes fs
 
   abbrev pub weight_left : Records V → ℕ
   weight_left p = weight (next_siblings p) + weight_waiting (nodes_of p) p.stack.items
 
-  -- nothing is taken: the first row is next, and no row waits
+  -- nothing is taken: the top siblings are next, and none wait
   pub record IsEncoderStart (p : Records V) : Type 0 where
     pub level : p.level ≡ 1
     pub next : p.next ≡ p.arena.now.root
@@ -38,12 +38,12 @@ module _ {V : Type 0} where
     pub stack : p.stack.items ≡ []
 
 module _ (item : List ℕ → Type 0) {V : Type 0} where
-  -- these are the records of a row that waits
+  -- these are the records of siblings that wait
   abbrev pub WaitsToWrite : List (Node V) → ℕ × Option ℕ → List Record → Type 0
   WaitsToWrite nodes f R =
-      IsPlan nodes f.1 (plan_at nodes f.1) × AreRecords item f.0 (row_at nodes f.1) R
+      IsPlan nodes f.1 (plan_at nodes f.1) × AreRecords item f.0 (siblings_at nodes f.1) R
 
-  -- and of all rows that wait, the last of which comes first
+  -- and of all siblings that wait, the last of which come first
   abbrev pub AllWait : List (Node V) → List (ℕ × Option ℕ) → List Record → Type 0
   AllWait nodes [] R = R ≡ []
   AllWait nodes (f ∷ fs) R =
@@ -67,7 +67,7 @@ module _ (item : List ℕ → Type 0) {V : Type 0} where
   abbrev pub IsOver : Records V → Type 0
   IsOver p = (R : List Record) → AreRecordsLeft p R → R ≡ []
 
-  -- what is left is what was left, and one row less waits
+  -- what is left is what was left, and the last siblings wait no more
   pub record GoesBack (old new : Records V) : Type 0 where
     pub left : (R : List Record) → AreRecordsLeft old R → AreRecordsLeft new R
     pub same : weight_left new ≡ weight_left old

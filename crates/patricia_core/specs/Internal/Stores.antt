@@ -5,7 +5,7 @@ use Rattle.patricia_nodes.specs.declared.arena.NodeArena.{NodeArena}
 use Rattle.patricia_nodes.specs.Internal.Plans.{IsWellFormed, siblings_of}
 use Rattle.patricia_nodes.specs.Internal.Trails.{IsTrail}
 
--- no node is lost, and the row that they stand for is that of a tree
+-- no node is lost, and the siblings that they stand for are those of a tree
 pub record IsStored {V : Type 0} (item : List ℕ → Type 0) (arena : NodeArena V)
     (count : ℕ) : Type 0 where
   pub whole : IsWellFormed arena

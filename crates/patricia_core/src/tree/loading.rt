@@ -25,7 +25,7 @@ pub struct Loader<Q: BorrowedBytes, V> {
     tree: TreeParts<V>,
     // the key that was looked up last, where there is a trail
     last: Option<Q>,
-    // nodes that it has passed, each with how many of its bytes are passed there
+    // a finger: the nodes that it has passed, each with how many of its bytes are passed there
     trail: Vec<(NodeId, usize)>,
 }
 
@@ -78,7 +78,7 @@ impl<Q: BorrowedBytes, V: Drop> Loader<Q, V> {
         last(self.tree.alloc, self.tree.value.as_ref(), &self.tree.arena)
     }
 
-    // Inserts by a look-up from the root. The trail begins anew.
+    // Inserts by a look-up from the root. The trail starts over.
     fn insert_from_root(&mut self, key: Q, value: V) -> Result<Option<V>, Refused<V>>
         ensures old { IfOk result (λ old. old ≡ map.get self.old (Q.key key)) }
         ensures ok { OnOk result (self.new ≡ map.insert self.old (Q.key key) value) }

@@ -3,7 +3,7 @@ ghost use Rattle.std.specs.Prelude.{◌≡◌, ◌≢◌, [], None, Option, IfOk
 ghost use Rattle.std.specs.List.{last_or};
 ghost use Rattle.std.specs.Option.{option_map};
 ghost use Rattle.std.specs.FinMap as map;
-ghost use Rattle.patricia_model.specs.Cursors.{before_rows};
+ghost use Rattle.patricia_model.specs.Cursors.{before_entries};
 ghost use Rattle.patricia_model.specs.Ranges.{before, from};
 ghost use Rattle.patricia_walks.specs.Internal.Bounds.{within};
 
@@ -21,7 +21,7 @@ impl<K: Bytes, V: Drop> Tree<K, V> {
         key: Q,
         bound: Option<Q>,
     ) -> RangeReadCursor<'_, Q, V>
-        ensures { result ≡ before_rows
+        ensures { result ≡ before_entries
             (within (option_map Q.key bound) (from (Q.key key) (map.entries self.now))) }
     {
         RangeReadCursor::new(self.alloc, self.value.as_ref(), &self.arena, key, bound)

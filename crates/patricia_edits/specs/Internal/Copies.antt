@@ -6,7 +6,7 @@ use Rattle.patricia_model.specs.Clones.{CloneIsSame}
 use Rattle.patricia_nodes.specs.declared.arena.Node.{Node}
 use Rattle.patricia_nodes.specs.declared.arena.NodeArena.{NodeArena}
 use Rattle.patricia_nodes.specs.Internal.Growth.{numbered_siblings}
-use Rattle.patricia_nodes.specs.Internal.Plans.{Plan, head, row, size, entries_of}
+use Rattle.patricia_nodes.specs.Internal.Plans.{Plan, head, siblings_in, size, entries_of}
 use Rattle.patricia_nodes.specs.Internal.Relocation.{Laying, marked_from}
 
 module _ {V : Type 0} (is_clone : V → V → Type 0) where
@@ -14,11 +14,11 @@ module _ {V : Type 0} (is_clone : V → V → Type 0) where
   abbrev pub EntriesKept : NodeArena V → Type 0
   EntriesKept s = All (λ e. CloneIsSame is_clone e.1) (entries_of s)
 
-  -- and so in a row
-  abbrev pub RowKept : Siblings V → Type 0
-  RowKept end = Unit {0}
-  RowKept (node label value child sibling) =
-      IfSome value (CloneIsSame is_clone) × RowKept child × RowKept sibling
+  -- and so in siblings
+  abbrev pub SiblingsKept : Siblings V → Type 0
+  SiblingsKept end = Unit {0}
+  SiblingsKept (node label value child sibling) =
+      IfSome value (CloneIsSame is_clone) × SiblingsKept child × SiblingsKept sibling
 
   -- the nodes from a number on wait for copies of their children, and there is room for all of them
   pub record AwaitsFrom (from : List (Node V)) (start : ℕ) (to : List (Node V)) (capacity : ℕ)
@@ -27,7 +27,7 @@ module _ {V : Type 0} (is_clone : V → V → Type 0) where
     pub marks : ℕ → Bool
     pub laying : Laying plan from marks to (head (numbered_siblings 0 plan))
     pub unmarked : (at : ℕ) → start ≤ at → marks at ≡ false
-    pub kept : RowKept (row plan)
+    pub kept : SiblingsKept (siblings_in plan)
     pub room : size plan ≤ capacity
 
 -- what is below the nodes from a number on was copied, whatever came before

@@ -42,7 +42,7 @@ module _ {V : Type 0} where
   abbrev pub Grows : NodeArena V → NodeArena V → Plan V → Type 0
   Grows old new plan = Holds new plan × ((n : ℕ) → HasRoomFor old (suc n) → HasRoomFor new n)
 
-  -- a new node stands in the place at the spot, with what was there below or beside it
+  -- a new node stands in the place at the link, with what was there below or beside it
   abbrev pub AddsNode : NodeArena V → NodeArena V → LinkRef → Node V → ℕ → Type 0
   AddsNode old new link_ref n id =
       (frames : List (Frame V)) (child sibling q : Plan V) → link_ref ≡ link_ref_of frames

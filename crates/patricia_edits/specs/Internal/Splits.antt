@@ -3,7 +3,7 @@ use Rattle.std.specs.Prelude.{◌≡◌, ℕ, ◌≤◌, suc, List, ◌++◌, le
 use Rattle.patricia_nodes.specs.declared.arena.Node.{Node}
 use Rattle.patricia_nodes.specs.declared.arena.NodeArena.{NodeArena}
 use Rattle.patricia_nodes.specs.declared.arena.seek.LinkRef.{LinkRef}
-use Rattle.patricia_nodes.specs.Internal.Plans.{Plan, Cell, row, size, Holds, IsWellFormed}
+use Rattle.patricia_nodes.specs.Internal.Plans.{Plan, Cell, siblings_in, size, Holds, IsWellFormed}
 use Rattle.patricia_nodes.specs.Internal.Plans.{siblings_of, entries_of}
 use Rattle.patricia_nodes.specs.Internal.Places.{Frame, fill, link_ref_of}
 use Rattle.patricia_model.specs.Prefixes.{outside, under}
@@ -13,7 +13,7 @@ use Rattle.patricia_edits.specs.declared.splitting.Taken.{Taken}
 module _ {V : Type 0} where
   -- how many of the nodes have a value
   abbrev pub values : Plan V → ℕ
-  values p = length (entries (row p))
+  values p = length (entries (siblings_in p))
 
   -- the number is that of a node, and this is what is below it
   abbrev pub HasSplitNode : NodeArena V → ℕ → Type 0
@@ -22,7 +22,7 @@ module _ {V : Type 0} where
       × (sibling : Plan V)
       × Holds s (fill frames (Cell id label value child sibling))
 
-  -- it stands at the spot, and there is so much room
+  -- it stands at the link, and there is so much room
   abbrev pub HasTreeAt : NodeArena V → LinkRef → ℕ → ℕ → Type 0
   HasTreeAt s link_ref id capacity =
       (frames : List (Frame V)) × (label : List ℕ) × (value : Option V) × (child : Plan V)
@@ -35,7 +35,7 @@ module _ {V : Type 0} where
   CountsTree s id nodes count =
       (frames : List (Frame V)) (label : List ℕ) (value : Option V) (child sibling : Plan V)
       → Holds s (fill frames (Cell id label value child sibling))
-      → (suc (size child) ≤ nodes) × (count ≡ length (own value ++ entries (row child)))
+      → (suc (size child) ≤ nodes) × (count ≡ length (own value ++ entries (siblings_in child)))
 
   -- that node and those below it are gone, and stand in the other nodes under this label
   abbrev pub MovesOut : NodeArena V → NodeArena V → LinkRef → ℕ → List ℕ → NodeArena V → Type 0
@@ -44,7 +44,8 @@ module _ {V : Type 0} where
       → link_ref ≡ link_ref_of frames
       → Holds old (fill frames (Cell id label value child sibling))
       → Holds new (fill frames sibling)
-      × ((plan : Plan V) × Holds moved plan × (row plan ≡ node top value (row child) end))
+      × ((plan : Plan V) × Holds moved plan
+      × (siblings_in plan ≡ node top value (siblings_in child) end))
 
   -- the label is the prefix, and what the node's label has past so many bytes
   abbrev pub IsTopLabel : NodeArena V → ℕ → List ℕ → ℕ → List ℕ → Type 0

@@ -14,7 +14,7 @@ cursor_view_code {V} code =
     (λ s. (s.map, (s.prefix, s.last)))
     (λ p. record { map = p.0; prefix = p.1.0; last = p.1.1 }) (λ _. refl)
 
--- and that of a cursor that only reads as its row and the rows that are left
+-- and that of a cursor that only reads as its entry and the entries that are left
 abbrev pub read_cursor_view_code : {V : Type 0} → Coded V → Coded (ReadCursorView V)
 read_cursor_view_code {V} code =
     code_by (Option (List ℕ × V) × List (List ℕ × V))

@@ -1,4 +1,4 @@
--- What a removal leaves of a row.
+-- What a removal leaves of siblings.
 use Rattle.std.specs.Prelude.{◌≡◌, ℕ, suc, ◌⊎◌, List, ◌++◌, not, Some, None}
 use Rattle.std.specs.FinMap.Entries.{where_key}
 use Rattle.std.specs.Ordering.{eq_by_cmp}
@@ -20,7 +20,8 @@ module _ {V : Type 0} where
   IsLoneParent (node l (Some x) (node m w d end) s) = Unit {0}
   IsLoneParent _ = ⊥
 
-  -- the row without the value of its first node: the node goes, takes in its lone child or stays
+  -- the siblings without the value of their first node: the node goes, takes in its lone child or
+  -- stays
   abbrev pub without_first : Siblings V → Siblings V
   without_first end = end
   without_first (node l None c s) = node l None c s

@@ -1,4 +1,4 @@
--- How nodes are relocated to another vector, row by row.
+-- How nodes are relocated to another vector, one list of siblings after the other.
 use Rattle.std.specs.Prelude.{◌≡◌, ℕ, ◌+◌, ◌≤◌, suc, List, [], ◌∷◌, length, Option, Some, slice_get}
 use Rattle.patricia_nodes.specs.declared.arena.Node.{Node}
 use Rattle.patricia_nodes.specs.declared.arena.NodeArena.{NodeArena}
@@ -7,38 +7,39 @@ use Rattle.patricia_nodes.specs.Internal.Plans.{LaidOut}
 use Rattle.patricia_nodes.specs.Internal.Writes.{IsFree}
 
 module _ {V : Type 0} where
-  -- the numbers of the nodes of the top row
+  -- the numbers of the nodes of the top siblings
   abbrev pub tops : Plan V → List ℕ
   tops Nil = []
   tops (Cell id label value child sibling) = id ∷ tops sibling
 
-  -- the top row with numbers from n on
+  -- the top siblings with numbers from n on
   abbrev pub numbered_siblings : ℕ → Plan V → Plan V
   numbered_siblings n Nil = Nil
   numbered_siblings n (Cell id label value child sibling) =
       Cell n label value child (numbered_siblings (suc n) sibling)
 
-  -- the nodes of the top row with numbers from n on, which keep the old numbers of their children
+  -- the nodes of the top siblings with numbers from n on, which keep the old numbers of their
+  -- children
   abbrev pub laid : ℕ → Plan V → List (Node V)
   laid n Nil = []
   laid n (Cell id label value child sibling) =
       linked label value (head child) (head (numbered_siblings (suc n) sibling))
       ∷ laid (suc n) sibling
 
-  -- at each number of the top row is its node
-  abbrev pub RowStands : List (Node V) → Plan V → Type 0
-  RowStands nodes Nil = Unit {0}
-  RowStands nodes (Cell id label value child sibling) =
+  -- at the number of each of the top siblings is its node
+  abbrev pub SiblingsStand : List (Node V) → Plan V → Type 0
+  SiblingsStand nodes Nil = Unit {0}
+  SiblingsStand nodes (Cell id label value child sibling) =
       (slice_get nodes id ≡ Some (linked label value (head child) (head sibling)))
-      × RowStands nodes sibling
+      × SiblingsStand nodes sibling
 
-  -- the row from a number on stands in the nodes, and no number stands in it twice
-  pub record IsTopRow (nodes : List (Node V)) (at : Option ℕ) (w : Plan V) : Type 0 where
-    pub stands : RowStands nodes w
+  -- the siblings from a number on stand in the nodes, and no number stands twice among them
+  pub record AreTopSiblings (nodes : List (Node V)) (at : Option ℕ) (w : Plan V) : Type 0 where
+    pub stands : SiblingsStand nodes w
     pub at_is : at ≡ head w
     pub once : (i : ℕ) → times (tops w) i ≤ 1
 
-  -- how often a number stands below the top row, and how many nodes are there
+  -- how often a number stands below the top siblings, and how many nodes are there
   abbrev pub count_below : Plan V → ℕ → ℕ
   count_below Nil at = 0
   count_below (Cell id label value child sibling) at = count child at + count_below sibling at
@@ -47,13 +48,13 @@ module _ {V : Type 0} where
   size_below Nil = 0
   size_below (Cell id label value child sibling) = size child + size_below sibling
 
-  -- what is below the top row stands in the nodes
+  -- what is below the top siblings stands in the nodes
   abbrev pub BelowStands : List (Node V) → Plan V → Type 0
   BelowStands nodes Nil = Unit {0}
   BelowStands nodes (Cell id label value child sibling) =
       LaidOut nodes child × BelowStands nodes sibling
 
-  -- the top row is laid in the new nodes, and what is below it stands in the old ones
+  -- the top siblings are laid in the new nodes, and what is below them stands in the old ones
   pub record IsLaid (from to : List (Node V)) (w : Plan V) : Type 0 where
     pub laid_is : to ≡ laid 0 w
     pub below_stands : BelowStands from w
@@ -70,8 +71,8 @@ module _ {V : Type 0} where
         → (left : List ℕ) × IsFree new.nodes.items new.free left
         × ((i : ℕ) → times left i ≡ counts i + times spare i) × (length left ≡ n + length spare)
 
-  abbrev pub TakesRow : NodeArena V → NodeArena V → Plan V → Type 0
-  TakesRow old new w = TakesNodes old new (λ i. times (tops w) i) (length (tops w))
+  abbrev pub TakesSiblings : NodeArena V → NodeArena V → Plan V → Type 0
+  TakesSiblings old new w = TakesNodes old new (λ i. times (tops w) i) (length (tops w))
 
   abbrev pub TakesBelow : NodeArena V → NodeArena V → Plan V → Type 0
   TakesBelow old new w = TakesNodes old new (λ i. count_below w i) (size_below w)

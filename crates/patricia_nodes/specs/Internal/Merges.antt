@@ -6,11 +6,11 @@ use Rattle.patricia_model.specs.Internal.Removals.{width}
 use Rattle.patricia_nodes.specs.declared.arena.Node.{Node}
 use Rattle.patricia_nodes.specs.declared.arena.NodeArena.{NodeArena}
 use Rattle.patricia_nodes.specs.declared.arena.seek.LinkRef.{LinkRef}
-use Rattle.patricia_nodes.specs.Internal.Plans.{Plan, Nil, Cell, row, Holds}
+use Rattle.patricia_nodes.specs.Internal.Plans.{Plan, Nil, Cell, siblings_in, Holds}
 use Rattle.patricia_nodes.specs.Internal.Places.{Frame, InChild, InSibling, fill, link_ref_of}
 
 module _ {V : Type 0} where
-  -- the number is that of a node without children, which stands at the spot
+  -- the number is that of a node without children, which stands at the link
   abbrev pub HasLeafAt : NodeArena V → LinkRef → ℕ → Type 0
   HasLeafAt s link_ref id =
       (frames : List (Frame V)) × (label : List ℕ) × (value : Option V) × (sibling : Plan V)
@@ -47,7 +47,7 @@ module _ {V : Type 0} where
       → slice_get s.nodes.items lower ≡ Some m
       → joined ≡ n.label ++ m.label
 
-  -- the row has two nodes, and these are their numbers
+  -- the siblings are two, and these are their numbers
   abbrev pub IsPair : Plan V → ℕ → ℕ → Type 0
   IsPair p first second =
       (l : List ℕ) × (v : Option V) × (c : Plan V) × (m : List ℕ) × (w : Option V) × (d : Plan V)
@@ -57,7 +57,7 @@ module _ {V : Type 0} where
   abbrev pub Spares : List (Frame V) → Plan V → Type 0
   Spares [] p = Unit {0}
   Spares (InSibling id label value child ∷ fs) p = Spares fs (Cell id label value child p)
-  Spares (InChild id label value sibling ∷ fs) p = value ≡ None → 2 ≤ width (row p)
+  Spares (InChild id label value sibling ∷ fs) p = value ≡ None → 2 ≤ width (siblings_in p)
 
   -- it has no value and one other child, where this is what is left in the place
   pub record LeavesOther (frames : List (Frame V)) (p : Plan V) (upper other : ℕ) : Type 0 where
@@ -72,13 +72,13 @@ module _ {V : Type 0} where
         ⊎ ((frames ≡ InSibling other inner own below ∷ InChild upper label None beside ∷ outer)
         × (p ≡ Nil))
 
-  -- the number is that of a node at the spot, in a row that keeps the invariant
+  -- the number is that of a node at the link, in siblings that keep the invariant
   pub record StandsAt (item : List ℕ → Type 0) (s : NodeArena V) (link_ref : LinkRef) (id : ℕ)
       (frames : List (Frame V)) (label : List ℕ) (value : Option V)
       (child sibling : Plan V) : Type 0 where
     pub link_ref_is : link_ref ≡ link_ref_of frames
     pub holds : Holds s (fill frames (Cell id label value child sibling))
-    pub canonical : IsCanonical item (row (fill frames (Cell id label value child sibling)))
+    pub canonical : IsCanonical item (siblings_in (fill frames (Cell id label value child sibling)))
 
   abbrev pub HasNodeAt : (List ℕ → Type 0) → NodeArena V → LinkRef → ℕ → Type 0
   HasNodeAt item s link_ref id =

@@ -22,7 +22,7 @@ module _ {V : Type 0} where
       → Lists plan spare order used
 
   -- the nodes from a link on are linked by these numbers
-  pub record IsRow (nodes : List (Node V)) (at : Option ℕ) (ids : List ℕ) : Type 0 where
+  pub record AreSiblings (nodes : List (Node V)) (at : Option ℕ) (ids : List ℕ) : Type 0 where
     pub chain : IsChain nodes ids
     pub at_is : at ≡ first ids
 

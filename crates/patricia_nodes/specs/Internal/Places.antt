@@ -1,4 +1,5 @@
--- The place of a key among nodes in one vector.
+-- The place of a key among nodes in one vector: a zipper, with the frames on the way down and what
+-- is in the hole.
 use Rattle.std.specs.Prelude.{◌≡◌, ◌≢◌, ℕ, ◌+◌, suc, List, [], ◌∷◌, length, Option, Some, None}
 use Rattle.std.specs.Prelude.{nat_eq, if◌then◌else◌}
 use Rattle.patricia_nodes.specs.declared.arena.NodeArena.{NodeArena}
@@ -17,7 +18,7 @@ pub data Frame (V : Type 0) : Type 0 where
   InSibling : (id : ℕ) (label : List ℕ) (value : Option V) (child : Plan V) → Frame V
 
 module _ {V : Type 0} where
-  -- a plan in its place, the innermost frame first
+  -- the plan of a zipper: the hole filled, the innermost frame first
   abbrev pub fill : List (Frame V) → Plan V → Plan V
   fill [] q = q
   fill (InChild id label value sibling ∷ fs) q = fill fs (Cell id label value q sibling)
@@ -49,7 +50,7 @@ module _ {V : Type 0} where
   link_ref_of (InChild id label value sibling ∷ fs) = Child id
   link_ref_of (InSibling id label value child ∷ fs) = Sibling id (above_of fs)
 
--- the node above a spot
+-- the node above a link
 abbrev pub node_above : LinkRef → Option ℕ
 node_above Root = None
 node_above (Child id) = Some id

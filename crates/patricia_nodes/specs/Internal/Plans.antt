@@ -1,11 +1,11 @@
--- How nodes in one vector stand for a row.
+-- How nodes in one vector stand for siblings.
 use Rattle.std.specs.Prelude.{◌≡◌, ℕ, zero, suc, ◌+◌, ◌≤◌, List, [], ◌∷◌, length, Option, Some}
 use Rattle.std.specs.Prelude.{None, nat_lt, nat_eq, if◌then◌else◌, slice_get}
 use Rattle.patricia_nodes.specs.declared.arena.Node.{Node}
 use Rattle.patricia_nodes.specs.declared.arena.NodeArena.{NodeArena}
 use Rattle.patricia_model.specs.Siblings.{Siblings, end, node, entries}
 
--- a row with the number of each node
+-- siblings, and what is below them, with the number of each node
 pub data Plan (V : Type 0) : Type 0 where
   Nil : Plan V
   Cell : (id : ℕ) (label : List ℕ) (value : Option V) (child sibling : Plan V) → Plan V
@@ -39,10 +39,11 @@ module _ {V : Type 0} where
   head Nil = None
   head (Cell id label value child sibling) = Some id
 
-  -- the row without the numbers
-  abbrev pub row : Plan V → Siblings V
-  row Nil = end
-  row (Cell id label value child sibling) = node label value (row child) (row sibling)
+  -- the siblings without the numbers
+  abbrev pub siblings_in : Plan V → Siblings V
+  siblings_in Nil = end
+  siblings_in (Cell id label value child sibling) =
+      node label value (siblings_in child) (siblings_in sibling)
 
   -- how many nodes there are
   abbrev pub size : Plan V → ℕ
@@ -97,9 +98,9 @@ module _ {V : Type 0} where
   abbrev pub plan_at : List (Node V) → Option ℕ → Plan V
   plan_at nodes at = read (length nodes) nodes at
 
-  -- the row that the nodes stand for
+  -- the siblings that the nodes stand for
   abbrev pub siblings_of : NodeArena V → Siblings V
-  siblings_of s = row (plan_at s.nodes.items s.root)
+  siblings_of s = siblings_in (plan_at s.nodes.items s.root)
 
   -- and its entries
   abbrev pub entries_of : NodeArena V → List (List ℕ × V)

@@ -3,7 +3,8 @@ use Rattle.std.specs.Prelude.{◌≡◌, ℕ, ◌+◌, ◌≤◌, Bool, true, fa
 use Rattle.std.specs.Prelude.{length, Option, Some, None, slice_get}
 use Rattle.patricia_nodes.specs.declared.arena.Node.{Node}
 use Rattle.patricia_nodes.specs.declared.arena.NodeArena.{NodeArena}
-use Rattle.patricia_nodes.specs.Internal.Plans.{Plan, Nil, Cell, linked, head, row, size, count}
+use Rattle.patricia_nodes.specs.Internal.Plans.{Plan, Nil, Cell, linked, head, siblings_in, size}
+use Rattle.patricia_nodes.specs.Internal.Plans.{count}
 use Rattle.patricia_nodes.specs.Internal.Plans.{one}
 use Rattle.patricia_nodes.specs.Internal.Plans.{below, LaidOut}
 use Rattle.patricia_nodes.specs.Internal.Growth.{TakesNodes, count_below, size_below}
@@ -26,7 +27,7 @@ module _ {V : Type 0} where
   flat (Done id l v c d) = Cell id l v (flat c) (flat d)
   flat (Open id l v c d) = Cell id l v c (flat d)
 
-  -- the number of the first node of a row
+  -- the number of the first of the siblings
   abbrev pub first_of : Mix V → Option ℕ
   first_of Empty = None
   first_of (Done id l v c d) = Some id
@@ -70,7 +71,7 @@ module _ {V : Type 0} where
   pub record Laying (p : Plan V) (from : List (Node V)) (marks : ℕ → Bool) (to : List (Node V))
       (root : Option ℕ) : Type 0 where
     pub mix : Mix V
-    pub row_is : row (flat mix) ≡ row p
+    pub siblings_are : siblings_in (flat mix) ≡ siblings_in p
     pub size_is : size (flat mix) ≡ size p
     pub root_is : root ≡ first_of mix
     pub lies : Lies from to mix
@@ -88,7 +89,7 @@ module _ {V : Type 0} where
     pub split : (at : ℕ) → counts at + olds mix at ≡ count_below w at
     pub sized : number + waits mix ≡ size_below w
 
-  -- nodes moved from a vector, row by row: what was moved, and what waits
+  -- nodes moved from a vector, one list of siblings after the other: what was moved, and what waits
   pub record Filling (old : NodeArena V) (w : Plan V) (now : NodeArena V) (marks : ℕ → Bool)
       (to : List (Node V)) : Type 0 where
     pub laying : Laying w now.nodes.items marks to (head (numbered_siblings 0 w))

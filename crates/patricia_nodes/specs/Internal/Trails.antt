@@ -1,4 +1,4 @@
--- The nodes whose labels a look-up passes, kept for the look-up of another key.
+-- A finger: the nodes whose labels a look-up passes, kept for the look-up of another key.
 use Rattle.std.specs.Prelude.{◌≡◌, ℕ, ◌≤◌, List, [], ◌∷◌, ◌++◌, length, reverse, ◌≢◌, ◌⊎◌, Option}
 use Rattle.patricia_nodes.specs.declared.arena.NodeArena.{NodeArena}
 use Rattle.patricia_nodes.specs.declared.arena.seek.SeekResult.{SeekResult}

@@ -13,7 +13,7 @@ use Rattle.patricia_nodes.specs.Internal.Plans.{Plan, linked, first, IsChain, Ho
 use Rattle.patricia_nodes.specs.Internal.Plans.{siblings_of, entries_of}
 use Rattle.patricia_nodes.specs.Internal.Places.{Frame, fill, link_ref_of, IsSeekResult}
 
--- the node of the spot is in the vector
+-- the node of the link is in the vector
 abbrev pub LinkRefWithin : LinkRef → ℕ → Type 0
 LinkRefWithin Root n = Unit {0}
 LinkRefWithin (Child id) n = id < n
@@ -54,7 +54,7 @@ module _ {V : Type 0} where
     pub root_is : new.root ≡ old.root
     pub free_is : new.free ≡ Some id
 
-  -- the number at the spot is another
+  -- the number at the link is another
   abbrev pub Relinks : NodeArena V → NodeArena V → LinkRef → Option ℕ → Type 0
   Relinks old new Root to = (new.nodes.items ≡ old.nodes.items) × (new.root ≡ to)
   Relinks old new (Child id) to =
@@ -66,7 +66,7 @@ module _ {V : Type 0} where
       → new.nodes.items ≡ slice_set old.nodes.items id (record n { sibling = to }))
       × (new.root ≡ old.root)
 
-  -- the spot is that of some place
+  -- the link is that to some place
   abbrev pub HasLinkRef : NodeArena V → LinkRef → Type 0
   HasLinkRef s link_ref =
       (frames : List (Frame V)) × (q : Plan V) × (link_ref ≡ link_ref_of frames)

@@ -16,7 +16,7 @@ impl<V> NodeArena<V> {
     /// The node that has the value of a nonempty key.
     pub fn find<Q: BorrowedBytes>(&self, key: Q) -> Option<NodeId>
         requires whole { IsWellFormed self.now }
-        requires row { IsCanonical Q.Owned.item (siblings_of self.now) }
+        requires siblings { IsCanonical Q.Owned.item (siblings_of self.now) }
         requires nonempty { Q.key key ≢ [] }
         ensures { MatchOption result (map.find key_cmp (Q.key key) (entries_of self.now) ≡ None)
             (HasValueNode Q.Owned.item self.now (Q.key key)) }

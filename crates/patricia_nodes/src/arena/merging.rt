@@ -1,7 +1,7 @@
 //! Nodes that are unlinked, and nodes that are merged with their only child.
 ghost use Rattle.std.specs.Prelude.{◌≡◌, ◌<◌, IfOk, MatchOption, vec_len};
 ghost use Rattle.patricia_model.specs.Internal.Removals.{width};
-ghost use Rattle.patricia_nodes.specs.Internal.Plans.{Plan, IsPlan, row};
+ghost use Rattle.patricia_nodes.specs.Internal.Plans.{Plan, IsPlan, siblings_in};
 ghost use Rattle.patricia_nodes.specs.Internal.Merges.{HasLeafAt, Unlinks, HasLone, Absorbs};
 ghost use Rattle.patricia_nodes.specs.Internal.Merges.{IsJoined, IsPair, HasNodeAt, LeftAlone};
 
@@ -48,11 +48,11 @@ impl<V: Drop> NodeArena<V> {
         Label::joined(alloc, upper, lower)
     }
 
-    // The two nodes of a row, if it has just two.
+    // The numbers of two siblings, if they are just two.
     fn exactly_two(&self, first: Link) -> Option<(NodeId, NodeId)>
         requires { (p : Plan V) × IsPlan self.now.nodes.items first p }
         ensures { (p : Plan V) → IsPlan self.now.nodes.items first p
-            → MatchOption result (width (row p) ≡ 2 → ⊥) (λ two. IsPair p two.0 two.1) }
+            → MatchOption result (width (siblings_in p) ≡ 2 → ⊥) (λ two. IsPair p two.0 two.1) }
     {
         let Some(first) = first.get() else {
             return None;

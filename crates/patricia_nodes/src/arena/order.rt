@@ -1,21 +1,22 @@
-//! The order in which nodes are to lie: the siblings of a row side by side, and what is below a
-//! node behind its row, so that a look-up reads few pages.
+//! The order in which nodes are to lie: siblings side by side, and what is below a node behind its
+//! siblings, so that a look-up reads few pages.
 ghost use Rattle.std.specs.Prelude.{◌≡◌, ℕ, ◌+◌, ◌^◌, ◌<◌, ◌≤◌, ◌++◌, List, IfOk, length, drop};
 ghost use Rattle.std.specs.Prelude.{vec_len, vec_capacity};
 ghost use Rattle.patricia_nodes.specs.Internal.Plans.{Plan, IsWellFormed};
-ghost use Rattle.patricia_nodes.specs.Internal.Order.{IsRow, Waits, sizes, ListsBelow, ListsNodes};
+ghost use Rattle.patricia_nodes.specs.Internal.Order.{AreSiblings, Waits, sizes, ListsBelow};
+ghost use Rattle.patricia_nodes.specs.Internal.Order.{ListsNodes};
 
 use crate::arena::{DEPTH_FIRST, NodeArena};
 use crate::link::Link;
 use std::alloc::{AllocError, Global};
 
 impl<V: Drop> NodeArena<V> {
-    // Lists the numbers of a row behind the last of a list.
-    fn list_row(&self, first: Link, order: &mut Vec<u32>)
+    // Lists the numbers of siblings behind the last of a list.
+    fn list_siblings(&self, first: Link, order: &mut Vec<u32>)
         requires few { vec_len self.now.nodes < 2 ^ 32 }
-        requires row { (ids : List ℕ) × IsRow self.now.nodes.items first ids
+        requires siblings { (ids : List ℕ) × AreSiblings self.now.nodes.items first ids
             × (vec_len order.old + length ids ≤ vec_capacity order.old) }
-        ensures listed { (ids : List ℕ) → IsRow self.now.nodes.items first ids
+        ensures listed { (ids : List ℕ) → AreSiblings self.now.nodes.items first ids
             → order.new.items ≡ order.old.items ++ ids }
         ensures capacity { vec_capacity order.new ≡ vec_capacity order.old }
     {
@@ -27,8 +28,8 @@ impl<V: Drop> NodeArena<V> {
     }
 
     // Lists what is below the nodes from one of the list on, behind the last: what is below each of
-    // them before what is below the next. What lies deeper than `depth` rows below them is listed
-    // row by row.
+    // them before what is below the next. What lies more than `depth` levels below them is listed
+    // level by level.
     fn list_below(&self, order: &mut Vec<u32>, start: usize, depth: u32)
         requires few { vec_len self.now.nodes < 2 ^ 32 }
         requires waits { (cs : List (Plan V))
@@ -44,7 +45,7 @@ impl<V: Drop> NodeArena<V> {
         while i < end {
             let below = order.len();
             let child = self.nodes[order[i] as usize].child;
-            self.list_row(child, order);
+            self.list_siblings(child, order);
             i += 1;
             if depth == 0 {
                 end = order.len();
@@ -54,9 +55,9 @@ impl<V: Drop> NodeArena<V> {
         }
     }
 
-    /// The numbers of all nodes, and how many of them are in use: first those in use, rows depth
-    /// first, and then the free ones. Refused where memory is, and where there are more nodes than
-    /// four bytes count.
+    /// The numbers of all nodes, and how many of them are in use: first those in use, depth first,
+    /// and then the free ones. Refused where memory is, and where there are more nodes than four
+    /// bytes count.
     pub fn depth_first_order(&self, alloc: Global) -> Result<(Vec<u32>, usize), AllocError>
         requires whole { IsWellFormed self.now }
         ensures lists { IfOk result (λ r. ListsNodes self.now r.0.items r.1) }
@@ -67,10 +68,10 @@ impl<V: Drop> NodeArena<V> {
             return Err(AllocError);
         }
         let mut order = Vec::with_capacity(alloc, len)?;
-        self.list_row(self.root, &mut order);
+        self.list_siblings(self.root, &mut order);
         self.list_below(&mut order, 0, DEPTH_FIRST);
         let used = order.len();
-        self.list_row(self.free, &mut order);
+        self.list_siblings(self.free, &mut order);
         Ok((order, used))
     }
 }

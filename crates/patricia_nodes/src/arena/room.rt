@@ -58,7 +58,7 @@ impl<V: Drop> NodeArena<V> {
     fn relocate(&mut self, alloc: Global) -> Result<(), AllocError>
         requires { IsWellFormed self.old }
         ensures whole { IsWellFormed self.new }
-        ensures row { siblings_of self.new ≡ siblings_of self.old }
+        ensures siblings { siblings_of self.new ≡ siblings_of self.old }
         ensures none_free { OnOk result (self.new.free ≡ None) }
         ensures fewer { vec_len self.new.nodes ≤ vec_len self.old.nodes }
         ensures room { HasRoomFor self.old 2 → HasRoomFor self.new 2 }
@@ -78,7 +78,7 @@ impl<V: Drop> NodeArena<V> {
     fn try_relocate(&mut self, alloc: Global)
         requires { IsWellFormed self.old }
         ensures whole { IsWellFormed self.new }
-        ensures row { siblings_of self.new ≡ siblings_of self.old }
+        ensures siblings { siblings_of self.new ≡ siblings_of self.old }
         ensures none_free { self.old.free ≡ None → self.new.free ≡ None }
         ensures fewer { vec_len self.new.nodes ≤ vec_len self.old.nodes }
         ensures room { HasRoomFor self.old 2 → HasRoomFor self.new 2 }
@@ -105,7 +105,7 @@ impl<V: Drop> NodeArena<V> {
     pub fn reserve_two(&mut self, alloc: Global) -> Result<(), AllocError>
         requires whole { IsWellFormed self.old }
         ensures whole { IsWellFormed self.new }
-        ensures row { siblings_of self.new ≡ siblings_of self.old }
+        ensures siblings { siblings_of self.new ≡ siblings_of self.old }
         ensures room { OnOk result (HasRoomFor self.new 2) }
         ensures reuses { Reuses self.old self.new }
         ensures unchanged { OnErr result (Stays self.old self.new) }
@@ -122,7 +122,7 @@ impl<V: Drop> NodeArena<V> {
     pub fn settle(&mut self, alloc: Global)
         requires whole { IsWellFormed self.old }
         ensures whole { IsWellFormed self.new }
-        ensures row { siblings_of self.new ≡ siblings_of self.old }
+        ensures siblings { siblings_of self.new ≡ siblings_of self.old }
         ensures none_free { self.old.free ≡ None → self.new.free ≡ None }
     {
         if self.edits >= self.nodes.len() / 8 {

@@ -22,7 +22,7 @@ use std::marker::Brand;
 use std::sync::ledger::{Blank, Ledger};
 
 /// Where the number of a node stands: at the top, or in a node as its child or its sibling. A
-/// sibling comes with the node above the row.
+/// sibling comes with the node above it.
 #[derive(Clone, Copy)]
 pub enum LinkRef {
     Root,
@@ -31,7 +31,7 @@ pub enum LinkRef {
 }
 
 impl LinkRef {
-    // The node above the row, where there is one.
+    // The node above, where there is one.
     pub fn above(self) -> Option<NodeId>
         ensures { result ≡ node_above self }
     {
@@ -64,7 +64,7 @@ pub struct SeekResult<Q> {
 }
 
 impl<Q> SeekResult<Q> {
-    // A place with these parts.
+    // The result of a look-up with these parts.
     fn new(link_ref: LinkRef, at: Link, rest: Q, matched: Match) -> SeekResult<Q>
         ensures link_ref { result.link_ref ≡ link_ref }
         ensures at { result.at ≡ at }
@@ -131,7 +131,7 @@ impl<V> NodeArena<V> {
         steps: &mut Steps<L>,
     ) -> SeekResult<Q>
         requires whole { IsWellFormed self.now }
-        requires row { IsCanonical Q.Owned.item (siblings_of self.now) }
+        requires siblings { IsCanonical Q.Owned.item (siblings_of self.now) }
         requires nonempty { Q.key key ≢ [] }
         ensures place { IsSeekResult Q.Owned.item Q.key self.now (Q.key key) result }
         ensures counted { IsCounted Q.Owned.item
@@ -171,7 +171,7 @@ impl<V> NodeArena<V> {
         requires parts { blank.parts ≡ L.parts }
         requires some { 0 < L.parts }
         requires whole { IsWellFormed self.now }
-        requires row { IsCanonical Q.Owned.item (siblings_of self.now) }
+        requires siblings { IsCanonical Q.Owned.item (siblings_of self.now) }
         requires nonempty { Q.key key ≢ [] }
         ensures { IsSeekResult Q.Owned.item Q.key self.now (Q.key key) result }
     {
@@ -182,7 +182,7 @@ impl<V> NodeArena<V> {
     /// The place of a nonempty key.
     pub fn seek<Q: BorrowedBytes>(&self, key: Q) -> SeekResult<Q>
         requires whole { IsWellFormed self.now }
-        requires row { IsCanonical Q.Owned.item (siblings_of self.now) }
+        requires siblings { IsCanonical Q.Owned.item (siblings_of self.now) }
         requires nonempty { Q.key key ≢ [] }
         ensures { IsSeekResult Q.Owned.item Q.key self.now (Q.key key) result }
     {
@@ -196,7 +196,7 @@ impl<V> NodeArena<V> {
         steps: &mut Steps<L>,
     ) -> Option<&V>
         requires whole { IsWellFormed self.now }
-        requires row { IsCanonical Q.Owned.item (siblings_of self.now) }
+        requires siblings { IsCanonical Q.Owned.item (siblings_of self.now) }
         requires nonempty { Q.key key ≢ [] }
         ensures value { option_copied result ≡ find key_cmp (Q.key key) (entries_of self.now) }
         ensures counted { IsCounted Q.Owned.item

@@ -36,7 +36,7 @@ impl<K: Bytes, V: Drop> GenericPatriciaMap<K, V> {
         if let Some(counted) = self.tree.count_under(prefix) {
             return Ok(counted);
         }
-        let mut cursor = self.cursor_under(prefix);
+        let mut cursor = self.cursor_prefix(prefix);
         let mut count = 0;
         for _ in 0..self.len() {
             if !cursor.advance()? {

@@ -1,7 +1,7 @@
 //! Iterators over a map, in key order.
 ghost use Rattle.std.specs.Prelude.{◌≡◌};
 ghost use Rattle.std.specs.FinMap as map;
-ghost use Rattle.patricia_core.specs.Cursors.{before_rows};
+ghost use Rattle.patricia_core.specs.Cursors.{before_entries};
 ghost use Rattle.patricia_core.specs.Prefixes.{under};
 
 use super::GenericPatriciaMap;
@@ -33,9 +33,9 @@ impl<K: Bytes, V: Drop> GenericPatriciaMap<K, V> {
         self.tree.walk()
     }
 
-    /// Returns the entries whose key begins with the prefix, in key order, each with an owned key.
-    /// Making the iterator does not allocate; an item that is an error is out of memory, and ends
-    /// it.
+    /// Returns the entries whose key begins with the prefix, in key order, each with an owned key,
+    /// as an autocomplete lists them. Making the iterator does not allocate; an item that is an
+    /// error is out of memory, and ends it.
     ///
     /// # Examples
     ///
@@ -100,7 +100,7 @@ impl<K: Bytes, V: Drop> GenericPatriciaMap<K, V> {
     /// assert_eq!(rt; (cursor.text(), cursor.value()), (Some("bar"), Some(&2)));
     /// ```
     pub fn cursor(&self) -> ReadCursor<'_, K, V>
-        ensures { result ≡ before_rows (map.entries self.now) }
+        ensures { result ≡ before_entries (map.entries self.now) }
     {
         self.tree.cursor()
     }
@@ -112,17 +112,20 @@ impl<K: Bytes, V: Drop> GenericPatriciaMap<K, V> {
     ///
     /// ```
     /// let map = StringPatriciaMap::from_iter(rt.alloc(), [("foo", 1), ("bar", 2), ("baz", 3)])?;
-    /// let mut cursor = map.cursor_under("ba");
+    /// let mut cursor = map.cursor_prefix("ba");
     /// assert!(rt; cursor.advance()?);
     /// assert_eq!(rt; cursor.text(), Some("bar"));
     /// assert!(rt; cursor.advance()?);
     /// assert_eq!(rt; cursor.text(), Some("baz"));
     /// assert!(rt; !cursor.advance()?);
     /// ```
-    pub fn cursor_under<Q: BorrowedBytes<Owned = K>>(&self, prefix: Q) -> PrefixReadCursor<'_, Q, V>
-        ensures { result ≡ before_rows (under (Q.key prefix) (map.entries self.now)) }
+    pub fn cursor_prefix<Q: BorrowedBytes<Owned = K>>(
+        &self,
+        prefix: Q,
+    ) -> PrefixReadCursor<'_, Q, V>
+        ensures { result ≡ before_entries (under (Q.key prefix) (map.entries self.now)) }
     {
-        self.tree.cursor_under(prefix)
+        self.tree.cursor_prefix(prefix)
     }
 }
 
@@ -131,7 +134,7 @@ impl<K: Bytes, V: Drop> IntoIterator for GenericPatriciaMap<K, V> {
 
     type IntoIter = IntoIter<K, V>;
 
-    ghost into_iter_gives = { λ m rows. rows ≡ map.entries m };
+    ghost into_iter_gives = { λ m listed. listed ≡ map.entries m };
 
     fn into_iter(self) -> IntoIter<K, V> {
         self.tree.into_walk()
@@ -143,7 +146,7 @@ impl<'a, K: Bytes, V: Drop> IntoIterator for &'a GenericPatriciaMap<K, V> {
 
     type IntoIter = Iter<'a, K, V>;
 
-    ghost into_iter_gives = { λ m rows. rows ≡ map.entries m.now };
+    ghost into_iter_gives = { λ m listed. listed ≡ map.entries m.now };
 
     fn into_iter(self) -> Iter<'a, K, V> {
         self.iter()

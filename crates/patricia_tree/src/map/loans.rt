@@ -95,7 +95,7 @@ impl<K: Bytes, V: Drop> GenericPatriciaMap<K, V> {
         &mut self,
         key: Q,
     ) -> Option<(Q, &mut V)>
-        ensures row { option_map (λ e. (Q.key e.0, e.1.now)) result
+        ensures entry { option_map (λ e. (Q.key e.0, e.1.now)) result
             ≡ longest (Q.key key) (map.entries self.old) }
         ensures part { IfSome result (λ e. Begins (Q.key e.0) (Q.key key)) }
     {

@@ -1,4 +1,4 @@
-//! The entries whose key is few edits from another one.
+//! Fuzzy search by Levenshtein distance: the entries whose key is few edits from another one.
 ghost use Rattle.std.specs.Prelude.{◌≡◌};
 ghost use Rattle.std.specs.FinMap as map;
 ghost use Rattle.patricia_core.specs.Searches.{search_of};
@@ -10,7 +10,8 @@ use patricia_core::near::NearCursor;
 impl<K: Bytes, V: Drop> GenericPatriciaMap<K, V> {
     /// Returns a cursor before the first entry whose key is at most `limit` edits from the key: an
     /// edit inserts, deletes or replaces one byte of a byte string, or one character of a text. It
-    /// lends these entries in key order and copies none.
+    /// lends these entries in key order and copies none. This is a fuzzy search by Levenshtein
+    /// distance.
     ///
     /// Making it does not allocate. `advance` does where an entry is left: the first one copies the
     /// key that is sought. It passes all entries at once whose key begins with bytes that no such

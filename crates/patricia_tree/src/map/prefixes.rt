@@ -12,7 +12,7 @@ use patricia_core::prefixes::{CommonPrefixValues, CommonPrefixValuesOwned, Commo
 
 impl<K: Bytes, V: Drop> GenericPatriciaMap<K, V> {
     /// Returns the entry with the longest key that is a prefix of the key, or `None` where there is
-    /// none. Does not allocate, and takes the time of `get`.
+    /// none: a longest-prefix match. Does not allocate, and takes the time of `get`.
     ///
     /// The key that is returned is a part of the key that is passed, and does not borrow the map.
     ///
@@ -30,15 +30,16 @@ impl<K: Bytes, V: Drop> GenericPatriciaMap<K, V> {
     /// assert_eq!(rt; map.get_longest_common_prefix("fo"), None);
     /// ```
     pub fn get_longest_common_prefix<Q: BorrowedBytes<Owned = K>>(&self, key: Q) -> Option<(Q, &V)>
-        ensures row { option_map (λ e. (Q.key e.0, e.1.now)) result
+        ensures entry { option_map (λ e. (Q.key e.0, e.1.now)) result
             ≡ longest (Q.key key) (map.entries self.now) }
         ensures part { IfSome result (λ e. Begins (Q.key e.0) (Q.key key)) }
     {
         self.tree.longest(key)
     }
 
-    /// Returns how many bytes of the key, in whole items, some key of the map begins with, whatever
-    /// follows them there; 0 for an empty map. Does not allocate.
+    /// Returns the common length of the key and the map: how many bytes of the key, in whole items,
+    /// some key of the map begins with, whatever follows them there; 0 for an empty map. Does not
+    /// allocate.
     ///
     /// For texts it never ends inside a character.
     ///

@@ -1,7 +1,7 @@
 //! The entries from a key on, up to another one.
 ghost use Rattle.std.specs.Prelude.{◌≡◌, ◌≢◌, [], Some, None};
 ghost use Rattle.std.specs.FinMap as map;
-ghost use Rattle.patricia_core.specs.Cursors.{before_rows};
+ghost use Rattle.patricia_core.specs.Cursors.{before_entries};
 ghost use Rattle.patricia_core.specs.Ranges.{before, from};
 
 use super::GenericPatriciaMap;
@@ -15,7 +15,7 @@ impl<K: Bytes, V: Drop> GenericPatriciaMap<K, V> {
         &'a self,
         cursor: RangeReadCursor<'a, Q, V>,
     ) -> Range<'a, Q, V>
-        ensures rows { map.entries self.now ≢ [] → result ≡ Some cursor.entry.left }
+        ensures entries { map.entries self.now ≢ [] → result ≡ Some cursor.entry.left }
         ensures ended { map.entries self.now ≡ [] → result ≡ None }
     {
         if self.is_empty() {
@@ -41,7 +41,7 @@ impl<K: Bytes, V: Drop> GenericPatriciaMap<K, V> {
     /// }
     /// ```
     pub fn range_from<Q: BorrowedBytes<Owned = K>>(&self, key: Q) -> Range<'_, Q, V>
-        ensures rows { map.entries self.now ≢ []
+        ensures entries { map.entries self.now ≢ []
             → result ≡ Some (from (Q.key key) (map.entries self.now)) }
         ensures ended { map.entries self.now ≡ [] → result ≡ None }
     {
@@ -61,7 +61,7 @@ impl<K: Bytes, V: Drop> GenericPatriciaMap<K, V> {
     /// }
     /// ```
     pub fn range<Q: BorrowedBytes<Owned = K>>(&self, start: Q, end: Q) -> Range<'_, Q, V>
-        ensures rows { map.entries self.now ≢ []
+        ensures entries { map.entries self.now ≢ []
             → result ≡ Some (before (Q.key end) (from (Q.key start) (map.entries self.now))) }
         ensures ended { map.entries self.now ≡ [] → result ≡ None }
     {
@@ -86,7 +86,7 @@ impl<K: Bytes, V: Drop> GenericPatriciaMap<K, V> {
     /// assert!(rt; !cursor.advance()?);
     /// ```
     pub fn cursor_from<Q: BorrowedBytes<Owned = K>>(&self, key: Q) -> RangeReadCursor<'_, Q, V>
-        ensures { result ≡ before_rows (from (Q.key key) (map.entries self.now)) }
+        ensures { result ≡ before_entries (from (Q.key key) (map.entries self.now)) }
     {
         self.tree.range(key, None)
     }
@@ -110,7 +110,7 @@ impl<K: Bytes, V: Drop> GenericPatriciaMap<K, V> {
         end: Q,
     ) -> RangeReadCursor<'_, Q, V>
         ensures { result
-            ≡ before_rows (before (Q.key end) (from (Q.key start) (map.entries self.now))) }
+            ≡ before_entries (before (Q.key end) (from (Q.key start) (map.entries self.now))) }
     {
         self.tree.range(start, Some(end))
     }

@@ -4,7 +4,7 @@ ghost use Rattle.std.specs.Prelude.{map as list_map};
 ghost use Rattle.std.specs.FinMap as map;
 ghost use Rattle.patricia_core.specs.Points.{Joins};
 ghost use Rattle.patricia_tree.specs.Retains.{IsAskedAtEntry, IsRetainStopped, RetainsAll};
-ghost use Rattle.patricia_tree.specs.Retains.{RetainsRow};
+ghost use Rattle.patricia_tree.specs.Retains.{RetainsEntry};
 
 use super::GenericPatriciaMap;
 use patricia_core::keys::{BorrowedBytes, Bytes, KeyBytes};
@@ -47,7 +47,7 @@ impl<K: Bytes, V: Drop> GenericPatriciaMap<K, V> {
         requires { F.IsAlwaysCallable f.old }
         ensures callable { F.IsAlwaysCallable f.new }
         ensures retained { OnOk result ((v : V) → map.get self.old key.entry.bytes.now ≡ Some v
-            → RetainsRow F.FnMut (f.old, self.old) (key.entry.bytes.now, v) (f.new, self.new)) }
+            → RetainsEntry F.FnMut (f.old, self.old) (key.entry.bytes.now, v) (f.new, self.new)) }
         ensures kept { OnErr result ((v : V) → map.get self.old key.entry.bytes.now ≡ Some v
             → (w : V) × IsAskedAtEntry F.FnMut f.old (key.entry.bytes.now, v) false f.new w
             × (self.new ≡ map.insert self.old key.entry.bytes.now w)) }

@@ -74,10 +74,10 @@ impl<K: Bytes, V: Drop> GenericPatriciaMap<K, V> {
     /// ```
     /// let map = StringPatriciaMap::from_iter(rt.alloc(), [("foo", 5), ("bar", 2), ("baz", 3)])?;
     /// let mut greatest = 0;
-    /// map.for_each_under("ba", &mut |_, value| greatest = greatest.max(*value))?;
+    /// map.for_each_prefix("ba", &mut |_, value| greatest = greatest.max(*value))?;
     /// assert_eq!(rt; greatest, 3);
     /// ```
-    pub fn for_each_under<Q: BorrowedBytes<Owned = K>, F: FnMut(&[u8], &V)>(
+    pub fn for_each_prefix<Q: BorrowedBytes<Owned = K>, F: FnMut(&[u8], &V)>(
         &self,
         prefix: Q,
         f: &mut F,
@@ -89,7 +89,7 @@ impl<K: Bytes, V: Drop> GenericPatriciaMap<K, V> {
         ensures stopped { OnErr result (IsFoldStopped (IsCalledAtEntry F.FnMut) f.old
             (under (Q.key prefix) (map.entries self.now)) f.new) }
     {
-        let mut cursor = self.cursor_under(prefix);
+        let mut cursor = self.cursor_prefix(prefix);
         while cursor.advance()? {
             call_at(f, cursor.key(), cursor.value());
         }

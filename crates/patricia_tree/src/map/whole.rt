@@ -1,8 +1,8 @@
 //! Two maps compared, and one merged into the other.
 ghost use Rattle.std.specs.Prelude.{◌≡◌, ◌≢◌, ℕ, List, [], Some, IfOk, OnOk, OnErr};
 ghost use Rattle.std.specs.FinMap as map;
-ghost use Rattle.patricia_tree.specs.Merges.{IsMergeStopped, MergesAll, MergesRow};
-ghost use Rattle.patricia_tree.specs.Whole.{is_same_row, are_same_rows};
+ghost use Rattle.patricia_tree.specs.Merges.{IsMergeStopped, MergesAll, MergesEntry};
+ghost use Rattle.patricia_tree.specs.Whole.{is_same_entry, are_same_entries};
 
 use super::GenericPatriciaMap;
 use patricia_core::keys::{Bytes, KeyBytes};
@@ -17,7 +17,7 @@ fn stand_at_same<K: Bytes, V: PartialEq>(
     two: &ReadCursor<'_, K, V>,
 ) -> bool
     ensures { (e f : List ℕ × V) → one.now.at ≡ Some e → two.now.at ≡ Some f
-        → result ≡ is_same_row V.eq e f }
+        → result ≡ is_same_entry V.eq e f }
 {
     match (one.key(), one.value(), two.key(), two.value()) {
         (Some(key), Some(value), Some(other_key), Some(other_value)) => {
@@ -52,7 +52,7 @@ impl<K: Bytes, V: Drop> GenericPatriciaMap<K, V> {
     where
         V: PartialEq,
         ensures same { IfOk result (λ b.
-            b ≡ are_same_rows V.eq (map.entries self.now) (map.entries other.now)) }
+            b ≡ are_same_entries V.eq (map.entries self.now) (map.entries other.now)) }
         ensures err_only_nonempty { OnErr result (map.entries self.now ≢ []) }
         ensures err_only_same_len { OnErr result (map.len self.now ≡ map.len other.now) }
     {
@@ -80,7 +80,7 @@ impl<K: Bytes, V: Drop> GenericPatriciaMap<K, V> {
         requires { F.IsAlwaysCallable f.old }
         ensures callable { F.IsAlwaysCallable f.new }
         ensures merged { OnOk result
-            (MergesRow F.FnMut (f.old, self.old) (K.key key.now, value) (f.new, self.new)) }
+            (MergesEntry F.FnMut (f.old, self.old) (K.key key.now, value) (f.new, self.new)) }
         ensures unchanged { OnErr result (self.new ≡ self.old) }
     {
         let key = KeyBytes::of(key);

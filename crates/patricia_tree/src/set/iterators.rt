@@ -1,7 +1,7 @@
 //! Iterators over a set and cursors that read it, in order.
 ghost use Rattle.std.specs.Prelude.{◌≡◌};
 ghost use Rattle.std.specs.FinMap as map;
-ghost use Rattle.patricia_tree.specs.Cursors.{before_rows};
+ghost use Rattle.patricia_tree.specs.Cursors.{before_entries};
 ghost use Rattle.patricia_tree.specs.Prefixes.{under};
 ghost use Rattle.patricia_tree.specs.Siblings.{keys_of};
 
@@ -31,8 +31,9 @@ impl<T: Bytes> GenericPatriciaSet<T> {
         Iter::new(self.map.keys())
     }
 
-    /// Returns the elements that begin with the prefix, in order, each owned. Making the iterator
-    /// does not allocate; an item that is an error is out of memory, and ends it.
+    /// Returns the elements that begin with the prefix, in order, each owned, as an autocomplete
+    /// lists them. Making the iterator does not allocate; an item that is an error is out of
+    /// memory, and ends it.
     ///
     /// # Examples
     ///
@@ -61,7 +62,7 @@ impl<T: Bytes> GenericPatriciaSet<T> {
     /// assert_eq!(rt; cursor.text(), Some("bar"));
     /// ```
     pub fn cursor(&self) -> ReadCursor<'_, T, ()>
-        ensures { result ≡ before_rows (map.entries self.now) }
+        ensures { result ≡ before_entries (map.entries self.now) }
     {
         self.map.cursor()
     }
@@ -74,18 +75,18 @@ impl<T: Bytes> GenericPatriciaSet<T> {
     ///
     /// ```
     /// let set = StringPatriciaSet::from_iter(rt.alloc(), ["foo", "bar", "baz"])?;
-    /// let mut cursor = set.cursor_under("f");
+    /// let mut cursor = set.cursor_prefix("f");
     /// assert!(rt; cursor.advance()?);
     /// assert_eq!(rt; cursor.text(), Some("foo"));
     /// assert!(rt; !cursor.advance()?);
     /// ```
-    pub fn cursor_under<Q: BorrowedBytes<Owned = T>>(
+    pub fn cursor_prefix<Q: BorrowedBytes<Owned = T>>(
         &self,
         prefix: Q,
     ) -> PrefixReadCursor<'_, Q, ()>
-        ensures { result ≡ before_rows (under (Q.key prefix) (map.entries self.now)) }
+        ensures { result ≡ before_entries (under (Q.key prefix) (map.entries self.now)) }
     {
-        self.map.cursor_under(prefix)
+        self.map.cursor_prefix(prefix)
     }
 }
 

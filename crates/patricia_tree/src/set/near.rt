@@ -1,4 +1,4 @@
-//! The elements that are few edits from a key.
+//! Fuzzy search by Levenshtein distance: the elements that are few edits from a key.
 ghost use Rattle.std.specs.Prelude.{◌≡◌};
 ghost use Rattle.std.specs.FinMap as map;
 ghost use Rattle.patricia_core.specs.Searches.{search_of};
@@ -10,7 +10,8 @@ use patricia_core::keys::{BorrowedBytes, Bytes};
 impl<T: Bytes> GenericPatriciaSet<T> {
     /// Returns a cursor before the first element that is at most `limit` edits from the key: an
     /// edit inserts, deletes or replaces one byte of a byte string, or one character of a text. It
-    /// lends these elements as keys, in key order, and copies none.
+    /// lends these elements as keys, in key order, and copies none. This is a fuzzy search by
+    /// Levenshtein distance.
     ///
     /// Making it does not allocate. `advance` does where an element is left: the first one copies
     /// the key that is sought. It passes all elements at once that begin with bytes that no such

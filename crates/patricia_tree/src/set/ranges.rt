@@ -1,7 +1,7 @@
 //! The elements from a key on, up to another one.
 ghost use Rattle.std.specs.Prelude.{◌≡◌, ◌≢◌, [], Some, None};
 ghost use Rattle.std.specs.FinMap as map;
-ghost use Rattle.patricia_tree.specs.Cursors.{before_rows};
+ghost use Rattle.patricia_tree.specs.Cursors.{before_entries};
 ghost use Rattle.patricia_tree.specs.Ranges.{before, from};
 ghost use Rattle.patricia_tree.specs.Siblings.{keys_of};
 
@@ -80,7 +80,7 @@ impl<T: Bytes> GenericPatriciaSet<T> {
     /// assert!(rt; !cursor.advance()?);
     /// ```
     pub fn cursor_from<Q: BorrowedBytes<Owned = T>>(&self, key: Q) -> RangeReadCursor<'_, Q, ()>
-        ensures { result ≡ before_rows (from (Q.key key) (map.entries self.now)) }
+        ensures { result ≡ before_entries (from (Q.key key) (map.entries self.now)) }
     {
         self.map.cursor_from(key)
     }
@@ -104,7 +104,7 @@ impl<T: Bytes> GenericPatriciaSet<T> {
         end: Q,
     ) -> RangeReadCursor<'_, Q, ()>
         ensures { result
-            ≡ before_rows (before (Q.key end) (from (Q.key start) (map.entries self.now))) }
+            ≡ before_entries (before (Q.key end) (from (Q.key start) (map.entries self.now))) }
     {
         self.map.cursor_range(start, end)
     }

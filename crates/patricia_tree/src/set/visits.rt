@@ -71,10 +71,10 @@ impl<T: Bytes> GenericPatriciaSet<T> {
     /// ```
     /// let set = StringPatriciaSet::from_iter(rt.alloc(), ["quux", "bar", "baz"])?;
     /// let mut longest = 0;
-    /// set.for_each_under("ba", &mut |element| longest = longest.max(element.len()))?;
+    /// set.for_each_prefix("ba", &mut |element| longest = longest.max(element.len()))?;
     /// assert_eq!(rt; longest, 3);
     /// ```
-    pub fn for_each_under<Q: BorrowedBytes<Owned = T>, F: FnMut(&[u8])>(
+    pub fn for_each_prefix<Q: BorrowedBytes<Owned = T>, F: FnMut(&[u8])>(
         &self,
         prefix: Q,
         f: &mut F,
@@ -86,7 +86,7 @@ impl<T: Bytes> GenericPatriciaSet<T> {
         ensures stopped { OnErr result (IsFoldStopped (IsCalledAtElement F.FnMut) f.old
             (under (Q.key prefix) (map.entries self.now)) f.new) }
     {
-        let mut cursor = self.cursor_under(prefix);
+        let mut cursor = self.cursor_prefix(prefix);
         while cursor.advance()? {
             call_at(f, cursor.key());
         }

@@ -13,8 +13,8 @@ use Rattle.patricia_walks.specs.Internal.Holders.{holders, held, key_at}
 
 -- the key of a holder
 abbrev pub key_of : List (List ℕ × ValueSlot) → Option ValueSlot → Option (List ℕ)
-key_of rows None = None
-key_of rows (Some h) = key_at rows h
+key_of entries None = None
+key_of entries (Some h) = key_at entries h
 
 module _ {V : Type 0} where
   -- the tree is the same
@@ -38,27 +38,27 @@ module _ {V : Type 0} where
   standing t prefix =
       record { map = map_of t.value (siblings_of t.arena); prefix = prefix; last = last_key t }
 
-  -- the rows behind the key that was lent last, below the prefix
-  abbrev pub rows_left : HeldTree V → List ℕ → List (List ℕ × ValueSlot)
-  rows_left t prefix = after (last_key t) (under prefix (holders t.value t.arena))
+  -- the entries behind the key that was lent last, below the prefix
+  abbrev pub entries_to_lend : HeldTree V → List ℕ → List (List ℕ × ValueSlot)
+  entries_to_lend t prefix = after (last_key t) (under prefix (holders t.value t.arena))
 
-  -- these are those rows
+  -- these are those entries
   abbrev pub AreEntriesLeft : HeldTree V → List ℕ → List (List ℕ × ValueSlot) → Type 0
-  AreEntriesLeft t prefix rows = rows ≡ rows_left t prefix
+  AreEntriesLeft t prefix entries = entries ≡ entries_to_lend t prefix
 
-  -- the first of these rows was lent, and the others are left; or there was none
+  -- the first of these entries was lent, and the others are left; or there was none
   abbrev pub Takes : HeldTree V → List (List ℕ × ValueSlot) → Option (List ℕ) → HeldTree V
       → List (List ℕ × ValueSlot) → Type 0
-  Takes t rows None u later = (rows ≡ []) × (later ≡ []) × (u.last ≡ t.last)
-  Takes t rows (Some key) u later =
-      (h : ValueSlot) × (rows ≡ (key, h) ∷ later) × (u.last ≡ Some h)
+  Takes t entries None u later = (entries ≡ []) × (later ≡ []) × (u.last ≡ t.last)
+  Takes t entries (Some key) u later =
+      (h : ValueSlot) × (entries ≡ (key, h) ∷ later) × (u.last ≡ Some h)
 
-  -- a row was left, and all are left still
-  pub record Refuses (t : HeldTree V) (rows : List (List ℕ × ValueSlot)) (u : HeldTree V)
+  -- an entry was left, and all are left still
+  pub record Refuses (t : HeldTree V) (entries : List (List ℕ × ValueSlot)) (u : HeldTree V)
       (later : List (List ℕ × ValueSlot)) : Type 0 where
-    pub left : later ≡ rows
+    pub left : later ≡ entries
     pub last : u.last ≡ t.last
-    pub some : rows ≢ []
+    pub some : entries ≢ []
 
   -- the same with another value where this one holds one
   abbrev pub with_held : HeldTree V → Option ValueSlot → V → HeldTree V

@@ -6,7 +6,7 @@ use Rattle.patricia_model.specs.Siblings.{own, entries}
 use Rattle.patricia_nodes.specs.declared.arena.Node.{Node}
 use Rattle.patricia_nodes.specs.declared.arena.NodeArena.{NodeArena}
 use Rattle.patricia_nodes.specs.Internal.Plans.{linked}
-use Rattle.patricia_walks.specs.Internal.Positions.{row_at}
+use Rattle.patricia_walks.specs.Internal.Positions.{siblings_at}
 use Rattle.patricia_nodes.specs.Internal.NodeVecs.{value_in}
 use Rattle.patricia_walks.specs.declared.held_tree.ValueSlot.{ValueSlot}
 use Rattle.patricia_walks.specs.declared.held_tree.ValueSlot.TheVariants.{OfEmptyKey, OfNode}
@@ -23,7 +23,7 @@ module _ {V : Type 0} where
   abbrev pub holders : Option V → NodeArena V → List (List ℕ × ValueSlot)
   holders value arena =
       own (option_map (λ _. OfEmptyKey) value)
-      ++ entries (row_at (numbered_slots 0 arena.nodes.items) arena.root)
+      ++ entries (siblings_at (numbered_slots 0 arena.nodes.items) arena.root)
 
   -- the value that is held there
   abbrev pub held : Option V → List (Node V) → ValueSlot → Option V
@@ -42,12 +42,12 @@ abbrev pub key_at : List (List ℕ × ValueSlot) → ValueSlot → Option (List 
 key_at [] h = None
 key_at (e ∷ es) h = if is_same e.1 h then Some e.0 else key_at es h
 
--- how often it stands in these rows
+-- how often it stands in these entries
 abbrev pub uses : List (List ℕ × ValueSlot) → ValueSlot → ℕ
 uses [] h = 0
 uses (e ∷ es) h = (if is_same e.1 h then 1 else 0) + uses es h
 
--- the rows have the same keys, and each value is the one that is held there
+-- the entries have the same keys, and each value is the one that is held there
 abbrev pub ReadsHeld : {V : Type 0} → (ValueSlot → Option V) → List (List ℕ × ValueSlot)
     → List (List ℕ × V) → Type 0
 ReadsHeld held [] [] = Unit {0}

@@ -11,15 +11,16 @@ use Rattle.patricia_nodes.specs.declared.arena.Node.{Node}
 use Rattle.patricia_nodes.specs.declared.arena.NodeArena.{NodeArena}
 use Rattle.patricia_walks.specs.declared.walk.Traversal.{Traversal}
 use Rattle.patricia_walks.specs.declared.into_walk.OwnedTraversal.{OwnedTraversal}
-use Rattle.patricia_nodes.specs.Internal.Plans.{row, count, plan_at, IsPlan}
+use Rattle.patricia_nodes.specs.Internal.Plans.{siblings_in, count, plan_at, IsPlan}
 
--- the rows that wait, and one more behind so many of the bytes, where there is one
-abbrev pub with_row : List (ℕ × Option ℕ) → ℕ → Option ℕ → List (ℕ × Option ℕ)
-with_row rows front None = rows
-with_row rows front (Some id) = rows ++ (front, Some id) ∷ []
+-- the siblings that wait, and more behind so many of the bytes, where there are any
+abbrev pub with_siblings : List (ℕ × Option ℕ) → ℕ → Option ℕ → List (ℕ × Option ℕ)
+with_siblings waiting front None = waiting
+with_siblings waiting front (Some id) = waiting ++ (front, Some id) ∷ []
 
 -- a place in a walk: the nodes, the bytes that are passed, the value that is due there, the number
--- of the row behind them, and those of the rows that wait, each behind so many of the bytes
+-- of the siblings behind them, and those of the siblings that wait, each behind so many of the
+-- bytes
 pub record Position (V : Type 0) : Type 0 where
   pub nodes : List (Node V)
   pub path : List ℕ
@@ -48,21 +49,21 @@ module _ {V : Type 0} where
     stack = p.stack.items;
   }
 
-  -- the row from a number on
-  abbrev pub row_at : List (Node V) → Option ℕ → Siblings V
-  row_at nodes at = row (plan_at nodes at)
+  -- the siblings from a number on
+  abbrev pub siblings_at : List (Node V) → Option ℕ → Siblings V
+  siblings_at nodes at = siblings_in (plan_at nodes at)
 
-  -- the rows that wait
-  abbrev pub rows_at : List (Node V) → List (ℕ × Option ℕ) → List (ℕ × Siblings V)
-  rows_at nodes stack = map (λ f. (f.0, row_at nodes f.1)) stack
+  -- the siblings that wait
+  abbrev pub siblings_waiting : List (Node V) → List (ℕ × Option ℕ) → List (ℕ × Siblings V)
+  siblings_waiting nodes stack = map (λ f. (f.0, siblings_at nodes f.1)) stack
 
-  -- the same place with the rows themselves
+  -- the same place with the siblings themselves
   abbrev pub state_of : Position V → WalkState V
   state_of p = record {
     path = p.path;
     pending = p.pending;
-    row = row_at p.nodes p.next;
-    stack = rows_at p.nodes p.stack;
+    siblings = siblings_at p.nodes p.next;
+    stack = siblings_waiting p.nodes p.stack;
   }
 
   -- there is a plan from each of the numbers on
@@ -75,21 +76,21 @@ module _ {V : Type 0} where
   count_all nodes [] at = 0
   count_all nodes (f ∷ fs) at = count (plan_at nodes f.1) at + count_all nodes fs at
 
-  -- the row that is next and those that wait stand in the nodes, and no node in two of them
+  -- the siblings that are next and those that wait stand in the nodes, and no node stands twice
   pub record Stand (p : Position V) : Type 0 where
     pub next_plan : IsPlan p.nodes p.next (plan_at p.nodes p.next)
     pub plans : AllPlans p.nodes p.stack
     pub once : (at : ℕ) → count (plan_at p.nodes p.next) at + count_all p.nodes p.stack at ≤ 1
 
-  -- what is left is without the rows that begin with these bytes, which came first
-  pub record HasPassed (p : List ℕ) (rows later : List (List ℕ × V)) : Type 0 where
-    pub left : later ≡ outside p rows
-    pub split : rows ≡ under p rows ++ later
+  -- what is left is without the entries that begin with these bytes, which came first
+  pub record HasPassed (p : List ℕ) (before later : List (List ℕ × V)) : Type 0 where
+    pub left : later ≡ outside p before
+    pub split : before ≡ under p before ++ later
 
-  -- the entries of the first node of a row, behind these bytes
-  abbrev pub rows_below : List ℕ → Siblings V → List (List ℕ × V)
-  rows_below front end = []
-  rows_below front (node label value child sibling) =
+  -- the entries of the first of the siblings, behind these bytes
+  abbrev pub entries_below : List ℕ → Siblings V → List (List ℕ × V)
+  entries_below front end = []
+  entries_below front (node label value child sibling) =
       prefixed (front ++ label) (own value ++ entries child)
 
 module _ (item : List ℕ → Type 0) {V : Type 0} where
@@ -98,10 +99,10 @@ module _ (item : List ℕ → Type 0) {V : Type 0} where
     pub valid : IsValid item front
     pub plan : IsPlan arena.nodes.items (Some top) (plan_at arena.nodes.items (Some top))
     pub once : (at : ℕ) → count (plan_at arena.nodes.items (Some top)) at ≤ 1
-    pub canonical : IsCanonical item (row_at arena.nodes.items (Some top))
+    pub canonical : IsCanonical item (siblings_at arena.nodes.items (Some top))
 
-  -- each row that waits is behind fewer of the bytes than those above it, and not behind all of
-  -- them, and its first items come after the item that goes on behind it
+  -- siblings that wait are behind fewer of the bytes than those above them, and not behind all of
+  -- the bytes, and their first items come after the item that goes on behind these
   abbrev pub WaitsAfter : List ℕ → List (ℕ × Siblings V) → Type 0
   WaitsAfter path [] = Unit {0}
   WaitsAfter path (f ∷ fs) = record {
@@ -111,14 +112,14 @@ module _ (item : List ℕ → Type 0) {V : Type 0} where
     rest : WaitsAfter path fs;
   }
 
-  -- the rows stand, they are those of a walk, and those that wait come after the bytes
+  -- the siblings stand, they are those of a walk, and those that wait come after the bytes
   pub record IsPosition (p : Position V) : Type 0 where
     pub stand : Stand p
     pub state : IsWalkState item (state_of p)
-    pub after : WaitsAfter p.path (rows_at p.nodes p.stack)
+    pub after : WaitsAfter p.path (siblings_waiting p.nodes p.stack)
 
   -- a step of the walk
   pub record AdvancesTo (p q : Position V) : Type 0 where
     pub stand : Stand q
     pub step : IsStep item (state_of p) (state_of q)
-    pub after : WaitsAfter q.path (rows_at q.nodes q.stack)
+    pub after : WaitsAfter q.path (siblings_waiting q.nodes q.stack)

@@ -1,18 +1,19 @@
--- Where a walk over the rows under a prefix begins.
+-- Where a walk over the entries under a prefix begins.
 use Rattle.std.specs.Prelude.{◌≡◌, ℕ, ◌≤◌, List, [], length, take, Option, Some, None}
-use Rattle.patricia_walks.specs.Internal.Positions.{IsTop, row_at, rows_below}
+use Rattle.patricia_walks.specs.Internal.Positions.{IsTop, siblings_at, entries_below}
 use Rattle.patricia_walks.specs.declared.under.UnderStart.{UnderStart}
 
 module _ {Q V : Type 0} (key_of : Q → List ℕ) where
-  -- the rows from there on
-  abbrev pub rows_from : UnderStart Q V → List (List ℕ × V)
-  rows_from s =
-      rows_below (take s.front (key_of s.prefix)) (row_at s.arena.now.nodes.items (Some s.top))
+  -- the entries from there on
+  abbrev pub entries_from : UnderStart Q V → List (List ℕ × V)
+  entries_from s =
+      entries_below (take s.front (key_of s.prefix))
+      (siblings_at s.arena.now.nodes.items (Some s.top))
 
-  -- what is left: these rows until the walk has begun
-  abbrev pub rows_left : Option (UnderStart Q V) → List (List ℕ × V) → List (List ℕ × V)
-  rows_left None walk = walk
-  rows_left (Some s) walk = rows_from s
+  -- what is left: these entries until the walk has begun
+  abbrev pub entries_to_lend : Option (UnderStart Q V) → List (List ℕ × V) → List (List ℕ × V)
+  entries_to_lend None walk = walk
+  entries_to_lend (Some s) walk = entries_from s
 
 module _ (item : List ℕ → Type 0) {Q V : Type 0} (key_of : Q → List ℕ) where
   -- a walk can begin there, behind the first bytes of the prefix

@@ -6,11 +6,11 @@ use Rattle.patricia_model.specs.Walks.{values_of}
 use Rattle.patricia_model.specs.Internal.WalkStates.{steps_in}
 use Rattle.patricia_nodes.specs.declared.arena.Node.{Node}
 use Rattle.patricia_nodes.specs.Internal.Plans.{plan_at, IsPlan}
-use Rattle.patricia_walks.specs.Internal.Positions.{row_at}
+use Rattle.patricia_walks.specs.Internal.Positions.{siblings_at}
 use Rattle.patricia_walks.specs.declared.value_walk.ValueTraversal.{ValueTraversal}
 
--- a place in a walk over values: the nodes, the value that is due, the number of the row that is
--- next, and those of the rows that wait, the next one last
+-- a place in a walk over values: the nodes, the value that is due, the number of the siblings that
+-- are next, and those of the siblings that wait, the next one last
 pub record ValuePosition (V : Type 0) : Type 0 where
   pub nodes : List (Node V)
   pub pending : Option V
@@ -27,56 +27,56 @@ module _ {V : Type 0} where
     stack = p.stack.items;
   }
 
-  -- the values of a row
+  -- the values of siblings
   abbrev pub values_in : Siblings V → List V
-  values_in row = values_of (entries row)
+  values_in siblings = values_of (entries siblings)
 
-  -- the values of the rows that wait
+  -- the values of the siblings that wait
   abbrev pub values_waiting : List (Node V) → List (Option ℕ) → List V
   values_waiting nodes [] = []
-  values_waiting nodes (at ∷ ats) = values_waiting nodes ats ++ values_in (row_at nodes at)
+  values_waiting nodes (at ∷ ats) = values_waiting nodes ats ++ values_in (siblings_at nodes at)
 
   -- the values that are left
   abbrev pub values_left : ValuePosition V → List V
   values_left p =
       values_of (own p.pending)
-      ++ (values_in (row_at p.nodes p.next) ++ values_waiting p.nodes p.stack)
+      ++ (values_in (siblings_at p.nodes p.next) ++ values_waiting p.nodes p.stack)
 
   -- the next value was taken, or there was none
   abbrev pub TakesValue : ValuePosition V → Option V → ValuePosition V → Type 0
   TakesValue p None q = (values_left p ≡ []) × (values_left q ≡ [])
   TakesValue p (Some v) q = values_left p ≡ v ∷ values_left q
 
-  -- how many steps a walk over the rows that wait takes at most
+  -- how many steps a walk over the siblings that wait takes at most
   abbrev pub value_steps_waiting : List (Node V) → List (Option ℕ) → ℕ
   value_steps_waiting nodes [] = 0
   value_steps_waiting nodes (at ∷ ats) =
-      steps_in (row_at nodes at) + value_steps_waiting nodes ats
+      steps_in (siblings_at nodes at) + value_steps_waiting nodes ats
 
   -- and over all that is left
   abbrev pub value_steps_left : ValuePosition V → ℕ
-  value_steps_left p = steps_in (row_at p.nodes p.next) + value_steps_waiting p.nodes p.stack
+  value_steps_left p = steps_in (siblings_at p.nodes p.next) + value_steps_waiting p.nodes p.stack
 
-  -- each node of a row has a value or one below it
+  -- each of the siblings has a value or one below it
   abbrev pub HasValues : Siblings V → Type 0
   HasValues end = Unit {0}
   HasValues (node label value child sibling) =
       (values_of (own value ++ entries child) ≢ []) × HasValues child × HasValues sibling
 
-  -- the row from a number on stands in the nodes, and each of its nodes has a value or one below it
-  pub record IsValueRow (nodes : List (Node V)) (at : Option ℕ) : Type 0 where
+  -- the siblings from a number on stand in the nodes, and each of them has a value or one below it
+  pub record AreValueSiblings (nodes : List (Node V)) (at : Option ℕ) : Type 0 where
     pub plan : IsPlan nodes at (plan_at nodes at)
-    pub has_values : HasValues (row_at nodes at)
+    pub has_values : HasValues (siblings_at nodes at)
 
-  -- so does each of these rows
-  abbrev pub AreValueRows : List (Node V) → List (Option ℕ) → Type 0
-  AreValueRows nodes [] = Unit {0}
-  AreValueRows nodes (at ∷ ats) = IsValueRow nodes at × AreValueRows nodes ats
+  -- so do the siblings from each of these numbers on
+  abbrev pub AllValueSiblings : List (Node V) → List (Option ℕ) → Type 0
+  AllValueSiblings nodes [] = Unit {0}
+  AllValueSiblings nodes (at ∷ ats) = AreValueSiblings nodes at × AllValueSiblings nodes ats
 
-  -- so do the row that is next and those that wait
+  -- so do the siblings that are next and those that wait
   pub record IsValuePosition (p : ValuePosition V) : Type 0 where
-    pub next_row : IsValueRow p.nodes p.next
-    pub rows : AreValueRows p.nodes p.stack
+    pub next_siblings : AreValueSiblings p.nodes p.next
+    pub siblings : AllValueSiblings p.nodes p.stack
 
   -- a step of the walk: what is left stays, and fewer steps are left
   pub record GoesTo (p q : ValuePosition V) : Type 0 where

@@ -5,15 +5,15 @@ ghost use Rattle.patricia_model.specs.Siblings.{own, entries, IsCanonical};
 ghost use Rattle.patricia_nodes.specs.Internal.Plans.{IsPlan, IsWellFormed, plan_at};
 ghost use Rattle.patricia_nodes.specs.Internal.Plans.{siblings_of, entries_of};
 ghost use Rattle.patricia_walks.specs.Internal.Depths.{IsDeeper};
-ghost use Rattle.patricia_walks.specs.Internal.Positions.{row_at};
+ghost use Rattle.patricia_walks.specs.Internal.Positions.{siblings_at};
 
 use super::find_start;
 use patricia_keys::BorrowedBytes;
 use patricia_nodes::arena::{Node, NodeArena};
 use patricia_nodes::link::Link;
 
-// How many rows, one below the other, are counted by recursion.
-const COUNTED_ROWS: u32 = 64;
+// How many levels are counted by recursion.
+const COUNTED_DEPTH: u32 = 64;
 
 // How many values a node has.
 fn count_value<V>(node: &Node<V>) -> usize
@@ -22,13 +22,13 @@ fn count_value<V>(node: &Node<V>) -> usize
     if node.value.is_some() { 1 } else { 0 }
 }
 
-// How many values a row and all below it have. `None` where more than `depth` rows lie one below
-// the other.
-fn count_row<V>(arena: &NodeArena<V>, first: Link, depth: u32) -> Option<usize>
+// How many values siblings and all nodes below them have. `None` where more than `depth` nodes lie
+// one below the other.
+fn count_siblings<V>(arena: &NodeArena<V>, first: Link, depth: u32) -> Option<usize>
     requires { IsPlan arena.now.nodes.items first (plan_at arena.now.nodes.items first) }
     ensures some { IfSome result (λ n.
-        n ≡ length (entries (row_at arena.now.nodes.items first))) }
-    ensures none { IfNone result (IsDeeper depth (row_at arena.now.nodes.items first)) }
+        n ≡ length (entries (siblings_at arena.now.nodes.items first))) }
+    ensures none { IfNone result (IsDeeper depth (siblings_at arena.now.nodes.items first)) }
 {
     let mut count = 0;
     let mut at = first;
@@ -37,7 +37,7 @@ fn count_row<V>(arena: &NodeArena<V>, first: Link, depth: u32) -> Option<usize>
             return None;
         }
         let node = &arena.nodes[id.index()];
-        count += count_value(node) + count_row(arena, node.child, depth - 1)?;
+        count += count_value(node) + count_siblings(arena, node.child, depth - 1)?;
         at = node.sibling;
     }
     Some(count)
@@ -47,7 +47,7 @@ fn count_row<V>(arena: &NodeArena<V>, first: Link, depth: u32) -> Option<usize>
 /// than 64 bytes behind the prefix. Does not allocate.
 pub fn count_under<Q: BorrowedBytes, V>(arena: &NodeArena<V>, prefix: Q) -> Option<usize>
     requires whole { IsWellFormed arena.now }
-    requires row { IsCanonical Q.Owned.item (siblings_of arena.now) }
+    requires siblings { IsCanonical Q.Owned.item (siblings_of arena.now) }
     requires nonempty { Q.key prefix ≢ [] }
     ensures some { IfSome result (λ n. n ≡ length (under (Q.key prefix) (entries_of arena.now))) }
     ensures none { IfNone result (Any (λ e. length (Q.key prefix) + 64 < length e.0)
@@ -57,6 +57,6 @@ pub fn count_under<Q: BorrowedBytes, V>(arena: &NodeArena<V>, prefix: Q) -> Opti
         return Some(0);
     };
     let node = &start.arena.nodes[start.top.index()];
-    let below = count_row(start.arena, node.child, COUNTED_ROWS)?;
+    let below = count_siblings(start.arena, node.child, COUNTED_DEPTH)?;
     Some(count_value(node) + below)
 }

@@ -3,7 +3,7 @@ ghost use Rattle.std.specs.Prelude.{◌≡◌, ◌≢◌, ◌↔◌, ◌+◌, []
 ghost use Rattle.std.specs.Prelude.{IsTrue};
 ghost use Rattle.std.specs.Option.{option_copied, option_map};
 ghost use Rattle.patricia_keys.specs.Keys.{IsValid};
-ghost use Rattle.patricia_model.specs.Cursors.{advanced, before_rows};
+ghost use Rattle.patricia_model.specs.Cursors.{advanced, before_entries};
 
 use super::{Under, UnderStart};
 use crate::walk::{ReadCursor, Walk};
@@ -24,7 +24,7 @@ pub struct PrefixReadCursor<'a, Q: BorrowedBytes, V> {
 impl<'a, Q: BorrowedBytes, V> Model for PrefixReadCursor<'a, Q, V> {
     ghost use Rattle.patricia_model.specs.Cursors.{ReadCursorView};
     ghost use Rattle.patricia_model.specs.Internal.Codes.{read_cursor_view_code};
-    ghost use Rattle.patricia_walks.specs.Internal.Starts.{IsUnderWalk, rows_left};
+    ghost use Rattle.patricia_walks.specs.Internal.Starts.{IsUnderWalk, entries_to_lend};
 
     ghost Value = { ReadCursorView V };
 
@@ -32,7 +32,7 @@ impl<'a, Q: BorrowedBytes, V> Model for PrefixReadCursor<'a, Q, V> {
 
     ghost view = { λ c. record {
       at = c.cursor.at;
-      left = rows_left Q.key c.start c.cursor.left;
+      left = entries_to_lend Q.key c.start c.cursor.left;
     } };
 
     ghost invariant = { λ c. IsUnderWalk Q.Owned.item Q.key c.start c.cursor.left };
@@ -41,7 +41,7 @@ impl<'a, Q: BorrowedBytes, V> Model for PrefixReadCursor<'a, Q, V> {
 impl<'a, Q: BorrowedBytes, V> PrefixReadCursor<'a, Q, V> {
     /// Makes a cursor before the first entry of a walk. Does not allocate.
     pub fn new(under: Under<'a, Q, V>) -> Self
-        ensures { result ≡ before_rows under.entry }
+        ensures { result ≡ before_entries under.entry }
     {
         let Under { alloc, start, walk } = under;
         PrefixReadCursor {
@@ -63,7 +63,7 @@ impl<'a, Q: BorrowedBytes, V> PrefixReadCursor<'a, Q, V> {
         ensures advanced { OnOk result (self.new ≡ advanced self.old) }
         ensures fewer { IfOk result (λ found.
             IsTrue found → length self.old.left ≡ length self.new.left + 1) }
-        ensures ended { OnErr result (self.new ≡ before_rows []) }
+        ensures ended { OnErr result (self.new ≡ before_entries []) }
         ensures err_only_if_left { OnErr result (self.old.left ≢ []) }
     {
         if let Some(start) = self.start.take() {

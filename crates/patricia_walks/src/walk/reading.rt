@@ -3,7 +3,7 @@ ghost use Rattle.std.specs.Prelude.{◌≡◌, ◌≢◌, ◌↔◌, ℕ, ◌+�
 ghost use Rattle.std.specs.Prelude.{IfOk, IfSome, OnOk, OnErr};
 ghost use Rattle.std.specs.Option.{option_copied, option_map};
 ghost use Rattle.patricia_keys.specs.Keys.{IsFloor, IsValid};
-ghost use Rattle.patricia_model.specs.Cursors.{advanced, before_rows};
+ghost use Rattle.patricia_model.specs.Cursors.{advanced, before_entries};
 ghost use Rattle.patricia_model.specs.Prefixes.{outside, under};
 
 use super::{Traversal, Walk};
@@ -43,7 +43,7 @@ impl<'a, K: Bytes, V> Model for ReadCursor<'a, K, V> {
 impl<'a, K: Bytes, V> ReadCursor<'a, K, V> {
     /// Makes a cursor before the first entry of a walk. Does not allocate.
     pub fn new(walk: Walk<'a, K, V>) -> Self
-        ensures { result ≡ before_rows walk.entry }
+        ensures { result ≡ before_entries walk.entry }
     {
         let Walk { place, .. } = walk;
         ReadCursor {
@@ -65,7 +65,7 @@ impl<'a, K: Bytes, V> ReadCursor<'a, K, V> {
         ensures advanced { OnOk result (self.new ≡ advanced self.old) }
         ensures fewer { IfOk result (λ found.
             IsTrue found → length self.old.left ≡ length self.new.left + 1) }
-        ensures ended { OnErr result (self.new ≡ before_rows []) }
+        ensures ended { OnErr result (self.new ≡ before_entries []) }
         ensures err_only_if_left { OnErr result (self.old.left ≢ []) }
     {
         match self.place.seek::<K>() {
@@ -107,7 +107,7 @@ impl<'a, K: Bytes, V> ReadCursor<'a, K, V> {
 
     /// Moves the cursor to its end. Does not allocate.
     pub fn end(&mut self)
-        ensures { self.new ≡ before_rows [] }
+        ensures { self.new ≡ before_entries [] }
     {
         self.value.take();
         let place = &mut self.place;

@@ -1,4 +1,4 @@
-//! Walks that begin at a key: a descent goes past the rows before it.
+//! Walks that begin at a key: a descent goes past the entries before it.
 ghost use Rattle.std.specs.Prelude.{◌≡◌, ◌++◌, [], Some, None, true, false, IfOk, OnOk};
 ghost use Rattle.std.specs.Option.{option_copied};
 ghost use Rattle.patricia_model.specs.Ranges.{from};
@@ -6,10 +6,10 @@ ghost use Rattle.patricia_model.specs.Siblings.{own, IsCanonical};
 ghost use Rattle.patricia_nodes.specs.Internal.Plans.{IsWellFormed, siblings_of, entries_of};
 ghost use Rattle.patricia_walks.specs.Internal.Positions.{IsPosition, lent};
 ghost use Rattle.patricia_walks.specs.Internal.Skips.{IsTowards, Approaches, HasReached};
-ghost use Rattle.patricia_walks.specs.Internal.Skips.{rows_ahead};
+ghost use Rattle.patricia_walks.specs.Internal.Skips.{entries_ahead};
 
 use super::{Traversal, Walk};
-use crate::waiting::push_row;
+use crate::waiting::push_siblings;
 use patricia_keys::Bytes;
 use patricia_nodes::arena::NodeArena;
 use patricia_nodes::link::NodeId;
@@ -19,8 +19,8 @@ use std::marker::PhantomData;
 
 impl<'a, V> Traversal<'a, V> {
     // Goes on at a node: to its children where its label begins what is left of the key, and to its
-    // sibling where the label comes before that. Else no row that is left comes before the key, and
-    // the walk stays.
+    // sibling where the label comes before that. Else no entry that is left comes before the key,
+    // and the walk stays.
     fn approach<K: Bytes>(&mut self, id: NodeId, key: &[u8]) -> Result<bool, AllocError>
         requires towards { IsTowards K.item key.now (lent self.old) }
         requires taken { self.old.pending ≡ None }
@@ -35,7 +35,7 @@ impl<'a, V> Traversal<'a, V> {
         let front = self.path.len();
         let rest = &key[front..];
         if rest.starts_with(label) {
-            push_row(&mut self.stack, front, node.sibling)?;
+            push_siblings(&mut self.stack, front, node.sibling)?;
             self.path.extend_from_slice(label)?;
             self.pending = node.value.as_ref();
             self.next = node.child;
@@ -48,14 +48,14 @@ impl<'a, V> Traversal<'a, V> {
         Ok(true)
     }
 
-    // Goes from the start of a walk to the first row that does not come before the key.
+    // Goes from the start of a walk to the first entry that does not come before the key.
     fn skip_to<K: Bytes>(&mut self, key: &[u8]) -> Result<(), AllocError>
         requires position { IsPosition K.item (lent self.old) }
         requires path { self.old.path.items ≡ [] }
         requires stack { self.old.stack.items ≡ [] }
         ensures position { OnOk result (IsPosition K.item (lent self.new)) }
         ensures left { OnOk result
-            (rows_ahead (lent self.new) ≡ from key.now (rows_ahead (lent self.old))) }
+            (entries_ahead (lent self.new) ≡ from key.now (entries_ahead (lent self.old))) }
     {
         loop {
             if self.path.len() >= key.len() {
@@ -73,7 +73,7 @@ impl<'a, V> Traversal<'a, V> {
 }
 
 impl<'a, K: Bytes, V> Walk<'a, K, V> {
-    /// A walk over the rows from a key on. The error is out of memory.
+    /// A walk over the entries from a key on. The error is out of memory.
     ///
     /// Takes the time of a look-up.
     pub fn starting_at(
@@ -83,7 +83,7 @@ impl<'a, K: Bytes, V> Walk<'a, K, V> {
         key: &[u8],
     ) -> Result<Self, AllocError>
         requires whole { IsWellFormed arena.now }
-        requires row { IsCanonical K.item (siblings_of arena.now) }
+        requires siblings { IsCanonical K.item (siblings_of arena.now) }
         ensures { IfOk result (λ walk.
             walk ≡ from key.now (own (option_copied pending.entry) ++ entries_of arena.now)) }
     {

@@ -13,7 +13,7 @@ name_of key = drop 1 (reverse key)
 
 -- the names of the keys of a set
 abbrev pub names_of : KeySet → KeySet
-names_of keys = map.from_entries (list_map (λ row. (name_of row.0, tt)) (map.entries keys))
+names_of keys = map.from_entries (list_map (λ entry. (name_of entry.0, tt)) (map.entries keys))
 
 -- each key of the set is that of a name
 abbrev pub AreKeysOfNames : KeySet → Type 0

@@ -66,7 +66,7 @@ fn taken<K: Bytes, V: Drop>(
     Ok(list)
 }
 
-// Every entry along a key.
+// Every common prefix of a key.
 fn listed_along<Q: BorrowedBytes, V: Copy + Drop>(
     alloc: Global,
     tree: &GenericPatriciaMap<Q::Owned, V>,
@@ -82,7 +82,7 @@ fn listed_along<Q: BorrowedBytes, V: Copy + Drop>(
     Ok(list)
 }
 
-// Every value along a key, by an adapter.
+// The value of every common prefix of a key, by an adapter.
 fn mapped_along<Q: BorrowedBytes, V: Copy + Drop>(
     alloc: Global,
     tree: &GenericPatriciaMap<Q::Owned, V>,
@@ -120,7 +120,7 @@ fn lent<K: Bytes, V: Copy + Drop>(
 {
     let mut list = Vec::new(alloc);
     let mut cursor = tree.cursor();
-    'rows: while cursor.advance()? {
+    'entries: while cursor.advance()? {
         if let (Some(key), Some(value)) = (cursor.key(), cursor.value()) {
             let key = Vec::from_slice(alloc, key)?;
             list.push((key, *value))?;
@@ -161,7 +161,7 @@ fn check_all<K: Bytes>(
     check_len(rt, lent(alloc, tree), 4)
 }
 
-// Asserts what is listed along a key and under a prefix.
+// Asserts which common prefixes of a key are listed, and what is under a prefix.
 fn check_some<Q: BorrowedBytes>(
     rt: &impl Abort,
     alloc: Global,
@@ -190,10 +190,10 @@ fn check_four<Q: BorrowedBytes>(
 // A map of these entries.
 fn map_of<Q: BorrowedBytes>(
     alloc: Global,
-    rows: &[(Q, u32)],
+    entries: &[(Q, u32)],
 ) -> Result<GenericPatriciaMap<Q::Owned, u32>, AllocError> {
     let mut map = GenericPatriciaMap::new(alloc);
-    for (key, value) in rows {
+    for (key, value) in entries {
         if map.insert(*key, *value).is_err() {
             return Err(AllocError);
         }
@@ -201,10 +201,10 @@ fn map_of<Q: BorrowedBytes>(
     Ok(map)
 }
 
-const ROWS: [(&[u8], u32); 4] = [(b"foo", 1), (b"bar", 2), (b"", 9), (b"ba", 8)];
+const ENTRIES: [(&[u8], u32); 4] = [(b"foo", 1), (b"bar", 2), (b"", 9), (b"ba", 8)];
 
 #[test]
 fn lists_four(rt: HostRuntime) -> Result<(), AllocError> {
-    let tree = map_of(rt.alloc(), &ROWS)?;
+    let tree = map_of(rt.alloc(), &ENTRIES)?;
     check_four(&rt, rt.alloc(), tree, b"bars".as_slice(), b"b".as_slice())
 }

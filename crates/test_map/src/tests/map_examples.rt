@@ -340,10 +340,10 @@ fn cursor(rt: HostRuntime) {
 }
 
 #[test]
-fn cursor_under(rt: HostRuntime) {
-    // example: map cursor_under
+fn cursor_prefix(rt: HostRuntime) {
+    // example: map cursor_prefix
     let map = map_of(&rt, rt.alloc(), &[("foo", 1), ("bar", 2), ("baz", 3)]);
-    let mut cursor = map.cursor_under("ba");
+    let mut cursor = map.cursor_prefix("ba");
     holds!(rt; done(&rt, cursor.advance()));
     same!(rt; cursor.text(), Some("bar"));
     holds!(rt; done(&rt, cursor.advance()));

@@ -56,13 +56,13 @@ fn for_each(rt: HostRuntime) {
 }
 
 #[test]
-fn for_each_under(rt: HostRuntime) {
-    // example: map for_each_under
+fn for_each_prefix(rt: HostRuntime) {
+    // example: map for_each_prefix
     let map = map_of(&rt, rt.alloc(), &[("foo", 5), ("bar", 2), ("baz", 3)]);
     let mut greatest = 0;
     done(
         &rt,
-        map.for_each_under("ba", &mut |_, value| greatest = greatest.max(*value)),
+        map.for_each_prefix("ba", &mut |_, value| greatest = greatest.max(*value)),
     );
     same!(rt; greatest, 3);
     // end

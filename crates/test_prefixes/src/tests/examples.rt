@@ -62,11 +62,11 @@ fn block_list_find(rt: HostRuntime) -> anyhow::Result<()> {
 #[test]
 fn subtree_example(rt: HostRuntime) -> anyhow::Result<()> {
     // example: prefixes subtree
-    let rows = [("log", 1), ("log.level", 2), ("logs", 3)];
-    let names = StringPatriciaMap::from_iter(rt.alloc(), rows)?;
-    let rows = subtree(rt.alloc(), &names, "log")?;
-    assert_eq!(rt; rows.len(), 2);
-    assert_eq!(rt; rows[1].0.as_str(), "log.level");
+    let entries = [("log", 1), ("log.level", 2), ("logs", 3)];
+    let names = StringPatriciaMap::from_iter(rt.alloc(), entries)?;
+    let entries = subtree(rt.alloc(), &names, "log")?;
+    assert_eq!(rt; entries.len(), 2);
+    assert_eq!(rt; entries[1].0.as_str(), "log.level");
     // end
     Ok(())
 }
@@ -74,8 +74,8 @@ fn subtree_example(rt: HostRuntime) -> anyhow::Result<()> {
 #[test]
 fn drop_subtree_example(rt: HostRuntime) -> anyhow::Result<()> {
     // example: prefixes drop_subtree
-    let rows = [("log", 1), ("log.level", 2), ("logs", 3)];
-    let mut names = StringPatriciaMap::from_iter(rt.alloc(), rows)?;
+    let entries = [("log", 1), ("log.level", 2), ("logs", 3)];
+    let mut names = StringPatriciaMap::from_iter(rt.alloc(), entries)?;
     drop_subtree(rt.alloc(), &mut names, "log")?;
     assert_eq!(rt; names.len(), 1);
     // end

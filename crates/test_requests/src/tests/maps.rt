@@ -308,7 +308,7 @@ fn make<Q: BorrowedBytes>(
 }
 
 // A leaf of three siblings, the node above the other two, a leaf whose sibling keeps the node
-// above, which has a value, then the sibling, the node above, a leaf of the first row, and the
+// above, which has a value, then the sibling, the node above, a leaf of the top siblings, and the
 // empty key. Any two labels of the long keys, joined, would have more than 30 bytes, and those of
 // `foo` have more each.
 const BYTES: Keys<'static, &'static [u8]> = Keys {

@@ -1,11 +1,11 @@
-// The calls about prefixes of keys, with each walk along a key read to its end.
+// The calls about prefixes of keys, with each walk over common prefixes read to its end.
 use super::helpers::map_of;
 use crate::tests::asserts::{holds, same};
 use patricia_tree::{BorrowedBytes, Bytes, GenericPatriciaMap};
 use std::alloc::{AllocError, Global};
 use std::process::Abort;
 
-// What a walk along a key gives, by each of the three, is so many entries.
+// What a walk over the common prefixes of a key gives, by each of the three, is so many entries.
 fn count_along<Q: BorrowedBytes>(
     rt: &impl Abort,
     map: &GenericPatriciaMap<Q::Owned, u64>,
@@ -51,7 +51,7 @@ fn make_ranges<Q: BorrowedBytes>(map: &GenericPatriciaMap<Q::Owned, u64>, key: Q
     drop(map.range(key, key));
     drop(map.cursor_from(key));
     drop(map.cursor_range(key, key));
-    drop(map.cursor_under(key));
+    drop(map.cursor_prefix(key));
 }
 
 // The other calls. A walk under a prefix is made here, and not read, and so are ranges.

@@ -12,7 +12,7 @@ fn make_ranges<Q: BorrowedBytes>(set: &GenericPatriciaSet<Q::Owned>, element: Q)
     drop(set.range(element, element));
     drop(set.cursor_from(element));
     drop(set.cursor_range(element, element));
-    drop(set.cursor_under(element));
+    drop(set.cursor_prefix(element));
 }
 
 // Questions about an element of the set, or about what is none.

@@ -7,12 +7,12 @@ use patricia_tree::{BorrowedBytes, Bytes};
 use std::alloc::{AllocError, Global};
 use std::process::Abort;
 
-// The value or the count that a reply has, the number of its rows, or that of its tree bytes.
+// The value or the count that a reply has, the number of its entries, or that of its tree bytes.
 fn number<K: Bytes>(reply: &Reply<K, u32>) -> Option<u32> {
     let count = match reply {
         Reply::Some(value) | Reply::Longest(_, value) => return Some(*value),
         Reply::Count(count) => *count,
-        Reply::Rows(rows) => rows.len(),
+        Reply::Rows(entries) => entries.len(),
         Reply::Wire(bytes, _) => bytes.len(),
         _ => return None,
     };

@@ -12,7 +12,7 @@ type Map = GenericPatriciaMap<UnitKey, u64>;
 
 type Set = GenericPatriciaSet<UnitKey>;
 
-const ROWS: [(&[u8], u64); 7] = [
+const ENTRIES: [(&[u8], u64); 7] = [
     (b"", 1),
     (b"\x01\x02", 2),
     (b"\x01\x02\x00\x41", 3),
@@ -30,9 +30,9 @@ fn key<'a>(rt: &impl Abort, bytes: &'a [u8]) -> Units<'a> {
     }
 }
 
-fn map_of(rt: &impl Abort, alloc: Global, rows: &[(&[u8], u64)]) -> Map {
+fn map_of(rt: &impl Abort, alloc: Global, entries: &[(&[u8], u64)]) -> Map {
     let mut map = Map::new(alloc);
-    for (bytes, value) in rows {
+    for (bytes, value) in entries {
         done(rt, map.insert(key(rt, bytes), *value));
     }
     map
@@ -71,7 +71,7 @@ fn given(range: Range<'_, Units<'_>, u64>) -> Result<u64, AllocError> {
 
 #[test]
 fn ranges(rt: HostRuntime) {
-    let map = map_of(&rt, rt.alloc(), &ROWS);
+    let map = map_of(&rt, rt.alloc(), &ENTRIES);
     let (low, high) = (key(&rt, b"\x01\x03"), key(&rt, b"\xff\x5e"));
     same!(rt; done(&rt, given(map.range(low, high))), 456);
     same!(rt; done(&rt, given(map.range_from(high))), 7);
@@ -80,7 +80,7 @@ fn ranges(rt: HostRuntime) {
 
 #[test]
 fn ends(rt: HostRuntime) {
-    let map = map_of(&rt, rt.alloc(), &ROWS);
+    let map = map_of(&rt, rt.alloc(), &ENTRIES);
     let (first, last) = (
         done(&rt, map.first_key_value()),
         done(&rt, map.last_key_value()),
@@ -96,7 +96,7 @@ fn ends(rt: HostRuntime) {
 
 #[test]
 fn prefixes_are_counted_and_removed(rt: HostRuntime) {
-    let mut map = map_of(&rt, rt.alloc(), &ROWS);
+    let mut map = map_of(&rt, rt.alloc(), &ENTRIES);
     let prefix = key(&rt, b"\x01\x02");
     same!(rt; done(&rt, map.count_prefix(prefix)), 2);
     same!(rt; done(&rt, map.count_prefix(key(&rt, b""))), 7);
@@ -106,7 +106,7 @@ fn prefixes_are_counted_and_removed(rt: HostRuntime) {
 
 #[test]
 fn first_and_last_are_taken(rt: HostRuntime) {
-    let mut map = map_of(&rt, rt.alloc(), &ROWS);
+    let mut map = map_of(&rt, rt.alloc(), &ENTRIES);
     holds!(rt; done(&rt, map.pop_first()).is_some_and(|entry| entry.1 == 1));
     holds!(rt; done(&rt, map.pop_last()).is_some_and(|entry| entry.1 == 7));
     same!(rt; done(&rt, digits(&map)), 23456);
@@ -114,7 +114,7 @@ fn first_and_last_are_taken(rt: HostRuntime) {
 
 #[test]
 fn maps_are_merged(rt: HostRuntime) {
-    let mut map = map_of(&rt, rt.alloc(), &ROWS);
+    let mut map = map_of(&rt, rt.alloc(), &ENTRIES);
     let other = map_of(
         &rt,
         rt.alloc(),
@@ -129,7 +129,7 @@ fn maps_are_merged(rt: HostRuntime) {
 
 #[test]
 fn entries_are_retained(rt: HostRuntime) {
-    let mut map = map_of(&rt, rt.alloc(), &ROWS);
+    let mut map = map_of(&rt, rt.alloc(), &ENTRIES);
     done(
         &rt,
         map.retain(|key, value| {
@@ -161,8 +161,8 @@ fn entries_are_loaded_in_order(rt: HostRuntime) {
 
 #[test]
 fn maps_are_compared(rt: HostRuntime) {
-    let map = map_of(&rt, rt.alloc(), &ROWS);
-    let mut other = map_of(&rt, rt.alloc(), &ROWS);
+    let map = map_of(&rt, rt.alloc(), &ENTRIES);
+    let mut other = map_of(&rt, rt.alloc(), &ENTRIES);
     holds!(rt; done(&rt, map.equals(&other)));
     done(&rt, other.insert(key(&rt, b"\x02\x00"), 6));
     holds!(rt; !done(&rt, map.equals(&other)));
@@ -170,13 +170,13 @@ fn maps_are_compared(rt: HostRuntime) {
 
 #[test]
 fn entries_are_lent(rt: HostRuntime) {
-    let map = map_of(&rt, rt.alloc(), &ROWS);
+    let map = map_of(&rt, rt.alloc(), &ENTRIES);
     let mut cursor = map.cursor();
     holds!(rt; done(&rt, cursor.advance()));
     same!(rt; cursor.value(), Some(&1));
     holds!(rt; done(&rt, cursor.advance()));
     same!(rt; cursor.key(), Some(b"\x01\x02".as_slice()));
-    let mut under = map.cursor_under(key(&rt, b"\x01\x02"));
+    let mut under = map.cursor_prefix(key(&rt, b"\x01\x02"));
     holds!(rt; done(&rt, under.advance()));
     same!(rt; under.value(), Some(&2));
     holds!(rt; done(&rt, under.advance()));

@@ -29,7 +29,7 @@ fn add_fault(alloc: Global, fault: DecodeError, out: &mut String) -> Result<(), 
     out.push_str(&text)
 }
 
-fn add_row(alloc: Global, key: &[u8], value: u64, out: &mut String) -> Result<(), AllocError> {
+fn add_pair(alloc: Global, key: &[u8], value: u64, out: &mut String) -> Result<(), AllocError> {
     out.push(' ')?;
     words::add_bytes(alloc, out, key)?;
     let digits = value.to_string(alloc)?;
@@ -44,7 +44,7 @@ fn add_entry<K: Bytes>(
     out: &mut String,
 ) -> Result<(), AllocError> {
     let (key, value) = entry?;
-    add_row(alloc, key.as_bytes(), *value, out)
+    add_pair(alloc, key.as_bytes(), *value, out)
 }
 
 // Adds an element that a walk gives.
@@ -75,7 +75,7 @@ fn set_tree<K: Bytes>(levels: Levels, set: &GenericPatriciaSet<K>) -> Result<Vec
     }
 }
 
-// Adds the rows of a map, and its bytes.
+// Adds the entries of a map, and its bytes.
 fn add_map<K: Bytes>(
     alloc: Global,
     levels: Levels,

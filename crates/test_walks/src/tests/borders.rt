@@ -12,7 +12,7 @@ type Map<K> = GenericPatriciaMap<K, u32>;
 /// A key, the values of the entries after it and before it, 0 where there is none, and how many
 /// entries there are from it on and under it.
 #[derive(Clone, Copy)]
-struct Row<Q> {
+struct Case<Q> {
     key: Q,
     after: u32,
     before: u32,
@@ -28,11 +28,14 @@ fn value<K: Bytes>(entry: Option<(K, &u32)>) -> u32 {
     }
 }
 
-// Whether the entries next to a key are as the row says.
-fn has_neighbours<Q: BorrowedBytes>(map: &Map<Q::Owned>, row: Row<Q>) -> Result<bool, AllocError> {
-    let after = value(map.first_after(row.key)?);
-    let before = value(map.last_before(row.key)?);
-    Ok(after == row.after && before == row.before)
+// Whether the entries next to a key are as the case says.
+fn has_neighbours<Q: BorrowedBytes>(
+    map: &Map<Q::Owned>,
+    case: Case<Q>,
+) -> Result<bool, AllocError> {
+    let after = value(map.first_after(case.key)?);
+    let before = value(map.last_before(case.key)?);
+    Ok(after == case.after && before == case.before)
 }
 
 // How many entries a cursor lends from a key on, up to another one where there is one.
@@ -53,42 +56,42 @@ fn lent<Q: BorrowedBytes>(
     Ok(map.len())
 }
 
-// Whether as many entries are there from a key on, before it and under it as the row says.
+// Whether as many entries are there from a key on, before it and under it as the case says.
 fn has_counts<Q: BorrowedBytes>(
     map: &Map<Q::Owned>,
-    row: Row<Q>,
+    case: Case<Q>,
     empty: Q,
 ) -> Result<bool, AllocError> {
-    let from = lent(map, row.key, None)?;
-    let before = lent(map, empty, Some(row.key))?;
-    let none = lent(map, row.key, Some(empty))?;
+    let from = lent(map, case.key, None)?;
+    let before = lent(map, empty, Some(case.key))?;
+    let none = lent(map, case.key, Some(empty))?;
     Ok(
-        from == row.from
-            && before == map.len().saturating_sub(row.from)
+        from == case.from
+            && before == map.len().saturating_sub(case.from)
             && none == 0
-            && map.count_prefix(row.key)? == row.under,
+            && map.count_prefix(case.key)? == case.under,
     )
 }
 
-// Asserts what the rows say of a map.
+// Asserts what the cases say of a map.
 fn check<Q: BorrowedBytes>(
     rt: &impl Abort,
     alloc: Global,
     stored: &[(Q, u32)],
-    rows: &[Row<Q>],
+    cases: &[Case<Q>],
     empty: Q,
 ) -> Result<(), AllocError> {
     let map = map_of(alloc, stored)?;
-    for row in rows {
-        holds!(rt; has_neighbours(&map, *row)?);
-        holds!(rt; has_counts(&map, *row, empty)?);
+    for case in cases {
+        holds!(rt; has_neighbours(&map, *case)?);
+        holds!(rt; has_counts(&map, *case, empty)?);
     }
     Ok(())
 }
 
-// A row of a table.
-fn asked<Q: Copy>(key: Q, after: u32, before: u32, from: usize, under: usize) -> Row<Q> {
-    Row {
+// A case of a table.
+fn asked<Q: Copy>(key: Q, after: u32, before: u32, from: usize, under: usize) -> Case<Q> {
+    Case {
         key,
         after,
         before,
@@ -101,7 +104,7 @@ const BYTES: [(&[u8], u32); 5] = [(b"", 1), (b"b", 2), (b"ba", 3), (b"bar", 4), 
 
 #[test]
 fn bytes(rt: HostRuntime) -> Result<(), AllocError> {
-    let rows: [Row<&[u8]>; 7] = [
+    let cases: [Case<&[u8]>; 7] = [
         asked(b"", 2, 0, 5, 5),
         asked(b"b", 3, 1, 4, 3),
         asked(b"ba", 4, 2, 3, 2),
@@ -110,14 +113,14 @@ fn bytes(rt: HostRuntime) -> Result<(), AllocError> {
         asked(b"c", 0, 4, 1, 1),
         asked(b"d", 0, 5, 0, 0),
     ];
-    check(&rt, rt.alloc(), &BYTES, &rows, b"")
+    check(&rt, rt.alloc(), &BYTES, &cases, b"")
 }
 
 const TEXTS: [(&str, u32); 5] = [("", 1), ("い", 2), ("いあ", 3), ("いあん", 4), ("う", 5)];
 
 #[test]
 fn texts(rt: HostRuntime) -> Result<(), AllocError> {
-    let rows = [
+    let cases = [
         asked("", 2, 0, 5, 5),
         asked("い", 3, 1, 4, 3),
         asked("いあ", 4, 2, 3, 2),
@@ -126,5 +129,5 @@ fn texts(rt: HostRuntime) -> Result<(), AllocError> {
         asked("う", 0, 4, 1, 1),
         asked("え", 0, 5, 0, 0),
     ];
-    check(&rt, rt.alloc(), &TEXTS, &rows, "")
+    check(&rt, rt.alloc(), &TEXTS, &cases, "")
 }

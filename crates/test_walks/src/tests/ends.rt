@@ -15,8 +15,8 @@ fn begins_each<K: Bytes>(map: GenericPatriciaMap<K, u32>) -> bool {
         && map.into_iter().next().is_some()
 }
 
-fn each_begins<Q: BorrowedBytes>(alloc: Global, rows: &[(Q, u32)]) -> Result<bool, AllocError> {
-    Ok(begins_each(map_of(alloc, rows)?))
+fn each_begins<Q: BorrowedBytes>(alloc: Global, entries: &[(Q, u32)]) -> Result<bool, AllocError> {
+    Ok(begins_each(map_of(alloc, entries)?))
 }
 
 #[test]
@@ -30,8 +30,11 @@ fn gives_two<K: Bytes>(map: GenericPatriciaMap<K, u32>) -> bool {
     walk.next().is_some() && walk.next().is_some() && walk.next().is_none() && walk.next().is_none()
 }
 
-fn two_are_given<Q: BorrowedBytes>(alloc: Global, rows: &[(Q, u32)]) -> Result<bool, AllocError> {
-    Ok(gives_two(map_of(alloc, rows)?))
+fn two_are_given<Q: BorrowedBytes>(
+    alloc: Global,
+    entries: &[(Q, u32)],
+) -> Result<bool, AllocError> {
+    Ok(gives_two(map_of(alloc, entries)?))
 }
 
 #[test]
@@ -39,7 +42,8 @@ fn ends_for_good(rt: HostRuntime) {
     holds!(rt; done(&rt, two_are_given(rt.alloc(), &TWO)));
 }
 
-// Whether a walk along a key, or under a prefix, gives one item and then ends for good.
+// Whether a walk over the common prefixes of a key, or under a prefix, gives one item and then ends
+// for good.
 fn gives_one_entry<Q: BorrowedBytes>(map: &GenericPatriciaMap<Q::Owned, u32>, key: Q) -> bool {
     let mut walk = map.common_prefixes(key);
     walk.next().is_some() && walk.next().is_none() && walk.next().is_none()
@@ -60,14 +64,14 @@ fn gives_one_under<Q: BorrowedBytes>(map: &GenericPatriciaMap<Q::Owned, u32>, pr
     walk.next().is_some() && walk.next().is_none() && walk.next().is_none()
 }
 
-// Whether each walk along a key, and one under a prefix, gives one item.
+// Whether each walk over the common prefixes of a key, and one under a prefix, gives one item.
 fn gives_one_each<Q: BorrowedBytes>(
     alloc: Global,
-    rows: &[(Q, u32)],
+    entries: &[(Q, u32)],
     key: Q,
     prefix: Q,
 ) -> Result<bool, AllocError> {
-    let map = map_of(alloc, rows)?;
+    let map = map_of(alloc, entries)?;
     let owned = Q::Owned::from_bytes(alloc, key.as_bytes())?;
     Ok(
         gives_one_entry(&map, key)
@@ -107,13 +111,13 @@ fn is_same<Q: BorrowedBytes>(found: Option<Q>, wanted: Q) -> bool {
 // Whether a map of two entries hands out their keys for a longer one, and they outlive it.
 fn keeps_prefixes<Q: BorrowedBytes>(
     alloc: Global,
-    rows: &[(Q, u32)],
+    entries: &[(Q, u32)],
     key: Q,
 ) -> Result<bool, AllocError> {
-    let map = map_of(alloc, rows)?;
+    let map = map_of(alloc, entries)?;
     let (longest, shortest) = ends_of(&map, key);
     drop(map);
-    match rows {
+    match entries {
         [(first, _), (second, _)] => Ok(is_same(longest, *second) && is_same(shortest, *first)),
         _ => Ok(false),
     }

@@ -19,10 +19,10 @@ fn put<Q: BorrowedBytes>(
 // A map of these entries. An insert that is refused is tried once more.
 pub(super) fn map_of<Q: BorrowedBytes>(
     alloc: Global,
-    rows: &[(Q, u32)],
+    entries: &[(Q, u32)],
 ) -> Result<GenericPatriciaMap<Q::Owned, u32>, AllocError> {
     let mut map = GenericPatriciaMap::new(alloc);
-    for (key, value) in rows {
+    for (key, value) in entries {
         if put(&mut map, *key, *value).is_err() {
             put(&mut map, *key, *value)?;
         }

@@ -66,9 +66,9 @@ fn found_in_set<Q: BorrowedBytes>(
 }
 
 // How many of some keys are so near.
-fn near<Q: BorrowedBytes>(alloc: Global, rows: &[(Q, u32)], sought: Q, limit: u32) -> usize {
+fn near<Q: BorrowedBytes>(alloc: Global, entries: &[(Q, u32)], sought: Q, limit: u32) -> usize {
     let mut count: usize = 0;
-    for (key, _) in rows {
+    for (key, _) in entries {
         if matches!(is_within(alloc, *key, sought, limit), Ok(true)) {
             count = count.saturating_add(1);
         }
@@ -77,7 +77,7 @@ fn near<Q: BorrowedBytes>(alloc: Global, rows: &[(Q, u32)], sought: Q, limit: u3
 }
 
 // Keys that share fronts, with labels of more than 30 bytes among them.
-const ROWS: [(&[u8], u32); 10] = [
+const ENTRIES: [(&[u8], u32); 10] = [
     (b"", 1),
     (b"a", 2),
     (b"abc", 4),
@@ -94,25 +94,25 @@ const ROWS: [(&[u8], u32); 10] = [
 fn agrees<Q: BorrowedBytes>(
     alloc: Global,
     map: &GenericPatriciaMap<Q::Owned, u32>,
-    rows: &[(Q, u32)],
+    entries: &[(Q, u32)],
     sought: Q,
     limit: u32,
 ) -> bool {
-    found(map, sought, limit) == Some(near(alloc, rows, sought, limit))
+    found(map, sought, limit) == Some(near(alloc, entries, sought, limit))
 }
 
 #[test]
 fn lends_each_near_key(rt: HostRuntime) {
-    let map = done(&rt, map_of(rt.alloc(), &ROWS));
+    let map = done(&rt, map_of(rt.alloc(), &ENTRIES));
     for limit in 0..4 {
-        let short = agrees(rt.alloc(), &map, &ROWS, b"ab".as_slice(), limit);
+        let short = agrees(rt.alloc(), &map, &ENTRIES, b"ab".as_slice(), limit);
         holds!(rt; short);
-        let middle = agrees(rt.alloc(), &map, &ROWS, b"kitten".as_slice(), limit);
+        let middle = agrees(rt.alloc(), &map, &ENTRIES, b"kitten".as_slice(), limit);
         holds!(rt; middle);
         let none = agrees(
             rt.alloc(),
             &map,
-            &ROWS,
+            &ENTRIES,
             b"far from each of the keys".as_slice(),
             limit,
         );
@@ -127,7 +127,7 @@ fn are_two(first: Option<usize>, again: Option<usize>) -> bool {
 
 #[test]
 fn entries_refused_in_turn(rt: HostRuntime) {
-    let map = done(&rt, map_of(rt.alloc(), &ROWS));
+    let map = done(&rt, map_of(rt.alloc(), &ENTRIES));
     let first = found(&map, b"abe".as_slice(), 1);
     let again = found(&map, b"abe".as_slice(), 1);
     holds!(rt; are_two(first, again));
@@ -136,10 +136,10 @@ fn entries_refused_in_turn(rt: HostRuntime) {
 // A set of the keys of these entries. An insert that is refused is tried once more.
 fn set_of<Q: BorrowedBytes>(
     alloc: Global,
-    rows: &[(Q, u32)],
+    entries: &[(Q, u32)],
 ) -> Result<GenericPatriciaSet<Q::Owned>, AllocError> {
     let mut set = GenericPatriciaSet::new(alloc);
-    for (key, _) in rows {
+    for (key, _) in entries {
         if set.insert(*key).is_err() {
             set.insert(*key)?;
         }
@@ -149,7 +149,7 @@ fn set_of<Q: BorrowedBytes>(
 
 #[test]
 fn elements_refused_in_turn(rt: HostRuntime) {
-    let set = done(&rt, set_of(rt.alloc(), &ROWS));
+    let set = done(&rt, set_of(rt.alloc(), &ENTRIES));
     let first = found_in_set(&set, b"abe".as_slice(), 1);
     let again = found_in_set(&set, b"abe".as_slice(), 1);
     holds!(rt; are_two(first, again));

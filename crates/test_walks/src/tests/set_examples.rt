@@ -212,10 +212,10 @@ fn cursor(rt: HostRuntime) {
 }
 
 #[test]
-fn cursor_under(rt: HostRuntime) {
-    // example: set cursor_under
+fn cursor_prefix(rt: HostRuntime) {
+    // example: set cursor_prefix
     let set = set_of(&rt, rt.alloc(), &["foo", "bar", "baz"]);
-    let mut cursor = set.cursor_under("f");
+    let mut cursor = set.cursor_prefix("f");
     holds!(rt; done(&rt, cursor.advance()));
     same!(rt; cursor.text(), Some("foo"));
     holds!(rt; !done(&rt, cursor.advance()));

@@ -76,8 +76,8 @@ fn one_node(rt: HostRuntime) {
     done(&rt, repeat(&rt, &mut tree, &[b"foo".as_slice()], 10_000, 1));
 }
 
-// The node that the second key divides is joined again, and the keys of a row are freed from its
-// ends and its middle. The empty key has no node.
+// The node that the second key divides is joined again, and the keys of siblings are freed from
+// their ends and their middle. The empty key has no node.
 const KEYS: [&str; 11] = [
     "foobar", "foobaz", "い", "", "あ", "あう", "う", "foo", "え", "お", "fox",
 ];

@@ -92,13 +92,13 @@ fn for_each(rt: HostRuntime) {
 }
 
 #[test]
-fn for_each_under(rt: HostRuntime) {
-    // example: set for_each_under
+fn for_each_prefix(rt: HostRuntime) {
+    // example: set for_each_prefix
     let set = set_of(&rt, rt.alloc(), &["quux", "bar", "baz"]);
     let mut longest = 0;
     done(
         &rt,
-        set.for_each_under("ba", &mut |element| longest = longest.max(element.len())),
+        set.for_each_prefix("ba", &mut |element| longest = longest.max(element.len())),
     );
     same!(rt; longest, 3);
     // end

@@ -3,7 +3,7 @@
 //! these tests reads.
 
 use super::levels::Levels;
-use super::reader::{Kind, Row, read};
+use super::reader::{Entry, Kind, read};
 use crate::tests::asserts::{done, same};
 use patricia_tree::{DecodeError, GenericPatriciaMap, PatriciaMap};
 use std::alloc::{AllocError, Global};
@@ -43,23 +43,23 @@ fn long_text(alloc: Global, levels: Levels) -> Result<Vec<u8>, AllocError> {
     Ok(tree)
 }
 
-// Whether a map has exactly these rows.
-fn has_rows<K: Kind>(map: &GenericPatriciaMap<K, u64>, rows: &[Row]) -> bool {
-    for (key, value) in rows {
+// Whether a map has exactly these entries.
+fn has_entries<K: Kind>(map: &GenericPatriciaMap<K, u64>, entries: &[Entry]) -> bool {
+    for (key, value) in entries {
         if K::value_at(map, key) != Some(*value) {
             return false;
         }
     }
-    map.len() == rows.len()
+    map.len() == entries.len()
 }
 
 // Whether what a map was read as is what the plain reader did. Out of memory is wrong for both.
 fn is_same<K: Kind>(
     found: Result<GenericPatriciaMap<K, u64>, DecodeError>,
-    wanted: Result<Vec<Row>, DecodeError>,
+    wanted: Result<Vec<Entry>, DecodeError>,
 ) -> bool {
     match (found, wanted) {
-        (Ok(map), Ok(rows)) => has_rows(&map, &rows),
+        (Ok(map), Ok(entries)) => has_entries(&map, &entries),
         (Err(found), Err(wanted)) => found == wanted && found != DecodeError::Memory,
         _ => false,
     }

@@ -207,7 +207,7 @@ impl Due<'_> {
 }
 
 /// A key and its value.
-pub(super) type Row = (Vec<u8>, u64);
+pub(super) type Entry = (Vec<u8>, u64);
 
 // What is read, and what is due.
 #[derive(Drop)]
@@ -216,7 +216,7 @@ struct Reader<'a> {
     due: Vec<Due<'a>>,
     // the labels from the root down to the last record
     key: Vec<u8>,
-    rows: Vec<Row>,
+    entries: Vec<Entry>,
 }
 
 impl<'a> Reader<'a> {
@@ -230,7 +230,7 @@ impl<'a> Reader<'a> {
         Ok(Reader {
             due,
             key: Vec::new(alloc),
-            rows: Vec::new(alloc),
+            entries: Vec::new(alloc),
         })
     }
 
@@ -261,7 +261,7 @@ impl<'a> Reader<'a> {
     // Adds the key of the last record.
     fn add(&mut self, value: u64) -> Result<(), AllocError> {
         let key = self.key.clone()?;
-        self.rows.push((key, value))?;
+        self.entries.push((key, value))?;
         Ok(())
     }
 
@@ -270,7 +270,7 @@ impl<'a> Reader<'a> {
         let Some(due) = self.due.pop() else {
             return Err(DecodeError::TrailingBytes(record.at));
         };
-        let value = values.get(self.rows.len()).copied();
+        let value = values.get(self.entries.len()).copied();
         if let Some(fault) = due.fault::<K>(record, value.is_some()) {
             return Err(fault);
         }
@@ -289,7 +289,7 @@ impl<'a> Reader<'a> {
             Some(DecodeError::Truncated(end))
         } else if end < bytes {
             Some(DecodeError::TrailingBytes(end))
-        } else if self.rows.len() < values {
+        } else if self.entries.len() < values {
             Some(DecodeError::TooManyValues)
         } else {
             None
@@ -314,12 +314,12 @@ pub(super) fn read<K: Kind>(
     levels: Levels,
     bytes: &[u8],
     values: &[u64],
-) -> Result<Vec<Row>, DecodeError> {
+) -> Result<Vec<Entry>, DecodeError> {
     let records = records_of(alloc, levels, bytes)?;
     let mut reader = Reader::new(alloc)?;
     read_all::<K>(&mut reader, &records, values)?;
     match reader.last_fault(end_of(&records), bytes.len(), values.len()) {
         Some(fault) => Err(fault),
-        None => Ok(reader.rows),
+        None => Ok(reader.entries),
     }
 }

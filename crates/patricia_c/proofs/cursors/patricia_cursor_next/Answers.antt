@@ -3,11 +3,11 @@ use Rattle.std.specs.FinMap as map
 use Rattle.patricia_c.specs.Maps.{map_of}
 use Rattle.patricia_c.specs.declared.map_pointer.StoredMap.{StoredMap}
 use Rattle.patricia_c.proofs.CursorLemmas.{ahead_empty, filled, emptied}
-use Rattle.patricia_c.proofs.EmptyLemmas.{none_rows}
+use Rattle.patricia_c.proofs.EmptyLemmas.{none_entries}
 use Rattle.patricia_c.proofs.cursors.patricia_cursor_next.Goals as goal
 
 pub returns-in_default-clause-end : goal.returns-in_default-clause-end
-returns-in_default-clause-end c _ = ahead_empty c.args.cursor.now.pointer.stored _ (none_rows _ c.in_default.ensures.taken)
+returns-in_default-clause-end c _ = ahead_empty c.args.cursor.now.pointer.stored _ (none_entries _ c.in_default.ensures.taken)
 
 pub returns-then-is_empty-clause-end : goal.returns-then-is_empty-clause-end
 returns-then-is_empty-clause-end c _ =

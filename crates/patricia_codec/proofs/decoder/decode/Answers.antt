@@ -138,8 +138,8 @@ returns-clause-whole g c =
     g.met.K.Bytes.lawful _ bytes _ _ c.len-2.result split (c.len-2.ensures ∙ inv.left) c.in_ok-finish.ensures.whole c.none.result c.none.ensures 18446744073709551615 in
     done.whole
 
-pub returns-clause-row : goal.returns-clause-row
-returns-clause-row g c =
+pub returns-clause-siblings : goal.returns-clause-siblings
+returns-clause-siblings g c =
     let inv = c.loop-builder.invariant in
     let ends = rw c.in_default.is at c.in_ok-record.ensures.ok in
     let bytes = ap (λ b. b.now) (c.in_ok-record.ensures.bytes ∙ inv.bytes) ∙ c.in_ok-reader.ensures.bytes in

@@ -11,7 +11,7 @@ use Rattle.patricia_codec.proofs.encoder.encode.Goals as goal
 pub returns-in_err-size-clause-too_deep : goal.returns-in_err-size-clause-too_deep
 returns-in_err-size-clause-too_deep g c deep =
     let is = err_from c.size.result c.from_residual.result _ _ c.in_err-size.was c.from_residual.ensures.1 deep in
-    too_deep g.K.Bytes.item g.met.K.Bytes.lawful c.args.arena.now c.args.value.now g.W.Width.width c.requires.row (c.size.ensures is)
+    too_deep g.K.Bytes.item g.met.K.Bytes.lawful c.args.arena.now c.args.value.now g.W.Width.width c.requires.siblings (c.size.ensures is)
 
 pub write-requires-clause-level : goal.write-requires-clause-level
 write-requires-clause-level g c = positive g.W.Width.width
@@ -21,7 +21,7 @@ loop-records-init g c =
     let at = at_start g.K.Bytes.item g.met.K.Bytes.lawful c.args.arena.now c.new-records.result
     c.requires.whole c.new-records.ensures.start c.new-records.ensures.nodes in
     record {
-      some = some_left g.K.Bytes.item g.met.K.Bytes.lawful c.args.arena.now c.new-records.result [] c.requires.row at;
+      some = some_left g.K.Bytes.item g.met.K.Bytes.lawful c.args.arena.now c.new-records.result [] c.requires.siblings at;
       taken = [];
       at = at;
       shallow = All-nil (λ r. r.level < 256 ^ g.W.Width.width);
@@ -32,7 +32,7 @@ pub returns-in_err-record-clause-too_deep : goal.returns-in_err-record-clause-to
 returns-in_err-record-clause-too_deep g c deep =
     let inv = c.loop-records.invariant in
     let is = err_from c.next.result c.from_residual-in_err-record.result _ _ c.in_err-record.was c.from_residual-in_err-record.ensures.1 deep in
-    too_deep g.K.Bytes.item g.met.K.Bytes.lawful c.args.arena.now c.args.value.now g.W.Width.width c.requires.row
+    too_deep g.K.Bytes.item g.met.K.Bytes.lawful c.args.arena.now c.args.value.now g.W.Width.width c.requires.siblings
     (deep_left g.K.Bytes.item g.met.K.Bytes.lawful c.args.arena.now g.W.Width.width c.loop-records.records
     inv.taken inv.at (c.next.ensures.too_deep is))
 
@@ -50,7 +50,7 @@ loop-records-preserved g c =
     let at = at_next g.K.Bytes.item g.met.K.Bytes.lawful c.args.arena.now g.W.Width.width c.loop-records.records c.next.new.self inv.taken r inv.at taken in
     let wrote = c.in_ok-write-2.ensures in
     record {
-      some = some_left g.K.Bytes.item g.met.K.Bytes.lawful c.args.arena.now c.next.new.self _ c.requires.row at;
+      some = some_left g.K.Bytes.item g.met.K.Bytes.lawful c.args.arena.now c.next.new.self _ c.requires.siblings at;
       taken = _;
       at = at;
       shallow = shallow-snoc g.W.Width.width inv.taken _ inv.shallow taken.shallow;
@@ -69,6 +69,6 @@ returns-clause-ok g c =
     let wrote = c.in_ok-write.ensures in
     let out = wrote ∙ ap (λ b. b ++ canonical_bytes g.W.Width.width root) c.in_ok-out.ensures.items in
     all_written g.K.Bytes.item g.met.K.Bytes.lawful c.args.arena.now c.args.value.now
-    g.W.Width.width c.requires.row c.loop-records.records inv.taken c.loop-records.out.items root
+    g.W.Width.width c.requires.siblings c.loop-records.records inv.taken c.loop-records.out.items root
     c.requires.whole inv.at over inv.shallow root_is
     (inv.written ∙ ap (λ b. b ++ canonical_bytes_of g.W.Width.width inv.taken) out)

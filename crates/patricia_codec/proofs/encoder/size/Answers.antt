@@ -7,7 +7,7 @@ pub loop-records-init : goal.loop-records-init
 loop-records-init g c =
     let at = at_start g.K.Bytes.item g.met.K.Bytes.lawful c.args.arena.now c.new-records.result
     c.requires.whole c.new-records.ensures.start c.new-records.ensures.nodes in
-    record { some = some_left g.K.Bytes.item g.met.K.Bytes.lawful c.args.arena.now c.new-records.result [] c.requires.row at; at = ([], at) }
+    record { some = some_left g.K.Bytes.item g.met.K.Bytes.lawful c.args.arena.now c.new-records.result [] c.requires.siblings at; at = ([], at) }
 
 pub returns-in_err-record : goal.returns-in_err-record
 returns-in_err-record g c too_deep =
@@ -20,7 +20,7 @@ loop-records-preserved g c =
     let counted = c.loop-records.invariant.at in
     let taken = rw c.in-Some.is at c.in_ok-record.ensures.ok in
     let at = at_next g.K.Bytes.item g.met.K.Bytes.lawful c.args.arena.now g.W.Width.width c.loop-records.records c.next.new.self counted.0 _ counted.1 taken in
-    record { some = some_left g.K.Bytes.item g.met.K.Bytes.lawful c.args.arena.now c.next.new.self _ c.requires.row at; at = (_, at) }
+    record { some = some_left g.K.Bytes.item g.met.K.Bytes.lawful c.args.arena.now c.next.new.self _ c.requires.siblings at; at = (_, at) }
 
 pub returns : goal.returns
 returns g c = search rules

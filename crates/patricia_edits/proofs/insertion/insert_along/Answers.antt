@@ -6,7 +6,7 @@ use Rattle.patricia_model.specs.Siblings.{entries, IsCanonical}
 use Rattle.patricia_nodes.proofs.PlanLemmas.{not_some}
 use Rattle.patricia_nodes.proofs.ResumeLemmas.{placed_of}
 use Rattle.patricia_nodes.proofs.SeekLemmas.{sought_at, find_none}
-use Rattle.patricia_edits.proofs.AlongLemmas.{row_stays, whole_stays, behind_stays, trail_after}
+use Rattle.patricia_edits.proofs.AlongLemmas.{siblings_stay, whole_stays, behind_stays, trail_after}
 use Rattle.patricia_edits.proofs.PutLemmas.{put_or_same}
 use Rattle.patricia_edits.proofs.insertion.insert_along.Goals as goal
 
@@ -16,15 +16,15 @@ returns-then-is_some-clause-whole g c =
     (put_or_same g.Q.Owned.Bytes.item c.insert_at.result c.args.arena.now c.insert_at.new.arena (g.Q.BorrowedBytes.key c.args.key) c.args.value
     (on_ok_weaker c.insert_at.result (λ puts. (puts (g.Q.BorrowedBytes.key c.args.key) (placed_of place)).0) c.insert_at.ensures.ok)
     c.insert_at.ensures.unchanged c.requires.whole
-    c.requires.row).0
+    c.requires.siblings).0
 
-pub returns-then-is_some-clause-row : goal.returns-then-is_some-clause-row
-returns-then-is_some-clause-row g c =
+pub returns-then-is_some-clause-siblings : goal.returns-then-is_some-clause-siblings
+returns-then-is_some-clause-siblings g c =
     let place = c.seek_along-place.ensures in
     (put_or_same g.Q.Owned.Bytes.item c.insert_at.result c.args.arena.now c.insert_at.new.arena (g.Q.BorrowedBytes.key c.args.key) c.args.value
     (on_ok_weaker c.insert_at.result (λ puts. (puts (g.Q.BorrowedBytes.key c.args.key) (placed_of place)).0) c.insert_at.ensures.ok)
     c.insert_at.ensures.unchanged c.requires.whole
-    c.requires.row).1
+    c.requires.siblings).1
 
 pub returns-then-is_some-clause-ok : goal.returns-then-is_some-clause-ok
 returns-then-is_some-clause-ok g c =
@@ -35,7 +35,7 @@ pub returns-then-is_some-clause-only_new : goal.returns-then-is_some-clause-only
 returns-then-is_some-clause-only_new g c =
     let place = c.seek_along-place.ensures in
     let here = sought_at g.met.Q.Owned.Bytes.lawful c.requires.whole
-    c.requires.row (placed_of place) in
+    c.requires.siblings (placed_of place) in
     on_err_weaker c.insert_at.result (λ none. find_none here none) c.insert_at.ensures.only_new
 
 pub returns-then-is_some-clause-trail : goal.returns-then-is_some-clause-trail
@@ -48,7 +48,7 @@ returns-then-is_some-clause-trail g c =
 pub returns-then-is_err-clause-only_new : goal.returns-then-is_err-clause-only_new
 returns-then-is_err-clause-only_new g c =
     find_none
-    (sought_at g.met.Q.Owned.Bytes.lawful c.requires.whole c.requires.row (placed_of c.seek_along-place.ensures))
+    (sought_at g.met.Q.Owned.Bytes.lawful c.requires.whole c.requires.siblings (placed_of c.seek_along-place.ensures))
     (sym c.here.ensures ∙ not_some c.here.result c.if-is_some.ensures)
 
 pub returns-clause-whole : goal.returns-clause-whole
@@ -57,27 +57,27 @@ returns-clause-whole g c =
     (put_or_same g.Q.Owned.Bytes.item c.insert_at-2.result c.extend.new.self c.insert_at-2.new.arena (g.Q.BorrowedBytes.key c.args.key) c.args.value
     (on_ok_weaker c.insert_at-2.result (λ puts. (puts (g.Q.BorrowedBytes.key c.args.key) (placed_of place)).0) c.insert_at-2.ensures.ok)
     c.insert_at-2.ensures.unchanged (whole_stays c.extend.ensures.stays c.requires.whole)
-    (subst (IsCanonical g.Q.Owned.Bytes.item) (sym (row_stays c.extend.ensures.stays)) c.requires.row)).0
+    (subst (IsCanonical g.Q.Owned.Bytes.item) (sym (siblings_stay c.extend.ensures.stays)) c.requires.siblings)).0
 
-pub returns-clause-row : goal.returns-clause-row
-returns-clause-row g c =
+pub returns-clause-siblings : goal.returns-clause-siblings
+returns-clause-siblings g c =
     let place = (behind_stays c.seek_along-place.ensures c.extend.new.self c.extend.ensures.stays) in
     (put_or_same g.Q.Owned.Bytes.item c.insert_at-2.result c.extend.new.self c.insert_at-2.new.arena (g.Q.BorrowedBytes.key c.args.key) c.args.value
     (on_ok_weaker c.insert_at-2.result (λ puts. (puts (g.Q.BorrowedBytes.key c.args.key) (placed_of place)).0) c.insert_at-2.ensures.ok)
     c.insert_at-2.ensures.unchanged (whole_stays c.extend.ensures.stays c.requires.whole)
-    (subst (IsCanonical g.Q.Owned.Bytes.item) (sym (row_stays c.extend.ensures.stays)) c.requires.row)).1
+    (subst (IsCanonical g.Q.Owned.Bytes.item) (sym (siblings_stay c.extend.ensures.stays)) c.requires.siblings)).1
 
 pub returns-clause-ok : goal.returns-clause-ok
 returns-clause-ok g c =
     let place = (behind_stays c.seek_along-place.ensures c.extend.new.self c.extend.ensures.stays) in
-    rw (← row_stays c.extend.ensures.stays) (on_ok_weaker c.insert_at-2.result (λ puts. (puts (g.Q.BorrowedBytes.key c.args.key) (placed_of place)).0.put_is) c.insert_at-2.ensures.ok)
+    rw (← siblings_stay c.extend.ensures.stays) (on_ok_weaker c.insert_at-2.result (λ puts. (puts (g.Q.BorrowedBytes.key c.args.key) (placed_of place)).0.put_is) c.insert_at-2.ensures.ok)
 
 pub returns-clause-only_new : goal.returns-clause-only_new
 returns-clause-only_new g c =
     let place = (behind_stays c.seek_along-place.ensures c.extend.new.self c.extend.ensures.stays) in
     let here = sought_at g.met.Q.Owned.Bytes.lawful (whole_stays c.extend.ensures.stays c.requires.whole)
-    (subst (IsCanonical g.Q.Owned.Bytes.item) (sym (row_stays c.extend.ensures.stays)) c.requires.row) (placed_of place) in
-    on_err_weaker c.insert_at-2.result (λ none. ap (λ r. find key_cmp (g.Q.BorrowedBytes.key c.args.key) (entries r)) (sym (row_stays c.extend.ensures.stays)) ∙ find_none here none) c.insert_at-2.ensures.only_new
+    (subst (IsCanonical g.Q.Owned.Bytes.item) (sym (siblings_stay c.extend.ensures.stays)) c.requires.siblings) (placed_of place) in
+    on_err_weaker c.insert_at-2.result (λ none. ap (λ r. find key_cmp (g.Q.BorrowedBytes.key c.args.key) (entries r)) (sym (siblings_stay c.extend.ensures.stays)) ∙ find_none here none) c.insert_at-2.ensures.only_new
 
 pub returns-clause-trail : goal.returns-clause-trail
 returns-clause-trail g c =

@@ -10,6 +10,6 @@ pub returns-in-None-clause-ok : goal.returns-in-None-clause-ok
 returns-in-None-clause-ok g c =
     let valid = c.as_bytes-valid.ensures.valid in
     let nothing = place_nothing _ g.met.Q.Owned.Bytes.lawful c.args.arena.now c.requires.whole
-    c.requires.row _ _ _ _ _ c.seek-place.ensures valid
+    c.requires.siblings _ _ _ _ _ c.seek-place.ensures valid
     (sym c.under.ensures ∙ c.in-None.is) in
-    splits_none _ c.args.arena.now _ c.requires.whole c.requires.row nothing c.new.result c.new.ensures.whole c.new.ensures.row
+    splits_none _ c.args.arena.now _ c.requires.whole c.requires.siblings nothing c.new.result c.new.ensures.whole c.new.ensures.siblings

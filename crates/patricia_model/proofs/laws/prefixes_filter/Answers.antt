@@ -6,7 +6,7 @@ pub returns-clause-test : goal.returns-clause-test
 returns-clause-test g c p k = (begins_is p k, begins_from p k)
 
 pub returns-clause-under : goal.returns-clause-under
-returns-clause-under g c p rows r = under_has p rows r
+returns-clause-under g c p entries r = under_has p entries r
 
 pub returns-clause-along : goal.returns-clause-along
-returns-clause-along g c k rows r = along_has k rows r
+returns-clause-along g c k entries r = along_has k entries r

@@ -47,11 +47,11 @@ later = node (122 ∷ []) (Some 2) end end
 abbrev below : Siblings ℕ
 below = node (114 ∷ []) (Some 1) end later
 
-abbrev row : Siblings ℕ
-row = node (98 ∷ 97 ∷ []) None below last
+abbrev top : Siblings ℕ
+top = node (98 ∷ 97 ∷ []) None below last
 
-last_row : IsCanonical IsByteItem last
-last_row =
+last_siblings : IsCanonical IsByteItem last
+last_siblings =
     record {
       valid = (
         (102 ∷ []) ∷ (111 ∷ []) ∷ (111 ∷ []) ∷ [],
@@ -66,8 +66,8 @@ last_row =
       sibling = tt;
     }
 
-later_row : IsCanonical IsByteItem later
-later_row = record {
+later_siblings : IsCanonical IsByteItem later
+later_siblings = record {
   valid = ((122 ∷ []) ∷ [], (one_byte (omega arith), tt), refl);
   nonempty = λ none. cc;
   fits = tt;
@@ -77,19 +77,19 @@ later_row = record {
   sibling = tt;
 }
 
-below_row : IsCanonical IsByteItem below
-below_row = record {
+below_siblings : IsCanonical IsByteItem below
+below_siblings = record {
   valid = ((114 ∷ []) ∷ [], (one_byte (omega arith), tt), refl);
   nonempty = λ none. cc;
   fits = tt;
   earns = tt;
   rises = before 114 122 [] [] (omega arith) (omega arith);
   child = tt;
-  sibling = later_row;
+  sibling = later_siblings;
 }
 
-whole_row : IsCanonical IsByteItem row
-whole_row =
+whole_siblings : IsCanonical IsByteItem top
+whole_siblings =
     record {
       valid =
           ((98 ∷ []) ∷ (97 ∷ []) ∷ [], (one_byte (omega arith), (one_byte (omega arith), tt)), refl);
@@ -97,24 +97,24 @@ whole_row =
       fits = tt;
       earns = tt;
       rises = before 98 102 _ _ (omega arith) (omega arith);
-      child = below_row;
-      sibling = last_row;
+      child = below_siblings;
+      sibling = last_siblings;
     }
 
--- the root's visit and those of the row
-count : (k : List ℕ) (m : ℕ) → IsCounted IsByteItem row k 0 m
+-- the root's visit and those of the siblings
+count : (k : List ℕ) (m : ℕ) → IsCounted IsByteItem top k 0 m
     → IsVisitCount IsByteItem three_keys k (1 + m)
 count k m counted = record { visited = counted.visited; once = counted.visits.once; exactly = counted.visits.exactly; is = omega (arith, counted.is) }
 
 pub returns : goal.returns
 returns c = record {
   through = count baz 3
-      (counted_through IsByteItem byte_lawful _ _ _ _ whole_row baz (λ none. cc) 0 1 refl 3
+      (counted_through IsByteItem byte_lawful _ _ _ _ whole_siblings baz (λ none. cc) 0 1 refl 3
       (122 ∷ []) (passes 98 (97 ∷ []) (122 ∷ []) (omega arith)) (λ none. cc)
-      (counted_past IsByteItem byte_lawful _ _ _ _ below_row (122 ∷ []) (λ none. cc) 1 2 refl 3 (before 114 122 [] [] (omega arith) (omega arith))
-      (counted_here IsByteItem byte_lawful _ _ _ _ later_row (122 ∷ []) (λ none. cc) 2 3 refl [] (passes 122 [] [] (omega arith)) refl)));
-  beside = count foo 2 (counted_past IsByteItem byte_lawful _ _ _ _ whole_row foo (λ none. cc) 0 1 refl 2 (before 98 102 _ _ (omega arith) (omega arith))
-      (counted_here IsByteItem byte_lawful _ _ _ _ last_row foo (λ none. cc) 1 2 refl [] (passes 102 (111 ∷ 111 ∷ []) [] (omega arith)) refl));
-  before = count aaa 1 (counted_before IsByteItem byte_lawful _ _ _ _ whole_row aaa (λ none. cc) 0 1 refl (before 97 98 _ _ (omega arith) (omega arith)));
+      (counted_past IsByteItem byte_lawful _ _ _ _ below_siblings (122 ∷ []) (λ none. cc) 1 2 refl 3 (before 114 122 [] [] (omega arith) (omega arith))
+      (counted_here IsByteItem byte_lawful _ _ _ _ later_siblings (122 ∷ []) (λ none. cc) 2 3 refl [] (passes 122 [] [] (omega arith)) refl)));
+  beside = count foo 2 (counted_past IsByteItem byte_lawful _ _ _ _ whole_siblings foo (λ none. cc) 0 1 refl 2 (before 98 102 _ _ (omega arith) (omega arith))
+      (counted_here IsByteItem byte_lawful _ _ _ _ last_siblings foo (λ none. cc) 1 2 refl [] (passes 102 (111 ∷ 111 ∷ []) [] (omega arith)) refl));
+  before = count aaa 1 (counted_before IsByteItem byte_lawful _ _ _ _ whole_siblings aaa (λ none. cc) 0 1 refl (before 97 98 _ _ (omega arith) (omega arith)));
   root = let none = empty_visits IsByteItem byte_lawful three_keys in record { visited = []; once = none.once; exactly = none.exactly; is = refl };
 }

@@ -1,5 +1,5 @@
-//! Look-ups of keys that are near one another: each goes on from nodes that the one before has
-//! passed.
+//! Look-ups of keys that are near one another: each goes on from a finger, the nodes that the one
+//! before has passed.
 ghost use Rattle.std.specs.Prelude.{◌≡◌, ◌≢◌, [], IfSome};
 ghost use Rattle.patricia_model.specs.Siblings.{IsCanonical};
 ghost use Rattle.patricia_nodes.specs.Internal.Plans.{IsWellFormed, siblings_of};
@@ -52,7 +52,7 @@ impl<V> NodeArena<V> {
     // Where the look-up of a key goes on: below the last node of its trail, or at the top.
     fn resume<Q: BorrowedBytes>(&self, trail: &[(NodeId, usize)], key: Q) -> (LinkRef, Link, Q)
         requires whole { IsWellFormed self.now }
-        requires row { IsCanonical Q.Owned.item (siblings_of self.now) }
+        requires siblings { IsCanonical Q.Owned.item (siblings_of self.now) }
         requires trail { IsTrail Q.Owned.item self.now (Q.key key) trail.now }
         requires nonempty { Q.key key ≢ [] }
         ensures { HasCome Q.Owned.item self.now (Q.key key) result.0 result.1 (Q.key result.2)
@@ -77,7 +77,7 @@ impl<V> NodeArena<V> {
         key: Q,
     ) -> SeekResult<Q>
         requires whole { IsWellFormed self.now }
-        requires row { IsCanonical Q.Owned.item (siblings_of self.now) }
+        requires siblings { IsCanonical Q.Owned.item (siblings_of self.now) }
         requires trail { IfSome last (λ last.
             IsTrail Q.Owned.item self.now (Q.key last) trail.old.items) }
         requires nonempty { Q.key key ≢ [] }

@@ -1,5 +1,5 @@
 use Rattle.patricia_model.proofs.WalkLemmas.{on_err}
-use Rattle.patricia_walks.proofs.TrailLemmas.{ahead_left, under_ahead}
+use Rattle.patricia_walks.proofs.CursorStateLemmas.{ahead_left, under_ahead}
 use Rattle.patricia_walks.proofs.cursor.start_at.Goals as goal
 
 pub returns-in_err-start_at-clause-err_only_if_left :

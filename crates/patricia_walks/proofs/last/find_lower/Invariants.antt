@@ -5,7 +5,7 @@ use Rattle.patricia_model.specs.Internal.WalkStates.{steps_in}
 use Rattle.patricia_model.specs.Ranges.{before}
 use Rattle.patricia_model.specs.Siblings.{own}
 use Rattle.patricia_nodes.specs.Internal.Plans.{entries_of}
-use Rattle.patricia_walks.specs.Internal.Lowers.{IsLowerDescent, last_lower, row_ahead}
+use Rattle.patricia_walks.specs.Internal.Lowers.{IsLowerDescent, last_lower, siblings_ahead}
 use Rattle.patricia_walks.proofs.last.find_lower.Given as goal
 
 abbrev pub invariant-loop-id : goal.invariant-loop-id
@@ -17,4 +17,4 @@ invariant-loop-id g l = record {
 }
 
 abbrev pub decreases-loop-id : goal.decreases-loop-id
-decreases-loop-id g l = steps_in (row_ahead l.descent)
+decreases-loop-id g l = steps_in (siblings_ahead l.descent)

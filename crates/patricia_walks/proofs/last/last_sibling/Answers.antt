@@ -1,18 +1,19 @@
 use Rattle.std.proofs.Common.{Some, refl, sym, subst, ◌∙◌, arith}
-use Rattle.patricia_walks.specs.Internal.Lowers.{IsRowAt}
-use Rattle.patricia_walks.proofs.LastLemmas.{row_opens, row_within, last_on, last_own, sibling_less}
+use Rattle.patricia_walks.specs.Internal.Lowers.{AreSiblingsAt}
+use Rattle.patricia_walks.proofs.LastLemmas.{siblings_open, siblings_within, last_on, last_own}
+use Rattle.patricia_walks.proofs.LastLemmas.{sibling_less}
 use Rattle.patricia_walks.proofs.last.last_sibling.Goals as goal
 
 pub index-requires-in-loop-next : goal.index-requires-in-loop-next
 index-requires-in-loop-next g c =
-    let within = row_within g.K.Bytes.item _ c.loop-next.id c.loop-next.invariant.row in
+    let within = siblings_within g.K.Bytes.item _ c.loop-next.id c.loop-next.invariant.siblings in
     omega (arith, c.index.ensures, within)
 
 pub loop-next-smaller : goal.loop-next-smaller
 loop-next-smaller g c =
     let reads = rw c.index.ensures at c.index-in-loop-next.ensures in
     sibling_less g.K.Bytes.item g.met.K.Bytes.lawful c.args.arena.now.nodes.items c.loop-next.id
-    c.index-in-loop-next.result.now c.loop-next.invariant.row reads c.in-Some.next
+    c.index-in-loop-next.result.now c.loop-next.invariant.siblings reads c.in-Some.next
     (sym c.get.ensures ∙ c.in-Some.is)
 
 pub loop-next-preserved : goal.loop-next-preserved
@@ -20,13 +21,13 @@ loop-next-preserved g c =
     let reads = rw c.index.ensures at c.index-in-loop-next.ensures in
     let nodes = c.args.arena.now.nodes.items in
     let n = c.index-in-loop-next.result.now in
-    let row = c.loop-next.invariant.row in
+    let siblings = c.loop-next.invariant.siblings in
     let next = sym c.get.ensures ∙ c.in-Some.is in
-    let opens = row_opens g.K.Bytes.item nodes (Some c.loop-next.id) c.loop-next.id n row refl reads in
-    let less = sibling_less g.K.Bytes.item g.met.K.Bytes.lawful nodes c.loop-next.id n row reads c.in-Some.next next in
+    let opens = siblings_open g.K.Bytes.item nodes (Some c.loop-next.id) c.loop-next.id n siblings refl reads in
+    let less = sibling_less g.K.Bytes.item g.met.K.Bytes.lawful nodes c.loop-next.id n siblings reads c.in-Some.next next in
     record {
-      row = subst (IsRowAt g.K.Bytes.item nodes) next opens.sibling_at;
-      same = λ front. last_on g.K.Bytes.item g.met.K.Bytes.lawful nodes c.loop-next.id n row reads front c.in-Some.next next
+      siblings = subst (AreSiblingsAt g.K.Bytes.item nodes) next opens.sibling_at;
+      same = λ front. last_on g.K.Bytes.item g.met.K.Bytes.lawful nodes c.loop-next.id n siblings reads front c.in-Some.next next
           ∙ c.loop-next.invariant.same front;
       fewer = omega (arith, less, c.loop-next.invariant.fewer);
     }
@@ -36,5 +37,5 @@ returns-clause-last g c front =
     let reads = rw c.index.ensures at c.index-in-loop-next.ensures in
     sym (c.loop-next.invariant.same front)
     ∙ last_own g.K.Bytes.item g.met.K.Bytes.lawful c.args.arena.now.nodes.items c.loop-next.id
-    c.index-in-loop-next.result.now c.loop-next.invariant.row reads front
+    c.index-in-loop-next.result.now c.loop-next.invariant.siblings reads front
     (sym c.get.ensures ∙ c.in_default.is)

@@ -9,12 +9,12 @@ returns-then-is_empty g c v = rw (c.if-is_empty.ensures.0 refl) (reach_is _ _ _ 
 
 pub overflow_sub-passed : goal.overflow_sub-passed
 overflow_sub-passed g c =
-    let within = rest_within _ g.met.Q.Owned.Bytes.lawful _ c.requires.row _ _ _ _ _ c.seek-place.ensures in
+    let within = rest_within _ g.met.Q.Owned.Bytes.lawful _ c.requires.siblings _ _ _ _ _ c.seek-place.ensures in
     omega (arith, within, ap length c.as_bytes-left.ensures.value, ap length c.as_bytes.ensures.value)
 
 pub returns-in-Absent : goal.returns-in-Absent
 returns-in-Absent g c v =
-    place_reach _ g.met.Q.Owned.Bytes.lawful _ c.requires.row _ _ _ _ Absent
+    place_reach _ g.met.Q.Owned.Bytes.lawful _ c.requires.siblings _ _ _ _ Absent
     (rw c.in-Absent.is at c.seek-place.ensures) _
     (omega (
       arith,
@@ -25,7 +25,7 @@ returns-in-Absent g c v =
 
 pub returns-in-InsideLabel : goal.returns-in-InsideLabel
 returns-in-InsideLabel g c v =
-    place_reach _ g.met.Q.Owned.Bytes.lawful _ c.requires.row _ _ _ _
+    place_reach _ g.met.Q.Owned.Bytes.lawful _ c.requires.siblings _ _ _ _
     (InsideLabel c.in-InsideLabel.field-0 c.in-InsideLabel.n)
     (rw c.in-InsideLabel.is at c.seek-place.ensures) _
     (omega (
@@ -37,7 +37,7 @@ returns-in-InsideLabel g c v =
 
 pub returns-in-Exact : goal.returns-in-Exact
 returns-in-Exact g c v =
-    place_reach _ g.met.Q.Owned.Bytes.lawful _ c.requires.row _ _ _ _ (Exact c.in-Exact.field-0)
+    place_reach _ g.met.Q.Owned.Bytes.lawful _ c.requires.siblings _ _ _ _ (Exact c.in-Exact.field-0)
     (rw c.in-Exact.is at c.seek-place.ensures) _
     (omega (
       arith,

@@ -8,7 +8,7 @@ use Rattle.patricia_wire.specs.Internal.Readings.{invalid_label}
 use Rattle.patricia_wire.proofs.Spellings.{clean_spells}
 use Rattle.patricia_wire.proofs.TestedReadings.{opened, opened_read, first_child, no_tests}
 use Rattle.patricia_wire.proofs.TestedReadings.{reads_clean, first_broken}
-use Rattle.patricia_wire.proofs.TestedRows.{byte_room, byte_written}
+use Rattle.patricia_wire.proofs.TestedSiblings.{byte_room, byte_written}
 use Rattle.patricia_wire.proofs.examples.cut_character.Goals as goal
 
 abbrev half : Record

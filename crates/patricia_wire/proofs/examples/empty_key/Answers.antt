@@ -1,6 +1,6 @@
 use Rattle.std.proofs.Common.{[], ◌∷◌, Some, refl}
 use Rattle.patricia_model.specs.Siblings.{end, node}
-use Rattle.patricia_wire.proofs.TestedRows.{byte_written}
+use Rattle.patricia_wire.proofs.TestedSiblings.{byte_written}
 use Rattle.patricia_wire.proofs.examples.empty_key.Goals as goal
 
 pub returns : goal.returns

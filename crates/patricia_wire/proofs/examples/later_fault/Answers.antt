@@ -7,12 +7,12 @@ use Rattle.patricia_wire.specs.Internal.Readings.{empty_label}
 use Rattle.patricia_wire.specs.Faults.{IsUnfinished, IsDue, below, in_record, other_level}
 use Rattle.patricia_wire.proofs.Places.{low_head}
 use Rattle.patricia_wire.proofs.Readings.{back_split, one_due, unfinished}
-use Rattle.patricia_wire.proofs.RowTrees.{stands_tree}
+use Rattle.patricia_wire.proofs.SiblingsTrees.{stands_tree}
 use Rattle.patricia_wire.proofs.Spellings.{clean_spells}
 use Rattle.patricia_wire.proofs.TestedReadings.{opened, opened_read, first_child, reads_clean}
 use Rattle.patricia_wire.proofs.TestedReadings.{first_below}
-use Rattle.patricia_wire.proofs.TestedRows.{byte_room}
-use Rattle.patricia_wire.proofs.TightRows.{EndsLow}
+use Rattle.patricia_wire.proofs.TestedSiblings.{byte_room}
+use Rattle.patricia_wire.proofs.TightSiblings.{EndsLow}
 use Rattle.patricia_wire.proofs.examples.later_fault.Goals as goal
 
 abbrev hollow : Record
@@ -25,7 +25,7 @@ deep = record { level = 5; label = 97 ∷ []; value = true; child = false; sibli
 no_tree : (E : List (List ℕ)) → Root IsByteItem (opened ∷ hollow ∷ []) E → ⊥
 no_tree E tree =
     let t = stands_tree IsByteItem (opened ∷ hollow ∷ []) E tree in
-    let low = subst EndsLow t.records (low_head 0 [] t.value t.row end) in
+    let low = subst EndsLow t.records (low_head 0 [] t.value t.siblings end) in
     cc
 
 -- and its prefixes are none

@@ -1,6 +1,6 @@
 use Rattle.std.proofs.Common.{Some, None, refl}
 use Rattle.patricia_model.specs.Siblings.{end, node}
-use Rattle.patricia_wire.proofs.TestedRows.{byte_written}
+use Rattle.patricia_wire.proofs.TestedSiblings.{byte_written}
 use Rattle.std.specs.Prelude.{replicate}
 use Rattle.patricia_wire.proofs.examples.long_label.Goals as goal
 

@@ -8,9 +8,9 @@ use Rattle.patricia_keys.specs.Internal.TextLaw.{text_lawful}
 use Rattle.patricia_keys.proofs.KeyLemmas.{IsValid-nil, IsValid-item, IsValid-append, begins_same}
 use Rattle.patricia_model.specs.Siblings.{Siblings, end, node}
 use Rattle.patricia_model.proofs.MeetingLemmas.{before_by_first_byte}
-use Rattle.patricia_wire.specs.Internal.WrittenRows.{tree_records, IsWritable}
-use Rattle.patricia_wire.proofs.RowTrees.{Nothing, tree_of}
-use Rattle.patricia_wire.proofs.TestedRows.{tested_room, byte_written}
+use Rattle.patricia_wire.specs.Internal.WrittenSiblings.{tree_records, IsWritable}
+use Rattle.patricia_wire.proofs.SiblingsTrees.{Nothing, tree_of}
+use Rattle.patricia_wire.proofs.TestedSiblings.{tested_room, byte_written}
 use Rattle.patricia_wire.proofs.examples.long_text.Goals as goal
 
 -- the characters: two letters and two kana
@@ -43,10 +43,10 @@ letters_valid (suc n) = IsValid-append IsTextItem (97 ∷ []) (replicate n 97) (
 b_valid : IsValid IsTextItem (98 ∷ [])
 b_valid = IsValid-item IsTextItem (98 ∷ []) b_item
 
-abbrev row : Siblings Nothing
-row = node (replicate 254 97) None (node (first_kana ++ second_kana) (Some tt) end end) (node (98 ∷ []) (Some tt) end end)
+abbrev siblings : Siblings Nothing
+siblings = node (replicate 254 97) None (node (first_kana ++ second_kana) (Some tt) end end) (node (98 ∷ []) (Some tt) end end)
 
-ok : IsWritable IsTextItem row
+ok : IsWritable IsTextItem siblings
 ok = record {
   valid = letters_valid 254;
   nonempty = λ e. cc;
@@ -74,10 +74,10 @@ full i is begun =
 
 pub returns-clause-texts : goal.returns-clause-texts
 returns-clause-texts c = record {
-  records = tree_records None row;
-  root = tree_of IsTextItem None row ok;
+  records = tree_records None siblings;
+  root = tree_of IsTextItem None siblings ok;
   tight = (λ none child lone. full, (λ none. absurd (cc), tt));
-  room = tested_room IsTextItem text_lawful 2 None row ok refl;
+  room = tested_room IsTextItem text_lawful 2 None siblings ok refl;
   is = refl;
 }
 

@@ -2,19 +2,19 @@ use Rattle.std.proofs.Common.{◌≡◌, List, [], ◌∷◌, Some, None, true, 
 use Rattle.patricia_keys.specs.ByteKind.{IsByteItem}
 use Rattle.patricia_model.specs.Siblings.{Siblings, end, node}
 use Rattle.patricia_wire.specs.Internal.Examples.{a_in_other_bits}
-use Rattle.patricia_wire.specs.Internal.WrittenRows.{tree_records}
+use Rattle.patricia_wire.specs.Internal.WrittenSiblings.{tree_records}
 use Rattle.patricia_wire.specs.Records.{Record, EncodeAll, canonical_bytes_of}
 use Rattle.patricia_wire.proofs.OneMeaning.{writing_spells}
-use Rattle.patricia_wire.proofs.RowTrees.{Nothing, tree_of}
+use Rattle.patricia_wire.proofs.SiblingsTrees.{Nothing, tree_of}
 use Rattle.patricia_wire.proofs.Spellings.{set, clear, one_list}
-use Rattle.patricia_wire.proofs.TestedRows.{byte_room, byte_written, byte_writable}
+use Rattle.patricia_wire.proofs.TestedSiblings.{byte_room, byte_written, byte_writable}
 use Rattle.patricia_wire.proofs.examples.other_bits.Goals as goal
 
-abbrev row : Siblings Nothing
-row = node (97 ∷ []) (Some tt) end end
+abbrev siblings : Siblings Nothing
+siblings = node (97 ∷ []) (Some tt) end end
 
 abbrev records : List Record
-records = tree_records None row
+records = tree_records None siblings
 
 abbrev root : Record
 root = record { level = 0; label = []; value = false; child = true; sibling = false }
@@ -58,7 +58,7 @@ spelled = record {
 }
 
 pub returns-clause-meant : goal.returns-clause-meant
-returns-clause-meant c = record { records = records; spelled = spelled; root = tree_of IsByteItem None row (byte_writable row refl); in_place = refl }
+returns-clause-meant c = record { records = records; spelled = spelled; root = tree_of IsByteItem None siblings (byte_writable siblings refl); in_place = refl }
 
 pub returns-clause-other : goal.returns-clause-other
 returns-clause-other c S canon =
@@ -67,4 +67,4 @@ returns-clause-other c S canon =
     cc
 
 pub returns-clause-clean : goal.returns-clause-clean
-returns-clause-clean c = byte_written 2 None row refl refl refl
+returns-clause-clean c = byte_written 2 None siblings refl refl refl

@@ -6,11 +6,11 @@ use Rattle.patricia_wire.specs.Internal.Readings.{IsRead, nothing, level, root_l
 use Rattle.patricia_wire.specs.Internal.Readings.{too_few_values}
 use Rattle.patricia_model.specs.Siblings.{end}
 use Rattle.patricia_wire.proofs.ReadingsFirst.{first_cut_short, first_trailing, first_too_many}
-use Rattle.patricia_wire.proofs.RowTrees.{Nothing, tree_of}
+use Rattle.patricia_wire.proofs.SiblingsTrees.{Nothing, tree_of}
 use Rattle.patricia_wire.proofs.Spellings.{set, clear, clean_spell_all}
 use Rattle.patricia_wire.proofs.TestedReadings.{the_root, no_tests, byte_tests, read_one}
 use Rattle.patricia_wire.proofs.TestedReadings.{reads_clean, first_broken, first_of_bytes}
-use Rattle.patricia_wire.proofs.TestedRows.{byte_room, byte_rooms}
+use Rattle.patricia_wire.proofs.TestedSiblings.{byte_room, byte_rooms}
 use Rattle.patricia_wire.proofs.examples.short_inputs.Goals as goal
 
 -- a record of level n with these marks and no label

@@ -4,9 +4,9 @@ use Rattle.patricia_keys.proofs.KeyLemmas.{IsValid-item}
 use Rattle.patricia_keys.specs.TextKind.{IsTextItem, one_char}
 use Rattle.patricia_keys.specs.Internal.TextLaw.{text_lawful}
 use Rattle.patricia_model.specs.Siblings.{Siblings, end, node}
-use Rattle.patricia_wire.specs.Internal.WrittenRows.{IsWritable}
-use Rattle.patricia_wire.proofs.RowTrees.{Nothing}
-use Rattle.patricia_wire.proofs.TestedRows.{written, byte_written}
+use Rattle.patricia_wire.specs.Internal.WrittenSiblings.{IsWritable}
+use Rattle.patricia_wire.proofs.SiblingsTrees.{Nothing}
+use Rattle.patricia_wire.proofs.TestedSiblings.{written, byte_written}
 use Rattle.patricia_wire.proofs.examples.texts_and_bytes.Goals as goal
 
 -- the three characters: a globe, a hamburger and a mountain
@@ -31,10 +31,10 @@ mountain_item : IsTextItem mountain
 unfolding encode
 mountain_item = one_char 128507 refl refl
 
-abbrev row : Siblings Nothing
-row = node globe None (node hamburger (Some tt) end (node mountain (Some tt) end end)) end
+abbrev siblings : Siblings Nothing
+siblings = node globe None (node hamburger (Some tt) end (node mountain (Some tt) end end)) end
 
-ok : IsWritable IsTextItem row
+ok : IsWritable IsTextItem siblings
 ok = record {
   valid = IsValid-item IsTextItem globe globe_item;
   nonempty = λ e. cc;
@@ -70,7 +70,7 @@ ok = record {
 }
 
 pub returns-clause-texts : goal.returns-clause-texts
-returns-clause-texts c = written IsTextItem text_lawful 2 None row ok refl refl
+returns-clause-texts c = written IsTextItem text_lawful 2 None siblings ok refl refl
 
 pub returns-clause-bytes : goal.returns-clause-bytes
 returns-clause-bytes c = byte_written 2 None

@@ -4,11 +4,11 @@ use Rattle.patricia_model.specs.Siblings.{end}
 use Rattle.patricia_wire.specs.Records.{Record, Encodes}
 use Rattle.patricia_wire.specs.Internal.Readings.{nothing, level, root_label}
 use Rattle.patricia_wire.proofs.ReadingsFirst.{first_trailing}
-use Rattle.patricia_wire.proofs.RowTrees.{Nothing, tree_of}
+use Rattle.patricia_wire.proofs.SiblingsTrees.{Nothing, tree_of}
 use Rattle.patricia_wire.proofs.Spellings.{set, clear}
 use Rattle.patricia_wire.proofs.TestedReadings.{the_root, no_tests, byte_tests, read_one}
 use Rattle.patricia_wire.proofs.TestedReadings.{reads_clean, first_broken, first_below}
-use Rattle.patricia_wire.proofs.TestedRows.{byte_room}
+use Rattle.patricia_wire.proofs.TestedSiblings.{byte_room}
 use Rattle.patricia_wire.proofs.examples.two_faults.Goals as goal
 
 abbrev deep : Record

@@ -4,9 +4,9 @@ use Rattle.patricia_tree.specs.Prefixes.{under}
 use Rattle.prefixes_core.proofs.CompletionLemmas.{IsCompleting}
 use Rattle.prefixes_core.proofs.completing.complete.Given as goal
 
--- the rows so far are counted, and the first of them kept
+-- the entries so far are counted, and the first of them kept
 abbrev pub invariant-loop-entry : goal.invariant-loop-entry
 invariant-loop-entry g l =
     IsCompleting l.fn.most
-    (list_map (λ row. (g.Q.Owned.Bytes.key row.0, row.1.now)) l.first.items) l.count
+    (list_map (λ entry. (g.Q.Owned.Bytes.key entry.0, entry.1.now)) l.first.items) l.count
     l.entry-iterator (under (g.Q.BorrowedBytes.key l.fn.prefix) (map.entries l.entries))

@@ -7,14 +7,14 @@ use Rattle.prefixes_core.proofs.cutting.first_piece.Goals as goal
 pub returns-else-is_empty-clause-some : goal.returns-else-is_empty-clause-some
 returns-else-is_empty-clause-some g c =
     let long = longest_key c.args.dictionary.now c.args.text.now
-    (c.in-Some.word.now, c.in-Some.field-0-1.now) (sym c.in-Some.ensures.row) in
+    (c.in-Some.word.now, c.in-Some.field-0-1.now) (sym c.in-Some.ensures.entry) in
     word_first c.args.dictionary.now c.args.text.now c.in-Some.word.now
     (λ none. eqb-false _ _ (sym c.is_empty.ensures ∙ c.if-is_empty.false) (ap length none)) long
 
 pub returns-then-is_empty-clause-some : goal.returns-then-is_empty-clause-some
 returns-then-is_empty-clause-some g c =
     let long = longest_key c.args.dictionary.now c.args.text.now
-    (c.in-Some.word.now, c.in-Some.field-0-1.now) (sym c.in-Some.ensures.row) in
+    (c.in-Some.word.now, c.in-Some.field-0-1.now) (sym c.in-Some.ensures.entry) in
     let empty = empty_list c.in-Some.word.now (eqb-true _ _ (sym c.is_empty.ensures
     ∙ c.if-is_empty.true)) in
     chars_first c.args.dictionary.now c.args.text.now c.first_char.result
@@ -25,5 +25,5 @@ pub returns-in-None-clause-some : goal.returns-in-None-clause-some
 returns-in-None-clause-some g c =
     chars_first c.args.dictionary.now c.args.text.now c.first_char-in-None.result
     (λ word fits. no_key c.args.dictionary.now c.args.text.now
-    (sym c.in-None.ensures.row) word fits.listed fits.begins)
+    (sym c.in-None.ensures.entry) word fits.listed fits.begins)
     c.first_char-in-None.ensures.char

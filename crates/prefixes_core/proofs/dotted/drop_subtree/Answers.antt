@@ -10,12 +10,12 @@ use Rattle.prefixes_core.proofs.dotted.drop_subtree.Goals as goal
 pub returns-clause-ok : goal.returns-clause-ok
 returns-clause-ok g c =
     let name = c.args.name.now in
-    let rows = map.entries c.args.names.now in
+    let entries = map.entries c.args.names.now in
     c.in_ok-split_by_prefix.ensures.left
     ∙ ap (λ d. outside d (map.entries c.remove.new.self)) (c.as_str.ensures.value
     ∙ c.in_ok-dotted.ensures)
     ∙ ap (λ m. outside (dotted name) (map.entries m)) c.in_ok-remove.ensures.ok
-    ∙ ap (outside (dotted name)) (entries-remove name c.args.names.now) ∙ elsewhere_is name rows
+    ∙ ap (outside (dotted name)) (entries-remove name c.args.names.now) ∙ elsewhere_is name entries
 
 pub returns-then-not-begins_some-clause-ok : goal.returns-then-not-begins_some-clause-ok
 returns-then-not-begins_some-clause-ok g c =

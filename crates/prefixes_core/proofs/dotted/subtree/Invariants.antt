@@ -4,8 +4,8 @@ use Rattle.std.specs.FinMap as map
 use Rattle.prefixes_core.specs.Subtrees.{subtree}
 use Rattle.prefixes_core.proofs.dotted.subtree.Given as goal
 
--- the rows so far and those that are left are the subtree
-abbrev pub invariant-loop-row : goal.invariant-loop-row
-invariant-loop-row g l =
-    list_map (λ row. (string_bytes row.0, row.1.now)) l.rows.items ++ l.row-iterator
+-- the entries so far and those that are left are the subtree
+abbrev pub invariant-loop-entry : goal.invariant-loop-entry
+invariant-loop-entry g l =
+    list_map (λ entry. (string_bytes entry.0, entry.1.now)) l.entries.items ++ l.entry-iterator
     ≡ subtree l.name (map.entries l.names)

@@ -7,11 +7,11 @@ use Rattle.prefixes_core.proofs.PackLemmas.{packed_values}
 use Rattle.prefixes_core.proofs.packing.packed_is_one_list.Goals as goal
 
 pub returns : goal.returns
-returns c = λ bytes rows others small are. (
+returns c = λ bytes entries others small are. (
   record { tree = are.tree; is = are.is; means = are.tree_bytes.means },
   λ packs.
-      let rest = concat (list_map counted (values_of rows)) in
+      let rest = concat (list_map counted (values_of entries)) in
       let means = packed_values bytes are.tree rest
-      (values_of rows) others small are.is refl packs in
-      c.one_meaning.ensures.one 2 are.tree (values_of rows) others rows means are.tree_bytes.means,
+      (values_of entries) others small are.is refl packs in
+      c.one_meaning.ensures.one 2 are.tree (values_of entries) others entries means are.tree_bytes.means,
 )

@@ -5,11 +5,11 @@ use Rattle.prefixes_core.proofs.PackLemmas.{head_front, no_head, packed_rest, pa
 use Rattle.prefixes_core.proofs.packing.unpack.Goals as goal
 
 pub returns-in_default-clause-refused : goal.returns-in_default-clause-refused
-returns-in_default-clause-refused c = λ other rows packs. no_head c.args.bytes.now rows
+returns-in_default-clause-refused c = λ other entries packs. no_head c.args.bytes.now entries
     c.in_default.ensures.cases packs
 
 pub returns-in-Err-clause-refused : goal.returns-in-Err-clause-refused
-returns-in-Err-clause-refused c = λ other rows packs.
+returns-in-Err-clause-refused c = λ other entries packs.
     let bytes = c.args.bytes.now in
     let small : length bytes < 2 ^ 64 = omega arith in
     let cases = c.in-Some.ensures.cases in
@@ -18,11 +18,11 @@ returns-in-Err-clause-refused c = λ other rows packs.
     let whole : bytes ≡ head ++ (counted tree ++ rest) =
     head_front bytes c.in-Some.rest.now cases.0 cases.1 ∙ ap
     (λ l. head ++ l) c.in-Some-split_counted.ensures.some in
-    let parts = packed_rest bytes tree rest rows small whole packs in
+    let parts = packed_rest bytes tree rest entries small whole packs in
     c.in-Err.ensures.refused other _ parts.1
 
 pub returns-in-Err-from_wire-clause-refused : goal.returns-in-Err-from_wire-clause-refused
-returns-in-Err-from_wire-clause-refused c = λ other rows packs.
+returns-in-Err-from_wire-clause-refused c = λ other entries packs.
     let bytes = c.args.bytes.now in
     let small : length bytes < 2 ^ 64 = omega arith in
     let cases = c.in-Some.ensures.cases in
@@ -31,10 +31,10 @@ returns-in-Err-from_wire-clause-refused c = λ other rows packs.
     let whole : bytes ≡ head ++ (counted tree ++ rest) =
     head_front bytes c.in-Some.rest.now cases.0 cases.1 ∙ ap
     (λ l. head ++ l) c.in-Some-split_counted.ensures.some in
-    let means = packed_values bytes tree rest c.in-Ok.values.items rows small whole
+    let means = packed_values bytes tree rest c.in-Ok.values.items entries small whole
     c.in-Ok.ensures.ok packs in
     other (c.tree_fault.ensures.memory (c.meant_is_never_refused.ensures 2 tree
-    c.in-Ok.values.items rows
+    c.in-Ok.values.items entries
     c.in-Err-from_wire.fault means c.in-Err-from_wire.ensures.refused))
 
 pub returns-in_default-clause-named : goal.returns-in_default-clause-named

@@ -11,7 +11,7 @@ pub(super) const SHORT: &str = "a beginning that is longer than a node keeps";
 
 /// Entries in key order, of which the second key begins the third one, with which it is joined if
 /// it goes.
-pub(super) const ROWS: [(&str, u64); 5] = [
+pub(super) const ENTRIES: [(&str, u64); 5] = [
     ("", 1),
     (SHORT, 2),
     (
@@ -59,12 +59,12 @@ fn keep(map: &mut Map) -> Result<usize, usize> {
 #[test]
 fn retain_refused_in_turn(rt: HostRuntime) {
     let mut tally = Tally::new();
-    let mut map = done(&rt, make(rt.alloc(), ROWS.as_slice(), &mut tally));
+    let mut map = done(&rt, make(rt.alloc(), ENTRIES.as_slice(), &mut tally));
     match keep(&mut map) {
         Ok(calls) => same!(rt; calls, 5),
         Err(calls) => {
             tally.add();
-            let uncalled = calls == 0 && has(&map, ROWS.as_slice());
+            let uncalled = calls == 0 && has(&map, ENTRIES.as_slice());
             let stopped = calls == 2 && has(&map, TOUCHED.as_slice());
             holds!(rt; uncalled || stopped);
             holds!(rt; keep(&mut map) == Ok(5));

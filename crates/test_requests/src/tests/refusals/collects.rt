@@ -1,6 +1,6 @@
 //! The traits by which std extends maps and sets and collects into them, of which one call may be
 //! refused. The values of the maps count how many of them there are.
-use super::choices::ROWS;
+use super::choices::ENTRIES;
 use super::tally::{Tally, has_elements};
 use crate::tests::asserts::{holds, same};
 use patricia_tree::{StringPatriciaMap, StringPatriciaSet};
@@ -29,8 +29,8 @@ fn make_counted<'a>(number: u64, count: &'a Cell<usize>) -> Counted<'a> {
 type Map<'a> = StringPatriciaMap<Counted<'a>>;
 
 // Whether a map has these entries and no other, and there are no other values.
-fn has(map: &Map<'_>, rows: &[(&str, u64)], count: &Cell<usize>) -> bool {
-    for (key, number) in rows {
+fn has(map: &Map<'_>, entries: &[(&str, u64)], count: &Cell<usize>) -> bool {
+    for (key, number) in entries {
         let found = match map.get(*key) {
             Some(value) => value.number == *number,
             None => false,
@@ -39,27 +39,27 @@ fn has(map: &Map<'_>, rows: &[(&str, u64)], count: &Cell<usize>) -> bool {
             return false;
         }
     }
-    map.len() == rows.len() && count.get() == rows.len()
+    map.len() == entries.len() && count.get() == entries.len()
 }
 
-// Extends a map by all rows, and counts those that it takes. Returns whether it is done.
+// Extends a map by all entries, and counts those that it takes. Returns whether it is done.
 fn extend<'a>(map: &mut Map<'a>, count: &'a Cell<usize>, taken: &mut usize) -> bool {
-    let pairs = ROWS.iter().map(|(key, number)| {
+    let pairs = ENTRIES.iter().map(|(key, number)| {
         *taken = taken.saturating_add(1);
         (*key, make_counted(*number, count))
     });
     Extend::extend(map, pairs).is_ok()
 }
 
-// The same, once more where it is refused: the last row taken is the refused one, and those before
-// it are there.
+// The same, once more where it is refused: the last entry taken is the refused one, and those
+// before it are there.
 fn extends<'a>(map: &mut Map<'a>, count: &'a Cell<usize>, tally: &mut Tally) -> bool {
     let mut taken = 0;
     if extend(map, count, &mut taken) {
-        return taken == ROWS.len();
+        return taken == ENTRIES.len();
     }
     tally.add();
-    let Some(there) = ROWS.get(..taken.saturating_sub(1)) else {
+    let Some(there) = ENTRIES.get(..taken.saturating_sub(1)) else {
         return false;
     };
     has(map, there, count) && extend(map, count, &mut taken)
@@ -70,15 +70,16 @@ fn map_extends_refused_in_turn(rt: HostRuntime) {
     let (mut tally, count) = (Tally::new(), Cell::new(0));
     let mut map = Map::new(rt.alloc());
     holds!(rt; extends(&mut map, &count, &mut tally));
-    holds!(rt; has(&map, &ROWS, &count));
+    holds!(rt; has(&map, &ENTRIES, &count));
     drop(map);
     same!(rt; count.get(), 0);
     tally.check(&rt, 1);
 }
 
-// A map that the rows are collected into, or none where that is refused.
+// A map that the entries are collected into, or none where that is refused.
 fn collected<'a>(alloc: Global, count: &'a Cell<usize>) -> Option<Map<'a>> {
-    ROWS.iter()
+    ENTRIES
+        .iter()
         .map(|(key, number)| (*key, make_counted(*number, count)))
         .collect(alloc)
         .ok()
@@ -93,7 +94,7 @@ fn map_collects_refused_in_turn(rt: HostRuntime) {
         same!(rt; count.get(), 0);
         map = collected(rt.alloc(), &count);
     }
-    holds!(rt; map.is_some_and(|map| has(&map, &ROWS, &count)));
+    holds!(rt; map.is_some_and(|map| has(&map, &ENTRIES, &count)));
     same!(rt; count.get(), 0);
     tally.check(&rt, 1);
 }

@@ -15,13 +15,14 @@ fn is_refused<K: Bytes>(walk: &mut IntoIter<K, u64>, key: &[u8], due: u64) -> Op
     }
 }
 
-// Whether a walk gives these rows, or the first of them and then an error, and nothing behind that.
+// Whether a walk gives these entries, or the first of them and then an error, and nothing behind
+// that.
 fn is_taken<Q: BorrowedBytes>(
     mut walk: IntoIter<Q::Owned, u64>,
-    rows: &[(Q, u64)],
+    entries: &[(Q, u64)],
     tally: &mut Tally,
 ) -> bool {
-    for (key, due) in rows {
+    for (key, due) in entries {
         match is_refused(&mut walk, key.as_bytes(), *due) {
             Some(false) => {}
             Some(true) => {
@@ -34,14 +35,14 @@ fn is_taken<Q: BorrowedBytes>(
     walk.next().is_none() && walk.next().is_none()
 }
 
-fn check<Q: BorrowedBytes>(rt: &impl Abort, alloc: Global, rows: &[(Q, u64)], most: usize) {
+fn check<Q: BorrowedBytes>(rt: &impl Abort, alloc: Global, entries: &[(Q, u64)], most: usize) {
     let mut tally = Tally::new();
-    let map = done(rt, make(alloc, rows, &mut tally));
-    holds!(rt; is_taken(map.into_iter(), rows, &mut tally));
+    let map = done(rt, make(alloc, entries, &mut tally));
+    holds!(rt; is_taken(map.into_iter(), entries, &mut tally));
     tally.check(rt, most);
 }
 
-const ROWS: [(&[u8], u64); 7] = [
+const ENTRIES: [(&[u8], u64); 7] = [
     (b"", 6),
     (b"bash", 3),
     (b"ruby", 2),
@@ -53,10 +54,10 @@ const ROWS: [(&[u8], u64); 7] = [
 
 #[test]
 fn none_is_refused(rt: HostRuntime) {
-    check(&rt, rt.alloc(), &ROWS, 0);
+    check(&rt, rt.alloc(), &ENTRIES, 0);
 }
 
 #[test]
 fn refused_in_turn(rt: HostRuntime) {
-    check(&rt, rt.alloc(), &ROWS, 1);
+    check(&rt, rt.alloc(), &ENTRIES, 1);
 }

@@ -28,35 +28,35 @@ impl Tally {
 
 fn make_once<Q: BorrowedBytes>(
     alloc: Global,
-    rows: &[(Q, u64)],
+    entries: &[(Q, u64)],
 ) -> Result<GenericPatriciaMap<Q::Owned, u64>, AllocError> {
-    GenericPatriciaMap::from_iter(alloc, rows.iter().copied())
+    GenericPatriciaMap::from_iter(alloc, entries.iter().copied())
 }
 
 /// Makes a map, once more where it is refused.
 pub(super) fn make<Q: BorrowedBytes>(
     alloc: Global,
-    rows: &[(Q, u64)],
+    entries: &[(Q, u64)],
     tally: &mut Tally,
 ) -> Result<GenericPatriciaMap<Q::Owned, u64>, AllocError> {
-    if let Ok(map) = make_once(alloc, rows) {
+    if let Ok(map) = make_once(alloc, entries) {
         return Ok(map);
     }
     tally.add();
-    make_once(alloc, rows)
+    make_once(alloc, entries)
 }
 
 /// Whether a map has these entries, whose keys differ, and no other. It does not allocate.
 pub(super) fn has<Q: BorrowedBytes>(
     map: &GenericPatriciaMap<Q::Owned, u64>,
-    rows: &[(Q, u64)],
+    entries: &[(Q, u64)],
 ) -> bool {
-    for (key, value) in rows {
+    for (key, value) in entries {
         if map.get(*key).copied() != Some(*value) {
             return false;
         }
     }
-    map.len() == rows.len()
+    map.len() == entries.len()
 }
 
 /// The same of a set and its elements.

@@ -41,16 +41,16 @@ fn lends_one<Q: BorrowedBytes>(
 
 #[test]
 fn before_a_step(rt: HostRuntime) {
-    let rows = [("bar", 2), ("baz", 3)];
-    let mut map = done(&rt, map_of(rt.alloc(), &rows));
+    let entries = [("bar", 2), ("baz", 3)];
+    let mut map = done(&rt, map_of(rt.alloc(), &entries));
     holds!(rt; lends_nothing(&mut map, "ba"));
-    holds!(rt; has_more(&map, "none", &rows));
+    holds!(rt; has_more(&map, "none", &entries));
 }
 
 #[test]
 fn after_a_step(rt: HostRuntime) {
-    let rows = [("bar", 2), ("baz", 3)];
-    let mut map = done(&rt, map_of(rt.alloc(), &rows));
+    let entries = [("bar", 2), ("baz", 3)];
+    let mut map = done(&rt, map_of(rt.alloc(), &entries));
     holds!(rt; done(&rt, lends_one(&mut map, "bar", 2)));
-    holds!(rt; has_more(&map, "bar", &rows));
+    holds!(rt; has_more(&map, "bar", &entries));
 }

@@ -15,14 +15,14 @@ pub(super) fn add(place: &mut u32, due: u32) -> bool {
 pub(super) fn has_more<Q: BorrowedBytes>(
     map: &GenericPatriciaMap<Q::Owned, u32>,
     prefix: Q,
-    rows: &[(Q, u32)],
+    entries: &[(Q, u32)],
 ) -> bool {
-    for (key, value) in rows {
+    for (key, value) in entries {
         let is_under = key.as_bytes().starts_with(prefix.as_bytes());
         let more = if is_under { MORE } else { 0 };
         if map.get(*key).copied() != Some(value.saturating_add(more)) {
             return false;
         }
     }
-    map.len() == rows.len()
+    map.len() == entries.len()
 }

@@ -4,7 +4,7 @@ use super::runs::check_all;
 use std::alloc::AllocError;
 
 // Keys of labels of at most 30 bytes and of more, and some that begin the next.
-const ROWS: [(&[u8], u32); 10] = [
+const ENTRIES: [(&[u8], u32); 10] = [
     (b"", 9),
     (b"bar", 2),
     (b"bar bar bar bar bar bar bar bar bar bar", 5),
@@ -37,5 +37,5 @@ const PREFIXES: [&[u8]; 7] = [
 
 #[test]
 fn cursors_refused_in_turn(rt: HostRuntime) -> Result<(), AllocError> {
-    check_all(&rt, rt.alloc(), &ROWS, &PREFIXES, b"", 1)
+    check_all(&rt, rt.alloc(), &ENTRIES, &PREFIXES, b"", 1)
 }

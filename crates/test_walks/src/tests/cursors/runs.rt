@@ -200,11 +200,11 @@ fn ends_value<K: Bytes>(cursor: &mut ValuesMut<'_, K, u32>) -> bool {
 fn run<Q: BorrowedBytes>(
     map: &mut GenericPatriciaMap<Q::Owned, u32>,
     how: How,
-    rows: &[(Q, u32)],
+    entries: &[(Q, u32)],
 ) -> Option<usize> {
     let mut refused: usize = 0;
     let mut cursor = map.iter_mut();
-    for (key, due) in rows {
+    for (key, due) in entries {
         let mut came = lend_entry(&mut cursor, how, key.as_bytes(), *due);
         if came == Step::Refused {
             refused = refused.saturating_add(1);
@@ -226,11 +226,11 @@ fn run_under<Q: BorrowedBytes>(
     map: &mut GenericPatriciaMap<Q::Owned, u32>,
     how: How,
     prefix: Q,
-    rows: &[(Q, u32)],
+    entries: &[(Q, u32)],
 ) -> Option<usize> {
     let mut refused: usize = 0;
     let mut cursor = map.iter_prefix_mut(prefix);
-    for (key, due) in rows {
+    for (key, due) in entries {
         if !key.as_bytes().starts_with(prefix.as_bytes()) {
             continue;
         }
@@ -254,11 +254,11 @@ fn run_under<Q: BorrowedBytes>(
 fn run_values<Q: BorrowedBytes>(
     map: &mut GenericPatriciaMap<Q::Owned, u32>,
     how: How,
-    rows: &[(Q, u32)],
+    entries: &[(Q, u32)],
 ) -> Option<usize> {
     let mut refused: usize = 0;
     let mut cursor = map.values_mut();
-    for (_, due) in rows {
+    for (_, due) in entries {
         let mut came = lend_value(&mut cursor, how, *due);
         if came == Step::Refused {
             refused = refused.saturating_add(1);
@@ -288,12 +288,12 @@ fn run_over<Q: BorrowedBytes>(
     over: Over,
     how: How,
     prefix: Q,
-    rows: &[(Q, u32)],
+    entries: &[(Q, u32)],
 ) -> Option<usize> {
     match over {
-        Over::Entries => run(map, how, rows),
-        Over::Values => run_values(map, how, rows),
-        Over::Prefix => run_under(map, how, prefix, rows),
+        Over::Entries => run(map, how, entries),
+        Over::Values => run_values(map, how, entries),
+        Over::Prefix => run_under(map, how, prefix, entries),
     }
 }
 
@@ -302,15 +302,15 @@ fn run_over<Q: BorrowedBytes>(
 // prefix.
 fn is_run<Q: BorrowedBytes>(
     alloc: Global,
-    rows: &[(Q, u32)],
+    entries: &[(Q, u32)],
     over: Over,
     how: How,
     prefix: Q,
     most: usize,
 ) -> Result<bool, AllocError> {
-    let mut map = map_of(alloc, rows)?;
-    match run_over(&mut map, over, how, prefix, rows) {
-        Some(refused) => Ok(refused <= most && has_more(&map, prefix, rows)),
+    let mut map = map_of(alloc, entries)?;
+    match run_over(&mut map, over, how, prefix, entries) {
+        Some(refused) => Ok(refused <= most && has_more(&map, prefix, entries)),
         None => Ok(false),
     }
 }
@@ -320,16 +320,16 @@ fn is_run<Q: BorrowedBytes>(
 pub(super) fn check_all<Q: BorrowedBytes>(
     rt: &impl Abort,
     alloc: Global,
-    rows: &[(Q, u32)],
+    entries: &[(Q, u32)],
     prefixes: &[Q],
     all: Q,
     most: usize,
 ) -> Result<(), AllocError> {
     for how in &HOWS {
-        holds!(rt; is_run(alloc, rows, Over::Entries, *how, all, most)?);
-        holds!(rt; is_run(alloc, rows, Over::Values, *how, all, most)?);
+        holds!(rt; is_run(alloc, entries, Over::Entries, *how, all, most)?);
+        holds!(rt; is_run(alloc, entries, Over::Values, *how, all, most)?);
         for prefix in prefixes {
-            holds!(rt; is_run(alloc, rows, Over::Prefix, *how, *prefix, most)?);
+            holds!(rt; is_run(alloc, entries, Over::Prefix, *how, *prefix, most)?);
         }
     }
     Ok(())

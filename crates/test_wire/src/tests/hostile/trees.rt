@@ -59,7 +59,7 @@ fn comb(tree: &mut Writer, flags: u8, depth: u16) -> Result<u64, AllocError> {
 }
 
 // Records side by side. Returns the number of keys.
-fn row(tree: &mut Writer, last: u8) -> Result<u64, AllocError> {
+fn entry(tree: &mut Writer, last: u8) -> Result<u64, AllocError> {
     for label in 0..last {
         tree.push(51, 1, label)?;
     }
@@ -95,7 +95,7 @@ fn write(tree: &mut Writer, chance: &mut Chance) -> Result<u64, AllocError> {
         1 => chain(tree, 12, depth),
         2 => comb(tree, 15, depth),
         3 => comb(tree, 12, depth),
-        4 => row(tree, chance.byte()),
+        4 => entry(tree, chance.byte()),
         _ => long(tree, chance.byte().max(1), depth.min(20)),
     }
 }

@@ -2,7 +2,7 @@ use Rattle.std.proofs.Common.{◌≡◌, ◌<◌, ◌++◌, ◌∷◌, [], sym, 
 use Rattle.std.proofs.Common.{length, length-drop, rules}
 use Rattle.std.specs.Prelude.{◌^◌, is_some, is_ok, true}
 use Rattle.patricia_model.specs.Siblings.{end, node}
-use Rattle.patricia_walks.specs.Internal.Positions.{row_at}
+use Rattle.patricia_walks.specs.Internal.Positions.{siblings_at}
 use Rattle.patricia_wire.specs.Records.{Record}
 use Rattle.patricia_keys.specs.Keys.{IsValid}
 use Rattle.patricia_nodes.proofs.SeekLemmas.{head_within}
@@ -105,7 +105,7 @@ returns-clause-ok g c =
           let level = ap (λ s. s.level) w.self-is in
           let value = ap (λ v. v.0) w.value-is ∙ w.is_some.ensures in
           let child = ap (λ v. v.1) w.value-is ∙ w.is_some-then-n-left.ensures ∙ ap is_some w.get.ensures in
-          let under = row_at (nodes_of p) n.child in
+          let under = siblings_at (nodes_of p) n.child in
           let below = below_whole item kind p c.args.id n left.plan c.requires.next reads q k piece
           kept level (w.if-n-left.true ∙ ap length label) (ap (λ s. s.next) w.self-is)
           (ap (λ s. s.skipped) w.self-is) in
@@ -117,7 +117,7 @@ returns-clause-ok g c =
           let level = ap (λ s. s.level) w.self-is in
           let value = ap (λ v. v.0) w.value-is in
           let child = ap (λ v. v.1) w.value-is in
-          let under = node (drop k (drop p.skipped n.label)) n.value (row_at (nodes_of p) n.child) end in
+          let under = node (drop k (drop p.skipped n.label)) n.value (siblings_at (nodes_of p) n.child) end in
           let short : k < length (drop p.skipped n.label) = omega (arith, piece.within, ap length label, w.if-n-left.false) in
           let below = below_part item kind p c.args.id n left.plan c.requires.next reads q k piece
           kept level short (ap (λ s. s.next) w.self-is) (ap (λ s. s.skipped) w.self-is) in

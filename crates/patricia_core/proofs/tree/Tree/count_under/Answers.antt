@@ -21,7 +21,7 @@ returns-clause-some g c =
     ∙ ap (under key)
     (sym (entries_map g.K.Bytes.item g.met.K.Bytes.lawful c.self.inside.value _ c.self.invariant.tree.canonical)
     ∙ ap map.entries c.self.view_is) in
-    subst (λ rows. IfSome c.count_under.result (λ n. n ≡ length rows)) same c.count_under.ensures.some
+    subst (λ entries. IfSome c.count_under.result (λ n. n ≡ length entries)) same c.count_under.ensures.some
 
 pub returns-clause-none : goal.returns-clause-none
 returns-clause-none g c =
@@ -30,5 +30,5 @@ returns-clause-none g c =
     ∙ ap (under key)
     (sym (entries_map g.K.Bytes.item g.met.K.Bytes.lawful c.self.inside.value _ c.self.invariant.tree.canonical)
     ∙ ap map.entries c.self.view_is) in
-    subst (λ rows. IfNone c.count_under.result (Any (λ e. length key + 64 < length e.0) rows)) same
+    subst (λ entries. IfNone c.count_under.result (Any (λ e. length key + 64 < length e.0) entries)) same
     c.count_under.ensures.none

@@ -1,7 +1,7 @@
 use Rattle.std.proofs.Common.{◌+◌, length, sym, ◌∙◌, refl, arith}
 use mathlib.Core.Bool.{false≢true}
 use Rattle.patricia_model.proofs.TreeLemmas.{get_empty, get_filled}
-use Rattle.patricia_model.proofs.CountLemmas.{counted_root, counted_row}
+use Rattle.patricia_model.proofs.CountLemmas.{counted_root, counted_siblings}
 use Rattle.patricia_core.proofs.tree.Tree.get_counted.Goals as goal
 
 pub returns-then-is_empty-clause-value : goal.returns-then-is_empty-clause-value
@@ -26,12 +26,12 @@ returns-else-is_empty-clause-value g c = rw (← c.self.view_is)
 
 pub returns-else-is_empty-clause-counted : goal.returns-else-is_empty-clause-counted
 returns-else-is_empty-clause-counted g c =
-    let row = c.get_counted.ensures.counted in (
-      1 + length row.visited,
+    let siblings = c.get_counted.ensures.counted in (
+      1 + length siblings.visited,
       rw (← c.self.view_is)
-          (counted_row g.K.Bytes.item g.met.K.Bytes.lawful _ _ c.self.invariant.tree.canonical _ _ _
-          row),
-      omega (arith, row.is),
+          (counted_siblings g.K.Bytes.item g.met.K.Bytes.lawful _ _ c.self.invariant.tree.canonical _ _ _
+          siblings),
+      omega (arith, siblings.is),
     )
 
 pub returns-else-is_empty-clause-bounded : goal.returns-else-is_empty-clause-bounded

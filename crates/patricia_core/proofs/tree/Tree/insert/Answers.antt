@@ -29,7 +29,7 @@ invariant_of-self-in-Ok-None g c =
     let none = get_filled g.K.Bytes.item g.met.K.Bytes.lawful _ _ _ c.self.invariant.tree.canonical
     (λ none. absurd (false≢true (c.if-is_empty.ensures.1 none))) ∙ new in
     stored_new g.K.Bytes.item g.met.K.Bytes.lawful _ _ _ c.args.value _ c.self.invariant
-    c.in-Ok-None.ensures.whole c.in-Ok-None.ensures.row c.in-Ok-None.ensures.ok new
+    c.in-Ok-None.ensures.whole c.in-Ok-None.ensures.siblings c.in-Ok-None.ensures.ok new
     (elim c.else-self.branch [
       | else-self-via-then-self+else-is_none w ↦ absurd
           (option_map_not_none (λ x. x.now) w.get.result
@@ -40,7 +40,7 @@ invariant_of-self-in-Ok-None g c =
 pub invariant_of-self-in-Ok-Some : goal.invariant_of-self-in-Ok-Some
 invariant_of-self-in-Ok-Some g c =
     stored_old g.K.Bytes.item g.met.K.Bytes.lawful _ _ _ c.args.value _ c.self.invariant
-    c.in-Ok-Some.ensures.whole c.in-Ok-Some.old c.in-Ok-Some.ensures.row c.in-Ok-Some.ensures.ok
+    c.in-Ok-Some.ensures.whole c.in-Ok-Some.old c.in-Ok-Some.ensures.siblings c.in-Ok-Some.ensures.ok
     (sym c.in-Ok-Some.ensures.old ∙ c.in-Ok-Some.field-0-is)
 
 pub returns-in-Ok-None-clause-old : goal.returns-in-Ok-None-clause-old

@@ -1,7 +1,7 @@
 use Rattle.std.proofs.Common.{◌++◌, sym, ap, ◌∙◌}
 use Rattle.std.specs.FinMap as map
 use Rattle.std.specs.Option.{option_map}
-use Rattle.patricia_model.specs.Cursors.{before_rows}
+use Rattle.patricia_model.specs.Cursors.{before_entries}
 use Rattle.patricia_model.specs.Ranges.{from}
 use Rattle.patricia_walks.specs.Internal.Bounds.{within}
 use Rattle.patricia_model.specs.Siblings.{own, entries}
@@ -14,7 +14,7 @@ returns g c =
     let bound = option_map g.Q.BorrowedBytes.key c.args.bound in
     let key = g.Q.BorrowedBytes.key c.args.key in
     c.new.ensures
-    ∙ ap (λ v. before_rows (within bound (from key (own v ++ entries (siblings_of c.self.inside.arena))))) c.as_ref.ensures.value
-    ∙ ap (λ es. before_rows (within bound (from key es)))
+    ∙ ap (λ v. before_entries (within bound (from key (own v ++ entries (siblings_of c.self.inside.arena))))) c.as_ref.ensures.value
+    ∙ ap (λ es. before_entries (within bound (from key es)))
     (sym (entries_map g.K.Bytes.item g.met.K.Bytes.lawful _ _ c.self.invariant.tree.canonical)
     ∙ ap map.entries c.self.view_is)

@@ -27,7 +27,7 @@ invariant_of-self-in-Ok-Some g c =
     record {
       whole = c.in-Ok-Some.ensures.whole;
       tree = record {
-        canonical = c.in-Ok-Some.ensures.row;
+        canonical = c.in-Ok-Some.ensures.siblings;
         counted = omega (arith, less, c.self.invariant.tree.counted);
         fits = omega (arith, c.self.invariant.tree.fits);
       };
@@ -39,7 +39,7 @@ invariant_of-self-in-Ok-None g c =
     record {
       whole = c.in-Ok-None.ensures.whole;
       tree = record {
-        canonical = c.in-Ok-None.ensures.row;
+        canonical = c.in-Ok-None.ensures.siblings;
         counted = c.self.invariant.tree.counted ∙ sym
             (remove_absent g.K.Bytes.item g.met.K.Bytes.lawful (c.self.inside.value)
             (siblings_of c.self.inside.arena) (siblings_of c.remove.new.arena) _
@@ -79,12 +79,12 @@ returns-in-Ok-None-clause-ok g c =
 pub returns-in-Err-clause-joins : goal.returns-in-Err-clause-joins
 returns-in-Err-clause-joins g c =
     let v = c.self.inside.value in
-    let row = siblings_of c.self.inside.arena in
+    let siblings = siblings_of c.self.inside.arena in
     let q = g.Q.BorrowedBytes.key c.args.key in
     rw (← c.self.view_is)
     (subst (λ S. Joins g.K.Bytes.item S q)
-    (sym (keys_map g.K.Bytes.item g.met.K.Bytes.lawful v row c.self.invariant.tree.canonical))
-    (joins_root g.K.Bytes.item v (entries row) q c.in-Err.ensures.joins))
+    (sym (keys_map g.K.Bytes.item g.met.K.Bytes.lawful v siblings c.self.invariant.tree.canonical))
+    (joins_root g.K.Bytes.item v (entries siblings) q c.in-Err.ensures.joins))
 
 pub overflow_sub-self : goal.overflow_sub-self
 overflow_sub-self g c =

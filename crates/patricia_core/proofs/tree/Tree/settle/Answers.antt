@@ -1,7 +1,7 @@
 use Rattle.patricia_core.proofs.tree.Tree.settle.Goals as goal
 
 pub invariant_of-self : goal.invariant_of-self
-invariant_of-self g c = record { whole = c.settle.ensures.whole; tree = rw c.settle.ensures.row c.self.invariant.tree }
+invariant_of-self g c = record { whole = c.settle.ensures.whole; tree = rw c.settle.ensures.siblings c.self.invariant.tree }
 
 pub returns : goal.returns
-returns g c = rw c.settle.ensures.row c.self.view_is
+returns g c = rw c.settle.ensures.siblings c.self.view_is

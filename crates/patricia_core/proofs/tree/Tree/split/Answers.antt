@@ -21,18 +21,18 @@ returns-then-is_empty-clause-left g c = ap map.entries
 
 pub overflow_sub-self : goal.overflow_sub-self
 overflow_sub-self g c =
-    let rows = entries (siblings_of c.self-2.inside.arena) in
+    let all = entries (siblings_of c.self-2.inside.arena) in
     omega (
       arith,
       c.in-Ok.ensures.ok.counted,
       ap length c.in-Ok.ensures.ok.taken_is,
-      outside_counted (g.Q.BorrowedBytes.key c.args.prefix) rows,
+      outside_counted (g.Q.BorrowedBytes.key c.args.prefix) all,
       c.self-2.invariant.tree.counted,
     )
 
 pub invariant_of-result : goal.invariant_of-result
 invariant_of-result g c =
-    let rows = entries (siblings_of c.self-2.inside.arena) in
+    let all = entries (siblings_of c.self-2.inside.arena) in
     record {
       whole = c.in-Ok.ensures.ok.taken_whole;
       tree = record {
@@ -42,7 +42,7 @@ invariant_of-result g c =
           arith,
           c.in-Ok.ensures.ok.counted,
           ap length c.in-Ok.ensures.ok.taken_is,
-          outside_counted (g.Q.BorrowedBytes.key c.args.prefix) rows,
+          outside_counted (g.Q.BorrowedBytes.key c.args.prefix) all,
           c.self-2.invariant.tree.counted,
           c.self-2.invariant.tree.fits,
         );
@@ -51,7 +51,7 @@ invariant_of-result g c =
 
 pub invariant_of-self : goal.invariant_of-self
 invariant_of-self g c =
-    let rows = entries (siblings_of c.self-2.inside.arena) in
+    let all = entries (siblings_of c.self-2.inside.arena) in
     record {
       whole = c.in-Ok.ensures.ok.whole;
       tree = record {
@@ -62,7 +62,7 @@ invariant_of-self g c =
           ap length c.in-Ok.ensures.ok.taken_is,
           ap length
               c.in-Ok.ensures.ok.left_is,
-          outside_counted (g.Q.BorrowedBytes.key c.args.prefix) rows,
+          outside_counted (g.Q.BorrowedBytes.key c.args.prefix) all,
           c.self-2.invariant.tree.counted,
         );
         fits = omega (arith, c.self-2.invariant.tree.fits);

@@ -5,7 +5,7 @@ use Rattle.patricia_nodes.specs.Internal.Growth.{tops}
 use Rattle.patricia_nodes.specs.Internal.Order.{Waits}
 use Rattle.patricia_nodes.proofs.OrderLemmas.{children, Listing, listing_start, listing_next}
 use Rattle.patricia_nodes.proofs.OrderLemmas.{listing_level, listing_deep, listing_done}
-use Rattle.patricia_nodes.proofs.OrderLemmas.{next_within, next_row, row_waits, next_room}
+use Rattle.patricia_nodes.proofs.OrderLemmas.{next_within, next_siblings, siblings_wait, next_room}
 use Rattle.patricia_nodes.proofs.arena.NodeArena.+list_below.Goals as goal
 
 pub loop-i-init : goal.loop-i-init
@@ -24,15 +24,15 @@ index-requires-in-loop-i g t c =
     (l.invariant.listing c.requires.waits.0 c.requires.waits.1) c.loop-i-test.true short c.index.ensures in
     omega (arith, next_within _ _ _ _ _ _ next)
 
-pub list_row-requires-clause-row : goal.list_row-requires-clause-row
-list_row-requires-clause-row g t c =
+pub list_siblings-requires-clause-siblings : goal.list_siblings-requires-clause-siblings
+list_siblings-requires-clause-siblings g t c =
     let l = c.loop-i in
     let short : l.end ≤ length l.order.items = omega (arith, l.invariant.within) in
     let next = listing_next _ c.requires.waits.0 _ _ l.i l.end c.index.result.now
     (l.invariant.listing c.requires.waits.0 c.requires.waits.1) c.loop-i-test.true short c.index.ensures in
     let room = next_room _ _ _ _ _ _ next (vec_capacity c.args.order.now) (omega (arith, c.requires.waits.2)) in (
       tops next.child,
-      next_row _ _ _ _ _ _ next c.index-in-loop-i.result.now c.index-in-loop-i.ensures,
+      next_siblings _ _ _ _ _ _ next c.index-in-loop-i.result.now c.index-in-loop-i.ensures,
       omega (arith, room, l.invariant.capacity),
     )
 
@@ -42,14 +42,14 @@ loop-i-preserved-then-depth-eq0 g t c =
     let short : l.end ≤ length l.order.items = omega (arith, l.invariant.within) in
     let level : l.end ≡ length l.order.items = omega (arith, l.invariant.level c.if-depth-eq0.true) in
     record {
-      capacity = c.list_row.ensures.capacity ∙ l.invariant.capacity;
+      capacity = c.list_siblings.ensures.capacity ∙ l.invariant.capacity;
       within = omega (arith, c.len-end-then-depth-eq0.ensures);
       level = λ e. c.len-end-then-depth-eq0.ensures;
       listing = λ cs w.
           let next = listing_next _ cs _ _ l.i l.end c.index.result.now
           (l.invariant.listing cs w) c.loop-i-test.true short c.index.ensures in
-          let listed = c.list_row.ensures.listed (tops next.child)
-          (next_row _ _ _ _ _ _ next c.index-in-loop-i.result.now c.index-in-loop-i.ensures) in
+          let listed = c.list_siblings.ensures.listed (tops next.child)
+          (next_siblings _ _ _ _ _ _ next c.index-in-loop-i.result.now c.index-in-loop-i.ensures) in
           listing_level _ _ _ _ _ _ _ next _ listed _ (omega (arith, c.loop-i-test.true)) level
           (omega (arith, c.len-end-then-depth-eq0.ensures));
     }
@@ -60,8 +60,8 @@ list_below-requires g t c κs within =
     let short : l.end ≤ length l.order.items = omega (arith, l.invariant.within) in
     let next = listing_next _ c.requires.waits.0 _ _ l.i l.end c.index.result.now
     (l.invariant.listing c.requires.waits.0 c.requires.waits.1) c.loop-i-test.true short c.index.ensures in
-    let listed = c.list_row.ensures.listed (tops next.child)
-    (next_row _ _ _ _ _ _ next c.index-in-loop-i.result.now c.index-in-loop-i.ensures) in
+    let listed = c.list_siblings.ensures.listed (tops next.child)
+    (next_siblings _ _ _ _ _ _ next c.index-in-loop-i.result.now c.index-in-loop-i.ensures) in
     let room = next_room _ _ _ _ _ _ next (vec_capacity c.args.order.now) (omega (arith, c.requires.waits.2)) in (
       omega (arith, c.if-depth-eq0.false),
       (
@@ -70,14 +70,14 @@ list_below-requires g t c κs within =
           c.requires.few,
           (
             children next.child,
-            row_waits _ _ _ _ _ _ next _ _ listed (omega (arith, c.len-below.ensures)),
+            siblings_wait _ _ _ _ _ _ next _ _ listed (omega (arith, c.len-below.ensures)),
             omega (
               arith,
               room,
               ap length listed,
               length-append l.order.items (tops next.child),
               l.invariant.capacity,
-              c.list_row.ensures.capacity,
+              c.list_siblings.ensures.capacity,
             ),
           ),
         ),
@@ -96,13 +96,13 @@ loop-i-preserved g t c =
     λ cs w.
     let next = listing_next _ cs _ _ l.i l.end c.index.result.now
     (l.invariant.listing cs w) c.loop-i-test.true short c.index.ensures in
-    let listed = c.list_row.ensures.listed (tops next.child)
-    (next_row _ _ _ _ _ _ next c.index-in-loop-i.result.now c.index-in-loop-i.ensures) in
+    let listed = c.list_siblings.ensures.listed (tops next.child)
+    (next_siblings _ _ _ _ _ _ next c.index-in-loop-i.result.now c.index-in-loop-i.ensures) in
     listing_deep _ _ _ _ _ _ _ next _ listed _ short
     (c.list_below.ensures.listed (children next.child)
-    (row_waits _ _ _ _ _ _ next _ _ listed (omega (arith, c.len-below.ensures)))) in
+    (siblings_wait _ _ _ _ _ _ next _ _ listed (omega (arith, c.len-below.ensures)))) in
     record {
-      capacity = c.list_below.ensures.capacity ∙ c.list_row.ensures.capacity ∙ l.invariant.capacity;
+      capacity = c.list_below.ensures.capacity ∙ c.list_siblings.ensures.capacity ∙ l.invariant.capacity;
       within = omega (arith, (deep c.requires.waits.0 c.requires.waits.1).0);
       level = λ e. absurd (c.if-depth-eq0.false e);
       listing = λ cs w. (deep cs w).1;

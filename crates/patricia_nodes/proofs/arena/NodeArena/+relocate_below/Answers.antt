@@ -4,7 +4,7 @@ use Rattle.patricia_nodes.specs.declared.arena.NodeArena.{NodeArena}
 use Rattle.patricia_nodes.specs.Internal.Growth.{laid}
 use Rattle.patricia_nodes.specs.Internal.Plans.{Plan}
 use Rattle.patricia_nodes.specs.Internal.Relocation.{Filling}
-use Rattle.patricia_nodes.proofs.LayLemmas.{filling_next, filling_same, laying_row, next_top, between}
+use Rattle.patricia_nodes.proofs.LayLemmas.{filling_next, filling_same, laying_siblings, next_top, between}
 use Rattle.patricia_nodes.proofs.LayLemmas.{up_to, up_to_none, between_none, between_next, between_turns}
 use Rattle.patricia_nodes.proofs.LayLemmas.{between_level, between_deep, between_done}
 use Rattle.patricia_nodes.proofs.arena.NodeArena.+relocate_below.Goals as goal
@@ -27,10 +27,10 @@ relocate_siblings-first-requires g t c =
     let r = c.requires in
     let f = l.invariant.filling r.old r.plan r.marks r.filling r.unmarked in
     let short : l.i < length l.to.items = omega (arith, c.loop-i-test.true, l.invariant.within) in
-    let next = laying_row r.plan _ _ l.i _ _ f.laying short (between_next c.args.start l.i l.end r.marks l.invariant.on c.loop-i-test.true) in
+    let next = laying_siblings r.plan _ _ l.i _ _ f.laying short (between_next c.args.start l.i l.end r.marks l.invariant.on c.loop-i-test.true) in
     record {
-      row = (
-        next.row,
+      siblings = (
+        next.siblings,
         next_top r.plan _ l.i _ _ next c.index.result.now c.index.ensures,
         omega (arith, next.room, r.room, l.invariant.capacity),
       );
@@ -42,9 +42,9 @@ set_child-requires g t c =
     let r = c.requires in
     let f = l.invariant.filling r.old r.plan r.marks r.filling r.unmarked in
     let short : l.i < length l.to.items = omega (arith, c.loop-i-test.true, l.invariant.within) in
-    let next = laying_row r.plan _ _ l.i _ _ f.laying short (between_next c.args.start l.i l.end r.marks l.invariant.on c.loop-i-test.true) in
-    let moved = ap length (c.relocate_siblings-first.ensures.laid next.row (next_top r.plan _ l.i _ _ next c.index.result.now c.index.ensures)) in
-    let both = length-append l.to.items (laid (length l.to.items) next.row) in
+    let next = laying_siblings r.plan _ _ l.i _ _ f.laying short (between_next c.args.start l.i l.end r.marks l.invariant.on c.loop-i-test.true) in
+    let moved = ap length (c.relocate_siblings-first.ensures.laid next.siblings (next_top r.plan _ l.i _ _ next c.index.result.now c.index.ensures)) in
+    let both = length-append l.to.items (laid (length l.to.items) next.siblings) in
     omega (arith, short, moved, both, c.new.ensures)
 
 pub loop-i-preserved-then-depth-eq0 : goal.loop-i-preserved-then-depth-eq0
@@ -55,9 +55,9 @@ loop-i-preserved-then-depth-eq0 g t c =
     let short : l.i < length l.to.items = omega (arith, c.loop-i-test.true, l.invariant.within) in
     let moved = c.relocate_siblings-first in
     let put = c.set_child.ensures in
-    let next0 = laying_row r.plan _ _ l.i _ _ f0.laying short (between_next c.args.start l.i l.end r.marks l.invariant.on c.loop-i-test.true) in
-    let came = ap length (moved.ensures.laid next0.row (next_top r.plan _ l.i _ _ next0 c.index.result.now c.index.ensures)) in
-    let both = length-append l.to.items (laid (length l.to.items) next0.row) in
+    let next0 = laying_siblings r.plan _ _ l.i _ _ f0.laying short (between_next c.args.start l.i l.end r.marks l.invariant.on c.loop-i-test.true) in
+    let came = ap length (moved.ensures.laid next0.siblings (next_top r.plan _ l.i _ _ next0 c.index.result.now c.index.ensures)) in
+    let both = length-append l.to.items (laid (length l.to.items) next0.siblings) in
     let same : length c.set_child.new.self.items ≡ length moved.new.to.items = ap (λ v. length v.items) put.2 ∙ length-set _ _ _ in
     let level : l.end ≡ length l.to.items = omega (arith, l.invariant.level c.if-depth-eq0.true) in
     let turned : (old : NodeArena g.row.V.Denot) (w : Plan g.row.V.Denot) (marks : ℕ → Bool)
@@ -66,7 +66,7 @@ loop-i-preserved-then-depth-eq0 g t c =
     → Filling old w moved.new.self (up_to c.len-below.result (between c.args.start (l.i + 1) l.end marks)) c.set_child.new.self.items =
     λ old w marks f none.
     let g0 = l.invariant.filling old w marks f none in
-    let next = laying_row w _ _ l.i _ _ g0.laying short (between_next c.args.start l.i l.end marks l.invariant.on c.loop-i-test.true) in
+    let next = laying_siblings w _ _ l.i _ _ g0.laying short (between_next c.args.start l.i l.end marks l.invariant.on c.loop-i-test.true) in
     let top = next_top w _ l.i _ _ next c.index.result.now c.index.ensures in
     rw put.2
     (filling_next old w l.self moved.new.self (between c.args.start l.i l.end marks)
@@ -74,8 +74,8 @@ loop-i-preserved-then-depth-eq0 g t c =
     g0 short
     (between_turns c.args.start l.i l.end c.len-below.result (length l.to.items) marks
     (omega (arith, c.len-below.ensures)) l.invariant.on c.loop-i-test.true (omega (arith, l.invariant.within)))
-    next (moved.ensures.taken next.row top) moved.new.to.items
-    (moved.ensures.laid next.row top) moved.result (moved.ensures.first next.row top)
+    next (moved.ensures.taken next.siblings top) moved.new.to.items
+    (moved.ensures.laid next.siblings top) moved.result (moved.ensures.first next.siblings top)
     put.0 (rw c.new.ensures at put.1)
     (ap (λ i. set moved.new.to.items i (record put.0 { child = moved.result })) c.new.ensures)) in
     record {
@@ -98,9 +98,9 @@ relocate_below-requires g t c κs within =
     let short : l.i < length l.to.items = omega (arith, c.loop-i-test.true, l.invariant.within) in
     let moved = c.relocate_siblings-first in
     let put = c.set_child.ensures in
-    let next0 = laying_row r.plan _ _ l.i _ _ f0.laying short (between_next c.args.start l.i l.end r.marks l.invariant.on c.loop-i-test.true) in
-    let came = ap length (moved.ensures.laid next0.row (next_top r.plan _ l.i _ _ next0 c.index.result.now c.index.ensures)) in
-    let both = length-append l.to.items (laid (length l.to.items) next0.row) in
+    let next0 = laying_siblings r.plan _ _ l.i _ _ f0.laying short (between_next c.args.start l.i l.end r.marks l.invariant.on c.loop-i-test.true) in
+    let came = ap length (moved.ensures.laid next0.siblings (next_top r.plan _ l.i _ _ next0 c.index.result.now c.index.ensures)) in
+    let both = length-append l.to.items (laid (length l.to.items) next0.siblings) in
     let same : length c.set_child.new.self.items ≡ length moved.new.to.items = ap (λ v. length v.items) put.2 ∙ length-set _ _ _ in
     let turned : (old : NodeArena g.row.V.Denot) (w : Plan g.row.V.Denot) (marks : ℕ → Bool)
     → Filling old w c.args.self.now marks c.args.to.now.items
@@ -108,7 +108,7 @@ relocate_below-requires g t c κs within =
     → Filling old w moved.new.self (up_to c.len-below.result (between c.args.start (l.i + 1) l.end marks)) c.set_child.new.self.items =
     λ old w marks f none.
     let g0 = l.invariant.filling old w marks f none in
-    let next = laying_row w _ _ l.i _ _ g0.laying short (between_next c.args.start l.i l.end marks l.invariant.on c.loop-i-test.true) in
+    let next = laying_siblings w _ _ l.i _ _ g0.laying short (between_next c.args.start l.i l.end marks l.invariant.on c.loop-i-test.true) in
     let top = next_top w _ l.i _ _ next c.index.result.now c.index.ensures in
     rw put.2
     (filling_next old w l.self moved.new.self (between c.args.start l.i l.end marks)
@@ -116,8 +116,8 @@ relocate_below-requires g t c κs within =
     g0 short
     (between_turns c.args.start l.i l.end c.len-below.result (length l.to.items) marks
     (omega (arith, c.len-below.ensures)) l.invariant.on c.loop-i-test.true (omega (arith, l.invariant.within)))
-    next (moved.ensures.taken next.row top) moved.new.to.items
-    (moved.ensures.laid next.row top) moved.result (moved.ensures.first next.row top)
+    next (moved.ensures.taken next.siblings top) moved.new.to.items
+    (moved.ensures.laid next.siblings top) moved.result (moved.ensures.first next.siblings top)
     put.0 (rw c.new.ensures at put.1)
     (ap (λ i. set moved.new.to.items i (record put.0 { child = moved.result })) c.new.ensures)) in (
       omega (arith, c.if-depth-eq0.false),
@@ -142,9 +142,9 @@ loop-i-preserved g t c =
     let short : l.i < length l.to.items = omega (arith, c.loop-i-test.true, l.invariant.within) in
     let moved = c.relocate_siblings-first in
     let put = c.set_child.ensures in
-    let next0 = laying_row r.plan _ _ l.i _ _ f0.laying short (between_next c.args.start l.i l.end r.marks l.invariant.on c.loop-i-test.true) in
-    let came = ap length (moved.ensures.laid next0.row (next_top r.plan _ l.i _ _ next0 c.index.result.now c.index.ensures)) in
-    let both = length-append l.to.items (laid (length l.to.items) next0.row) in
+    let next0 = laying_siblings r.plan _ _ l.i _ _ f0.laying short (between_next c.args.start l.i l.end r.marks l.invariant.on c.loop-i-test.true) in
+    let came = ap length (moved.ensures.laid next0.siblings (next_top r.plan _ l.i _ _ next0 c.index.result.now c.index.ensures)) in
+    let both = length-append l.to.items (laid (length l.to.items) next0.siblings) in
     let same : length c.set_child.new.self.items ≡ length moved.new.to.items = ap (λ v. length v.items) put.2 ∙ length-set _ _ _ in
     let turned : (old : NodeArena g.row.V.Denot) (w : Plan g.row.V.Denot) (marks : ℕ → Bool)
     → Filling old w c.args.self.now marks c.args.to.now.items
@@ -152,7 +152,7 @@ loop-i-preserved g t c =
     → Filling old w moved.new.self (up_to c.len-below.result (between c.args.start (l.i + 1) l.end marks)) c.set_child.new.self.items =
     λ old w marks f none.
     let g0 = l.invariant.filling old w marks f none in
-    let next = laying_row w _ _ l.i _ _ g0.laying short (between_next c.args.start l.i l.end marks l.invariant.on c.loop-i-test.true) in
+    let next = laying_siblings w _ _ l.i _ _ g0.laying short (between_next c.args.start l.i l.end marks l.invariant.on c.loop-i-test.true) in
     let top = next_top w _ l.i _ _ next c.index.result.now c.index.ensures in
     rw put.2
     (filling_next old w l.self moved.new.self (between c.args.start l.i l.end marks)
@@ -160,8 +160,8 @@ loop-i-preserved g t c =
     g0 short
     (between_turns c.args.start l.i l.end c.len-below.result (length l.to.items) marks
     (omega (arith, c.len-below.ensures)) l.invariant.on c.loop-i-test.true (omega (arith, l.invariant.within)))
-    next (moved.ensures.taken next.row top) moved.new.to.items
-    (moved.ensures.laid next.row top) moved.result (moved.ensures.first next.row top)
+    next (moved.ensures.taken next.siblings top) moved.new.to.items
+    (moved.ensures.laid next.siblings top) moved.result (moved.ensures.first next.siblings top)
     put.0 (rw c.new.ensures at put.1)
     (ap (λ i. set moved.new.to.items i (record put.0 { child = moved.result })) c.new.ensures)) in
     let below = c.relocate_below.ensures in

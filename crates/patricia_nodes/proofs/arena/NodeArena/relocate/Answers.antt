@@ -1,9 +1,9 @@
 use Rattle.std.proofs.Common.{[], sym, ap, ◌∙◌, arith, length}
 use Rattle.std.proofs.lemmas.List.{length-append, length-take}
-use Rattle.patricia_nodes.specs.Internal.Plans.{row}
-use Rattle.patricia_nodes.proofs.LayLemmas.{same_row}
+use Rattle.patricia_nodes.specs.Internal.Plans.{siblings_in}
+use Rattle.patricia_nodes.proofs.LayLemmas.{same_siblings}
 use Rattle.patricia_nodes.proofs.PlanLemmas.{plan_is}
-use Rattle.patricia_nodes.proofs.RenumberLemmas.{lists_long, lists_order, renamed, row-renamed, sound_used}
+use Rattle.patricia_nodes.proofs.RenumberLemmas.{lists_long, lists_order, renamed, siblings-renamed, sound_used}
 use Rattle.patricia_nodes.proofs.WriteLemmas.{one_chain}
 use Rattle.patricia_nodes.proofs.arena.NodeArena.relocate.Goals as goal
 
@@ -40,18 +40,18 @@ returns-clause-whole g c =
       ),
     )
 
-pub returns-clause-row : goal.returns-clause-row
-returns-clause-row g c =
+pub returns-clause-siblings : goal.returns-clause-siblings
+returns-clause-siblings g c =
     let sound = c.requires.1.1 in
     let lists = c.in_ok-order.ensures.lists _ _ sound in
     let inv = rw c.as_slice.ensures.value at c.in_ok-places.ensures in
     rw (c.keep_first.ensures.items, c.moved_link-self.ensures, c.as_slice-2.ensures.value)
-    (same_row _ _ _ (renamed c.in_ok-places.places.items c.requires.0) c.requires.0 []
+    (same_siblings _ _ _ (renamed c.in_ok-places.places.items c.requires.0) c.requires.0 []
     (sound_used c.in_ok-order.order.items c.in_ok-places.places.items inv c.args.self.now.nodes.items
     c.rearrange.new.self.items (lists_long _ _ _ _ _ _ _ sound lists) c.rearrange.ensures.items
     _ _ c.requires.0 c.requires.1.0 c.in_ok-order.used sound lists)
-    (row-renamed c.in_ok-places.places.items c.requires.0))
-    ∙ sym (ap (λ p. row p) (plan_is _ _ c.requires.0 sound.plan_ok))
+    (siblings-renamed c.in_ok-places.places.items c.requires.0))
+    ∙ sym (ap (λ p. siblings_in p) (plan_is _ _ c.requires.0 sound.plan_ok))
 
 pub returns-clause-room : goal.returns-clause-room
 returns-clause-room g c room =

@@ -9,17 +9,17 @@ use Rattle.patricia_nodes.proofs.arena.NodeArena.resume.Goals as goal
 pub strip_n_prefix-rest-requires-clause-within : goal.strip_n_prefix-rest-requires-clause-within
 strip_n_prefix-rest-requires-clause-within g c =
     let back = last_back c.args.trail.now c.in-Some.field-0.now (sym c.last.ensures.value ∙ ap option_copied c.in-Some.is) in
-    omega (arith, trail_short c.requires.whole c.requires.row c.requires.trail back)
+    omega (arith, trail_short c.requires.whole c.requires.siblings c.requires.trail back)
 
 pub strip_n_prefix-rest-requires-clause-valid : goal.strip_n_prefix-rest-requires-clause-valid
 strip_n_prefix-rest-requires-clause-valid g c =
     let back = last_back c.args.trail.now c.in-Some.field-0.now (sym c.last.ensures.value ∙ ap option_copied c.in-Some.is) in
-    trail_valid c.requires.whole c.requires.row c.requires.trail back
+    trail_valid c.requires.whole c.requires.siblings c.requires.trail back
 
 pub index-requires-in-Some : goal.index-requires-in-Some
 index-requires-in-Some g c =
     let back = last_back c.args.trail.now c.in-Some.field-0.now (sym c.last.ensures.value ∙ ap option_copied c.in-Some.is) in
-    let within = trail_within c.requires.whole c.requires.row c.requires.trail back in
+    let within = trail_within c.requires.whole c.requires.siblings c.requires.trail back in
     omega (arith, within, c.index.ensures, c.args.self.now.nodes.ok.0)
 
 pub returns-in-None : goal.returns-in-None
@@ -32,4 +32,4 @@ pub returns-in-Some : goal.returns-in-Some
 returns-in-Some g c =
     let back = last_back c.args.trail.now c.in-Some.field-0.now (sym c.last.ensures.value ∙ ap option_copied c.in-Some.is) in
     let reads = rw c.index.ensures at c.index-in-Some.ensures in
-    comes_below c.requires.whole c.requires.row c.requires.trail back _ reads _ c.strip_n_prefix-rest.ensures
+    comes_below c.requires.whole c.requires.siblings c.requires.trail back _ reads _ c.strip_n_prefix-rest.ensures

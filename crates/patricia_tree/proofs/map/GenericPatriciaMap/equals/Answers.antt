@@ -2,7 +2,7 @@ use Rattle.std.proofs.Common.{length, sym, ap, ◌∙◌, arith}
 use Rattle.std.specs.FinMap as map
 use Rattle.std.specs.FinMap.{len-entries}
 use Rattle.patricia_core.specs.Cursors.{ReadCursorView}
-use Rattle.patricia_tree.specs.Whole.{are_same_rows}
+use Rattle.patricia_tree.specs.Whole.{are_same_entries}
 use Rattle.patricia_tree.proofs.WholeLemmas.{other_len}
 use Rattle.patricia_tree.proofs.map.GenericPatriciaMap.equals.Goals as goal
 
@@ -20,8 +20,8 @@ loop-two-init g c =
     let one = ap (λ (s : ReadCursorView g.row.V.Denot). s.left) c.cursor-one.ensures in
     let two = ap (λ (s : ReadCursorView g.row.V.Denot). s.left) c.cursor-two.ensures in
     record {
-      same = ap (λ rows. are_same_rows g.V.PartialEq.eq rows (map.entries n)) (sym one)
-          ∙ ap (λ rows. are_same_rows g.V.PartialEq.eq c.cursor-one.result.left rows) (sym two);
+      same = ap (λ entries. are_same_entries g.V.PartialEq.eq entries (map.entries n)) (sym one)
+          ∙ ap (λ entries. are_same_entries g.V.PartialEq.eq c.cursor-one.result.left entries) (sym two);
       long = ap length one ∙ sym (len-entries m) ∙ sym c.len.ensures ∙ c.if-len.false ∙ c.len-2.ensures ∙ len-entries n ∙ sym (ap length two);
       some = λ left none. left (one ∙ none);
     }

@@ -13,9 +13,9 @@ returns-then-stands_at g c =
     let left = c.next_entry.new.self.left in
     let start = ap (λ (s : ReadCursorView g.row.V.Denot). s.left) c.cursor_from-cursor.ensures in
     let first = rw start at c.in_ok-next.ensures.entry in
-    let rows = next_after (g.Q.BorrowedBytes.key c.args.key) shows (map.entries c.args.self.now) (entries_sorted c.args.self.now)
+    let entries = next_after (g.Q.BorrowedBytes.key c.args.key) shows (map.entries c.args.self.now) (entries_sorted c.args.self.now)
     left c.in_ok-next.next first (c.stands_at.ensures.there c.if-stands_at.true) in
-    subst (λ rs. IfOk c.next_entry-then-stands_at.result (λ entry. option_map shows entry ≡ slice_get rs 0)) (sym rows)
+    subst (λ rs. IfOk c.next_entry-then-stands_at.result (λ entry. option_map shows entry ≡ slice_get rs 0)) (sym entries)
     (first_given shows left _ c.next_entry-then-stands_at.result c.next_entry-then-stands_at.ensures.entry)
 
 pub returns : goal.returns

@@ -1,5 +1,5 @@
 use Rattle.std.specs.FinMap as map
-use Rattle.patricia_tree.specs.Merges.{MergesRow}
+use Rattle.patricia_tree.specs.Merges.{MergesEntry}
 use Rattle.patricia_tree.proofs.AfterLemmas.{at_error}
 use Rattle.patricia_tree.proofs.FoldLemmas.{folding_on, folding_ends}
 use Rattle.patricia_tree.proofs.MergeLemmas.{merging_stops}
@@ -14,7 +14,7 @@ returns-in_err-merge_entry-clause-stopped g c = at_error _ _
 pub loop-entry-preserved : goal.loop-entry-preserved
 loop-entry-preserved g c = record {
   callable = c.in_ok-merge_entry.ensures.callable;
-  put = folding_on (MergesRow g.F.FnMut) (c.args.f, c.args.self.now) (map.entries c.args.other)
+  put = folding_on (MergesEntry g.F.FnMut) (c.args.f, c.args.self.now) (map.entries c.args.other)
       (c.loop-entry.f, c.loop-entry.self) (c.merge_entry.new.f, c.merge_entry.new.self) c.loop-entry.rest c.next.new.self
       (g.K.Bytes.key c.in_ok-key.key, c.in_ok-key.value) (rw c.in_ok-key.was at c.in-Some.ensures.steps)
       c.in_ok-merge_entry.ensures.merged c.loop-entry.invariant.put;
@@ -23,6 +23,6 @@ loop-entry-preserved g c = record {
 pub returns-clause-merged : goal.returns-clause-merged
 returns-clause-merged g c = (
   c.loop-entry.f,
-  folding_ends (MergesRow g.F.FnMut) (c.args.f, c.args.self.now) (map.entries c.args.other)
+  folding_ends (MergesEntry g.F.FnMut) (c.args.f, c.args.self.now) (map.entries c.args.other)
       (c.loop-entry.f, c.loop-entry.self) c.loop-entry.rest c.in_default.ensures.steps.0 c.loop-entry.invariant.put,
 )

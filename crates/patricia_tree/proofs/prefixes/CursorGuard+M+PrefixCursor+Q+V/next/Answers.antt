@@ -4,8 +4,8 @@ use Rattle.patricia_tree.specs.Internal.Nexts.{IsNext}
 use Rattle.patricia_tree.proofs.CursorLemmas.{match_some}
 use Rattle.patricia_tree.proofs.prefixes.CursorGuard+M+PrefixCursor+Q+V.next.Goals as goal
 
-pub returns-in-Some-clause-row : goal.returns-in-Some-clause-row
-returns-in-Some-clause-row g c =
+pub returns-in-Some-clause-entry : goal.returns-in-Some-clause-entry
+returns-in-Some-clause-entry g c =
     let s = c.args.self.now.at in
     let next = match_some _
     (λ key. IsNext s (g.K.Bytes.key key) × (c.go_on.new.self.at ≡ stepped s))

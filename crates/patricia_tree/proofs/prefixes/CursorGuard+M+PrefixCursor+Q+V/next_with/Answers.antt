@@ -2,7 +2,7 @@ use Rattle.std.proofs.Common.{rules, ◌≡◌, ap, ◌∙◌, sym}
 use Rattle.patricia_model.specs.Cursors.{stepped, last_value, written}
 use Rattle.patricia_tree.specs.Internal.Nexts.{IsNext}
 use Rattle.patricia_tree.proofs.CursorLemmas.{match_some, written_next}
-use Rattle.patricia_tree.proofs.LeftLemmas.{lent_row, none_left}
+use Rattle.patricia_tree.proofs.LeftLemmas.{lent_entry, none_left}
 use Rattle.patricia_tree.proofs.prefixes.CursorGuard+M+PrefixCursor+Q+V.next_with.Goals as goal
 
 pub returns-clause-ok : goal.returns-clause-ok
@@ -28,7 +28,7 @@ returns-clause-left g c =
     let next = match_some _
     (λ key. IsNext s (g.K.Bytes.key key) × (c.go_on.new.self.at ≡ stepped s))
     c.in_ok-key.field-0 c.in-Some.key c.in_ok-key.ensures.ok c.in-Some.is in
-    lent_row s c.go_on.new.self.at (g.K.Bytes.key c.in-Some.key, c.there-value.result.now)
+    lent_entry s c.go_on.new.self.at (g.K.Bytes.key c.in-Some.key, c.there-value.result.now)
     c.f.new.arg3 (next.0.is_next _ (sym (ap last_value next.1) ∙ c.there-value.ensures.value))
     next.1
 

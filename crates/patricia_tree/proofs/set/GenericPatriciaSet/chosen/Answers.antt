@@ -11,6 +11,6 @@ returns-clause-chosen g c =
     let passes : List ℕ → Bool = λ k. cond c.args.wanted (map.contains_key c.args.other.now k) (not (map.contains_key c.args.other.now k)) in
     let left = c.loop-cursor.cursor.left in
     let none = none_left left c.in_ok-advance.field-0 c.if-branch.false c.in_ok-advance.ensures.found in
-    subst (λ rows. insert_all c.loop-cursor.made (filter (λ e. passes e.0) rows) ≡ insert_all map.empty (filter (λ e. passes e.0) (map.entries s))) none
+    subst (λ entries. insert_all c.loop-cursor.made (filter (λ e. passes e.0) entries) ≡ insert_all map.empty (filter (λ e. passes e.0) (map.entries s))) none
     c.loop-cursor.invariant.same
     ∙ retained s passes

@@ -1,5 +1,5 @@
 use Rattle.std.proofs.Common.{None, [], ap}
-use Rattle.patricia_walks.proofs.TrailLemmas.{under_held}
+use Rattle.patricia_walks.proofs.CursorStateLemmas.{under_held}
 use Rattle.patricia_walks.proofs.cursor.Cursor.into_parts.Goals as goal
 
 pub returns-clause-whole : goal.returns-clause-whole

@@ -1,12 +1,12 @@
 use Rattle.std.proofs.Common.{[], ◌∙◌, sym}
 use Rattle.patricia_model.proofs.PrefixLemmas.{under_empty}
 use Rattle.patricia_walks.proofs.HeldTreeLemmas.{made_stands}
-use Rattle.patricia_walks.proofs.TrailLemmas.{made_trail}
+use Rattle.patricia_walks.proofs.CursorStateLemmas.{made_state}
 use Rattle.patricia_walks.proofs.cursor.Cursor.new.Goals as goal
 
 pub invariant_of-result : goal.invariant_of-result
 invariant_of-result g c =
-    made_trail g.K.Bytes.item c.args.parts c.new.result [] c.requires.whole c.requires.tree
+    made_state g.K.Bytes.item c.args.parts c.new.result [] c.requires.whole c.requires.tree
     c.new.ensures.tree c.new.ensures.last c.new.ensures.position
     (c.new.ensures.left ∙ sym (under_empty _))
 

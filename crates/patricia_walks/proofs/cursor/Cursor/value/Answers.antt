@@ -3,11 +3,11 @@ use borrow.Follows.Closed.{read_of}
 use Rattle.std.specs.Option.{ghost_name_of}
 use Rattle.patricia_model.specs.Cursors.{written, last_value}
 use Rattle.patricia_walks.specs.Internal.HeldTrees.{standing, with_held}
-use Rattle.patricia_walks.proofs.LentLemmas.{wrote_last, wrote_trail, read_last}
+use Rattle.patricia_walks.proofs.LentLemmas.{wrote_last, wrote_state, read_last}
 use Rattle.patricia_walks.proofs.cursor.Cursor.value.Goals as goal
 
 pub invariant_of-self-lent : goal.invariant_of-self-lent
-invariant_of-self-lent g c = λ _. ((λ w. wrote_trail _ g.met.K.Bytes.lawful _ [] w c.self.invariant), c.self.invariant)
+invariant_of-self-lent g c = λ _. ((λ w. wrote_state _ g.met.K.Bytes.lawful _ [] w c.self.invariant), c.self.invariant)
 
 pub returns : goal.returns
 returns g c =

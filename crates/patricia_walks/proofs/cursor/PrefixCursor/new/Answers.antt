@@ -1,13 +1,13 @@
 use Rattle.std.proofs.Common.{[], refl, ◌∙◌, sym}
 use mathlib.Core.Bool.{false≢true}
 use Rattle.patricia_model.proofs.PrefixLemmas.{under_empty}
-use Rattle.patricia_walks.proofs.TrailLemmas.{made_trail, made_under}
+use Rattle.patricia_walks.proofs.CursorStateLemmas.{made_state, made_under}
 use Rattle.patricia_walks.proofs.cursor.PrefixCursor.new.Goals as goal
 
 pub invariant_of-result : goal.invariant_of-result
 invariant_of-result g c =
     rw (c.if-is_empty.ensures.0 refl)
-    (made_trail g.Q.Owned.Bytes.item c.args.parts c.new.result [] c.requires.whole
+    (made_state g.Q.Owned.Bytes.item c.args.parts c.new.result [] c.requires.whole
     c.requires.tree c.new.ensures.tree c.new.ensures.last c.new.ensures.position
     (c.new.ensures.left ∙ sym (under_empty _)))
 

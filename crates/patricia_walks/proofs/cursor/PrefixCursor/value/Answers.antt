@@ -3,7 +3,7 @@ use borrow.Follows.Closed.{read_of}
 use Rattle.std.specs.Option.{ghost_name_of}
 use Rattle.patricia_model.specs.Cursors.{written, last_value}
 use Rattle.patricia_walks.specs.Internal.HeldTrees.{standing, with_held}
-use Rattle.patricia_walks.proofs.TrailLemmas.{under_held}
+use Rattle.patricia_walks.proofs.CursorStateLemmas.{under_held}
 use Rattle.patricia_walks.proofs.LentLemmas.{wrote_last, wrote_under, read_last}
 use Rattle.patricia_walks.proofs.cursor.PrefixCursor.value.Goals as goal
 

@@ -1,6 +1,6 @@
 use Rattle.std.proofs.Common.{rules}
 use Rattle.patricia_model.proofs.WalkLemmas.{on_err}
-use Rattle.patricia_walks.specs.Internal.Trails.{StepIsRefused}
+use Rattle.patricia_walks.specs.Internal.CursorStates.{StepIsRefused}
 use Rattle.patricia_walks.proofs.cursor_state.CursorState.advance.Goals as goal
 
 pub returns-in_err-key-clause-refused : goal.returns-in_err-key-clause-refused

@@ -2,7 +2,7 @@ use Rattle.std.proofs.Common.{◌≡◌}
 use Rattle.patricia_model.specs.Internal.WalkStates.{steps_left}
 use Rattle.patricia_walks.specs.Internal.Positions.{IsPosition, state_of}
 use Rattle.patricia_walks.specs.Internal.HeldTrees.{IsSameTree}
-use Rattle.patricia_walks.specs.Internal.Trails.{position_of, left_of}
+use Rattle.patricia_walks.specs.Internal.CursorStates.{position_of, left_of}
 use Rattle.patricia_walks.proofs.cursor_state.CursorState.seek.Given as goal
 
 abbrev pub invariant-loop-id : goal.invariant-loop-id

@@ -1,5 +1,5 @@
 use Rattle.std.proofs.Common.{refl, ap, arith, ◌++◌, ◌∙◌}
-use Rattle.patricia_walks.specs.Internal.Trails.{position_of}
+use Rattle.patricia_walks.specs.Internal.CursorStates.{position_of}
 use Rattle.patricia_walks.proofs.HolderLemmas.{marked}
 use Rattle.patricia_walks.proofs.StartLemmas.{start_within, start_position, start_left}
 use Rattle.patricia_walks.proofs.cursor_state.CursorState.start_at.Goals as goal

@@ -1,13 +1,13 @@
 use Rattle.std.proofs.Common.{refl, ap}
 use Rattle.patricia_model.proofs.WalkLemmas.{left_start}
 use Rattle.patricia_nodes.specs.Internal.Plans.{siblings_of}
-use Rattle.patricia_walks.specs.Internal.Positions.{rows_at}
+use Rattle.patricia_walks.specs.Internal.Positions.{siblings_waiting}
 use Rattle.patricia_walks.proofs.PositionLemmas.{position_start}
 use Rattle.patricia_walks.proofs.into_walk.IntoWalk.new.Goals as goal
 
 pub invariant_of-result : goal.invariant_of-result
 invariant_of-result g c =
-    position_start g.K.Bytes.item c.args.arena _ c.requires.whole c.requires.row refl c.new.ensures.items refl c.new-2.ensures.items
+    position_start g.K.Bytes.item c.args.arena _ c.requires.whole c.requires.siblings refl c.new.ensures.items refl c.new-2.ensures.items
 
 pub returns : goal.returns
 returns g c =
@@ -15,8 +15,8 @@ returns g c =
     (record {
       path = c.new.result.items;
       pending = c.args.pending;
-      row = siblings_of
+      siblings = siblings_of
           c.args.arena;
-      stack = rows_at c.args.arena.nodes.items c.new-2.result.items;
+      stack = siblings_waiting c.args.arena.nodes.items c.new-2.result.items;
     }) c.new.ensures.items
-    (ap (rows_at c.args.arena.nodes.items) c.new-2.ensures.items)
+    (ap (siblings_waiting c.args.arena.nodes.items) c.new-2.ensures.items)

@@ -35,4 +35,4 @@ returns g c =
     (ap length items ∙ length-set _ _ _) (λ i k. ap (λ xs. slice_get xs i) items ∙ get-set_other _ c.args.id i _ k)
     c.as_slice.ensures
     (c.len-front.ensures ∙ c.args.self.now.path.ok.0) c.in_ok-extend_from_slice.ensures.items
-    (put.3 ∙ ap (λ (x : Node g.row.V.Denot). x.value) same) refl c.in_ok-push_row.ensures.items
+    (put.3 ∙ ap (λ (x : Node g.row.V.Denot). x.value) same) refl c.in_ok-push_siblings.ensures.items

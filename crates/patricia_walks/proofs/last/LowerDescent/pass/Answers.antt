@@ -1,7 +1,7 @@
 use Rattle.std.proofs.Common.{refl, sym, ap, ◌∙◌, ◌+◌, length, drop, take}
 use Rattle.std.specs.List.{last_or}
 use Rattle.patricia_model.specs.Siblings.{own, prefixed}
-use Rattle.patricia_walks.specs.Internal.Lowers.{lower_row}
+use Rattle.patricia_walks.specs.Internal.Lowers.{lower_entry}
 use Rattle.patricia_walks.proofs.AlongLemmas.{rest_is}
 use Rattle.patricia_walks.proofs.LowerLemmas.{lower_off, lower_past, lower_down, greater_is, not_greater, before_it}
 use Rattle.patricia_walks.proofs.last.LowerDescent.pass.Goals as goal
@@ -46,5 +46,5 @@ returns-then-starts_with g c =
     (sym order ∙ greater_is c.cmp.result (sym c.ne.ensures ∙ c.if-ne.false))
     (ap (λ l. c.args.self.now.len + length l) c.as_slice-label.ensures) refl
     (λ front. c.put_value.ensures.found key nodes front c.requires.descent.found)
-    (c.put_value.ensures.row key nodes
-    ∙ ap (λ v. last_or (lower_row key nodes c.args.self.now.lower) (prefixed (take (c.args.self.now.len + length c.as_slice-label.result.now) key) (own v))) c.as_ref.ensures.value)
+    (c.put_value.ensures.entry key nodes
+    ∙ ap (λ v. last_or (lower_entry key nodes c.args.self.now.lower) (prefixed (take (c.args.self.now.len + length c.as_slice-label.result.now) key) (own v))) c.as_ref.ensures.value)

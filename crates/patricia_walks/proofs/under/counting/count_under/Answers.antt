@@ -1,7 +1,8 @@
 use Rattle.std.proofs.Common.{refl, arith, take}
 use Rattle.std.proofs.lemmas.List.{length-take-le}
 use Rattle.patricia_nodes.proofs.SeekLemmas.{head_within}
-use Rattle.patricia_walks.proofs.DepthLemmas.{first_node, count_top_within, count_rows, deep_rows}
+use Rattle.patricia_walks.proofs.DepthLemmas.{first_node, count_top_within, count_entries}
+use Rattle.patricia_walks.proofs.DepthLemmas.{deep_siblings}
 use Rattle.patricia_walks.proofs.UnderLemmas.{if_none}
 use Rattle.patricia_walks.proofs.under.counting.count_under.Goals as goal
 
@@ -11,8 +12,8 @@ index-node-requires g c =
     let top = c.in-Some.ensures.some.0.top in
     omega (arith, c.index.ensures, head_within start.arena.now.nodes.items _ _ start.top top.plan refl)
 
-pub count_row-requires : goal.count_row-requires
-count_row-requires g c =
+pub count_siblings-requires : goal.count_siblings-requires
+count_siblings-requires g c =
     let reads = rw c.index.ensures at c.index-node.ensures in
     let start = c.in-Some.start in
     let top = c.in-Some.ensures.some.0.top in
@@ -26,7 +27,7 @@ returns-in_err-below-clause-none g c =
     let first = first_node start.arena.now.nodes.items _ start.top c.index-node.result.now top.plan refl reads in
     let key = g.Q.BorrowedBytes.key start.prefix in
     if_none _
-    (deep_rows start.arena.now.nodes.items start.top c.index-node.result.now first _ g.met.Q.Owned.Bytes.lawful top.canonical
+    (deep_siblings start.arena.now.nodes.items start.top c.index-node.result.now first _ g.met.Q.Owned.Bytes.lawful top.canonical
     (take start.front key) _ (omega (arith, c.in-Some.ensures.label, length-take-le start.front key c.in-Some.ensures.some.0.within))
     _ c.in-Some.ensures.some.1 64 c.in_err-below.ensures.none)
 
@@ -46,6 +47,6 @@ returns-clause-some g c =
     let start = c.in-Some.start in
     let top = c.in-Some.ensures.some.0.top in
     let first = first_node start.arena.now.nodes.items _ start.top c.index-node.result.now top.plan refl reads in
-    count_rows start.arena.now.nodes.items start.top c.index-node.result.now first
+    count_entries start.arena.now.nodes.items start.top c.index-node.result.now first
     (take start.front (g.Q.BorrowedBytes.key start.prefix)) _ c.in-Some.ensures.some.1 _ _
     c.count_value.ensures c.in_ok-below.ensures.some

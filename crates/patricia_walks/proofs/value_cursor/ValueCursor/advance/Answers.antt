@@ -1,7 +1,8 @@
 use Rattle.std.proofs.Common.{[]}
 use Rattle.patricia_walks.proofs.HeldTreeLemmas.{step_found, step_kept, step_left, step_stands}
-use Rattle.patricia_walks.proofs.ValueTrailLemmas.{not_taken_if, step_values, took_if, took_so}
-use Rattle.patricia_walks.proofs.ValueTrailLemmas.{value_leaves}
+use Rattle.patricia_walks.proofs.ValueCursorStateLemmas.{not_taken_if, step_values, took_if}
+use Rattle.patricia_walks.proofs.ValueCursorStateLemmas.{took_so}
+use Rattle.patricia_walks.proofs.ValueCursorStateLemmas.{value_leaves}
 use Rattle.patricia_walks.proofs.value_cursor.ValueCursor.advance.Goals as goal
 
 pub invariant_of-self : goal.invariant_of-self

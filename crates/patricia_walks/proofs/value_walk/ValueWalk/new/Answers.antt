@@ -5,7 +5,7 @@ use Rattle.patricia_walks.proofs.value_walk.ValueWalk.new.Goals as goal
 
 pub invariant_of-result : goal.invariant_of-result
 invariant_of-result g c =
-    stands_at_start g.K.Bytes.item c.args.arena.now _ c.requires.whole c.requires.row refl refl c.new.ensures.items
+    stands_at_start g.K.Bytes.item c.args.arena.now _ c.requires.whole c.requires.siblings refl refl c.new.ensures.items
 
 pub returns : goal.returns
 returns g c =

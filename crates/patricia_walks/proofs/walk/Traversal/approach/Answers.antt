@@ -14,7 +14,7 @@ returns-then-starts_with-clause-step g c =
     c.index-node.result.now c.requires.towards (ap option_copied c.requires.taken) c.requires.next
     reads refl (sym yes ∙ c.if-starts_with.true) c.as_slice-label.result.now c.as_slice-label.ensures _ (c.len-front.ensures ∙ c.args.self.now.path.ok.0)
     c.in_ok-extend_from_slice.ensures.items c.as_ref-self.ensures.value refl
-    c.in_ok-push_row.ensures.items
+    c.in_ok-push_siblings.ensures.items
 
 pub returns-then-eq-clause-over : goal.returns-then-eq-clause-over
 returns-then-eq-clause-over g c =

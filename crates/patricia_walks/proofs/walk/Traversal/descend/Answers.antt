@@ -15,4 +15,4 @@ returns g c =
     (ap option_copied c.requires.taken) c.requires.next reads refl (λ i n. refl)
     c.as_slice.ensures (c.len-front.ensures ∙ c.args.self.now.path.ok.0)
     c.in_ok-extend_from_slice.ensures.items c.as_ref-self.ensures.value refl
-    c.in_ok-push_row.ensures.items
+    c.in_ok-push_siblings.ensures.items

@@ -1,6 +1,6 @@
 use Rattle.std.proofs.Common.{refl, sym, ap, ◌∙◌, arith}
 use Rattle.patricia_walks.specs.Internal.Positions.{lent}
-use Rattle.patricia_walks.specs.Internal.Skips.{rows_ahead}
+use Rattle.patricia_walks.specs.Internal.Skips.{entries_ahead}
 use Rattle.patricia_walks.proofs.SkipLemmas.{towards_start, reached_end, reached_none}
 use Rattle.patricia_walks.proofs.SkipLemmas.{value_towards, value_same, passed_value}
 use Rattle.patricia_walks.proofs.walk.Traversal.skip_to.Goals as goal
@@ -29,7 +29,7 @@ returns-then-not-branch-clause-left g c =
     let p = lent c.loop-self.self in
     let w = c.loop-self.invariant.towards in
     let over = c.in_ok-approach.ensures.over c.if-not-branch.true in
-    ap rows_ahead over.0 ∙ sym over.1
+    ap entries_ahead over.0 ∙ sym over.1
     ∙ value_same g.K.Bytes.item c.args.key.now p w (λ e. absurd (omega (arith, e, c.if-len-key.false, c.len.ensures, c.loop-self.self.path.ok.0)))
     ∙ c.loop-self.invariant.same
 

@@ -2,13 +2,13 @@ use Rattle.std.proofs.Common.{◌≡◌}
 use Rattle.patricia_model.specs.Ranges.{from}
 use Rattle.patricia_model.specs.Internal.WalkStates.{steps_left}
 use Rattle.patricia_walks.specs.Internal.Positions.{lent, state_of}
-use Rattle.patricia_walks.specs.Internal.Skips.{IsTowards, rows_ahead}
+use Rattle.patricia_walks.specs.Internal.Skips.{IsTowards, entries_ahead}
 use Rattle.patricia_walks.proofs.walk.Traversal.skip_to.Given as goal
 
 abbrev pub invariant-loop-self : goal.invariant-loop-self
 invariant-loop-self g l = record {
   towards : IsTowards g.K.Bytes.item l.fn.key (lent l.self);
-  same : from l.fn.key (rows_ahead (lent l.self)) ≡ from l.fn.key (rows_ahead (lent l.initial.self));
+  same : from l.fn.key (entries_ahead (lent l.self)) ≡ from l.fn.key (entries_ahead (lent l.initial.self));
 }
 
 abbrev pub decreases-loop-self : goal.decreases-loop-self

@@ -3,13 +3,13 @@ use Rattle.std.specs.Option.{option_copied}
 use Rattle.patricia_model.proofs.WalkLemmas.{left_start}
 use Rattle.patricia_model.specs.Ranges.{from}
 use Rattle.patricia_nodes.specs.Internal.Plans.{siblings_of}
-use Rattle.patricia_walks.specs.Internal.Positions.{rows_at}
+use Rattle.patricia_walks.specs.Internal.Positions.{siblings_waiting}
 use Rattle.patricia_walks.proofs.PositionLemmas.{position_start}
 use Rattle.patricia_walks.proofs.walk.Walk.starting_at.Goals as goal
 
 pub skip_to-requires-clause-position : goal.skip_to-requires-clause-position
 skip_to-requires-clause-position g c =
-    position_start g.K.Bytes.item c.args.arena.now _ c.requires.whole c.requires.row refl c.new.ensures.items refl c.new-2.ensures.items
+    position_start g.K.Bytes.item c.args.arena.now _ c.requires.whole c.requires.siblings refl c.new.ensures.items refl c.new-2.ensures.items
 
 pub returns : goal.returns
 returns g c =
@@ -18,8 +18,8 @@ returns g c =
     (record {
       path = c.new.result.items;
       pending = option_copied c.args.pending;
-      row =
+      siblings =
           siblings_of c.args.arena.now;
-      stack = rows_at c.args.arena.now.nodes.items c.new-2.result.items;
+      stack = siblings_waiting c.args.arena.now.nodes.items c.new-2.result.items;
     }) c.new.ensures.items
-    (ap (rows_at c.args.arena.now.nodes.items) c.new-2.ensures.items))
+    (ap (siblings_waiting c.args.arena.now.nodes.items) c.new-2.ensures.items))

@@ -19,7 +19,7 @@ returns-then-is_empty-clause-ok g c =
 pub invariant_of-self-in-Ok-None : goal.invariant_of-self-in-Ok-None
 invariant_of-self-in-Ok-None g c = record {
   stored = stored_new g.Q.Owned.Bytes.item g.met.Q.Owned.Bytes.lawful _ _ _ c.args.value _
-      c.self.invariant.stored c.in-Ok-None.ensures.whole c.in-Ok-None.ensures.row
+      c.self.invariant.stored c.in-Ok-None.ensures.whole c.in-Ok-None.ensures.siblings
       c.in-Ok-None.ensures.ok (sym c.in-Ok-None.ensures.old ∙ c.in-Ok-None.field-0-is)
       (omega (arith, c.self.invariant.stored.tree.fits, c.if-self.false));
   passed = rw c.replace-last.ensures.after c.in-Ok-None.ensures.trail;
@@ -28,7 +28,7 @@ invariant_of-self-in-Ok-None g c = record {
 pub invariant_of-self-in-Ok-Some : goal.invariant_of-self-in-Ok-Some
 invariant_of-self-in-Ok-Some g c = record {
   stored = stored_old g.Q.Owned.Bytes.item g.met.Q.Owned.Bytes.lawful _ _ _ c.args.value _
-      c.self.invariant.stored c.in-Ok-Some.ensures.whole c.in-Ok-Some.old c.in-Ok-Some.ensures.row
+      c.self.invariant.stored c.in-Ok-Some.ensures.whole c.in-Ok-Some.old c.in-Ok-Some.ensures.siblings
       c.in-Ok-Some.ensures.ok (sym c.in-Ok-Some.ensures.old ∙ c.in-Ok-Some.field-0-is);
   passed = rw c.replace-last.ensures.after c.in-Ok-Some.ensures.trail;
 }

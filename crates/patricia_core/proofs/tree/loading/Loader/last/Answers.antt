@@ -1,14 +1,14 @@
-use Rattle.patricia_core.proofs.StoreLemmas.{rows_of_parts}
+use Rattle.patricia_core.proofs.StoreLemmas.{entries_of_parts}
 use Rattle.patricia_core.proofs.tree.loading.Loader.last.Goals as goal
 
 pub returns-clause-entry : goal.returns-clause-entry
 returns-clause-entry g c =
-    rw (← rows_of_parts g.Q.Owned.Bytes.item g.met.Q.Owned.Bytes.lawful
+    rw (← entries_of_parts g.Q.Owned.Bytes.item g.met.Q.Owned.Bytes.lawful
     _ _ _ _ c.self.invariant.stored.tree.canonical c.as_ref.ensures.value c.self.view_is)
     c.last.ensures.entry
 
 pub returns-clause-err_only_nonempty : goal.returns-clause-err_only_nonempty
 returns-clause-err_only_nonempty g c =
-    rw (← rows_of_parts g.Q.Owned.Bytes.item g.met.Q.Owned.Bytes.lawful
+    rw (← entries_of_parts g.Q.Owned.Bytes.item g.met.Q.Owned.Bytes.lawful
     _ _ _ _ c.self.invariant.stored.tree.canonical c.as_ref.ensures.value c.self.view_is)
     c.last.ensures.err_only_nonempty

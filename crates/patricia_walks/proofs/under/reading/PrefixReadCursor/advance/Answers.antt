@@ -1,7 +1,7 @@
 use Rattle.std.proofs.Common.{rules, ◌≡◌, ◌≢◌, ◌↔◌, ◌∙◌, ◌+◌, [], None, length, IfOk, IsTrue}
 use Rattle.std.proofs.Common.{sym, subst}
 use Rattle.patricia_model.specs.Cursors.{ReadCursorView}
-use Rattle.patricia_walks.specs.Internal.Starts.{rows_left}
+use Rattle.patricia_walks.specs.Internal.Starts.{entries_to_lend}
 use Rattle.patricia_walks.proofs.UnderLemmas.{not_begun}
 use Rattle.patricia_walks.proofs.under.reading.PrefixReadCursor.advance.Goals as goal
 use Rattle.patricia_walks.proofs.under.reading.PrefixReadCursor.advance.Goals.{in-Some+in-Ok, in_default}
@@ -19,7 +19,7 @@ returns-clause-found g c =
       | in-Some+in-Ok w ↦ search rules
       | in_default w ↦ search rules
     ] in
-    subst (λ rows. IfOk c.advance.result (λ found. IsTrue found ↔ (rows ≢ []))) same
+    subst (λ entries. IfOk c.advance.result (λ found. IsTrue found ↔ (entries ≢ []))) same
     c.advance.ensures.found
 
 pub returns-clause-fewer : goal.returns-clause-fewer
@@ -34,7 +34,7 @@ returns-clause-fewer g c =
     ] in
     let now = c.advance.new.self.left in
     subst (λ start. IfOk c.advance.result (λ found. IsTrue found
-    → length c.args.self.now.left ≡ length (rows_left g.Q.BorrowedBytes.key start now) + 1))
+    → length c.args.self.now.left ≡ length (entries_to_lend g.Q.BorrowedBytes.key start now) + 1))
     (sym begun)
-    (subst (λ rows. IfOk c.advance.result (λ found. IsTrue found → length rows ≡ length now + 1))
+    (subst (λ entries. IfOk c.advance.result (λ found. IsTrue found → length entries ≡ length now + 1))
     same c.advance.ensures.fewer)

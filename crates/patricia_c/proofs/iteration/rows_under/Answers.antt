@@ -1,7 +1,0 @@
-use Rattle.patricia_c.proofs.RowLemmas.{one_more_row}
-use Rattle.patricia_c.proofs.iteration.rows_under.Goals as goal
-
-pub loop-entry-preserved : goal.loop-entry-preserved
-loop-entry-preserved c =
-    let gave = rw c.in_ok-key.was at c.in-Some.ensures.steps in
-    rw c.in_ok-push_back.ensures.items (one_more_row c.loop-entry.left.items _ c.loop-entry.entry-iterator c.next.new.self _ gave c.loop-entry.invariant)

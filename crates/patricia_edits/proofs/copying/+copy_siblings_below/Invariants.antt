@@ -1,0 +1,28 @@
+use Rattle.std.proofs.Common.{◌≡◌, ◌≤◌, ◌-◌, ℕ, Bool, false, [], vec_len}
+use Rattle.std.specs.Vec.{vec_capacity}
+use Rattle.patricia_nodes.specs.Internal.Plans.{Plan, head}
+use Rattle.patricia_nodes.specs.Internal.Growth.{numbered_siblings}
+use Rattle.patricia_nodes.specs.Internal.Relocation.{Laying}
+use Rattle.patricia_nodes.proofs.LayLemmas.{between}
+use Rattle.patricia_edits.proofs.copying.+copy_siblings_below.Given as goal
+
+abbrev pub decreases-copy_siblings_below : goal.decreases-copy_siblings_below
+decreases-copy_siblings_below g l = l.depth
+
+-- of the nodes from the first on, those before this one have their children, with all below them
+abbrev pub invariant-loop-i : goal.invariant-loop-i
+invariant-loop-i g l = record {
+  capacity : vec_capacity l.to ≡ vec_capacity l.fn.to;
+  longer : vec_len l.fn.to ≤ vec_len l.to;
+  within : l.end ≤ vec_len l.to;
+  on : l.start ≤ l.i;
+  level : l.depth ≡ 0 → l.end ≡ vec_len l.to;
+  nonempty : l.fn.to.items ≡ [] → l.to.items ≡ [];
+  laying : (w : Plan g.row.V.Denot) (marks : ℕ → Bool)
+      → Laying w l.from marks l.fn.to.items (head (numbered_siblings 0 w))
+      → ((at : ℕ) → l.start ≤ at → marks at ≡ false)
+      → Laying w l.from (between l.start l.i l.end marks) l.to.items (head (numbered_siblings 0 w));
+}
+
+abbrev pub decreases-loop-i : goal.decreases-loop-i
+decreases-loop-i g l = vec_capacity l.to - l.i

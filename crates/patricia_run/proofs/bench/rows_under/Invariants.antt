@@ -1,9 +1,0 @@
-use Rattle.std.proofs.Common.{◌≡◌, ◌++◌}
-use Rattle.std.specs.FinMap as map
-use Rattle.patricia_tree.specs.Prefixes.{under}
-use Rattle.patricia_tree.specs.Bulk.{by_bytes}
-use Rattle.patricia_run.proofs.bench.rows_under.Given as goal
-
--- the rows so far and those that are left are those under the prefix
-abbrev pub invariant-loop-entry : goal.invariant-loop-entry
-invariant-loop-entry g l = by_bytes g.Q.Owned.Bytes.key l.rows.items ++ l.entry-iterator ≡ under (g.Q.BorrowedBytes.key l.fn.prefix) (map.entries l.entries)
