@@ -1,9 +1,10 @@
 -- What the first bytes and the common bytes of a key and a label tell of their first items.
-use Rattle.std.proofs.Common.{ℕ, ◌<◌, ◌≤◌, ◌≢◌, List, [], length, take, drop, get_or, ap, arith}
+use Rattle.std.proofs.Common.{◌≡◌, ℕ, ◌<◌, ◌≤◌, ◌≢◌, List, [], ◌++◌, length, take, drop, get_or, ap}
+use Rattle.std.proofs.Common.{arith}
 use Rattle.std.proofs.Common.{length-append}
 use Rattle.std.proofs.lemmas.List.{length-take-le, take-append-drop}
 use Rattle.patricia_keys.specs.Keys.{IsKeyKind, IsValid, IsCommon}
-use Rattle.patricia_model.specs.Internal.LabelCmp.{SharesItem}
+use Rattle.patricia_model.specs.Internal.LabelCmp.{SharesItem, Passes}
 use Rattle.patricia_model.specs.Siblings.{IsBefore}
 use Rattle.patricia_keys.proofs.KeyLemmas.{Begins-trans, first_of, first_bytes_decide}
 
@@ -41,4 +42,20 @@ module _ (item : List ℕ → Type 0) where
         is_item = first.1;
         begins_first = Begins-trans first.0 (take n a) a first.2 (drop n a, take-append-drop n a);
         begins_second = Begins-trans first.0 (take n a) b first.2 common.begins;
+      }
+
+  -- a key passes a label that is its first bytes
+  pub passes_taken : (key label : List ℕ) (n : ℕ) → IsValid item label → label ≢ []
+      → label ≡ take n key → Passes item key label (drop n key)
+  passes_taken key label n valid some is =
+      let first = first_of item label valid some in
+      let splits : label ++ drop n key ≡ key = rw is (take-append-drop n key) in
+      record {
+        shares = record {
+          shared = first.0;
+          is_item = first.1;
+          begins_first = Begins-trans first.0 label key first.2 (drop n key, splits);
+          begins_second = first.2;
+        };
+        splits = splits;
       }

@@ -1,38 +1,137 @@
--- The heads of nodes, where nodes are added and changed.
-use Rattle.std.proofs.Common.{◌≡◌, ℕ, zero, suc, ◌+◌, ◌<◌, List, [], ◌∷◌, ◌++◌, length, get_or, set}
-use Rattle.std.proofs.Common.{◌≢◌, ◌-◌, take, refl, sym, ap, ◌∙◌, arith}
-use Rattle.std.specs.Int.{w32, to_le_bytes, from_le_bytes}
-use Rattle.std.proofs.lemmas.Nat.{from_le_bytes-to_le_bytes_4}
+-- The heads of nodes: what their bits say, and where nodes are added and changed.
+use Rattle.std.proofs.Common.{◌≡◌, ℕ, zero, suc, ◌+◌, ◌*◌, ◌<◌, List, [], ◌∷◌, ◌++◌, length, get_or, set}
+use Rattle.std.proofs.Common.{◌≢◌, ◌-◌, take, refl, sym, ap, ◌∙◌, inl, inr, arith}
 use Rattle.std.specs.Global.{Vec}
-use Rattle.std.specs.Prelude.{◌≤◌, Option, Some, None, vec_len, vec_capacity}
+use Rattle.std.specs.Prelude.{◌≤◌, ◌⊎◌, ◌/◌, ◌%◌, Option, Some, None, vec_len, vec_capacity}
 use Rattle.std.proofs.lemmas.Bool.Decides.{nat_tests}
 use Rattle.std.specs.Vec.{with_item}
 use Rattle.patricia_nodes.specs.declared.arena.Node.{Node}
 use Rattle.patricia_nodes.specs.declared.arena.node_vec.Head.{Head}
-use Rattle.patricia_nodes.specs.Internal.Heads.{beside_code, head_of, heads_from, HasHeads}
+use Rattle.patricia_nodes.specs.Internal.Heads.{byte_of, short_len_of, label_bits_of, leaf_bit_of}
+use Rattle.patricia_nodes.specs.Internal.Heads.{apart_bit_of, below_code_of, beside_code_of}
+use Rattle.patricia_nodes.specs.Internal.Heads.{word_of, head_of, heads_from, HasHeads}
 
--- the number that was noted is read again
-pub code_is : (next : ℕ) (s : Option ℕ) → from_le_bytes w32 (to_le_bytes w32 (beside_code next s)) ≡ beside_code next s
-code_is next None = from_le_bytes-to_le_bytes_4 0 (omega arith)
-code_is next (Some k) = from_le_bytes-to_le_bytes_4 (beside_code next (Some k)) (grind (arith, nat_tests))
+-- the bit of a sibling is 0 where the next node is the sibling, and else the highest
+apart_cases : (next : ℕ) (s : Option ℕ)
+    → ((apart_bit_of next s ≡ 0) × (s ≡ Some next)) ⊎ (apart_bit_of next s ≡ 32768)
+apart_cases next None = inr refl
+apart_cases next (Some k) = grind (arith, nat_tests)
+
+-- the bit of a child is 0 where there is one, and else 64
+leaf_cases : (c : Option ℕ) → (leaf_bit_of c ≡ 0) ⊎ (leaf_bit_of c ≡ 64)
+leaf_cases None = inr refl
+leaf_cases (Some k) = inl refl
+
+-- a short length has six bits
+short_small : (l : List ℕ) → short_len_of l < 64
+short_small l = grind (arith, nat_tests)
+
+-- a length below 63 is that of the label
+pub short_exact : (l : List ℕ) (n : ℕ) → n ≡ short_len_of l → n < 63 → length l ≡ n
+short_exact l n e less = grind (arith, nat_tests)
+
+module _ (a l b m : ℕ) (apart : (a ≡ 0) ⊎ (a ≡ 32768)) (leaf : (l ≡ 0) ⊎ (l ≡ 64)) (byte : b < 256)
+    (short : m < 64) where
+  -- what a word of these bits says of each
+  pub byte_in : (a + (l + (128 * b + m))) / 128 % 256 ≡ b
+  byte_in = omega (arith, apart, leaf, byte, short)
+
+  pub short_in : (a + (l + (128 * b + m))) % 64 ≡ m
+  short_in = omega (arith, apart, leaf, byte, short)
+
+  pub front_in : (a + (l + (128 * b + m))) / 128 * 128 ≡ a + 128 * b
+  front_in = omega (arith, apart, leaf, byte, short)
+
+  pub back_in : (a + (l + (128 * b + m))) % 32768 ≡ l + (128 * b + m)
+  back_in = omega (arith, apart, leaf, byte, short)
+
+-- the child that is noted is the child
+pub child_below : (id : ℕ) (c : Option ℕ) (code : ℕ) → below_code_of id c ≡ code → code ≢ 0
+    → code ≢ 65535 → Some (id + code) ≡ c
+child_below id None code e none far = absurd (none (sym e))
+child_below id (Some k) code e none far = ap (λ x. Some x) (grind (arith, nat_tests))
+
+-- where no child is noted, there is none
+pub none_below : (id : ℕ) (c : Option ℕ) → below_code_of id c ≡ 0 → None ≡ c
+none_below id None e = refl
+none_below id (Some k) e = absurd (grind (arith, nat_tests))
 
 -- where no sibling is noted, there is none
-pub none_beside : (next : ℕ) (s : Option ℕ) → beside_code next s ≡ 0 → None ≡ s
+pub none_beside : (next : ℕ) (s : Option ℕ) → beside_code_of next s ≡ 0 → None ≡ s
 none_beside next None e = refl
 none_beside next (Some k) e = absurd (grind (arith, nat_tests))
 
 -- where the next node is noted, it is the sibling
-pub next_beside : (next : ℕ) (s : Option ℕ) → beside_code next s ≡ 1 → Some next ≡ s
+pub next_beside : (next : ℕ) (s : Option ℕ) → beside_code_of next s ≡ 1 → Some next ≡ s
 next_beside next None e = absurd (omega arith)
 next_beside next (Some k) e = ap (λ x. Some x) (grind (arith, nat_tests))
 
 -- where another number is noted, but the greatest, it is that of the sibling
-pub near_beside : (next : ℕ) (s : Option ℕ) (code : ℕ) → beside_code next s ≡ code → code ≢ 0
+pub near_beside : (next : ℕ) (s : Option ℕ) (code : ℕ) → beside_code_of next s ≡ code → code ≢ 0
     → code ≢ 1 → code ≢ 4294967295 → Some (code - 2) ≡ s
 near_beside next None code e none one far = absurd (none (sym e))
 near_beside next (Some k) code e none one far = ap (λ x. Some x) (grind (arith, nat_tests))
 
+-- a head with these parts
+abbrev pub made : ℕ → ℕ → ℕ → Head
+made word below beside = record { word = word; below = below; beside = beside }
+
 module _ {V : Type 0} where
+  module _ (next : ℕ) (n : Node V) where
+    apart : (apart_bit_of next n.sibling ≡ 0) ⊎ (apart_bit_of next n.sibling ≡ 32768)
+    apart = elim (apart_cases next n.sibling) [
+      | inl same ↦ inl same.0
+      | inr other ↦ inr other
+    ]
+
+    -- the first byte that a word notes is that of the label
+    pub word_byte : word_of next n / 128 % 256 ≡ byte_of n.label
+    word_byte = byte_in _ _ (byte_of n.label) (short_len_of n.label) apart (leaf_cases n.child) (omega arith) (short_small n.label)
+
+    -- and so is the length
+    pub word_short : word_of next n % 64 ≡ short_len_of n.label
+    word_short = short_in _ _ (byte_of n.label) (short_len_of n.label) apart (leaf_cases n.child) (omega arith) (short_small n.label)
+
+    -- a word that is less than one of a byte says that the next node is the sibling, and that the
+    -- first byte is less
+    pub word_less : (b : ℕ) → b < 256 → word_of next n < 128 * b
+        → (n.sibling ≡ Some next) × (byte_of n.label < b)
+    word_less b small less =
+        elim (apart_cases next n.sibling) [
+          | inl same ↦ (same.1, omega (arith, less, same.0))
+          | inr other ↦ absurd (omega (arith, less, other, small))
+        ]
+
+    -- another child changes its bit alone
+    pub word_child : (c : Option ℕ) → word_of next (record n { child = c })
+        ≡ word_of next n / 128 * 128 + (leaf_bit_of c + word_of next n % 64)
+    word_child c =
+        let front = front_in _ _ (byte_of n.label) (short_len_of n.label) apart (leaf_cases n.child) (omega arith) (short_small n.label) in
+        let short = word_short in
+        omega (arith, front, short)
+
+    -- another sibling changes the highest bit alone
+    pub word_sibling : (s : Option ℕ) → word_of next (record n { sibling = s })
+        ≡ apart_bit_of next s + word_of next n % 32768
+    word_sibling s =
+        ap (λ k. apart_bit_of next s + k) (sym (back_in _ _ (byte_of n.label) (short_len_of n.label) apart (leaf_cases n.child) (omega arith) (short_small n.label)))
+
+  -- the head of a node with another child
+  pub head_child : (id : ℕ) (n : Node V) (c : Option ℕ) (h : Head) → h ≡ head_of id n
+      → made (h.word / 128 * 128 + (leaf_bit_of c + h.word % 64)) (below_code_of id c) h.beside
+      ≡ head_of id (record n { child = c })
+  head_child id n c h is = rw is
+      (ap (λ w. made w (below_code_of id c) (beside_code_of (id + 1) n.sibling))
+      (sym (word_child (id + 1) n c)))
+
+  -- and with another sibling
+  pub head_sibling : (id : ℕ) (n : Node V) (s : Option ℕ) (h : Head) → h ≡ head_of id n
+      → made (apart_bit_of (id + 1) s + h.word % 32768) h.below (beside_code_of (id + 1) s)
+      ≡ head_of id (record n { sibling = s })
+  head_sibling id n s h is = rw is
+      (ap (λ w. made w (below_code_of id n.child) (beside_code_of (id + 1) s))
+      (sym (word_sibling (id + 1) n s)))
+
   -- there are as many heads as nodes
   pub length-heads : (id : ℕ) (nodes : List (Node V)) → length (heads_from id nodes) ≡ length nodes
   length-heads id [] = refl

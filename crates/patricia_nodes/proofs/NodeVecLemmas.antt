@@ -1,14 +1,16 @@
 -- A vector in which a node is read, written or lent.
-use Rattle.std.proofs.Common.{◌≡◌, ℕ, ◌<◌, List, length, set, Some, get_or, slice_get}
+use Rattle.std.proofs.Common.{◌≡◌, ℕ, ◌+◌, ◌<◌, ◌≤◌, List, length, set, Some, get_or, slice_get}
 use Rattle.std.proofs.Common.{refl, sym, ap, subst, ◌∙◌, inl, inr, arith}
 use native.Mathlib.Nat.{ℕ_set}
 use Rattle.std.specs.Global.{Vec}
 use Rattle.std.specs.Prelude.{vec_len}
 use Rattle.std.specs.Vec.{with_item}
+use Rattle.std.proofs.lemmas.Bool.{cases_lt}
 use Rattle.std.proofs.lemmas.List.{set-get_or}
 use Rattle.std.proofs.lemmas.Option.{slice_get_read, slice_get_cases}
 use Rattle.patricia_nodes.specs.declared.arena.Node.{Node}
-use Rattle.patricia_nodes.specs.Internal.NodeVecs.{Changes, value_in, with_valued}
+use Rattle.patricia_nodes.specs.Internal.Heads.{byte_of}
+use Rattle.patricia_nodes.specs.Internal.NodeVecs.{ReadsNode, IsRun, Changes, value_in, with_valued}
 
 -- a vector with the same items is the same
 pub same_vec : {X : Type 0} (v : Vec X) (xs : List X) → v.items ≡ xs → (ok : v.len ≡ length xs)
@@ -44,6 +46,20 @@ module _ {V : Type 0} where
         | inl there ↦ (there.0, sym there.3)
         | inr past ↦ absurd (omega (arith, past.0))
       ]
+
+  -- a run goes on where the next node is the sibling and the first byte is less
+  pub run_more : (nodes : Vec (Node V)) (b from at : ℕ) → IsRun nodes b from at
+      → ReadsNode nodes at (λ n. (n.sibling ≡ Some (at + 1)) × (byte_of n.label < b))
+      → IsRun nodes b from (at + 1)
+  run_more nodes b from at run more = record {
+    forward = omega (arith, run.forward);
+    passes = λ i behind before. elim (cases_lt i at) [
+      | inl early ↦ run.passes i behind early
+      | inr late ↦
+          let same : at ≡ i = omega (arith, late, before) in
+          rw same at more
+    ];
+  }
 
   module _ (inside nodes : Vec (Node V)) (is : inside ≡ nodes) (id at : ℕ) (same : at ≡ id) where
     -- what is read at a number is the node there

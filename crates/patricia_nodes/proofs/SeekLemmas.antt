@@ -1,6 +1,10 @@
 -- The steps of a walk to the place of a key.
-use Rattle.std.proofs.Common.{◌≡◌, ◌≢◌, ℕ, suc, ◌+◌, ◌<◌, List, [], ◌∷◌, length, get_or, Option}
-use Rattle.std.proofs.Common.{Some, None, refl, sym, ap, subst, ◌∙◌, arith}
+use Rattle.std.proofs.Common.{◌≡◌, ◌≢◌, ℕ, zero, suc, ◌+◌, ◌-◌, ◌<◌, ◌≤◌, List, [], ◌∷◌, length, get_or}
+use Rattle.std.proofs.Common.{Option, Some, None, refl, sym, ap, subst, ◌∙◌, inl, inr, arith}
+use Rattle.std.specs.Prelude.{vec_len}
+use Rattle.std.proofs.lemmas.Bool.{cases_eq}
+use Rattle.std.proofs.lemmas.Bool.Decides.{nat_tests}
+use Rattle.std.proofs.lemmas.List.Elements.{All-get_or}
 use Rattle.std.proofs.lemmas.Option.{slice_get_within}
 use Rattle.std.specs.Prelude.{reverse}
 use Rattle.std.specs.FinMap.{find}
@@ -11,21 +15,27 @@ use Rattle.patricia_nodes.specs.declared.arena.seek.SeekResult.{SeekResult}
 use Rattle.patricia_nodes.specs.declared.arena.seek.LinkRef.TheVariants.{Root, Child, Sibling}
 use Rattle.patricia_nodes.specs.declared.arena.seek.Match.{Match}
 use Rattle.patricia_nodes.specs.declared.arena.seek.Match.TheVariants.{Absent, InsideLabel, Exact}
-use Rattle.patricia_keys.specs.Keys.{IsKeyKind, key_cmp}
+use Rattle.patricia_keys.specs.Keys.{IsKeyKind, IsValid, key_cmp}
+use Rattle.patricia_keys.proofs.KeyLemmas.{valid_bytes}
 use Rattle.patricia_model.specs.Siblings.{end, node, entries, IsBefore, IsCanonical}
 use Rattle.patricia_model.specs.Internal.LabelCmp.{Passes}
 use Rattle.patricia_model.specs.Internal.Counts.{IsCounted}
 use Rattle.patricia_nodes.specs.Internal.Plans.{Plan, Nil, Cell, head, siblings_in, size, IsPlan}
 use Rattle.patricia_nodes.specs.Internal.Plans.{IsWellFormed, plan_at, siblings_of}
 use Rattle.patricia_nodes.specs.Internal.Places.{Frame, InChild, InSibling, fill, above_of}
-use Rattle.patricia_nodes.specs.Internal.Places.{link_ref_of, node_above, node_of, Leads, Matches}
+use Rattle.patricia_nodes.specs.Internal.Places.{link_ref_of, node_above, ref_behind, node_of}
+use Rattle.patricia_nodes.specs.Internal.Places.{Leads, Matches}
 use Rattle.patricia_nodes.specs.Internal.Places.{MatchesAt, Placed, IsSeekResult}
+use Rattle.patricia_nodes.specs.Internal.Heads.{byte_of}
+use Rattle.patricia_nodes.specs.Internal.NodeVecs.{IsRun}
 use Rattle.patricia_nodes.specs.Internal.Trails.{AreAbove, PlacedBehind}
 use Rattle.patricia_nodes.specs.Internal.Writes.{Ready}
-use Rattle.patricia_nodes.proofs.TrailLemmas.{above_deeper}
+use Rattle.patricia_nodes.proofs.NodeVecLemmas.{node_there}
+use Rattle.patricia_nodes.proofs.TrailLemmas.{above_deeper, filled_length}
 use Rattle.patricia_nodes.proofs.PlanLemmas.{plan_is, plan_read, node_is}
 use Rattle.patricia_nodes.proofs.FillLemmas.{plan_within, siblings-within, find-fill, counted-fill}
 use Rattle.patricia_model.proofs.GetLemmas.{find_before, find_within, find_here}
+use Rattle.patricia_model.proofs.MeetingLemmas.{before_by_first_byte}
 use Rattle.patricia_model.proofs.CountLemmas.{counted_end, counted_before, counted_within}
 use Rattle.patricia_model.proofs.CountLemmas.{counted_here}
 
@@ -295,6 +305,92 @@ module _ {item : List ℕ → Type 0} (kind : IsKeyKind item) {V : Type 0} {s : 
         -- and so has the child
         pub less_down : size (plan_at s.nodes.items n.child) < size (plan_at s.nodes.items at)
         less_down = omega (arith, measure, ap size (plan_is s.nodes.items n.child opens.child opens.child_plan))
+
+-- a label's first byte is a byte
+pub byte_is : (item : List ℕ → Type 0) (kind : IsKeyKind item) (l : List ℕ) → IsValid item l → l ≢ []
+    → byte_of l ≡ get_or l 0 0
+byte_is item kind l valid some =
+    let long : 0 < length l = filled_length l some in
+    let small = All-get_or (λ b. b < 256) l 0 0 long (valid_bytes item kind l valid) in
+    omega (arith, small)
+
+-- at the first of siblings the link is that to it, and further on it stands in the one before
+ref_here : (link_ref : LinkRef) (at : ℕ) → ref_behind link_ref at at ≡ link_ref
+ref_here link_ref at = grind (arith, nat_tests)
+
+ref_past : (link_ref : LinkRef) (from last : ℕ) → from ≤ last
+    → ref_behind link_ref from (last + 1) ≡ Sibling last (node_above link_ref)
+ref_past link_ref from last less = grind (arith, nat_tests)
+
+-- the link to a sibling further on is that from the first, or from the second
+behind_second : (link_ref : LinkRef) (from last : ℕ) → from ≤ last
+    → ref_behind (Sibling from (node_above link_ref)) (from + 1) (last + 1)
+    ≡ ref_behind link_ref from (last + 1)
+behind_second link_ref from last less = elim (cases_eq from last) [
+  | inl same ↦ subst (λ t. ref_behind (Sibling from (node_above link_ref)) (from + 1) (t + 1) ≡ ref_behind link_ref from (t + 1)) same
+      (ref_here (Sibling from (node_above link_ref)) (from + 1)
+      ∙ sym (ref_past link_ref from from (omega arith)))
+  | inr other ↦ ref_past (Sibling from (node_above link_ref)) (from + 1) last (omega (arith, less, other))
+      ∙ sym (ref_past link_ref from last less)
+]
+
+-- a walk has passed siblings that lie behind one another, and is at a later one
+pub record WalksPast (item : List ℕ → Type 0) {V : Type 0} (s : NodeArena V) (key : List ℕ)
+    (link_ref : LinkRef) (from to : ℕ) (rest : List ℕ) (trail : List (ℕ × ℕ)) (start now : ℕ)
+    : Type 0 where
+  pub walks : Walks item s key (ref_behind link_ref from to) (Some to) rest trail start now
+  pub fewer : size (plan_at s.nodes.items (Some to)) ≤ size (plan_at s.nodes.items (Some from))
+
+module _ {item : List ℕ → Type 0} (kind : IsKeyKind item) {V : Type 0} {s : NodeArena V}
+    {key : List ℕ} (whole : IsWellFormed s) (ok : IsCanonical item (siblings_of s)) {rest : List ℕ}
+    (valid : IsValid item rest) {trail : List (ℕ × ℕ)} {start : ℕ} where
+  -- past a run of nodes, all of which come before the key, the walk is at its end
+  walks_run : (k from to : ℕ) (link_ref : LinkRef) (now : ℕ) → to ≡ from + k
+      → Walks item s key link_ref (Some from) rest trail start now
+      → IsRun s.nodes (get_or rest 0 0) from to
+      → WalksPast item s key link_ref from to rest trail start (now + k)
+  walks_run zero from to link_ref now e w run =
+      let same : from ≡ to = omega (arith, e) in
+      let same_now : now ≡ now + 0 = omega arith in
+      subst (λ t. WalksPast item s key link_ref from t rest trail start (now + 0)) same
+      (subst (λ m. WalksPast item s key link_ref from from rest trail start m) same_now
+      (record { walks = rw (ref_here link_ref from) w; fewer = omega arith }))
+  walks_run (suc k) from to link_ref now e w run =
+      let there = node_there s.nodes.items from (in_nodes kind whole ok w refl) in
+      let n = there.0 in
+      let o = opens_siblings kind whole ok w refl there.1 in
+      let passes = run.passes from (omega arith) (omega (arith, e)) n there.1 in
+      let less : get_or n.label 0 0 < get_or rest 0 0 = rw (byte_is item kind n.label o.valid o.nonempty) at passes.1 in
+      let before = before_by_first_byte item kind n.label rest o.valid valid o.nonempty w.rest_nonempty less in
+      let next = walks_next kind whole ok w refl there.1 (now + 1) refl (node_above link_ref) refl before in
+      let further = walks_run k (from + 1) to (Sibling from (node_above link_ref)) (now + 1) (omega (arith, e))
+      (subst (λ a. Walks item s key (Sibling from (node_above link_ref)) a rest trail start (now + 1)) passes.0 next)
+      (record { forward = omega (arith, e); passes = λ i behind before. run.passes i (omega (arith, behind)) before }) in
+      let fewer = less_next kind whole ok w refl there.1 in
+      let end : to ≡ from + k + 1 = omega (arith, e) in
+      let count : now + 1 + k ≡ now + suc k = omega arith in
+      record {
+        walks = subst (λ r. Walks item s key r (Some to) rest trail start (now + suc k)) (rw end (behind_second link_ref from (from + k) (omega arith)))
+            (subst (λ m. Walks item s key (ref_behind (Sibling from (node_above link_ref)) (from + 1) to) (Some to) rest trail start m) count further.walks);
+        fewer = omega (arith, rw passes.0 at fewer, further.fewer);
+      }
+
+  module _ {link_ref : LinkRef} {at : Option ℕ} {from now : ℕ} (w : Walks item s key link_ref at rest trail start now) (is : at ≡ Some from) (to : ℕ) (run : IsRun s.nodes (get_or rest 0 0) from to) where
+    past : WalksPast item s key link_ref from to rest trail start (now + (to - from))
+    past = walks_run (to - from) from to link_ref now (omega (arith, run.forward))
+        (subst (λ a. Walks item s key link_ref a rest trail start now) is w) run
+
+    -- the walk at the end of the run
+    pub walks_past : Walks item s key (ref_behind link_ref from to) (Some to) rest trail start (now + (to - from))
+    walks_past = past.walks
+
+    -- where no more nodes are left than before it
+    pub fewer_past : size (plan_at s.nodes.items (Some to)) ≤ size (plan_at s.nodes.items at)
+    fewer_past = rw is past.fewer
+
+    -- so it ends in the vector
+    pub run_within : to < vec_len s.nodes
+    run_within = rw s.nodes.ok.0 (in_nodes kind whole ok walks_past refl)
 
 module _ (item : List ℕ → Type 0) (rest : List ℕ) where
   -- a node at which a look-up ends begins what is in the place

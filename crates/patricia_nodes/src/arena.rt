@@ -29,12 +29,13 @@ pub struct Refused<V> {
 }
 
 /// A node with its whole label. In a free node only `sibling` counts.
+// The label and the value come first: for most values they lie in one line of the cache.
 #[derive(Drop)]
 pub struct Node<V> {
-    pub child: Link,
-    pub sibling: Link,
     pub label: Label,
     pub value: Option<V>,
+    pub child: Link,
+    pub sibling: Link,
 }
 
 /// Nodes, the first of the top siblings, and the first of those that are free for use.

@@ -51,6 +51,13 @@ impl<L: Ledger> Steps<L> {
     pub fn tick(&mut self)
         ensures { self.new ≡ self.old + 1 }
     {
-        self.book.add(&mut self.share, 1);
+        self.add(1);
+    }
+
+    /// Adds this many steps.
+    pub fn add(&mut self, n: usize)
+        ensures { self.new ≡ self.old + n }
+    {
+        self.book.add(&mut self.share, n as u64);
     }
 }

@@ -21,10 +21,11 @@ use Rattle.patricia_model.proofs.PrefixLemmas.{begins_is, begins_other, along-ap
 use Rattle.patricia_model.proofs.PrefixLemmas.{along_down, along_past, along_stop}
 use Rattle.patricia_nodes.specs.declared.arena.Node.{Node}
 use Rattle.patricia_nodes.specs.declared.arena.NodeArena.{NodeArena}
+use Rattle.patricia_nodes.specs.Internal.Heads.{byte_of}
 use Rattle.patricia_nodes.specs.Internal.Plans.{Nil, siblings_in, plan_at, IsPlan, IsWellFormed}
 use Rattle.patricia_nodes.specs.Internal.Plans.{siblings_of as slots_siblings}
 use Rattle.patricia_nodes.proofs.PlanLemmas.{plan_is}
-use Rattle.patricia_nodes.proofs.SeekLemmas.{head_within, opened, whole_plan}
+use Rattle.patricia_nodes.proofs.SeekLemmas.{head_within, opened, whole_plan, byte_is}
 use Rattle.patricia_walks.specs.Internal.Positions.{siblings_at}
 use Rattle.patricia_walks.proofs.PositionLemmas.{siblings_none}
 use Rattle.patricia_walks.specs.declared.along.Descent.{Descent}
@@ -187,19 +188,21 @@ module _ (item : List ℕ → Type 0) (kind : IsKeyKind item) {V : Type 0} (k : 
 
   -- a key without a byte more, or with the lesser one, ends the walk
   pub stops_before :
-      (drop d.len k ≢ [] → get_or (drop d.len k) 0 0 < get_or n.label 0 0) → e.len ≡ d.len
+      (drop d.len k ≢ [] → get_or (drop d.len k) 0 0 < byte_of n.label) → e.len ≡ d.len
       → e.pending ≡ d.pending → e.next ≡ None → Moves item k d e
   stops_before less =
+      let byte = byte_is item kind n.label node_siblings.valid labelled in
       moves_off
-      (begins_otherwise n.label (drop d.len k) labelled (λ some same. omega (arith, less some, same)))
-      (less_first (drop d.len k) n.label labelled less)
+      (begins_otherwise n.label (drop d.len k) labelled (λ some same. omega (arith, less some, same, byte)))
+      (less_first (drop d.len k) n.label labelled (λ some. rw byte at less some))
 
   -- past a label with the lesser first byte the walk is at the sibling
-  pub passes_by : get_or n.label 0 0 < get_or (drop d.len k) 0 0 → e.len ≡ d.len
+  pub passes_by : byte_of n.label < get_or (drop d.len k) 0 0 → e.len ≡ d.len
       → e.pending ≡ d.pending → e.next ≡ n.sibling → Moves item k d e
   passes_by more =
+      let byte = byte_is item kind n.label node_siblings.valid labelled in
       moves_past
-      (begins_otherwise n.label (drop d.len k) labelled (λ some same. omega (arith, more, same)))
+      (begins_otherwise n.label (drop d.len k) labelled (λ some same. omega (arith, more, same, byte)))
 
 -- the node of a walk is in the vector
 pub descent_within : (item : List ℕ → Type 0) {V : Type 0} (k : List ℕ) (d : Descent V) (id : ℕ)

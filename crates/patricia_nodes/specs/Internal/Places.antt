@@ -1,6 +1,6 @@
 -- The place of a key among nodes in one vector: a zipper, with the frames on the way down and what
 -- is in the hole.
-use Rattle.std.specs.Prelude.{◌≡◌, ◌≢◌, ℕ, ◌+◌, suc, List, [], ◌∷◌, length, Option, Some, None}
+use Rattle.std.specs.Prelude.{◌≡◌, ◌≢◌, ℕ, ◌+◌, ◌-◌, suc, List, [], ◌∷◌, length, Option, Some, None}
 use Rattle.std.specs.Prelude.{nat_eq, if◌then◌else◌}
 use Rattle.patricia_nodes.specs.declared.arena.NodeArena.{NodeArena}
 use Rattle.patricia_nodes.specs.declared.arena.seek.SeekResult.{SeekResult}
@@ -55,6 +55,11 @@ abbrev pub node_above : LinkRef → Option ℕ
 node_above Root = None
 node_above (Child id) = Some id
 node_above (Sibling id above) = above
+
+-- the link to one of the siblings that lie behind one another, where this is that to the first
+abbrev pub ref_behind : LinkRef → ℕ → ℕ → LinkRef
+ref_behind link_ref first id =
+    if nat_eq first id then link_ref else Sibling (id - 1) (node_above link_ref)
 
 -- the node at which a look-up ends
 abbrev pub node_of : Match → Option ℕ

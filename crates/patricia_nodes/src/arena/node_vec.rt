@@ -1,17 +1,18 @@
-//! Nodes in a vector, and beside them five bytes for each, which are all that a look-up reads of
+//! Nodes in a vector, and beside them eight bytes for each, which are all that a look-up reads of
 //! most nodes that it passes.
 ghost use Rattle.std.specs.Prelude.{◌≡◌, ◌≢◌, ◌+◌, ◌<◌, ◌≤◌, ◌++◌, [], ◌∷◌, IfOk, IsOk, OnOk};
-ghost use Rattle.std.specs.Prelude.{take, length, slice_index_or, slice_get};
+ghost use Rattle.std.specs.Prelude.{ℕ, take, length, slice_index_or, slice_get};
 ghost use Rattle.std.specs.Prelude.{vec_len, vec_capacity};
-ghost use Rattle.std.specs.Int.{w32, from_le_bytes};
 ghost use Rattle.std.specs.Borrow.{sem};
-ghost use Rattle.std.specs.Option.{option_copied_mut};
+ghost use Rattle.std.specs.Option.{option_copied, option_copied_mut};
 ghost use Rattle.std.specs.Vec.{with_item};
-ghost use Rattle.patricia_nodes.specs.Internal.Heads.{beside_of, head_of, heads_from};
+ghost use Rattle.patricia_nodes.specs.Internal.Heads.{byte_of, short_len_of, label_bits_of};
+ghost use Rattle.patricia_nodes.specs.Internal.Heads.{leaf_bit_of, apart_bit_of, below_code_of};
+ghost use Rattle.patricia_nodes.specs.Internal.Heads.{beside_code_of, head_of, heads_from};
 ghost use Rattle.patricia_nodes.specs.Internal.Permutations.{AreInverse};
 ghost use Rattle.patricia_nodes.specs.Internal.Renumbering.{moved, Renumbers, Rearranges};
 ghost use Rattle.patricia_nodes.specs.Internal.NodeVecs.{ReadsNode, Changes, Trades, value_in};
-ghost use Rattle.patricia_nodes.specs.Internal.NodeVecs.{lends_value_at};
+ghost use Rattle.patricia_nodes.specs.Internal.NodeVecs.{IsRun, lends_value_at};
 
 use crate::arena::Node;
 use crate::arena::permute::permute;
@@ -22,22 +23,35 @@ use std::marker::Model;
 use std::mem;
 use std::ops::Index;
 
-// Where the sibling of a node stands, in four bytes: 0 for none, 1 for the next node of the vector,
-// a number below `FAR` is 2 more than that of the node, and `FAR` says that the number is in the
-// node.
-#[derive(Clone, Copy)]
-struct Beside([u8; 4]);
-
-const FAR: u32 = u32::MAX;
-
-// What a look-up reads of a node first: the first byte of its label, and where its sibling stands.
+// What a look-up reads of a node first. From its highest bit on, `word` has a bit that says that the
+// sibling is not the next node of the vector, the first byte of the label, a bit for a node without
+// children, and in six bits the length of the label, `LONG` where it is no less. So `word` is less
+// than `FIRST * b` where the sibling is the next node and the first byte is less than b.
+//
+// `below` is how far behind the node its first child stands: 0 for none, and `FAR_BELOW` says that
+// the number is in the node. `beside` is 0 for no sibling, 1 for the next node of the vector, a
+// number below `FAR_BESIDE` is 2 more than that of the node, and `FAR_BESIDE` says that the number
+// is in the node.
 #[derive(Clone, Copy)]
 struct Head {
-    first: u8,
-    beside: Beside,
+    word: u16,
+    below: u16,
+    beside: u32,
 }
 
-const _: () = prove!(mem::size_of::<Head>() == 5);
+const APART: u16 = 32768;
+
+const FIRST: u16 = 128;
+
+const LEAF: u16 = 64;
+
+const LONG: usize = 63;
+
+const FAR_BELOW: u16 = u16::MAX;
+
+const FAR_BESIDE: u32 = u32::MAX;
+
+const _: () = prove!(mem::size_of::<Head>() == 8);
 
 /// The nodes of a tree, which contracts see as a vector of nodes.
 #[derive(Drop)]
@@ -59,33 +73,61 @@ impl<V> Model for NodeVec<V> {
     ghost invariant = { λ v. HasHeads v.nodes v.heads };
 }
 
-// The first byte of a label, 0 where there is none.
-fn first_byte(label: &Label) -> u8
-    ensures { result ≡ slice_index_or label.now 0 0 }
+// The bits of a label: its first byte, 0 where there is none, and its length.
+fn label_bits(label: &Label) -> u16
+    ensures value { result ≡ label_bits_of label.now }
+    ensures small { result < APART }
 {
     let bytes = label.as_slice();
-    if bytes.is_empty() { 0 } else { bytes[0] }
+    let first = if bytes.is_empty() { 0 } else { bytes[0] };
+    let len = if bytes.len() < LONG {
+        bytes.len()
+    } else {
+        LONG
+    };
+    FIRST * first as u16 + len as u16
 }
 
-impl Beside {
-    // Where this sibling stands of a node before this number.
-    fn new(next: usize, sibling: Link) -> Beside
-        ensures { result ≡ beside_of next sibling }
-    {
-        let code = match sibling.get() {
-            None => 0,
-            Some(id) if id.index() == next => 1,
-            Some(id) if id.index() < FAR as usize - 2 => id.index() as u32 + 2,
-            Some(_) => FAR,
-        };
-        Beside(code.to_le_bytes())
-    }
+// The bit of a node without this child.
+fn leaf_bit(child: Link) -> u16
+    ensures { result ≡ leaf_bit_of child }
+{
+    if child.get().is_none() { LEAF } else { 0 }
+}
 
-    // Where it stands, as a number.
-    fn code(self) -> u32
-        ensures { result ≡ from_le_bytes w32 self.0 }
-    {
-        u32::from_le_bytes(self.0)
+// The bit of a node before this number, whose sibling may be there.
+fn apart_bit(next: usize, sibling: Link) -> u16
+    ensures { result ≡ apart_bit_of next sibling }
+{
+    match sibling.get() {
+        Some(id) if id.index() == next => 0,
+        _ => APART,
+    }
+}
+
+// How far behind the node with this number its child stands.
+fn below_code(id: usize, child: Link) -> u16
+    ensures { result ≡ below_code_of id child }
+{
+    let Some(child) = child.get() else {
+        return 0;
+    };
+    if id < child.index() && child.index() - id < FAR_BELOW as usize {
+        (child.index() - id) as u16
+    } else {
+        FAR_BELOW
+    }
+}
+
+// Where this sibling stands of a node before this number.
+fn beside_code(next: usize, sibling: Link) -> u32
+    ensures { result ≡ beside_code_of next sibling }
+{
+    match sibling.get() {
+        None => 0,
+        Some(id) if id.index() == next => 1,
+        Some(id) if id.index() < FAR_BESIDE as usize - 2 => id.index() as u32 + 2,
+        Some(_) => FAR_BESIDE,
     }
 }
 
@@ -94,9 +136,11 @@ fn head_of_node<V>(id: usize, node: &Node<V>) -> Head
     requires { id < 18446744073709551615 }
     ensures { result ≡ head_of id node.now }
 {
+    let bits = leaf_bit(node.child) + label_bits(&node.label);
     Head {
-        first: first_byte(&node.label),
-        beside: Beside::new(id + 1, node.sibling),
+        word: apart_bit(id + 1, node.sibling) + bits,
+        below: below_code(id, node.child),
+        beside: beside_code(id + 1, node.sibling),
     }
 }
 
@@ -173,12 +217,49 @@ impl<V> NodeVec<V> {
         self.nodes.as_slice()
     }
 
+    /// The label of a node.
+    pub fn label(&self, id: NodeId) -> &[u8]
+        requires { id < vec_len self.now }
+        ensures { ReadsNode self.now id (λ n. result.now ≡ n.label) }
+    {
+        self.nodes[id.index()].label.as_slice()
+    }
+
+    /// The value of a node, where there is one.
+    pub fn value(&self, id: NodeId) -> Option<&V>
+        requires { id < vec_len self.now }
+        ensures { ReadsNode self.now id (λ n. option_copied result ≡ n.value) }
+    {
+        self.nodes[id.index()].value.as_ref()
+    }
+
     /// The first byte of a node's label, 0 where there is none. Does not read the node.
     pub fn first_byte(&self, id: NodeId) -> u8
         requires { id < vec_len self.now }
-        ensures { ReadsNode self.now id (λ n. result ≡ slice_index_or n.label 0 0) }
+        ensures { ReadsNode self.now id (λ n. result ≡ byte_of n.label) }
     {
-        self.heads[id.index()].first
+        (self.heads[id.index()].word / FIRST % 256) as u8
+    }
+
+    /// The length of a node's label, in bytes, or 63 where it is no less. Does not read the node.
+    pub fn short_len(&self, id: NodeId) -> usize
+        requires { id < vec_len self.now }
+        ensures { ReadsNode self.now id (λ n. result ≡ short_len_of n.label) }
+    {
+        (self.heads[id.index()].word % LEAF) as usize
+    }
+
+    /// The first child of a node. Does not read the node, but where the child stands before it, or
+    /// 65,535 nodes or more behind it.
+    pub fn child(&self, id: NodeId) -> Link
+        requires { id < vec_len self.now }
+        ensures { ReadsNode self.now id (λ n. result ≡ n.child) }
+    {
+        match self.heads[id.index()].below {
+            0 => Link::none(),
+            FAR_BELOW => self.nodes[id.index()].child,
+            distance => Link::some(NodeId::new(id.index() + distance as usize)),
+        }
     }
 
     /// The sibling of a node. Does not read the node, but where its sibling is one of the nodes
@@ -187,12 +268,25 @@ impl<V> NodeVec<V> {
         requires { id < vec_len self.now }
         ensures { ReadsNode self.now id (λ n. result ≡ n.sibling) }
     {
-        match self.heads[id.index()].beside.code() {
+        match self.heads[id.index()].beside {
             0 => Link::none(),
             1 => Link::some(NodeId::new(id.index() + 1)),
-            FAR => self.nodes[id.index()].sibling,
+            FAR_BESIDE => self.nodes[id.index()].sibling,
             code => Link::some(NodeId::new(code as usize - 2)),
         }
+    }
+
+    /// The first node from this one on, along siblings of which each is the next node of the
+    /// vector, whose first byte is not less than `b`, or the last of them. Reads no node.
+    pub fn run(&self, id: NodeId, b: u8) -> NodeId
+        requires within { (to : ℕ) → IsRun self.now b id to → to < vec_len self.now }
+        ensures { IsRun self.now b id result }
+    {
+        let mut at = id.index();
+        while self.heads[at].word < FIRST * b as u16 {
+            at += 1;
+        }
+        NodeId::new(at)
     }
 
     /// Adds a node behind the last. Does not allocate.
@@ -211,6 +305,9 @@ impl<V> NodeVec<V> {
         requires { id < vec_len self.old }
         ensures { Changes self.old self.new id (λ n. record n { child = to }) }
     {
+        let head = &mut self.heads[id.index()];
+        head.word = head.word / FIRST * FIRST + (leaf_bit(to) + head.word % LEAF);
+        head.below = below_code(id.index(), to);
         self.nodes[id.index()].child = to;
     }
 
@@ -219,7 +316,9 @@ impl<V> NodeVec<V> {
         requires { id < vec_len self.old }
         ensures { Changes self.old self.new id (λ n. record n { sibling = to }) }
     {
-        self.heads[id.index()].beside = Beside::new(id.index() + 1, to);
+        let head = &mut self.heads[id.index()];
+        head.word = apart_bit(id.index() + 1, to) + head.word % APART;
+        head.beside = beside_code(id.index() + 1, to);
         self.nodes[id.index()].sibling = to;
     }
 
@@ -245,11 +344,12 @@ impl<V> NodeVec<V> {
         ensures { Trades self.old self.new id
             (λ n. record n { label = label; child = child; value = value }) result }
     {
-        self.heads[id.index()].first = first_byte(&label);
         let node = &mut self.nodes[id.index()];
         node.label = label;
         node.child = child;
-        mem::replace(&mut node.value, value)
+        let old = mem::replace(&mut node.value, value);
+        self.heads[id.index()] = head_of_node(id.index(), node);
+        old
     }
 
     /// Keeps the first `n` bytes of a node's label, or all where there are fewer, puts another
@@ -261,8 +361,9 @@ impl<V> NodeVec<V> {
     {
         let node = &mut self.nodes[id.index()];
         node.label.truncate(n);
-        self.heads[id.index()].first = first_byte(&node.label);
-        mem::replace(&mut node.value, value)
+        let old = mem::replace(&mut node.value, value);
+        self.heads[id.index()] = head_of_node(id.index(), node);
+        old
     }
 
     /// Takes the value out of a node, and leaves it without children.
@@ -273,7 +374,9 @@ impl<V> NodeVec<V> {
     {
         let node = &mut self.nodes[id.index()];
         node.child = Link::none();
-        node.value.take()
+        let old = node.value.take();
+        self.heads[id.index()] = head_of_node(id.index(), node);
+        old
     }
 
     /// Puts another value to a node, or none, and returns the one that was there.

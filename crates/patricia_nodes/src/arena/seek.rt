@@ -1,15 +1,17 @@
 //! The place of a key among the nodes.
-ghost use Rattle.std.specs.Prelude.{◌≡◌, ◌≢◌, ◌<◌, [], vec_len};
+ghost use Rattle.std.specs.Prelude.{◌≡◌, ◌≢◌, ◌<◌, ◌≤◌, [], vec_len, length, take, IfSome};
+ghost use Rattle.std.specs.Prelude.{slice_index_or};
 ghost use Rattle.std.specs.Option.{option_copied};
 ghost use Rattle.std.specs.FinMap.{find};
 ghost use Rattle.patricia_keys.specs.Keys.{key_cmp, IsValid};
 ghost use Rattle.patricia_model.specs.Siblings.{IsCanonical};
 ghost use Rattle.patricia_model.specs.Internal.Counts.{IsCounted};
 ghost use Rattle.patricia_model.specs.Internal.LabelCmp.{ComparesLabel};
+ghost use Rattle.patricia_nodes.specs.Internal.Heads.{byte_of};
 ghost use Rattle.patricia_nodes.specs.Internal.NodeVecs.{ReadsNode};
 ghost use Rattle.patricia_nodes.specs.Internal.Plans.{IsWellFormed, siblings_of, entries_of};
 ghost use Rattle.patricia_nodes.specs.Internal.Places.{IsSeekResult, node_of, node_under};
-ghost use Rattle.patricia_nodes.specs.Internal.Places.{node_above};
+ghost use Rattle.patricia_nodes.specs.Internal.Places.{node_above, ref_behind};
 
 mod trail;
 
@@ -39,6 +41,18 @@ impl LinkRef {
             LinkRef::Root => None,
             LinkRef::Child(id) => Some(id),
             LinkRef::Sibling(_, above) => above,
+        }
+    }
+
+    // The link to one of the siblings that lie behind one another, where this is that to the first.
+    fn behind(self, first: NodeId, id: NodeId) -> LinkRef
+        requires { first ≤ id }
+        ensures { result ≡ ref_behind self first id }
+    {
+        if first.index() == id.index() {
+            self
+        } else {
+            LinkRef::Sibling(NodeId::new(id.index() - 1), self.above())
         }
     }
 }
@@ -104,6 +118,28 @@ impl<Q: BorrowedBytes> SeekResult<Q> {
 }
 
 impl<V> NodeArena<V> {
+    // The length of a node's label, where it has less than 63 bytes and begins a key that has its
+    // first byte. Where it has one byte, the node is not read.
+    fn passed_len(&self, id: NodeId, key: &[u8]) -> Option<usize>
+        requires within { id < vec_len self.now.nodes }
+        requires nonempty { key.now ≢ [] }
+        requires first { ReadsNode self.now.nodes id
+            (λ n. byte_of n.label ≡ slice_index_or key.now 0 0) }
+        requires bytes { ReadsNode self.now.nodes id
+            (λ n. byte_of n.label ≡ slice_index_or n.label 0 0) }
+        ensures { IfSome result (λ len. (len ≤ length key.now)
+            × ReadsNode self.now.nodes id (λ n. n.label ≡ take len key.now)) }
+    {
+        let len = self.nodes.short_len(id);
+        if len == 1 {
+            return Some(1);
+        }
+        if len < 63 && len <= key.len() && key[..len] == self.nodes.label(id)[..len] {
+            return Some(len);
+        }
+        None
+    }
+
     // How a key meets the label of a node. Where their first bytes differ, the node is not read.
     fn compare<Q: BorrowedBytes>(&self, id: NodeId, key: Q) -> LabelCmp<Q>
         requires within { id < vec_len self.now.nodes }
@@ -113,7 +149,8 @@ impl<V> NodeArena<V> {
         ensures { ReadsNode self.now.nodes id
             (λ n. ComparesLabel Q.Owned.item Q.key (Q.key key) n.label result) }
     {
-        let first = key.as_bytes()[0];
+        let bytes = key.as_bytes();
+        let first = bytes[0];
         let other = self.nodes.first_byte(id);
         if first < other {
             return LabelCmp::Before;
@@ -121,7 +158,10 @@ impl<V> NodeArena<V> {
         if other < first {
             return LabelCmp::After;
         }
-        compare_label(key, self.nodes[id.index()].label.as_slice())
+        match self.passed_len(id, bytes) {
+            Some(len) => LabelCmp::Full(key.strip_n_prefix(len)),
+            None => compare_label(key, self.nodes.label(id)),
+        }
     }
 
     /// The place of a nonempty key. It takes a step where a label is compared with the key.
@@ -141,10 +181,13 @@ impl<V> NodeArena<V> {
         let mut at = self.root;
         let mut rest = key;
         let matched = loop {
-            let Some(id) = at.get() else {
+            let Some(first) = at.get() else {
                 break Match::Absent;
             };
-            steps.tick();
+            let id = self.nodes.run(first, rest.as_bytes()[0]);
+            link_ref = link_ref.behind(first, id);
+            at = Link::some(id);
+            steps.add(id.index() - first.index() + 1);
             match self.compare(id, rest) {
                 LabelCmp::Before => break Match::Absent,
                 LabelCmp::After => {
@@ -157,7 +200,7 @@ impl<V> NodeArena<V> {
                         break Match::Exact(id);
                     }
                     link_ref = LinkRef::Child(id);
-                    at = self.nodes[id.index()].child;
+                    at = self.nodes.child(id);
                     rest = left;
                 }
             }
@@ -204,7 +247,7 @@ impl<V> NodeArena<V> {
     {
         let place = self.seek_counted(key, steps);
         match place.here() {
-            Some(id) => self.nodes[id.index()].value.as_ref(),
+            Some(id) => self.nodes.value(id),
             None => None,
         }
     }

@@ -62,7 +62,7 @@ impl<V> NodeArena<V> {
             None => (LinkRef::Root, self.root, key),
             Some((id, end)) => {
                 let rest = key.strip_n_prefix(*end);
-                (LinkRef::Child(*id), self.nodes[id.index()].child, rest)
+                (LinkRef::Child(*id), self.nodes.child(*id), rest)
             }
         }
     }
@@ -86,9 +86,12 @@ impl<V> NodeArena<V> {
         self.cut_trail(trail, last, key);
         let (mut link_ref, mut at, mut rest) = self.resume(trail, key);
         let matched = loop {
-            let Some(id) = at.get() else {
+            let Some(first) = at.get() else {
                 break Match::Absent;
             };
+            let id = self.nodes.run(first, rest.as_bytes()[0]);
+            link_ref = link_ref.behind(first, id);
+            at = Link::some(id);
             match self.compare(id, rest) {
                 LabelCmp::Before => break Match::Absent,
                 LabelCmp::After => {
@@ -102,7 +105,7 @@ impl<V> NodeArena<V> {
                     }
                     keep(trail, id, key.as_bytes().len() - left.as_bytes().len());
                     link_ref = LinkRef::Child(id);
-                    at = self.nodes[id.index()].child;
+                    at = self.nodes.child(id);
                     rest = left;
                 }
             }

@@ -4,6 +4,7 @@ use Rattle.std.specs.Prelude.{reverse}
 use Rattle.patricia_nodes.proofs.TrailLemmas.{last_none}
 use Rattle.patricia_nodes.proofs.ResumeLemmas.{comes_first, comes_below, last_back, trail_within}
 use Rattle.patricia_nodes.proofs.ResumeLemmas.{trail_short, trail_valid}
+use Rattle.patricia_nodes.proofs.NodeVecLemmas.{node_there}
 use Rattle.patricia_nodes.proofs.arena.NodeArena.resume.Goals as goal
 
 pub strip_n_prefix-rest-requires-clause-within : goal.strip_n_prefix-rest-requires-clause-within
@@ -16,11 +17,11 @@ strip_n_prefix-rest-requires-clause-valid g c =
     let back = last_back c.args.trail.now c.in-Some.field-0.now (sym c.last.ensures.value ∙ ap option_copied c.in-Some.is) in
     trail_valid c.requires.whole c.requires.siblings c.requires.trail back
 
-pub index-requires-in-Some : goal.index-requires-in-Some
-index-requires-in-Some g c =
+pub child-requires : goal.child-requires
+child-requires g c =
     let back = last_back c.args.trail.now c.in-Some.field-0.now (sym c.last.ensures.value ∙ ap option_copied c.in-Some.is) in
     let within = trail_within c.requires.whole c.requires.siblings c.requires.trail back in
-    omega (arith, within, c.index.ensures, c.args.self.now.nodes.ok.0)
+    omega (arith, within, c.args.self.now.nodes.ok.0)
 
 pub returns-in-None : goal.returns-in-None
 returns-in-None g c =
@@ -31,5 +32,6 @@ returns-in-None g c =
 pub returns-in-Some : goal.returns-in-Some
 returns-in-Some g c =
     let back = last_back c.args.trail.now c.in-Some.field-0.now (sym c.last.ensures.value ∙ ap option_copied c.in-Some.is) in
-    let reads = rw c.index.ensures at c.index-in-Some.ensures in
-    comes_below c.requires.whole c.requires.siblings c.requires.trail back _ reads _ c.strip_n_prefix-rest.ensures
+    let there = node_there _ _ (trail_within c.requires.whole c.requires.siblings c.requires.trail back) in
+    rw (c.child.ensures _ there.1)
+    (comes_below c.requires.whole c.requires.siblings c.requires.trail back _ there.1 _ c.strip_n_prefix-rest.ensures)

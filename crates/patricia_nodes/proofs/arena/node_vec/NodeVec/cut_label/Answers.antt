@@ -1,28 +1,24 @@
-use Rattle.std.proofs.Common.{refl, ap, arith}
-use Rattle.patricia_nodes.proofs.HeadLemmas.{as_many, head_is, has_other}
+use Rattle.std.proofs.Common.{ap, arith}
+use Rattle.patricia_nodes.proofs.HeadLemmas.{as_many, has_other}
 use Rattle.patricia_nodes.proofs.NodeVecLemmas.{read_at, written_at}
 use Rattle.patricia_nodes.proofs.arena.node_vec.NodeVec.cut_label.Goals as goal
 
 pub index_mut-requires : goal.index_mut-requires
 index_mut-requires g c =
     let same = as_many _ _ c.self.invariant in
-    omega (arith, same, ap (λ v. v.len) c.self.view_is, c.index-2.ensures, c.requires)
+    omega (arith, same, ap (λ v. v.len) c.self.view_is, c.index-3.ensures, c.requires)
 
 pub invariant_of-self : goal.invariant_of-self
 invariant_of-self g c =
-    let n = c.index_mut-node.result.now in
-    let was = head_is _ _ c.self.invariant c.args.id c.index-2.result c.index.result n c.index_mut.result.now c.index-2.ensures c.index.ensures
-    (rw (ap (λ v. v.len) c.self.view_is) c.requires) c.index_mut-node.ensures.value c.index_mut.ensures.value in
-    has_other _ _ c.self.invariant c.args.id c.index-2.result c.index.result _ _ c.index-2.ensures c.index.ensures
-    (rw (c.first_byte.ensures, was) refl)
+    has_other _ _ c.self.invariant c.args.id c.index-3.result c.index.result _ _ c.index-3.ensures c.index.ensures
+    (rw c.index-2.ensures at c.head_of_node.ensures)
 
 pub returns : goal.returns
 returns g c =
     let n = c.index_mut-node.result.now in (
       n,
-      read_at _ _ c.self.view_is c.args.id c.index.result c.index.ensures n
-          c.index_mut-node.ensures.value,
-      rw (c.truncate.ensures, c.replace.ensures.after)
+      read_at _ _ c.self.view_is c.args.id c.index.result c.index.ensures n c.index_mut-node.ensures.value,
+      rw (c.truncate.ensures, c.replace-old.ensures.after)
           (written_at _ _ c.self.view_is c.args.id c.index.result c.index.ensures _),
-      c.replace.ensures.value,
+      c.replace-old.ensures.value,
     )

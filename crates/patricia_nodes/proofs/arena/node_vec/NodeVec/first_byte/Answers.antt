@@ -1,5 +1,5 @@
-use Rattle.std.proofs.Common.{refl, ap, arith}
-use Rattle.patricia_nodes.proofs.HeadLemmas.{as_many, head_is}
+use Rattle.std.proofs.Common.{refl, ap, ◌∙◌, ◌+◌, ◌/◌, ◌%◌, arith}
+use Rattle.patricia_nodes.proofs.HeadLemmas.{as_many, head_is, word_byte}
 use Rattle.patricia_nodes.proofs.arena.node_vec.NodeVec.first_byte.Goals as goal
 
 pub index-requires-2 : goal.index-requires-2
@@ -9,6 +9,7 @@ index-requires-2 g c =
 
 pub returns : goal.returns
 returns g c n reads =
-    ap (λ h. h.first)
+    ap (λ h. h.word / 128 % 256)
     (head_is _ _ c.self.invariant c.args.id c.index.result c.args.id n c.index-2.result.now c.index.ensures refl
     (rw (ap (λ v. v.len) c.self.view_is) c.requires) (rw c.self.view_is reads) c.index-2.ensures)
+    ∙ word_byte (c.args.id + 1) n
