@@ -263,10 +263,13 @@ module _ {V : Type 0} where
     next_within = slice_get_within nodes id next.below.holder next.below.there
 
     -- its children are siblings
-    pub next_siblings : (n : Node V) → n ≡ get_or nodes id n → AreSiblings nodes n.child (tops next.child)
-    next_siblings n reads =
-        tops_siblings nodes n.child next.child next.below.stands
-        (ap (λ (m : Node V). m.child) (node_is nodes id n next.below.holder next.below.there reads)
+    pub child_siblings : (child : Option ℕ)
+        → ((n : Node V) → n ≡ get_or nodes id n → child ≡ n.child)
+        → AreSiblings nodes child (tops next.child)
+    child_siblings child reads =
+        let holder = next.below.holder in
+        tops_siblings nodes child next.child next.below.stands
+        (reads holder (sym (get_or_from_slice_get nodes id holder holder next.below.there))
         ∙ next.below.child_is)
 
     -- behind the others its children wait for what is below them

@@ -7,7 +7,7 @@ ghost use Rattle.patricia_nodes.specs.Internal.Order.{AreSiblings, Waits, sizes,
 ghost use Rattle.patricia_nodes.specs.Internal.Order.{ListsNodes};
 
 use crate::arena::{DEPTH_FIRST, NodeArena};
-use crate::link::Link;
+use crate::link::{Link, NodeId};
 use std::alloc::{AllocError, Global};
 
 impl<V: Drop> NodeArena<V> {
@@ -44,7 +44,7 @@ impl<V: Drop> NodeArena<V> {
         let mut i = start;
         while i < end {
             let below = order.len();
-            let child = self.nodes[order[i] as usize].child;
+            let child = self.nodes.child(NodeId::new(order[i] as usize));
             self.list_siblings(child, order);
             i += 1;
             if depth == 0 {

@@ -5,7 +5,7 @@ use Rattle.patricia_nodes.specs.Internal.Growth.{tops}
 use Rattle.patricia_nodes.specs.Internal.Order.{Waits}
 use Rattle.patricia_nodes.proofs.OrderLemmas.{children, Listing, listing_start, listing_next}
 use Rattle.patricia_nodes.proofs.OrderLemmas.{listing_level, listing_deep, listing_done}
-use Rattle.patricia_nodes.proofs.OrderLemmas.{next_within, next_siblings, siblings_wait, next_room}
+use Rattle.patricia_nodes.proofs.OrderLemmas.{next_within, child_siblings, siblings_wait, next_room}
 use Rattle.patricia_nodes.proofs.arena.NodeArena.+list_below.Goals as goal
 
 pub loop-i-init : goal.loop-i-init
@@ -16,13 +16,13 @@ loop-i-init g t c = record {
   listing = λ cs w. listing_start _ cs _ _ _ (omega (arith, c.len-end.ensures)) w;
 }
 
-pub index-requires-in-loop-i : goal.index-requires-in-loop-i
-index-requires-in-loop-i g t c =
+pub child-requires : goal.child-requires
+child-requires g t c =
     let l = c.loop-i in
     let short : l.end ≤ length l.order.items = omega (arith, l.invariant.within) in
     let next = listing_next _ c.requires.waits.0 _ _ l.i l.end c.index.result.now
     (l.invariant.listing c.requires.waits.0 c.requires.waits.1) c.loop-i-test.true short c.index.ensures in
-    omega (arith, next_within _ _ _ _ _ _ next)
+    omega (arith, next_within _ _ _ _ _ _ next, c.new.ensures, c.args.self.now.nodes.ok.0)
 
 pub list_siblings-requires-clause-siblings : goal.list_siblings-requires-clause-siblings
 list_siblings-requires-clause-siblings g t c =
@@ -32,7 +32,7 @@ list_siblings-requires-clause-siblings g t c =
     (l.invariant.listing c.requires.waits.0 c.requires.waits.1) c.loop-i-test.true short c.index.ensures in
     let room = next_room _ _ _ _ _ _ next (vec_capacity c.args.order.now) (omega (arith, c.requires.waits.2)) in (
       tops next.child,
-      next_siblings _ _ _ _ _ _ next c.index-in-loop-i.result.now c.index-in-loop-i.ensures,
+      child_siblings _ _ _ _ _ _ next c.child.result (rw c.new.ensures at c.child.ensures),
       omega (arith, room, l.invariant.capacity),
     )
 
@@ -49,7 +49,7 @@ loop-i-preserved-then-depth-eq0 g t c =
           let next = listing_next _ cs _ _ l.i l.end c.index.result.now
           (l.invariant.listing cs w) c.loop-i-test.true short c.index.ensures in
           let listed = c.list_siblings.ensures.listed (tops next.child)
-          (next_siblings _ _ _ _ _ _ next c.index-in-loop-i.result.now c.index-in-loop-i.ensures) in
+          (child_siblings _ _ _ _ _ _ next c.child.result (rw c.new.ensures at c.child.ensures)) in
           listing_level _ _ _ _ _ _ _ next _ listed _ (omega (arith, c.loop-i-test.true)) level
           (omega (arith, c.len-end-then-depth-eq0.ensures));
     }
@@ -61,7 +61,7 @@ list_below-requires g t c κs within =
     let next = listing_next _ c.requires.waits.0 _ _ l.i l.end c.index.result.now
     (l.invariant.listing c.requires.waits.0 c.requires.waits.1) c.loop-i-test.true short c.index.ensures in
     let listed = c.list_siblings.ensures.listed (tops next.child)
-    (next_siblings _ _ _ _ _ _ next c.index-in-loop-i.result.now c.index-in-loop-i.ensures) in
+    (child_siblings _ _ _ _ _ _ next c.child.result (rw c.new.ensures at c.child.ensures)) in
     let room = next_room _ _ _ _ _ _ next (vec_capacity c.args.order.now) (omega (arith, c.requires.waits.2)) in (
       omega (arith, c.if-depth-eq0.false),
       (
@@ -97,7 +97,7 @@ loop-i-preserved g t c =
     let next = listing_next _ cs _ _ l.i l.end c.index.result.now
     (l.invariant.listing cs w) c.loop-i-test.true short c.index.ensures in
     let listed = c.list_siblings.ensures.listed (tops next.child)
-    (next_siblings _ _ _ _ _ _ next c.index-in-loop-i.result.now c.index-in-loop-i.ensures) in
+    (child_siblings _ _ _ _ _ _ next c.child.result (rw c.new.ensures at c.child.ensures)) in
     listing_deep _ _ _ _ _ _ _ next _ listed _ short
     (c.list_below.ensures.listed (children next.child)
     (siblings_wait _ _ _ _ _ _ next _ _ listed (omega (arith, c.len-below.ensures)))) in
