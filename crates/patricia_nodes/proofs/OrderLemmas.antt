@@ -13,7 +13,6 @@ use Rattle.patricia_nodes.specs.Internal.Plans.{LaidOut, IsChain, IsSound, linke
 use Rattle.patricia_nodes.specs.Internal.Growth.{tops}
 use Rattle.patricia_nodes.specs.Internal.Order.{Lists, AreSiblings, counts, sizes, HasBelow, Waits}
 use Rattle.patricia_nodes.specs.Internal.Order.{ListsBelow}
-use Rattle.patricia_nodes.proofs.PlanLemmas.{node_is}
 
 -- a number stands in two lists as often as in one and in the other
 pub times-append : (xs ys : List ℕ) (at : ℕ) → times (xs ++ ys) at ≡ times xs at + times ys at
