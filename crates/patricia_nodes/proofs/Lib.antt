@@ -3,6 +3,7 @@ pub mod FillLemmas
 pub mod FreeLemmas
 pub mod GrowthLemmas
 pub mod HeadLemmas
+pub mod InterleaveLemmas
 pub mod LayLemmas
 pub mod LinkRefLemmas
 pub mod LoanLemmas

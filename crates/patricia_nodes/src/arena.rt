@@ -1,9 +1,10 @@
 //! The nodes of a tree in one vector, each with its first child and its next sibling.
-ghost use Rattle.std.specs.Prelude.{◌≡◌, ◌<◌, vec_len, vec_capacity};
-ghost use Rattle.patricia_nodes.specs.Internal.Plans.{IsWellFormed, siblings_of};
+ghost use Rattle.std.specs.Prelude.{◌≡◌, ◌<◌, [], None, vec_len, vec_capacity};
+ghost use Rattle.patricia_nodes.specs.Internal.Plans.{IsWellFormed, linked, siblings_of};
 ghost use Rattle.patricia_nodes.specs.Internal.Writes.{Frees, Relinks, LinkRefWithin};
 ghost use Rattle.patricia_model.specs.Siblings.{end};
 
+pub mod interleave;
 mod lending;
 mod merging;
 pub mod node_vec;
@@ -36,6 +37,20 @@ pub struct Node<V> {
     pub value: Option<V>,
     pub child: Link,
     pub sibling: Link,
+}
+
+impl<V> Node<V> {
+    // A node with no label, value and child.
+    fn hollow(sibling: Link) -> Node<V>
+        ensures { result ≡ linked [] None None sibling }
+    {
+        Node {
+            label: Label::empty(),
+            value: None,
+            child: Link::none(),
+            sibling,
+        }
+    }
 }
 
 /// Nodes, the first of the top siblings, and the first of those that are free for use.
@@ -92,12 +107,7 @@ impl<V: Drop> NodeArena<V> {
         ensures frees { Frees self.old self.new id result }
         ensures capacity { vec_capacity self.new.nodes ≡ vec_capacity self.old.nodes }
     {
-        let hollow = Node {
-            label: Label::empty(),
-            value: None,
-            child: Link::none(),
-            sibling: self.free,
-        };
+        let hollow = Node::hollow(self.free);
         self.free = Link::some(id);
         self.edits = self.edits.saturating_add(1);
         self.nodes.replace(id, hollow)

@@ -1,6 +1,6 @@
 -- Eight bytes for each node, which say what look-ups ask of most nodes.
-use Rattle.std.specs.Prelude.{◌≡◌, ℕ, ◌+◌, ◌-◌, ◌*◌, ◌%◌, suc, ◌≤◌, List, [], ◌∷◌, length, Option, Some}
-use Rattle.std.specs.Prelude.{None, nat_eq, nat_lt, if◌then◌else◌, get_or, vec_capacity}
+use Rattle.std.specs.Prelude.{◌≡◌, ℕ, ◌+◌, ◌-◌, ◌*◌, ◌%◌, suc, ◌≤◌, List, [], ◌∷◌, length, Option}
+use Rattle.std.specs.Prelude.{Some, None, nat_eq, nat_lt, if◌then◌else◌, get_or, vec_capacity}
 use Rattle.std.specs.Global.{Vec}
 use Rattle.patricia_nodes.specs.declared.arena.Node.{Node}
 use Rattle.patricia_nodes.specs.declared.arena.node_vec.Head.{Head}
@@ -46,7 +46,8 @@ module _ {V : Type 0} where
   -- the bits of a node before this number: whether the next node is its sibling, the first byte of
   -- its label, whether it has no child, and the length of the label
   abbrev pub word_of : ℕ → Node V → ℕ
-  word_of next node = apart_bit_of next node.sibling + (leaf_bit_of node.child + label_bits_of node.label)
+  word_of next node =
+      apart_bit_of next node.sibling + (leaf_bit_of node.child + label_bits_of node.label)
 
   -- these bits, and where the first child and the sibling stand
   abbrev pub head_of : ℕ → Node V → Head

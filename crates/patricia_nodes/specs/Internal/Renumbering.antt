@@ -1,5 +1,5 @@
 -- How nodes are linked by new numbers, and lie in another order.
-use Rattle.std.specs.Prelude.{◌≡◌, ℕ, List, length, Option, Some, None, slice_get, get_or}
+use Rattle.std.specs.Prelude.{◌≡◌, ℕ, List, length, Option, Some, None, slice_get, get_or, take}
 use Rattle.patricia_nodes.specs.declared.arena.Node.{Node}
 
 -- the new number of a node, which the list has at the old one; one that it does not have stays
@@ -27,3 +27,8 @@ module _ {V : Type 0} where
     pub node : (i id : ℕ) (n : Node V) → slice_get order i ≡ Some id → slice_get old id ≡ Some n
         → slice_get new i ≡ Some (renumbered places n)
     pub long : length new ≡ length old
+
+  -- the first nodes of such an order are left
+  abbrev pub KeepsRearranged : ℕ → List ℕ → List ℕ → List (Node V) → List (Node V) → Type 0
+  KeepsRearranged n order places old new =
+      (all : List (Node V)) × Rearranges order places old all × (new ≡ take n all)

@@ -9,12 +9,14 @@ ghost use Rattle.std.specs.Vec.{with_item};
 ghost use Rattle.patricia_nodes.specs.Internal.Heads.{byte_of, short_len_of, label_bits_of};
 ghost use Rattle.patricia_nodes.specs.Internal.Heads.{leaf_bit_of, apart_bit_of, below_code_of};
 ghost use Rattle.patricia_nodes.specs.Internal.Heads.{beside_code_of, head_of, heads_from};
-ghost use Rattle.patricia_nodes.specs.Internal.Permutations.{AreInverse};
-ghost use Rattle.patricia_nodes.specs.Internal.Renumbering.{moved, Renumbers, Rearranges};
+ghost use Rattle.patricia_nodes.specs.Internal.Permutations.{AreInverse, GathersFirst};
+ghost use Rattle.patricia_nodes.specs.Internal.Renumbering.{moved, Renumbers};
+ghost use Rattle.patricia_nodes.specs.Internal.Renumbering.{KeepsRearranged};
 ghost use Rattle.patricia_nodes.specs.Internal.NodeVecs.{ReadsNode, Changes, Trades, value_in};
 ghost use Rattle.patricia_nodes.specs.Internal.NodeVecs.{IsRun, lends_value_at};
 
 use crate::arena::Node;
+use crate::arena::interleave::{count_strays, interleave};
 use crate::arena::permute::permute;
 use crate::label::Label;
 use crate::link::{Link, NodeId};
@@ -23,10 +25,10 @@ use std::marker::Model;
 use std::mem;
 use std::ops::Index;
 
-// What a look-up reads of a node first. From its highest bit on, `word` has a bit that says that the
-// sibling is not the next node of the vector, the first byte of the label, a bit for a node without
-// children, and in six bits the length of the label, `LONG` where it is no less. So `word` is less
-// than `FIRST * b` where the sibling is the next node and the first byte is less than b.
+// What a look-up reads of a node first. From its highest bit on, `word` has a bit that says that
+// the sibling is not the next node of the vector, the first byte of the label, a bit for a node
+// without children, and in six bits the length of the label, `LONG` where it is no less. So `word`
+// is less than `FIRST * b` where the sibling is the next node and the first byte is less than b.
 //
 // `below` is how far behind the node its first child stands: 0 for none, and `FAR_BELOW` says that
 // the number is in the node. `beside` is 0 for no sibling, 1 for the next node of the vector, a
@@ -182,6 +184,34 @@ fn renumber<V>(nodes: &mut [Node<V>], places: &[u32])
         node.sibling = moved_link(places, node.sibling);
         id += 1;
     }
+}
+
+// Lays nodes in an order, where they are, at least the first `used` of them. Those below `settled`
+// are quickest where they are in that order already. Does not allocate.
+fn lay<V>(
+    nodes: &mut Vec<Node<V>>,
+    mut order: Vec<u32>,
+    places: Vec<u32>,
+    used: usize,
+    settled: usize,
+)
+    requires inverse { AreInverse order.items places.items }
+    requires long { length order.items ≡ vec_len nodes.old }
+    requires used { used ≤ vec_len nodes.old }
+    ensures items { GathersFirst used order.items nodes.old.items nodes.new.items }
+    ensures capacity { vec_capacity nodes.new ≡ vec_capacity nodes.old }
+{
+    let len = nodes.len();
+    let strays = count_strays(&order[..used], settled);
+    if nodes.capacity() > u32::MAX as usize || strays > nodes.capacity() - len {
+        permute(nodes.as_mut_slice(), order, places);
+        return;
+    }
+    order.truncate(used);
+    while nodes.len() < len + strays {
+        nodes.push_reserved(Node::hollow(Link::none()));
+    }
+    interleave(nodes.as_mut_slice(), order, len, settled);
 }
 
 impl<V> NodeVec<V> {
@@ -387,19 +417,6 @@ impl<V> NodeVec<V> {
         mem::replace(&mut self.nodes[id.index()].value, value)
     }
 
-    /// Lays the nodes in this order, where they are, and links them by their new numbers. Does not
-    /// allocate.
-    pub fn rearrange(&mut self, order: Vec<u32>, places: Vec<u32>)
-        requires inverse { AreInverse order.items places.items }
-        requires long { length order.items ≡ vec_len self.old }
-        ensures items { Rearranges order.items places.items self.old.items self.new.items }
-        ensures capacity { vec_capacity self.new ≡ vec_capacity self.old }
-    {
-        renumber(self.nodes.as_mut_slice(), places.as_slice());
-        permute(self.nodes.as_mut_slice(), order, places);
-        write_heads(self.nodes.as_slice(), &mut self.heads);
-    }
-
     /// Lends the value of a node.
     pub fn value_mut(&mut self, id: NodeId) -> Option<&mut V>
         requires { id < vec_len self.old }
@@ -444,6 +461,23 @@ impl<V: Drop> NodeVec<V> {
         }
         self.push_reserved(node);
         Ok(())
+    }
+
+    /// Lays the nodes in this order, where they are, links them by their new numbers, and keeps the
+    /// first `used` of them. Those with numbers below `settled` are quickest where they are in that
+    /// order already. Does not allocate.
+    pub fn rearrange(&mut self, order: Vec<u32>, places: Vec<u32>, used: usize, settled: usize)
+        requires inverse { AreInverse order.items places.items }
+        requires long { length order.items ≡ vec_len self.old }
+        requires used { used ≤ vec_len self.old }
+        ensures items { KeepsRearranged used order.items places.items
+            self.old.items self.new.items }
+        ensures capacity { vec_capacity self.new ≡ vec_capacity self.old }
+    {
+        renumber(self.nodes.as_mut_slice(), places.as_slice());
+        lay(&mut self.nodes, order, places, used, settled);
+        self.nodes.truncate(used);
+        write_heads(self.nodes.as_slice(), &mut self.heads);
     }
 
     /// Keeps the first `n` nodes, with room for half as many more, and drops the others. Room that

@@ -1,5 +1,5 @@
-use Rattle.std.proofs.Common.{[], sym, ap, ◌∙◌, arith, length}
-use Rattle.std.proofs.lemmas.List.{length-append, length-take}
+use Rattle.std.proofs.Common.{[], take, sym, ap, ◌∙◌, arith, length}
+use Rattle.std.proofs.lemmas.List.{length-append, length-take, take-take}
 use Rattle.patricia_nodes.specs.Internal.Plans.{siblings_in}
 use Rattle.patricia_nodes.proofs.LayLemmas.{same_siblings}
 use Rattle.patricia_nodes.proofs.PlanLemmas.{plan_is}
@@ -25,31 +25,44 @@ rearrange-requires-clause-long g c =
     let lists = c.in_ok-order.ensures.lists _ _ sound in
     omega (arith, lists_long _ _ _ _ _ _ _ sound lists, c.args.self.now.nodes.ok.0)
 
+pub rearrange-requires-clause-used : goal.rearrange-requires-clause-used
+rearrange-requires-clause-used g c =
+    let sound = c.requires.1.1 in
+    let lists = c.in_ok-order.ensures.lists _ _ sound in
+    let parts = ap length lists.order_is ∙ length-append lists.first c.requires.1.0 in
+    omega (arith, parts, lists.used_is, lists_long _ _ _ _ _ _ _ sound lists, c.args.self.now.nodes.ok.0)
+
 pub returns-clause-whole : goal.returns-clause-whole
 returns-clause-whole g c =
+    let used = c.in_ok-order.used in
+    let all = c.rearrange.ensures.items in
+    let kept = c.keep_first.ensures.items ∙ ap (take used) all.2 ∙ take-take used used all.0 (omega arith) in
     let sound = c.requires.1.1 in
     let lists = c.in_ok-order.ensures.lists _ _ sound in
     let inv = rw c.as_slice.ensures.value at c.in_ok-places.ensures in (
       renamed c.in_ok-places.places.items c.requires.0,
       (
         [],
-        rw (c.keep_first.ensures.items, c.moved_link-self.ensures, c.as_slice-2.ensures.value, c.none-self.ensures)
+        rw (kept, c.moved_link-self.ensures, c.as_slice-2.ensures.value, c.none-self.ensures)
             (sound_used c.in_ok-order.order.items c.in_ok-places.places.items inv c.args.self.now.nodes.items
-            c.rearrange.new.self.items (lists_long _ _ _ _ _ _ _ sound lists) c.rearrange.ensures.items
-            _ _ c.requires.0 c.requires.1.0 c.in_ok-order.used sound lists),
+            all.0 (lists_long _ _ _ _ _ _ _ sound lists) all.1
+            _ _ c.requires.0 c.requires.1.0 used sound lists),
       ),
     )
 
 pub returns-clause-siblings : goal.returns-clause-siblings
 returns-clause-siblings g c =
+    let used = c.in_ok-order.used in
+    let all = c.rearrange.ensures.items in
+    let kept = c.keep_first.ensures.items ∙ ap (take used) all.2 ∙ take-take used used all.0 (omega arith) in
     let sound = c.requires.1.1 in
     let lists = c.in_ok-order.ensures.lists _ _ sound in
     let inv = rw c.as_slice.ensures.value at c.in_ok-places.ensures in
-    rw (c.keep_first.ensures.items, c.moved_link-self.ensures, c.as_slice-2.ensures.value)
+    rw (kept, c.moved_link-self.ensures, c.as_slice-2.ensures.value)
     (same_siblings _ _ _ (renamed c.in_ok-places.places.items c.requires.0) c.requires.0 []
     (sound_used c.in_ok-order.order.items c.in_ok-places.places.items inv c.args.self.now.nodes.items
-    c.rearrange.new.self.items (lists_long _ _ _ _ _ _ _ sound lists) c.rearrange.ensures.items
-    _ _ c.requires.0 c.requires.1.0 c.in_ok-order.used sound lists)
+    all.0 (lists_long _ _ _ _ _ _ _ sound lists) all.1
+    _ _ c.requires.0 c.requires.1.0 used sound lists)
     (siblings-renamed c.in_ok-places.places.items c.requires.0))
     ∙ sym (ap (λ p. siblings_in p) (plan_is _ _ c.requires.0 sound.plan_ok))
 
@@ -58,9 +71,12 @@ returns-clause-room g c room =
     let sound = c.requires.1.1 in
     let lists = c.in_ok-order.ensures.lists _ _ sound in
     let same = one_chain c.args.self.now.nodes.items room.0 c.requires.1.0 room.1.0 sound.chain (sym room.1.1 ∙ sound.free_is) in
-    let kept = ap length c.keep_first.ensures.items ∙ length-take c.in_ok-order.used c.rearrange.new.self.items in
+    let used = c.in_ok-order.used in
+    let all = c.rearrange.ensures.items in
+    let left = ap length all.2 ∙ length-take used all.0 in
+    let kept = ap length c.keep_first.ensures.items ∙ length-take used c.rearrange.new.self.items in
     let long = lists_long _ _ _ _ _ _ _ sound lists in
     let parts = ap length lists.order_is ∙ length-append lists.first c.requires.1.0 in
     let after = c.keep_first.ensures.room
-    (omega (arith, room.2, ap length same, kept, long, parts, lists.used_is, c.rearrange.ensures.items.long, c.rearrange.ensures.capacity, c.keep_first.new.self.ok.0)) in
+    (omega (arith, room.2, ap length same, kept, long, parts, lists.used_is, left, all.1.long, c.rearrange.ensures.capacity, c.keep_first.new.self.ok.0)) in
     ([], (tt, c.none-self.ensures), omega (arith, after, c.keep_first.new.self.ok.0))
