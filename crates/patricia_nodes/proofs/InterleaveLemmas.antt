@@ -1,5 +1,5 @@
 -- Items of which some are moved out of the way, the others together, and then all to their places.
-use Rattle.std.proofs.Common.{◌≡◌, ◌≢◌, ℕ, zero, suc, ◌+◌, ◌<◌, ◌≤◌, inl, inr, List, [], ◌∷◌, length, drop}
+use Rattle.std.proofs.Common.{◌≡◌, ℕ, zero, suc, ◌+◌, ◌<◌, ◌≤◌, inl, inr, List, [], ◌∷◌, length, drop}
 use Rattle.std.proofs.Common.{set, swap, get_or, take, Option, Some, None, slice_get, refl, sym, ap, ◌∙◌, arith, length-set}
 use Rattle.std.specs.Prelude.{◌⊎◌}
 use Rattle.std.proofs.lemmas.Bool.{cases_eq, cases_lt}
@@ -11,7 +11,7 @@ use Rattle.std.proofs.lemmas.Option.{slice_get-get_or}
 use Rattle.patricia_nodes.specs.Internal.Permutations.{AreInverse, AreNumbers, Gathers, strays}
 use Rattle.patricia_nodes.specs.Internal.Permutations.{GathersFirst, Tracks}
 use Rattle.patricia_nodes.specs.Internal.Permutations.{ArePutOut, AreTogether}
-use Rattle.patricia_nodes.proofs.PermuteLemmas.{get-swap_first, get-swap_second, get-swap_other}
+use Rattle.patricia_nodes.proofs.PermuteLemmas.{get-swap_second, get-swap_other}
 use Rattle.patricia_nodes.specs.declared.arena.Node.{Node}
 use Rattle.patricia_nodes.specs.Internal.Renumbering.{Renumbers, KeepsRearranged}
 use Rattle.patricia_nodes.proofs.RenumberLemmas.{get-take, rearranged}

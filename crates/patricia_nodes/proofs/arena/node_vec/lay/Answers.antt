@@ -1,5 +1,4 @@
-use Rattle.std.proofs.Common.{◌≡◌, ◌<◌, ℕ, length, sym, ap, ◌∙◌, arith}
-use Rattle.patricia_nodes.specs.Internal.Permutations.{AreNumbers}
+use Rattle.std.proofs.Common.{◌≡◌, length, sym, ap, ◌∙◌, arith}
 use Rattle.patricia_nodes.proofs.InterleaveLemmas.{first_numbers, first_gathers, inverse_within}
 use Rattle.patricia_nodes.proofs.RenumberLemmas.{written_back}
 use Rattle.patricia_nodes.proofs.arena.node_vec.lay.Goals as goal

@@ -1,4 +1,4 @@
-use Rattle.std.proofs.Common.{◌+◌, ◌<◌, vec_len, refl, sym, ap, arith}
+use Rattle.std.proofs.Common.{◌+◌, refl, ap, arith}
 use Rattle.patricia_nodes.proofs.HeadLemmas.{as_many, head_is, word_less}
 use Rattle.patricia_nodes.proofs.NodeVecLemmas.{run_more}
 use Rattle.patricia_nodes.proofs.arena.node_vec.NodeVec.run.Goals as goal

@@ -1,4 +1,4 @@
-use Rattle.std.proofs.Common.{refl, ap, arith}
+use Rattle.std.proofs.Common.{ap, arith}
 use Rattle.patricia_nodes.proofs.HeadLemmas.{as_many, head_is, has_other, head_sibling}
 use Rattle.patricia_nodes.proofs.NodeVecLemmas.{node_changed}
 use Rattle.patricia_nodes.proofs.arena.node_vec.NodeVec.set_sibling.Goals as goal
