@@ -3,7 +3,7 @@ use Rattle.std.specs.Prelude.{◌≡◌, ℕ, List, Some}
 use Rattle.std.specs.Borrow.{MutBor}
 use Rattle.std.specs.Fn.{Once}
 use Rattle.std.specs.FinMap as map
-use Rattle.patricia_model.specs.Cursors.{CursorView, next_entry, next_value, stepped, written}
+use Rattle.patricia_model.specs.Cursors.{CursorView, next_entry, stepped, written}
 
 -- `call` says of a closure when it may be called at a key and a loan of a value, and what it may
 -- then answer and leave there; `bytes` what the bytes of a key are
@@ -26,16 +26,3 @@ module _ {F K V R : Type 0}
     pub met : call.post f (key, (shown, tt)) (r, (left, tt))
     pub put_in : t ≡ written (stepped s) left.now
     pub map_is : t.map ≡ map.insert s.map (bytes key) left.now
-
--- the same for a closure that takes a loan of the value alone
-module _ {F V R : Type 0} (call : Once F (MutBor V × Unit {0}) (R × (MutBor V × Unit {0}))) where
-  abbrev pub TakesNextValue : F → CursorView V → Type 0
-  TakesNextValue f s =
-      (shown : MutBor V) → next_value s ≡ Some shown.now → call.pre f (shown, tt)
-
-  pub record StepsWithValue (f : F) (s : CursorView V) (r : R) (t : CursorView V) : Type 0 where
-    pub shown : MutBor V
-    pub left : MutBor V
-    pub is_next : next_value s ≡ Some shown.now
-    pub met : call.post f (shown, tt) (r, (left, tt))
-    pub put_in : t ≡ written (stepped s) left.now

@@ -19,7 +19,7 @@ where
     ghost use Rattle.patricia_tree.specs.Left.{left};
     ghost use Rattle.patricia_tree.specs.Lends.{lends_last};
     ghost use Rattle.patricia_tree.specs.Internal.Nexts.{IsNextValue, lends_next};
-    ghost use Rattle.patricia_tree.specs.Steps.{StepsWithValue, TakesNextValue};
+    ghost use Rattle.patricia_tree.specs.Changes.{RunsAt, TakesValue};
 
     /// Advances to the next value and returns whether there is one. `value` lends it. No key is
     /// built.
@@ -108,11 +108,12 @@ where
     /// Out of memory: the closure is not run, nothing is changed, and the next call tries the same
     /// value.
     pub fn next_with<R, F: FnOnce(&mut V) -> R>(&mut self, f: F) -> Result<Option<R>, AllocError>
-        requires callable { TakesNextValue F.FnOnce f self.old.at }
+        requires callable { TakesValue F.FnOnce f (next_value self.old.at) }
         ensures owner { self.new.owner.ghost_name ≡ self.old.owner.ghost_name }
         ensures ok { IfOk result (λ r. MatchOption r
             ((next_entry self.old.at ≡ None) × (self.new.at ≡ self.old.at))
-            (λ r. StepsWithValue F.FnOnce f self.old.at r self.new.at)) }
+            (λ r. RunsAt F.FnOnce f (next_value self.old.at) r (written (stepped self.old.at))
+            self.new.at)) }
         ensures left { IfOk result (λ r. MatchOption r (left self.old.at ≡ 0)
             (λ _. left self.old.at ≡ left self.new.at + 1)) }
         ensures unchanged { OnErr result (self.new.at ≡ self.old.at) }

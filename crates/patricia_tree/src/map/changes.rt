@@ -9,7 +9,7 @@ use patricia_core::keys::{BorrowedBytes, Bytes};
 use std::alloc::AllocError;
 
 impl<K: Bytes, V: Drop> GenericPatriciaMap<K, V> {
-    ghost use Rattle.patricia_tree.specs.Changes.{TakesValueAt, RunsAt, PutsMade};
+    ghost use Rattle.patricia_tree.specs.Changes.{TakesValue, RunsAt, PutsMade};
 
     /// Returns the number of entries whose key begins with the prefix, in time in proportion to
     /// them and to a look-up, and for the empty prefix at once.
@@ -98,10 +98,11 @@ impl<K: Bytes, V: Drop> GenericPatriciaMap<K, V> {
         key: Q,
         f: F,
     ) -> Option<R>
-        requires callable { TakesValueAt F.FnOnce f self.old (Q.key key) }
+        requires callable { TakesValue F.FnOnce f (map.get self.old (Q.key key)) }
         ensures { MatchOption result
             ((map.get self.old (Q.key key) ≡ None) × (self.new ≡ self.old))
-            (λ r. RunsAt F.FnOnce f self.old (Q.key key) r self.new) }
+            (λ r. RunsAt F.FnOnce f (map.get self.old (Q.key key)) r
+            (map.insert self.old (Q.key key)) self.new) }
     {
         match self.get_mut(key) {
             Some(value) => Some(f(value)),

@@ -11,7 +11,7 @@ returns-clause-ok g c =
     record {
       shown = _;
       left = _;
-      is_next = next.is_next _ (sym (ap last_value step) ∙ c.there-value.ensures.value);
+      is_value = next.is_next _ (sym (ap last_value step) ∙ c.there-value.ensures.value);
       met = c.f.ensures;
       put_in = ap (λ t. written t c.f.new.arg2) step;
     }
