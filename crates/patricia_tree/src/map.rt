@@ -43,7 +43,6 @@ pub use patricia_core::ranges::Range;
 pub use patricia_core::tree::Refused;
 use patricia_core::tree::{DecodeError, EncodeError, Narrow, Tree, Wide, WireError};
 pub use patricia_core::under::PrefixReadCursor;
-pub use patricia_core::value_cursor::ValueCursor;
 pub use patricia_core::walk::ReadCursor;
 pub use sorted::LoadError;
 pub(crate) use sorted::SortedLoad;

@@ -59,16 +59,6 @@ impl<K: Bytes, V: Drop> Cursor<K, V> {
         }
     }
 
-    /// The tree.
-    pub fn into_parts(self) -> TreeParts<V>
-        ensures whole { IsWellFormed result.arena }
-        ensures tree { IsTree K.item (siblings_of result.arena) result.count }
-        ensures map { map_of result.value (siblings_of result.arena) ≡ self.map }
-    {
-        let Cursor { alloc, state, .. } = self;
-        state.tree.into_parts(alloc)
-    }
-
     /// Advances to the next entry, and returns its key. The error is out of memory.
     pub fn advance(&mut self) -> Result<Option<K>, AllocError>
         ensures key { IfOk result (λ key. option_map K.key key ≡ next_key self.old) }
@@ -86,6 +76,16 @@ impl<K: Bytes, V: Drop> Cursor<K, V> {
     {
         self.state.tree.value::<K>()
     }
+}
+
+/// The tree that a cursor walked over: a function, so that no method of a cursor names nodes.
+pub fn into_parts<K: Bytes, V: Drop>(cursor: Cursor<K, V>) -> TreeParts<V>
+    ensures whole { IsWellFormed result.arena }
+    ensures tree { IsTree K.item (siblings_of result.arena) result.count }
+    ensures map { map_of result.value (siblings_of result.arena) ≡ cursor.map }
+{
+    let Cursor { alloc, state, .. } = cursor;
+    state.tree.into_parts(alloc)
 }
 
 // Begins a walk under a prefix, where it has not begun.
@@ -168,16 +168,6 @@ impl<Q: BorrowedBytes, V: Drop> PrefixCursor<Q, V> {
         }
     }
 
-    /// The tree.
-    pub fn into_parts(self) -> TreeParts<V>
-        ensures whole { IsWellFormed result.arena }
-        ensures tree { IsTree Q.Owned.item (siblings_of result.arena) result.count }
-        ensures map { map_of result.value (siblings_of result.arena) ≡ self.map }
-    {
-        let PrefixCursor { alloc, state, .. } = self;
-        state.tree.into_parts(alloc)
-    }
-
     /// Advances to the next entry, and returns its key. The error is out of memory.
     pub fn advance(&mut self) -> Result<Option<Q::Owned>, AllocError>
         ensures key { IfOk result (λ key. option_map Q.Owned.key key ≡ next_key self.old) }
@@ -197,4 +187,14 @@ impl<Q: BorrowedBytes, V: Drop> PrefixCursor<Q, V> {
     {
         self.state.tree.value::<Q::Owned>()
     }
+}
+
+/// The tree that such a cursor walked over.
+pub fn prefix_into_parts<Q: BorrowedBytes, V: Drop>(cursor: PrefixCursor<Q, V>) -> TreeParts<V>
+    ensures whole { IsWellFormed result.arena }
+    ensures tree { IsTree Q.Owned.item (siblings_of result.arena) result.count }
+    ensures map { map_of result.value (siblings_of result.arena) ≡ cursor.map }
+{
+    let PrefixCursor { alloc, state, .. } = cursor;
+    state.tree.into_parts(alloc)
 }

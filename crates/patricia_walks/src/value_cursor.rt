@@ -193,16 +193,6 @@ impl<K: Bytes, V: Drop> ValueCursor<K, V> {
         }
     }
 
-    /// The tree.
-    pub fn into_parts(self) -> TreeParts<V>
-        ensures whole { IsWellFormed result.arena }
-        ensures tree { IsTree K.item (siblings_of result.arena) result.count }
-        ensures map { map_of result.value (siblings_of result.arena) ≡ self.map }
-    {
-        let ValueCursor { alloc, state, .. } = self;
-        state.tree.into_parts(alloc)
-    }
-
     /// Advances to the next value, and returns whether there is one. The error is out of memory.
     pub fn advance(&mut self) -> Result<bool, AllocError>
         ensures found { IfOk result (λ found. IsTrue found ↔ (next_key self.old ≢ None)) }
@@ -220,4 +210,14 @@ impl<K: Bytes, V: Drop> ValueCursor<K, V> {
     {
         self.state.tree.value::<K>()
     }
+}
+
+/// The tree that a cursor walked over: a function, so that no method of a cursor names nodes.
+pub fn into_parts<K: Bytes, V: Drop>(cursor: ValueCursor<K, V>) -> TreeParts<V>
+    ensures whole { IsWellFormed result.arena }
+    ensures tree { IsTree K.item (siblings_of result.arena) result.count }
+    ensures map { map_of result.value (siblings_of result.arena) ≡ cursor.map }
+{
+    let ValueCursor { alloc, state, .. } = cursor;
+    state.tree.into_parts(alloc)
 }

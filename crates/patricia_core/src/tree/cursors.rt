@@ -7,8 +7,8 @@ ghost use Rattle.patricia_nodes.specs.Internal.Plans.{IsWellFormed, siblings_of}
 use super::Tree;
 use patricia_keys::{BorrowedBytes, Bytes};
 use patricia_walks::TreeParts;
-use patricia_walks::cursor::{Cursor, PrefixCursor};
-use patricia_walks::value_cursor::ValueCursor;
+use patricia_walks::cursor::{self, Cursor, PrefixCursor};
+use patricia_walks::value_cursor::{self, ValueCursor};
 use std::marker::PhantomData;
 use std::mem;
 
@@ -62,7 +62,7 @@ impl<K: Bytes, V: Drop> Tree<K, V> {
     pub fn from_cursor(cursor: Cursor<K, V>) -> Self
         ensures { result ≡ cursor.map }
     {
-        made_of(cursor.into_parts())
+        made_of(cursor::into_parts(cursor))
     }
 
     /// A cursor over the values, which owns the tree. Making it does not allocate.
@@ -76,7 +76,7 @@ impl<K: Bytes, V: Drop> Tree<K, V> {
     pub fn from_value_cursor(cursor: ValueCursor<K, V>) -> Self
         ensures { result ≡ cursor.map }
     {
-        let whole = cursor.into_parts();
+        let whole = value_cursor::into_parts(cursor);
         made_of(whole)
     }
 
@@ -92,7 +92,7 @@ impl<K: Bytes, V: Drop> Tree<K, V> {
     pub fn from_prefix_cursor<Q: BorrowedBytes<Owned = K>>(cursor: PrefixCursor<Q, V>) -> Self
         ensures { result ≡ cursor.map }
     {
-        let parts = cursor.into_parts();
+        let parts = cursor::prefix_into_parts(cursor);
         made_of(parts)
     }
 }
