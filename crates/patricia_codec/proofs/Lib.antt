@@ -3,6 +3,7 @@ pub mod CheckLemmas
 pub mod DecodeLemmas
 pub mod EncodeLemmas
 pub mod EndLemmas
+pub mod FewEntries
 pub mod GrowingLemmas
 pub mod LeftLemmas
 pub mod PieceLemmas

@@ -1,6 +1,7 @@
 //! From tree bytes and values to nodes.
-ghost use Rattle.std.specs.Prelude.{◌++◌, length, IfOk, IfErr};
-ghost use Rattle.patricia_model.specs.Siblings.{own, IsCanonical};
+ghost use Rattle.std.specs.Prelude.{◌≡◌, ◌+◌, ◌≤◌, ◌++◌, length, IfOk, IfErr};
+ghost use Rattle.patricia_model.specs.Siblings.{own};
+ghost use Rattle.patricia_model.specs.Trees.{IsTree};
 ghost use Rattle.patricia_nodes.specs.Internal.Plans.{IsWellFormed, siblings_of, entries_of};
 ghost use Rattle.patricia_wire.specs.Writings.{Means};
 ghost use Rattle.patricia_wire.specs.Faults.{IsRefusal};
@@ -11,14 +12,19 @@ use crate::width::Width;
 use patricia_keys::Bytes;
 use patricia_nodes::arena::NodeArena;
 use patricia_nodes::link::Link;
+use patricia_walks::TreeParts;
 use patricia_wire::DecodeError;
 use std::alloc::Global;
 
-/// A tree that was read: the value of the empty key, and the nodes of the other keys.
-#[derive(Drop)]
-pub struct Decoded<V> {
-    pub value: Option<V>,
-    pub arena: NodeArena<V>,
+// How many of so many values are not that of the empty key.
+fn others<V>(given: usize, value: &Option<V>) -> usize
+    requires { length (own value.now) ≤ given }
+    ensures { given ≡ result + length (own value.now) }
+{
+    match value {
+        Some(_) => given - 1,
+        None => given,
+    }
 }
 
 /// Reads a tree from its bytes and its values. Where they are refused the values are dropped.
@@ -26,14 +32,15 @@ pub fn decode<K: Bytes, W: Width, V: Drop>(
     alloc: Global,
     bytes: &[u8],
     values: Vec<V>,
-) -> Result<Decoded<V>, DecodeError>
+) -> Result<TreeParts<V>, DecodeError>
     ensures whole { IfOk result (λ d. IsWellFormed d.arena) }
-    ensures siblings { IfOk result (λ d. IsCanonical K.item (siblings_of d.arena)) }
+    ensures tree { IfOk result (λ d. IsTree K.item (siblings_of d.arena) d.count) }
     ensures means { IfOk result (λ d.
         Means K.item W.width bytes.now values.items (own d.value ++ entries_of d.arena)) }
     ensures first_fault { IfErr result (λ e.
         IsRefusal K.item W.width bytes.now (length values.items) e) }
 {
+    let given = values.len();
     let mut values = values.into_iter();
     let mut reader = Reader::new(alloc, bytes)?;
     let mut builder = Builder::new(alloc);
@@ -42,8 +49,11 @@ pub fn decode<K: Bytes, W: Width, V: Drop>(
         builder.add::<K>(&record, value)?;
     }
     reader.finish::<K, W>(values.len())?;
-    Ok(Decoded {
+    let count = others(given, &builder.value);
+    Ok(TreeParts {
+        alloc,
         value: builder.value,
+        count,
         arena: NodeArena {
             nodes: builder.nodes,
             root: builder.root,

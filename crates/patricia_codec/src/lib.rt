@@ -12,7 +12,7 @@ mod record;
 mod records;
 pub mod width;
 
-pub use decoder::{Decoded, decode};
+pub use decoder::decode;
 pub use encoder::{EncodeError, WireError, encode};
 pub use patricia_wire::DecodeError;
 pub use width::{Narrow, Wide, Width};

@@ -1,3 +1,2 @@
-pub mod FewEntries
 pub mod PointNodes
 pub mod StoreLemmas

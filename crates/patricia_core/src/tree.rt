@@ -23,12 +23,13 @@ mod ranges;
 
 pub use loading::Loader;
 pub use patricia_codec::{DecodeError, EncodeError, Narrow, Wide, Width, WireError};
-use patricia_codec::{Decoded, decode, encode};
+use patricia_codec::{decode, encode};
 use patricia_edits::{copy, copy_value, insert, remove, split};
 use patricia_keys::{BorrowedBytes, Bytes};
 use patricia_nodes::Steps;
 use patricia_nodes::arena::NodeArena;
 pub use patricia_nodes::arena::Refused;
+use patricia_walks::TreeParts;
 use patricia_walks::along::{Along, AlongOwned};
 use patricia_walks::into_walk::IntoWalk;
 use patricia_walks::reach::reach;
@@ -43,13 +44,7 @@ use std::sync::ledger::{Blank, Ledger};
 /// A finite map from keys of one kind.
 #[derive(Drop)]
 pub struct Tree<K: Bytes, V> {
-    alloc: Global,
-    // the value of the empty key
-    value: Option<V>,
-    // the nodes of the other keys
-    arena: NodeArena<V>,
-    // how many they are
-    count: usize,
+    parts: TreeParts<V>,
     kind: PhantomData<K>,
 }
 
@@ -66,9 +61,9 @@ impl<K: Bytes, V> Model for Tree<K, V> {
     ghost use Rattle.patricia_nodes.specs.Internal.Plans.{siblings_of};
     ghost use Rattle.patricia_core.specs.Internal.Stores.{IsStored};
 
-    ghost view = { λ t. map_of t.value (siblings_of t.arena) };
+    ghost view = { λ t. map_of t.parts.value (siblings_of t.parts.arena) };
 
-    ghost invariant = { λ t. IsStored K.item t.arena t.count };
+    ghost invariant = { λ t. IsStored K.item t.parts.arena t.parts.count };
 }
 
 impl<K: Bytes, V: Drop> Tree<K, V> {
@@ -79,10 +74,12 @@ impl<K: Bytes, V: Drop> Tree<K, V> {
         ensures { result ≡ map.empty }
     {
         Tree {
-            alloc,
-            value: None,
-            arena: NodeArena::new(alloc),
-            count: 0,
+            parts: TreeParts {
+                alloc,
+                value: None,
+                arena: NodeArena::new(alloc),
+                count: 0,
+            },
             kind: PhantomData,
         }
     }
@@ -91,29 +88,29 @@ impl<K: Bytes, V: Drop> Tree<K, V> {
     pub fn empty_alike(&self) -> Self
         ensures { result ≡ map.empty }
     {
-        Tree::new(self.alloc)
+        Tree::new(self.parts.alloc)
     }
 
     /// The allocator that the tree was made with.
     pub fn alloc(&self) -> Global {
-        self.alloc
+        self.parts.alloc
     }
 
     /// How many nodes the vector has, used or free. There is one for each point of the keys.
     pub fn slots(&self) -> usize
         ensures { (n : ℕ) × IsCount (IsPoint K.item (map.keys self.now)) n × (n ≤ result) }
     {
-        self.arena.node_count()
+        self.parts.arena.node_count()
     }
 
     /// The number of entries, that of the empty key included.
     pub fn len(&self) -> usize
         ensures { result ≡ map.len self.now }
     {
-        if self.value.is_some() {
-            self.count + 1
+        if self.parts.value.is_some() {
+            self.parts.count + 1
         } else {
-            self.count
+            self.parts.count
         }
     }
 
@@ -128,9 +125,9 @@ impl<K: Bytes, V: Drop> Tree<K, V> {
     pub fn clear(&mut self)
         ensures { self.new ≡ map.empty }
     {
-        self.value = None;
-        self.arena.clear();
-        self.count = 0;
+        self.parts.value = None;
+        self.parts.arena.clear();
+        self.parts.count = 0;
     }
 
     /// Relocates nodes that lie out of order, as at the end of a load. Without memory for that they
@@ -138,7 +135,7 @@ impl<K: Bytes, V: Drop> Tree<K, V> {
     pub fn settle(&mut self)
         ensures { self.new ≡ self.old }
     {
-        self.arena.settle(self.alloc);
+        self.parts.arena.settle(self.parts.alloc);
     }
 
     /// Looks a key up. It takes a step for the root, and one for each node whose label is compared
@@ -154,9 +151,9 @@ impl<K: Bytes, V: Drop> Tree<K, V> {
     {
         steps.tick();
         if key.is_empty() {
-            self.value.as_ref()
+            self.parts.value.as_ref()
         } else {
-            self.arena.get_counted(key, steps)
+            self.parts.arena.get_counted(key, steps)
         }
     }
 
@@ -192,14 +189,14 @@ impl<K: Bytes, V: Drop> Tree<K, V> {
         ensures only_new { OnErr result (map.get self.old (Q.key key) ≡ None) }
     {
         if key.is_empty() {
-            return Ok(self.value.replace(value));
+            return Ok(self.parts.value.replace(value));
         }
-        if self.count == usize::MAX - 1 && self.get(key).is_none() {
+        if self.parts.count == usize::MAX - 1 && self.get(key).is_none() {
             return Err(Refused { value });
         }
-        match insert(&mut self.arena, self.alloc, key, value) {
+        match insert(&mut self.parts.arena, self.parts.alloc, key, value) {
             Ok(None) => {
-                self.count += 1;
+                self.parts.count += 1;
                 Ok(None)
             }
             Ok(Some(old)) => Ok(Some(old)),
@@ -214,10 +211,14 @@ impl<K: Bytes, V: Drop> Tree<K, V> {
         ensures value { option_copied_mut result ≡ map.get self.old (Q.key key) }
     {
         if key.is_empty() {
-            return self.value.as_mut();
+            let parts = &mut self.parts;
+            return parts.value.as_mut();
         }
-        match self.arena.find(key) {
-            Some(id) => self.arena.value_mut(id),
+        match self.parts.arena.find(key) {
+            Some(id) => {
+                let parts = &mut self.parts;
+                parts.arena.value_mut(id)
+            }
             None => None,
         }
     }
@@ -231,11 +232,11 @@ impl<K: Bytes, V: Drop> Tree<K, V> {
         ensures joins { OnErr result (Joins K.item (map.keys self.old) (Q.key key)) }
     {
         if key.is_empty() {
-            return Ok(self.value.take());
+            return Ok(self.parts.value.take());
         }
-        match remove(&mut self.arena, self.alloc, key) {
+        match remove(&mut self.parts.arena, self.parts.alloc, key) {
             Ok(Some(old)) => {
-                self.count -= 1;
+                self.parts.count -= 1;
                 Ok(Some(old))
             }
             Ok(None) => Ok(None),
@@ -251,12 +252,14 @@ impl<K: Bytes, V: Drop> Tree<K, V> {
         ensures same { IfOk result (λ t. t ≡ self.now) }
         ensures err_only_nonempty { OnErr result (map.len self.now ≢ 0) }
     {
-        let value = copy_value(&self.value)?;
+        let value = copy_value(&self.parts.value)?;
         Ok(Tree {
-            alloc: self.alloc,
-            value,
-            arena: copy(&self.arena, self.alloc)?,
-            count: self.count,
+            parts: TreeParts {
+                alloc: self.parts.alloc,
+                value,
+                arena: copy(&self.parts.arena, self.parts.alloc)?,
+                count: self.parts.count,
+            },
             kind: PhantomData,
         })
     }
@@ -274,17 +277,14 @@ impl<K: Bytes, V: Drop> Tree<K, V> {
             (under (Q.key prefix) (map.entries self.old) ≢ []) }
     {
         if prefix.is_empty() {
-            let empty = Tree::new(self.alloc);
+            let empty = Tree::new(self.parts.alloc);
             return Ok(mem::replace(self, empty));
         }
-        match split(&mut self.arena, self.alloc, prefix) {
+        match split(&mut self.parts.arena, self.parts.alloc, prefix) {
             Ok(taken) => {
-                self.count -= taken.count;
+                self.parts.count -= taken.count;
                 Ok(Tree {
-                    alloc: self.alloc,
-                    value: None,
-                    arena: taken.arena,
-                    count: taken.count,
+                    parts: taken,
                     kind: PhantomData,
                 })
             }
@@ -297,7 +297,7 @@ impl<K: Bytes, V: Drop> Tree<K, V> {
         ensures valid { All (IsValid K.item) (map.keys self.now) }
         ensures bytes { All (All (λ b. b < 256)) (map.keys self.now) }
     {
-        let _count = self.count;
+        let _count = self.parts.count;
     }
 
     /// The common prefixes of a key: the entries whose key begins it, the shortest first. Each key
@@ -305,14 +305,14 @@ impl<K: Bytes, V: Drop> Tree<K, V> {
     pub fn along<Q: BorrowedBytes<Owned = K>>(&self, key: Q) -> Along<'_, Q, V>
         ensures { result ≡ along (Q.key key) (map.entries self.now) }
     {
-        Along::new(self.value.as_ref(), &self.arena, key)
+        Along::new(self.parts.value.as_ref(), &self.parts.arena, key)
     }
 
     /// The values of the same entries, for an owned key.
     pub fn along_owned(&self, key: K) -> AlongOwned<'_, K, V>
         ensures { result ≡ values_of (along (K.key key) (map.entries self.now)) }
     {
-        AlongOwned::new(self.value.as_ref(), &self.arena, key)
+        AlongOwned::new(self.parts.value.as_ref(), &self.parts.arena, key)
     }
 
     /// The longest prefix of a key: the entry of the longest key that begins it. The key that is
@@ -335,7 +335,7 @@ impl<K: Bytes, V: Drop> Tree<K, V> {
     pub fn reach<Q: BorrowedBytes<Owned = K>>(&self, key: Q) -> usize
         ensures { IsReach K.item (map.keys self.now) (Q.key key) result }
     {
-        reach(&self.arena, key)
+        reach(&self.parts.arena, key)
     }
 
     /// How many keys begin with a prefix. `None` only where one of them has more than 64 bytes
@@ -349,14 +349,15 @@ impl<K: Bytes, V: Drop> Tree<K, V> {
         if prefix.is_empty() {
             return Some(self.len());
         }
-        count_under(&self.arena, prefix)
+        count_under(&self.parts.arena, prefix)
     }
 
     /// A walk over the entries whose key begins with a prefix. Making it does not allocate.
     pub fn under<Q: BorrowedBytes<Owned = K>>(&self, prefix: Q) -> Under<'_, Q, V>
         ensures { result ≡ under (Q.key prefix) (map.entries self.now) }
     {
-        Under::new(self.alloc, self.value.as_ref(), &self.arena, prefix)
+        let parts = &self.parts;
+        Under::new(parts.alloc, parts.value.as_ref(), &parts.arena, prefix)
     }
 
     /// Returns the encoding of the keys, with levels of this width. The values are no part of it.
@@ -366,7 +367,7 @@ impl<K: Bytes, V: Drop> Tree<K, V> {
         ensures too_deep { result ≡ Err EncodeError.TooDeep
             → TooDeep K.item W.width (map.keys self.now) }
     {
-        encode::<K, W, V>(self.alloc, &self.value, &self.arena)
+        encode::<K, W, V>(self.parts.alloc, &self.parts.value, &self.parts.arena)
     }
 
     // The tree of the entries that the bytes mean with the values, with its nodes in key order.
@@ -376,14 +377,9 @@ impl<K: Bytes, V: Drop> Tree<K, V> {
         ensures refused { IfErr result (λ e.
             IsRefusal K.item W.width bytes.now (length values.items) e) }
     {
-        let given = values.len();
-        let Decoded { value, arena } = decode::<K, W, V>(alloc, bytes, values)?;
-        let count = if value.is_some() { given - 1 } else { given };
+        let parts = decode::<K, W, V>(alloc, bytes, values)?;
         Ok(Tree {
-            alloc,
-            value,
-            arena,
-            count,
+            parts,
             kind: PhantomData,
         })
     }
@@ -409,7 +405,8 @@ impl<K: Bytes, V: Drop> Tree<K, V> {
     pub fn walk(&self) -> Walk<'_, K, V>
         ensures { result ≡ map.entries self.now }
     {
-        Walk::new(self.alloc, self.value.as_ref(), &self.arena)
+        let parts = &self.parts;
+        Walk::new(parts.alloc, parts.value.as_ref(), &parts.arena)
     }
 
     /// A cursor that reads the entries in key order. Making it does not allocate.
@@ -433,19 +430,20 @@ impl<K: Bytes, V: Drop> Tree<K, V> {
     pub fn value_walk(&self) -> ValueWalk<'_, V>
         ensures { result ≡ map.values self.now }
     {
-        ValueWalk::new::<K>(self.alloc, self.value.as_ref(), &self.arena)
+        let parts = &self.parts;
+        ValueWalk::new::<K>(parts.alloc, parts.value.as_ref(), &parts.arena)
     }
 
     /// A walk that moves the entries out, in key order. Making it does not allocate.
     pub fn into_walk(self) -> IntoWalk<K, V>
         ensures { result ≡ map.entries self }
     {
-        let Tree {
+        let TreeParts {
             alloc,
             value,
             arena,
             ..
-        } = self;
+        } = self.parts;
         IntoWalk::new(alloc, value, arena)
     }
 }

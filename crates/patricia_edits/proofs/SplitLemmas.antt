@@ -252,7 +252,7 @@ module _ {item : List ℕ → Type 0} (kind : IsKeyKind item) {V : Type 0} {s : 
       -- so are they removed, wherever what is left is whole
       splits : (new : NodeArena V) (plan : Plan V) → Holds new plan
           → Gone item outside (siblings_in (fill f.frames here)) (siblings_in plan) prefix
-          → SplitsOff item s new prefix (record { arena = moved; count = count })
+          → SplitsOff item s new prefix moved count
       splits new plan held gone =
           let left : plan_at new.nodes.items new.root ≡ plan = plan_is new.nodes.items new.root plan held.1.plan_ok in
           let out : siblings_of moved ≡ node top f.value (siblings_in f.child) end = ap
@@ -275,7 +275,7 @@ module _ {item : List ℕ → Type 0} (kind : IsKeyKind item) {V : Type 0} {s : 
       -- where the node above keeps its place
       pub splits_spared : (new : NodeArena V) → Holds new (fill f.frames f.sibling)
           → LeftAlone item s link_ref id None
-          → SplitsOff item s new prefix (record { arena = moved; count = count })
+          → SplitsOff item s new prefix moved count
       splits_spared new held alone =
           splits new (fill f.frames f.sibling) held
           (spared-fill item kind outside (outside_leave item kind) f.frames here f.sibling f.at.canonical prefix rest f.leads
@@ -285,7 +285,7 @@ module _ {item : List ℕ → Type 0} (kind : IsKeyKind item) {V : Type 0} {s : 
       pub splits_other : (u o : ℕ)
           → (other : LeavesOther f.frames f.sibling u o) (new : NodeArena V)
           → Holds new (fill other.outer (Cell u (other.label ++ other.inner) other.own other.below other.beside))
-          → SplitsOff item s new prefix (record { arena = moved; count = count })
+          → SplitsOff item s new prefix moved count
       splits_other u o other new held =
           splits new (fill other.outer (Cell u (other.label ++ other.inner) other.own other.below other.beside)) held
           (other_gone item kind outside (outside_leave item kind) id f.label f.value f.child prefix
@@ -337,7 +337,7 @@ module _ (item : List ℕ → Type 0) {V : Type 0} (s : NodeArena V) (prefix : L
     (whole : IsWellFormed s) (ok : IsCanonical item (siblings_of s)) where
   -- a split then leaves all entries, and its new tree is empty and counts none
   pub splits_none : under prefix (entries_of s) ≡ [] → (out : NodeArena V) → IsWellFormed out
-      → siblings_of out ≡ end → SplitsOff item s s prefix (record { arena = out; count = 0 })
+      → siblings_of out ≡ end → SplitsOff item s s prefix out 0
   splits_none nothing out out_whole is = record {
     whole = whole;
     canonical = ok;

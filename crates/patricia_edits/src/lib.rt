@@ -11,4 +11,4 @@ mod splitting;
 pub use copying::{copy, copy_value};
 pub use insertion::{insert, insert_along};
 pub use removal::remove;
-pub use splitting::{Taken, split};
+pub use splitting::split;

@@ -1,5 +1,5 @@
 //! Taking out the nodes under a prefix.
-ghost use Rattle.std.specs.Prelude.{◌≡◌, ◌≢◌, ◌<◌, ◌≤◌, [], Some, IfOk, OnOk, OnErr, length};
+ghost use Rattle.std.specs.Prelude.{◌≡◌, ◌≢◌, ◌<◌, ◌≤◌, [], Some, None, IfOk, OnOk, OnErr, length};
 ghost use Rattle.std.specs.Prelude.{slice_get, vec_len, vec_capacity};
 ghost use Rattle.patricia_model.specs.Prefixes.{under};
 ghost use Rattle.patricia_model.specs.Siblings.{own, IsCanonical};
@@ -16,14 +16,8 @@ use patricia_nodes::arena::seek::{LinkRef, SeekResult};
 use patricia_nodes::arena::{Node, NodeArena};
 use patricia_nodes::label::Label;
 use patricia_nodes::link::{Link, NodeId};
+use patricia_walks::TreeParts;
 use std::alloc::{AllocError, Global};
-
-/// The nodes that were removed, and how many of them have a value.
-#[derive(Drop)]
-pub struct Taken<V> {
-    pub arena: NodeArena<V>,
-    pub count: usize,
-}
 
 // How many nodes there are, and how many of them have a value.
 #[derive(Clone, Copy)]
@@ -142,12 +136,14 @@ fn split_at<V: Drop, Q: BorrowedBytes>(
     prefix: Q,
     place: &SeekResult<Q>,
     id: NodeId,
-) -> Result<Taken<V>, AllocError>
+) -> Result<TreeParts<V>, AllocError>
     requires whole { IsWellFormed arena.old }
     requires siblings { IsCanonical Q.Owned.item (siblings_of arena.old) }
     requires place { IsSeekResult Q.Owned.item Q.key arena.old (Q.key prefix) place.now }
     requires under { node_under (Q.key place.now.rest) place.now.matched ≡ Some id }
-    ensures ok { IfOk result (λ t. SplitsOff Q.Owned.item arena.old arena.new (Q.key prefix) t) }
+    ensures ok { IfOk result (λ t.
+        SplitsOff Q.Owned.item arena.old arena.new (Q.key prefix) t.arena t.count) }
+    ensures no_value { IfOk result (λ t. t.value ≡ None) }
     ensures unchanged { OnErr result (arena.new ≡ arena.old) }
     ensures begun { OnErr result (under (Q.key prefix) (entries_of arena.old) ≢ []) }
 {
@@ -156,27 +152,36 @@ fn split_at<V: Drop, Q: BorrowedBytes>(
     let label = top_label(arena, alloc, id, prefix.as_bytes(), passed)?;
     let Some(alone) = arena.would_merge::<Q::Owned>(place.link_ref, id) else {
         let arena = move_out(arena, place.link_ref, id, label, room);
-        return Ok(Taken { arena, count });
+        return Ok(TreeParts {
+            alloc,
+            value: None,
+            arena,
+            count,
+        });
     };
     let together = arena.concat_labels(alloc, alone.0, alone.1)?;
     let taken = move_out(arena, place.link_ref, id, label, room);
     let _none = arena.merge_only_child(alone.0, alone.1, together);
-    Ok(Taken {
+    Ok(TreeParts {
+        alloc,
+        value: None,
         arena: taken,
         count,
     })
 }
 
-/// Removes what is under a prefix that is not empty.
+/// Removes what is under a prefix that is not empty, and returns it as a tree.
 pub fn split<V: Drop, Q: BorrowedBytes>(
     arena: &mut NodeArena<V>,
     alloc: Global,
     prefix: Q,
-) -> Result<Taken<V>, AllocError>
+) -> Result<TreeParts<V>, AllocError>
     requires whole { IsWellFormed arena.old }
     requires siblings { IsCanonical Q.Owned.item (siblings_of arena.old) }
     requires nonempty { Q.key prefix ≢ [] }
-    ensures ok { IfOk result (λ t. SplitsOff Q.Owned.item arena.old arena.new (Q.key prefix) t) }
+    ensures ok { IfOk result (λ t.
+        SplitsOff Q.Owned.item arena.old arena.new (Q.key prefix) t.arena t.count) }
+    ensures no_value { IfOk result (λ t. t.value ≡ None) }
     ensures unchanged { OnErr result (arena.new ≡ arena.old) }
     ensures begun { OnErr result (under (Q.key prefix) (entries_of arena.old) ≢ []) }
 {
@@ -184,7 +189,9 @@ pub fn split<V: Drop, Q: BorrowedBytes>(
     let _valid = place.rest.as_bytes();
     match place.under() {
         Some(id) => split_at(arena, alloc, prefix, &place, id),
-        None => Ok(Taken {
+        None => Ok(TreeParts {
+            alloc,
+            value: None,
             arena: NodeArena::new(alloc),
             count: 0,
         }),

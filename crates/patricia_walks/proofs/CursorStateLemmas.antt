@@ -14,7 +14,7 @@ use Rattle.patricia_walks.specs.declared.cursor_state.CursorState.{CursorState}
 use Rattle.patricia_walks.specs.declared.held_tree.TreeParts.{TreeParts}
 use Rattle.patricia_walks.specs.declared.held_tree.ValueSlot.TheVariants.{OfEmptyKey}
 use Rattle.patricia_walks.specs.Internal.Holders.{numbered_slots, holders}
-use Rattle.patricia_walks.specs.Internal.HeldTrees.{standing, IsHeld, IsMadeOf, IsSameTree}
+use Rattle.patricia_walks.specs.Internal.HeldTrees.{standing, IsHeld}
 use Rattle.patricia_walks.specs.Internal.CursorStates.{position_of, left_of, Advances}
 use Rattle.patricia_walks.specs.Internal.CursorStates.{StepIsRefused}
 use Rattle.patricia_walks.specs.Internal.CursorStates.{IsCursorState, IsAhead, IsPrefixCursor}
@@ -32,7 +32,7 @@ state_leaves item t prefix w = record { held = w.held; left_is = w.left_is }
 
 -- a step by its answer: the state stays one, whatever came of it
 pub step_state : (item : List ℕ → Type 0) (kind : IsKeyKind item) {V : Type 0} (t u : CursorState V)
-    (prefix : List ℕ) (w : IsCursorState item t prefix) (s : IsSameTree t.tree u.tree)
+    (prefix : List ℕ) (w : IsCursorState item t prefix) (s : u.tree.parts ≡ t.tree.parts)
     (position : IsPosition item (position_of u)) {A E : Type 0} (r : Result A E)
     → ((a : A) → r ≡ Ok a → (key : Option (List ℕ)) × Advances t key u)
     → OnErr r (StepIsRefused t u) → IsCursorState item u prefix
@@ -42,7 +42,7 @@ step_state item kind t u prefix w s position r goes err =
 
 module _ (item : List ℕ → Type 0) {V : Type 0} (p : TreeParts V) (t : CursorState V)
     (prefix : List ℕ) (whole : IsWellFormed p.arena)
-    (tree : IsTree item (siblings_of p.arena) p.count) (made : IsMadeOf p t.tree)
+    (tree : IsTree item (siblings_of p.arena) p.count) (made : t.tree.parts ≡ p)
     (last : t.tree.last ≡ None) where
   -- the empty key is not under a prefix with bytes, so its value makes no difference
   below : prefix ≢ [] → under prefix (holders p.value p.arena) ≡ under prefix (holders None p.arena)
@@ -67,8 +67,8 @@ module _ (item : List ℕ → Type 0) {V : Type 0} (p : TreeParts V) (t : Cursor
     none = last;
     within = some.within;
     stack = stack;
-    start = rw (← made.arena) some.start;
-    left_is = made_left item p t.tree prefix whole tree made last _ (rw (← made.arena) some.entries ∙ sym (below nonempty));
+    start = rw made some.start;
+    left_is = made_left item p t.tree prefix whole tree made last _ (rw made some.entries ∙ sym (below nonempty));
   }
 
 -- the tree is held before the walk has begun, and after
@@ -83,8 +83,8 @@ module _ (item : List ℕ → Type 0) (kind : IsKeyKind item) {V : Type 0} (t : 
   -- before that a key is left
   pub ahead_left : next_key (standing t.tree prefix) ≢ None
   ahead_left =
-      let m = marked t.tree.arena w.held.whole in
-      next_filled item kind t.tree prefix w.held _ w.left_is (start_filled item kind t.tree.arena m.0 m.1 (take front prefix) top w.start)
+      let m = marked t.tree.parts.arena w.held.whole in
+      next_filled item kind t.tree prefix w.held _ w.left_is (start_filled item kind t.tree.parts.arena m.0 m.1 (take front prefix) top w.start)
 
 -- before it begins, a prefix cursor is ahead of its first key
 pub under_ahead : (item : List ℕ → Type 0) {V : Type 0} (t : CursorState V) (prefix : List ℕ)

@@ -21,7 +21,7 @@ use Rattle.patricia_walks.specs.declared.held_tree.ValueSlot.{ValueSlot}
 use Rattle.patricia_walks.specs.Internal.Holders.{holders, held, key_at, ReadsHeld}
 use Rattle.patricia_walks.specs.Internal.HeldTrees.{last_key, standing, entries_to_lend}
 use Rattle.patricia_walks.specs.Internal.HeldTrees.{AreEntriesLeft}
-use Rattle.patricia_walks.specs.Internal.HeldTrees.{IsHeld, IsMadeOf, IsSameTree, Refuses, Takes}
+use Rattle.patricia_walks.specs.Internal.HeldTrees.{IsHeld, Refuses, Takes}
 use Rattle.patricia_walks.proofs.HolderLemmas.{holders_read, holders_once, holders_sorted}
 use Rattle.patricia_walks.proofs.ReadLemmas.{key_of_once, reads_after, reads_first, reads_none}
 
@@ -29,23 +29,23 @@ module _ (item : List ℕ → Type 0) (kind : IsKeyKind item) {V : Type 0} (t : 
     (prefix : List ℕ) (w : IsHeld item t) where
   -- the entries that are left are those that the cursor has still to lend
   read_left : (entries : List (List ℕ × ValueSlot)) → AreEntriesLeft t prefix entries
-      → ReadsHeld (held t.value t.arena.nodes.items) entries (remaining_entries (standing t prefix))
+      → ReadsHeld (held t.parts.value t.parts.arena.nodes.items) entries (remaining_entries (standing t prefix))
   read_left entries is =
-      rw (is, entries_map item kind t.value (siblings_of t.arena) w.tree.canonical)
-      (reads_after (held t.value t.arena.nodes.items) (last_key t) prefix (holders t.value t.arena)
-      (own t.value ++ entries_of t.arena) (holders_read t.arena w.whole t.value))
+      rw (is, entries_map item kind t.parts.value (siblings_of t.parts.arena) w.tree.canonical)
+      (reads_after (held t.parts.value t.parts.arena.nodes.items) (last_key t) prefix (holders t.parts.value t.parts.arena)
+      (own t.parts.value ++ entries_of t.parts.arena) (holders_read t.parts.arena w.whole t.parts.value))
 
   -- where none is left there is no next key
   pub next_none : AreEntriesLeft t prefix [] → next_key (standing t prefix) ≡ None
   next_none is = ap (λ entries. option_map (λ e. e.0) (slice_get entries 0))
-      (reads_none (held t.value t.arena.nodes.items) (remaining_entries (standing t prefix))
+      (reads_none (held t.parts.value t.parts.arena.nodes.items) (remaining_entries (standing t prefix))
       (read_left [] is))
 
   -- and else it is the first
   pub next_some : (key : List ℕ) (h : ValueSlot) (rest : List (List ℕ × ValueSlot))
       → AreEntriesLeft t prefix ((key, h) ∷ rest) → next_key (standing t prefix) ≡ Some key
   next_some key h rest is = ap (option_map (λ e. e.0))
-      (reads_first (held t.value t.arena.nodes.items) (key, h) rest
+      (reads_first (held t.parts.value t.parts.arena.nodes.items) (key, h) rest
       (remaining_entries (standing t prefix)) (read_left ((key, h) ∷ rest) is)).1
 
   -- so there is one where an entry is left
@@ -55,29 +55,29 @@ module _ (item : List ℕ → Type 0) (kind : IsKeyKind item) {V : Type 0} (t : 
   next_filled ((key, h) ∷ rest) is nonempty = λ none. let some = next_some key h rest is in absurd (cc)
 
   -- the holders under a prefix are in the order of their keys
-  under_sorted : T (is_sorted key_cmp (under prefix (holders t.value t.arena)))
-  under_sorted = is_sorted-where_key key_cmp (begins prefix) (holders t.value t.arena) (holders_sorted t.arena w.whole item kind t.value w.tree.canonical)
+  under_sorted : T (is_sorted key_cmp (under prefix (holders t.parts.value t.parts.arena)))
+  under_sorted = is_sorted-where_key key_cmp (begins prefix) (holders t.parts.value t.parts.arena) (holders_sorted t.parts.arena w.whole item kind t.parts.value w.tree.canonical)
 
   -- the holder of the first entry that is left has its key
   pub first_key : (key : List ℕ) (h : ValueSlot) (rest : List (List ℕ × ValueSlot))
-      → AreEntriesLeft t prefix ((key, h) ∷ rest) → key_at (holders t.value t.arena) h ≡ Some key
+      → AreEntriesLeft t prefix ((key, h) ∷ rest) → key_at (holders t.parts.value t.parts.arena) h ≡ Some key
   first_key key h rest is =
-      let entries = holders t.value t.arena in
+      let entries = holders t.parts.value t.parts.arena in
       let first = after_has (last_key t) (under prefix entries) (key, h) (subst (λ r. Has r (key, h)) is (inl refl)) in
-      key_of_once h entries (holders_once t.arena w.whole t.value h) key (has_filter (λ e. begins prefix e.0) entries (key, h) first).0
+      key_of_once h entries (holders_once t.parts.arena w.whole t.parts.value h) key (has_filter (λ e. begins prefix e.0) entries (key, h) first).0
 
   -- and behind it are the others
   pub rest_left : (key : List ℕ) (h : ValueSlot) (rest : List (List ℕ × ValueSlot))
       → AreEntriesLeft t prefix ((key, h) ∷ rest)
-      → rest ≡ after (Some key) (under prefix (holders t.value t.arena))
-  rest_left key h rest is = sym (after_first (last_key t) (under prefix (holders t.value t.arena)) under_sorted (key, h) rest (sym is))
+      → rest ≡ after (Some key) (under prefix (holders t.parts.value t.parts.arena))
+  rest_left key h rest is = sym (after_first (last_key t) (under prefix (holders t.parts.value t.parts.arena)) under_sorted (key, h) rest (sym is))
 
 -- the same tree keeps its holders
 same_held : (item : List ℕ → Type 0) {V : Type 0} (t u : HeldTree V) → IsHeld item t
-    → IsSameTree t u
-    → ((h : ValueSlot) → u.last ≡ Some h → key_at (holders t.value t.arena) h ≢ None)
+    → u.parts ≡ t.parts
+    → ((h : ValueSlot) → u.last ≡ Some h → key_at (holders t.parts.value t.parts.arena) h ≢ None)
     → IsHeld item u
-same_held item t u w s known = record { whole = rw s.arena w.whole; tree = rw (s.arena, s.count) w.tree; known = rw (s.value, s.arena) known }
+same_held item t u w s known = record { whole = rw s w.whole; tree = rw s w.tree; known = rw s known }
 
 -- the entries that are left of a tree that is held
 pub record Leaves (item : List ℕ → Type 0) {V : Type 0} (t : HeldTree V) (prefix : List ℕ) (entries : List (List ℕ × ValueSlot)) : Type 0 where
@@ -99,14 +99,14 @@ module _ (item : List ℕ → Type 0) {V : Type 0} (t u : HeldTree V) (prefix : 
 
 module _ (item : List ℕ → Type 0) (kind : IsKeyKind item) {V : Type 0} (t u : HeldTree V)
     (prefix : List ℕ) (entries later : List (List ℕ × ValueSlot)) (w : Leaves item t prefix entries)
-    (s : IsSameTree t u) where
+    (s : u.parts ≡ t.parts) where
   -- with the last holder the whole stays
   same_standing : u.last ≡ t.last → standing u prefix ≡ standing t prefix
-  same_standing last = rw (s.value, s.arena, last) refl
+  same_standing last = rw (s, last) refl
 
   -- with the last holder, the entries behind its key are the same
   same_entries : u.last ≡ t.last → entries_to_lend u prefix ≡ entries_to_lend t prefix
-  same_entries last = rw (s.value, s.arena, last) refl
+  same_entries last = rw (s, last) refl
 
   -- where the last holder and the entries are kept, these are left still
   same_last : u.last ≡ t.last → later ≡ entries → Leaves item u prefix later
@@ -136,20 +136,20 @@ module _ (item : List ℕ → Type 0) (kind : IsKeyKind item) {V : Type 0} (t u 
       let left = subst (AreEntriesLeft t prefix) g.1 w.left_is in
       let some = next_some item kind t prefix w.held key g.0 later left in
       let first = first_key item kind t prefix w.held key g.0 later left in
-      let last : last_key u ≡ Some key = rw (s.value, s.arena, g.2) first in
+      let last : last_key u ≡ Some key = rw (s, g.2) first in
       record {
         leaves = record {
           held = same_held item t u w.held s (λ h is none. let same : g.0 ≡ h = (let both = sym g.2 ∙ is in cc) in let gone = rw (← same) at none in cc);
-          left_is = rest_left item kind t prefix w.held key g.0 later left ∙ sym (rw (last, s.value, s.arena) refl);
+          left_is = rest_left item kind t prefix w.held key g.0 later left ∙ sym (rw (last, s) refl);
         };
         next = some;
-        stands = rw (some, s.value, s.arena)
+        stands = rw (some, s)
             (ap (λ k.
             record {
-              map = map_of t.value (siblings_of t.arena);
+              map = map_of t.parts.value (siblings_of t.parts.arena);
               prefix = prefix;
               last = k;
-            }) (let l = rw (s.value, s.arena) at last in l));
+            }) (let l = rw s at last in l));
       }
 
   -- a step by its answer: these entries are left, whatever came of it
@@ -203,18 +203,18 @@ goes_so P (Err b) p a e = absurd (cc)
 
 module _ (item : List ℕ → Type 0) {V : Type 0} (p : TreeParts V) (t : HeldTree V)
     (prefix : List ℕ) (whole : IsWellFormed p.arena)
-    (tree : IsTree item (siblings_of p.arena) p.count) (made : IsMadeOf p t)
+    (tree : IsTree item (siblings_of p.arena) p.count) (made : t.parts ≡ p)
     (last : t.last ≡ None) where
   -- the tree is whole, and nothing was lent last
   pub made_held : IsHeld item t
-  made_held = record { whole = rw (← made.arena) whole; tree = rw (← made.arena, ← made.count) tree; known = λ h is. absurd (let no = sym last ∙ is in cc) }
+  made_held = record { whole = rw made whole; tree = rw made tree; known = λ h is. absurd (let no = sym last ∙ is in cc) }
 
   -- the entries that are left are all those under the prefix
   pub made_left : (entries : List (List ℕ × ValueSlot)) → entries ≡ under prefix (holders p.value p.arena)
       → AreEntriesLeft t prefix entries
-  made_left entries is = is ∙ rw (last, made.value, made.arena) refl
+  made_left entries is = is ∙ rw (last, made) refl
 
   -- a new cursor is before the first key
   pub made_stands :
       standing t prefix ≡ record { map = map_of p.value (siblings_of p.arena); prefix = prefix; last = None }
-  made_stands = rw (last, ← made.value, ← made.arena) refl
+  made_stands = rw (last, made) refl

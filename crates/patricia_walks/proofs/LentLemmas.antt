@@ -40,53 +40,53 @@ node_in (Some n) v e = (n, refl, e)
 module _ (item : List ℕ → Type 0) {V : Type 0} (t : HeldTree V) (w : IsHeld item t) where
   -- what was lent last holds a value
   holds : (h : ValueSlot) → t.last ≡ Some h
-      → (v : V) × (held t.value t.arena.nodes.items h ≡ Some v)
-  holds h is = key_value (held t.value t.arena.nodes.items) h (holders t.value t.arena)
-      (own t.value ++ entries_of t.arena) (holders_read t.arena w.whole t.value) (w.known h is)
+      → (v : V) × (held t.parts.value t.parts.arena.nodes.items h ≡ Some v)
+  holds h is = key_value (held t.parts.value t.parts.arena.nodes.items) h (holders t.parts.value t.parts.arena)
+      (own t.parts.value ++ entries_of t.parts.arena) (holders_read t.parts.arena w.whole t.parts.value) (w.known h is)
 
   -- the node of the value that was lent last
   pub last_node : (id : ℕ) → t.last ≡ Some (OfNode id)
-      → (n : Node V) × (slice_get t.arena.nodes.items id ≡ Some n) × (n.value ≢ None)
+      → (n : Node V) × (slice_get t.parts.arena.nodes.items id ≡ Some n) × (n.value ≢ None)
   last_node id is =
       let v = holds (OfNode id) is in
-      let n = node_in (slice_get t.arena.nodes.items id) v.0 v.1 in
+      let n = node_in (slice_get t.parts.arena.nodes.items id) v.0 v.1 in
       (n.0, n.1, λ none. let both = sym n.2 ∙ none in absurd (cc))
 
   -- the node whose value was lent last is in the vector
-  pub last_within : (id : ℕ) → t.last ≡ Some (OfNode id) → id < length t.arena.nodes.items
-  last_within id is = let n = last_node id is in slice_get_within t.arena.nodes.items id n.0 n.1
+  pub last_within : (id : ℕ) → t.last ≡ Some (OfNode id) → id < length t.parts.arena.nodes.items
+  last_within id is = let n = last_node id is in slice_get_within t.parts.arena.nodes.items id n.0 n.1
 
 -- a tree after a write
 pub record Wrote (item : List ℕ → Type 0) {V : Type 0} (t u : HeldTree V) (prefix : List ℕ) (x : V) : Type 0 where
   pub held : IsHeld item u
   pub stands : standing u prefix ≡ written (standing t prefix) x
-  pub nodes : numbered_slots 0 u.arena.nodes.items ≡ numbered_slots 0 t.arena.nodes.items
+  pub nodes : numbered_slots 0 u.parts.arena.nodes.items ≡ numbered_slots 0 t.parts.arena.nodes.items
   pub entries : entries_to_lend u prefix ≡ entries_to_lend t prefix
 
 module _ (item : List ℕ → Type 0) (kind : IsKeyKind item) {V : Type 0} (t u : HeldTree V)
     (prefix : List ℕ) (w : IsHeld item t) (h : ValueSlot) (lent : t.last ≡ Some h)
     (last : u.last ≡ t.last) (x : V)
-    (same : holders u.value u.arena ≡ holders t.value t.arena)
-    (nodes : numbered_slots 0 u.arena.nodes.items ≡ numbered_slots 0 t.arena.nodes.items)
-    (whole : IsWellFormed u.arena) (tree : IsTree item (siblings_of u.arena) u.count)
-    (here : held u.value u.arena.nodes.items h ≡ Some x)
-    (others : (g : ValueSlot) → is_same g h ≡ false → held u.value u.arena.nodes.items g ≡ held
-    t.value t.arena.nodes.items g) where
+    (same : holders u.parts.value u.parts.arena ≡ holders t.parts.value t.parts.arena)
+    (nodes : numbered_slots 0 u.parts.arena.nodes.items ≡ numbered_slots 0 t.parts.arena.nodes.items)
+    (whole : IsWellFormed u.parts.arena) (tree : IsTree item (siblings_of u.parts.arena) u.parts.count)
+    (here : held u.parts.value u.parts.arena.nodes.items h ≡ Some x)
+    (others : (g : ValueSlot) → is_same g h ≡ false → held u.parts.value u.parts.arena.nodes.items g ≡ held
+    t.parts.value t.parts.arena.nodes.items g) where
   -- what a caller sees after the write is the map with the value at the holder's key
-  key_is : (k : Option (List ℕ)) → key_at (holders t.value t.arena) h ≡ k
+  key_is : (k : Option (List ℕ)) → key_at (holders t.parts.value t.parts.arena) h ≡ k
       → standing u prefix ≡ written_at (standing t prefix) k x
   key_is None e = absurd (w.known h lent e)
   key_is (Some k) e =
-      let entries = own t.value ++ entries_of t.arena in
-      let sorted = tree_sorted item kind t.value (siblings_of t.arena) w.tree.canonical in
-      let reads = subst (λ es. ReadsHeld (held u.value u.arena.nodes.items) es (own u.value ++ entries_of u.arena)) same (holders_read u.arena whole u.value) in
-      let put_in = put_read (held t.value t.arena.nodes.items) (held u.value u.arena.nodes.items) h
-      x here others k (holders t.value t.arena) entries _
-      (holders_read t.arena w.whole t.value) reads
-      (holders_once t.arena w.whole t.value h) sorted e in
+      let entries = own t.parts.value ++ entries_of t.parts.arena in
+      let sorted = tree_sorted item kind t.parts.value (siblings_of t.parts.arena) w.tree.canonical in
+      let reads = subst (λ es. ReadsHeld (held u.parts.value u.parts.arena.nodes.items) es (own u.parts.value ++ entries_of u.parts.arena)) same (holders_read u.parts.arena whole u.parts.value) in
+      let put_in = put_read (held t.parts.value t.parts.arena.nodes.items) (held u.parts.value u.parts.arena.nodes.items) h
+      x here others k (holders t.parts.value t.parts.arena) entries _
+      (holders_read t.parts.arena w.whole t.parts.value) reads
+      (holders_once t.parts.arena w.whole t.parts.value h) sorted e in
       let keys : last_key u ≡ last_key t = rw (same, last) refl in
       ap (λ m. record { map = m; prefix = prefix; last = last_key u }) (ap from_sorted put_in ∙ sym (from_sorted-put entries k x sorted))
-      ∙ ap (λ l. record { map = map.insert (map_of t.value (siblings_of t.arena)) k x; prefix = prefix; last = l }) keys
+      ∙ ap (λ l. record { map = map.insert (map_of t.parts.value (siblings_of t.parts.arena)) k x; prefix = prefix; last = l }) keys
 
   -- a write through the loan changes the value at that key alone
   pub wrote : Wrote item t u prefix x
@@ -94,8 +94,8 @@ module _ (item : List ℕ → Type 0) (kind : IsKeyKind item) {V : Type 0} (t u 
     held = record { whole = whole; tree = tree; known = rw same (λ g is. w.known g (sym last ∙ is)) };
     stands = subst
         (λ o. standing u prefix ≡ written_at (standing t prefix)
-        (key_of (holders t.value t.arena) o) x) (sym lent)
-        (key_is (key_at (holders t.value t.arena) h) refl);
+        (key_of (holders t.parts.value t.parts.arena) o) x) (sym lent)
+        (key_is (key_at (holders t.parts.value t.parts.arena) h) refl);
     nodes = nodes;
     entries = rw (same, last) refl;
   }
@@ -111,32 +111,32 @@ module _ (item : List ℕ → Type 0) (kind : IsKeyKind item) {V : Type 0} (t : 
         held = w;
         stands = subst
             (λ o. standing t prefix ≡ written_at (standing t prefix)
-            (key_of (holders t.value t.arena) o) x) (sym is) refl;
+            (key_of (holders t.parts.value t.parts.arena) o) x) (sym is) refl;
         nodes = refl;
         entries = refl;
       }
       by (Some OfEmptyKey) is =
           let v = holds item t w OfEmptyKey is in
-          wrote item kind t (record t { value = Some x }) prefix w OfEmptyKey is refl x
+          wrote item kind t (record t { parts = record t.parts { value = Some x } }) prefix w OfEmptyKey is refl x
           (rw v.1 refl) refl w.whole w.tree refl (λ g other. by_top g other)
         where
           by_top : (g : ValueSlot) → is_same g OfEmptyKey ≡ false
-              → held (Some x) t.arena.nodes.items g ≡ held t.value t.arena.nodes.items g
+              → held (Some x) t.parts.arena.nodes.items g ≡ held t.parts.value t.parts.arena.nodes.items g
           by_top OfEmptyKey other = absurd (cc)
           by_top (OfNode i) other = refl
       by (Some (OfNode id)) is =
           let n = last_node item t w id is in
-          let items : (with_value t.arena id x).nodes.items ≡ set t.arena.nodes.items id
+          let items : (with_value t.parts.arena id x).nodes.items ≡ set t.parts.arena.nodes.items id
           (record n.0 { value = Some x }) = ap
-          (λ o. (with_valued t.arena.nodes id x o).items) n.1 in
-          let u = with_value t.arena id x in
-          wrote item kind t (record t { arena = u }) prefix w (OfNode id) is refl x
-          (write_holders t.arena u id n.0 x n.1 n.2 items refl refl t.value)
-          (write_numbered t.arena u id n.0 x n.1 n.2 items refl refl)
-          (write_whole t.arena u id n.0 x n.1 n.2 items refl refl w.whole)
-          (write_tree t.arena u id n.0 x n.1 n.2 items refl refl item t.count w.whole w.tree)
-          (write_held t.arena u id n.0 x n.1 n.2 items refl refl t.value)
-          (write_kept t.arena u id n.0 x n.1 n.2 items refl refl t.value)
+          (λ o. (with_valued t.parts.arena.nodes id x o).items) n.1 in
+          let u = with_value t.parts.arena id x in
+          wrote item kind t (record t { parts = record t.parts { arena = u } }) prefix w (OfNode id) is refl x
+          (write_holders t.parts.arena u id n.0 x n.1 n.2 items refl refl t.parts.value)
+          (write_numbered t.parts.arena u id n.0 x n.1 n.2 items refl refl)
+          (write_whole t.parts.arena u id n.0 x n.1 n.2 items refl refl w.whole)
+          (write_tree t.parts.arena u id n.0 x n.1 n.2 items refl refl item t.parts.count w.whole w.tree)
+          (write_held t.parts.arena u id n.0 x n.1 n.2 items refl refl t.parts.value)
+          (write_kept t.parts.arena u id n.0 x n.1 n.2 items refl refl t.parts.value)
 
 module _ (item : List ℕ → Type 0) (kind : IsKeyKind item) {V : Type 0} (t : HeldTree V)
     (prefix : List ℕ) (w : IsHeld item t) where
@@ -145,19 +145,19 @@ module _ (item : List ℕ → Type 0) (kind : IsKeyKind item) {V : Type 0} (t : 
   read_last = by t.last refl
     where
       by : (o : Option ValueSlot) → t.last ≡ o
-          → held_last t o ≡ value_at (standing t prefix) (key_of (holders t.value t.arena) o)
+          → held_last t o ≡ value_at (standing t prefix) (key_of (holders t.parts.value t.parts.arena) o)
       by None is = refl
-      by (Some h) is = at (key_at (holders t.value t.arena) h) refl
+      by (Some h) is = at (key_at (holders t.parts.value t.parts.arena) h) refl
         where
-          at : (k : Option (List ℕ)) → key_at (holders t.value t.arena) h ≡ k
-              → held t.value t.arena.nodes.items h ≡ value_at (standing t prefix) k
+          at : (k : Option (List ℕ)) → key_at (holders t.parts.value t.parts.arena) h ≡ k
+              → held t.parts.value t.parts.arena.nodes.items h ≡ value_at (standing t prefix) k
           at None e = absurd (w.known h is e)
           at (Some k) e =
-              let entries = own t.value ++ entries_of t.arena in
-              let sorted = tree_sorted item kind t.value (siblings_of t.arena) w.tree.canonical in
+              let entries = own t.parts.value ++ entries_of t.parts.arena in
+              let sorted = tree_sorted item kind t.parts.value (siblings_of t.parts.arena) w.tree.canonical in
               sym (get-from_sorted key_cmp entries k sorted ∙ find_read
-              (held t.value t.arena.nodes.items) h k (holders t.value t.arena) entries
-              (holders_read t.arena w.whole t.value) sorted e)
+              (held t.parts.value t.parts.arena.nodes.items) h k (holders t.parts.value t.parts.arena) entries
+              (holders_read t.parts.arena w.whole t.parts.value) sorted e)
 
 module _ (item : List ℕ → Type 0) (kind : IsKeyKind item) {V : Type 0} (t : CursorState V)
     (prefix : List ℕ) (x : V) where

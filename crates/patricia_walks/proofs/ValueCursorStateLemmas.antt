@@ -13,8 +13,7 @@ use Rattle.patricia_walks.specs.declared.held_tree.TreeParts.{TreeParts}
 use Rattle.patricia_walks.specs.declared.held_tree.ValueSlot.{ValueSlot}
 use Rattle.patricia_walks.specs.declared.held_tree.ValueSlot.TheVariants.{OfEmptyKey}
 use Rattle.patricia_walks.specs.declared.value_cursor.ValueCursorState.{ValueCursorState}
-use Rattle.patricia_walks.specs.Internal.HeldTrees.{entries_to_lend, with_held, IsMadeOf}
-use Rattle.patricia_walks.specs.Internal.HeldTrees.{IsSameTree}
+use Rattle.patricia_walks.specs.Internal.HeldTrees.{entries_to_lend, with_held}
 use Rattle.patricia_walks.specs.Internal.HeldTrees.{Refuses, Takes}
 use Rattle.patricia_walks.specs.Internal.Holders.{holders}
 use Rattle.patricia_walks.specs.Internal.ValuePositions.{IsValuePosition, values_left}
@@ -95,7 +94,7 @@ module _ (item : List ℕ → Type 0) {V : Type 0} (t u : ValueCursorState V) (w
   value_leaves = record { held = w.held; left_is = refl }
 
   -- a step by its answer: the state stays one, whatever came of it
-  pub step_values : IsKeyKind item → IsSameTree t.tree u.tree → IsValuePosition (spot_of u)
+  pub step_values : IsKeyKind item → u.tree.parts ≡ t.tree.parts → IsValuePosition (spot_of u)
       → {E : Type 0} (r : Result Bool E) → IfOk r (λ found. Moves t found u)
       → OnErr r (MoveIsRefused t u) → IsValueCursorState item u
   step_values kind s position (Ok found) m err =
@@ -122,24 +121,24 @@ module _ (item : List ℕ → Type 0) (kind : IsKeyKind item) {V : Type 0} (t : 
       }
 
 module _ (item : List ℕ → Type 0) {V : Type 0} (p : TreeParts V) (t : ValueCursorState V)
-    (whole : IsWellFormed p.arena) (made : IsMadeOf p t.tree) where
-  module _ (next : t.next ≡ t.tree.arena.root) (stack : t.stack.items ≡ []) where
+    (whole : IsWellFormed p.arena) (made : t.tree.parts ≡ p) where
+  module _ (next : t.next ≡ t.tree.parts.arena.root) (stack : t.stack.items ≡ []) where
     -- a new state stands at the top siblings
     pub new_position : IsCanonical item (siblings_of p.arena) → IsValuePosition (spot_of t)
     new_position ok =
         let m = marked p.arena whole in
         stands_at_start item m.0 (spot_of t) m.1.whole
         (rw (m.1.nodes, m.1.root) ((siblings_marked p.arena whole item).0 ok))
-        (rw (← made.arena) (sym m.1.nodes)) (next ∙ rw (← made.arena) (sym m.1.root)) stack
+        (rw made (sym m.1.nodes)) (next ∙ rw made (sym m.1.root)) stack
 
     -- and all holders are left
-    pub new_left : t.pending ≡ option_map (λ _. OfEmptyKey) t.tree.value
+    pub new_left : t.pending ≡ option_map (λ _. OfEmptyKey) t.tree.parts.value
         → holders_left t ≡ values_of (holders p.value p.arena)
     new_left pending =
         let m = marked p.arena whole in
-        left_at_start m.0 (spot_of t) (rw (← made.arena) (sym m.1.nodes))
-        (next ∙ rw (← made.arena) (sym m.1.root)) stack
-        ∙ rw (pending, ← made.value, m.1.nodes, m.1.root) refl
+        left_at_start m.0 (spot_of t) (rw made (sym m.1.nodes))
+        (next ∙ rw made (sym m.1.root)) stack
+        ∙ rw (pending, made, m.1.nodes, m.1.root) refl
 
   -- it is a state, of which nothing is lent yet
   pub new_state : IsTree item (siblings_of p.arena) p.count → t.tree.last ≡ None

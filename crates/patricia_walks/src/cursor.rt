@@ -12,13 +12,12 @@ ghost use Rattle.patricia_walks.specs.Internal.CursorStates.{IsCursorState, IsPr
 use crate::cursor_state::{CursorState, Start, find_start};
 use crate::held_tree::TreeParts;
 use patricia_keys::{BorrowedBytes, Bytes};
-use std::alloc::{AllocError, Global};
+use std::alloc::AllocError;
 use std::marker::{Model, PhantomData};
 
 /// A cursor over all entries.
 #[derive(Drop)]
 pub struct Cursor<K: Bytes, V> {
-    alloc: Global,
     state: CursorState<V>,
     kind: PhantomData<K>,
 }
@@ -53,7 +52,6 @@ impl<K: Bytes, V: Drop> Cursor<K, V> {
         } }
     {
         Cursor {
-            alloc: parts.alloc,
             state: CursorState::new::<K>(parts),
             kind: PhantomData,
         }
@@ -66,7 +64,7 @@ impl<K: Bytes, V: Drop> Cursor<K, V> {
         ensures unchanged { OnErr result (self.new ≡ self.old) }
         ensures err_only_if_left { OnErr result (next_key self.old ≢ None) }
     {
-        self.state.advance::<K>(self.alloc)
+        self.state.advance::<K>()
     }
 
     /// Lends the value that it advanced to last, or returns `None` where it has not advanced yet.
@@ -84,13 +82,12 @@ pub fn into_parts<K: Bytes, V: Drop>(cursor: Cursor<K, V>) -> TreeParts<V>
     ensures tree { IsTree K.item (siblings_of result.arena) result.count }
     ensures map { map_of result.value (siblings_of result.arena) ≡ cursor.map }
 {
-    let Cursor { alloc, state, .. } = cursor;
-    state.tree.into_parts(alloc)
+    let Cursor { state, .. } = cursor;
+    state.tree.parts
 }
 
 // Begins a walk under a prefix, where it has not begun.
 fn start_at<Q: BorrowedBytes, V>(
-    alloc: Global,
     prefix: Q,
     start: &mut Option<Start>,
     state: &mut CursorState<V>,
@@ -108,7 +105,7 @@ fn start_at<Q: BorrowedBytes, V>(
         return Ok(());
     };
     let front = &prefix.as_bytes()[..at.front];
-    state.start_at::<Q::Owned>(alloc, front, at.top)?;
+    state.start_at::<Q::Owned>(front, at.top)?;
     *start = None;
     Ok(())
 }
@@ -116,7 +113,6 @@ fn start_at<Q: BorrowedBytes, V>(
 /// A cursor over the entries whose key begins with a prefix.
 #[derive(Drop)]
 pub struct PrefixCursor<Q: BorrowedBytes, V> {
-    alloc: Global,
     prefix: Q,
     // where the walk begins, until it has begun
     start: Option<Start>,
@@ -151,17 +147,14 @@ impl<Q: BorrowedBytes, V: Drop> PrefixCursor<Q, V> {
           last = None;
         } }
     {
-        let alloc = parts.alloc;
         if prefix.is_empty() {
             return PrefixCursor {
-                alloc,
                 prefix,
                 start: None,
                 state: CursorState::new::<Q::Owned>(parts),
             };
         }
         PrefixCursor {
-            alloc,
             prefix,
             start: find_start(&parts.arena, prefix),
             state: CursorState::ended::<Q::Owned>(parts),
@@ -175,8 +168,8 @@ impl<Q: BorrowedBytes, V: Drop> PrefixCursor<Q, V> {
         ensures unchanged { OnErr result (self.new ≡ self.old) }
         ensures err_only_if_left { OnErr result (next_key self.old ≢ None) }
     {
-        start_at(self.alloc, self.prefix, &mut self.start, &mut self.state)?;
-        self.state.advance(self.alloc)
+        start_at(self.prefix, &mut self.start, &mut self.state)?;
+        self.state.advance()
     }
 
     /// Lends the value that it advanced to last, or returns `None` where it has not advanced yet.
@@ -195,6 +188,6 @@ pub fn prefix_into_parts<Q: BorrowedBytes, V: Drop>(cursor: PrefixCursor<Q, V>) 
     ensures tree { IsTree Q.Owned.item (siblings_of result.arena) result.count }
     ensures map { map_of result.value (siblings_of result.arena) ≡ cursor.map }
 {
-    let PrefixCursor { alloc, state, .. } = cursor;
-    state.tree.into_parts(alloc)
+    let PrefixCursor { state, .. } = cursor;
+    state.tree.parts
 }

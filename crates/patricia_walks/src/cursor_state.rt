@@ -6,7 +6,6 @@ ghost use Rattle.patricia_model.specs.Prefixes.{under};
 ghost use Rattle.patricia_model.specs.Siblings.{IsCanonical};
 ghost use Rattle.patricia_model.specs.Internal.WalkStates.{entries_left};
 ghost use Rattle.patricia_nodes.specs.Internal.Plans.{IsWellFormed, siblings_of};
-ghost use Rattle.patricia_walks.specs.Internal.HeldTrees.{IsMadeOf, IsSameTree};
 ghost use Rattle.patricia_walks.specs.Internal.Positions.{IsPosition, AdvancesTo, state_of};
 ghost use Rattle.patricia_walks.specs.Internal.Positions.{siblings_at};
 ghost use Rattle.patricia_walks.specs.Internal.Positions.{entries_below};
@@ -19,7 +18,7 @@ use crate::waiting::push_siblings;
 use patricia_keys::{BorrowedBytes, Bytes};
 use patricia_nodes::arena::NodeArena;
 use patricia_nodes::link::{Link, NodeId};
-use std::alloc::{AllocError, Global};
+use std::alloc::AllocError;
 
 /// Where a walk under a prefix is to begin: at a node, whose label comes behind the first bytes of
 /// the prefix.
@@ -59,16 +58,17 @@ pub fn find_start<Q: BorrowedBytes, V>(arena: &NodeArena<V>, prefix: Q) -> Optio
 
 impl<V> CursorState<V> {
     // The state of a cursor that has not advanced yet.
-    fn from(alloc: Global, tree: HeldTree<V>, pending: Option<ValueSlot>, next: Link) -> Self
+    fn from(tree: HeldTree<V>, pending: Option<ValueSlot>, next: Link) -> Self
         ensures tree { result.tree ≡ tree }
         ensures seen { position_of result ≡ record {
-          nodes = numbered_slots 0 tree.arena.nodes.items;
+          nodes = numbered_slots 0 tree.parts.arena.nodes.items;
           path = [];
           pending = pending;
           next = next;
           stack = [];
         } }
     {
+        let alloc = tree.parts.alloc;
         CursorState {
             tree,
             path: Vec::new(alloc),
@@ -82,28 +82,27 @@ impl<V> CursorState<V> {
     pub fn new<K: Bytes>(parts: TreeParts<V>) -> CursorState<V>
         requires whole { IsWellFormed parts.arena }
         requires siblings { IsCanonical K.item (siblings_of parts.arena) }
-        ensures tree { IsMadeOf parts result.tree }
+        ensures tree { result.tree.parts ≡ parts }
         ensures position { IsPosition K.item (position_of result) }
         ensures left { left_of result ≡ holders parts.value parts.arena }
         ensures last { result.tree.last ≡ None }
     {
-        let alloc = parts.alloc;
-        let tree = HeldTree::new(parts);
+        let tree = HeldTree { parts, last: None };
         let pending = tree.root_value_slot();
         let next = tree.root();
-        CursorState::from(alloc, tree, pending, next)
+        CursorState::from(tree, pending, next)
     }
 
     /// The state of a cursor at its end.
     pub fn ended<K: Bytes>(parts: TreeParts<V>) -> CursorState<V>
-        ensures tree { IsMadeOf parts result.tree }
+        ensures tree { result.tree.parts ≡ parts }
         ensures position { IsPosition K.item (position_of result) }
         ensures left { left_of result ≡ [] }
         ensures stack { result.stack.items ≡ [] }
         ensures last { result.tree.last ≡ None }
     {
-        let alloc = parts.alloc;
-        CursorState::from(alloc, HeldTree::new(parts), None, Link::none())
+        let tree = HeldTree { parts, last: None };
+        CursorState::from(tree, None, Link::none())
     }
 
     // Advances to the node's value and its children.
@@ -114,10 +113,10 @@ impl<V> CursorState<V> {
         ensures goes { OnOk result
             (AdvancesTo K.item (position_of self.old) (position_of self.new)) }
         ensures refused { OnErr result (position_of self.new ≡ position_of self.old) }
-        ensures tree { IsSameTree self.old.tree self.new.tree }
+        ensures tree { self.new.tree.parts ≡ self.old.tree.parts }
         ensures last { self.new.tree.last ≡ self.old.tree.last }
     {
-        let node = &self.tree.arena.nodes[id.index()];
+        let node = &self.tree.parts.arena.nodes[id.index()];
         let front = self.path.len();
         self.path.extend_from_slice(node.label.as_slice())?;
         let Ok(()) = push_siblings(&mut self.stack, front, node.sibling) else {
@@ -138,7 +137,7 @@ impl<V> CursorState<V> {
             AdvancesTo K.item (position_of self.old) (position_of self.new) }
         ensures over { result ≡ false → entries_left (state_of (position_of self.old)) ≡ [] }
         ensures same { result ≡ false → position_of self.new ≡ position_of self.old }
-        ensures tree { IsSameTree self.old.tree self.new.tree }
+        ensures tree { self.new.tree.parts ≡ self.old.tree.parts }
         ensures last { self.new.tree.last ≡ self.old.tree.last }
     {
         let Some((front, siblings)) = self.stack.pop() else {
@@ -158,7 +157,7 @@ impl<V> CursorState<V> {
         ensures found { IfOk result (λ found. IsTrue found → self.new.pending ≢ None) }
         ensures over { IfOk result (λ found. found ≡ false → left_of self.old ≡ []) }
         ensures refused { OnErr result (left_of self.old ≢ []) }
-        ensures tree { IsSameTree self.old.tree self.new.tree }
+        ensures tree { self.new.tree.parts ≡ self.old.tree.parts }
         ensures last { self.new.tree.last ≡ self.old.tree.last }
     {
         loop {
@@ -182,48 +181,43 @@ impl<V> CursorState<V> {
         requires pending { self.old.pending ≢ None }
         ensures position { IsPosition K.item (position_of self.new) }
         ensures goes { Advances self.old (Some self.old.path.items) self.new }
-        ensures tree { IsSameTree self.old.tree self.new.tree }
+        ensures tree { self.new.tree.parts ≡ self.old.tree.parts }
     {
         self.tree.last = self.pending.take();
     }
 
     /// Advances to the next value, and returns its key.
-    pub fn advance<K: Bytes>(&mut self, alloc: Global) -> Result<Option<K>, AllocError>
+    pub fn advance<K: Bytes>(&mut self) -> Result<Option<K>, AllocError>
         requires { IsPosition K.item (position_of self.old) }
         ensures position { IsPosition K.item (position_of self.new) }
         ensures goes { IfOk result (λ key. Advances self.old (option_map K.key key) self.new) }
         ensures refused { OnErr result (StepIsRefused self.old self.new) }
-        ensures tree { IsSameTree self.old.tree self.new.tree }
+        ensures tree { self.new.tree.parts ≡ self.old.tree.parts }
     {
         if !self.seek::<K>()? {
             return Ok(None);
         }
-        let key = K::from_bytes(alloc, &self.path)?;
+        let key = K::from_bytes(self.tree.parts.alloc, &self.path)?;
         self.mark_lent::<K>();
         Ok(Some(key))
     }
 
     /// Begins a walk at a node, whose label comes behind these bytes.
-    pub fn start_at<K: Bytes>(
-        &mut self,
-        alloc: Global,
-        front: &[u8],
-        top: NodeId,
-    ) -> Result<(), AllocError>
-        requires whole { IsWellFormed self.old.tree.arena }
+    pub fn start_at<K: Bytes>(&mut self, front: &[u8], top: NodeId) -> Result<(), AllocError>
+        requires whole { IsWellFormed self.old.tree.parts.arena }
         requires start { IsAtStart K.item
-            (numbered_slots 0 self.old.tree.arena.nodes.items) front.now top }
+            (numbered_slots 0 self.old.tree.parts.arena.nodes.items) front.now top }
         requires stack { self.old.stack.items ≡ [] }
         ensures position { OnOk result (IsPosition K.item (position_of self.new)) }
         ensures left { OnOk result (left_of self.new ≡ entries_below front.now
-            (siblings_at (numbered_slots 0 self.old.tree.arena.nodes.items) (Some top))) }
+            (siblings_at (numbered_slots 0 self.old.tree.parts.arena.nodes.items) (Some top))) }
         ensures unchanged { OnErr result (self.new ≡ self.old) }
-        ensures tree { IsSameTree self.old.tree self.new.tree }
+        ensures tree { self.new.tree.parts ≡ self.old.tree.parts }
         ensures last { self.new.tree.last ≡ self.old.tree.last }
     {
-        let node = &self.tree.arena.nodes[top.index()];
+        let node = &self.tree.parts.arena.nodes[top.index()];
         let label = node.label.as_slice();
-        let mut path = Vec::with_capacity(alloc, front.len() + label.len())?;
+        let mut path = Vec::with_capacity(self.tree.parts.alloc, front.len() + label.len())?;
         path.extend_from_slice(front)?;
         path.extend_from_slice(label)?;
         self.path = path;

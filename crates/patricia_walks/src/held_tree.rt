@@ -4,7 +4,7 @@ ghost use Rattle.std.specs.Borrow.{sem};
 ghost use Rattle.std.specs.Option.{option_copied_mut, option_map};
 ghost use Rattle.patricia_walks.specs.declared.held_tree.ValueSlot.TheVariants.{OfEmptyKey};
 ghost use Rattle.patricia_walks.specs.declared.held_tree.ValueSlot.TheVariants.{OfNode};
-ghost use Rattle.patricia_walks.specs.Internal.HeldTrees.{IsMadeOf, IsHeld, held_last};
+ghost use Rattle.patricia_walks.specs.Internal.HeldTrees.{IsHeld, held_last};
 
 use patricia_keys::Bytes;
 use patricia_nodes::arena::{Node, NodeArena};
@@ -31,9 +31,7 @@ pub struct TreeParts<V> {
 /// A tree, and who holds the value that was lent last.
 #[derive(Drop)]
 pub struct HeldTree<V> {
-    pub value: Option<V>,
-    pub arena: NodeArena<V>,
-    pub count: usize,
+    pub parts: TreeParts<V>,
     // who holds the value that was lent last
     pub last: Option<ValueSlot>,
 }
@@ -51,36 +49,11 @@ pub fn held_by<V>(node: &Node<V>, id: NodeId) -> Option<ValueSlot>
 impl<V> HeldTree<V> {
     ghost use Rattle.patricia_walks.specs.Internal.Lends.{lends_held};
 
-    /// A tree of which nothing was lent yet.
-    pub fn new(parts: TreeParts<V>) -> HeldTree<V>
-        ensures tree { IsMadeOf parts result }
-        ensures last { result.last ≡ None }
-    {
-        HeldTree {
-            value: parts.value,
-            arena: parts.arena,
-            count: parts.count,
-            last: None,
-        }
-    }
-
-    /// The tree.
-    pub fn into_parts(self, alloc: Global) -> TreeParts<V>
-        ensures { IsMadeOf result self }
-    {
-        TreeParts {
-            alloc,
-            value: self.value,
-            arena: self.arena,
-            count: self.count,
-        }
-    }
-
     /// Who holds the value of the empty key, where it has one.
     pub fn root_value_slot(&self) -> Option<ValueSlot>
-        ensures { result ≡ option_map (λ _. OfEmptyKey) self.now.value }
+        ensures { result ≡ option_map (λ _. OfEmptyKey) self.now.parts.value }
     {
-        match &self.value {
+        match &self.parts.value {
             Some(_) => Some(ValueSlot::OfEmptyKey),
             None => None,
         }
@@ -88,9 +61,9 @@ impl<V> HeldTree<V> {
 
     /// The first of the top siblings.
     pub fn root(&self) -> Link
-        ensures { result ≡ self.now.arena.root }
+        ensures { result ≡ self.now.parts.arena.root }
     {
-        self.arena.root
+        self.parts.arena.root
     }
 
     // Whether the value that was lent last is that of the empty key.
@@ -121,10 +94,14 @@ impl<V> HeldTree<V> {
         ensures value { option_copied_mut result ≡ held_last self.old self.old.last }
     {
         if self.is_on_top() {
-            return self.value.as_mut();
+            let parts = &mut self.parts;
+            return parts.value.as_mut();
         }
         match self.node() {
-            Some(id) => self.arena.value_mut(id),
+            Some(id) => {
+                let parts = &mut self.parts;
+                parts.arena.value_mut(id)
+            }
             None => None,
         }
     }

@@ -10,7 +10,6 @@ ghost use Rattle.patricia_model.specs.Siblings.{IsCanonical};
 ghost use Rattle.patricia_model.specs.Trees.{map_of, IsTree};
 ghost use Rattle.patricia_model.specs.Walks.{values_of};
 ghost use Rattle.patricia_nodes.specs.Internal.Plans.{IsWellFormed, siblings_of};
-ghost use Rattle.patricia_walks.specs.Internal.HeldTrees.{IsMadeOf, IsSameTree};
 ghost use Rattle.patricia_walks.specs.Internal.Holders.{holders};
 ghost use Rattle.patricia_walks.specs.Internal.ValuePositions.{IsValuePosition, GoesTo};
 ghost use Rattle.patricia_walks.specs.Internal.ValueCursorStates.{spot_of, holders_left, Moves};
@@ -19,7 +18,7 @@ ghost use Rattle.patricia_walks.specs.Internal.ValueCursorStates.{MoveIsRefused}
 use crate::held_tree::{HeldTree, TreeParts, ValueSlot, held_by};
 use patricia_keys::Bytes;
 use patricia_nodes::link::{Link, NodeId};
-use std::alloc::{AllocError, Global};
+use std::alloc::AllocError;
 use std::marker::{Model, PhantomData};
 
 // A tree, and how far a walk over its values has come.
@@ -39,13 +38,13 @@ impl<V> ValueCursorState<V> {
     fn new<K: Bytes>(parts: TreeParts<V>) -> ValueCursorState<V>
         requires whole { IsWellFormed parts.arena }
         requires siblings { IsCanonical K.item (siblings_of parts.arena) }
-        ensures tree { IsMadeOf parts result.tree }
+        ensures tree { result.tree.parts ≡ parts }
         ensures position { IsValuePosition (spot_of result) }
         ensures left { holders_left result ≡ values_of (holders parts.value parts.arena) }
         ensures last { result.tree.last ≡ None }
     {
         let stack = Vec::new(parts.alloc);
-        let tree = HeldTree::new(parts);
+        let tree = HeldTree { parts, last: None };
         let pending = tree.root_value_slot();
         let next = tree.root();
         ValueCursorState {
@@ -66,7 +65,7 @@ impl<V> ValueCursorState<V> {
         ensures refused { OnErr result (spot_of self.new ≡ spot_of self.old) }
         ensures tree { self.new.tree ≡ self.old.tree }
     {
-        let node = &self.tree.arena.nodes[id.index()];
+        let node = &self.tree.parts.arena.nodes[id.index()];
         if node.child.get().is_none() {
             self.pending = held_by(node, id);
             self.next = node.sibling;
@@ -128,7 +127,7 @@ impl<V> ValueCursorState<V> {
         requires pending { self.old.pending ≢ None }
         ensures position { IsValuePosition (spot_of self.new) }
         ensures goes { Moves self.old true self.new }
-        ensures tree { IsSameTree self.old.tree self.new.tree }
+        ensures tree { self.new.tree.parts ≡ self.old.tree.parts }
     {
         self.tree.last = self.pending.take();
     }
@@ -139,7 +138,7 @@ impl<V> ValueCursorState<V> {
         ensures position { IsValuePosition (spot_of self.new) }
         ensures goes { IfOk result (λ found. Moves self.old found self.new) }
         ensures refused { OnErr result (MoveIsRefused self.old self.new) }
-        ensures tree { IsSameTree self.old.tree self.new.tree }
+        ensures tree { self.new.tree.parts ≡ self.old.tree.parts }
     {
         if !self.seek()? {
             return Ok(false);
@@ -152,7 +151,6 @@ impl<V> ValueCursorState<V> {
 /// A cursor over the values of all entries.
 #[derive(Drop)]
 pub struct ValueCursor<K: Bytes, V> {
-    alloc: Global,
     state: ValueCursorState<V>,
     kind: PhantomData<K>,
 }
@@ -187,7 +185,6 @@ impl<K: Bytes, V: Drop> ValueCursor<K, V> {
         } }
     {
         ValueCursor {
-            alloc: parts.alloc,
             state: ValueCursorState::new::<K>(parts),
             kind: PhantomData,
         }
@@ -218,6 +215,6 @@ pub fn into_parts<K: Bytes, V: Drop>(cursor: ValueCursor<K, V>) -> TreeParts<V>
     ensures tree { IsTree K.item (siblings_of result.arena) result.count }
     ensures map { map_of result.value (siblings_of result.arena) ≡ cursor.map }
 {
-    let ValueCursor { alloc, state, .. } = cursor;
-    state.tree.into_parts(alloc)
+    let ValueCursor { state, .. } = cursor;
+    state.tree.parts
 }

@@ -4,7 +4,6 @@ ghost use Rattle.std.specs.FinMap as map;
 ghost use Rattle.std.specs.List.{last_or};
 ghost use Rattle.std.specs.Option.{option_map};
 
-use super::cursors::made_of;
 use super::{Refused, Tree};
 use patricia_edits::insert_along;
 use patricia_keys::BorrowedBytes;
@@ -12,7 +11,7 @@ use patricia_nodes::link::NodeId;
 use patricia_walks::TreeParts;
 use patricia_walks::last::last;
 use std::alloc::AllocError;
-use std::marker::Model;
+use std::marker::{Model, PhantomData};
 use std::mem;
 
 /// A tree that is filled with keys that are near one another: the look-up of each goes on from
@@ -53,7 +52,7 @@ impl<Q: BorrowedBytes, V: Drop> Loader<Q, V> {
     pub fn new(tree: Tree<Q::Owned, V>) -> Self
         ensures { result ≡ tree }
     {
-        let tree = tree.into_parts();
+        let tree = tree.parts;
         let trail = Vec::new(tree.alloc);
         Loader {
             tree,
@@ -66,7 +65,10 @@ impl<Q: BorrowedBytes, V: Drop> Loader<Q, V> {
     pub fn into_tree(self) -> Tree<Q::Owned, V>
         ensures { result ≡ self }
     {
-        made_of(self.tree)
+        Tree {
+            parts: self.tree,
+            kind: PhantomData,
+        }
     }
 
     /// The last entry. The error is out of memory, and never comes where there is none.

@@ -12,6 +12,6 @@ impl<K: Bytes, V: Drop> Tree<K, V> {
     pub fn near<Q: BorrowedBytes<Owned = K>>(&self, sought: Q, limit: u32) -> NearCursor<'_, Q, V>
         ensures { result ≡ search_of (map.entries self.now) (Q.key sought) limit }
     {
-        NearCursor::new(self.alloc, self.cursor(), sought, limit)
+        NearCursor::new(self.parts.alloc, self.cursor(), sought, limit)
     }
 }

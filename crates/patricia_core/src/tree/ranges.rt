@@ -24,7 +24,8 @@ impl<K: Bytes, V: Drop> Tree<K, V> {
         ensures { result ≡ before_entries
             (within (option_map Q.key bound) (from (Q.key key) (map.entries self.now))) }
     {
-        RangeReadCursor::new(self.alloc, self.value.as_ref(), &self.arena, key, bound)
+        let parts = &self.parts;
+        RangeReadCursor::new(parts.alloc, parts.value.as_ref(), &parts.arena, key, bound)
     }
 
     /// The last entry. The error is out of memory, and never comes where there is none.
@@ -33,7 +34,8 @@ impl<K: Bytes, V: Drop> Tree<K, V> {
             ≡ last_or None (map.entries self.now)) }
         ensures err_only_nonempty { OnErr result (map.entries self.now ≢ []) }
     {
-        last(self.alloc, self.value.as_ref(), &self.arena)
+        let parts = &self.parts;
+        last(parts.alloc, parts.value.as_ref(), &parts.arena)
     }
 
     /// The last entry before a key. The error is out of memory, and never comes where there is
@@ -46,6 +48,7 @@ impl<K: Bytes, V: Drop> Tree<K, V> {
             ≡ last_or None (before (Q.key key) (map.entries self.now))) }
         ensures err_only_before { OnErr result (before (Q.key key) (map.entries self.now) ≢ []) }
     {
-        last_before(self.alloc, self.value.as_ref(), &self.arena, key)
+        let parts = &self.parts;
+        last_before(parts.alloc, parts.value.as_ref(), &parts.arena, key)
     }
 }

@@ -8,7 +8,6 @@ use Rattle.patricia_nodes.specs.Internal.Plans.{siblings_of, entries_of}
 use Rattle.patricia_nodes.specs.Internal.Places.{Frame, fill, link_ref_of}
 use Rattle.patricia_model.specs.Prefixes.{outside, under}
 use Rattle.patricia_model.specs.Siblings.{node, end, own, entries, IsCanonical}
-use Rattle.patricia_edits.specs.declared.splitting.Taken.{Taken}
 
 module _ {V : Type 0} where
   -- how many of the nodes have a value
@@ -52,13 +51,14 @@ module _ {V : Type 0} where
   IsTopLabel s id prefix passed top =
       (n : Node V) → slice_get s.nodes.items id ≡ Some n → top ≡ prefix ++ drop passed n.label
 
--- what is under the prefix was removed, and the rest is left
+-- what is under the prefix was removed to other nodes, of which so many have a value, and the rest
+-- is left
 pub record SplitsOff (item : List ℕ → Type 0) {V : Type 0} (old new : NodeArena V) (prefix : List ℕ)
-    (taken : Taken V) : Type 0 where
+    (taken : NodeArena V) (count : ℕ) : Type 0 where
   pub whole : IsWellFormed new
   pub canonical : IsCanonical item (siblings_of new)
   pub left_is : entries_of new ≡ outside prefix (entries_of old)
-  pub taken_whole : IsWellFormed taken.arena
-  pub taken_ok : IsCanonical item (siblings_of taken.arena)
-  pub taken_is : entries_of taken.arena ≡ under prefix (entries_of old)
-  pub counted : taken.count ≡ length (entries_of taken.arena)
+  pub taken_whole : IsWellFormed taken
+  pub taken_ok : IsCanonical item (siblings_of taken)
+  pub taken_is : entries_of taken ≡ under prefix (entries_of old)
+  pub counted : count ≡ length (entries_of taken)

@@ -19,7 +19,7 @@ module _ {V : Type 0} where
   -- its place in the walk over the holders
   abbrev pub position_of : CursorState V → Position ValueSlot
   position_of t = record {
-    nodes = numbered_slots 0 t.tree.arena.nodes.items;
+    nodes = numbered_slots 0 t.tree.parts.arena.nodes.items;
     path = t.path.items;
     pending = t.pending;
     next = t.next;
@@ -69,10 +69,11 @@ module _ (item : List ℕ → Type 0) {V : Type 0} where
     pub none : t.tree.last ≡ None
     pub within : front ≤ length prefix
     pub stack : t.stack.items ≡ []
-    pub start : IsAtStart item (numbered_slots 0 t.tree.arena.nodes.items) (take front prefix) top
+    pub start :
+        IsAtStart item (numbered_slots 0 t.tree.parts.arena.nodes.items) (take front prefix) top
     pub left_is :
         AreEntriesLeft t.tree prefix (entries_below (take front prefix)
-        (siblings_at (numbered_slots 0 t.tree.arena.nodes.items) (Some top)))
+        (siblings_at (numbered_slots 0 t.tree.parts.arena.nodes.items) (Some top)))
 
   -- the one or the other
   abbrev pub IsPrefixCursor : CursorState V → List ℕ → Option Start → Type 0

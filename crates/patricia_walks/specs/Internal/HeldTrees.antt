@@ -6,7 +6,6 @@ use Rattle.patricia_model.specs.Trees.{map_of, IsTree}
 use Rattle.patricia_nodes.specs.Internal.Loans.{with_value}
 use Rattle.patricia_nodes.specs.Internal.Plans.{IsWellFormed, siblings_of}
 use Rattle.patricia_walks.specs.declared.held_tree.HeldTree.{HeldTree}
-use Rattle.patricia_walks.specs.declared.held_tree.TreeParts.{TreeParts}
 use Rattle.patricia_walks.specs.declared.held_tree.ValueSlot.{ValueSlot}
 use Rattle.patricia_walks.specs.declared.held_tree.ValueSlot.TheVariants.{OfEmptyKey, OfNode}
 use Rattle.patricia_walks.specs.Internal.Holders.{holders, held, key_at}
@@ -17,30 +16,21 @@ key_of entries None = None
 key_of entries (Some h) = key_at entries h
 
 module _ {V : Type 0} where
-  -- the tree is the same
-  pub record IsSameTree (t u : HeldTree V) : Type 0 where
-    pub value : u.value ≡ t.value
-    pub arena : u.arena ≡ t.arena
-    pub count : u.count ≡ t.count
-
-  -- it is the tree of these parts
-  pub record IsMadeOf (p : TreeParts V) (t : HeldTree V) : Type 0 where
-    pub value : p.value ≡ t.value
-    pub arena : p.arena ≡ t.arena
-    pub count : p.count ≡ t.count
-
   -- the key that was lent last
   abbrev pub last_key : HeldTree V → Option (List ℕ)
-  last_key t = key_of (holders t.value t.arena) t.last
+  last_key t = key_of (holders t.parts.value t.parts.arena) t.last
 
   -- what a caller of the cursor sees
   abbrev pub standing : HeldTree V → List ℕ → CursorView V
-  standing t prefix =
-      record { map = map_of t.value (siblings_of t.arena); prefix = prefix; last = last_key t }
+  standing t prefix = record {
+    map = map_of t.parts.value (siblings_of t.parts.arena);
+    prefix = prefix;
+    last = last_key t;
+  }
 
   -- the entries behind the key that was lent last, below the prefix
   abbrev pub entries_to_lend : HeldTree V → List ℕ → List (List ℕ × ValueSlot)
-  entries_to_lend t prefix = after (last_key t) (under prefix (holders t.value t.arena))
+  entries_to_lend t prefix = after (last_key t) (under prefix (holders t.parts.value t.parts.arena))
 
   -- these are those entries
   abbrev pub AreEntriesLeft : HeldTree V → List ℕ → List (List ℕ × ValueSlot) → Type 0
@@ -63,16 +53,19 @@ module _ {V : Type 0} where
   -- the same with another value where this one holds one
   abbrev pub with_held : HeldTree V → Option ValueSlot → V → HeldTree V
   with_held t None value = t
-  with_held t (Some OfEmptyKey) value = record t { value = Some value }
-  with_held t (Some (OfNode id)) value = record t { arena = with_value t.arena id value }
+  with_held t (Some OfEmptyKey) value = record t { parts = record t.parts { value = Some value } }
+  with_held t (Some (OfNode id)) value =
+      record t { parts = record t.parts { arena = with_value t.parts.arena id value } }
 
   -- the value that was lent last
   abbrev pub held_last : HeldTree V → Option ValueSlot → Option V
   held_last t None = None
-  held_last t (Some h) = held t.value t.arena.nodes.items h
+  held_last t (Some h) = held t.parts.value t.parts.arena.nodes.items h
 
 -- the tree is whole, and what was lent last is in it
 pub record IsHeld (item : List ℕ → Type 0) {V : Type 0} (t : HeldTree V) : Type 0 where
-  pub whole : IsWellFormed t.arena
-  pub tree : IsTree item (siblings_of t.arena) t.count
-  pub known : (h : ValueSlot) → t.last ≡ Some h → key_at (holders t.value t.arena) h ≢ None
+  pub whole : IsWellFormed t.parts.arena
+  pub tree : IsTree item (siblings_of t.parts.arena) t.parts.count
+  pub known :
+      (h : ValueSlot) → t.last ≡ Some h
+      → key_at (holders t.parts.value t.parts.arena) h ≢ None

@@ -12,7 +12,7 @@ module _ {V : Type 0} where
   -- its place in the walk over the holders
   abbrev pub spot_of : ValueCursorState V → ValuePosition ValueSlot
   spot_of t = record {
-    nodes = numbered_slots 0 t.tree.arena.nodes.items;
+    nodes = numbered_slots 0 t.tree.parts.arena.nodes.items;
     pending = t.pending;
     next = t.next;
     stack = t.stack.items;

@@ -10,6 +10,7 @@ use Rattle.patricia_codec.proofs.CheckLemmas.{handed_on}
 use Rattle.patricia_codec.proofs.DecodeLemmas.{read_all, tree_of_all, decoded, Takes, takes_some}
 use Rattle.patricia_codec.proofs.DecodeLemmas.{takes_none, some_left, started, new_built, can_add}
 use Rattle.patricia_codec.proofs.DecodeLemmas.{suited, counted, split_on, marks_on, left_on}
+use Rattle.patricia_codec.proofs.FewEntries.{few_values, nodes_count}
 use Rattle.patricia_codec.proofs.decoder.decode.Goals as goal
 use Rattle.patricia_codec.proofs.decoder.decode.Goals.{then-record, else-record}
 
@@ -138,15 +139,32 @@ returns-clause-whole g c =
     g.met.K.Bytes.lawful _ bytes _ _ c.len-2.result split (c.len-2.ensures ∙ inv.left) c.in_ok-finish.ensures.whole c.none.result c.none.ensures 18446744073709551615 in
     done.whole
 
-pub returns-clause-siblings : goal.returns-clause-siblings
-returns-clause-siblings g c =
+pub others-count-requires : goal.others-count-requires
+others-count-requires g c =
+    let inv = c.loop-builder.invariant in
+    let ends = rw c.in_default.is at c.in_ok-record.ensures.ok in
+    let bytes = ap (λ b. b.now) (c.in_ok-record.ensures.bytes ∙ inv.bytes) ∙ c.in_ok-reader.ensures.bytes in
+    let split = sym c.into_iter-values.ensures.rest ∙ inv.split in
+    let done = decoded g.K.Bytes.item g.W.Width.width c.loop-builder.builder _ _ _ inv.before inv.due inv.taken inv.reading inv.built ends
+    g.met.K.Bytes.lawful _ bytes _ _ c.len-2.result split (c.len-2.ensures ∙ inv.left) c.in_ok-finish.ensures.whole None refl 18446744073709551615 in
+    let count = nodes_count g.K.Bytes.item g.W.Width.width _ _ _ _ done in
+    omega (arith, count, c.len-given.ensures)
+
+pub returns-clause-tree : goal.returns-clause-tree
+returns-clause-tree g c =
     let inv = c.loop-builder.invariant in
     let ends = rw c.in_default.is at c.in_ok-record.ensures.ok in
     let bytes = ap (λ b. b.now) (c.in_ok-record.ensures.bytes ∙ inv.bytes) ∙ c.in_ok-reader.ensures.bytes in
     let split = sym c.into_iter-values.ensures.rest ∙ inv.split in
     let done = decoded g.K.Bytes.item g.W.Width.width c.loop-builder.builder _ _ _ inv.before inv.due inv.taken inv.reading inv.built ends
     g.met.K.Bytes.lawful _ bytes _ _ c.len-2.result split (c.len-2.ensures ∙ inv.left) c.in_ok-finish.ensures.whole c.none.result c.none.ensures 18446744073709551615 in
-    done.canonical
+    let count = nodes_count g.K.Bytes.item g.W.Width.width _ _ _ _ done in
+    let few = few_values g.K.Bytes.item g.W.Width.width _ _ _ done.means in
+    record {
+      canonical = done.canonical;
+      counted = omega (arith, count, c.others-count.ensures, c.len-given.ensures);
+      fits = omega (arith, count, few, c.others-count.ensures, c.len-given.ensures);
+    }
 
 pub returns-clause-means : goal.returns-clause-means
 returns-clause-means g c =

@@ -3,11 +3,10 @@ use Rattle.patricia_walks.proofs.CursorStateLemmas.{under_held}
 use Rattle.patricia_walks.proofs.cursor.into_parts.Goals as goal
 
 pub returns-clause-whole : goal.returns-clause-whole
-returns-clause-whole g c = rw c.into_parts.ensures.arena (under_held g.K.Bytes.item c.cursor.inside.state [] None c.cursor.invariant).whole
+returns-clause-whole g c = (under_held g.K.Bytes.item c.cursor.inside.state [] None c.cursor.invariant).whole
 
 pub returns-clause-tree : goal.returns-clause-tree
-returns-clause-tree g c = rw (c.into_parts.ensures.arena, c.into_parts.ensures.count)
-    (under_held g.K.Bytes.item c.cursor.inside.state [] None c.cursor.invariant).tree
+returns-clause-tree g c = (under_held g.K.Bytes.item c.cursor.inside.state [] None c.cursor.invariant).tree
 
 pub returns-clause-map : goal.returns-clause-map
-returns-clause-map g c = rw (c.into_parts.ensures.value, c.into_parts.ensures.arena) (ap (λ s. s.map) c.cursor.view_is)
+returns-clause-map g c = ap (λ s. s.map) c.cursor.view_is

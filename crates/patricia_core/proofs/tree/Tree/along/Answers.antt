@@ -8,7 +8,7 @@ use Rattle.patricia_core.proofs.tree.Tree.along.Goals as goal
 
 pub returns : goal.returns
 returns g c =
-    c.new.ensures ∙ ap (λ v. along (g.Q.BorrowedBytes.key c.args.key) (own v ++ entries (siblings_of c.self.inside.arena))) c.as_ref.ensures.value
+    c.new.ensures ∙ ap (λ v. along (g.Q.BorrowedBytes.key c.args.key) (own v ++ entries (siblings_of c.self.inside.parts.arena))) c.as_ref.ensures.value
     ∙ ap (along (g.Q.BorrowedBytes.key c.args.key))
     (sym (entries_map g.K.Bytes.item g.met.K.Bytes.lawful _ _ c.self.invariant.tree.canonical)
     ∙ ap map.entries c.self.view_is)

@@ -19,7 +19,7 @@ returns-clause-some g c =
     let key = g.Q.BorrowedBytes.key c.args.prefix in
     let same = sym (under_filled key (λ none. absurd (false≢true (c.if-is_empty.ensures.1 none))) _ _)
     ∙ ap (under key)
-    (sym (entries_map g.K.Bytes.item g.met.K.Bytes.lawful c.self.inside.value _ c.self.invariant.tree.canonical)
+    (sym (entries_map g.K.Bytes.item g.met.K.Bytes.lawful c.self.inside.parts.value _ c.self.invariant.tree.canonical)
     ∙ ap map.entries c.self.view_is) in
     subst (λ entries. IfSome c.count_under.result (λ n. n ≡ length entries)) same c.count_under.ensures.some
 
@@ -28,7 +28,7 @@ returns-clause-none g c =
     let key = g.Q.BorrowedBytes.key c.args.prefix in
     let same = sym (under_filled key (λ none. absurd (false≢true (c.if-is_empty.ensures.1 none))) _ _)
     ∙ ap (under key)
-    (sym (entries_map g.K.Bytes.item g.met.K.Bytes.lawful c.self.inside.value _ c.self.invariant.tree.canonical)
+    (sym (entries_map g.K.Bytes.item g.met.K.Bytes.lawful c.self.inside.parts.value _ c.self.invariant.tree.canonical)
     ∙ ap map.entries c.self.view_is) in
     subst (λ entries. IfNone c.count_under.result (Any (λ e. length key + 64 < length e.0) entries)) same
     c.count_under.ensures.none

@@ -1,5 +1,5 @@
-use borrow.Author.Rules.{rules, get_or_read}
+use borrow.Author.Rules.{rules}
 use Rattle.patricia_core.proofs.tree.Tree.from_value_cursor.Goals as goal
 
 pub returns : goal.returns
-returns g c = search (rules, get_or_read)
+returns g c = search rules

@@ -53,7 +53,7 @@ returns-in-Ok-None-clause-old g c =
 pub returns-in-Ok-None-clause-ok : goal.returns-in-Ok-None-clause-ok
 returns-in-Ok-None-clause-ok g c =
     rw (← c.self.view_is)
-    (insert_filled g.K.Bytes.item g.met.K.Bytes.lawful _ (siblings_of c.self.inside.arena)
+    (insert_filled g.K.Bytes.item g.met.K.Bytes.lawful _ (siblings_of c.self.inside.parts.arena)
     (siblings_of c.insert.new.arena) _ c.args.value c.self.invariant.tree.canonical
     (λ none. absurd (false≢true (c.if-is_empty.ensures.1 none))) c.in-Ok-None.ensures.ok)
 
@@ -67,7 +67,7 @@ returns-in-Ok-Some-clause-old g c =
 pub returns-in-Ok-Some-clause-ok : goal.returns-in-Ok-Some-clause-ok
 returns-in-Ok-Some-clause-ok g c =
     rw (← c.self.view_is)
-    (insert_filled g.K.Bytes.item g.met.K.Bytes.lawful _ (siblings_of c.self.inside.arena)
+    (insert_filled g.K.Bytes.item g.met.K.Bytes.lawful _ (siblings_of c.self.inside.parts.arena)
     (siblings_of c.insert.new.arena) _ c.args.value c.self.invariant.tree.canonical
     (λ none. absurd (false≢true (c.if-is_empty.ensures.1 none))) c.in-Ok-Some.ensures.ok)
 

@@ -14,7 +14,7 @@ returns g c =
     let bound = option_map g.Q.BorrowedBytes.key c.args.bound in
     let key = g.Q.BorrowedBytes.key c.args.key in
     c.new.ensures
-    ∙ ap (λ v. before_entries (within bound (from key (own v ++ entries (siblings_of c.self.inside.arena))))) c.as_ref.ensures.value
+    ∙ ap (λ v. before_entries (within bound (from key (own v ++ entries (siblings_of c.self.inside.parts.arena))))) c.as_ref.ensures.value
     ∙ ap (λ es. before_entries (within bound (from key es)))
     (sym (entries_map g.K.Bytes.item g.met.K.Bytes.lawful _ _ c.self.invariant.tree.canonical)
     ∙ ap map.entries c.self.view_is)

@@ -21,8 +21,8 @@ returns-then-is_empty-clause-ok g c =
 pub invariant_of-self-in-Ok-Some : goal.invariant_of-self-in-Ok-Some
 invariant_of-self-in-Ok-Some g c =
     let found = sym c.in-Ok-Some.ensures.old ∙ c.in-Ok-Some.field-0-is in
-    let less = remove_present g.K.Bytes.item g.met.K.Bytes.lawful (c.self.inside.value)
-    (siblings_of c.self.inside.arena) (siblings_of c.remove.new.arena) _ c.in-Ok-Some.old
+    let less = remove_present g.K.Bytes.item g.met.K.Bytes.lawful (c.self.inside.parts.value)
+    (siblings_of c.self.inside.parts.arena) (siblings_of c.remove.new.arena) _ c.in-Ok-Some.old
     c.self.invariant.tree.canonical c.in-Ok-Some.ensures.ok found in
     record {
       whole = c.in-Ok-Some.ensures.whole;
@@ -41,8 +41,8 @@ invariant_of-self-in-Ok-None g c =
       tree = record {
         canonical = c.in-Ok-None.ensures.siblings;
         counted = c.self.invariant.tree.counted ∙ sym
-            (remove_absent g.K.Bytes.item g.met.K.Bytes.lawful (c.self.inside.value)
-            (siblings_of c.self.inside.arena) (siblings_of c.remove.new.arena) _
+            (remove_absent g.K.Bytes.item g.met.K.Bytes.lawful (c.self.inside.parts.value)
+            (siblings_of c.self.inside.parts.arena) (siblings_of c.remove.new.arena) _
             c.self.invariant.tree.canonical c.in-Ok-None.ensures.ok absent);
         fits = c.self.invariant.tree.fits;
       };
@@ -58,7 +58,7 @@ returns-in-Ok-Some-clause-old g c =
 pub returns-in-Ok-Some-clause-ok : goal.returns-in-Ok-Some-clause-ok
 returns-in-Ok-Some-clause-ok g c =
     rw (← c.self.view_is)
-    (remove_filled g.K.Bytes.item g.met.K.Bytes.lawful _ (siblings_of c.self.inside.arena)
+    (remove_filled g.K.Bytes.item g.met.K.Bytes.lawful _ (siblings_of c.self.inside.parts.arena)
     (siblings_of c.remove.new.arena) _ c.self.invariant.tree.canonical
     (λ none. absurd (false≢true (c.if-is_empty.ensures.1 none))) c.in-Ok-Some.ensures.ok)
 
@@ -72,14 +72,14 @@ returns-in-Ok-None-clause-old g c =
 pub returns-in-Ok-None-clause-ok : goal.returns-in-Ok-None-clause-ok
 returns-in-Ok-None-clause-ok g c =
     rw (← c.self.view_is)
-    (remove_filled g.K.Bytes.item g.met.K.Bytes.lawful _ (siblings_of c.self.inside.arena)
+    (remove_filled g.K.Bytes.item g.met.K.Bytes.lawful _ (siblings_of c.self.inside.parts.arena)
     (siblings_of c.remove.new.arena) _ c.self.invariant.tree.canonical
     (λ none. absurd (false≢true (c.if-is_empty.ensures.1 none))) c.in-Ok-None.ensures.ok)
 
 pub returns-in-Err-clause-joins : goal.returns-in-Err-clause-joins
 returns-in-Err-clause-joins g c =
-    let v = c.self.inside.value in
-    let siblings = siblings_of c.self.inside.arena in
+    let v = c.self.inside.parts.value in
+    let siblings = siblings_of c.self.inside.parts.arena in
     let q = g.Q.BorrowedBytes.key c.args.key in
     rw (← c.self.view_is)
     (subst (λ S. Joins g.K.Bytes.item S q)
@@ -93,7 +93,7 @@ overflow_sub-self g c =
       arith,
       c.self.invariant.tree.counted,
       remove_present g.K.Bytes.item g.met.K.Bytes.lawful
-          (c.self.inside.value) (siblings_of c.self.inside.arena) (siblings_of c.remove.new.arena) _
+          (c.self.inside.parts.value) (siblings_of c.self.inside.parts.arena) (siblings_of c.remove.new.arena) _
           c.in-Ok-Some.old c.self.invariant.tree.canonical c.in-Ok-Some.ensures.ok found,
     )
 

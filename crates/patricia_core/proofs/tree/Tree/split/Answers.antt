@@ -21,7 +21,7 @@ returns-then-is_empty-clause-left g c = ap map.entries
 
 pub overflow_sub-self : goal.overflow_sub-self
 overflow_sub-self g c =
-    let all = entries (siblings_of c.self-2.inside.arena) in
+    let all = entries (siblings_of c.self-2.inside.parts.arena) in
     omega (
       arith,
       c.in-Ok.ensures.ok.counted,
@@ -32,7 +32,7 @@ overflow_sub-self g c =
 
 pub invariant_of-result : goal.invariant_of-result
 invariant_of-result g c =
-    let all = entries (siblings_of c.self-2.inside.arena) in
+    let all = entries (siblings_of c.self-2.inside.parts.arena) in
     record {
       whole = c.in-Ok.ensures.ok.taken_whole;
       tree = record {
@@ -51,7 +51,7 @@ invariant_of-result g c =
 
 pub invariant_of-self : goal.invariant_of-self
 invariant_of-self g c =
-    let all = entries (siblings_of c.self-2.inside.arena) in
+    let all = entries (siblings_of c.self-2.inside.parts.arena) in
     record {
       whole = c.in-Ok.ensures.ok.whole;
       tree = record {
@@ -73,18 +73,19 @@ pub returns-in-Ok-clause-taken : goal.returns-in-Ok-clause-taken
 returns-in-Ok-clause-taken g c =
     let p = g.Q.BorrowedBytes.key c.args.prefix in
     let some : p ≢ [] = λ none. absurd (false≢true (c.if-is_empty.ensures.1 none)) in
-    entries_map g.K.Bytes.item g.met.K.Bytes.lawful None _ c.in-Ok.ensures.ok.taken_ok ∙ c.in-Ok.ensures.ok.taken_is
-    ∙ sym (under_filled p some c.self-2.inside.value (entries (siblings_of c.self-2.inside.arena)))
+    rw c.in-Ok.ensures.no_value
+    (entries_map g.K.Bytes.item g.met.K.Bytes.lawful None _ c.in-Ok.ensures.ok.taken_ok) ∙ c.in-Ok.ensures.ok.taken_is
+    ∙ sym (under_filled p some c.self-2.inside.parts.value (entries (siblings_of c.self-2.inside.parts.arena)))
     ∙ ap (under p) (sym (entries_map g.K.Bytes.item g.met.K.Bytes.lawful _ _ c.self-2.invariant.tree.canonical) ∙ ap map.entries c.self-2.view_is)
 
 pub returns-in-Ok-clause-left : goal.returns-in-Ok-clause-left
 returns-in-Ok-clause-left g c =
     let p = g.Q.BorrowedBytes.key c.args.prefix in
     let some : p ≢ [] = λ none. absurd (false≢true (c.if-is_empty.ensures.1 none)) in
-    entries_map g.K.Bytes.item g.met.K.Bytes.lawful c.self-2.inside.value _
-    c.in-Ok.ensures.ok.canonical ∙ ap (λ es. own c.self-2.inside.value ++ es)
+    entries_map g.K.Bytes.item g.met.K.Bytes.lawful c.self-2.inside.parts.value _
+    c.in-Ok.ensures.ok.canonical ∙ ap (λ es. own c.self-2.inside.parts.value ++ es)
     c.in-Ok.ensures.ok.left_is
-    ∙ sym (outside_filled p some c.self-2.inside.value (entries (siblings_of c.self-2.inside.arena)))
+    ∙ sym (outside_filled p some c.self-2.inside.parts.value (entries (siblings_of c.self-2.inside.parts.arena)))
     ∙ ap (outside p) (sym (entries_map g.K.Bytes.item g.met.K.Bytes.lawful _ _ c.self-2.invariant.tree.canonical) ∙ ap map.entries c.self-2.view_is)
 
 pub returns-in-Err-clause-err_only_if_matched : goal.returns-in-Err-clause-err_only_if_matched
@@ -92,7 +93,7 @@ returns-in-Err-clause-err_only_if_matched g c none =
     let p = g.Q.BorrowedBytes.key c.args.prefix in
     let some : p ≢ [] = λ e. absurd (false≢true (c.if-is_empty.ensures.1 e)) in
     c.in-Err.ensures.begun (
-    sym (under_filled p some c.self-2.inside.value (entries (siblings_of c.self-2.inside.arena)))
+    sym (under_filled p some c.self-2.inside.parts.value (entries (siblings_of c.self-2.inside.parts.arena)))
     ∙ ap (under p) (sym (entries_map g.K.Bytes.item g.met.K.Bytes.lawful _ _ c.self-2.invariant.tree.canonical) ∙ ap map.entries c.self-2.view_is)
     ∙ none
     )

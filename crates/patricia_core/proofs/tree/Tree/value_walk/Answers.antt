@@ -8,7 +8,7 @@ use Rattle.patricia_core.proofs.tree.Tree.value_walk.Goals as goal
 
 pub returns : goal.returns
 returns g c =
-    c.new.ensures ∙ ap (λ v. values_of (own v ++ entries (siblings_of c.self.inside.arena))) c.as_ref.ensures.value
+    c.new.ensures ∙ ap (λ v. values_of (own v ++ entries (siblings_of c.self.inside.parts.arena))) c.as_ref.ensures.value
     ∙ ap values_of
     (sym (entries_map g.K.Bytes.item g.met.K.Bytes.lawful _ _ c.self.invariant.tree.canonical)
     ∙ ap map.entries c.self.view_is)

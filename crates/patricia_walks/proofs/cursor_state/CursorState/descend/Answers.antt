@@ -7,11 +7,11 @@ use Rattle.patricia_walks.proofs.cursor_state.CursorState.descend.Goals as goal
 pub index-node-requires : goal.index-node-requires
 index-node-requires g c =
     let within = position_within g.K.Bytes.item _ _ c.requires.position c.requires.next in
-    omega (arith, c.index.ensures, within, numbered_slots-length 0 c.args.self.now.tree.arena.nodes.items)
+    omega (arith, c.index.ensures, within, numbered_slots-length 0 c.args.self.now.tree.parts.arena.nodes.items)
 
 pub returns-clause-goes : goal.returns-clause-goes
 returns-clause-goes g c =
-    let nodes = c.args.self.now.tree.arena.nodes.items in
+    let nodes = c.args.self.now.tree.parts.arena.nodes.items in
     let within = position_within g.K.Bytes.item _ _ c.requires.position c.requires.next in
     let reads = numbered_slots-read nodes c.args.id c.index-node.result.now
     (omega (arith, within, numbered_slots-length 0 nodes))

@@ -8,7 +8,7 @@ pub index-node-requires : goal.index-node-requires
 index-node-requires g c = omega (
   arith,
   c.index.ensures,
-  start_within g.K.Bytes.item c.args.self.now.tree.arena.nodes.items
+  start_within g.K.Bytes.item c.args.self.now.tree.parts.arena.nodes.items
       c.args.front.now c.args.top c.requires.start,
 )
 
@@ -20,7 +20,7 @@ returns-clause-position g c =
     (c.in_ok-extend_from_slice.ensures.items ∙ ap (λ p. p ++ c.args.front.now)
     c.in_ok-path.ensures.items) ∙ ap (λ l. c.args.front.now ++ l) c.as_slice-label.ensures
     in
-    start_position g.K.Bytes.item c.args.self.now.tree.arena _ (marked _ c.requires.whole).1
+    start_position g.K.Bytes.item c.args.self.now.tree.parts.arena _ (marked _ c.requires.whole).1
     c.args.front.now c.args.top c.index-node.result.now c.requires.start reads _ refl path refl
     c.requires.stack
 
@@ -32,7 +32,7 @@ returns-clause-left g c =
     (c.in_ok-extend_from_slice.ensures.items ∙ ap (λ p. p ++ c.args.front.now)
     c.in_ok-path.ensures.items) ∙ ap (λ l. c.args.front.now ++ l) c.as_slice-label.ensures
     in
-    start_left g.K.Bytes.item c.args.self.now.tree.arena _ (marked _ c.requires.whole).1 c.args.front.now c.args.top c.index-node.result.now c.requires.start reads
+    start_left g.K.Bytes.item c.args.self.now.tree.parts.arena _ (marked _ c.requires.whole).1 c.args.front.now c.args.top c.index-node.result.now c.requires.start reads
     (position_of (record {
       tree = c.args.self.now.tree;
       path = c.extend_from_slice-2.new.self;

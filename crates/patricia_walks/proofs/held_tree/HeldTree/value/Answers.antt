@@ -1,4 +1,4 @@
-use Rattle.std.proofs.Common.{arith, rules}
+use Rattle.std.proofs.Common.{arith}
 use Rattle.patricia_walks.proofs.LentLemmas.{last_within}
 use Rattle.patricia_walks.proofs.held_tree.HeldTree.value.Goals as goal
 
@@ -7,7 +7,4 @@ value_mut-requires g c =
     let within = last_within g.K.Bytes.item c.args.self.now
     (record { whole = c.requires.whole; tree = c.requires.tree; known = c.requires.known })
     c.in-Some.id c.in-Some.ensures in
-    omega (arith, within, c.args.self.now.arena.nodes.ok.0)
-
-pub returns-then-is_on_top : goal.returns-then-is_on_top
-returns-then-is_on_top g c = search rules
+    omega (arith, within, c.args.self.now.parts.arena.nodes.ok.0)

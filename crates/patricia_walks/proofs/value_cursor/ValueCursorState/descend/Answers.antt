@@ -11,11 +11,11 @@ use Rattle.patricia_walks.proofs.value_cursor.ValueCursorState.descend.Goals.{el
 pub index-node-requires : goal.index-node-requires
 index-node-requires g c =
     let within = value_within _ _ c.requires.position c.requires.next in
-    omega (arith, c.index.ensures, within, numbered_slots-length 0 c.args.self.now.tree.arena.nodes.items)
+    omega (arith, c.index.ensures, within, numbered_slots-length 0 c.args.self.now.tree.parts.arena.nodes.items)
 
 pub returns-then-is_none-clause-goes : goal.returns-then-is_none-clause-goes
 returns-then-is_none-clause-goes g c =
-    let nodes = c.args.self.now.tree.arena.nodes.items in
+    let nodes = c.args.self.now.tree.parts.arena.nodes.items in
     let within = value_within _ _ c.requires.position c.requires.next in
     let reads = numbered_slots-read nodes c.args.id c.index-node.result.now
     (omega (arith, within, numbered_slots-length 0 nodes))
@@ -26,7 +26,7 @@ returns-then-is_none-clause-goes g c =
 
 pub returns-clause-goes : goal.returns-clause-goes
 returns-clause-goes g c =
-    let nodes = c.args.self.now.tree.arena.nodes.items in
+    let nodes = c.args.self.now.tree.parts.arena.nodes.items in
     let within = value_within _ _ c.requires.position c.requires.next in
     let reads = numbered_slots-read nodes c.args.id c.index-node.result.now
     (omega (arith, within, numbered_slots-length 0 nodes))

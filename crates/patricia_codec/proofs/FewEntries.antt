@@ -1,13 +1,16 @@
 -- Bytes mean at most one entry for each two of them.
 use Rattle.std.proofs.Common.{ℕ, ◌+◌, ◌*◌, ◌≤◌, ◌≡◌, List, [], ◌∷◌, ◌++◌, Option, Some, None}
-use Rattle.std.proofs.Common.{length, is_some, cond, ap, sym, ◌∙◌, arith, length-append}
+use Rattle.std.proofs.Common.{length, ap, sym, ◌∙◌, arith, length-append}
 use Rattle.std.proofs.lemmas.List.{length-map}
 use Rattle.patricia_model.specs.Siblings.{Siblings, end, node, prefixed, own, entries}
+use Rattle.patricia_nodes.specs.declared.arena.NodeArena.{NodeArena}
+use Rattle.patricia_nodes.specs.Internal.Plans.{entries_of}
 use Rattle.patricia_wire.specs.Records.{Record, EncodeAll}
 use Rattle.patricia_wire.specs.Writings.{Means}
 use Rattle.patricia_wire.specs.Internal.WrittenSiblings.{records_of}
 use Rattle.patricia_wire.proofs.CountLemmas.{length-prefixed}
 use Rattle.patricia_wire.proofs.SiblingsTrees.{stands_tree}
+use Rattle.patricia_codec.proofs.EndLemmas.{IsDone}
 
 -- each record takes two bytes at least
 spelled_long : (w : ℕ) (R : List Record) (b : List ℕ) → EncodeAll w R b → 2 * length R ≤ length b
@@ -54,6 +57,12 @@ few_values item w b values pairs m =
 -- the keys that are not empty are as many as the values, less one where the empty key has a value
 pub entry_count : (item : List ℕ → Type 0) {V : Type 0} (w : ℕ) (b : List ℕ) (values : List V)
     (value : Option V) (es : List (List ℕ × V)) → Means item w b values (own value ++ es)
-    → length values ≡ length es + cond (is_some value) 1 0
+    → length values ≡ length es + length (own value)
 entry_count item w b values None es m = ap length m.in_place ∙ length-map es (λ e. e.1) ∙ omega arith
 entry_count item w b values (Some v) es m = ap length m.in_place ∙ length-map (own (Some v) ++ es) (λ e. e.1) ∙ omega arith
+
+-- so many keys that are not empty have nodes where all was read
+pub nodes_count : (item : List ℕ → Type 0) {V : Type 0} (w : ℕ) (s : NodeArena V) (value : Option V)
+    (b : List ℕ) (values : List V) → IsDone item w s value b values
+    → length values ≡ length (entries_of s) + length (own value)
+nodes_count item w s value b values done = entry_count item w b values value (entries_of s) done.means
