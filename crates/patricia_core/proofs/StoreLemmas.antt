@@ -1,5 +1,6 @@
 -- A tree as it is stored, and the map that it stands for.
-use Rattle.std.proofs.Common.{◌≡◌, ◌≢◌, ℕ, ◌+◌, ◌<◌, ◌^◌, ◌-◌, List, ◌++◌, Option, Some, None, sym, ap, ◌∙◌, arith}
+use Rattle.std.proofs.Common.{◌≡◌, ℕ, ◌+◌, ◌<◌, ◌^◌, ◌-◌, List, ◌++◌, Option, Some, None, is_some, true, false, sym, ap, ◌∙◌}
+use Rattle.std.specs.Prelude.{MatchOption}
 use Rattle.std.specs.FinMap as map
 use Rattle.std.specs.FinMap.{FinMap, find}
 use Rattle.patricia_keys.specs.Keys.{IsKeyKind, key_cmp}
@@ -45,3 +46,15 @@ module _ (item : List ℕ → Type 0) (kind : IsKeyKind item) {V : Type 0} where
         fits = stored.tree.fits;
       };
     }
+
+-- where a look-up finds nothing, what it says of nothing holds
+pub none_found : {A P : Type 0} (Q : A → Type 0) (o : Option A) → is_some o ≡ false
+    → MatchOption o P Q → P
+none_found Q None is found = found
+none_found Q (Some x) is found = absurd (cc)
+
+-- and else what it says of what it finds
+pub some_found : {A : Type 0} (P : Type 0) (Q : A → Type 0) (o : Option A) → is_some o ≡ true
+    → MatchOption o P Q → (x : A) × Q x
+some_found P Q None is found = absurd (cc)
+some_found P Q (Some x) is found = (x, found)

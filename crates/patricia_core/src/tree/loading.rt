@@ -80,22 +80,6 @@ impl<Q: BorrowedBytes, V: Drop> Loader<Q, V> {
         last(self.tree.alloc, self.tree.value.as_ref(), &self.tree.arena)
     }
 
-    // Inserts by a look-up from the root. The trail starts over.
-    fn insert_from_root(&mut self, key: Q, value: V) -> Result<Option<V>, Refused<V>>
-        ensures old { IfOk result (λ old. old ≡ map.get self.old (Q.key key)) }
-        ensures ok { OnOk result (self.new ≡ map.insert self.old (Q.key key) value) }
-        ensures refused { IfErr result (λ r. r.value ≡ value) }
-        ensures unchanged { OnErr result (self.new ≡ self.old) }
-        ensures err_only_nonempty { OnErr result (Q.key key ≢ []) }
-        ensures only_new { OnErr result (map.get self.old (Q.key key) ≡ None) }
-    {
-        let empty = Loader::new(Tree::new(self.tree.alloc));
-        let mut tree = mem::replace(self, empty).into_tree();
-        let outcome = tree.insert(key, value);
-        *self = Loader::new(tree);
-        outcome
-    }
-
     /// Inserts a value and returns the old one. The error is out of memory, and has the value.
     pub fn insert(&mut self, key: Q, value: V) -> Result<Option<V>, Refused<V>>
         ensures old { IfOk result (λ old. old ≡ map.get self.old (Q.key key)) }
@@ -108,8 +92,8 @@ impl<Q: BorrowedBytes, V: Drop> Loader<Q, V> {
         if key.is_empty() {
             return Ok(self.tree.value.replace(value));
         }
-        if self.tree.count == usize::MAX - 1 {
-            return self.insert_from_root(key, value);
+        if self.tree.count == usize::MAX - 1 && self.tree.arena.find(key).is_none() {
+            return Err(Refused { value });
         }
         let last = mem::replace(&mut self.last, Some(key));
         match insert_along(

@@ -1,9 +1,14 @@
-use Rattle.std.proofs.Common.{sym, ◌∙◌, refl, arith}
+use Rattle.std.proofs.Common.{◌≡◌, None, sym, ◌∙◌, refl, arith}
+use Rattle.std.specs.FinMap.{find}
+use Rattle.patricia_keys.specs.Keys.{key_cmp}
+use Rattle.patricia_nodes.specs.Internal.Loans.{HasValueNode}
 use mathlib.Core.Bool.{false≢true}
-use Rattle.patricia_nodes.specs.Internal.Plans.{siblings_of}
+use Rattle.patricia_nodes.specs.Internal.Plans.{siblings_of, entries_of}
 use Rattle.patricia_model.proofs.TreeLemmas.{get_empty, get_filled, insert_empty, insert_filled}
-use Rattle.patricia_core.proofs.StoreLemmas.{stored_new, stored_old}
+use Rattle.patricia_core.proofs.StoreLemmas.{none_found, some_found, stored_new, stored_old}
 use Rattle.patricia_core.proofs.tree.loading.Loader.insert.Goals as goal
+use Rattle.patricia_core.proofs.tree.loading.Loader.insert.Goals.{else-self-via-then-self+else-is_none}
+use Rattle.patricia_core.proofs.tree.loading.Loader.insert.Goals.{else-self-via-else-self}
 
 pub returns-then-is_empty-clause-old : goal.returns-then-is_empty-clause-old
 returns-then-is_empty-clause-old g c = rw (← c.self.view_is, c.if-is_empty.ensures.0 refl)
@@ -21,7 +26,15 @@ invariant_of-self-in-Ok-None g c = record {
   stored = stored_new g.Q.Owned.Bytes.item g.met.Q.Owned.Bytes.lawful _ _ _ c.args.value _
       c.self.invariant.stored c.in-Ok-None.ensures.whole c.in-Ok-None.ensures.siblings
       c.in-Ok-None.ensures.ok (sym c.in-Ok-None.ensures.old ∙ c.in-Ok-None.field-0-is)
-      (omega (arith, c.self.invariant.stored.tree.fits, c.if-self.false));
+      (elim c.else-self.branch [
+        | else-self-via-then-self+else-is_none w ↦
+            let found = some_found (find key_cmp (g.Q.BorrowedBytes.key c.args.key) (entries_of c.self.inside.tree.arena) ≡ None)
+            (HasValueNode g.Q.Owned.Bytes.item c.self.inside.tree.arena (g.Q.BorrowedBytes.key c.args.key))
+            w.find.result w.if-is_none.ensures w.find.ensures in
+            let both = sym c.in-Ok-None.field-0-is ∙ c.in-Ok-None.ensures.old ∙ found.1.found in
+            absurd (cc)
+        | else-self-via-else-self w ↦ omega (arith, c.self.invariant.stored.tree.fits)
+      ]);
   passed = rw c.replace-last.ensures.after c.in-Ok-None.ensures.trail;
 }
 
@@ -77,3 +90,11 @@ returns-in-Err-clause-only_new g c =
     rw (← c.self.view_is)
     (get_filled g.Q.Owned.Bytes.item g.met.Q.Owned.Bytes.lawful _ _ _ c.self.invariant.stored.tree.canonical
     (λ none. absurd (false≢true (c.if-is_empty.ensures.1 none))) ∙ c.in-Err.ensures.only_new)
+
+pub returns-then-is_none-clause-only_new : goal.returns-then-is_none-clause-only_new
+returns-then-is_none-clause-only_new g c =
+    rw (← c.self.view_is)
+    (get_filled g.Q.Owned.Bytes.item g.met.Q.Owned.Bytes.lawful _ _ _ c.self.invariant.stored.tree.canonical
+    (λ none. absurd (false≢true (c.if-is_empty.ensures.1 none)))
+    ∙ none_found (HasValueNode g.Q.Owned.Bytes.item c.self.inside.tree.arena (g.Q.BorrowedBytes.key c.args.key))
+    c.find.result c.if-is_none.ensures c.find.ensures)
