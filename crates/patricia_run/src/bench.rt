@@ -1,18 +1,19 @@
 //! The bench, which holds the map that commands work on and one aside, and what each command does.
 
-ghost use Rattle.std.specs.Prelude.{◌≡◌, ◌≢◌, [], length, IfOk, OnErr, map as list_map};
+ghost use Rattle.std.specs.Prelude.{◌≡◌, ◌≢◌, [], length, IfOk, IfErr, OnErr, map as list_map};
 ghost use Rattle.std.specs.FinMap as map;
 ghost use Rattle.patricia_tree.specs.Bulk.{by_bytes};
 ghost use Rattle.patricia_tree.specs.Prefixes.{along, under};
 ghost use Rattle.patricia_tree.specs.TreeBytes.{AreTreeBytes};
-ghost use Rattle.patricia_tree.specs.Writings.{TooDeep};
+ghost use Rattle.patricia_tree.specs.Writings.{Means, TooDeep};
 ghost use Rattle.patricia_tree.specs.Clones.{CloneIsSame};
 ghost use Rattle.patricia_run.specs.Machine.{Step, Run, empty_state, with_key};
+ghost use Rattle.patricia_run.specs.Internal.Levels.{width_of, wire_with, reload_with};
 ghost use Rattle.patricia_run.specs.declared.command.Command.TheVariants as Commands;
 
 use crate::command::{Command, Reply};
 use patricia_tree::wire::laws;
-use patricia_tree::{BorrowedBytes, Bytes, GenericPatriciaMap, WireError};
+use patricia_tree::{BorrowedBytes, Bytes, DecodeError, GenericPatriciaMap, WireError};
 use std::alloc::{AllocError, Global};
 use std::marker::Model;
 use std::mem;
@@ -101,29 +102,58 @@ fn values<K: Bytes, V: Copy>(
     Ok(values)
 }
 
-// The tree bytes of a map, and its values in key order.
+// In how many bytes tree bytes have the level of a record.
+#[derive(Clone, Copy)]
+enum Levels {
+    Narrow,
+    Wide,
+}
+
+// The tree bytes of a map, with such levels.
+fn tree_bytes<K: Bytes, V: Copy>(
+    entries: &GenericPatriciaMap<K, V>,
+    levels: Levels,
+) -> Result<Vec<u8>, WireError>
+    ensures ok { IfOk result (λ b.
+        AreTreeBytes K.item (width_of levels) b.items (map.entries entries.now)) }
+    ensures too_deep { IfErr result (λ e. e ≢ WireError.Memory
+        → TooDeep K.item (width_of levels) (map.keys entries.now)) }
+{
+    match levels {
+        Levels::Narrow => entries.tree_bytes(),
+        Levels::Wide => entries.wide_tree_bytes(),
+    }
+}
+
+// The tree bytes of a map, with such levels, and its values in key order.
 fn written<K: Bytes, V: Copy>(
     alloc: Global,
     entries: &GenericPatriciaMap<K, V>,
+    levels: Levels,
 ) -> Result<(Vec<u8>, Vec<V>), WireError>
-    ensures bytes { IfOk result (λ w. AreTreeBytes K.item 2 w.0.items (map.entries entries.now)) }
+    ensures bytes { IfOk result (λ w.
+        AreTreeBytes K.item (width_of levels) w.0.items (map.entries entries.now)) }
     ensures values { IfOk result (λ w. w.1.items ≡ map.values entries.now) }
-    ensures too_deep { result ≡ Err WireError.TooDeep → TooDeep K.item 2 (map.keys entries.now) }
+    ensures too_deep { IfErr result (λ e. e ≢ WireError.Memory
+        → TooDeep K.item (width_of levels) (map.keys entries.now)) }
 {
-    Ok((entries.tree_bytes()?, values(alloc, entries)?))
+    Ok((tree_bytes(entries, levels)?, values(alloc, entries)?))
 }
 
-// The wide tree bytes of a map, and its values in key order.
-fn wide_written<K: Bytes, V: Copy>(
+// The map that tree bytes with such levels and values mean.
+fn read<K: Bytes, V: Copy>(
     alloc: Global,
-    entries: &GenericPatriciaMap<K, V>,
-) -> Result<(Vec<u8>, Vec<V>), WireError>
-    ensures bytes { IfOk result (λ w. AreTreeBytes K.item 4 w.0.items (map.entries entries.now)) }
-    ensures values { IfOk result (λ w. w.1.items ≡ map.values entries.now) }
-    ensures too_deep { result ≡ Err WireError.TooDeepWide
-        → TooDeep K.item 4 (map.keys entries.now) }
+    bytes: &[u8],
+    values: Vec<V>,
+    levels: Levels,
+) -> Result<GenericPatriciaMap<K, V>, DecodeError>
+    ensures { IfOk result (λ m.
+        Means K.item (width_of levels) bytes.now values.items (map.entries m)) }
 {
-    Ok((entries.wide_tree_bytes()?, values(alloc, entries)?))
+    match levels {
+        Levels::Narrow => GenericPatriciaMap::from_wire(alloc, bytes, values),
+        Levels::Wide => GenericPatriciaMap::from_wide_wire(alloc, bytes, values),
+    }
 }
 
 impl<K: Bytes, V: Copy> Bench<K, V> {
@@ -267,59 +297,28 @@ impl<K: Bytes, V: Copy> Bench<K, V> {
         Reply::Done
     }
 
-    // Writes the tree.
-    fn wire(&self) -> Reply<K, V>
-        ensures { Step K.item K.key self.now Commands.Wire result self.now }
+    // Writes the tree with such levels.
+    fn wire(&self, levels: Levels) -> Reply<K, V>
+        ensures { Step K.item K.key self.now (wire_with levels) result self.now }
     {
-        match written(self.alloc, &self.main) {
+        match written(self.alloc, &self.main, levels) {
             Ok((bytes, values)) => Reply::Wire(bytes, values),
-            Err(WireError::TooDeep) => Reply::TooDeep,
-            Err(_) => Reply::NoMemory,
+            Err(WireError::Memory) => Reply::NoMemory,
+            Err(_) => Reply::TooDeep,
         }
     }
 
-    // Writes the tree with wide levels.
-    fn wide(&self) -> Reply<K, V>
-        ensures { Step K.item K.key self.now Commands.Wide result self.now }
+    // Writes the tree with such levels and makes the map anew of what was written.
+    fn reload(&mut self, levels: Levels) -> Reply<K, V>
+        ensures { Step K.item K.key self.old (reload_with levels) result self.new }
     {
-        match wide_written(self.alloc, &self.main) {
-            Ok((bytes, values)) => Reply::Wire(bytes, values),
-            Err(WireError::TooDeepWide) => Reply::TooDeep,
-            Err(_) => Reply::NoMemory,
-        }
-    }
-
-    // Writes the tree and makes the map anew of what was written.
-    fn reload(&mut self) -> Reply<K, V>
-        ensures { Step K.item K.key self.old Commands.Reload result self.new }
-    {
-        let (bytes, values) = match written(self.alloc, &self.main) {
+        let (bytes, values) = match written(self.alloc, &self.main, levels) {
             Ok(written) => written,
-            Err(WireError::TooDeep) => return Reply::TooDeep,
-            Err(_) => return Reply::NoMemory,
+            Err(WireError::Memory) => return Reply::NoMemory,
+            Err(_) => return Reply::TooDeep,
         };
         laws::tree_bytes_read_back::<K, V>();
-        match GenericPatriciaMap::from_wire(self.alloc, &bytes, values) {
-            Ok(read) => {
-                self.main = read;
-                Reply::Done
-            }
-            // what was written has no fault, so an allocation failed (`meant_is_never_faulty`)
-            Err(_) => Reply::NoMemory,
-        }
-    }
-
-    // Writes the tree with wide levels and makes the map anew of what was written.
-    fn reload_wide(&mut self) -> Reply<K, V>
-        ensures { Step K.item K.key self.old Commands.ReloadWide result self.new }
-    {
-        let (bytes, values) = match wide_written(self.alloc, &self.main) {
-            Ok(wide) => wide,
-            Err(WireError::TooDeepWide) => return Reply::TooDeep,
-            Err(_) => return Reply::NoMemory,
-        };
-        laws::tree_bytes_read_back::<K, V>();
-        match GenericPatriciaMap::from_wide_wire(self.alloc, &bytes, values) {
+        match read(self.alloc, &bytes, values, levels) {
             Ok(again) => {
                 self.main = again;
                 Reply::Done
@@ -348,10 +347,10 @@ impl<K: Bytes, V: Copy> Bench<K, V> {
             Command::Swap => self.swap(),
             Command::Copy => self.copy(),
             Command::Clear => self.clear(),
-            Command::Wire => self.wire(),
-            Command::Reload => self.reload(),
-            Command::Wide => self.wide(),
-            Command::ReloadWide => self.reload_wide(),
+            Command::Wire => self.wire(Levels::Narrow),
+            Command::Reload => self.reload(Levels::Narrow),
+            Command::Wide => self.wire(Levels::Wide),
+            Command::ReloadWide => self.reload(Levels::Wide),
         }
     }
 }
