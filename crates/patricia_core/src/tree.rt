@@ -297,6 +297,7 @@ impl<K: Bytes, V: Drop> Tree<K, V> {
         ensures valid { All (IsValid K.item) (map.keys self.now) }
         ensures bytes { All (All (λ b. b < 256)) (map.keys self.now) }
     {
+        // for the proof alone: what is read of a tree brings its invariant
         let _count = self.parts.count;
     }
 

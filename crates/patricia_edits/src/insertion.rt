@@ -167,6 +167,7 @@ fn insert_within<V: Drop, Q: BorrowedBytes>(
     ensures unchanged { OnErr result (arena.new ≡ arena.old) }
     ensures reuses { Reuses arena.old arena.new }
 {
+    // for the proof alone: the rest of the key is a valid key
     let _valid = place.rest.as_bytes();
     let tail = place.rest.strip_n_prefix(n);
     let cut = behind(arena.nodes[id.index()].label.as_slice(), n);

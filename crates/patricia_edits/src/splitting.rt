@@ -186,6 +186,7 @@ pub fn split<V: Drop, Q: BorrowedBytes>(
     ensures begun { OnErr result (under (Q.key prefix) (entries_of arena.old) ≢ []) }
 {
     let place = arena.seek(prefix);
+    // for the proof alone: the rest of the key is a valid key
     let _valid = place.rest.as_bytes();
     match place.under() {
         Some(id) => split_at(arena, alloc, prefix, &place, id),

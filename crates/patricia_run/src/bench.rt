@@ -317,6 +317,7 @@ impl<K: Bytes, V: Copy> Bench<K, V> {
             Err(WireError::Memory) => return Reply::NoMemory,
             Err(_) => return Reply::TooDeep,
         };
+        // for the proof alone: what is written is read to the same map
         laws::tree_bytes_read_back::<K, V>();
         match read(self.alloc, &bytes, values, levels) {
             Ok(again) => {

@@ -57,7 +57,7 @@ where
         self.at.value()
     }
 
-    // The same as `advance`, which says what entry it is.
+    // For the proof alone: `advance`, with a contract that says what entry it is.
     fn go_on(&mut self) -> Result<Option<K>, AllocError>
         ensures owner { self.new.owner.ghost_name ≡ self.old.owner.ghost_name }
         ensures ok { IfOk result (λ key. MatchOption key

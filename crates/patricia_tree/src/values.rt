@@ -53,7 +53,7 @@ where
         self.at.value()
     }
 
-    // The same as `advance`, which says what value it is.
+    // For the proof alone: `advance`, with a contract that says what value it is.
     fn go_on(&mut self) -> Result<bool, AllocError>
         ensures owner { self.new.owner.ghost_name ≡ self.old.owner.ghost_name }
         ensures some { IfOk result (λ found. IsTrue found → IsNextValue self.old.at) }

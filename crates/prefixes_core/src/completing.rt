@@ -55,6 +55,7 @@ pub fn complete<'a, Q: BorrowedBytes, V: Drop>(
         (list_map (λ found. (Q.Owned.key found.0, found.1.now)) c.first.items) c.count) }
     ensures err { OnErr result (under (Q.key prefix) (map.entries entries.now) ≢ []) }
 {
+    // for the proof alone: there are no more entries than `count` can count
     let _bound = entries.len();
     let mut first = Vec::new(alloc);
     let mut count: usize = 0;

@@ -38,6 +38,7 @@ impl<K: Bytes, V: Drop> GenericPatriciaMap<K, V> {
         }
         let mut cursor = self.cursor_prefix(prefix);
         let mut count = 0;
+        // the bound is for the proof alone: there are no more entries than that
         for _ in 0..self.len() {
             if !cursor.advance()? {
                 break;
