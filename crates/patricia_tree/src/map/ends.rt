@@ -7,6 +7,7 @@ ghost use Rattle.std.specs.Option.{option_map};
 ghost use Rattle.std.specs.FinMap as map;
 ghost use Rattle.patricia_core.specs.Cursors.{after};
 ghost use Rattle.patricia_core.specs.Ranges.{before};
+ghost use Rattle.patricia_core.specs.Points.{Joins};
 
 use super::GenericPatriciaMap;
 use patricia_core::keys::{BorrowedBytes, Bytes, KeyBytes};
@@ -182,6 +183,7 @@ impl<K: Bytes, V: Drop> GenericPatriciaMap<K, V> {
             ≡ option_map {U = List ℕ × V} (λ v. (K.key key, v)) (map.get self.old (K.key key))) }
         ensures left { OnOk result (self.new ≡ map.remove self.old (K.key key)) }
         ensures unchanged { OnErr result (self.new ≡ self.old) }
+        ensures joins { OnErr result (Joins K.item (map.keys self.old) (K.key key)) }
     {
         match self.remove(KeyBytes::of(&key))? {
             Some(value) => Ok(Some((key, value))),

@@ -1,5 +1,5 @@
 //! Two maps compared, and one merged into the other.
-ghost use Rattle.std.specs.Prelude.{◌≡◌, ◌≢◌, ℕ, List, [], Some, IfOk, OnOk, OnErr};
+ghost use Rattle.std.specs.Prelude.{◌≡◌, ◌≢◌, ℕ, List, [], Some, IfOk, OnOk, OnErr, None};
 ghost use Rattle.std.specs.FinMap as map;
 ghost use Rattle.patricia_tree.specs.Merges.{IsMergeStopped, MergesAll, MergesEntry};
 ghost use Rattle.patricia_tree.specs.Whole.{is_same_entry, are_same_entries};
@@ -82,6 +82,8 @@ impl<K: Bytes, V: Drop> GenericPatriciaMap<K, V> {
         ensures merged { OnOk result
             (MergesEntry F.FnMut (f.old, self.old) (K.key key.now, value) (f.new, self.new)) }
         ensures unchanged { OnErr result (self.new ≡ self.old) }
+        ensures err_only_nonempty { OnErr result (K.key key.now ≢ []) }
+        ensures only_new { OnErr result (map.get self.old (K.key key.now) ≡ None) }
     {
         let key = KeyBytes::of(key);
         if self.contains_key(key) {
