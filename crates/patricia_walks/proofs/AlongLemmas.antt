@@ -1,5 +1,6 @@
 -- The steps of a walk over the common prefixes of a key.
 use Rattle.std.proofs.Common.{◌≡◌, ◌≢◌, ◌<◌, ◌∷◌, [], ℕ, ◌+◌, ◌-◌, ◌≤◌, true, false, List, ◌++◌, length, get_or, take}
+use Rattle.std.proofs.Common.{zero, suc, vec_len}
 use Rattle.std.proofs.Common.{drop, Option, Some, None, refl, sym, ap, subst, ◌∙◌, arith}
 use Rattle.std.specs.Option.{option_copied}
 use Rattle.std.specs.Prelude.{nat_eq}
@@ -22,6 +23,8 @@ use Rattle.patricia_model.proofs.PrefixLemmas.{along_down, along_past, along_sto
 use Rattle.patricia_nodes.specs.declared.arena.Node.{Node}
 use Rattle.patricia_nodes.specs.declared.arena.NodeArena.{NodeArena}
 use Rattle.patricia_nodes.specs.Internal.Heads.{byte_of}
+use Rattle.patricia_nodes.specs.Internal.NodeVecs.{IsRun}
+use Rattle.patricia_nodes.proofs.NodeVecLemmas.{node_there}
 use Rattle.patricia_nodes.specs.Internal.Plans.{Nil, siblings_in, plan_at, IsPlan, IsWellFormed}
 use Rattle.patricia_nodes.specs.Internal.Plans.{siblings_of as slots_siblings}
 use Rattle.patricia_nodes.proofs.PlanLemmas.{plan_is}
@@ -209,6 +212,54 @@ pub descent_within : (item : List ℕ → Type 0) {V : Type 0} (k : List ℕ) (d
     → IsDescent item k d → d.next ≡ Some id → id < length d.arena.now.nodes.items
 descent_within item k d id w next =
     let nodes = d.arena.now.nodes.items in head_within nodes d.next (plan_at nodes d.next) id w.plan next
+
+-- what is left stays, and no more nodes are ahead
+pub record MovesOn (item : List ℕ → Type 0) {V : Type 0} (k : List ℕ) (d e : Descent V) : Type 0 where
+  pub descent : IsDescent item k e
+  pub same : along_left k e ≡ along_left k d
+  pub few : steps_in (siblings_left e) ≤ steps_in (siblings_left d)
+
+-- at another node
+abbrev pub moved_to : {V : Type 0} → Descent V → Option ℕ → Descent V
+moved_to d to = record d { next = to }
+
+module _ (item : List ℕ → Type 0) (kind : IsKeyKind item) {V : Type 0} (k : List ℕ) where
+  -- past a run of siblings the walk is at its end
+  moves_run : (n from to : ℕ) (d : Descent V) → to ≡ from + n → IsDescent item k d
+      → d.pending ≡ None → d.next ≡ Some from
+      → IsRun d.arena.now.nodes (get_or (drop d.len k) 0 0) from to
+      → MovesOn item k d (moved_to d (Some to))
+  moves_run zero from to d e w taken next run =
+      let same : d.next ≡ Some to = next ∙ ap (λ x. Some x) (omega (arith, e)) in
+      subst (λ a. MovesOn item k d (moved_to d a)) same (record { descent = w; same = refl; few = omega arith })
+  moves_run (suc n) from to d e w taken next run =
+      let there = node_there _ _ (descent_within item k d from w next) in
+      let passes = run.passes from (omega arith) (omega (arith, e)) there.0 there.1 in
+      let step : Moves item k d (moved_to d (Some (from + 1))) =
+      passes_by item kind k d (moved_to d (Some (from + 1))) from there.0 w taken next there.1 refl passes.1 refl refl (sym passes.0) in
+      let rest = moves_run n (from + 1) to (moved_to d (Some (from + 1))) (omega (arith, e)) step.descent taken refl
+      (record { forward = omega (arith, e); passes = λ i behind before. run.passes i (omega (arith, behind)) before }) in
+      record {
+        descent = rest.descent;
+        same = rest.same ∙ step.same;
+        few = omega (arith, rest.few, step.less);
+      }
+
+  module _ (d : Descent V) (from to : ℕ) (w : IsDescent item k d) (taken : d.pending ≡ None) (next : d.next ≡ Some from) (run : IsRun d.arena.now.nodes (get_or (drop d.len k) 0 0) from to) where
+    pub moves_past_run : MovesOn item k d (moved_to d (Some to))
+    moves_past_run = moves_run (to - from) from to d (omega (arith, run.forward)) w taken next run
+
+    -- so it ends in the vector
+    pub run_ends : to < vec_len d.arena.now.nodes
+    run_ends = rw d.arena.now.nodes.ok.0 (descent_within item k (moved_to d (Some to)) to moves_past_run.descent refl)
+
+  -- a step from there is one
+  pub moves_after : (d e m : Descent V) → MovesOn item k d m → Moves item k m e → Moves item k d e
+  moves_after d e m on step = record {
+    descent = step.descent;
+    same = step.same ∙ on.same;
+    less = omega (arith, on.few, step.less);
+  }
 
 -- a slice of a list from a place to its end is all that is behind the place
 pub rest_is : (n : ℕ) (k : List ℕ) → take (length k - n) (drop n k) ≡ drop n k

@@ -54,11 +54,13 @@ impl<'a, V> Descent<'a, V> {
         ensures { Moves K.item key.now self.old self.new }
     {
         let rest = &key[self.len..];
-        let first = self.arena.nodes.first_byte(id);
         if rest.is_empty() {
             self.next = Link::none();
             return;
         }
+        // past siblings that lie side by side
+        let id = self.arena.nodes.run(id, rest[0]);
+        let first = self.arena.nodes.first_byte(id);
         if first < rest[0] {
             self.next = self.arena.nodes.sibling(id);
             return;
