@@ -242,6 +242,6 @@ def missed(check, goal):
     if not check.is_refused:
         return 'NOT REFUSED: ' + check.text()
     if check.of(goal):
-        return 'REFUSED BY NAMES ALONE: it says little of the contract: %s' % check.of(goal)[0]
+        return 'REFUSED BY NAMES ALONE: it says little of the contract: %s' % str(check.of(goal)[0])
     told = '; '.join(map(str, check.failures[:3])) or check.text()
     return 'THE GOAL %s DOES NOT FAIL, but: %s' % (str(goal), told)
