@@ -1,4 +1,5 @@
-//! btree [times]: what `bench_tree` does, over std's ordered map. Its walk lends the keys.
+//! btree [counts|times] [LINE..]: what `bench_tree` does, over std's ordered map. Its walk lends the
+//! keys.
 
 use std::collections::{BTreeMap, BTreeSet};
 use std::ops::Bound;
@@ -6,6 +7,21 @@ use std::io::Read;
 use std::time::Instant;
 
 type Map = BTreeMap<Vec<u8>, u64>;
+
+// The keys that are inserted, those that are only asked for, and a prefix of about a tenth of the
+// former.
+struct Lists<'a> {
+    present: Vec<&'a [u8]>,
+    absent: Vec<&'a [u8]>,
+    prefix: &'a [u8],
+}
+
+impl<'a> Lists<'a> {
+    // Up to 100,000 of the absent keys.
+    fn few(&self) -> &[&'a [u8]] {
+        &self.absent[..self.absent.len().min(100_000)]
+    }
+}
 
 fn put(map: &mut Map, keys: &[&[u8]]) -> u64 {
     let mut new = 0;
@@ -198,9 +214,62 @@ fn from_copy(bytes: &[u8], ends: &[(usize, u64)]) -> Map {
     rows.collect()
 }
 
+// What a map is asked as it is filled.
+const QUESTIONS: [&str; 12] = [
+    "get",
+    "get_absent",
+    "walk",
+    "lend",
+    "scan",
+    "values",
+    "range",
+    "under",
+    "longest",
+    "first_after",
+    "last_before",
+    "count",
+];
+
+// What the calls of a line answer.
+fn answer(line: &str, map: &Map, lists: &Lists) -> u64 {
+    match line {
+        "get" => found(map, &lists.present),
+        "get_absent" => found(map, &lists.absent),
+        "walk" | "lend" => walked(map),
+        "scan" => scanned(map),
+        "values" => summed(map),
+        "range" => from_ten(map, lists.few()),
+        "under" => under(map, lists.few()),
+        "longest" => longest(map, lists.few()),
+        "first_after" => entries_after(map, lists.few()),
+        "last_before" => entries_before(map, lists.few()),
+        "count" => count(map, lists.prefix),
+        _ => unreachable!("{line}"),
+    }
+}
+
+// How many calls a line has, or over how many entries they go.
+fn calls(line: &str, map: &Map, lists: &Lists, answer: u64) -> usize {
+    match line {
+        "get" => lists.present.len(),
+        "get_absent" => lists.absent.len(),
+        "walk" | "lend" | "scan" | "values" => map.len(),
+        "count" => answer as usize,
+        _ => lists.few().len(),
+    }
+}
+
+// A line on a map of which the line's name says how it came to be.
+fn ask(times: bool, state: &str, line: &str, map: &Map, lists: &Lists) {
+    let name = format!("{state}{line}");
+    let start = Instant::now();
+    let answer = answer(line, map, lists);
+    report(times, &name, start, calls(line, map, lists, answer), answer);
+}
+
 // Copies the bytes of all keys, one key after the other, says how many there are for 1,000 entries,
-// and makes a map of them.
-fn time_tree(times: bool, map: &Map) {
+// and makes a map of them, which is asked, too.
+fn time_tree(times: bool, map: &Map, lists: &Lists) {
     let start = Instant::now();
     let mut bytes = Vec::new();
     for key in map.keys() {
@@ -218,6 +287,9 @@ fn time_tree(times: bool, map: &Map) {
     let start = Instant::now();
     let read = from_copy(&bytes, &ends);
     report(times, "from_wire", start, read.len(), read.len() as u64);
+    for line in ["get", "get_absent", "lend", "scan"] {
+        ask(times, "fresh_", line, &read, lists);
+    }
 }
 
 // The bytes that a line of /proc/self/status names.
@@ -260,10 +332,10 @@ fn time_copies(times: bool, map: &Map, prefix: &[u8]) {
 }
 
 // Takes half of the keys out and puts them in again, and then the other half.
-fn churn(times: bool, present: &[&[u8]], absent: &[&[u8]]) {
+fn churn(times: bool, lists: &Lists) {
     let mut map = Map::new();
-    put(&mut map, present);
-    let (front, back) = present.split_at(present.len() / 2);
+    put(&mut map, &lists.present);
+    let (front, back) = lists.present.split_at(lists.present.len() / 2);
     let rounds = [
         ("churn_remove", "churn_insert", front),
         ("churn_remove_again", "churn_insert_again", back),
@@ -274,14 +346,9 @@ fn churn(times: bool, present: &[&[u8]], absent: &[&[u8]]) {
         let start = Instant::now();
         report(times, insert, start, keys.len(), put(&mut map, keys));
     }
-    let start = Instant::now();
-    report(times, "churned_get", start, present.len(), found(&map, present));
-    let start = Instant::now();
-    report(times, "churned_get_absent", start, absent.len(), found(&map, absent));
-    let start = Instant::now();
-    report(times, "churned_walk", start, map.len(), walked(&map));
-    let start = Instant::now();
-    report(times, "churned_lend", start, map.len(), walked(&map));
+    for line in ["get", "get_absent", "walk", "lend"] {
+        ask(times, "churned_", line, &map, lists);
+    }
 }
 
 // Makes a map of keys in their order.
@@ -308,57 +375,43 @@ fn unite(times: bool, first: &[&[u8]], second: &[&[u8]]) {
     report(times, "is_subset", start, second.len(), u64::from(second.is_subset(&union)));
 }
 
-fn measure(times: bool, present: &mut [&[u8]], absent: &[&[u8]], prefix: &[u8]) {
+// Changes a map that is filled and copies of it, and makes others in the keys' order.
+fn measure_rest(times: bool, mut map: Map, lists: &mut Lists) {
+    time_tree(times, &map, lists);
+    let (count, start) = (map.len(), Instant::now());
+    report(times, "values_mut", start, count, raised(&mut map));
+    time_copies(times, &map, lists.prefix);
+    let start = Instant::now();
+    report(times, "remove", start, lists.present.len(), taken(&mut map, &lists.present));
+    churn(times, lists);
+
+    lists.present.sort_unstable();
+    let mut map = Map::new();
+    let start = Instant::now();
+    report(times, "insert_sorted", start, lists.present.len(), put(&mut map, &lists.present));
+    load(times, &lists.present);
+    unite(times, &lists.present, lists.few());
+}
+
+// Fills a map and asks it, and then does the rest where no lines are named.
+fn measure(times: bool, names: &[String], lists: &mut Lists) {
     let before = memory("VmRSS:");
     let mut map = Map::new();
     let start = Instant::now();
-    let new = put(&mut map, present);
-    report(times, "insert", start, present.len(), new);
+    let new = put(&mut map, &lists.present);
+    report(times, "insert", start, lists.present.len(), new);
     let after = memory("VmRSS:");
     let peak = memory("VmHWM:");
 
-    shuffle(present, 3);
-    let start = Instant::now();
-    report(times, "get", start, present.len(), found(&map, present));
-    let start = Instant::now();
-    report(times, "get_absent", start, absent.len(), found(&map, absent));
-    let start = Instant::now();
-    report(times, "walk", start, map.len(), walked(&map));
-    let start = Instant::now();
-    report(times, "lend", start, map.len(), walked(&map));
-    let start = Instant::now();
-    report(times, "scan", start, map.len(), scanned(&map));
-    let start = Instant::now();
-    report(times, "values", start, map.len(), summed(&map));
-    let some = &absent[..absent.len().min(100_000)];
-    let start = Instant::now();
-    report(times, "range", start, some.len(), from_ten(&map, some));
-    let start = Instant::now();
-    report(times, "under", start, some.len(), under(&map, some));
-    let start = Instant::now();
-    report(times, "longest", start, some.len(), longest(&map, some));
-    let start = Instant::now();
-    report(times, "first_after", start, some.len(), entries_after(&map, some));
-    let start = Instant::now();
-    report(times, "last_before", start, some.len(), entries_before(&map, some));
-    let start = Instant::now();
-    let counted = count(&map, prefix);
-    report(times, "count", start, counted as usize, counted);
-    time_tree(times, &map);
-    let (count, start) = (map.len(), Instant::now());
-    report(times, "values_mut", start, count, raised(&mut map));
-    time_copies(times, &map, prefix);
-    let start = Instant::now();
-    report(times, "remove", start, present.len(), taken(&mut map, present));
-    churn(times, present, absent);
-
-    present.sort_unstable();
-    let mut map = Map::new();
-    let start = Instant::now();
-    let new = put(&mut map, present);
-    report(times, "insert_sorted", start, present.len(), new);
-    load(times, present);
-    unite(times, present, some);
+    shuffle(&mut lists.present, 3);
+    for line in QUESTIONS {
+        if names.is_empty() || names.iter().any(|name| name == line) {
+            ask(times, "", line, &map, lists);
+        }
+    }
+    if names.is_empty() {
+        measure_rest(times, map, lists);
+    }
     if times {
         println!("memory {}", after.saturating_sub(before) / new.max(1));
         println!("peak {}", peak.saturating_sub(before) / new.max(1));
@@ -366,7 +419,8 @@ fn measure(times: bool, present: &mut [&[u8]], absent: &[&[u8]], prefix: &[u8]) 
 }
 
 fn main() {
-    let times = std::env::args().skip(1).any(|word| word == "times");
+    let words: Vec<String> = std::env::args().collect();
+    let times = words.get(1).is_some_and(|word| word == "times");
     let mut input = Vec::new();
     std::io::stdin().read_to_end(&mut input).unwrap();
     let (mut present, mut absent) = read_keys(&input);
@@ -375,5 +429,6 @@ fn main() {
     shuffle(&mut present, 1);
     shuffle(&mut absent, 2);
     println!("keys {}", present.len());
-    measure(times, &mut present, &absent, prefix);
+    let mut lists = Lists { present, absent, prefix };
+    measure(times, words.get(2..).unwrap_or_default(), &mut lists);
 }

@@ -383,6 +383,11 @@ pub(super) fn collect<K: Bytes>(maps: &mut Maps<K>) -> Result<(), AllocError> {
     push_values(&mut maps.values, &maps.map)
 }
 
+/// Puts the map and its copy in each other's place.
+pub(super) fn exchange<K: Bytes>(maps: &mut Maps<K>) {
+    mem::swap(&mut maps.map, &mut maps.copy);
+}
+
 /// Drops what calls have made.
 pub(super) fn forget<K: Bytes>(maps: &mut Maps<K>) {
     maps.copy = GenericPatriciaMap::new(maps.alloc);

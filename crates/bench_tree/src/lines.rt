@@ -3,11 +3,18 @@ use std::io;
 use std::rt::Clock;
 use std::time::Instant;
 
-/// Where lines go, and whether they have times.
+/// Where lines go, whether they have times, and the names of those that are asked for, or none
+/// where all are.
 #[derive(Drop)]
 pub(super) struct Sheet<'a, R> {
     pub(super) rt: &'a R,
     pub(super) times: bool,
+    pub(super) names: &'a [String],
+}
+
+/// Whether the line is asked for.
+pub(super) fn is_asked<R>(sheet: &Sheet<'_, R>, name: &str) -> bool {
+    sheet.names.is_empty() || sheet.names.iter().any(|asked| asked.as_str() == name)
 }
 
 /// A line with a name and a number.

@@ -1,10 +1,12 @@
-//! bench_tree [times|age]: counts the answers of a map for the keys of its input, or times its
-//! calls, or says how many of the keys are inserted when the nodes are last relocated.
+//! bench_tree [counts|times|age] [LINE..]: counts the answers of a map for the keys of its input,
+//! or times its calls, or says how many of the keys are inserted when the nodes are last
+//! relocated.
 //!
 //! The input has a key a line. The keys of every other line are inserted, the rest are only asked
 //! for. With the word `times` each line of the output has nanoseconds a call or an entry, or bytes
 //! a key; `tree_size` has the tree bytes of 1,000 entries, and `share` the thousandths of the
-//! entries that `split_by_prefix` removes.
+//! entries that `split_by_prefix` removes. Where lines are named, as `get` or `count`, the map is
+//! filled and asked for these alone.
 #![tactic(auto)]
 
 mod age;
@@ -18,13 +20,14 @@ mod steps;
 use age::report_age;
 use calls::{Each, Maps, no_maps};
 use keys::{Lists, few, read_lists, shuffle};
-use lines::{Sheet, line};
+use lines::{Sheet, is_asked, line};
 use loads::{time_load, time_union};
 use memory::{memory, memory_since};
 use patricia_tree::{BorrowedBytes, GenericPatriciaMap};
+use std::env;
 use std::io::{self, Read as _};
 use std::rt::{Clock, Env, Files};
-use steps::{time_each, time_steps};
+use steps::{time_each, time_questions, time_steps};
 
 // Fills the map.
 fn fill<R: Alloc + Clock + Files + Print, Q: BorrowedBytes>(
@@ -38,7 +41,7 @@ fn fill<R: Alloc + Clock + Files + Print, Q: BorrowedBytes>(
     Ok(())
 }
 
-// Fills the map, and calls each method for all keys in turn.
+// Fills the map and asks it, and then does the rest where no lines are named.
 fn measure_maps<R: Alloc + Clock + Files + Print, Q: BorrowedBytes>(
     sheet: &Sheet<'_, R>,
     maps: &mut Maps<Q::Owned>,
@@ -46,7 +49,11 @@ fn measure_maps<R: Alloc + Clock + Files + Print, Q: BorrowedBytes>(
 ) -> io::Result<()> {
     fill(sheet, &mut maps.map, lists)?;
     shuffle(&mut lists.present, 3);
-    time_steps(sheet, maps, lists)
+    time_questions(sheet, maps, lists)?;
+    if sheet.names.is_empty() {
+        time_steps(sheet, maps, lists)?;
+    }
+    Ok(())
 }
 
 // Calls each method for all keys in turn.
@@ -84,15 +91,25 @@ fn put_sorted<R: AllocGlobal + Clock + Print>(
     put_in_order(sheet, keys)
 }
 
-// Measures the calls, and then inserts in the keys' order.
+// Inserts in the keys' order, and makes sets.
+fn measure_sorted<R: AllocGlobal + Clock + Print>(
+    sheet: &Sheet<'_, R>,
+    lists: &mut Lists<&[u8]>,
+) -> io::Result<()> {
+    put_sorted(sheet, &mut lists.present)?;
+    time_union(sheet, &lists.present, few(lists))
+}
+
+// Measures the calls, and then what goes by the keys' order where no lines are named.
 fn measure_both<R: AllocGlobal + Clock + Files + Print>(
     sheet: &Sheet<'_, R>,
     lists: &mut Lists<&[u8]>,
 ) -> io::Result<()> {
     line(sheet, "keys", lists.present.len() as u128)?;
     measure(sheet, lists)?;
-    put_sorted(sheet, &mut lists.present)?;
-    time_union(sheet, &lists.present, few(lists))?;
+    if sheet.names.is_empty() {
+        measure_sorted(sheet, lists)?;
+    }
     report_memory(sheet, lists.memory)
 }
 
@@ -105,12 +122,11 @@ fn run_on<R: AllocGlobal + Clock + Files + Print>(
     measure_both(sheet, &mut lists)
 }
 
-// Whether the program's word is this one.
-fn has_word(rt: &impl Env, wanted: &[u8]) -> bool {
-    let mut word = [0; 5];
-    match rt.arg(1, &mut word) {
-        Ok(len) => word.get(..len) == Some(wanted),
-        Err(_) => false,
+// Whether the first word after the program's name is this one.
+fn has_word(words: &[String], wanted: &str) -> bool {
+    match words.get(1) {
+        Some(word) => word.as_str() == wanted,
+        None => false,
     }
 }
 
@@ -128,11 +144,13 @@ fn read_input(rt: &(impl AllocGlobal + Input)) -> io::Result<Vec<u8>> {
 
 fn run<R: AllocGlobal + Clock + Env + Files + Input + Print>(rt: &R) -> io::Result<()> {
     let input = read_input(rt)?;
+    let words: Vec<String> = env::args(&(rt, rt.alloc()))?.collect(rt.alloc())?;
     let sheet = Sheet {
         rt,
-        times: has_word(rt, b"times"),
+        times: has_word(&words, "times"),
+        names: words.get(2..).unwrap_or(&[]),
     };
-    if has_word(rt, b"age") {
+    if has_word(&words, "age") {
         age_on(&sheet, &input)
     } else {
         run_on(&sheet, &input)

@@ -1,7 +1,7 @@
 //! The steps of a measurement, one after the other.
-use crate::calls::{Each, Maps, Whole, call_each, call_whole, collect, forget, refill};
+use crate::calls::{Each, Maps, Whole, call_each, call_whole, collect, exchange, forget, refill};
 use crate::keys::{Lists, few};
-use crate::lines::{Sheet, report, report_share};
+use crate::lines::{Sheet, is_asked, report, report_share};
 use patricia_tree::{BorrowedBytes, Bytes, GenericPatriciaMap};
 use std::io;
 use std::rt::Clock;
@@ -24,6 +24,7 @@ enum Part {
 #[derive(Clone, Copy)]
 enum Between {
     Collect,
+    Exchange,
     Forget,
     Refill,
     Share,
@@ -38,7 +39,8 @@ enum Step {
     Between(Between),
 }
 
-const STEPS: [(&str, Step); 36] = [
+// What a map is asked as it is filled.
+const QUESTIONS: [(&str, Step); 12] = [
     ("get", Step::Each(Each::Get, Part::Present)),
     ("get_absent", Step::Each(Each::Get, Part::Absent)),
     ("walk", Step::Whole(Whole::Walk)),
@@ -51,10 +53,21 @@ const STEPS: [(&str, Step); 36] = [
     ("first_after", Step::Each(Each::After, Part::Few)),
     ("last_before", Step::Each(Each::Before, Part::Few)),
     ("count", Step::Whole(Whole::Count)),
+];
+
+// What is done then. The map that is read from the tree bytes has just relocated its nodes: it is
+// asked in the place of the one that was filled.
+const STEPS: [(&str, Step); 30] = [
     ("tree_bytes", Step::Whole(Whole::Write)),
     ("tree_size", Step::Between(Between::Size)),
     ("", Step::Between(Between::Collect)),
     ("from_wire", Step::Whole(Whole::Read)),
+    ("", Step::Between(Between::Exchange)),
+    ("fresh_get", Step::Each(Each::Get, Part::Present)),
+    ("fresh_get_absent", Step::Each(Each::Get, Part::Absent)),
+    ("fresh_lend", Step::Whole(Whole::Lend)),
+    ("fresh_scan", Step::Whole(Whole::Scan)),
+    ("", Step::Between(Between::Exchange)),
     ("", Step::Between(Between::Forget)),
     ("values_mut", Step::Whole(Whole::Raise)),
     ("clone", Step::Whole(Whole::Copy)),
@@ -155,6 +168,7 @@ fn pass<R: Print, Q: BorrowedBytes>(
 ) -> io::Result<()> {
     match between {
         Between::Collect => collect(maps)?,
+        Between::Exchange => exchange(maps),
         Between::Forget => forget(maps),
         Between::Refill => refill(maps, &lists.present)?,
         Between::Share => report_part(sheet, name, maps)?,
@@ -180,7 +194,21 @@ fn time_step<R: Clock + Print, Q: BorrowedBytes>(
     }
 }
 
-/// Makes each step on a map that is filled.
+/// Asks a map that is filled what the lines tell that are asked for.
+pub(super) fn time_questions<R: Clock + Print, Q: BorrowedBytes>(
+    sheet: &Sheet<'_, R>,
+    maps: &mut Maps<Q::Owned>,
+    lists: &Lists<Q>,
+) -> io::Result<()> {
+    for (name, step) in &QUESTIONS {
+        if is_asked(sheet, name) {
+            time_step(sheet, name, maps, *step, lists)?;
+        }
+    }
+    Ok(())
+}
+
+/// Makes each other step.
 pub(super) fn time_steps<R: Clock + Print, Q: BorrowedBytes>(
     sheet: &Sheet<'_, R>,
     maps: &mut Maps<Q::Owned>,
