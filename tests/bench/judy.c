@@ -59,12 +59,18 @@ static uint64_t taken(Pvoid_t *map, List list) {
     return taken;
 }
 
-/* The lengths of all keys, or the sum of all values. The next key is found from the last one. */
-static uint64_t walked(Pvoid_t map, size_t longest, int values) {
+/* What is added over all entries. */
+typedef enum { LENGTHS, LAST_BYTES, VALUES } What;
+
+/* The sum over all entries. The next key is found from the last one. */
+static uint64_t walked(Pvoid_t map, size_t longest, What what) {
     uint8_t *key = calloc(1, longest + 1);
     uint64_t sum = 0;
-    for (Word_t *value = (Word_t *)JudySLFirst(map, key, 0); value; value = (Word_t *)JudySLNext(map, key, 0))
-        sum += values ? *value - 1 : strlen((char *)key);
+    for (Word_t *value = (Word_t *)JudySLFirst(map, key, 0); value; value = (Word_t *)JudySLNext(map, key, 0)) {
+        if (what == VALUES) sum += *value - 1;
+        else if (what == LENGTHS) sum += strlen((char *)key);
+        else if (*key) sum += key[strlen((char *)key) - 1];
+    }
     free(key);
     return sum;
 }
@@ -123,10 +129,13 @@ static void measure(List present, List absent, size_t longest) {
     there = found(map, absent);
     report("get_absent", start, absent.len, there);
     start = nanos();
-    uint64_t sum = walked(map, longest, 0);
+    uint64_t sum = walked(map, longest, LENGTHS);
     report("walk", start, count, sum);
     start = nanos();
-    sum = walked(map, longest, 1);
+    sum = walked(map, longest, LAST_BYTES);
+    report("scan", start, count, sum);
+    start = nanos();
+    sum = walked(map, longest, VALUES);
     report("values", start, count, sum);
     start = nanos();
     uint64_t out = taken(&map, present);

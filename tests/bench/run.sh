@@ -1,25 +1,45 @@
 #!/bin/bash
-# Times the map, std's ordered map and, where Debian's libjudy-dev is installed, a JudySL array in
-# turn, three processes each: run.sh [KEYS ...]. Where `rt lib` in crates/patricia_c has built the
-# archive, it times the map as C calls it, too, over malloc. Without a number of keys it runs with
-# 820,000 and with 1,000,000. Prints a table for each kind of keys, with the least of the three
-# figures of each and the ratio to std's map, or of the calls from C that to the map, and says when
-# the nodes were last relocated.
+# Times the map, std's ordered map and, where Debian's libjudy-dev and libhat-trie-dev are installed, a JudySL array
+# and a HAT-trie in turn, three processes each: run.sh [KEYS ...]. Where `rt lib` in crates/patricia_c has built the
+# archive, it times the map as C calls it, too, over malloc. Without a number of keys it runs with 820,000 and with
+# 1,000,000. Prints a table for each kind of keys, with the least of the three figures of each and the ratio to std's
+# map, or of the calls from C that to the map, and says when the nodes were last relocated. After the kinds of keys of
+# a number comes a table of the ratios of all of them.
 #
-# run.sh calls [KEYS] times the map and the map as C calls it alone, forty processes each, over so
-# few keys that all lies in the cache, 2,000 without a number, and prints how many nanoseconds a call
-# from C takes more.
+# run.sh growth [KEYS ...] times a few lines of the map and of std's map alone, over so many titles, 10,000, 100,000 and
+# 1,000,000 without a number: three processes each, and more over few keys, which are done at once.
+#
+# run.sh cache [KEYS] counts by valgrind's cachegrind what a look-up of the map and of std's map costs in instructions,
+# branches and lines of the cache, over so many titles, 200,000 without a number. Other work on the machine changes
+# nothing of that.
+#
+# run.sh calls [KEYS] times the map and the map as C calls it alone, forty processes each, over so few titles that all
+# lies in the cache, 2,000 without a number, and prints how many nanoseconds a call from C takes more.
 set -euo pipefail
 cd "$(dirname "$0")/../.."
-calls=
-if [ "${1-}" = calls ]; then
-    calls=1
-    shift
-    if [ $# -eq 0 ]; then set -- 2000; fi
+case ${1-} in
+growth | cache | calls) mode=$1 && shift ;;
+*) mode=lines ;;
+esac
+if [ $# -eq 0 ]; then
+    case $mode in
+    lines) set -- 820000 1000000 ;;
+    growth) set -- 10000 100000 1000000 ;;
+    cache) set -- 200000 ;;
+    calls) set -- 2000 ;;
+    esac
 fi
-if [ $# -eq 0 ]; then set -- 820000 1000000; fi
 room=$(mktemp -d)
 trap 'rm -rf "$room"' EXIT
+archive=crates/patricia_c/out/libpatricia_c.a
+
+if [ $mode = cache ] && ! command -v valgrind > /dev/null; then
+    echo "there is no valgrind" >&2
+    exit 1
+elif [ $mode = calls ] && [ ! -e "$archive" ]; then
+    echo "$archive is not there: rt lib in crates/patricia_c makes it" >&2
+    exit 1
+fi
 
 if ! (cd crates/bench_tree && rt run) < /dev/null > "$room/log" 2>&1; then
     cat "$room/log"
@@ -27,112 +47,95 @@ if ! (cd crates/bench_tree && rt run) < /dev/null > "$room/log" 2>&1; then
 fi
 cp crates/bench_tree/out/bench_tree "$room/map"
 programs=(map)
-if [ -z "$calls" ]; then
+if [ $mode != calls ]; then
     rustc -O --edition 2021 tests/bench/btree.rs -o "$room/btree"
     programs+=(btree)
-    if cc -O2 -o "$room/judy" tests/bench/judy.c -lJudy 2> "$room/log"; then programs+=(judy); fi
 fi
-archive=crates/patricia_c/out/libpatricia_c.a
-if [ -e "$archive" ]; then
+if [ $mode = lines ]; then
+    if cc -O2 -o "$room/judy" tests/bench/judy.c -lJudy 2> "$room/log"; then programs+=(judy); fi
+    if cc -O2 -o "$room/hat" tests/bench/hat.c -lhat-trie 2> "$room/log"; then programs+=(hat); fi
+fi
+if [ $mode = calls ] || { [ $mode = lines ] && [ -e "$archive" ]; }; then
     cc -O2 -Ibindings/c -o "$room/exports" tests/bench/exports.c bindings/c/heap.c "$archive"
     programs+=(exports)
-elif [ -n "$calls" ]; then
-    echo "$archive is not there: rt lib in crates/patricia_c makes it" >&2
-    exit 1
 fi
 
-# The lines of the counts that two programs print with the same names are the same.
-same_answers() { # other
-    awk 'NR == FNR { answer[$1] = $2; next } ($1 in answer) && answer[$1] != $2 { print; bad = 1 } END { exit bad }' \
-        "$room/map.answers" "$room/$1.answers"
-}
-
-measure() { # kind, number of keys
+# Makes keys, and asks that each program answers what the map answers, on the lines that both have. The lines of the
+# map and of std's map are the same.
+prepare() { # number of keys, kind, line..
     local program
     # as many again are only asked for
-    python3 tests/bench/keys.py "$1" $((2 * $2)) 1 > "$room/keys"
-    for program in "${programs[@]}"; do "$room/$program" < "$room/keys" > "$room/$program.answers"; done
-    cmp "$room/map.answers" "$room/btree.answers"
-    for program in "${programs[@]}"; do same_answers "$program"; done
-    "$room/map" age < "$room/keys" | sed 's/^/map /' > "$room/figures"
-    for _ in 1 2 3; do
+    python3 tests/bench/keys.py "$2" $((2 * $1)) 1 > "$room/keys"
+    for program in "${programs[@]}"; do
+        "$room/$program" counts "${@:3}" < "$room/keys" > "$room/$program.answers"
+        awk 'NR == FNR { answer[$1] = $2; next } ($1 in answer) && answer[$1] != $2 { print; bad = 1 } END { exit bad }' \
+            "$room/map.answers" "$room/$program.answers"
+    done
+    [ $mode = calls ] || cmp "$room/map.answers" "$room/btree.answers"
+}
+
+# Runs each program in turn, so many times, and then says when the nodes are last relocated: each line with the number
+# of keys, their kind and the program.
+figures() { # number of keys, kind, times, line..
+    local program
+    for _ in $(seq "$3"); do
         for program in "${programs[@]}"; do
-            "$room/$program" times < "$room/keys" | sed "s/^/$program /" >> "$room/figures"
+            "$room/$program" times "${@:4}" < "$room/keys" | sed "s/^/$1 $2 $program /"
         done
     done
+    "$room/map" age < "$room/keys" | sed "s/^/$1 $2 map /"
 }
 
-table() { # kind, number of keys
-    awk -v count="$2" -v kind="$1" '
-        # a million bytes or entries a second: so many for 1,000 entries, over the nanoseconds of one
-        function rate(count, program, name) { return count / (best[program, name] > 0 ? best[program, name] : 1) }
-        function over(program, name, measure) { return best[program, name] / (best[measure, name] > 0 ? best[measure, name] : 1) }
-        # a figure and its ratio to that of another program
-        function cells(program, name, measure) {
-            if ((program, name) in best) printf " %d | %.2f |", best[program, name], over(program, name, measure)
-            else printf " - | - |"
-        }
-        $1 == "judy" { judy = 1 }
-        $1 == "exports" { exports = 1 }
-        $2 == "keys" { next }
-        $2 == "share" { share = $3; next }
-        $2 == "relocated" { relocated = $3; next }
-        $2 == "tree_size" { size[$1] = $3; next }
-        !(($1, $2) in best) { if ($1 == "map") names[++n] = $2; best[$1, $2] = $3 }
-        $3 < best[$1, $2] { best[$1, $2] = $3 }
-        END {
-            printf "| %d %s | the map | std\047s ordered map | ratio |%s%s\n", count, kind,
-                judy ? " JudySL | ratio |" : "", exports ? " the map from C | to the map |" : ""
-            printf "|---|---|---|---|%s%s\n", judy ? "---|---|" : "", exports ? "---|---|" : ""
-            for (i = 1; i <= n; i++) {
-                name = names[i]
-                printf "| %s | %d | %d | %.2f |", name, best["map", name], best["btree", name], over("map", name, "btree")
-                if (judy) cells("judy", name, "btree")
-                if (exports) cells("exports", name, "map")
-                printf "\n"
-            }
-            printf "\nThe nodes were last relocated when %d of 1,000 entries were there.\n", relocated
-            printf "split_by_prefix removes %d of 1,000 entries.\n", share
-            printf "tree_bytes writes %d bytes for 1,000 entries, %d million a second; the copy %d, %d million a second.\n",
-                size["map"], rate(size["map"], "map", "tree_bytes"), size["btree"], rate(size["btree"], "btree", "tree_bytes")
-            printf "from_wire reads %d million bytes a second and makes %.2f million entries; insert_sorted makes %.2f million a second.\n",
-                rate(size["map"], "map", "from_wire"), rate(1000, "map", "from_wire"), rate(1000, "map", "insert_sorted")
-        }' "$room/figures"
-    echo
+# Counts the events of a program that fills the map and does what a line tells of.
+events() { # number of keys, kind, program, line
+    local name=$room/$3-$4
+    valgrind --tool=cachegrind --cache-sim=yes --branch-sim=yes --I1=32768,8,64 --D1=32768,8,64 --LL=1048576,16,64 \
+        --cachegrind-out-file="$name" "$room/$3" counts "$4" < "$room/keys" > "$name.log" 2>&1 ||
+        { cat "$name.log" >&2; return 1; }
+    awk -v line="$1 $2 $3 $4" '
+        /^events:/ { for (i = 2; i <= NF; i++) event[i] = $i }
+        /^summary:/ { for (i = 2; i <= NF; i++) print line ":" event[i], $i }' "$name"
 }
 
-# The least figure of each line of the two programs, and by how much that of C is greater.
-measure_calls() { # number of keys
-    local program
-    python3 tests/bench/keys.py titles $((2 * $1)) 1 > "$room/keys"
-    for program in "${programs[@]}"; do "$room/$program" < "$room/keys" > "$room/$program.answers"; done
-    same_answers exports
-    for _ in $(seq 40); do
-        for program in "${programs[@]}"; do
-            "$room/$program" times < "$room/keys" | sed "s/^/$program /"
+# Counts the events of all programs, at once, and says when the nodes are last relocated.
+all_events() { # number of keys, kind
+    local program line job jobs=()
+    for program in "${programs[@]}"; do
+        # valgrind may not know the form of debug information
+        strip "$room/$program"
+        for line in insert get get_absent; do
+            events "$1" "$2" "$program" "$line" > "$room/$program-$line.events" &
+            jobs+=($!)
         done
-    done > "$room/figures"
-    awk -v count="$1" '
-        $2 == "keys" || $2 == "share" || $2 == "tree_size" { next }
-        !(($1, $2) in best) { if ($1 == "exports") names[++n] = $2; best[$1, $2] = $3 }
-        $3 < best[$1, $2] { best[$1, $2] = $3 }
-        END {
-            printf "| %d titles | the map | the map from C | more |\n|---|---|---|---|\n", count
-            for (i = 1; i <= n; i++) {
-                name = names[i]
-                printf "| %s | %d | %d | %d |\n", name, best["map", name], best["exports", name], best["exports", name] - best["map", name]
-            }
-        }' "$room/figures"
+    done
+    for job in "${jobs[@]}"; do wait "$job"; done
+    cat "$room"/*.events
+    "$room/map" age < "$room/keys" | sed "s/^/$1 $2 map /"
 }
-
-if [ -n "$calls" ]; then
-    for count in "$@"; do measure_calls "$count"; done
-    exit
-fi
 
 for count in "$@"; do
-    for kind in titles domains hex; do
-        measure "$kind" "$count"
-        table "$kind" "$count"
-    done
+    case $mode in
+    lines)
+        for kind in titles domains hex; do
+            prepare "$count" $kind
+            figures "$count" $kind 3 > "$room/figures-$kind"
+            python3 tests/bench/tables.py lines < "$room/figures-$kind"
+        done
+        cat "$room"/figures-{titles,domains,hex} | python3 tests/bench/tables.py ratios
+        ;;
+    growth)
+        prepare "$count" titles get get_absent scan
+        figures "$count" titles $((3 + 1000000 / count)) get get_absent scan >> "$room/figures"
+        ;;
+    cache)
+        prepare "$count" titles get get_absent
+        all_events "$count" titles > "$room/figures"
+        python3 tests/bench/tables.py cache < "$room/figures"
+        ;;
+    calls)
+        prepare "$count" titles
+        figures "$count" titles 40 | python3 tests/bench/tables.py calls
+        ;;
+    esac
 done
+if [ $mode = growth ]; then python3 tests/bench/tables.py growth < "$room/figures"; fi
