@@ -1,11 +1,30 @@
-"""What holds of the texts of the repository: examples are code that the tests run, and lines are not too long."""
+"""What holds of the texts of the repository: examples are code that the tests run, lines are not too long, and charts
+are drawn from the tables beside them."""
 import glob
 import os
+import re
 import sys
 from tests import definitions
+from tests.bench import chart
 from tests.support import ROOT, Case, run
 
 MOST_COLUMNS = 100
+
+# What tests/bench/run.sh may print: a table that is none of a chart, and one of a chart.
+OTHER = '| 10 titles | the map |\n|---|---|\n| get | 7 |\n\nA remark.\n\n'
+RATIOS = """| 10 keys, ratio to std's ordered map | line | the map | JudySL |
+|---|---|---|---|
+| titles | get | 0.50 | 0.25 |
+| titles | scan | 2.00 | - |
+
+Another remark.
+"""
+GROWTH = """| titles | line | the map | std's ordered map | ratio |
+|---|---|---|---|---|
+| 1000 | get | 100 | 200 | 0.50 |
+| 10000 | get | 300 | 400 | 0.75 |
+| 100000 | get | 200 | 400 | 0.50 |
+"""
 
 
 class Documents(Case):
@@ -31,3 +50,41 @@ class Documents(Case):
             with self.subTest(piece):
                 before, found, said = said.partition(piece)
                 self.assertTrue(found, 'docs/PROMISES.md does not say: %s' % piece)
+
+    def test_charts_are_drawn_from_the_tables_of_benchmarks(self):
+        with open(chart.PAGE, encoding='utf-8') as file:
+            page = file.read()
+        drawn = {}
+        for path in glob.glob(os.path.join(ROOT, 'docs', '*.svg')):
+            with open(path, encoding='utf-8') as file:
+                drawn[os.path.basename(path)] = file.read()
+        self.assertEqual(drawn, chart.charts(page), 'tests/bench/chart.py draws them')
+        self.assertEqual(sorted(drawn), sorted(re.findall(r'!\[[^]]*\]\((\w+\.svg)\)', page)))
+
+    def test_the_last_table_of_a_run_is_put_in_its_place(self):
+        page = 'Before.\n<!-- ratios -->\nold\n<!-- end ratios -->\nAfter.\n'
+        made = chart.put(page, 'ratios', OTHER + RATIOS)
+        shown = '![%s](ratios.svg)\n\n' % chart.SHOWN['ratios']
+        self.assertEqual(made, page.replace('old\n', shown + RATIOS))
+        self.assertEqual(chart.put(made, 'ratios', OTHER + RATIOS), made)
+
+    def test_bars_go_from_one_as_far_as_their_ratios_are_octaves(self):
+        svg = chart.charts('<!-- ratios -->\n%s<!-- end ratios -->\n' % RATIOS)['ratios.svg']
+        bars = [(float(x), float(width)) for x, width in
+                re.findall(r'<rect x="([\d.]+)" y="[\d.]+" width="([\d.]+)" height="10.0"', svg)]
+        half, quarter, double = bars
+        self.assertAlmostEqual(quarter[1], 2 * half[1], delta=0.2)
+        self.assertAlmostEqual(double[1], half[1], delta=0.2)
+        for left in half, quarter:
+            self.assertAlmostEqual(sum(left), double[0], delta=0.2)
+        self.assertEqual(re.findall(r'value" text-anchor="\w+">([\d.]+)<', svg), ['0.50', '0.25', '2.00'])
+
+    def test_curves_are_as_high_as_their_figures(self):
+        svg = chart.charts('<!-- growth -->\n%s<!-- end growth -->\n' % GROWTH)['growth.svg']
+        ours, theirs = [[tuple(map(float, point.split(','))) for point in points.split()]
+                        for points in re.findall(r'<polyline points="([^"]*)"', svg)]
+        ground = ours[0][1] + (ours[0][1] - theirs[0][1])
+        heights = [[round((ground - y) / (ground - ours[0][1]), 2) for _, y in curve] for curve in (ours, theirs)]
+        self.assertEqual(heights, [[1, 3, 2], [2, 4, 4]])
+        first, second, third = [x for x, _ in ours]
+        self.assertAlmostEqual(second - first, third - second, delta=0.2)
