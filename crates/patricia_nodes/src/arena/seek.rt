@@ -120,6 +120,7 @@ impl<Q: BorrowedBytes> SeekResult<Q> {
 impl<V> NodeArena<V> {
     // The length of a node's label, where it has less than 63 bytes and begins a key that has its
     // first byte. Where it has one byte, the node is not read.
+    #[inline(always)]
     fn passed_len(&self, id: NodeId, key: &[u8]) -> Option<usize>
         requires within { id < vec_len self.now.nodes }
         requires nonempty { key.now ≢ [] }
@@ -141,6 +142,7 @@ impl<V> NodeArena<V> {
     }
 
     // How a key meets the label of a node. Where their first bytes differ, the node is not read.
+    #[inline(always)]
     fn compare<Q: BorrowedBytes>(&self, id: NodeId, key: Q) -> LabelCmp<Q>
         requires within { id < vec_len self.now.nodes }
         requires valid { ReadsNode self.now.nodes id (λ n. IsValid Q.Owned.item n.label) }
