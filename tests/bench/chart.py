@@ -127,7 +127,8 @@ def draw_ratios(head, rows):
         drawing.text(scale.at(1), 76, KINDS.get(kind, kind), 'text', 'middle')
         for mark in scale.marks():
             drawing.line(scale.at(mark), 84, scale.at(mark), bottom, 'one' if mark == 1 else 'grid')
-            drawing.text(scale.at(mark), bottom + 14, '%g' % mark, 'note small', 'middle')
+            name = '%g' % mark if mark >= 1 else '1/%g' % (1 / mark)
+            drawing.text(scale.at(mark), bottom + 14, name, 'note small', 'middle')
         for row, name in enumerate(names):
             draw_bars(drawing, scale, 92 + tall * row, figures.get((kind, name), []))
     drawing.text(16, bottom + 34, "Left of 1 is less than std's ordered map takes. Each line is twice the one before.",
