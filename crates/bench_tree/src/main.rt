@@ -20,7 +20,7 @@ mod steps;
 use age::report_age;
 use calls::{Each, Maps, no_maps};
 use keys::{Lists, few, read_lists, shuffle};
-use lines::{Sheet, is_asked, line};
+use lines::{Sheet, line};
 use loads::{time_load, time_union};
 use memory::{memory, memory_since};
 use patricia_tree::{BorrowedBytes, GenericPatriciaMap};
