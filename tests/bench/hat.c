@@ -1,5 +1,6 @@
 /* hat [times]: what `judy` does, over a HAT-trie. Its walks are by the iterator that sorts, over hash tables of keys. */
 #include <hat-trie/hat-trie.h>
+#include "report.h"
 #include <stdint.h>
 #include <stdio.h>
 #include <stdlib.h>
@@ -8,31 +9,6 @@
 
 typedef struct { const char *bytes; size_t len; } Key;
 typedef struct { Key *keys; size_t len; } List;
-
-static int times;
-
-static double nanos(void) {
-    struct timespec now;
-    clock_gettime(CLOCK_MONOTONIC, &now);
-    return now.tv_sec * 1e9 + now.tv_nsec;
-}
-
-static void report(const char *name, double start, size_t calls, uint64_t answer) {
-    double taken = nanos() - start;
-    if (times) printf("%s %.0f\n", name, taken / (calls ? calls : 1));
-    else printf("%s %lu\n", name, (unsigned long)answer);
-}
-
-/* The bytes that a line of /proc/self/status names. */
-static double memory(const char *name) {
-    char line[256];
-    double kilobytes = 0;
-    FILE *file = fopen("/proc/self/status", "r");
-    while (file && fgets(line, sizeof line, file))
-        if (!strncmp(line, name, strlen(name))) kilobytes = strtod(line + strlen(name), 0);
-    if (file) fclose(file);
-    return kilobytes * 1024;
-}
 
 /* Ends the program where memory ran out. */
 static void *need(void *found) {

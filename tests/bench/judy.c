@@ -1,6 +1,7 @@
 /* judy [times]: what `bench_tree` does with single keys, over a JudySL array, which keeps C strings in order. No key
    may have a byte 0. Lines for which JudySL has no call are left out. */
 #include <Judy.h>
+#include "report.h"
 #include <stdint.h>
 #include <stdio.h>
 #include <stdlib.h>
@@ -8,31 +9,6 @@
 #include <time.h>
 
 typedef struct { char **keys; size_t len; } List;
-
-static int times;
-
-static double nanos(void) {
-    struct timespec now;
-    clock_gettime(CLOCK_MONOTONIC, &now);
-    return now.tv_sec * 1e9 + now.tv_nsec;
-}
-
-static void report(const char *name, double start, size_t calls, uint64_t answer) {
-    double taken = nanos() - start;
-    if (times) printf("%s %.0f\n", name, taken / (calls ? calls : 1));
-    else printf("%s %lu\n", name, (unsigned long)answer);
-}
-
-/* The bytes that a line of /proc/self/status names. */
-static double memory(const char *name) {
-    char line[256];
-    double kilobytes = 0;
-    FILE *file = fopen("/proc/self/status", "r");
-    while (file && fgets(line, sizeof line, file))
-        if (!strncmp(line, name, strlen(name))) kilobytes = strtod(line + strlen(name), 0);
-    if (file) fclose(file);
-    return kilobytes * 1024;
-}
 
 static uint64_t put(Pvoid_t *map, List list) {
     uint64_t new = 0;
