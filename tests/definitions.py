@@ -244,6 +244,12 @@ def by_crate(lines):
     return '; '.join('`%s`: %s' % (crate, ', '.join(files)) for crate, files in crates.items())
 
 
+def names():
+    """The definitions that public clauses reach, by their names."""
+    everything = counted()[0]['clauses for C besides'][1]
+    return sorted({name for file, name in everything.found if '/Internal' not in file})
+
+
 def page():
     """What docs/PROMISES.md has of these counts: pieces of its lines, in its order."""
     library, both, prefixes, for_c, laws, _ = [lines for lines, _ in counted()[0].values()]

@@ -5,7 +5,7 @@
 
 A log says 'N passed, M failed' in a line of its own, or ends as a run of unittest does. One that says neither has
 failed, and so has one in which nothing passed. Logs of runs that failed are printed whole, of each other one its last
-lines. The last line is the sum: 'N passed, M failed'.
+lines. The last line is the sum: 'N passed, M failed'. Before it stands how many were skipped.
 """
 import os
 import re
@@ -17,8 +17,8 @@ PARTS = {'failures': 1, 'errors': 1, 'skipped': 0}
 
 
 def counts(text):
-    """How many tests of a log passed, and how many failed."""
-    counted, ran = COUNTED.findall(text), RAN.search(text)
+    """How many tests of a log passed, failed and were skipped."""
+    counted, ran, skipped = COUNTED.findall(text), RAN.search(text), 0
     if counted:
         passed, failed = map(int, counted[-1])
     elif ran:
@@ -26,21 +26,23 @@ def counts(text):
         failed = sum(parts.get(name, 0) for name, counts_as in PARTS.items() if counts_as)
         passed = max(0, int(ran[1]) - sum(parts.get(name, 0) for name in PARTS))
         failed += ran[2] == 'FAILED' and not failed
+        skipped = parts.get('skipped', 0)
     else:
-        return 0, 1
-    return passed, failed + (not passed and not failed)
+        return 0, 1, 0
+    return passed, failed + (not passed and not failed and not skipped), skipped
 
 
 def main(paths):
-    total = [0, 0]
+    total = [0, 0, 0]
     for path in paths:
         with open(path, encoding='utf-8', errors='replace') as file:
             text = file.read().rstrip()
-        passed, failed = counts(text)
-        total = [total[0] + passed, total[1] + failed]
+        passed, failed, skipped = counts(text)
+        total = [total[0] + passed, total[1] + failed, total[2] + skipped]
         shown = text if failed else '\n'.join(text.split('\n')[-3:])
         print('== %s: %d passed, %d failed' % (os.path.basename(path), passed, failed), shown, sep='\n')
-    print('%d passed, %d failed' % tuple(total))
+    print('%d skipped, since what they need is not installed' % total[2])
+    print('%d passed, %d failed' % tuple(total[:2]))
     return 1 if total[1] or not total[0] else 0
 
 

@@ -35,6 +35,26 @@ def archive():
     return named
 
 
+def python_headers(python):
+    """Whether a Python can build an extension."""
+    code = 'import os, setuptools, sysconfig; os.stat(os.path.join(sysconfig.get_path("include"), "Python.h"))'
+    return not run([python, '-c', code]).returncode
+
+
+def python_package(test, *flags):
+    """The folder with the package of bindings/python as this Python builds it, in a copy, since setuptools leaves
+    files beside it."""
+    if not python_headers(sys.executable):
+        test.skipTest('setuptools and the headers of Python are not installed')
+    copy = test.path('python' + ''.join(flags))
+    if not os.path.exists(copy):
+        shutil.copytree(os.path.join(ROOT, 'bindings', 'python'), copy)
+        env = {**os.environ, 'PATRICIA_LIB_DIR': test.path('installed', 'lib'), 'LDFLAGS': ' '.join(flags),
+               'CFLAGS': ' '.join(['-O2 -Wall -Wextra -Werror', *flags])}
+        test.succeeds([sys.executable, 'setup.py', '-q', 'build', '--build-lib', 'packages'], env=env, cwd=copy)
+    return os.path.join(copy, 'packages')
+
+
 def setUpModule():
     Installed.room = folder(unittest.addModuleCleanup)
     Installed.install()
@@ -59,11 +79,9 @@ class Installed(Case):
             cls.flags = told.stdout.decode().split()
         # without a shared library to be found, cc links the archive
         os.mkdir(cls.path('shared'))
-        os.rename(cls.path('installed', 'lib', 'libpatricia.so'), cls.path('shared', 'libpatricia.so'))
-
-    @property
-    def shared(self):
-        return self.path('shared', 'libpatricia.so')
+        for name in os.listdir(cls.path('installed', 'lib')):
+            if name.startswith('libpatricia.so'):
+                os.rename(cls.path('installed', 'lib', name), cls.path('shared', name))
 
     def wants(self, tool):
         if not shutil.which(tool):
@@ -93,16 +111,16 @@ class Installed(Case):
 class InC(Installed):
     """The programs of tests/bindings as they are, under valgrind and under sanitizers."""
 
-    @each(('calls',), ('refusals',), ('model', '1000000', '1'), ('threads',))
+    @each(('calls',), ('refusals',), ('model', '1000000', '1'), ('threads',), ('readers',))
     def program(self, name, *words):
         self.says_ok(self.compiled(name), *words)
 
-    @each(('calls',), ('refusals',), ('model', '20000', '2'), ('threads',))
+    @each(('calls',), ('refusals',), ('model', '20000', '2'), ('threads',), ('readers',))
     def valgrind(self, name, *words):
         self.wants('valgrind')
         self.says_ok(*CHECKED, self.compiled(name), *words)
 
-    @each('patricia_free', 'patricia_cursor_free', 'patricia_iterator_free')
+    @each('patricia_free', 'patricia_cursor_free', 'patricia_iterator_free', 'patricia_shared_free')
     def leak_of(self, name):
         """One that forgets the memory keeps every contract and the program ends well: what refuses it is the run
         under valgrind."""
@@ -114,16 +132,32 @@ class InC(Installed):
         self.assertEqual(ran.returncode, 9, ran.stderr)
         self.assertIn(b'definitely lost', ran.stderr)
 
-    def test_threads_under_helgrind(self):
+    @each('threads', 'readers')
+    def helgrind(self, name):
         self.wants('valgrind')
-        self.says_ok('valgrind', '-q', '--tool=helgrind', '--error-exitcode=9', self.compiled('threads'))
+        self.says_ok('valgrind', '-q', '--tool=helgrind', '--error-exitcode=9', self.compiled(name))
 
-    @each(('calls',), ('refusals',), ('model', '200000', '3'), ('threads',))
+    @each(('calls',), ('refusals',), ('model', '200000', '3'), ('threads',), ('readers',))
     def sanitizers(self, name, *words):
-        words_of = [os.environ.get('CC', 'cc'), *SANITIZE, '-x', 'c', '-o', self.path('none'), '-']
+        self.sanitized(SANITIZE, name, *words)
+
+    @each('threads', 'readers')
+    def sanitizer_of_threads(self, name):
+        self.sanitized(['-fsanitize=thread'], name)
+
+    def sanitized(self, flags, name, *words):
+        words_of = [os.environ.get('CC', 'cc'), *flags, '-x', 'c', '-o', self.path('none'), '-']
         if run(words_of, b'int main(void) { return 0; }').returncode or run([self.path('none')]).returncode:
-            self.skipTest('no sanitizers are installed')
-        self.says_ok(self.compiled(name, *SANITIZE), *words)
+            self.skipTest('no such sanitizers are installed')
+        self.says_ok(self.compiled(name, *flags), *words)
+
+    @each((), tuple(SANITIZE))
+    def corpus(self, *flags):
+        """The inputs that a fuzzer found to do different things."""
+        with open(os.path.join(ROOT, 'tests', 'bindings', 'corpus.txt'), 'rb') as file:
+            ran = run([self.compiled('model', '-DFUZZED', '-DCORPUS', *flags)], file.read())
+        self.assertEqual((ran.returncode, ran.stderr), (0, b''))
+        self.assertIn(b'ok, ', ran.stdout)
 
     def test_a_program_of_cpp(self):
         compiler = os.environ.get('CXX', 'c++')
@@ -146,34 +180,83 @@ class Documents(Installed):
     def example(self, name):
         if name == 'main.rs':
             self.wants('cargo')
+        if name == 'words.py':
+            python_package(self)
         code, wanted = documented.examples()[name]
         self.assertEqual(documented.printed(name, code, self.room, self.flags), wanted)
 
 
 class InPython(Installed):
-    """The module of bindings/python."""
+    """The package of bindings/python: one build, for each version of Python that is here."""
+
+    @classmethod
+    def interpreters(cls):
+        """Those that run, each by its path, the one of this test first."""
+        names = ['/usr/bin/python3', *('python3.%d' % minor for minor in range(8, 20))]
+        found = [sys.executable] + [path for path in map(shutil.which, names) if path]
+        return {run([python, '-c', 'import sys; print(sys.version)']).stdout: python for python in reversed(found)
+                if not run([python, '-c', '']).returncode}.values()
+
+    def passes(self, packages, python=sys.executable, **more):
+        """Runs the tests of the package on what was built."""
+        env = {**os.environ, 'PYTHONPATH': packages, **more}
+        code = 'import sys, unittest; sys.path.append(%r); unittest.main("test_patricia", argv=["", "-q"])'
+        self.succeeds([python, '-B', '-c', code % os.path.join(ROOT, 'bindings', 'python')], env=env, cwd=self.room)
 
     def test_its_tests(self):
-        env = {**os.environ, 'PATRICIA_LIBRARY': self.shared}
-        self.succeeds([sys.executable, '-B', '-m', 'unittest', '-q', 'test_patricia'], env=env,
-                      cwd=os.path.join(ROOT, 'bindings', 'python'))
+        packages = python_package(self)
+        for python in self.interpreters():
+            with self.subTest(python=python):
+                self.passes(packages, python)
+
+    def test_its_tests_under_sanitizers(self):
+        libraries = [run(['gcc', '-print-file-name=lib%s.so' % name]).stdout.decode().strip()
+                     for name in ('asan', 'ubsan')] if shutil.which('gcc') else ['']
+        if not all(map(os.path.isabs, libraries)):
+            self.skipTest('no sanitizers are installed')
+        self.passes(python_package(self, *SANITIZE), LD_PRELOAD=' '.join(libraries), PYTHONMALLOC='malloc',
+                    ASAN_OPTIONS='detect_leaks=0:allocator_may_return_null=1')
+
+    def test_a_build_with_the_headers_of_python_3_8(self):
+        """These define PyMODINIT_FUNC as the type alone, and the build hides what is not said to be visible."""
+        packages = python_package(self, '-DPyMODINIT_FUNC=PyObject*')
+        self.succeeds([sys.executable, '-B', '-c', 'import patricia'], env={**os.environ, 'PYTHONPATH': packages},
+                      cwd=self.room)
+
+    def test_types(self):
+        of_mypy = lambda python: not run([python, '-c', 'import mypy']).returncode
+        python = next(filter(of_mypy, self.interpreters()), None)
+        if not python:
+            self.skipTest('mypy is not installed')
+        stub = os.path.join(ROOT, 'bindings', 'python', 'patricia', '__init__.pyi')
+        self.succeeds([python, '-m', 'mypy', '--strict', '--cache-dir', self.path('mypy'), stub], cwd=self.room)
+
+    def test_cluster(self):
+        """The example over dask.distributed, with small numbers."""
+        of_dask = lambda python: not run([python, '-c', 'import distributed']).returncode
+        python = next(filter(of_dask, self.interpreters()), None)
+        if not python:
+            self.skipTest('distributed is not installed')
+        words = ['--routes', '2000', '--keys', '3000', '--words', '3000', '--parts', '3']
+        script = os.path.join(ROOT, 'bindings', 'python', 'examples', 'cluster.py')
+        self.assertIn(b'\nok: 9000 keys and 9000 words\n', self.succeeds(
+            [python, '-B', script, *words], env={**os.environ, 'PYTHONPATH': python_package(self)}, cwd=self.room))
 
     def test_pip_installs_it(self):
-        """In a copy, since pip leaves files beside the module."""
+        """In a copy, since pip leaves files beside the package."""
         has = lambda python: shutil.which(python) and not run([python, '-c', 'import setuptools, wheel, pip']).returncode
         python = next(filter(has, ('python3', '/usr/bin/python3')), None)
-        if not python:
-            self.skipTest('pip with setuptools and wheel is not installed')
+        if not python or not python_headers(python):
+            self.skipTest('pip with setuptools, wheel and the headers of Python is not installed')
         package, packages = self.path('package'), self.path('packages')
-        os.mkdir(package)
-        for name in 'patricia.py', 'pyproject.toml':
-            shutil.copy(os.path.join(ROOT, 'bindings', 'python', name), package)
+        shutil.copytree(os.path.join(ROOT, 'bindings', 'python'), package)
+        env = {**os.environ, 'PATRICIA_LIB_DIR': self.path('installed', 'lib')}
         self.succeeds([python, '-m', 'pip', '-q', 'install', '--no-build-isolation', '--no-index', '--no-deps',
-                       '--target', packages, package])
-        script = ('import patricia as p; '
-                  'assert "packages" in p.__file__ and p.PatriciaSet([b"a"]).first() == b"a"')
-        env = {**os.environ, 'PYTHONPATH': packages, 'PATRICIA_LIBRARY': self.shared}
-        self.succeeds([python, '-B', '-c', script], env=env, cwd=self.room)
+                       '--target', packages, package], env=env)
+        script = ('import os, patricia as p; here = os.path.dirname(p.__file__); '
+                  'assert "packages" in here and p.PatriciaSet([b"a"]).first() == b"a"; '
+                  'assert {"py.typed", "__init__.pyi"} <= set(os.listdir(here))')
+        self.succeeds([python, '-B', '-c', script], env={**os.environ, 'PYTHONPATH': packages}, cwd=self.room)
 
 
 class InRust(Installed):

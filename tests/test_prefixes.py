@@ -3,9 +3,11 @@ model."""
 import array
 import contextlib
 import fcntl
+import json
 import os
 import pty
 import random
+import select
 import shutil
 import subprocess
 import tempfile
@@ -29,7 +31,9 @@ class Pages(Case):
             shutil.copytree(files, work, dirs_exist_ok=True)
         os.symlink(self.program('prefixes', build), os.path.join(room, 'prefixes'))
         env = {**os.environ, 'PATH': room + ':' + os.environ['PATH']}
-        for command, wanted in commands(page):
+        found = [*commands(page)]
+        self.assertGreater(len(found), 10)
+        for command, wanted in found:
             with self.subTest(command):
                 ran = subprocess.run(['bash', '-c', command], cwd=work, env=env, stdout=subprocess.PIPE,
                                      stderr=subprocess.STDOUT, timeout=MOST_SECONDS, check=False)
@@ -82,6 +86,63 @@ class Lists(Case):
                 self.assert_ends(run([program, command, path], lines), wanted)
 
 
+def of_object(command, said):
+    """The lines that answer what an object of JSON answers."""
+    if command == 'route':
+        return '-\n' if said['prefix'] is None else '%(prefix)s\t%(target)s\n' % said
+    if command == 'block':
+        return 'passes\n' if said['blocked'] is None else 'blocked\t%(blocked)s\n' % said
+    if command == 'segment':
+        return '\t'.join(said['pieces']) + '\n'
+    names = ['%(name)s\t%(edits)d' % name if command == 'near' else name for name in said['names']]
+    return '%(line)s\t%(count)d\n' % said + ''.join('\t%s\n' % name for name in names)
+
+
+class Objects(Case):
+    """Answers in JSON say what answers in lines say, of the lines of a file and of a list that is the standard
+    input."""
+
+    @each(*((command, name, build) for command, name in model.ASKED for build in ('clang', 'rattle')))
+    def lines(self, command, name, build):
+        table = model.rows(name)
+        lines = model.lines(name, table, random.Random(2))
+        path = os.path.join(folder(self.addCleanup), 'lines')
+        with open(path, 'wb') as file:
+            file.write(lines)
+        with open(model.path(name), 'rb') as file:
+            listed = file.read()
+        ran = run([self.program('prefixes', build), command, '-', '--json', '--lines', path], listed)
+        said = [json.loads(line) for line in ran.stdout.decode().split('\n')[:-1]]
+        self.assertEqual([answer['line'] for answer in said], lines.decode().split('\n')[:-1])
+        answers = ''.join(of_object(command, answer) for answer in said).encode()
+        self.assertEqual(answers, model.answered(command, table, lines))
+        self.assert_ends(ran, ran.stdout)
+
+
+class Combined(Case):
+    """Lists of the world are combined as sets are, and what is packed and what has lines are the same names."""
+
+    WAYS = {'union': set.union, 'intersection': set.intersection, 'difference': set.difference}
+
+    @each(*pairs(WAYS))
+    def lists(self, way, build):
+        program, room = self.program('prefixes', build), folder(self.addCleanup)
+        names = sorted(model.rows('characters'))
+        parts = [set(random.Random(n).sample(names, len(names) * 3 // 4)) for n in range(3)]
+        paths = [os.path.join(room, name) for name in ('one', 'two', 'three', 'packed', 'lines')]
+        for path, part in zip(paths, parts):
+            with open(path, 'w', encoding='utf-8') as file:
+                file.writelines('%s\tvalue\n' % name for name in part)
+        wanted = sorted(self.WAYS[way](*parts))
+        self.assert_ends(run([program, 'combine', way, *paths[:3], '-o', paths[3]]))
+        self.assert_ends(run([program, 'combine', way, *paths[:3], '-o', paths[4], '--as-lines']))
+        with open(paths[4], encoding='utf-8') as file:
+            self.assertEqual(file.read(), ''.join(name + '\n' for name in wanted))
+        self.assert_ends(run([program, 'pack', paths[4], paths[0]]))
+        with open(paths[0], 'rb') as lines, open(paths[3], 'rb') as packed:
+            self.assertEqual(lines.read(), packed.read())
+
+
 def is_read(pipe):
     """Whether all that was written to a pipe has been read."""
     left = array.array('i', [0])
@@ -112,11 +173,29 @@ def run_in_pieces(words, contents, data):
     return subprocess.CompletedProcess(words, process.returncode, output, errors)
 
 
+class Waiting(Case):
+    """What is answered is written before the next line is whole."""
+
+    @each('clang', 'rattle')
+    def part_of_a_line(self, build):
+        path = os.path.join(ROOT, 'tests', 'prefixes', 'lists', 'names')
+        words = [self.program('prefixes', build), 'complete', path, '-n', '1']
+        with subprocess.Popen(words, stdin=subprocess.PIPE, stdout=subprocess.PIPE) as process:
+            os.write(process.stdin.fileno(), b'foo\nba')
+            is_answered, _, _ = select.select([process.stdout], [], [], MOST_SECONDS)
+            self.assertTrue(is_answered)
+            self.assertEqual(os.read(process.stdout.fileno(), 4096), b'foo\t3\n\tfoo\n')
+            rest, _ = process.communicate(b'\n', timeout=MOST_SECONDS)
+        self.assertEqual(rest, b'ba\t2\n\tbar\n')
+        self.assertEqual(process.returncode, 0)
+
+
 class Pieces(Case):
     """Lists, packed lists and lines of input are the same where each read gets one byte."""
 
     ASKED = {
         'route': ('routes', b'/api/users/7\nx\n'), 'complete': ('names', b'foo\nba\n'),
+        'near': ('names', b'fooo\nbat\n'),
         'block': ('blocked', b'eu.ads.example.com\nnet\n'), 'tree': ('settings', b'log\nlo\n'),
         'segment': ('words', b'applepie\n'),
     }

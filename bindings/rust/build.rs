@@ -1,8 +1,9 @@
-//! Says where libpatricia.a is: in the folder PATRICIA_LIB_DIR, or where `make -C bindings/c`
-//! builds it, or where pkg-config says that it is installed.
+//! Says where libpatricia.a is: in the folder PATRICIA_LIB_DIR, or in `lib` beside this file, where
+//! a release has it, or where `make -C bindings/c` builds it, or where pkg-config says that it is
+//! installed.
 
 use std::env;
-use std::path::{Path, PathBuf};
+use std::path::PathBuf;
 use std::process::Command;
 
 fn installed() -> Option<PathBuf> {
@@ -20,13 +21,16 @@ fn installed() -> Option<PathBuf> {
 
 fn main() {
     println!("cargo:rerun-if-env-changed=PATRICIA_LIB_DIR");
-    let built =
-        Path::new(&env::var_os("CARGO_MANIFEST_DIR").expect("cargo sets it")).join("../c/out");
-    let folder = match env::var_os("PATRICIA_LIB_DIR") {
-        Some(folder) => PathBuf::from(folder),
-        None if built.join("libpatricia.a").exists() => built,
-        None => installed().expect("build libpatricia.a by `make -C bindings/c`, or install it"),
-    };
+    let own = PathBuf::from(env::var_os("CARGO_MANIFEST_DIR").expect("cargo sets it"));
+    let beside = ["lib", "../c/out"]
+        .iter()
+        .map(|folder| own.join(folder))
+        .find(|folder| folder.join("libpatricia.a").exists());
+    let folder = env::var_os("PATRICIA_LIB_DIR")
+        .map(PathBuf::from)
+        .or(beside)
+        .or_else(installed)
+        .expect("build libpatricia.a by `make -C bindings/c`, or install it");
     println!(
         "cargo:rerun-if-changed={}",
         folder.join("libpatricia.a").display()

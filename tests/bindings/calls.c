@@ -113,6 +113,37 @@ static void two_maps(void)
     patricia_free(&moved);
 }
 
+static void handles(void)
+{
+    patricia_map map = PATRICIA_MAP_INIT, other = PATRICIA_MAP_INIT;
+    patricia_shared shared = PATRICIA_SHARED_INIT, another = PATRICIA_SHARED_INIT;
+    uint64_t value = 77;
+    CHECK(patricia_shared_len(&shared) == 0 && patricia_freeze(&map, &shared));
+    CHECK(!patricia_shared_get(&shared, bytes_of("foo"), 3, &value) && value == 77);
+    CHECK(patricia_thaw(&shared, &map) && patricia_len(&map) == 0);
+    fill(&map);
+    CHECK(insert(&other, "dropped", 1, &value) == PATRICIA_ABSENT);
+    CHECK(patricia_freeze(&map, &shared) && patricia_len(&map) == 0);
+    CHECK(patricia_shared_len(&shared) == 4 && !get(&map, "foo", &value));
+    CHECK(patricia_shared_get(&shared, bytes_of("foo"), 3, &value) && value == 4);
+    CHECK(patricia_shared_clone(&shared, &another) && patricia_shared_len(&another) == 4);
+    CHECK(!patricia_thaw(&shared, &other) && patricia_shared_len(&shared) == 4);
+    CHECK(patricia_len(&other) == 1 && get(&other, "dropped", &value) && value == 1);
+    patricia_shared_free(&shared);
+    CHECK(patricia_shared_len(&shared) == 0 && patricia_shared_len(&another) == 4);
+    CHECK(patricia_thaw(&another, &other) && patricia_shared_len(&another) == 0);
+    CHECK(patricia_len(&other) == 4 && get(&other, "bar", &value) && value == 2);
+    CHECK(insert(&other, "new", 5, &value) == PATRICIA_ABSENT);
+    CHECK(patricia_freeze(&other, &shared) && patricia_freeze(&map, &shared));
+    CHECK(patricia_shared_len(&shared) == 0 && patricia_len(&other) == 0);
+    fill(&map);
+    CHECK(patricia_freeze(&map, &shared) && patricia_shared_to_map(&shared, &map));
+    CHECK(insert(&map, "new", 5, &value) == PATRICIA_ABSENT);
+    CHECK(patricia_len(&map) == 5 && patricia_shared_len(&shared) == 4);
+    patricia_shared_free(&shared);
+    patricia_free(&map);
+}
+
 static void neighbours(void)
 {
     patricia_map map = PATRICIA_MAP_INIT;
@@ -218,6 +249,58 @@ static void ends(patricia_cursor *cursor, patricia_map *map)
     CHECK(len == 78 && value == 77 && memcmp(array, "unwritte", 8) == 0);
 }
 
+static void near_keys(void)
+{
+    patricia_map map = PATRICIA_MAP_INIT;
+    patricia_iterator iterator = PATRICIA_ITERATOR_INIT;
+    uint8_t array[8];
+    uint64_t value;
+    size_t len;
+    CHECK(patricia_within(&map, bytes_of("bat"), 3, 9, &iterator));
+    CHECK(patricia_iterator_len(&iterator) == 0);
+    fill(&map);
+    CHECK(patricia_within(&map, bytes_of("bat"), 3, 0, &iterator));
+    CHECK(patricia_iterator_len(&iterator) == 0);
+    CHECK(patricia_within(&map, bytes_of("bat"), 3, 1, &iterator));
+    CHECK(patricia_iterator_len(&iterator) == 2);
+    CHECK(patricia_iterator_next(&iterator, array, sizeof array, &len, &value) == PATRICIA_ENTRY);
+    CHECK(len == 3 && memcmp(array, "bar", 3) == 0 && value == 2);
+    /* the old entries are dropped, and these are the empty key, bar and baz */
+    CHECK(patricia_within(&map, bytes_of("b"), 1, 2, &iterator));
+    CHECK(patricia_iterator_len(&iterator) == 3);
+    CHECK(patricia_iterator_next(&iterator, array, sizeof array, &len, &value) == PATRICIA_ENTRY);
+    CHECK(len == 0 && value == 9);
+    patricia_iterator_free(&iterator);
+    patricia_free(&map);
+}
+
+/* How many keys are near a text, by characters. */
+static size_t near_texts(const patricia_map *map, const char *text, uint16_t limit)
+{
+    patricia_iterator iterator = PATRICIA_ITERATOR_INIT;
+    CHECK(patricia_text_within(map, bytes_of(text), strlen(text), limit, &iterator));
+    size_t count = patricia_iterator_len(&iterator);
+    patricia_iterator_free(&iterator);
+    return count;
+}
+
+static void near_characters(void)
+{
+    patricia_map map = PATRICIA_MAP_INIT;
+    uint64_t old;
+    CHECK(near_texts(&map, "a", 9) == 0);
+    CHECK(insert(&map, "\u3042\u3044\u3046", 1, &old) == PATRICIA_ABSENT);
+    CHECK(insert(&map, "\u3044\u3046", 2, &old) == PATRICIA_ABSENT);
+    CHECK(insert(&map, "\xff", 3, &old) == PATRICIA_ABSENT);
+    CHECK(near_texts(&map, "\u3044\u3046", 0) == 1);
+    CHECK(near_texts(&map, "\u3044\u3046", 1) == 2);
+    CHECK(near_texts(&map, "x\u3046", 1) == 1);
+    CHECK(near_texts(&map, "x", 2) == 1);
+    CHECK(near_texts(&map, "x", UINT16_MAX) == 2);
+    CHECK(near_texts(&map, "\xff", UINT16_MAX) == 0);
+    patricia_free(&map);
+}
+
 static void cursors(void)
 {
     patricia_map map = PATRICIA_MAP_INIT, other = PATRICIA_MAP_INIT;
@@ -266,6 +349,195 @@ static void cursors(void)
     patricia_cursor_free(&moved);
 }
 
+/* What a call for many entries writes. */
+typedef struct {
+    uint8_t keys[16];
+    size_t lens[4], count, len;
+    uint64_t values[4];
+} block;
+
+static uint32_t next_many(patricia_cursor *cursor, patricia_map *map, block *to, size_t size,
+                          size_t most_lens, size_t most_values)
+{
+    memset(to, 'x', sizeof *to);
+    to->count = 77, to->len = 78;
+    return patricia_cursor_next_many(cursor, map, to->keys, size, to->lens, most_lens, to->values,
+                                     most_values, &to->count, &to->len);
+}
+
+/* Nothing but the length is written. */
+static void is_unwritten(const block *to, size_t len)
+{
+    block none;
+    memset(&none, 'x', sizeof none);
+    CHECK(to->count == 77 && to->len == len && memcmp(to->keys, none.keys, sizeof to->keys) == 0);
+    CHECK(memcmp(to->lens, none.lens, sizeof to->lens) == 0);
+    CHECK(memcmp(to->values, none.values, sizeof to->values) == 0);
+}
+
+static void blocks(void)
+{
+    patricia_map map = PATRICIA_MAP_INIT;
+    patricia_cursor cursor = PATRICIA_CURSOR_INIT;
+    uint64_t old;
+    block to;
+    CHECK(next_many(&cursor, &map, &to, 16, 4, 4) == PATRICIA_END);
+    is_unwritten(&to, 78);
+    fill(&map);
+    CHECK(next_many(&cursor, &map, &to, 16, 4, 4) == PATRICIA_ENTRY);
+    CHECK(to.count == 4 && to.len == 9 && memcmp(to.keys, "barbazfooxxxxxxx", 16) == 0);
+    CHECK(to.lens[0] == 0 && to.lens[1] == 3 && to.lens[2] == 3 && to.lens[3] == 3);
+    CHECK(to.values[0] == 9 && to.values[1] == 2 && to.values[2] == 3 && to.values[3] == 4);
+    CHECK(next_many(&cursor, &map, &to, 16, 4, 4) == PATRICIA_END);
+    is_unwritten(&to, 78);
+    /* room for the bytes of two keys, exactly, or for so many lengths, or values */
+    patricia_cursor_free(&cursor);
+    CHECK(next_many(&cursor, &map, &to, 6, 4, 4) == PATRICIA_ENTRY && to.count == 3);
+    CHECK(to.len == 6 && memcmp(to.keys, "barbazxxxxxxxxxx", 16) == 0);
+    CHECK(next_many(&cursor, &map, &to, 2, 4, 4) == PATRICIA_NO_ROOM);
+    is_unwritten(&to, 3);
+    CHECK(next_many(&cursor, &map, &to, 3, 4, 4) == PATRICIA_ENTRY && to.count == 1);
+    CHECK(to.len == 3 && memcmp(to.keys, "foox", 4) == 0 && to.values[0] == 4);
+    patricia_cursor_free(&cursor);
+    CHECK(next_many(&cursor, &map, &to, 16, 0, 4) == PATRICIA_NO_ROOM && to.len == 0);
+    CHECK(next_many(&cursor, &map, &to, 16, 4, 0) == PATRICIA_NO_ROOM && to.len == 0);
+    CHECK(next_many(&cursor, &map, &to, 16, 1, 4) == PATRICIA_ENTRY && to.count == 1);
+    CHECK(to.len == 0 && to.lens[0] == 0 && to.values[0] == 9);
+    CHECK(next_many(&cursor, &map, &to, 16, 4, 2) == PATRICIA_ENTRY && to.count == 2);
+    CHECK(to.len == 6 && to.values[1] == 3);
+    /* a prefix, and a map that changes meanwhile */
+    CHECK(patricia_cursor_seek(&cursor, bytes_of("ba"), 2, 2));
+    CHECK(next_many(&cursor, &map, &to, 16, 1, 4) == PATRICIA_ENTRY && to.count == 1);
+    CHECK(to.len == 3 && memcmp(to.keys, "barx", 4) == 0);
+    CHECK(removed(&map, "baz", &old) == PATRICIA_FOUND);
+    CHECK(insert(&map, "bar2", 5, &old) == PATRICIA_ABSENT);
+    CHECK(insert(&map, "bas", 6, &old) == PATRICIA_ABSENT);
+    CHECK(next_many(&cursor, &map, &to, 16, 4, 4) == PATRICIA_ENTRY && to.count == 2);
+    CHECK(to.len == 7 && memcmp(to.keys, "bar2basx", 8) == 0 && to.values[1] == 6);
+    CHECK(next_many(&cursor, &map, &to, 16, 4, 4) == PATRICIA_END);
+    patricia_cursor_free(&cursor);
+    patricia_free(&map);
+}
+
+/* Looks up the five keys foo, none, bar, x and foo/ at once. */
+static uint32_t get_many(const patricia_map *map, size_t bytes, size_t count, size_t values_size,
+                         size_t found_size, uint64_t *values, uint8_t *found)
+{
+    static const size_t lens[] = {3, 0, 3, 1, 4};
+    for (size_t i = 0; i < 6; i++)
+        values[i] = 77, found[i] = 55;
+    return patricia_get_many(map, bytes_of("foobarxfoo/"), bytes, lens, count, values, values_size,
+                             found, found_size);
+}
+
+static bool is_unfound(const uint64_t *values, const uint8_t *found)
+{
+    static const uint8_t held[] = {55, 55, 55, 55, 55, 55};
+    for (size_t i = 0; i < 6; i++)
+        if (values[i] != 77)
+            return false;
+    return memcmp(found, held, sizeof held) == 0;
+}
+
+static void many_keys(void)
+{
+    static const size_t past[] = {1, SIZE_MAX};
+    patricia_map map = PATRICIA_MAP_INIT;
+    uint64_t values[6];
+    uint8_t found[6];
+    CHECK(get_many(&map, 11, 5, 6, 6, values, found) == PATRICIA_DONE);
+    CHECK(memcmp(found, "\0\0\0\0\0\x37", 6) == 0 && values[0] == 77);
+    fill(&map);
+    CHECK(get_many(&map, 11, 5, 6, 6, values, found) == PATRICIA_DONE);
+    CHECK(memcmp(found, "\1\1\1\0\0\x37", 6) == 0);
+    CHECK(values[0] == 4 && values[1] == 9 && values[2] == 2 && values[3] == 77 && values[4] == 77);
+    CHECK(get_many(&map, 11, 5, 5, 5, values, found) == PATRICIA_DONE && values[2] == 2);
+    CHECK(get_many(&map, 10, 5, 6, 6, values, found) == PATRICIA_NO_ROOM);
+    CHECK(is_unfound(values, found));
+    CHECK(get_many(&map, 11, 5, 4, 6, values, found) == PATRICIA_NO_ROOM);
+    CHECK(is_unfound(values, found));
+    CHECK(get_many(&map, 11, 5, 6, 4, values, found) == PATRICIA_NO_ROOM);
+    CHECK(is_unfound(values, found));
+    CHECK(patricia_get_many(&map, bytes_of("foo"), 3, past, 2, values, 6, found, 6) ==
+          PATRICIA_NO_ROOM);
+    CHECK(get_many(&map, 0, 0, 0, 0, values, found) == PATRICIA_DONE);
+    CHECK(is_unfound(values, found));
+    patricia_free(&map);
+}
+
+static void many_prefixes(void)
+{
+    static const size_t lens[] = {4, 3, 1};
+    patricia_map map = PATRICIA_MAP_INIT;
+    uint64_t values[] = {77, 77, 77, 77}, old;
+    size_t fronts[] = {78, 78, 78, 78};
+    uint8_t found[] = {55, 55, 55, 55};
+    const uint8_t *keys = bytes_of("foo/barz");
+    CHECK(patricia_longest_prefix_many(&map, keys, 8, lens, 3, fronts, 3, values, 3, found, 3) ==
+          PATRICIA_DONE);
+    CHECK(memcmp(found, "\0\0\0\x37", 4) == 0 && values[0] == 77 && fronts[2] == 78);
+    CHECK(insert(&map, "foo", 4, &old) == PATRICIA_ABSENT);
+    CHECK(insert(&map, "ba", 5, &old) == PATRICIA_ABSENT);
+    CHECK(patricia_longest_prefix_many(&map, keys, 8, lens, 3, fronts, 4, values, 4, found, 4) ==
+          PATRICIA_DONE);
+    CHECK(memcmp(found, "\1\1\0\x37", 4) == 0);
+    CHECK(fronts[0] == 3 && fronts[1] == 2 && fronts[2] == 78 && fronts[3] == 78);
+    CHECK(values[0] == 4 && values[1] == 5 && values[2] == 77);
+    found[0] = 55;
+    CHECK(patricia_longest_prefix_many(&map, keys, 7, lens, 3, fronts, 4, values, 4, found, 4) ==
+          PATRICIA_NO_ROOM);
+    CHECK(patricia_longest_prefix_many(&map, keys, 8, lens, 3, fronts, 2, values, 4, found, 4) ==
+          PATRICIA_NO_ROOM);
+    CHECK(patricia_longest_prefix_many(&map, keys, 8, lens, 3, fronts, 4, values, 2, found, 4) ==
+          PATRICIA_NO_ROOM);
+    CHECK(patricia_longest_prefix_many(&map, keys, 8, lens, 3, fronts, 4, values, 4, found, 2) ==
+          PATRICIA_NO_ROOM);
+    CHECK(found[0] == 55);
+    patricia_free(&map);
+}
+
+/* The map has these entries, a letter each, with the values 1, 2 and so on. */
+static bool has_letters(const patricia_map *map, const char *letters)
+{
+    uint64_t value;
+    for (size_t i = 0; letters[i] != 0; i++)
+        if (!patricia_get(map, bytes_of(letters + i), 1, &value) || value != i + 1)
+            return false;
+    return patricia_len(map) == strlen(letters);
+}
+
+static void sorted_entries(void)
+{
+    static const size_t lens[] = {1, 1, 1}, past[] = {1, SIZE_MAX};
+    static const uint64_t values[] = {1, 2, 3, 9};
+    patricia_map map = PATRICIA_MAP_INIT;
+    uint64_t value;
+    size_t loaded = 77;
+    CHECK(patricia_sorted_load(&map, bytes_of(""), 0, lens, 0, values, 0, &loaded) == 0);
+    CHECK(loaded == 0 && patricia_len(&map) == 0);
+    CHECK(patricia_sorted_load(&map, bytes_of("abc"), 3, lens, 3, values, 4, &loaded) == 0);
+    CHECK(loaded == 3 && has_letters(&map, "abc"));
+    /* a key that is not behind those of the map, or those before it */
+    CHECK(patricia_sorted_load(&map, bytes_of("c"), 1, lens, 1, values, 1, &loaded) ==
+          PATRICIA_NOT_IN_ORDER);
+    CHECK(loaded == 0 && has_letters(&map, "abc"));
+    CHECK(patricia_sorted_load(&map, bytes_of("dfe"), 3, lens, 3, values, 3, &loaded) ==
+          PATRICIA_NOT_IN_ORDER);
+    CHECK(loaded == 2 && patricia_len(&map) == 5);
+    CHECK(get(&map, "f", &value) && value == 2 && !get(&map, "e", &value));
+    loaded = 77;
+    CHECK(patricia_sorted_load(&map, bytes_of("gh"), 1, lens, 2, values, 2, &loaded) ==
+          PATRICIA_NO_ROOM);
+    CHECK(patricia_sorted_load(&map, bytes_of("gh"), 2, lens, 2, values, 1, &loaded) ==
+          PATRICIA_NO_ROOM);
+    CHECK(patricia_sorted_load(&map, bytes_of("gh"), 2, past, 2, values, 2, &loaded) ==
+          PATRICIA_NO_ROOM);
+    CHECK(loaded == 77 && patricia_len(&map) == 5);
+    CHECK(patricia_from_sorted(&map, bytes_of("xy"), 2, lens, 2, values, 2, &loaded) == 0);
+    CHECK(loaded == 2 && has_letters(&map, "xy"));
+    patricia_free(&map);
+}
+
 static void encodings(void)
 {
     static const uint8_t one[] = {12, 0, 0, 0, 3, 1, 0, 1, 'a'};
@@ -303,6 +575,32 @@ static void refused(const char *bytes, size_t len, size_t count, uint32_t code, 
     CHECK(insert(&map, "dropped", 1, &old) == PATRICIA_ABSENT);
     CHECK(patricia_from_tree_bytes(&map, bytes_of(bytes), len, values, count, &offset) == code);
     CHECK(offset == at && patricia_len(&map) == 0);
+    patricia_free(&map);
+}
+
+static void fault_texts(void)
+{
+    CHECK(strcmp(patricia_fault_text(PATRICIA_TRUNCATED), "record cut short") == 0);
+    CHECK(strcmp(patricia_fault_text(PATRICIA_TOO_MANY_VALUES), "too many values") == 0);
+    CHECK(strcmp(patricia_fault_text(PATRICIA_NO_MEMORY), "out of memory") == 0);
+    CHECK(strcmp(patricia_fault_text(PATRICIA_TOO_DEEP), "level too deep for the encoding") == 0);
+    CHECK(strcmp(patricia_fault_text(PATRICIA_NO_ROOM), "array too small") == 0);
+    CHECK(strcmp(patricia_fault_text(PATRICIA_NOT_TEXT), "not UTF-8") == 0);
+    CHECK(strcmp(patricia_fault_text(PATRICIA_NOT_IN_ORDER), "keys not in order") == 0);
+    CHECK(strcmp(patricia_fault_text(PATRICIA_DONE), "no fault") == 0);
+}
+
+/* Keys without bytes, at null pointers. */
+static void null_keys(void)
+{
+    patricia_map map = PATRICIA_MAP_INIT;
+    uint64_t value = 77;
+    uint8_t byte = 1;
+    CHECK(patricia_bytes(&byte) == &byte && patricia_bytes(NULL) != NULL);
+    CHECK(patricia_insert(&map, patricia_bytes(NULL), 0, 5, &value) == PATRICIA_ABSENT);
+    CHECK(patricia_get(&map, patricia_bytes(NULL), 0, &value) && value == 5);
+    CHECK(patricia_text_remove(&map, NULL, 0, &value) == PATRICIA_FOUND);
+    CHECK(patricia_len(&map) == 0);
     patricia_free(&map);
 }
 
@@ -344,6 +642,10 @@ static void sets(void)
     CHECK(patricia_set_iterator_next(&iterator, key, sizeof key, &len) == PATRICIA_END);
     CHECK(patricia_set_from_tree_bytes(&back, array, 4, 0, &offset) == PATRICIA_TRUNCATED);
     CHECK(offset == 4 && patricia_len(&back) == 0);
+    CHECK(patricia_set_from_tree_bytes(&back, array, 0, SIZE_MAX, &offset) == PATRICIA_TRUNCATED);
+    CHECK(patricia_tree_bytes(&set, array, sizeof array, &len) == PATRICIA_DONE && offset == 0);
+    CHECK(patricia_set_from_tree_bytes(&back, array, len, SIZE_MAX, &offset) ==
+          PATRICIA_TOO_MANY_VALUES);
     CHECK(patricia_set_remove(&set, bytes_of("foo"), 3) == PATRICIA_FOUND);
     CHECK(patricia_set_remove(&set, bytes_of("foo"), 3) == PATRICIA_ABSENT);
     patricia_free(&set);
@@ -504,12 +806,21 @@ int main(void)
     empty_map();
     entries();
     two_maps();
+    handles();
     neighbours();
     counts();
     cursors();
+    blocks();
+    many_keys();
+    many_prefixes();
+    sorted_entries();
     iterators();
+    near_keys();
+    near_characters();
     encodings();
     faults();
+    fault_texts();
+    null_keys();
     sets();
     texts();
     text_prefixes();

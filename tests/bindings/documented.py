@@ -27,8 +27,7 @@ def printed(name, text, folder, flags):
         run('cc', '-std=c11', '-Wall', '-Wextra', '-Wpedantic', '-Werror', '-o', path + '.run', path, *flags)
         return run(path + '.run')
     if name == 'words.py':
-        place = dict(os.environ, PYTHONPATH=os.path.join(ROOT, 'bindings', 'python'),
-                     PATRICIA_LIBRARY=os.path.join(folder, 'shared', 'libpatricia.so'))
+        place = dict(os.environ, PYTHONPATH=os.path.join(folder, 'python', 'packages'))
         return run(sys.executable, '-B', path, env=place)
     crate = os.path.join(folder, 'example')
     os.makedirs(os.path.join(crate, 'src'))

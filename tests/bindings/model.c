@@ -1,7 +1,14 @@
-/* Random calls on two maps, each held against a plain model: an array with a place for each of 121
- * keys.
+/* Calls on two maps, each held against a plain model: an array with a place for each of 121 keys.
  *
- *     model [CALLS [SEED]]
+ *     model [CALLS [SEED]]     random calls
+ *
+ * With FUZZED defined the numbers that choose calls are read from an input, each of two bytes, for
+ * libFuzzer:
+ *
+ *     clang -DFUZZED -fsanitize=fuzzer,address model.c -lpatricia
+ *
+ * and with CORPUS defined too the inputs are lines of hexadecimal digits of the standard input, as
+ * those of corpus.txt, which libFuzzer found.
  */
 #include "check.h"
 #include <patricia.h>
@@ -25,6 +32,19 @@ typedef struct {
 } pair;
 
 static key_text keys[COUNT]; /* in the order of their bytes */
+
+#ifdef FUZZED
+static const uint8_t *input;
+static size_t left;
+
+static uint64_t next_number(void)
+{
+    uint64_t number = 0;
+    for (unsigned i = 0; i < 2 && left > 0; i++, left--)
+        number |= (uint64_t)*input++ << 8 * i;
+    return number;
+}
+#else
 static uint64_t state;
 
 static uint64_t next_number(void)
@@ -34,6 +54,7 @@ static uint64_t next_number(void)
     state ^= state << 17;
     return state;
 }
+#endif
 
 static size_t below(size_t n) { return (size_t)(next_number() % n); }
 
@@ -137,6 +158,36 @@ static void step(pair *p)
         p->ahead = i + 1;
 }
 
+/* The cursor passes as many of the entries that it has ahead as there is room for. */
+static void step_many(pair *p)
+{
+    uint8_t array[3 * LONGEST];
+    uint64_t values[4];
+    size_t lens[4], count = 77, len = 78, written = 0, used = 0, first = COUNT;
+    size_t most = below(5), size = below(sizeof array + 1);
+    uint32_t result = patricia_cursor_next_many(&p->cursor, &p->map, array, size, lens, most,
+                                                values, 4, &count, &len);
+    for (size_t i = p->ahead; i < COUNT; i++) {
+        if (!p->has[i] || common(&keys[p->like], &keys[i]) < p->common)
+            continue;
+        first = first == COUNT ? i : first;
+        if (written == most || used + keys[i].len > size)
+            break;
+        CHECK(result == PATRICIA_ENTRY && lens[written] == keys[i].len);
+        CHECK(values[written] == p->value[i]);
+        CHECK(memcmp(array + used, keys[i].bytes, keys[i].len) == 0);
+        used += keys[i].len;
+        written++;
+        p->ahead = i + 1;
+    }
+    if (written != 0)
+        CHECK(count == written && len == used);
+    else if (first < COUNT)
+        CHECK(result == PATRICIA_NO_ROOM && count == 77 && len == keys[first].len);
+    else
+        CHECK(result == PATRICIA_END && count == 77 && len == 78);
+}
+
 static void insert(pair *p, size_t i)
 {
     uint64_t value = next_number(), old = 77;
@@ -161,6 +212,34 @@ static void get(pair *p, size_t i)
     uint64_t value = 77;
     CHECK(patricia_get(&p->map, keys[i].bytes, keys[i].len, &value) == p->has[i]);
     CHECK(value == (p->has[i] ? p->value[i] : 77));
+}
+
+/* Some keys are looked up at once, and as prefixes. */
+static void get_many(pair *p)
+{
+    uint8_t bytes[4 * LONGEST], found[4], begun[4];
+    uint64_t values[4], longest[4];
+    size_t lens[4], fronts[4], at[4], count = below(5), used = 0;
+    for (size_t i = 0; i < count; i++) {
+        at[i] = below(COUNT);
+        memcpy(bytes + used, keys[at[i]].bytes, keys[at[i]].len);
+        lens[i] = keys[at[i]].len;
+        values[i] = 77;
+        used += lens[i];
+    }
+    CHECK(patricia_get_many(&p->map, bytes, used, lens, count, values, 4, found, 4) ==
+          PATRICIA_DONE);
+    CHECK(patricia_longest_prefix_many(&p->map, bytes, used, lens, count, fronts, 4, longest, 4,
+                                       begun, 4) == PATRICIA_DONE);
+    for (size_t i = 0; i < count; i++) {
+        uint64_t value;
+        size_t len;
+        const key_text *key = &keys[at[i]];
+        CHECK(found[i] == p->has[at[i]]);
+        CHECK(values[i] == (found[i] ? p->value[at[i]] : 77));
+        CHECK(begun[i] == patricia_longest_prefix(&p->map, key->bytes, key->len, &len, &value));
+        CHECK(!begun[i] || (fronts[i] == len && longest[i] == value));
+    }
 }
 
 static void ask_prefixes(pair *p, size_t i)
@@ -311,10 +390,14 @@ static void call(pair *p, pair *other)
         insert(p, i);
     else if (kind < 600)
         take(p, i);
-    else if (kind < 800)
+    else if (kind < 780)
         get(p, i);
-    else if (kind < 920)
+    else if (kind < 800)
+        get_many(p);
+    else if (kind < 880)
         step(p);
+    else if (kind < 920)
+        step_many(p);
     else if (kind < 930)
         seek(p, i);
     else if (kind < 940)
@@ -347,6 +430,64 @@ static void call(pair *p, pair *other)
     }
 }
 
+/* Looks at all entries of both maps, and frees them. */
+static void end(pair *first, pair *second)
+{
+    iterate(first, &keys[0]);
+    iterate(second, &keys[0]);
+    patricia_free(&first->map);
+    patricia_free(&second->map);
+    patricia_cursor_free(&first->cursor);
+    patricia_cursor_free(&second->cursor);
+}
+
+#ifdef FUZZED
+int LLVMFuzzerTestOneInput(const uint8_t *data, size_t size);
+
+int LLVMFuzzerTestOneInput(const uint8_t *data, size_t size)
+{
+    pair first, second;
+    memset(&first, 0, sizeof first);
+    memset(&second, 0, sizeof second);
+    if (keys[1].len == 0)
+        make_keys();
+    input = data;
+    left = size;
+    while (left > 0)
+        call(&first, &second);
+    end(&first, &second);
+    return 0;
+}
+
+#ifdef CORPUS
+/* Reads the next line into bytes, and returns how many they are, or -1 at the end. */
+static int read_line(uint8_t *bytes, int size)
+{
+    unsigned byte;
+    int count = 0, next = getchar();
+    if (next == EOF)
+        return -1;
+    while (next != '\n') {
+        CHECK(ungetc(next, stdin) == next);
+        CHECK(count < size && scanf("%2x", &byte) == 1);
+        bytes[count++] = (uint8_t)byte;
+        next = getchar();
+    }
+    return count;
+}
+
+int main(void)
+{
+    uint8_t bytes[64];
+    int inputs = 0, count;
+    for (; (count = read_line(bytes, sizeof bytes)) >= 0; inputs++)
+        LLVMFuzzerTestOneInput(bytes, (size_t)count);
+    CHECK(inputs > 100);
+    printf("ok, %d inputs\n", inputs);
+    return 0;
+}
+#endif
+#else
 int main(int count, char **words)
 {
     static pair first, second;
@@ -355,12 +496,8 @@ int main(int count, char **words)
     make_keys();
     for (long n = 0; n < calls; n++)
         call(&first, &second);
-    iterate(&first, &keys[0]);
-    iterate(&second, &keys[0]);
-    patricia_free(&first.map);
-    patricia_free(&second.map);
-    patricia_cursor_free(&first.cursor);
-    patricia_cursor_free(&second.cursor);
+    end(&first, &second);
     printf("ok, %ld calls\n", calls);
     return 0;
 }
+#endif

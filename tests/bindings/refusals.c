@@ -103,7 +103,24 @@ static size_t iterated(patricia_map *map, patricia_iterator *iterator)
     return 0;
 }
 
-typedef uint32_t writer(patricia_map *map, uint8_t *array, size_t size, size_t *len);
+/* Looks for keys one edit away: there are as many as the map has of two. */
+static size_t sought(patricia_map *map, patricia_iterator *iterator, const bool *has)
+{
+    const uint8_t *near_two = (const uint8_t *)"a longer kez";
+    if (!patricia_within(map, near_two, 12, 1, iterator)) {
+        CHECK(patricia_iterator_len(iterator) == 0);
+        return 1;
+    }
+    CHECK(patricia_iterator_len(iterator) == (size_t)has[1] + has[5]);
+    if (!patricia_text_within(map, near_two, 12, 1, iterator)) {
+        CHECK(patricia_iterator_len(iterator) == 0);
+        return 1;
+    }
+    CHECK(patricia_iterator_len(iterator) == (size_t)has[1] + has[5]);
+    return 0;
+}
+
+typedef uint32_t writer(const patricia_map *map, uint8_t *array, size_t size, size_t *len);
 typedef uint32_t reader(patricia_map *map, const uint8_t *bytes, size_t len, const uint64_t *values,
                         size_t count, size_t *offset);
 
@@ -133,6 +150,37 @@ static size_t cloned(patricia_map *map, patricia_map *copy, const bool *has)
     }
     CHECK(patricia_len(copy) == 0);
     return 1;
+}
+
+/* The map is shared, read by another handle, and taken back. After each refusal all is as it
+ * was. */
+static size_t shared(patricia_map *map, patricia_map *copy, const bool *has)
+{
+    patricia_shared first = PATRICIA_SHARED_INIT, second = PATRICIA_SHARED_INIT;
+    size_t refused = 0, len = patricia_len(map);
+    if (!patricia_freeze(map, &first)) {
+        refused++;
+        is_as(map, has);
+        CHECK(patricia_shared_len(&first) == 0 && patricia_freeze(map, &first));
+    }
+    CHECK(patricia_len(map) == 0 && patricia_shared_len(&first) == len);
+    if (!patricia_shared_clone(&first, &second)) {
+        refused++;
+        CHECK(patricia_shared_len(&second) == 0 && patricia_shared_len(&first) == len);
+        CHECK(patricia_shared_clone(&first, &second));
+    }
+    if (patricia_shared_to_map(&second, copy)) {
+        is_as(copy, has);
+    } else {
+        refused++;
+        CHECK(patricia_len(copy) == 0);
+    }
+    long requests = before_refusal;
+    CHECK(!patricia_thaw(&first, map) && patricia_len(map) == 0);
+    patricia_shared_free(&second);
+    CHECK(patricia_thaw(&first, map) && patricia_shared_len(&first) == 0);
+    CHECK(requests == before_refusal);
+    return refused;
 }
 
 static size_t split(patricia_map *map, patricia_map *part, bool *has)
@@ -230,6 +278,39 @@ static size_t passed(patricia_map *map, patricia_cursor *cursor, const bool *has
     return refused + is_entry(result, COUNT, array, len, value);
 }
 
+/* A cursor passes all in blocks of two, and where it is refused it goes on at the same entry. */
+static size_t passed_in_blocks(patricia_map *map, const bool *has)
+{
+    patricia_cursor cursor = PATRICIA_CURSOR_INIT;
+    uint8_t keys[128];
+    uint64_t values[2];
+    size_t lens[2], count = 77, len = 78, refused = 0;
+    for (size_t at = 0; at < COUNT;) {
+        uint32_t result = patricia_cursor_next_many(&cursor, map, keys, sizeof keys, lens, 2,
+                                                    values, 2, &count, &len);
+        if (result != PATRICIA_ENTRY) {
+            CHECK(count == 77 && len == 78);
+            if (result == PATRICIA_END)
+                break;
+            CHECK(result == PATRICIA_NO_MEMORY);
+            refused++;
+            continue;
+        }
+        const uint8_t *next = keys;
+        CHECK(count == 1 || count == 2);
+        for (size_t i = 0; i < count; i++) {
+            while (!has[ORDER[at]])
+                at++;
+            CHECK(is_entry(PATRICIA_FOUND, ORDER[at++], next, lens[i], values[i]) == 0);
+            next += lens[i];
+        }
+        CHECK(next == keys + len);
+        count = 77, len = 78;
+    }
+    patricia_cursor_free(&cursor);
+    return refused;
+}
+
 /* A cursor that is all zero at first. */
 static size_t walked(patricia_map *map, const bool *has)
 {
@@ -283,6 +364,37 @@ static size_t without(patricia_map *map, bool *has, size_t i)
     return result == PATRICIA_NO_MEMORY;
 }
 
+/* All keys are put in by one call, and where it is refused by a second one for the rest. */
+static size_t sorted(void)
+{
+    patricia_map map = PATRICIA_MAP_INIT;
+    bool has[COUNT];
+    uint8_t keys[256];
+    uint64_t values[COUNT];
+    size_t lens[COUNT], bytes = 0, loaded = 77, refused = 0, rest = 0, from = 0;
+    for (size_t i = 0; i < COUNT; i++) {
+        values[i] = ORDER[i];
+        lens[i] = strlen(KEYS[ORDER[i]]);
+        memcpy(keys + bytes, KEYS[ORDER[i]], lens[i]);
+        bytes += lens[i];
+        has[i] = true;
+    }
+    uint32_t result =
+        patricia_sorted_load(&map, keys, bytes, lens, COUNT, values, COUNT, &loaded);
+    if (result == PATRICIA_NO_MEMORY) {
+        refused++;
+        CHECK(loaded < COUNT && patricia_len(&map) == loaded);
+        for (; rest < loaded; rest++)
+            from += lens[rest];
+        result = patricia_sorted_load(&map, keys + from, bytes - from, lens + rest, COUNT - rest,
+                                      values + rest, COUNT - rest, &loaded);
+    }
+    CHECK(result == PATRICIA_DONE && loaded == COUNT - rest);
+    is_as(&map, has);
+    patricia_free(&map);
+    return refused;
+}
+
 /* One run, in which the request of this number is refused. Returns how many calls were refused. */
 static size_t run(long number)
 {
@@ -295,11 +407,16 @@ static size_t run(long number)
     size_t refused = filled(&map, has);
     refused += cloned(&map, &copy, has);
     is_as(&map, has);
+    refused += shared(&map, &copy, has);
+    is_as(&map, has);
     refused += iterated(&map, &iterator);
+    is_as(&map, has);
+    refused += sought(&map, &iterator, has);
     is_as(&map, has);
     refused += neighbours(&map, has);
     refused += walked(&map, has) + passed(&map, &cursor, has, "", 0);
     refused += passed(&map, &cursor, has, "a longer", 8) + passed(&map, &cursor, has, "a", 0);
+    refused += passed_in_blocks(&map, has);
     is_as(&map, has);
     refused += counted(&map, has, "a longer") + counted(&map, has, "");
     is_as(&map, has);
@@ -313,6 +430,7 @@ static size_t run(long number)
         refused += without(&map, has, i);
         is_as(&map, has);
     }
+    refused += sorted();
     refused += split(&map, &part, has);
     is_as(&map, has);
     refused += dropped(&map, has, "an");

@@ -32,7 +32,11 @@ class Beside:
         self.log = log
 
     def says(self, pattern):
-        return bool(re.search(pattern, read(self.log), re.M)) if self.log else True
+        if not self.log:
+            return True
+        # rt ci still writes it, so that its last character may be cut
+        with open(self.log, encoding='utf-8', errors='replace') as file:
+            return bool(re.search(pattern, file.read(), re.M))
 
     def has_ended(self):
         return self.says('^rt ci has ended$')

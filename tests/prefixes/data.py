@@ -1,7 +1,8 @@
 #!/usr/bin/env python3
 """Writes the lists of tests/prefixes/data from files of Debian's packages: data.py [ROOT [FOLDER]]. ROOT is the folder
 below which the packages wamerican-small, python3-jieba, python3-phonenumbers, unicode-data and
-webext-ublock-origin-firefox are unpacked: '/' where they are installed. Their licences are in tests/prefixes/data/SOURCES.md."""
+webext-ublock-origin-firefox are unpacked: '/' where they are installed. Their licences are in
+tests/prefixes/data/SOURCES.md."""
 
 import glob
 import os

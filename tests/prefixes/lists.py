@@ -1,6 +1,6 @@
-"""Writes a list and the lines that are asked of it for each command: lists.py NAMES LINES FOLDER. From a fixed seed, the
-files COMMAND.list and COMMAND.lines: routes of paths, titles and prefixes of some, domains and hosts below some of them,
-words and texts of some of them."""
+"""Writes a list and the lines that are asked of it for each command: lists.py NAMES LINES FOLDER. From a fixed seed,
+the files COMMAND.list and COMMAND.lines: routes of paths, titles and prefixes of some, domains and hosts below some of
+them, words and texts of some of them."""
 import os
 import random
 import subprocess

@@ -1,8 +1,8 @@
 """Commands of `prefixes` with each of their memory requests refused in turn.
 
 Each run either does what it does where none is refused, or ends with status 2 and says that memory ran out, or that
-its arguments are not read, and has written the first of the same answers, whole lines alone. What a refused `pack`
-wrote is nothing or the whole file.
+its arguments are not read, and has written the first of the same answers, whole lines alone. What a refused `pack` or
+`combine` wrote is nothing or the whole file.
 """
 import os
 from tests.support import in_turn, refused
@@ -11,12 +11,29 @@ SAID = b'out of memory', b'the arguments are not read'
 COMMANDS = [
     (['route', 'routes'], b'/api/users/7\n/x\napi\n'),
     (['complete', 'names', '-n', '2'], b'foo\nba\nx\n'),
+    (['near', 'names', '-k', '2'], b'fooo\nx\n'),
     (['block', 'blocked'], b'eu.ads.example.com\nmytracker.net\nCDN.tracker.net.\n'),
     (['tree', 'settings'], b'log\nlo\n'),
     (['tree', '--drop', 'settings'], b'log.level\nlog\nlog\n'),
     (['segment', 'words'], 'xapplepie\n北京大学生\n'.encode()),
     (['complete', 'packed'], b'foo\n'),
+    (['stats', 'names'], b''),
+    (['draw', 'settings', 'log'], b''),
+    (['draw', '--dot', 'packed'], b''),
+    (['route', 'routes', '--json'], b'/api/users/7\napi\n'),
+    (['complete', 'names', '-n', '2', '--json'], b'foo\nx\n'),
+    (['near', 'names', '--json'], b'fooo\nx\n'),
+    (['block', 'blocked', '--json'], b'CDN.tracker.net.\n\xff\n'),
+    (['tree', 'settings', '--json'], b'log\nlo\n'),
+    (['segment', 'words', '--json'], b'xapplepie\n'),
+    (['stats', 'names', '--json'], b''),
+    (['draw', 'names', 'foo', '--json'], b''),
+    (['complete', '-', '--lines', 'words'], b'apple\nwords\n'),
+    (['complete', 'names', '--null'], b'foo\0ba\0'),
     (['pack', 'names', 'made'], b''),
+    (['combine', 'union', 'names', 'words', '-o', 'made'], b''),
+    (['combine', 'intersection', 'names', 'packed', '-o', 'made', '--as-lines'], b''),
+    (['combine', 'difference', 'names', 'words', 'settings', '-o', 'made'], b''),
 ]
 
 
@@ -26,18 +43,21 @@ def check(program, words, data, folder):
     whole = refused(words, data=data, cwd=folder)
     assert whole.returncode in (0, 1), words
     packed = taken(path)
+    assert packed or 'made' not in words[1:]
     for at, ran in in_turn(words, data, cwd=folder):
-        told, is_same = (words, at, ran), ran[:2] == whole[:2]
+        told, is_same, made = (words, at, ran), ran[:2] == whole[:2], taken(path)
         if not ran.is_refused:
-            assert is_same and at > 1, told
+            assert is_same and made == packed and at > 1, told
         elif not is_same or ran.stderr:
             assert ran.returncode == 2 and any(said in ran.stderr for said in SAID), told
-            assert whole.stdout.startswith(ran.stdout) and ran.stdout[-1:] in (b'', b'\n'), told
-        assert taken(path) in (b'', packed), told
+            assert whole.stdout.startswith(ran.stdout) and ran.stdout[-1:] in (b'', b'\n', b'\0'), told
+            assert made in (b'', packed), told
+        else:
+            assert made == packed, told
 
 
 def taken(path):
-    """What stands in the file that `pack` writes, which is removed."""
+    """What stands in the file that a command writes, which is removed."""
     if not os.path.exists(path):
         return b''
     with open(path, 'rb') as file:

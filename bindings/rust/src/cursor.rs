@@ -1,56 +1,48 @@
 //! Cursors over a map.
 
-use crate::entries;
-use crate::key::Key;
-use crate::slab::Slab;
-use crate::tree::Tree;
+use crate::key::{BorrowedBytes, Bytes};
+use crate::walk::Walk;
 use std::marker::PhantomData;
 
-/// A cursor over entries, in key order, which lends each key and value in turn. It has the last key
-/// alone, and takes a look-up for each step.
+/// A cursor over entries, in key order, which lends each key and value in turn.
 pub struct Cursor<'a, K, V> {
-    tree: &'a Tree,
-    values: &'a Slab<V>,
-    ahead: entries::Cursor,
-    at: Option<u64>,
+    walk: Walk<'a, V>,
+    at: Option<&'a V>,
     kind: PhantomData<fn() -> K>,
 }
 
-impl<'a, K: Key, V> Cursor<'a, K, V> {
-    pub(crate) fn new(tree: &'a Tree, values: &'a Slab<V>, ahead: entries::Cursor) -> Self {
+impl<'a, K: Bytes, V> Cursor<'a, K, V> {
+    pub(crate) fn new(walk: Walk<'a, V>) -> Self {
         Cursor {
-            tree,
-            values,
-            ahead,
+            walk,
             at: None,
             kind: PhantomData,
         }
     }
 
-    /// Steps to the next entry, and returns whether there is one. Behind the last entry it stands at
-    /// none.
+    /// Steps to the next entry, and returns whether there is one. Behind the last entry it stands
+    /// at none.
     pub fn advance(&mut self) -> bool {
-        self.at = self.tree.next(&mut self.ahead);
+        self.at = self.walk.next();
         self.at.is_some()
     }
 
-    /// Lends the key at which the cursor stands; `None` before the first entry and behind the last.
+    /// Lends the key at which the cursor stands; `None` before the first entry and behind the
+    /// last.
     pub fn key(&self) -> Option<&K::Borrowed> {
-        self.at.map(|_| K::of_bytes(self.ahead.key()))
+        self.at.map(|_| K::Borrowed::from_bytes(self.walk.key()))
     }
 
     /// Lends the value at which the cursor stands; `None` before the first entry and behind the
     /// last.
     pub fn value(&self) -> Option<&'a V> {
-        self.at.map(|number| self.values.get(number))
+        self.at
     }
 
     /// Steps to the next entry, and returns it with an owned key.
     pub fn next_entry(&mut self) -> Option<(K, &'a V)> {
-        if !self.advance() {
-            return None;
-        }
-        let value = self.value()?;
-        Some((K::from_bytes(self.ahead.key().to_vec()), value))
+        self.at = self.walk.next();
+        let value = self.at?;
+        Some((K::from_vec(self.walk.key().to_vec()), value))
     }
 }

@@ -1,133 +1,121 @@
-//! Iterators and cursors of the library.
+//! What a cursor of the library has ahead.
 
 use crate::library::*;
 use crate::tree::out_of_memory;
 
-/// An iterator over keys and numbers.
-pub(crate) struct Entries {
+/// `patricia_cursor_next_many`, or the same on a handle.
+pub(crate) type NextMany = unsafe extern "C" fn(
+    *mut Place,
+    *const Place,
+    *mut u8,
+    usize,
+    *mut usize,
+    usize,
+    *mut u64,
+    usize,
+    *mut usize,
+    *mut usize,
+) -> u32;
+
+const FIRST_BLOCK: usize = 8;
+const LARGEST_BLOCK: usize = 128;
+const ROOM_FOR_A_KEY: usize = 32;
+
+/// The keys that a cursor has ahead, which it reads from a tree in blocks, of few entries at
+/// first. The keys of that tree stay as they are meanwhile.
+pub(crate) struct Ahead {
     place: Place,
-    room: Vec<u8>,
+    keys: Vec<u8>,
+    lens: Vec<usize>,
+    numbers: Vec<u64>,
+    /// How many entries the block has, and how many of them were passed.
+    count: usize,
+    passed: usize,
+    /// Where the key that was passed last lies.
+    start: usize,
+    end: usize,
 }
 
-// SAFETY: an iterator may go from one thread to another, and has copies of its entries.
-unsafe impl Send for Entries {}
-// SAFETY: by a shared reference to an iterator nothing is called.
-unsafe impl Sync for Entries {}
-
-impl Entries {
-    /// Copies of the entries of a map whose key begins with the prefix.
-    ///
-    /// # Safety
-    ///
-    /// The place holds a map, and no other call uses it.
-    pub(crate) unsafe fn new(map: *mut Place, prefix: &[u8]) -> Self {
-        let mut entries = Entries {
-            place: EMPTY,
-            room: vec![0; 64],
-        };
-        if !patricia_iterate(map, prefix.as_ptr(), prefix.len(), &mut entries.place) {
-            out_of_memory()
-        }
-        entries
-    }
-}
-
-impl Iterator for Entries {
-    type Item = (Vec<u8>, u64);
-
-    fn next(&mut self) -> Option<Self::Item> {
-        loop {
-            let (mut len, mut value) = (0, 0);
-            // SAFETY: the place is as the last call left it; the vector has as many bytes as its
-            // length says; the length and the value are variables of this call.
-            let result = unsafe {
-                patricia_iterator_next(
-                    &mut self.place,
-                    self.room.as_mut_ptr(),
-                    self.room.len(),
-                    &mut len,
-                    &mut value,
-                )
-            };
-            match result {
-                NO_ROOM => self.room.resize(len, 0),
-                FOUND => return Some((self.room[..len].to_vec(), value)),
-                _ => return None,
-            }
-        }
-    }
-}
-
-impl Drop for Entries {
-    fn drop(&mut self) {
-        // SAFETY: the place is as the last call left it.
-        unsafe { patricia_iterator_free(&mut self.place) }
-    }
-}
-
-/// A cursor over keys. It has the last key alone, and asks a tree for the next one.
-pub(crate) struct Cursor {
-    place: Place,
-    room: Vec<u8>,
-    len: usize,
-}
-
-// SAFETY: a cursor may go from one thread to another, and has a copy of its key.
-unsafe impl Send for Cursor {}
-// SAFETY: by a shared reference to a cursor nothing is called.
-unsafe impl Sync for Cursor {}
-
-impl Cursor {
+impl Ahead {
     /// Before the first key that is this one or comes after it, among those that begin with the
     /// first `common` bytes of this one.
     pub(crate) fn new(key: &[u8], common: usize) -> Self {
-        let mut cursor = Cursor {
+        let mut ahead = Ahead {
             place: EMPTY,
-            room: vec![0; 64],
-            len: 0,
+            keys: vec![0; FIRST_BLOCK * ROOM_FOR_A_KEY],
+            lens: Vec::new(),
+            numbers: Vec::new(),
+            count: 0,
+            passed: 0,
+            start: 0,
+            end: 0,
         };
         // SAFETY: the place is empty; the key is a slice.
-        if !unsafe { patricia_cursor_seek(&mut cursor.place, key.as_ptr(), key.len(), common) } {
+        if !unsafe { patricia_cursor_seek(&mut ahead.place, key.as_ptr(), key.len(), common) } {
             out_of_memory()
         }
-        cursor
+        ahead
     }
 
     /// The key that was passed last.
     pub(crate) fn key(&self) -> &[u8] {
-        &self.room[..self.len]
+        &self.keys[self.start..self.end]
     }
 
     /// Passes the next key of a map, and returns its number.
     ///
     /// # Safety
     ///
-    /// The place holds a map, and no other call uses it.
-    pub(crate) unsafe fn next_in(&mut self, map: *mut Place) -> Option<u64> {
+    /// The place holds what the call is for, the same in each call, to which no call writes
+    /// meanwhile, and no key was inserted or removed since the first call.
+    pub(crate) unsafe fn next_in(&mut self, next: NextMany, map: *const Place) -> Option<u64> {
+        if self.passed == self.count && !self.read_block(next, map) {
+            return None;
+        }
+        let number = self.numbers[self.passed];
+        self.start = self.end;
+        self.end += self.lens[self.passed];
+        self.passed += 1;
+        Some(number)
+    }
+
+    /// Reads the next block, and returns whether there is one.
+    ///
+    /// # Safety
+    ///
+    /// As for `next_in`.
+    unsafe fn read_block(&mut self, next: NextMany, map: *const Place) -> bool {
+        let most = (self.count * 4).clamp(FIRST_BLOCK, LARGEST_BLOCK);
+        self.lens.resize(most, 0);
+        self.numbers.resize(most, 0);
+        if self.keys.len() < most * ROOM_FOR_A_KEY {
+            self.keys.resize(most * ROOM_FOR_A_KEY, 0);
+        }
+        (self.count, self.passed, self.start, self.end) = (0, 0, 0, 0);
         loop {
-            let (mut len, mut value) = (0, 0);
-            let result = patricia_cursor_next(
+            let mut key_len = 0;
+            let result = next(
                 &mut self.place,
                 map,
-                self.room.as_mut_ptr(),
-                self.room.len(),
-                &mut len,
-                &mut value,
+                self.keys.as_mut_ptr(),
+                self.keys.len(),
+                self.lens.as_mut_ptr(),
+                self.lens.len(),
+                self.numbers.as_mut_ptr(),
+                self.numbers.len(),
+                &mut self.count,
+                &mut key_len,
             );
             match result {
-                NO_ROOM => self.room.resize(len, 0),
+                NO_ROOM => self.keys.resize(key_len, 0),
                 NO_MEMORY => out_of_memory(),
-                FOUND => {
-                    self.len = len;
-                    return Some(value);
-                }
-                _ => return None,
+                _ => return result == FOUND,
             }
         }
     }
 }
 
-impl Drop for Cursor {
+impl Drop for Ahead {
     fn drop(&mut self) {
         // SAFETY: the place is as the last call left it.
         unsafe { patricia_cursor_free(&mut self.place) }

@@ -1,34 +1,59 @@
 //! Iterators over a map.
 
-use crate::cursor::Cursor;
-use crate::entries::Entries;
-use crate::key::Key;
+use crate::key::{sealed::Slice, Bytes};
 use crate::slab::Slab;
+use crate::walk::{Taken, Walk, WalkMut};
+use std::fmt;
 use std::iter::FusedIterator;
 use std::marker::PhantomData;
 use std::vec;
 
-/// An iterator over entries, in key order. It has the last key alone, and takes a look-up for each
-/// entry.
-pub struct Iter<'a, K, V> {
-    cursor: Cursor<'a, K, V>,
-    left: usize,
+/// Debug of an iterator, which names its type alone.
+macro_rules! debug_by_name {
+    ($($name:ident<$($parameter:tt),*>),* $(,)?) => {$(
+        impl<$($parameter),*> fmt::Debug for $name<$($parameter),*> {
+            fn fmt(&self, f: &mut fmt::Formatter<'_>) -> fmt::Result {
+                f.debug_struct(stringify!($name)).finish_non_exhaustive()
+            }
+        }
+    )*};
+}
+pub(crate) use debug_by_name;
+
+debug_by_name!(
+    Iter<'a, K, V>, IterPrefix<'a, K, V>, Keys<'a, K, V>, Values<'a, V>, IterMut<'a, K, V>,
+    IterPrefixMut<'a, K, V>, ValuesMut<'a, V>, IntoIter<K, V>,
+);
+
+fn owned<K: Bytes>(bytes: &[u8]) -> K {
+    K::from_vec(bytes.to_vec())
 }
 
-impl<'a, K: Key, V> Iter<'a, K, V> {
-    /// So many entries are ahead of the cursor.
-    pub(crate) fn new(cursor: Cursor<'a, K, V>, left: usize) -> Self {
-        Iter { cursor, left }
+/// An iterator over the entries, in key order.
+pub struct Iter<'a, K, V> {
+    walk: Walk<'a, V>,
+    left: usize,
+    kind: PhantomData<fn() -> K>,
+}
+
+impl<'a, K, V> Iter<'a, K, V> {
+    /// So many entries are ahead of the walk.
+    pub(crate) fn new(walk: Walk<'a, V>, left: usize) -> Self {
+        Iter {
+            walk,
+            left,
+            kind: PhantomData,
+        }
     }
 }
 
-impl<'a, K: Key, V> Iterator for Iter<'a, K, V> {
+impl<'a, K: Bytes, V> Iterator for Iter<'a, K, V> {
     type Item = (K, &'a V);
 
     fn next(&mut self) -> Option<Self::Item> {
-        let entry = self.cursor.next_entry()?;
+        let value = self.walk.next()?;
         self.left -= 1;
-        Some(entry)
+        Some((owned(self.walk.key()), value))
     }
 
     fn size_hint(&self) -> (usize, Option<usize>) {
@@ -36,14 +61,40 @@ impl<'a, K: Key, V> Iterator for Iter<'a, K, V> {
     }
 }
 
-impl<K: Key, V> ExactSizeIterator for Iter<'_, K, V> {}
+impl<K: Bytes, V> ExactSizeIterator for Iter<'_, K, V> {}
 
-impl<K: Key, V> FusedIterator for Iter<'_, K, V> {}
+impl<K: Bytes, V> FusedIterator for Iter<'_, K, V> {}
+
+/// An iterator over the entries whose key begins with a prefix, in key order.
+pub struct IterPrefix<'a, K, V> {
+    walk: Walk<'a, V>,
+    kind: PhantomData<fn() -> K>,
+}
+
+impl<'a, K, V> IterPrefix<'a, K, V> {
+    pub(crate) fn new(walk: Walk<'a, V>) -> Self {
+        IterPrefix {
+            walk,
+            kind: PhantomData,
+        }
+    }
+}
+
+impl<'a, K: Bytes, V> Iterator for IterPrefix<'a, K, V> {
+    type Item = (K, &'a V);
+
+    fn next(&mut self) -> Option<Self::Item> {
+        let value = self.walk.next()?;
+        Some((owned(self.walk.key()), value))
+    }
+}
+
+impl<K: Bytes, V> FusedIterator for IterPrefix<'_, K, V> {}
 
 /// An iterator over the keys, in order.
 pub struct Keys<'a, K, V>(pub(crate) Iter<'a, K, V>);
 
-impl<K: Key, V> Iterator for Keys<'_, K, V> {
+impl<K: Bytes, V> Iterator for Keys<'_, K, V> {
     type Item = K;
 
     fn next(&mut self) -> Option<K> {
@@ -56,101 +107,118 @@ impl<K: Key, V> Iterator for Keys<'_, K, V> {
 }
 
 /// An iterator over the values, in key order.
-pub struct Values<'a, K, V>(pub(crate) Iter<'a, K, V>);
+pub struct Values<'a, V> {
+    walk: Walk<'a, V>,
+    left: usize,
+}
 
-impl<'a, K: Key, V> Iterator for Values<'a, K, V> {
+impl<'a, V> Values<'a, V> {
+    pub(crate) fn new(walk: Walk<'a, V>, left: usize) -> Self {
+        Values { walk, left }
+    }
+}
+
+impl<'a, V> Iterator for Values<'a, V> {
     type Item = &'a V;
 
     fn next(&mut self) -> Option<&'a V> {
-        self.0.next().map(|entry| entry.1)
+        let value = self.walk.next()?;
+        self.left -= 1;
+        Some(value)
     }
 
     fn size_hint(&self) -> (usize, Option<usize>) {
-        self.0.size_hint()
+        (self.left, Some(self.left))
     }
 }
 
-/// An iterator over entries whose values may be changed, in key order.
-pub struct IterMut<'a, K, V> {
-    entries: Entries,
-    values: Vec<Option<&'a mut V>>,
+/// An iterator over the entries, whose values may be changed, in key order.
+pub struct IterMut<'a, K, V>(IterPrefixMut<'a, K, V>);
+
+impl<'a, K, V> IterMut<'a, K, V> {
+    pub(crate) fn new(walk: WalkMut<'a, V>) -> Self {
+        IterMut(IterPrefixMut::new(walk))
+    }
+}
+
+impl<'a, K: Bytes, V> Iterator for IterMut<'a, K, V> {
+    type Item = (K, &'a mut V);
+
+    fn next(&mut self) -> Option<Self::Item> {
+        self.0.next()
+    }
+}
+
+/// An iterator over the entries whose key begins with a prefix and whose values may be changed, in
+/// key order.
+pub struct IterPrefixMut<'a, K, V> {
+    walk: WalkMut<'a, V>,
     kind: PhantomData<fn() -> K>,
 }
 
-impl<'a, K: Key, V> IterMut<'a, K, V> {
-    pub(crate) fn new(entries: Entries, values: &'a mut Slab<V>) -> Self {
-        IterMut {
-            entries,
-            values: values.lent(),
+impl<'a, K, V> IterPrefixMut<'a, K, V> {
+    pub(crate) fn new(walk: WalkMut<'a, V>) -> Self {
+        IterPrefixMut {
+            walk,
             kind: PhantomData,
         }
     }
 }
 
-impl<'a, K: Key, V> Iterator for IterMut<'a, K, V> {
+impl<'a, K: Bytes, V> Iterator for IterPrefixMut<'a, K, V> {
     type Item = (K, &'a mut V);
 
     fn next(&mut self) -> Option<Self::Item> {
-        let (key, number) = self.entries.next()?;
-        let value = self.values[number as usize].take();
-        Some((
-            K::from_bytes(key),
-            value.expect("each number is of one key"),
-        ))
+        let value = self.walk.next()?;
+        Some((owned(self.walk.key()), value))
     }
 }
 
 /// An iterator over the values, which may be changed, in key order.
-pub struct ValuesMut<'a, K, V>(pub(crate) IterMut<'a, K, V>);
+pub struct ValuesMut<'a, V>(pub(crate) WalkMut<'a, V>);
 
-impl<'a, K: Key, V> Iterator for ValuesMut<'a, K, V> {
+impl<'a, V> Iterator for ValuesMut<'a, V> {
     type Item = &'a mut V;
 
     fn next(&mut self) -> Option<&'a mut V> {
-        self.0.next().map(|entry| entry.1)
+        self.0.next()
     }
 }
 
 /// An iterator over the entries of a map that it owns, in key order.
 pub struct IntoIter<K, V> {
-    entries: Entries,
-    values: Slab<V>,
+    walk: Taken<V>,
     kind: PhantomData<fn() -> K>,
 }
 
-impl<K: Key, V> IntoIter<K, V> {
-    pub(crate) fn new(entries: Entries, values: Slab<V>) -> Self {
+impl<K, V> IntoIter<K, V> {
+    pub(crate) fn new(walk: Taken<V>) -> Self {
         IntoIter {
-            entries,
-            values,
+            walk,
             kind: PhantomData,
         }
     }
 }
 
-impl<K: Key, V> Iterator for IntoIter<K, V> {
+impl<K: Bytes, V> Iterator for IntoIter<K, V> {
     type Item = (K, V);
 
     fn next(&mut self) -> Option<(K, V)> {
-        let (key, number) = self.entries.next()?;
-        Some((K::from_bytes(key), self.values.remove(number)))
+        let value = self.walk.next()?;
+        Some((owned(self.walk.key()), value))
     }
 }
 
 /// An iterator over the entries whose key is a prefix of a key, the shortest first.
-pub struct CommonPrefixes<'a, 'b, K: Key, V> {
-    key: &'b K::Borrowed,
+pub struct CommonPrefixesIter<'a, 'b, Q: ?Sized, V> {
+    key: &'b Q,
     entries: vec::IntoIter<(usize, u64)>,
     values: &'a Slab<V>,
 }
 
-impl<'a, 'b, K: Key, V> CommonPrefixes<'a, 'b, K, V> {
-    pub(crate) fn new(
-        key: &'b K::Borrowed,
-        entries: Vec<(usize, u64)>,
-        values: &'a Slab<V>,
-    ) -> Self {
-        CommonPrefixes {
+impl<'a, 'b, Q: ?Sized, V> CommonPrefixesIter<'a, 'b, Q, V> {
+    pub(crate) fn new(key: &'b Q, entries: Vec<(usize, u64)>, values: &'a Slab<V>) -> Self {
+        CommonPrefixesIter {
             key,
             entries: entries.into_iter(),
             values,
@@ -158,11 +226,17 @@ impl<'a, 'b, K: Key, V> CommonPrefixes<'a, 'b, K, V> {
     }
 }
 
-impl<'a, 'b, K: Key, V> Iterator for CommonPrefixes<'a, 'b, K, V> {
-    type Item = (&'b K::Borrowed, &'a V);
+impl<'a, 'b, Q: ?Sized + Slice, V> Iterator for CommonPrefixesIter<'a, 'b, Q, V> {
+    type Item = (&'b Q, &'a V);
 
     fn next(&mut self) -> Option<Self::Item> {
         let (len, number) = self.entries.next()?;
-        Some((K::prefix(self.key, len), self.values.get(number)))
+        Some((self.key.prefix(len), self.values.get(number)))
+    }
+}
+
+impl<Q: ?Sized, V> fmt::Debug for CommonPrefixesIter<'_, '_, Q, V> {
+    fn fmt(&self, f: &mut fmt::Formatter<'_>) -> fmt::Result {
+        f.debug_struct("CommonPrefixesIter").finish_non_exhaustive()
     }
 }

@@ -1,9 +1,10 @@
 //! Maps and sets whose keys share their common prefixes, over the library for C.
 //!
-//! The names and the behaviour are those of the crate `patricia_tree` 0.10.2. The tree itself, from
-//! byte strings to numbers, is the library's, whose functions are proved (docs/BINDINGS.md). The
-//! values lie in a slab of this crate, under these numbers. That slab and the declarations in
-//! `library.rs` are tested; all unsafe code is in `tree.rs` and `entries.rs`.
+//! The names and the behaviour are those of the crate `patricia_tree` 0.10.2. The tree itself,
+//! from byte strings to numbers, is the library's, whose functions are proved (docs/BINDINGS.md).
+//! The values lie in a slab of this crate, under these numbers. That slab and the declarations in
+//! `library.rs` are tested; unsafe code is in `library.rs`, `tree.rs`, `source.rs`, `handle.rs`
+//! and `entries.rs` alone.
 //!
 //! ```
 //! use patricia::StringPatriciaMap;
@@ -14,42 +15,32 @@
 //! assert_eq!(map.get_longest_common_prefix("/blog/2024"), Some(("/blog", &"blog")));
 //! ```
 //!
-//! Not here: `Sync`, since the library's functions write to a map while they read it; nodes; kinds
-//! of keys of the caller's own; serde. `iter`, `keys` and `values` have the last key alone and take
-//! a look-up for each entry; the other iterators have copies of the keys that they give.
+//! A program for `patricia_tree` is compiled with another name of the crate, unless it uses what is
+//! not here: nodes; kinds of keys of its own; serde. Iterators read entries in blocks of at most
+//! 128; those that lend values to be changed take memory for a reference to each value besides.
+//!
+//! Threads may read one map or set by reference, where its values may be. A [`SharedMap`] or a
+//! [`SharedSet`] is a handle of one that cannot be changed, for each thread its own.
 //!
 //! Where memory runs out the process ends, as it does with std's collections.
 
 mod cursor;
 mod entries;
+mod handle;
 mod iter;
 mod key;
 mod library;
-mod map;
-mod set;
+pub mod map;
+mod reads;
+pub mod set;
+mod shared;
 mod slab;
+mod source;
 mod tree;
+mod walk;
 
-pub use cursor::Cursor;
-pub use iter::{CommonPrefixes, IntoIter, Iter, IterMut, Keys, Values, ValuesMut};
-pub use key::Key;
-pub use map::GenericPatriciaMap;
-pub use set::GenericPatriciaSet;
+pub use key::{BorrowedBytes, Bytes};
+pub use map::{GenericPatriciaMap, PatriciaMap, StringPatriciaMap};
+pub use set::{GenericPatriciaSet, PatriciaSet, StringPatriciaSet};
+pub use shared::{SharedMap, SharedSet};
 pub use tree::{DecodeError, TooDeep};
-
-/// A map whose keys are byte strings.
-pub type PatriciaMap<V> = GenericPatriciaMap<Vec<u8>, V>;
-
-/// A map whose keys are texts.
-pub type StringPatriciaMap<V> = GenericPatriciaMap<String, V>;
-
-/// A set of byte strings.
-pub type PatriciaSet = GenericPatriciaSet<Vec<u8>>;
-
-/// A set of texts.
-pub type StringPatriciaSet = GenericPatriciaSet<String>;
-
-/// Iterators over a set.
-pub mod set_iter {
-    pub use crate::set::{IntoIter, Iter};
-}

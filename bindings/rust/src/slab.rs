@@ -67,3 +67,18 @@ impl<V> FromIterator<V> for Slab<V> {
         }
     }
 }
+
+#[cfg(test)]
+mod tests {
+    use super::Slab;
+
+    #[test]
+    fn numbers_are_used_again() {
+        let mut slab = Slab::new();
+        let numbers: Vec<u64> = (0..3).map(|value| slab.insert(value)).collect();
+        assert_eq!((slab.remove(numbers[1]), slab.remove(numbers[0])), (1, 0));
+        let again = [slab.insert(4), slab.insert(5)];
+        assert_eq!(again, [numbers[0], numbers[1]]);
+        assert_eq!((slab.get(again[1]), slab.get(numbers[2])), (&5, &2));
+    }
+}

@@ -122,7 +122,10 @@ fn split_by_prefix() {
 #[test]
 fn iterators() {
     let mut map: StringPatriciaMap<u32> = vec![("b", 2), ("a", 1), ("ab", 3)].into_iter().collect();
-    assert_eq!(map.iter().len(), 3);
+    let (mut entries, mut values) = (map.iter(), map.values());
+    assert_eq!((entries.len(), values.size_hint()), (3, (3, Some(3))));
+    assert!(entries.next().is_some() && values.next().is_some());
+    assert_eq!((entries.len(), values.size_hint()), (2, (2, Some(2))));
     assert_eq!(map.values().copied().collect::<Vec<_>>(), [1, 3, 2]);
     for (key, value) in &mut map {
         *value += key.len() as u32;
@@ -164,8 +167,40 @@ fn cursors() {
     assert_eq!(from.next_entry(), Some(("ab".to_string(), &2)));
     assert_eq!(from.next_entry(), Some(("b".to_string(), &3)));
     assert_eq!(from.next_entry(), None);
-    assert_eq!(map.iter_prefix("a").len(), 2);
+    assert_eq!(map.iter_prefix("a").count(), 2);
     assert_eq!(map.iter_prefix("c").next(), None);
+}
+
+/// Iterators read blocks of 8, 32 and 128 entries: none is lost or given twice where one ends, also
+/// where keys are longer than the room for them.
+#[test]
+fn blocks() {
+    for count in [
+        0, 1, 7, 8, 9, 39, 40, 41, 167, 168, 169, 295, 296, 297, 1000,
+    ] {
+        for long in [0, 60, 5000] {
+            let key = |n: u32| format!("{:04}{}", n, "x".repeat(if n % 7 == 3 { long } else { 0 }));
+            let entries: Vec<_> = (0..count).map(|n| (key(n), n)).collect();
+            let mut map: StringPatriciaMap<u32> = entries.iter().cloned().collect();
+            assert!(map.iter().map(|e| (e.0, *e.1)).eq(entries.iter().cloned()));
+            assert!(map.values().copied().eq(0..count));
+            assert!(map.keys().eq(entries.iter().map(|e| e.0.clone())));
+            map.values_mut().for_each(|value| *value += 1);
+            let mut cursor = map.cursor();
+            for (key, value) in &entries {
+                assert!(cursor.advance());
+                assert_eq!(cursor.key(), Some(key.as_str()));
+                assert_eq!(cursor.value(), Some(&(value + 1)));
+            }
+            assert!(!cursor.advance() && cursor.key().is_none());
+            let tens = entries.iter().filter(|e| e.0.starts_with("001"));
+            assert!(map
+                .iter_prefix("001")
+                .map(|e| e.0)
+                .eq(tens.map(|e| e.0.clone())));
+            assert_eq!(map.into_iter().count(), count as usize);
+        }
+    }
 }
 
 #[test]
@@ -311,6 +346,31 @@ fn another_thread() {
     .join()
     .unwrap();
     assert_eq!(map.remove("b").as_deref(), Some("two"));
+}
+
+#[test]
+fn many_readers() {
+    let map: StringPatriciaMap<u32> = texts().into_iter().zip(0..).collect();
+    let entries: Vec<_> = texts().into_iter().zip(0..).collect();
+    thread::scope(|scope| {
+        for first in 0..4 {
+            let (map, entries) = (&map, &entries);
+            scope.spawn(move || {
+                for (key, value) in entries.iter().skip(first) {
+                    assert_eq!(map.get(key), Some(value));
+                    assert_eq!(
+                        map.get_longest_common_prefix(key),
+                        Some((key.as_str(), value))
+                    );
+                }
+                assert!(map.iter().map(|e| (e.0, *e.1)).eq(entries.iter().cloned()));
+            });
+        }
+    });
+    let mut iter = map.iter();
+    iter.next();
+    let left = thread::scope(|scope| scope.spawn(move || iter.count()).join().unwrap());
+    assert_eq!(left, entries.len() - 1);
 }
 
 #[test]

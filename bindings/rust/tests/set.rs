@@ -59,4 +59,16 @@ fn tree_bytes() {
     let bytes = set.tree_bytes().unwrap();
     assert_eq!(PatriciaSet::from_tree_bytes(&bytes, 3).unwrap(), set);
     assert!(PatriciaSet::from_tree_bytes(&bytes, 2).is_err());
+    let wide = set.wide_tree_bytes().unwrap();
+    assert_eq!(PatriciaSet::from_wide_tree_bytes(&wide, 3).unwrap(), set);
+    assert_eq!(wide.len(), bytes.len() + 2 * 3);
+    let fault = |bytes: &[u8], count| PatriciaSet::from_tree_bytes(bytes, count).unwrap_err();
+    for count in [4, 100, usize::MAX] {
+        assert_eq!(
+            (fault(&bytes, count).code, fault(&bytes, count).offset),
+            (22, 0)
+        );
+        assert_eq!((fault(&[], count).code, fault(&[], count).offset), (12, 0));
+        assert!(PatriciaSet::from_wide_tree_bytes(&wide, count).is_err());
+    }
 }

@@ -32,11 +32,13 @@ fn look_up<L: Ledger>(map: &PatriciaMap<u32>, key: &[u8], blank: Blank) -> Optio
 // end
 
 fn main(rt: HostRuntime) -> anyhow::Result<()> {
+    // example: readme map
     let mut map = PatriciaMap::new(rt.alloc());
     for (word, number) in [("foo", 1), ("bar", 2), ("baz", 3)] {
         map.insert(word.as_bytes(), number)?;
     }
     println!(rt; "baz is {:?}", map.get(b"baz".as_slice()))?;
+    // end
     list(&rt, &map)?;
     let found = look_up::<Brand>(&map, b"foo".as_slice(), Blank::new(1));
     println!(rt; "foo is {found:?}")?;

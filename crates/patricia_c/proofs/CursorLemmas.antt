@@ -1,7 +1,9 @@
 -- What a cursor has ahead, over entries in key order.
-use Rattle.std.proofs.Common.{◌≡◌, ◌≤◌, ℕ, Bool, true, false, T, not, cond, inl, inr, List, [], ◌∷◌, ◌++◌}
-use Rattle.std.proofs.Common.{Option, None, Some, length, take, drop, slice_get, refl, sym, ap, subst, ◌∙◌, arith}
-use Rattle.std.specs.Ordering.{is_lt, ordering_reverse}
+use Rattle.std.proofs.Common.{◌≡◌, ◌≤◌, ◌<◌, ◌⊎◌, ℕ, zero, suc, Bool, true, false, T, not, cond, inl, inr, List, [], ◌∷◌, ◌++◌}
+use Rattle.std.proofs.Common.{Option, None, Some, length, take, drop, slice_get, refl, sym, ap, ap₂, subst, ◌∙◌, arith}
+use Rattle.std.specs.Ordering.{is_lt, ordering_reverse, ordering_then}
+use Rattle.std.specs.Cmp.{nat_cmp_is, nat_cmp_total}
+use Rattle.std.proofs.Common.{nat_cmp}
 use Rattle.std.specs.declared.cmp.Ordering.{Ordering}
 use Rattle.std.specs.declared.cmp.Ordering.TheVariants.{Less, Equal, Greater}
 use Rattle.std.specs.FinMap as map
@@ -14,6 +16,7 @@ use Rattle.patricia_keys.specs.Keys.{Begins, key_cmp}
 use Rattle.patricia_keys.proofs.KeyLemmas.{Begins-trans, key_cmp-irreflexive}
 use Rattle.patricia_tree.specs.Prefixes.{begins, under}
 use Rattle.patricia_tree.specs.Ranges.{from}
+use Rattle.patricia_tree.specs.Cursors.{after}
 use Rattle.patricia_model.proofs.FilterLemmas.{has_filter}
 use Rattle.patricia_model.proofs.ListLemmas.{key_cmp-equal, key_cmp-extends}
 use Rattle.patricia_model.proofs.PrefixLemmas.{begins_from, begins_is, not_above, under_none, under_empty}
@@ -21,6 +24,8 @@ use Rattle.patricia_model.proofs.RangeLemmas.{IsFrom, from_below, from_sorted_en
 use Rattle.patricia_model.proofs.SiblingsLemmas.{AllKeys}
 use Rattle.patricia_model.proofs.TestLemmas.{first_part, second_part, less_so}
 use Rattle.patricia_c.specs.Cursors.{ahead_of, beyond}
+use Rattle.patricia_c.specs.Internal.Filling.{IsFullFirst, IsNoneFirst}
+use Rattle.std.specs.Option.{option_map}
 use Rattle.patricia_c.specs.declared.cursor_pointer.Position.{Position}
 
 -- where one key is greater, the other one is less
@@ -193,3 +198,46 @@ emptied m none = nil_from_length (map.entries m) (sym (len-entries m) ∙ none)
 
 pub filled : (m : map.FinMap key_cmp ℕ) → (map.len m ≡ 0 → IsTrue false) → map.entries m ≡ [] → ⊥
 filled m some none = let no = some (len-entries m ∙ ap length none) in cc
+
+-- a key is not below another one with a byte of 0 behind it exactly where it comes after that one
+next_key : (key e : List ℕ) → not (is_lt (key_cmp e (key ++ 0 ∷ []))) ≡ is_lt (key_cmp key e)
+next_key [] [] = refl
+next_key [] (zero ∷ []) = refl
+next_key [] (zero ∷ x ∷ t) = refl
+next_key [] (suc b ∷ t) = let more : Greater ≡ nat_cmp (suc b) 0 = nat_cmp_is (suc b) 0 Greater (omega arith) in rw (← more) refl
+next_key (a ∷ key) [] = refl
+next_key (a ∷ key) (b ∷ t) = by (nat_cmp a b) refl (next_key key t)
+  where
+    turned : nat_cmp b a ≡ ordering_reverse (nat_cmp a b)
+    turned = nat_cmp_total.antisymm b a
+
+    by : (o : Ordering) → nat_cmp a b ≡ o → not (is_lt (key_cmp t (key ++ 0 ∷ []))) ≡ is_lt (key_cmp key t)
+        → not (is_lt (ordering_then (nat_cmp b a) (key_cmp t (key ++ 0 ∷ [])))) ≡ is_lt (ordering_then (nat_cmp a b) (key_cmp key t))
+    by Less f same = rw (turned, f) refl
+    by Equal f same = rw (turned, f) same
+    by Greater f same = rw (turned, f) refl
+
+-- so the entries from there on are those that come after the key
+pub from_next : {V : Type 0} (key : List ℕ) (entries : List (List ℕ × V))
+    → from (key ++ 0 ∷ []) entries ≡ after (Some key) entries
+from_next key [] = refl
+from_next key (e ∷ es) = ap₂ (λ b l. cond b (e ∷ l) l) (next_key key e.0) (from_next key es)
+
+module _ (passed : Bool) (n : ℕ) (key : List ℕ) (es : List (List ℕ × ℕ)) (sorted : T (is_sorted key_cmp es)) where
+  -- where the first entry beyond the place is not under the prefix, or there is none, none is under it
+  pub ahead_unlike : (left : List (List ℕ × ℕ)) → left ≡ beyond passed key es → IsNoneFirst (take n key) left
+      → slice_get (under (take n key) (beyond passed key es)) 0 ≡ None
+  ahead_unlike [] is none = sym (ahead_none passed n key es sorted (ap (λ (l : List (List ℕ × ℕ)). slice_get l 0) is))
+  ahead_unlike (x ∷ left) is none = sym (ahead_other passed n key es sorted x (ap (λ (l : List (List ℕ × ℕ)). slice_get l 0) is) none)
+
+  -- where it is under the prefix it is the first there
+  pub ahead_like : (left : List (List ℕ × ℕ)) (m r l v : ℕ) → left ≡ beyond passed key es → IsFullFirst (take n key) left m r l v
+      → option_map (λ e. length e.0) (slice_get (under (take n key) (beyond passed key es)) 0) ≡ Some m
+  ahead_like [] m r l v is full = absurd full
+  ahead_like (x ∷ left) m r l v is full =
+      ap (option_map (λ e. length e.0)) (sym (ahead_some passed n key es sorted x (ap (λ (l : List (List ℕ × ℕ)). slice_get l 0) is) full.0)) ∙ ap Some full.1
+
+-- an array has no room for it then
+pub no_room : (p : List ℕ) (left : List (List ℕ × ℕ)) (m r l v : ℕ) → IsFullFirst p left m r l v → (r < m) ⊎ (l ≡ 0) ⊎ (v ≡ 0)
+no_room p [] m r l v full = absurd full
+no_room p (x ∷ left) m r l v full = full.2

@@ -5,7 +5,7 @@ use Rattle.std.specs.Prelude.{Vec, length}
 use Rattle.std.specs.Global.{Global}
 use Rattle.patricia_c.specs.EntriesLeft.{pairs_of}
 
-pairs_of-append : (entries : List (Vec ℕ Global × ℕ)) (entry : Vec ℕ Global × ℕ) → pairs_of (entries ++ entry ∷ []) ≡ pairs_of entries ++ (entry.0.items, entry.1) ∷ []
+pub pairs_of-append : (entries : List (Vec ℕ Global × ℕ)) (entry : Vec ℕ Global × ℕ) → pairs_of (entries ++ entry ∷ []) ≡ pairs_of entries ++ (entry.0.items, entry.1) ∷ []
 pairs_of-append [] entry = refl
 pairs_of-append (r ∷ entries) entry = ap (λ l. (r.0.items, r.1) ∷ l) (pairs_of-append entries entry)
 

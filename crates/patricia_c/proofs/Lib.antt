@@ -1,9 +1,16 @@
+mod BlockLemmas
 mod CodeLemmas
 mod CopyLemmas
 mod CursorLemmas
 mod EmptyLemmas
+mod LoadLemmas
+mod ManyLemmas
 mod MapBox
+mod NearLemmas
 mod PositionBox
 mod RawBoxValues
 mod EntryLemmas
 mod EntriesBox
+mod SharedBox
+mod SharedLemmas
+mod TextNearLemmas

@@ -1,5 +1,9 @@
+pub mod Blocks
 pub mod Codes
 pub mod Cursors
 pub mod Internal
+pub mod Many
 pub mod Maps
+pub mod Near
 pub mod EntriesLeft
+pub mod Shared

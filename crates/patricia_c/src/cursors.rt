@@ -19,17 +19,17 @@ use crate::room::copy_to;
 use std::alloc::{AllocError, Global};
 
 /// No entry is ahead.
-const END: u32 = 0;
+pub(crate) const END: u32 = 0;
 /// An entry was written.
-const ENTRY: u32 = 1;
+pub(crate) const ENTRY: u32 = 1;
 /// Out of memory.
-const NO_MEMORY: u32 = 2;
+pub(crate) const NO_MEMORY: u32 = 2;
 /// The room is too small: only the length of the key was written.
-const NO_ROOM: u32 = 4;
+pub(crate) const NO_ROOM: u32 = 4;
 
 impl Position {
     // The bytes that the keys of its entries begin with.
-    fn prefix(&self) -> &[u8]
+    pub(crate) fn prefix(&self) -> &[u8]
         ensures { result.now ≡ prefix_of (Some self.now) }
     {
         if self.common < self.key.len() {
@@ -40,7 +40,7 @@ impl Position {
     }
 
     // Passes a key that has the prefix.
-    fn pass(&mut self, key: Vec<u8>)
+    pub(crate) fn pass(&mut self, key: Vec<u8>)
         requires { begins (prefix_of (Some self.old)) key.items ≡ true }
         ensures ahead { (entries : List (List ℕ × ℕ)) → ahead_of (Some self.new) entries
             ≡ under (prefix_of (Some self.old)) (after (Some key.items) entries) }
@@ -175,6 +175,51 @@ fn step(
     ENTRY
 }
 
+// Writes the first entry of the map that the cursor has ahead, and passes it.
+pub(crate) fn next_ahead(
+    alloc: Global,
+    cursor: &mut CursorPlace,
+    stored: &StoredMap,
+    room: &mut [u8],
+    len: &mut usize,
+    value: &mut u64,
+) -> u32
+    ensures end { result ≡ 0 → slice_get (ahead_of cursor.old.pointer.stored
+        (map.entries stored.now.map)) 0 ≡ None }
+    ensures entry { result ≡ 1 → slice_get (ahead_of cursor.old.pointer.stored
+        (map.entries stored.now.map)) 0 ≡ Some (take len.new room.new, value.new) }
+    ensures within { result ≡ 1 → len.new ≤ length room.new }
+    ensures behind { result ≡ 1 → drop len.new room.new ≡ drop len.new room.old }
+    ensures passed { result ≡ 1 → (entries : List (List ℕ × ℕ)) →
+        ahead_of cursor.new.pointer.stored entries
+        ≡ under (prefix_of cursor.old.pointer.stored)
+        (after (Some (take len.new room.new)) entries) }
+    ensures prefix { prefix_of cursor.new.pointer.stored ≡ prefix_of cursor.old.pointer.stored }
+    ensures longer { result ≡ 4 → option_map (λ e. length e.0)
+        (slice_get (ahead_of cursor.old.pointer.stored
+        (map.entries stored.now.map)) 0) ≡ Some len.new }
+    ensures small { result ≡ 4 → length room.old < len.new }
+    ensures stays { result ≢ 1 → (entries : List (List ℕ × ℕ)) →
+        ahead_of cursor.new.pointer.stored entries ≡ ahead_of cursor.old.pointer.stored entries }
+    ensures room_unwritten { result ≢ 1 → room.new ≡ room.old }
+    ensures value_unwritten { result ≢ 1 → value.new ≡ value.old }
+    ensures end_len { result ≡ 0 → len.new ≡ len.old }
+    ensures refused_len { result ≡ 2 → len.new ≡ len.old }
+    ensures refused { result ≡ 2 → map.entries stored.now.map ≢ [] }
+    ensures codes { result ≤ 4 }
+    ensures not_three { result ≢ 3 }
+{
+    if stored.map.is_empty() {
+        return END;
+    }
+    let Ok(mut position) = cursor.take_or_make(alloc) else {
+        return NO_MEMORY;
+    };
+    let result = step(stored, &mut position, room, len, value);
+    cursor.put(position);
+    result
+}
+
 /// Asks the map for the first entry that the cursor has ahead, and passes it. Returns `ENTRY`, and
 /// writes its key to the room, the length of the key to `len` and the value to `value`; `NO_ROOM`
 /// where the key is longer than the room, and writes its length to `len`; `END` where no entry is
@@ -188,7 +233,7 @@ pub extern "C" fn patricia_cursor_next(
     len: &mut usize,
     value: &mut u64,
 ) -> u32
-    ensures kept { map_of at.new.pointer.stored ≡ map_of at.old.pointer.stored }
+    ensures same { at.new ≡ at.old }
     ensures end { result ≡ 0 → slice_get (ahead_of cursor.old.pointer.stored
         (map.entries (map_of at.old.pointer.stored))) 0 ≡ None }
     ensures entry { result ≡ 1 → slice_get (ahead_of cursor.old.pointer.stored
@@ -214,21 +259,10 @@ pub extern "C" fn patricia_cursor_next(
     ensures codes { result ≤ 4 }
     ensures not_three { result ≢ 3 }
 {
-    let Some(stored) = at.take() else {
+    let Some(stored) = at.as_mut() else {
         return END;
     };
-    if stored.map.is_empty() {
-        at.put(stored);
-        return END;
-    }
-    let Ok(mut position) = cursor.take_or_make(alloc) else {
-        at.put(stored);
-        return NO_MEMORY;
-    };
-    let result = step(&stored, &mut position, room, len, value);
-    at.put(stored);
-    cursor.put(position);
-    result
+    next_ahead(alloc, cursor, stored, room, len, value)
 }
 
 /// Frees the memory of the cursor, which is then before the first entry of all.

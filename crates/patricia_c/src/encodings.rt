@@ -44,6 +44,64 @@ pub(crate) fn code(error: DecodeError, offset: &mut usize) -> u32
     code
 }
 
+// Writes the tree bytes of a map to the room, where it is as long, and their number to `len`.
+pub(crate) fn write_tree_bytes(entries: &PatriciaMap<u64>, room: &mut [u8], len: &mut usize) -> u32
+    ensures done { result ≡ 0 →
+        AreTreeBytes IsByteItem 2 (take len.new room.new) (map.entries entries.now) }
+    ensures within { result ≡ 0 → len.new ≤ length room.new }
+    ensures behind { result ≡ 0 → drop len.new room.new ≡ drop len.new room.old }
+    ensures too_deep { result ≡ 3 → TooDeep IsByteItem 2 (map.keys entries.now) }
+    ensures len { result ≡ 4 → IsLen IsByteItem 2 len.new (map.entries entries.now) }
+    ensures small { result ≡ 4 → length room.old < len.new }
+    ensures unwritten { result ≢ 0 → room.new ≡ room.old }
+    ensures len_unwritten { result ≢ 0 → result ≢ 4 → len.new ≡ len.old }
+    ensures codes { result ≤ 4 }
+    ensures not_one { result ≢ 1 }
+{
+    match entries.tree_bytes() {
+        Ok(bytes) => {
+            if copy_to(room, len, bytes.as_slice()) {
+                DONE
+            } else {
+                NO_ROOM
+            }
+        }
+        Err(WireError::Memory) => NO_MEMORY,
+        Err(_) => TOO_DEEP,
+    }
+}
+
+// Writes the wide tree bytes of a map to the room, where it is as long, and their number to `len`.
+pub(crate) fn write_wide_tree_bytes(
+    entries: &PatriciaMap<u64>,
+    room: &mut [u8],
+    len: &mut usize,
+) -> u32
+    ensures done { result ≡ 0 →
+        AreTreeBytes IsByteItem 4 (take len.new room.new) (map.entries entries.now) }
+    ensures within { result ≡ 0 → len.new ≤ length room.new }
+    ensures behind { result ≡ 0 → drop len.new room.new ≡ drop len.new room.old }
+    ensures too_deep { result ≡ 3 → TooDeep IsByteItem 4 (map.keys entries.now) }
+    ensures len { result ≡ 4 → IsLen IsByteItem 4 len.new (map.entries entries.now) }
+    ensures small { result ≡ 4 → length room.old < len.new }
+    ensures unwritten { result ≢ 0 → room.new ≡ room.old }
+    ensures len_unwritten { result ≢ 0 → result ≢ 4 → len.new ≡ len.old }
+    ensures codes { result ≤ 4 }
+    ensures not_one { result ≢ 1 }
+{
+    match entries.wide_tree_bytes() {
+        Ok(bytes) => {
+            if copy_to(room, len, bytes.as_slice()) {
+                DONE
+            } else {
+                NO_ROOM
+            }
+        }
+        Err(WireError::Memory) => NO_MEMORY,
+        Err(_) => TOO_DEEP,
+    }
+}
+
 /// Writes the tree bytes to the room and their number to `len`, and returns `DONE`. Where they are
 /// more than the room, it returns `NO_ROOM`, and `len` is their number. It returns `TOO_DEEP` where
 /// a record would lie deeper than level 65,535, and `NO_MEMORY` where memory ran out.
@@ -54,7 +112,7 @@ pub extern "C" fn patricia_tree_bytes(
     room: &mut [u8],
     len: &mut usize,
 ) -> u32
-    ensures kept { map_of at.new.pointer.stored ≡ map_of at.old.pointer.stored }
+    ensures same { at.new ≡ at.old }
     ensures done { result ≡ 0 → AreTreeBytes IsByteItem 2 (take len.new room.new)
         (map.entries (map_of at.old.pointer.stored)) }
     ensures within { result ≡ 0 → len.new ≤ length room.new }
@@ -69,21 +127,9 @@ pub extern "C" fn patricia_tree_bytes(
     ensures codes { result ≤ 4 }
     ensures not_one { result ≢ 1 }
 {
-    let Ok(stored) = at.take_or_make(alloc) else {
-        return NO_MEMORY;
-    };
-    let written = stored.map.tree_bytes();
-    at.put(stored);
-    match written {
-        Ok(bytes) => {
-            if copy_to(room, len, bytes.as_slice()) {
-                DONE
-            } else {
-                NO_ROOM
-            }
-        }
-        Err(WireError::Memory) => NO_MEMORY,
-        Err(_) => TOO_DEEP,
+    match at.as_mut() {
+        Some(stored) => write_tree_bytes(&stored.map, room, len),
+        None => write_tree_bytes(&PatriciaMap::new(alloc), room, len),
     }
 }
 
@@ -96,7 +142,7 @@ pub extern "C" fn patricia_wide_tree_bytes(
     room: &mut [u8],
     len: &mut usize,
 ) -> u32
-    ensures kept { map_of at.new.pointer.stored ≡ map_of at.old.pointer.stored }
+    ensures same { at.new ≡ at.old }
     ensures done { result ≡ 0 → AreTreeBytes IsByteItem 4 (take len.new room.new)
         (map.entries (map_of at.old.pointer.stored)) }
     ensures within { result ≡ 0 → len.new ≤ length room.new }
@@ -111,21 +157,9 @@ pub extern "C" fn patricia_wide_tree_bytes(
     ensures codes { result ≤ 4 }
     ensures not_one { result ≢ 1 }
 {
-    let Ok(stored) = at.take_or_make(alloc) else {
-        return NO_MEMORY;
-    };
-    let written = stored.map.wide_tree_bytes();
-    at.put(stored);
-    match written {
-        Ok(bytes) => {
-            if copy_to(room, len, bytes.as_slice()) {
-                DONE
-            } else {
-                NO_ROOM
-            }
-        }
-        Err(WireError::Memory) => NO_MEMORY,
-        Err(_) => TOO_DEEP,
+    match at.as_mut() {
+        Some(stored) => write_wide_tree_bytes(&stored.map, room, len),
+        None => write_wide_tree_bytes(&PatriciaMap::new(alloc), room, len),
     }
 }
 

@@ -14,16 +14,16 @@ use crate::room::copy_to;
 use std::alloc::AllocError;
 
 /// There is no such entry.
-const ABSENT: u32 = 0;
+pub(crate) const ABSENT: u32 = 0;
 /// The entry was written.
 const FOUND: u32 = 1;
 /// Out of memory.
-const NO_MEMORY: u32 = 2;
+pub(crate) const NO_MEMORY: u32 = 2;
 /// The room is too small: only the length of the key was written.
 const NO_ROOM: u32 = 4;
 
 // Writes an entry, where the room is as long as its key.
-fn write_entry(
+pub(crate) fn write_entry(
     entry: Option<(Vec<u8>, u64)>,
     room: &mut [u8],
     len: &mut usize,
@@ -54,7 +54,7 @@ fn write_entry(
 }
 
 // A copy of the first entry.
-fn first_of(stored: &StoredMap) -> Result<Option<(Vec<u8>, u64)>, AllocError>
+pub(crate) fn first_of(stored: &StoredMap) -> Result<Option<(Vec<u8>, u64)>, AllocError>
     ensures first { IfOk result (λ entry. option_map (λ e. (e.0.items, e.1)) entry
         ≡ slice_get (map.entries stored.now.map) 0) }
     ensures err { OnErr result (map.entries stored.now.map ≢ []) }
@@ -66,7 +66,7 @@ fn first_of(stored: &StoredMap) -> Result<Option<(Vec<u8>, u64)>, AllocError>
 }
 
 // A copy of the last entry.
-fn last_of(stored: &StoredMap) -> Result<Option<(Vec<u8>, u64)>, AllocError>
+pub(crate) fn last_of(stored: &StoredMap) -> Result<Option<(Vec<u8>, u64)>, AllocError>
     ensures last { IfOk result (λ entry. option_map (λ e. (e.0.items, e.1)) entry
         ≡ last_or None (map.entries stored.now.map)) }
     ensures err { OnErr result (map.entries stored.now.map ≢ []) }
@@ -90,7 +90,10 @@ pub(crate) fn next_of(stored: &StoredMap, key: &[u8]) -> Result<Option<(Vec<u8>,
 }
 
 // A copy of the last entry whose key comes before this one.
-fn previous_of(stored: &StoredMap, key: &[u8]) -> Result<Option<(Vec<u8>, u64)>, AllocError>
+pub(crate) fn previous_of(
+    stored: &StoredMap,
+    key: &[u8],
+) -> Result<Option<(Vec<u8>, u64)>, AllocError>
     ensures last { IfOk result (λ entry. option_map (λ e. (e.0.items, e.1)) entry
         ≡ last_or None (before key.now (map.entries stored.now.map))) }
     ensures err { OnErr result (before key.now (map.entries stored.now.map) ≢ []) }
@@ -112,7 +115,7 @@ pub extern "C" fn patricia_first(
     len: &mut usize,
     value: &mut u64,
 ) -> u32
-    ensures kept { map_of at.new.pointer.stored ≡ map_of at.old.pointer.stored }
+    ensures same { at.new ≡ at.old }
     ensures absent { result ≡ 0 →
         slice_get (map.entries (map_of at.old.pointer.stored)) 0 ≡ None }
     ensures found { result ≡ 1 → slice_get (map.entries (map_of at.old.pointer.stored)) 0
@@ -130,12 +133,10 @@ pub extern "C" fn patricia_first(
     ensures codes { result ≤ 4 }
     ensures not_three { result ≢ 3 }
 {
-    let Some(stored) = at.take() else {
+    let Some(stored) = at.as_mut() else {
         return ABSENT;
     };
-    let first = first_of(&stored);
-    at.put(stored);
-    match first {
+    match first_of(stored) {
         Ok(entry) => write_entry(entry, room, len, value),
         Err(_) => NO_MEMORY,
     }
@@ -149,7 +150,7 @@ pub extern "C" fn patricia_last(
     len: &mut usize,
     value: &mut u64,
 ) -> u32
-    ensures kept { map_of at.new.pointer.stored ≡ map_of at.old.pointer.stored }
+    ensures same { at.new ≡ at.old }
     ensures absent { result ≡ 0 →
         last_or None (map.entries (map_of at.old.pointer.stored)) ≡ None }
     ensures found { result ≡ 1 → last_or None (map.entries (map_of at.old.pointer.stored))
@@ -167,12 +168,10 @@ pub extern "C" fn patricia_last(
     ensures codes { result ≤ 4 }
     ensures not_three { result ≢ 3 }
 {
-    let Some(stored) = at.take() else {
+    let Some(stored) = at.as_mut() else {
         return ABSENT;
     };
-    let last = last_of(&stored);
-    at.put(stored);
-    match last {
+    match last_of(stored) {
         Ok(entry) => write_entry(entry, room, len, value),
         Err(_) => NO_MEMORY,
     }
@@ -188,7 +187,7 @@ pub extern "C" fn patricia_first_after(
     len: &mut usize,
     value: &mut u64,
 ) -> u32
-    ensures kept { map_of at.new.pointer.stored ≡ map_of at.old.pointer.stored }
+    ensures same { at.new ≡ at.old }
     ensures absent { result ≡ 0 →
         slice_get (after (Some key.now) (map.entries (map_of at.old.pointer.stored))) 0 ≡ None }
     ensures found { result ≡ 1 →
@@ -208,12 +207,10 @@ pub extern "C" fn patricia_first_after(
     ensures codes { result ≤ 4 }
     ensures not_three { result ≢ 3 }
 {
-    let Some(stored) = at.take() else {
+    let Some(stored) = at.as_mut() else {
         return ABSENT;
     };
-    let next = next_of(&stored, key);
-    at.put(stored);
-    match next {
+    match next_of(stored, key) {
         Ok(entry) => write_entry(entry, room, len, value),
         Err(_) => NO_MEMORY,
     }
@@ -229,7 +226,7 @@ pub extern "C" fn patricia_last_before(
     len: &mut usize,
     value: &mut u64,
 ) -> u32
-    ensures kept { map_of at.new.pointer.stored ≡ map_of at.old.pointer.stored }
+    ensures same { at.new ≡ at.old }
     ensures absent { result ≡ 0 →
         last_or None (before key.now (map.entries (map_of at.old.pointer.stored))) ≡ None }
     ensures found { result ≡ 1 →
@@ -250,12 +247,10 @@ pub extern "C" fn patricia_last_before(
     ensures codes { result ≤ 4 }
     ensures not_three { result ≢ 3 }
 {
-    let Some(stored) = at.take() else {
+    let Some(stored) = at.as_mut() else {
         return ABSENT;
     };
-    let previous = previous_of(&stored, key);
-    at.put(stored);
-    match previous {
+    match previous_of(stored, key) {
         Ok(entry) => write_entry(entry, room, len, value),
         Err(_) => NO_MEMORY,
     }

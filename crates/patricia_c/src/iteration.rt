@@ -1,6 +1,6 @@
 //! Iterators over entries. An iterator has entries of its own, so the map may change or be freed.
 ghost use Rattle.std.specs.Prelude.{◌≡◌, ◌≢◌, ◌≤◌, ◌<◌, [], drop, take, length, true, false, IfOk};
-ghost use Rattle.std.specs.Prelude.{OnErr};
+ghost use Rattle.std.specs.Prelude.{None, OnErr};
 ghost use Rattle.std.specs.FinMap as map;
 ghost use Rattle.std.specs.Option.{option_map};
 ghost use Rattle.patricia_tree.specs.Prefixes.{under};
@@ -44,6 +44,30 @@ fn entries_under(
     Ok(Some(Box::new(alloc, EntriesLeft { left })?))
 }
 
+// Writes an iterator over the entries whose key begins with the prefix to a place at its end.
+pub(crate) fn write_iterator(
+    alloc: Global,
+    stored: &StoredMap,
+    prefix: &[u8],
+    iterator: &mut IteratorPlace,
+) -> bool
+    requires { iterator.old.pointer.stored ≡ None }
+    ensures entries { result ≡ true → entries_of iterator.new.pointer.stored
+        ≡ under prefix.now (map.entries stored.now.map) }
+    ensures refused { result ≡ false → entries_of iterator.new.pointer.stored ≡ [] }
+    ensures refused_if_matched { result ≡ false →
+        under prefix.now (map.entries stored.now.map) ≢ [] }
+{
+    match entries_under(alloc, stored, prefix) {
+        Ok(Some(entries)) => {
+            iterator.put(entries);
+            true
+        }
+        Ok(None) => true,
+        Err(_) => false,
+    }
+}
+
 /// Drops the entries that the iterator has left, and writes one over the entries whose key begins
 /// with the prefix, in key order. Returns false where memory ran out, never where there is no such
 /// entry: the iterator is at its end then.
@@ -54,7 +78,7 @@ pub extern "C" fn patricia_iterate(
     prefix: &[u8],
     iterator: &mut IteratorPlace,
 ) -> bool
-    ensures kept { map_of at.new.pointer.stored ≡ map_of at.old.pointer.stored }
+    ensures same { at.new ≡ at.old }
     ensures entries { result ≡ true → entries_of iterator.new.pointer.stored
         ≡ under prefix.now (map.entries (map_of at.old.pointer.stored)) }
     ensures refused { result ≡ false → entries_of iterator.new.pointer.stored ≡ [] }
@@ -62,19 +86,10 @@ pub extern "C" fn patricia_iterate(
         under prefix.now (map.entries (map_of at.old.pointer.stored)) ≢ [] }
 {
     drop(iterator.take());
-    let Some(stored) = at.take() else {
+    let Some(stored) = at.as_mut() else {
         return true;
     };
-    let entries = entries_under(alloc, &stored, prefix);
-    at.put(stored);
-    match entries {
-        Ok(Some(entries)) => {
-            iterator.put(entries);
-            true
-        }
-        Ok(None) => true,
-        Err(_) => false,
-    }
+    write_iterator(alloc, stored, prefix, iterator)
 }
 
 /// Removes the next entry. Returns `ENTRY`, and writes its key to the room, the length of the key

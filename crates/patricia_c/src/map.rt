@@ -28,37 +28,42 @@ pub extern "C" fn patricia_free(at: &mut MapPlace)
 #[unsafe(no_mangle)]
 pub extern "C" fn patricia_len(at: &mut MapPlace) -> usize
     ensures len { result ≡ map.len (map_of at.old.pointer.stored) }
-    ensures kept { map_of at.new.pointer.stored ≡ map_of at.old.pointer.stored }
+    ensures same { at.new ≡ at.old }
 {
-    let Some(stored) = at.take() else {
+    let Some(stored) = at.as_mut() else {
         return 0;
     };
-    let len = stored.map.len();
-    at.put(stored);
-    len
+    stored.map.len()
+}
+
+// Returns whether the key is there, and then writes its value.
+pub(crate) fn get_to(stored: &StoredMap, key: &[u8], value: &mut u64) -> bool
+    ensures found { result ≡ true → map.get stored.now.map key.now ≡ Some value.new }
+    ensures missing { result ≡ false → map.get stored.now.map key.now ≡ None }
+    ensures unwritten { result ≡ false → value.new ≡ value.old }
+{
+    match stored.map.get(key) {
+        Some(there) => {
+            *value = *there;
+            true
+        }
+        None => false,
+    }
 }
 
 /// Returns whether the key is there, and then writes its value.
 #[unsafe(no_mangle)]
 pub extern "C" fn patricia_get(at: &mut MapPlace, key: &[u8], value: &mut u64) -> bool
-    ensures kept { map_of at.new.pointer.stored ≡ map_of at.old.pointer.stored }
+    ensures same { at.new ≡ at.old }
     ensures found { result ≡ true →
         map.get (map_of at.old.pointer.stored) key.now ≡ Some value.new }
     ensures missing { result ≡ false → map.get (map_of at.old.pointer.stored) key.now ≡ None }
     ensures unwritten { result ≡ false → value.new ≡ value.old }
 {
-    let Some(stored) = at.take() else {
+    let Some(stored) = at.as_mut() else {
         return false;
     };
-    let found = stored.map.get(key).copied();
-    at.put(stored);
-    match found {
-        Some(there) => {
-            *value = there;
-            true
-        }
-        None => false,
-    }
+    get_to(stored, key, value)
 }
 
 /// Inserts a value at a key. Returns `ABSENT` for a new key; `FOUND` where the key was there, and
@@ -109,12 +114,10 @@ pub extern "C" fn patricia_remove(at: &mut MapPlace, key: &[u8], old: &mut u64) 
     ensures found { result ≡ 1 → map.get (map_of at.old.pointer.stored) key.now ≡ Some old.new }
     ensures unwritten { result ≢ 1 → old.new ≡ old.old }
 {
-    let Some(mut stored) = at.take() else {
+    let Some(stored) = at.as_mut() else {
         return ABSENT;
     };
-    let removed = stored.map.remove(key);
-    at.put(stored);
-    match removed {
+    match stored.map.remove(key) {
         Ok(Some(before)) => {
             *old = before;
             FOUND
@@ -132,11 +135,30 @@ fn copied(alloc: Global, stored: &StoredMap) -> Result<Box<StoredMap>, AllocErro
     Ok(Box::new(alloc, StoredMap { map })?)
 }
 
+// Writes a copy of the map to a place that holds the empty map.
+pub(crate) fn copy_to_place(alloc: Global, stored: &StoredMap, copy: &mut MapPlace) -> bool
+    requires { copy.old.pointer.stored ≡ None }
+    ensures same { result ≡ true → map_of copy.new.pointer.stored ≡ stored.now.map }
+    ensures refused { result ≡ false → map_of copy.new.pointer.stored ≡ map.empty }
+    ensures refused_nonempty { result ≡ false → map.entries stored.now.map ≢ [] }
+{
+    if stored.map.is_empty() {
+        return true;
+    }
+    match copied(alloc, stored) {
+        Ok(same) => {
+            copy.put(same);
+            true
+        }
+        Err(_) => false,
+    }
+}
+
 /// Drops the entries of `copy` and writes a copy of the map there. Returns false where memory ran
 /// out, never for an empty map: `copy` holds the empty map then.
 #[unsafe(no_mangle)]
 pub extern "C" fn patricia_clone(alloc: Global, at: &mut MapPlace, copy: &mut MapPlace) -> bool
-    ensures kept { map_of at.new.pointer.stored ≡ map_of at.old.pointer.stored }
+    ensures same_place { at.new ≡ at.old }
     ensures same { result ≡ true →
         map_of copy.new.pointer.stored ≡ map_of at.old.pointer.stored }
     ensures refused { result ≡ false → map_of copy.new.pointer.stored ≡ map.empty }
@@ -144,20 +166,8 @@ pub extern "C" fn patricia_clone(alloc: Global, at: &mut MapPlace, copy: &mut Ma
         map.entries (map_of at.old.pointer.stored) ≢ [] }
 {
     drop(copy.take());
-    let Some(stored) = at.take() else {
-        return true;
-    };
-    if stored.map.is_empty() {
-        at.put(stored);
-        return true;
-    }
-    let made = copied(alloc, &stored);
-    at.put(stored);
-    match made {
-        Ok(same) => {
-            copy.put(same);
-            true
-        }
-        Err(_) => false,
+    match at.as_mut() {
+        Some(stored) => copy_to_place(alloc, stored, copy),
+        None => true,
     }
 }

@@ -10,6 +10,8 @@ use patricia_tree::PatriciaMap;
 use std::alloc::{AllocError, Global};
 use std::mem;
 
+mod lends;
+
 /// A place of C for a map. All zero, it holds the empty map.
 #[repr(C)]
 pub struct MapPlace {

@@ -9,6 +9,8 @@ use std::alloc::Global;
 use std::marker::{Model, Send};
 use std::ptr;
 
+mod lends;
+
 /// What is on the heap.
 #[derive(Drop)]
 pub struct StoredMap {

@@ -9,6 +9,25 @@ use crate::map_place::MapPlace;
 use crate::map_pointer::StoredMap;
 use std::alloc::Global;
 
+// Returns whether some key is a prefix of this one, and then writes the length and the value of the
+// longest.
+pub(crate) fn longest_to(stored: &StoredMap, key: &[u8], len: &mut usize, value: &mut u64) -> bool
+    ensures found { result ≡ true →
+        is_entry (longest key.now (map.entries stored.now.map)) len.new value.new }
+    ensures missing { result ≡ false → longest key.now (map.entries stored.now.map) ≡ None }
+    ensures len_unwritten { result ≡ false → len.new ≡ len.old }
+    ensures value_unwritten { result ≡ false → value.new ≡ value.old }
+{
+    match stored.map.get_longest_common_prefix(key) {
+        Some((front, there)) => {
+            *len = front.len();
+            *value = *there;
+            true
+        }
+        None => false,
+    }
+}
+
 /// Returns whether some key is a prefix of this one, and then writes the length and the value of
 /// the longest.
 #[unsafe(no_mangle)]
@@ -18,7 +37,7 @@ pub extern "C" fn patricia_longest_prefix(
     len: &mut usize,
     value: &mut u64,
 ) -> bool
-    ensures kept { map_of at.new.pointer.stored ≡ map_of at.old.pointer.stored }
+    ensures same { at.new ≡ at.old }
     ensures found { result ≡ true →
         is_entry (longest key.now (map.entries (map_of at.old.pointer.stored))) len.new value.new }
     ensures missing { result ≡ false →
@@ -26,37 +45,23 @@ pub extern "C" fn patricia_longest_prefix(
     ensures len_unwritten { result ≡ false → len.new ≡ len.old }
     ensures value_unwritten { result ≡ false → value.new ≡ value.old }
 {
-    let Some(stored) = at.take() else {
+    let Some(stored) = at.as_mut() else {
         return false;
     };
-    let found = match stored.map.get_longest_common_prefix(key) {
-        Some((front, there)) => Some((front.len(), *there)),
-        None => None,
-    };
-    at.put(stored);
-    match found {
-        Some((n, there)) => {
-            *len = n;
-            *value = there;
-            true
-        }
-        None => false,
-    }
+    longest_to(stored, key, len, value)
 }
 
 /// Returns the greatest number of bytes that the key has in common with the front of any key, and 0
 /// for the empty map.
 #[unsafe(no_mangle)]
 pub extern "C" fn patricia_longest_common_prefix_len(at: &mut MapPlace, key: &[u8]) -> usize
-    ensures kept { map_of at.new.pointer.stored ≡ map_of at.old.pointer.stored }
+    ensures same { at.new ≡ at.old }
     ensures reach { IsReach IsByteItem (map.keys (map_of at.old.pointer.stored)) key.now result }
 {
-    let Some(stored) = at.take() else {
+    let Some(stored) = at.as_mut() else {
         return 0;
     };
-    let reach = stored.map.longest_common_prefix_len(key);
-    at.put(stored);
-    reach
+    stored.map.longest_common_prefix_len(key)
 }
 
 // Whether no key begins with the prefix.
@@ -120,11 +125,31 @@ pub extern "C" fn patricia_split_by_prefix(
     }
 }
 
+// Writes the number of entries whose key begins with the prefix. Returns false where memory ran
+// out.
+pub(crate) fn count_to(stored: &StoredMap, prefix: &[u8], count: &mut usize) -> bool
+    ensures count { result ≡ true →
+        count.new ≡ length (under prefix.now (map.entries stored.now.map)) }
+    ensures refused { result ≡ false → under prefix.now (map.entries stored.now.map) ≢ [] }
+    ensures refused_only_long { result ≡ false → Any (λ e. length prefix.now + 64 < length e.0)
+        (under prefix.now (map.entries stored.now.map)) }
+    ensures unwritten { result ≡ false → count.new ≡ count.old }
+{
+    let counted = stored.map.count_prefix(prefix);
+    match counted {
+        Ok(n) => {
+            *count = n;
+            true
+        }
+        Err(_) => false,
+    }
+}
+
 /// Returns true and writes the number of entries whose key begins with the prefix, or false where
 /// memory ran out.
 #[unsafe(no_mangle)]
 pub extern "C" fn patricia_count_prefix(at: &mut MapPlace, prefix: &[u8], count: &mut usize) -> bool
-    ensures kept { map_of at.new.pointer.stored ≡ map_of at.old.pointer.stored }
+    ensures same { at.new ≡ at.old }
     ensures count { result ≡ true → count.new
         ≡ length (under prefix.now (map.entries (map_of at.old.pointer.stored))) }
     ensures refused { result ≡ false →
@@ -133,19 +158,11 @@ pub extern "C" fn patricia_count_prefix(at: &mut MapPlace, prefix: &[u8], count:
         (under prefix.now (map.entries (map_of at.old.pointer.stored))) }
     ensures unwritten { result ≡ false → count.new ≡ count.old }
 {
-    let Some(stored) = at.take() else {
+    let Some(stored) = at.as_mut() else {
         *count = 0;
         return true;
     };
-    let counted = stored.map.count_prefix(prefix);
-    at.put(stored);
-    match counted {
-        Ok(n) => {
-            *count = n;
-            true
-        }
-        Err(_) => false,
-    }
+    count_to(stored, prefix, count)
 }
 
 /// Removes the entries whose key begins with the prefix. Returns true and writes how many they
@@ -166,13 +183,11 @@ pub extern "C" fn patricia_remove_prefix(
     ensures refused_nonempty { result ≡ false → prefix.now ≢ [] }
     ensures unwritten { result ≡ false → count.new ≡ count.old }
 {
-    let Some(mut stored) = at.take() else {
+    let Some(stored) = at.as_mut() else {
         *count = 0;
         return true;
     };
-    let removed = stored.map.remove_prefix(prefix);
-    at.put(stored);
-    match removed {
+    match stored.map.remove_prefix(prefix) {
         Ok(n) => {
             *count = n;
             true

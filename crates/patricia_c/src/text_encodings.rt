@@ -53,38 +53,27 @@ fn to_bytes(alloc: Global, from: &StringPatriciaMap<u64>) -> Result<PatriciaMap<
     Ok(bytes)
 }
 
-/// Writes the tree bytes of the map as one of texts, as `patricia_tree_bytes` does those of byte
-/// strings. Returns `NOT_TEXT` where some key is no text.
-#[unsafe(no_mangle)]
-pub extern "C" fn patricia_text_tree_bytes(
+// Writes the tree bytes of the map as one of texts.
+pub(crate) fn write_text_tree_bytes(
     alloc: Global,
-    at: &mut MapPlace,
+    entries: &PatriciaMap<u64>,
     room: &mut [u8],
     len: &mut usize,
 ) -> u32
-    ensures kept { map_of at.new.pointer.stored ≡ map_of at.old.pointer.stored }
-    ensures done { result ≡ 0 → AreTreeBytes IsTextItem 2 (take len.new room.new)
-        (map.entries (map_of at.old.pointer.stored)) }
+    ensures done { result ≡ 0 →
+        AreTreeBytes IsTextItem 2 (take len.new room.new) (map.entries entries.now) }
     ensures within { result ≡ 0 → len.new ≤ length room.new }
     ensures behind { result ≡ 0 → drop len.new room.new ≡ drop len.new room.old }
-    ensures too_deep { result ≡ 3 →
-        TooDeep IsTextItem 2 (map.keys (map_of at.old.pointer.stored)) }
-    ensures len { result ≡ 4 →
-        IsLen IsTextItem 2 len.new (map.entries (map_of at.old.pointer.stored)) }
+    ensures too_deep { result ≡ 3 → TooDeep IsTextItem 2 (map.keys entries.now) }
+    ensures len { result ≡ 4 → IsLen IsTextItem 2 len.new (map.entries entries.now) }
     ensures small { result ≡ 4 → length room.old < len.new }
-    ensures not_text { result ≡ 5 →
-        HasOther IsTextItem (map.keys (map_of at.old.pointer.stored)) }
+    ensures not_text { result ≡ 5 → HasOther IsTextItem (map.keys entries.now) }
     ensures unwritten { result ≢ 0 → room.new ≡ room.old }
     ensures len_unwritten { result ≢ 0 → result ≢ 4 → len.new ≡ len.old }
     ensures codes { result ≤ 5 }
     ensures not_one { result ≢ 1 }
 {
-    let Ok(stored) = at.take_or_make(alloc) else {
-        return NO_MEMORY;
-    };
-    let texts = to_texts(alloc, &stored.map);
-    at.put(stored);
-    let texts = match texts {
+    let texts = match to_texts(alloc, entries) {
         Ok(Some(texts)) => texts,
         Ok(None) => return NOT_TEXT,
         Err(_) => return NO_MEMORY,
@@ -102,6 +91,76 @@ pub extern "C" fn patricia_text_tree_bytes(
     }
 }
 
+// Writes the wide tree bytes of the map as one of texts.
+pub(crate) fn write_wide_text_tree_bytes(
+    alloc: Global,
+    entries: &PatriciaMap<u64>,
+    room: &mut [u8],
+    len: &mut usize,
+) -> u32
+    ensures done { result ≡ 0 →
+        AreTreeBytes IsTextItem 4 (take len.new room.new) (map.entries entries.now) }
+    ensures within { result ≡ 0 → len.new ≤ length room.new }
+    ensures behind { result ≡ 0 → drop len.new room.new ≡ drop len.new room.old }
+    ensures too_deep { result ≡ 3 → TooDeep IsTextItem 4 (map.keys entries.now) }
+    ensures len { result ≡ 4 → IsLen IsTextItem 4 len.new (map.entries entries.now) }
+    ensures small { result ≡ 4 → length room.old < len.new }
+    ensures not_text { result ≡ 5 → HasOther IsTextItem (map.keys entries.now) }
+    ensures unwritten { result ≢ 0 → room.new ≡ room.old }
+    ensures len_unwritten { result ≢ 0 → result ≢ 4 → len.new ≡ len.old }
+    ensures codes { result ≤ 5 }
+    ensures not_one { result ≢ 1 }
+{
+    let texts = match to_texts(alloc, entries) {
+        Ok(Some(texts)) => texts,
+        Ok(None) => return NOT_TEXT,
+        Err(_) => return NO_MEMORY,
+    };
+    match texts.wide_tree_bytes() {
+        Ok(bytes) => {
+            if copy_to(room, len, bytes.as_slice()) {
+                DONE
+            } else {
+                NO_ROOM
+            }
+        }
+        Err(WireError::Memory) => NO_MEMORY,
+        Err(_) => TOO_DEEP,
+    }
+}
+
+/// Writes the tree bytes of the map as one of texts, as `patricia_tree_bytes` does those of byte
+/// strings. Returns `NOT_TEXT` where some key is no text.
+#[unsafe(no_mangle)]
+pub extern "C" fn patricia_text_tree_bytes(
+    alloc: Global,
+    at: &mut MapPlace,
+    room: &mut [u8],
+    len: &mut usize,
+) -> u32
+    ensures same { at.new ≡ at.old }
+    ensures done { result ≡ 0 → AreTreeBytes IsTextItem 2 (take len.new room.new)
+        (map.entries (map_of at.old.pointer.stored)) }
+    ensures within { result ≡ 0 → len.new ≤ length room.new }
+    ensures behind { result ≡ 0 → drop len.new room.new ≡ drop len.new room.old }
+    ensures too_deep { result ≡ 3 →
+        TooDeep IsTextItem 2 (map.keys (map_of at.old.pointer.stored)) }
+    ensures len { result ≡ 4 →
+        IsLen IsTextItem 2 len.new (map.entries (map_of at.old.pointer.stored)) }
+    ensures small { result ≡ 4 → length room.old < len.new }
+    ensures not_text { result ≡ 5 →
+        HasOther IsTextItem (map.keys (map_of at.old.pointer.stored)) }
+    ensures unwritten { result ≢ 0 → room.new ≡ room.old }
+    ensures len_unwritten { result ≢ 0 → result ≢ 4 → len.new ≡ len.old }
+    ensures codes { result ≤ 5 }
+    ensures not_one { result ≢ 1 }
+{
+    match at.as_mut() {
+        Some(stored) => write_text_tree_bytes(alloc, &stored.map, room, len),
+        None => write_text_tree_bytes(alloc, &PatriciaMap::new(alloc), room, len),
+    }
+}
+
 /// Writes the wide tree bytes of the map as one of texts, as `patricia_text_tree_bytes` does the
 /// tree bytes.
 #[unsafe(no_mangle)]
@@ -111,7 +170,7 @@ pub extern "C" fn patricia_text_wide_tree_bytes(
     room: &mut [u8],
     len: &mut usize,
 ) -> u32
-    ensures kept { map_of at.new.pointer.stored ≡ map_of at.old.pointer.stored }
+    ensures same { at.new ≡ at.old }
     ensures done { result ≡ 0 → AreTreeBytes IsTextItem 4 (take len.new room.new)
         (map.entries (map_of at.old.pointer.stored)) }
     ensures within { result ≡ 0 → len.new ≤ length room.new }
@@ -128,26 +187,9 @@ pub extern "C" fn patricia_text_wide_tree_bytes(
     ensures codes { result ≤ 5 }
     ensures not_one { result ≢ 1 }
 {
-    let Ok(stored) = at.take_or_make(alloc) else {
-        return NO_MEMORY;
-    };
-    let texts = to_texts(alloc, &stored.map);
-    at.put(stored);
-    let texts = match texts {
-        Ok(Some(texts)) => texts,
-        Ok(None) => return NOT_TEXT,
-        Err(_) => return NO_MEMORY,
-    };
-    match texts.wide_tree_bytes() {
-        Ok(bytes) => {
-            if copy_to(room, len, bytes.as_slice()) {
-                DONE
-            } else {
-                NO_ROOM
-            }
-        }
-        Err(WireError::Memory) => NO_MEMORY,
-        Err(_) => TOO_DEEP,
+    match at.as_mut() {
+        Some(stored) => write_wide_text_tree_bytes(alloc, &stored.map, room, len),
+        None => write_wide_text_tree_bytes(alloc, &PatriciaMap::new(alloc), room, len),
     }
 }
 

@@ -10,7 +10,7 @@ use crate::encoder::EncodeError;
 use crate::record::{LONGEST, Record};
 use crate::width::Width;
 use patricia_keys::Bytes;
-use patricia_nodes::arena::{Node, NodeArena};
+use patricia_nodes::arena::NodeArena;
 use patricia_nodes::link::{Link, NodeId};
 use std::alloc::Global;
 
@@ -41,13 +41,13 @@ fn room<K: Bytes>(label: &[u8]) -> usize
     }
 }
 
-// The label of a node behind its first bytes.
-fn label_behind<V>(node: &Node<V>, skipped: usize) -> &[u8]
-    requires { skipped ≤ length node.now.label }
-    ensures rest { result.now ≡ drop skipped node.now.label }
-    ensures counted { length node.now.label < 2 ^ 64 }
+// A label behind its first bytes.
+fn label_behind(label: &[u8], skipped: usize) -> &[u8]
+    requires { skipped ≤ length label.now }
+    ensures rest { result.now ≡ drop skipped label.now }
+    ensures counted { length label.now < 2 ^ 64 }
 {
-    &node.label.as_slice()[skipped..]
+    &label[skipped..]
 }
 
 impl<'a, V> Records<'a, V> {
@@ -72,13 +72,13 @@ impl<'a, V> Records<'a, V> {
         ensures ok { IfOk result (λ r. TakesRecord K.item W.width self.old r self.new) }
         ensures too_deep { result ≡ Err EncodeError.TooDeep → IsDeep K.item W.width self.old }
     {
-        let node = &self.arena.nodes[id.index()];
+        let nodes = &self.arena.nodes;
         let Some(level) = W::level_at(self.level) else {
             return Err(EncodeError::TooDeep);
         };
-        let left = label_behind(node, self.skipped);
+        let left = label_behind(nodes.label(id), self.skipped);
         let beside = if self.skipped == 0 {
-            node.sibling
+            nodes.sibling(id)
         } else {
             Link::none()
         };
@@ -88,9 +88,9 @@ impl<'a, V> Records<'a, V> {
         self.level += 1;
         let n = room::<K>(left);
         let (value, child) = if n == left.len() {
-            self.next = node.child;
+            self.next = nodes.child(id);
             self.skipped = 0;
-            (node.value.is_some(), node.child.get().is_some())
+            (nodes.value(id).is_some(), self.next.get().is_some())
         } else {
             self.skipped += n;
             (false, true)

@@ -252,7 +252,7 @@ impl<K: Bytes, V: Drop> Tree<K, V> {
         ensures same { IfOk result (λ t. t ≡ self.now) }
         ensures err_only_nonempty { OnErr result (map.len self.now ≢ 0) }
     {
-        let value = copy_value(&self.parts.value)?;
+        let value = copy_value(self.parts.value.as_ref())?;
         Ok(Tree {
             parts: TreeParts {
                 alloc: self.parts.alloc,

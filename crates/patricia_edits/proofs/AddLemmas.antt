@@ -236,13 +236,13 @@ module _ {V : Type 0} (s : NodeArena V) (id : ℕ) (r : Node V)
       s.root s.free (fill fs q) spare)
   spot_below ul uv h = (InChild id ul uv h.4 ∷ h.0, h.3, refl, holds_write s id r reads h.0 h.1 ul h.2 uv h.3 h.4 h.5)
 
-  -- the child of a node whose label and value are changed
-  pub written_child : (id < vec_len s.nodes) → (ul : List ℕ) (uv : Option V) (m : Node V)
-      → m ≡ get_or (set s.nodes.items id (linked ul uv r.child r.sibling)) id m
-      → m.child ≡ r.child
-  written_child within ul uv m at =
-      ap (λ (x : Node V). x.child)
-      (at ∙ get_or-set_same s.nodes.items id (linked ul uv r.child r.sibling) m (rw (← s.nodes.ok.0) within))
+  -- a node whose label and value are changed is read as it was changed
+  pub written_node : (id < vec_len s.nodes) → (ul : List ℕ) (uv : Option V)
+      → linked ul uv r.child r.sibling
+      ≡ get_or (set s.nodes.items id (linked ul uv r.child r.sibling)) id (linked ul uv r.child r.sibling)
+  written_node within ul uv =
+      let m = linked ul uv r.child r.sibling in
+      sym (get_or-set_same s.nodes.items id m m (rw (← s.nodes.ok.0) within))
 
 -- a number of the plan is in the vector
 pub cell_within : {V : Type 0} (s : NodeArena V) (id : ℕ) → HasCell s id → id < length s.nodes.items

@@ -37,18 +37,17 @@ module _ {V : Type 0} where
   none_laid s to0 to e none comes = rw (none, no_nodes _ e) at comes
 
   -- the top siblings are there
-  pub top_there : (s : NodeArena V) → IsWellFormed s → (from : List (Node V)) → from ≡ s.nodes.items
-      → AreTopSiblings from s.root (plan_at s.nodes.items s.root)
-  top_there s whole from same = rw same (whole_readable s whole).top
+  pub top_there : (s : NodeArena V) → IsWellFormed s
+      → AreTopSiblings s.nodes.items s.root (plan_at s.nodes.items s.root)
+  top_there s whole = (whole_readable s whole).top
 
   -- once it is copied, what is below it still stands there
-  pub top_copied : (s : NodeArena V) → IsWellFormed s → (from : List (Node V))
-      → from ≡ s.nodes.items → (to0 to : List (Node V)) → to0 ≡ []
+  pub top_copied : (s : NodeArena V) → IsWellFormed s → (to0 to : List (Node V)) → to0 ≡ []
       → to ≡ to0 ++ laid (length to0) (plan_at s.nodes.items s.root)
-      → IsLaid from to (plan_at s.nodes.items s.root)
-  top_copied s whole from same to0 to none comes =
+      → IsLaid s.nodes.items to (plan_at s.nodes.items s.root)
+  top_copied s whole to0 to none comes =
       let r = whole_readable s whole in
-      rw same (laid_apart s.nodes.items s.nodes.items (plan_at s.nodes.items s.root) to0 to r.stands r.once (λ at k. refl) none comes)
+      laid_apart s.nodes.items s.nodes.items (plan_at s.nodes.items s.root) to0 to r.stands r.once (λ at k. refl) none comes
 
   -- where no node is free and there are no siblings, there is no node
   pub none_there : (s : NodeArena V) → IsWellFormed s → s.free ≡ None → siblings_of s ≡ end → s.nodes.items ≡ []

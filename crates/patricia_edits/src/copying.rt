@@ -4,8 +4,10 @@
 //! siblings side by side, and what is below a node behind its siblings. What waits stands in the
 //! new vector, which is reserved once.
 ghost use Rattle.std.specs.Prelude.{◌≡◌, ◌≢◌, ◌+◌, ◌≤◌, ◌++◌, [], None, IfSome, IfOk, OnOk, OnErr};
-ghost use Rattle.std.specs.Prelude.{length, slice_get, vec_len, vec_capacity, ℕ, Some};
+ghost use Rattle.std.specs.Prelude.{◌<◌, length, slice_get, vec_len, vec_capacity, ℕ, Some};
+ghost use Rattle.std.specs.Option.{option_copied};
 ghost use Rattle.patricia_model.specs.Siblings.{end};
+ghost use Rattle.patricia_nodes.specs.Internal.NodeVecs.{ReadsNode};
 ghost use Rattle.patricia_nodes.specs.Internal.Plans.{Plan, linked, head, siblings_in, siblings_of};
 ghost use Rattle.patricia_nodes.specs.Internal.Plans.{size};
 ghost use Rattle.patricia_nodes.specs.Internal.Plans.{plan_at, IsSound, IsWellFormed};
@@ -30,16 +32,16 @@ fn used<V: Drop>(arena: &NodeArena<V>) -> usize
     let mut at = arena.free;
     while let Some(id) = at.get() {
         used -= 1;
-        at = arena.nodes[id.index()].sibling;
+        at = arena.nodes.sibling(id);
     }
     used
 }
 
 /// A copy of a value that may be there. Where there is none, nothing is asked for.
-pub fn copy_value<V: Clone>(value: &Option<V>) -> Result<Option<V>, AllocError>
-    requires { IfSome value.now (CloneIsSame V.is_clone) }
-    ensures same { IfOk result (λ v. v ≡ value.now) }
-    ensures nonempty { OnErr result (value.now ≢ None) }
+pub fn copy_value<V: Clone>(value: Option<&V>) -> Result<Option<V>, AllocError>
+    requires { IfSome (option_copied value) (CloneIsSame V.is_clone) }
+    ensures same { IfOk result (λ v. v ≡ option_copied value.entry) }
+    ensures nonempty { OnErr result (option_copied value.entry ≢ None) }
 {
     match value {
         Some(value) => Ok(Some(value.clone()?)),
@@ -48,16 +50,23 @@ pub fn copy_value<V: Clone>(value: &Option<V>) -> Result<Option<V>, AllocError>
 }
 
 // A copy of a node, with its child and another sibling.
-fn copy_node<V: Clone>(alloc: Global, node: &Node<V>, sibling: Link) -> Result<Node<V>, AllocError>
-    requires { IfSome node.now.value (CloneIsSame V.is_clone) }
-    ensures { IfOk result (λ n. n ≡ linked node.now.label node.now.value node.now.child sibling) }
+fn copy_node<V: Clone>(
+    alloc: Global,
+    from: &NodeVec<V>,
+    id: NodeId,
+    sibling: Link,
+) -> Result<Node<V>, AllocError>
+    requires within { id < vec_len from.now }
+    requires cloned { ReadsNode from.now id (λ n. IfSome n.value (CloneIsSame V.is_clone)) }
+    ensures { IfOk result (λ c. ReadsNode from.now id
+        (λ n. c ≡ linked n.label n.value n.child sibling)) }
 {
-    let label = Label::from_slice(alloc, node.label.as_slice())?;
+    let label = Label::from_slice(alloc, from.label(id))?;
     Ok(Node {
-        child: node.child,
+        child: from.child(id),
         sibling,
         label,
-        value: copy_value(&node.value)?,
+        value: copy_value(from.value(id))?,
     })
 }
 
@@ -65,16 +74,16 @@ fn copy_node<V: Clone>(alloc: Global, node: &Node<V>, sibling: Link) -> Result<N
 // and returns the new number of the first of them.
 fn copy_siblings<V: Clone>(
     alloc: Global,
-    from: &[Node<V>],
+    from: &NodeVec<V>,
     first: Link,
     to: &mut NodeVec<V>,
 ) -> Result<Link, AllocError>
-    requires siblings { (w : Plan V) × AreTopSiblings from.now first w
+    requires siblings { (w : Plan V) × AreTopSiblings from.now.items first w
         × SiblingsKept V.is_clone (siblings_in w)
         × (vec_len to.old + length (tops w) ≤ vec_capacity to.old) }
-    ensures laid { OnOk result ((w : Plan V) → AreTopSiblings from.now first w
+    ensures laid { OnOk result ((w : Plan V) → AreTopSiblings from.now.items first w
         → to.new.items ≡ to.old.items ++ laid (length to.old.items) w) }
-    ensures first { IfOk result (λ at. (w : Plan V) → AreTopSiblings from.now first w
+    ensures first { IfOk result (λ at. (w : Plan V) → AreTopSiblings from.now.items first w
         → at ≡ head (numbered_siblings (length to.old.items) w)) }
     ensures capacity { OnOk result (vec_capacity to.new ≡ vec_capacity to.old) }
     ensures nonempty { OnErr result (first ≢ None) }
@@ -82,13 +91,12 @@ fn copy_siblings<V: Clone>(
     let start = to.len();
     let mut at = first;
     while let Some(id) = at.get() {
-        let node = &from[id.index()];
-        at = node.sibling;
+        at = from.sibling(id);
         let sibling = match at.get() {
             None => Link::none(),
             Some(_) => Link::some(NodeId::new(to.len() + 1)),
         };
-        to.push_reserved(copy_node(alloc, node, sibling)?);
+        to.push_reserved(copy_node(alloc, from, id, sibling)?);
     }
     Ok(match first.get() {
         None => Link::none(),
@@ -101,13 +109,13 @@ fn copy_siblings<V: Clone>(
 // than `depth` levels below them is copied level by level.
 fn copy_siblings_below<V: Clone>(
     alloc: Global,
-    from: &[Node<V>],
+    from: &NodeVec<V>,
     to: &mut NodeVec<V>,
     start: usize,
     depth: u32,
 ) -> Result<(), AllocError>
-    requires { AwaitsFrom V.is_clone from.now start to.old.items (vec_capacity to.old) }
-    ensures copied { OnOk result (CopiesFrom from.now start to.old.items to.new.items) }
+    requires { AwaitsFrom V.is_clone from.now.items start to.old.items (vec_capacity to.old) }
+    ensures copied { OnOk result (CopiesFrom from.now.items start to.old.items to.new.items) }
     ensures longer { OnOk result (vec_len to.old ≤ vec_len to.new) }
     ensures capacity { OnOk result (vec_capacity to.new ≡ vec_capacity to.old) }
     ensures nonempty { OnErr result (to.old.items ≢ []) }
@@ -116,9 +124,10 @@ fn copy_siblings_below<V: Clone>(
     let mut i = start;
     while i < end {
         let below = to.len();
-        let child = to[i].child;
+        let id = NodeId::new(i);
+        let child = to.child(id);
         let first = copy_siblings(alloc, from, child, to)?;
-        to.set_child(NodeId::new(i), first);
+        to.set_child(id, first);
         i += 1;
         if depth == 0 {
             end = to.len();
@@ -133,13 +142,13 @@ fn copy_siblings_below<V: Clone>(
 // numbers of their children.
 fn copy_below<V: Clone>(
     alloc: Global,
-    from: &[Node<V>],
+    from: &NodeVec<V>,
     to: &mut NodeVec<V>,
 ) -> Result<(), AllocError>
-    requires { (w : Plan V) × IsLaid from.now to.old.items w
+    requires { (w : Plan V) × IsLaid from.now.items to.old.items w
         × SiblingsKept V.is_clone (siblings_in w)
         × (size w ≤ vec_capacity to.old) }
-    ensures laid { OnOk result ((w : Plan V) → IsLaid from.now to.old.items w
+    ensures laid { OnOk result ((w : Plan V) → IsLaid from.now.items to.old.items w
         → (q : Plan V) × IsSound to.new.items (head (numbered_siblings 0 w)) None q []
         × (siblings_in q ≡ siblings_in w)) }
     ensures nonempty { OnErr result (to.old.items ≢ []) }
@@ -148,15 +157,16 @@ fn copy_below<V: Clone>(
 }
 
 // Copies nodes, each to the number that it has.
-fn copy_nodes<V: Clone>(alloc: Global, from: &[Node<V>]) -> Result<NodeVec<V>, AllocError>
-    requires { (i : ℕ) (n : Node V) → slice_get from.now i ≡ Some n
+fn copy_nodes<V: Clone>(alloc: Global, from: &NodeVec<V>) -> Result<NodeVec<V>, AllocError>
+    requires { (i : ℕ) (n : Node V) → slice_get from.now.items i ≡ Some n
         → IfSome n.value (CloneIsSame V.is_clone) }
-    ensures same { IfOk result (λ to. to.items ≡ from.now) }
-    ensures nonempty { OnErr result (from.now ≢ []) }
+    ensures same { IfOk result (λ to. to.items ≡ from.now.items) }
+    ensures nonempty { OnErr result (from.now.items ≢ []) }
 {
     let mut to = NodeVec::with_capacity(alloc, from.len())?;
-    for node in from {
-        to.push_reserved(copy_node(alloc, node, node.sibling)?);
+    for i in 0..from.len() {
+        let id = NodeId::new(i);
+        to.push_reserved(copy_node(alloc, from, id, from.sibling(id))?);
     }
     Ok(to)
 }
@@ -172,7 +182,7 @@ fn copy_in_place<V: Clone>(arena: &NodeArena<V>, alloc: Global) -> Result<NodeAr
     ensures nonempty { OnErr result (siblings_of arena.now ≢ end) }
 {
     Ok(NodeArena {
-        nodes: copy_nodes(alloc, arena.nodes.as_slice())?,
+        nodes: copy_nodes(alloc, &arena.nodes)?,
         root: arena.root,
         free: Link::none(),
         edits: arena.edits,
@@ -189,8 +199,8 @@ fn copy_laid<V: Clone>(arena: &NodeArena<V>, alloc: Global) -> Result<NodeArena<
     ensures nonempty { OnErr result (siblings_of arena.now ≢ end) }
 {
     let mut nodes = NodeVec::with_capacity(alloc, used(arena))?;
-    let root = copy_siblings(alloc, arena.nodes.as_slice(), arena.root, &mut nodes)?;
-    copy_below(alloc, arena.nodes.as_slice(), &mut nodes)?;
+    let root = copy_siblings(alloc, &arena.nodes, arena.root, &mut nodes)?;
+    copy_below(alloc, &arena.nodes, &mut nodes)?;
     Ok(NodeArena {
         nodes,
         root,

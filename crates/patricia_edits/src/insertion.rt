@@ -85,7 +85,7 @@ fn split<V: Drop>(
     let lower = Node {
         label: lower,
         value,
-        child: arena.nodes[id.index()].child,
+        child: arena.nodes.child(id),
         sibling: Link::none(),
     };
     add(arena, LinkRef::Child(id), lower)
@@ -170,7 +170,7 @@ fn insert_within<V: Drop, Q: BorrowedBytes>(
     // for the proof alone: the rest of the key is a valid key
     let _valid = place.rest.as_bytes();
     let tail = place.rest.strip_n_prefix(n);
-    let cut = behind(arena.nodes[id.index()].label.as_slice(), n);
+    let cut = behind(arena.nodes.label(id), n);
     let Ok(lower) = Label::from_slice(alloc, cut) else {
         return Err(Refused { value });
     };

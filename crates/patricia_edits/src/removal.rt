@@ -57,14 +57,13 @@ fn remove_at<V: Drop, Q: BorrowedBytes>(
     ensures unchanged { OnErr result (arena.new ≡ arena.old) }
     ensures joins { OnErr result (JoinsAt Q.Owned.item Q.key arena.old place.now) }
 {
-    let node = &arena.nodes[id.index()];
-    if node.value.is_none() {
+    if arena.nodes.value(id).is_none() {
         return Ok(None);
     }
-    let Some(child) = node.child.get() else {
+    let Some(child) = arena.nodes.child(id).get() else {
         return remove_leaf(arena, alloc, place, id);
     };
-    if arena.nodes[child.index()].sibling.get().is_some() {
+    if arena.nodes.sibling(child).get().is_some() {
         return Ok(arena.nodes.replace_value(id, None));
     }
     let label = arena.concat_labels(alloc, id, child)?;

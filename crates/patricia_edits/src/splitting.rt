@@ -1,6 +1,7 @@
 //! Taking out the nodes under a prefix.
 ghost use Rattle.std.specs.Prelude.{◌≡◌, ◌≢◌, ◌<◌, ◌≤◌, [], Some, None, IfOk, OnOk, OnErr, length};
 ghost use Rattle.std.specs.Prelude.{slice_get, vec_len, vec_capacity};
+ghost use Rattle.std.specs.Option.{option_copied};
 ghost use Rattle.patricia_model.specs.Prefixes.{under};
 ghost use Rattle.patricia_model.specs.Siblings.{own, IsCanonical};
 ghost use Rattle.patricia_nodes.specs.Internal.Plans.{Plan, IsPlan, IsWellFormed, siblings_of};
@@ -27,8 +28,8 @@ struct Size {
 }
 
 // One value, or none.
-fn how_many<V>(value: &Option<V>) -> usize
-    ensures { result ≡ length (own value.now) }
+fn how_many<V>(value: Option<&V>) -> usize
+    ensures { result ≡ length (own (option_copied value.entry)) }
 {
     match value {
         Some(_) => 1,
@@ -51,11 +52,10 @@ fn measure<V: Drop>(arena: &NodeArena<V>, alloc: Global, first: Link) -> Result<
     loop {
         match at.get() {
             Some(id) => {
-                let node = &arena.nodes[id.index()];
                 size.nodes += 1;
-                size.values += how_many(&node.value);
-                waiting.push(node.sibling)?;
-                at = node.child;
+                size.values += how_many(arena.nodes.value(id));
+                waiting.push(arena.nodes.sibling(id))?;
+                at = arena.nodes.child(id);
             }
             None => match waiting.pop() {
                 Some(next) => at = next,
@@ -75,10 +75,9 @@ fn room_for<V: Drop>(
     ensures empty { IfOk result (λ r. r.0.items ≡ []) }
     ensures counted { IfOk result (λ r. CountsTree arena.now id (vec_capacity r.0) r.1) }
 {
-    let node = &arena.nodes[id.index()];
-    let below = measure(arena, alloc, node.child)?;
+    let below = measure(arena, alloc, arena.nodes.child(id))?;
     let room = NodeVec::with_capacity(alloc, below.nodes + 1)?;
-    Ok((room, below.values + how_many(&node.value)))
+    Ok((room, below.values + how_many(arena.nodes.value(id))))
 }
 
 // The label of the topmost node: the prefix, and what the node's label has past these bytes.
@@ -94,7 +93,7 @@ fn top_label<V: Drop>(
         → passed ≤ length n.label }
     ensures { IfOk result (λ label. IsTopLabel arena.now id prefix.now passed label) }
 {
-    let label = arena.nodes[id.index()].label.as_slice();
+    let label = arena.nodes.label(id);
     Label::joined(alloc, prefix, &label[passed..])
 }
 
@@ -111,7 +110,7 @@ fn move_out<V: Drop>(
     ensures { MovesOut arena.old arena.new link_ref id label result }
 {
     let mut nodes = room;
-    let child = arena.nodes[id.index()].child;
+    let child = arena.nodes.child(id);
     let value = arena.nodes.take_contents(id);
     nodes.push_reserved(Node {
         child,

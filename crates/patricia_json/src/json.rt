@@ -30,6 +30,14 @@ pub enum JsonError {
 /// # Errors
 ///
 /// Out of memory.
+///
+/// # Examples
+///
+/// ```
+/// let (bytes, values) = pair_from_json(rt.alloc(), "[ [3, 0, 0, 0], [null] ]")?;
+/// let text = pair_to_json(rt.alloc(), &bytes, values)?;
+/// assert!(rt; text.as_str() == "[[3,0,0,0],[null]]");
+/// ```
 pub fn pair_to_json(alloc: Global, bytes: &[u8], values: Vec<Value>) -> Result<String, AllocError>
     requires { HaveNoFloat values.items }
     ensures text { IfOk result (λ s. IsTextOf (string_bytes s) bytes.now values.items) }
@@ -51,6 +59,15 @@ pub fn pair_to_json(alloc: Global, bytes: &[u8], values: Vec<Value>) -> Result<S
 /// # Errors
 ///
 /// `Memory`, or `Json` for all else that is refused.
+///
+/// # Examples
+///
+/// ```
+/// let (bytes, values) = pair_from_json(rt.alloc(), "[[12, 0, 0, 0, 3, 1, 0, 1, 97], [1]]")?;
+/// assert!(rt; bytes.len() == 9 && values.len() == 1);
+/// let float = pair_from_json(rt.alloc(), "[[3, 0, 0, 0], [1.0]]");
+/// assert!(rt; matches!(float, Err(JsonError::Json)));
+/// ```
 pub fn pair_from_json(alloc: Global, text: &str) -> Result<(Vec<u8>, Vec<Value>), JsonError>
     ensures read { IfOk result (λ p. ReadsAs text.now p.0.items p.1.items) }
     ensures no_float { IfOk result (λ p. HaveNoFloat p.1.items) }

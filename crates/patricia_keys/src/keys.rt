@@ -31,15 +31,42 @@ pub trait Bytes: Drop {
     ghost key: { Self → List ℕ };
 
     /// Whether the bytes are a list of whole items.
+    ///
+    /// # Examples
+    ///
+    /// ```
+    /// // a text of two characters, whose second is cut
+    /// let bytes = [97, 227, 129];
+    /// assert!(rt; !String::is_valid_bytes(&bytes));
+    /// assert_eq!(rt; String::floor_boundary(&bytes), 1);
+    /// ```
     fn is_valid_bytes(bytes: &[u8]) -> bool
         ensures { IsTrue result ↔ IsValid item bytes.now };
 
     /// Makes a key of bytes that are valid. The error is out of memory.
+    ///
+    /// # Examples
+    ///
+    /// ```
+    /// let borrowed = "foo";
+    /// let key = String::from_bytes(rt.alloc(), BorrowedBytes::as_bytes(&borrowed))?;
+    /// assert_eq!(rt; Bytes::as_bytes(&key), b"foo".as_slice());
+    /// assert!(rt; !BorrowedBytes::is_empty(&borrowed));
+    /// ```
     fn from_bytes(alloc: Global, bytes: &[u8]) -> Result<Self, AllocError>
         requires { IsValid item bytes.now }
         ensures { IfOk result (λ k. key k ≡ bytes.now) };
 
     /// The bytes of the key, which are always valid.
+    ///
+    /// # Examples
+    ///
+    /// ```
+    /// let borrowed = "foo";
+    /// let key = String::from_bytes(rt.alloc(), BorrowedBytes::as_bytes(&borrowed))?;
+    /// assert_eq!(rt; Bytes::as_bytes(&key), b"foo".as_slice());
+    /// assert!(rt; !BorrowedBytes::is_empty(&borrowed));
+    /// ```
     fn as_bytes(&self) -> &[u8]
         ensures value { result.now ≡ key self.now }
         ensures valid { IsValid item (key self.now) };
@@ -47,6 +74,15 @@ pub trait Bytes: Drop {
     /// How many bytes at the front are whole items, for any bytes.
     ///
     /// The bytes may end inside an item, or hold bytes that no key has.
+    ///
+    /// # Examples
+    ///
+    /// ```
+    /// // a text of two characters, whose second is cut
+    /// let bytes = [97, 227, 129];
+    /// assert!(rt; !String::is_valid_bytes(&bytes));
+    /// assert_eq!(rt; String::floor_boundary(&bytes), 1);
+    /// ```
     fn floor_boundary(bytes: &[u8]) -> usize
         ensures { IsFloor item bytes.now result };
 
@@ -61,11 +97,29 @@ pub trait BorrowedBytes: Copy {
     ghost key: { Self → List ℕ };
 
     /// The bytes of the key, which are always valid.
+    ///
+    /// # Examples
+    ///
+    /// ```
+    /// let borrowed = "foo";
+    /// let key = String::from_bytes(rt.alloc(), BorrowedBytes::as_bytes(&borrowed))?;
+    /// assert_eq!(rt; Bytes::as_bytes(&key), b"foo".as_slice());
+    /// assert!(rt; !BorrowedBytes::is_empty(&borrowed));
+    /// ```
     fn as_bytes(&self) -> &[u8]
         ensures value { result.now ≡ key self.now }
         ensures valid { IsValid Self.Owned.item (key self.now) };
 
     /// Whether the key has no byte.
+    ///
+    /// # Examples
+    ///
+    /// ```
+    /// let borrowed = "foo";
+    /// let key = String::from_bytes(rt.alloc(), BorrowedBytes::as_bytes(&borrowed))?;
+    /// assert_eq!(rt; Bytes::as_bytes(&key), b"foo".as_slice());
+    /// assert!(rt; !BorrowedBytes::is_empty(&borrowed));
+    /// ```
     fn is_empty(&self) -> bool
         ensures { IsTrue result ↔ (key self.now ≡ []) }
     {
@@ -73,10 +127,28 @@ pub trait BorrowedBytes: Copy {
     }
 
     /// The key without the whole items that it has in common with the front of the bytes.
+    ///
+    /// # Examples
+    ///
+    /// ```
+    /// assert_eq!(rt; "foobar".strip_common_prefix(b"foxes"), "obar");
+    /// assert_eq!(rt; "foobar".strip_common_prefix_and_len(b"foxes"), ("obar", 2));
+    /// // two characters that begin with the same byte have none in common
+    /// assert_eq!(rt; "あ".strip_common_prefix("い".as_bytes()), "あ");
+    /// ```
     fn strip_common_prefix(self, bytes: &[u8]) -> Self
         ensures { DropsCommon Self.Owned.item (key self) bytes.now (key result) };
 
     /// The same, and how many bytes were taken off.
+    ///
+    /// # Examples
+    ///
+    /// ```
+    /// assert_eq!(rt; "foobar".strip_common_prefix(b"foxes"), "obar");
+    /// assert_eq!(rt; "foobar".strip_common_prefix_and_len(b"foxes"), ("obar", 2));
+    /// // two characters that begin with the same byte have none in common
+    /// assert_eq!(rt; "あ".strip_common_prefix("い".as_bytes()), "あ");
+    /// ```
     fn strip_common_prefix_and_len(self, bytes: &[u8]) -> (Self, usize)
         ensures common { IsCommon Self.Owned.item (key self) bytes.now result.1 }
         ensures rest { key result.0 ≡ drop result.1 (key self) }
@@ -87,17 +159,55 @@ pub trait BorrowedBytes: Copy {
     }
 
     /// Compares the first items. No item comes before any item.
+    ///
+    /// # Examples
+    ///
+    /// ```
+    /// let other = "bar";
+    /// let order = "foo".cmp_first_item(BorrowedBytes::as_bytes(&other));
+    /// assert_eq!(rt; order, Ordering::Greater);
+    /// ```
     fn cmp_first_item(self, bytes: &[u8]) -> Ordering
         requires { IsValid Self.Owned.item bytes.now }
         ensures { ComparesFirst Self.Owned.item (key self) bytes.now result };
 
     /// The key without its first `n` bytes, which are whole items.
+    ///
+    /// # Examples
+    ///
+    /// ```
+    /// // The first bytes of a key and the others, where the first are whole items.
+    /// fn halves<Q: BorrowedBytes>(key: Q, n: usize) -> Option<(Q, Q)> {
+    ///     let Some(front) = key.as_bytes().get(..n) else {
+    ///         return None;
+    ///     };
+    ///     if !Q::Owned::is_valid_bytes(front) {
+    ///         return None;
+    ///     }
+    ///     Some((key.keep_n_prefix(n), key.strip_n_prefix(n)))
+    /// }
+    /// ```
     fn strip_n_prefix(self, n: usize) -> Self
         requires within { n ≤ length (key self) }
         requires valid { IsValid Self.Owned.item (take n (key self)) }
         ensures { key result ≡ drop n (key self) };
 
     /// The first `n` bytes of the key, which are whole items.
+    ///
+    /// # Examples
+    ///
+    /// ```
+    /// // The first bytes of a key and the others, where the first are whole items.
+    /// fn halves<Q: BorrowedBytes>(key: Q, n: usize) -> Option<(Q, Q)> {
+    ///     let Some(front) = key.as_bytes().get(..n) else {
+    ///         return None;
+    ///     };
+    ///     if !Q::Owned::is_valid_bytes(front) {
+    ///         return None;
+    ///     }
+    ///     Some((key.keep_n_prefix(n), key.strip_n_prefix(n)))
+    /// }
+    /// ```
     fn keep_n_prefix(self, n: usize) -> Self
         requires within { n ≤ length (key self) }
         requires valid { IsValid Self.Owned.item (take n (key self)) }

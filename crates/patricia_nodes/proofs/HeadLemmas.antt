@@ -6,7 +6,7 @@ use Rattle.std.specs.Prelude.{◌≤◌, ◌⊎◌, ◌/◌, ◌%◌, Option, So
 use Rattle.std.proofs.lemmas.Bool.Decides.{nat_tests}
 use Rattle.std.specs.Vec.{with_item}
 use Rattle.patricia_nodes.specs.declared.arena.Node.{Node}
-use Rattle.patricia_nodes.specs.declared.arena.node_vec.Head.{Head}
+use Rattle.patricia_nodes.specs.declared.arena.head.Head.{Head}
 use Rattle.patricia_nodes.specs.Internal.Heads.{byte_of, short_len_of, leaf_bit_of}
 use Rattle.patricia_nodes.specs.Internal.Heads.{apart_bit_of, below_code_of, beside_code_of}
 use Rattle.patricia_nodes.specs.Internal.Heads.{word_of, head_of, heads_from, HasHeads}

@@ -5,6 +5,7 @@ use Rattle.std.proofs.Common.{Option, Some, None, slice_get, refl, sym, ap, ◌�
 use Rattle.std.proofs.Common.{◌∙◌, arith, length-append, length-set}
 use Rattle.std.proofs.lemmas.Bool.{cases_lt}
 use Rattle.std.proofs.lemmas.Bool.Decides.{nat_tests}
+use Rattle.std.proofs.lemmas.Option.{get_or_from_slice_get}
 use Rattle.patricia_nodes.specs.declared.arena.Node.{Node}
 use Rattle.patricia_nodes.specs.declared.arena.NodeArena.{NodeArena}
 use Rattle.patricia_nodes.specs.Internal.Plans.{Plan, linked, head, siblings_in, size, count, times}
@@ -151,11 +152,14 @@ module _ {V : Type 0} where
         room = omega (arith, l.sized, within.0, (tops_within w).0);
       }
 
-  -- the siblings from the child's number of the node that is read are the next ones
+  -- the siblings from the number that is read of the node for its child are the next ones
   pub next_top : (p : Plan V) (from : List (Node V)) (i : ℕ) (to : List (Node V)) (mix : Mix V)
-      (next : NextSiblings p from i to mix) (n : Node V) → n ≡ get_or to i n
-      → AreTopSiblings from n.child next.siblings
-  next_top p from i to mix next n reads = rw (node_is to i n next.parent next.there reads) next.top
+      (next : NextSiblings p from i to mix) (child : Option ℕ)
+      → ((n : Node V) → n ≡ get_or to i n → child ≡ n.child)
+      → AreTopSiblings from child next.siblings
+  next_top p from i to mix next child reads =
+      let there = sym (get_or_from_slice_get to i next.parent next.parent next.there) in
+      rw (reads next.parent there) next.top
 
   -- the numbers of the nodes are those below their length
   pub news_short : (p : Plan V) (from : List (Node V)) (marks : ℕ → Bool) (to : List (Node V))

@@ -3,7 +3,9 @@ use Rattle.std.proofs.Common.{◌≡◌, ℕ, ◌+◌, ◌<◌, List, length, se
 use Rattle.std.proofs.Common.{refl, sym, ap, subst, ◌∙◌, inl, inr, arith}
 use native.Mathlib.Nat.{ℕ_set}
 use Rattle.std.specs.Global.{Vec}
-use Rattle.std.specs.Prelude.{vec_len}
+use Rattle.std.specs.Prelude.{vec_len, Option, None, is_some}
+use Rattle.std.specs.Borrow.{Bor}
+use Rattle.std.specs.Option.{option_copied}
 use Rattle.std.specs.Vec.{with_item}
 use Rattle.std.proofs.lemmas.Bool.{cases_lt}
 use Rattle.std.proofs.lemmas.List.{set-get_or}
@@ -46,6 +48,12 @@ module _ {V : Type 0} where
         | inl there ↦ (there.0, sym there.3)
         | inr past ↦ absurd (omega (arith, past.0))
       ]
+
+  -- whether a value is lent says whether the node has one
+  pub lent_some : (lent : Option (Bor V)) (value : Option V) → option_copied lent ≡ value
+      → is_some lent ≡ is_some value
+  lent_some None value is = ap is_some is
+  lent_some (Some b) value is = ap is_some is
 
   -- a run goes on where the next node is the sibling and the first byte is less
   pub run_more : (nodes : Vec (Node V)) (b from at : ℕ) → IsRun nodes b from at

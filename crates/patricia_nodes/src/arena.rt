@@ -4,6 +4,7 @@ ghost use Rattle.patricia_nodes.specs.Internal.Plans.{IsWellFormed, linked, sibl
 ghost use Rattle.patricia_nodes.specs.Internal.Writes.{Frees, Relinks, LinkRefWithin};
 ghost use Rattle.patricia_model.specs.Siblings.{end};
 
+mod head;
 pub mod interleave;
 mod lending;
 mod merging;

@@ -32,6 +32,24 @@ where
     /// # Errors
     ///
     /// Out of memory: nothing is changed, and the next call tries the same entry.
+    ///
+    /// # Examples
+    ///
+    /// ```
+    /// // Sets the first value under a prefix.
+    /// fn set_first<Q: BorrowedBytes>(
+    ///     map: &mut GenericPatriciaMap<Q::Owned, u32>,
+    ///     prefix: Q,
+    ///     new: u32,
+    /// ) -> Result<(), AllocError> {
+    ///     let mut cursor = map.iter_prefix_mut(prefix);
+    ///     cursor.advance()?;
+    ///     if let Some(value) = cursor.value() {
+    ///         *value = new;
+    ///     }
+    ///     Ok(())
+    /// }
+    /// ```
     pub fn advance(&mut self) -> Result<Option<K>, AllocError>
         ensures owner { self.new.owner.ghost_name ≡ self.old.owner.ghost_name }
         ensures key { IfOk result (λ key. option_map K.key key ≡ next_key self.old.at) }
@@ -48,6 +66,24 @@ where
     /// one.
     ///
     /// Takes constant time.
+    ///
+    /// # Examples
+    ///
+    /// ```
+    /// // Sets the first value under a prefix.
+    /// fn set_first<Q: BorrowedBytes>(
+    ///     map: &mut GenericPatriciaMap<Q::Owned, u32>,
+    ///     prefix: Q,
+    ///     new: u32,
+    /// ) -> Result<(), AllocError> {
+    ///     let mut cursor = map.iter_prefix_mut(prefix);
+    ///     cursor.advance()?;
+    ///     if let Some(value) = cursor.value() {
+    ///         *value = new;
+    ///     }
+    ///     Ok(())
+    /// }
+    /// ```
     pub fn value(&mut self) -> Option<&mut V>
         ensures* writes { sem 𝓛
             (lends_last M.row (the_row Q.row V.row K.row Q.BorrowedBytes K.Bytes)
@@ -97,6 +133,24 @@ where
     ///
     /// The contract says no more than what is read: what the map is after an error, at the end or
     /// after the loan, those of `next_with`, and of `advance` and `value`, say.
+    ///
+    /// # Examples
+    ///
+    /// ```
+    /// // Adds up the first two values under a prefix, the second where it is read by a closure.
+    /// fn sum_of_two<Q: BorrowedBytes>(
+    ///     map: &mut GenericPatriciaMap<Q::Owned, u32>,
+    ///     prefix: Q,
+    /// ) -> Result<u32, AllocError> {
+    ///     let mut cursor = map.iter_prefix_mut(prefix);
+    ///     let first = match cursor.next()? {
+    ///         Some((_key, value)) => *value,
+    ///         None => 0,
+    ///     };
+    ///     let second = cursor.next_with(|_key, value| *value)?;
+    ///     Ok(first.wrapping_add(second.unwrap_or(0)))
+    /// }
+    /// ```
     pub fn next(&mut self) -> Result<Option<(K, &mut V)>, AllocError>
         ensures entry { IfOk result (λ e.
             option_map (λ e. (K.key e.0, e.1.now)) e ≡ next_entry self.old.at) }
@@ -117,6 +171,24 @@ where
     ///
     /// Out of memory: the closure is not run, nothing is changed, and the next call tries the same
     /// entry.
+    ///
+    /// # Examples
+    ///
+    /// ```
+    /// // Adds up the first two values under a prefix, the second where it is read by a closure.
+    /// fn sum_of_two<Q: BorrowedBytes>(
+    ///     map: &mut GenericPatriciaMap<Q::Owned, u32>,
+    ///     prefix: Q,
+    /// ) -> Result<u32, AllocError> {
+    ///     let mut cursor = map.iter_prefix_mut(prefix);
+    ///     let first = match cursor.next()? {
+    ///         Some((_key, value)) => *value,
+    ///         None => 0,
+    ///     };
+    ///     let second = cursor.next_with(|_key, value| *value)?;
+    ///     Ok(first.wrapping_add(second.unwrap_or(0)))
+    /// }
+    /// ```
     pub fn next_with<R, F: FnOnce(K, &mut V) -> R>(&mut self, f: F) -> Result<Option<R>, AllocError>
         requires callable { TakesNext F.FnOnce K.key f self.old.at }
         ensures owner { self.new.owner.ghost_name ≡ self.old.owner.ghost_name }

@@ -47,6 +47,15 @@ impl<K: Bytes, V> Model for Router<K, V> {
 
 impl<K: Bytes, V: Drop> Router<K, V> {
     /// Makes a router without routes, which keeps the allocator. Does not allocate.
+    ///
+    /// # Examples
+    ///
+    /// ```
+    /// let mut router = Router::new(rt.alloc());
+    /// assert!(rt; router.is_empty());
+    /// router.add("/", 1)?;
+    /// assert_eq!(rt; router.len(), 1);
+    /// ```
     pub fn new(alloc: Global) -> Self
         ensures { result ≡ map.empty }
     {
@@ -57,6 +66,15 @@ impl<K: Bytes, V: Drop> Router<K, V> {
     }
 
     /// Returns the number of routes, in constant time.
+    ///
+    /// # Examples
+    ///
+    /// ```
+    /// let mut router = Router::new(rt.alloc());
+    /// assert!(rt; router.is_empty());
+    /// router.add("/", 1)?;
+    /// assert_eq!(rt; router.len(), 1);
+    /// ```
     pub fn len(&self) -> usize
         ensures { result ≡ map.len self.now }
     {
@@ -64,6 +82,15 @@ impl<K: Bytes, V: Drop> Router<K, V> {
     }
 
     /// Returns whether there is no route, in constant time.
+    ///
+    /// # Examples
+    ///
+    /// ```
+    /// let mut router = Router::new(rt.alloc());
+    /// assert!(rt; router.is_empty());
+    /// router.add("/", 1)?;
+    /// assert_eq!(rt; router.len(), 1);
+    /// ```
     pub fn is_empty(&self) -> bool
         ensures { IsTrue result ↔ (map.len self.now ≡ 0) }
     {
@@ -76,6 +103,14 @@ impl<K: Bytes, V: Drop> Router<K, V> {
     ///
     /// Out of memory, at a new nonempty prefix alone: the table is unchanged, and `Refused` has the
     /// target.
+    ///
+    /// # Examples
+    ///
+    /// ```
+    /// let mut router = Router::new(rt.alloc());
+    /// assert_eq!(rt; router.add("/api/", 1)?, None);
+    /// assert_eq!(rt; router.add("/api/", 2)?, Some(1));
+    /// ```
     pub fn add<Q: BorrowedBytes<Owned = K>>(
         &mut self,
         prefix: Q,
@@ -97,6 +132,16 @@ impl<K: Bytes, V: Drop> Router<K, V> {
     ///
     /// Out of memory: the table is unchanged. Never for the empty prefix, which drops all routes,
     /// nor where none begins with the prefix.
+    ///
+    /// # Examples
+    ///
+    /// ```
+    /// let mut router = Router::new(rt.alloc());
+    /// router.add("/", 1)?;
+    /// router.add("/api/", 2)?;
+    /// assert_eq!(rt; router.drop_prefix("/api")?, 1);
+    /// assert_eq!(rt; router.len(), 1);
+    /// ```
     pub fn drop_prefix<Q: BorrowedBytes<Owned = K>>(
         &mut self,
         prefix: Q,
@@ -118,6 +163,17 @@ impl<K: Bytes, V: Drop> Router<K, V> {
     ///
     /// The prefix that is returned is a part of the key that is passed, and does not borrow the
     /// router.
+    ///
+    /// # Examples
+    ///
+    /// ```
+    /// let mut router = Router::new(rt.alloc());
+    /// router.add("/", 1)?;
+    /// router.add("/api/", 2)?;
+    /// assert_eq!(rt; router.route("/api/users"), Some(("/api/", &2)));
+    /// assert_eq!(rt; router.route("/help"), Some(("/", &1)));
+    /// assert_eq!(rt; router.route("help"), None);
+    /// ```
     pub fn route<Q: BorrowedBytes<Owned = K>>(&self, key: Q) -> Option<(Q, &V)>
         ensures entry { option_map (λ e. (Q.key e.0, e.1.now)) result
             ≡ longest (Q.key key) (map.entries self.now) }
@@ -132,6 +188,15 @@ impl<K: Bytes, V: Drop> Router<K, V> {
     ///
     /// Out of memory for the list, which is reserved before the first key is routed; never for no
     /// keys.
+    ///
+    /// # Examples
+    ///
+    /// ```
+    /// let mut router = Router::new(rt.alloc());
+    /// router.add("/api/", 2)?;
+    /// let routes = router.route_all(&["/api/users", "/help"])?;
+    /// assert_eq!(rt; routes.as_slice(), [Some(("/api/", &2)), None].as_slice());
+    /// ```
     pub fn route_all<Q: BorrowedBytes<Owned = K>>(
         &self,
         keys: &[Q],

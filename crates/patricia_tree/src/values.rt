@@ -29,6 +29,19 @@ where
     /// # Errors
     ///
     /// Out of memory: nothing is changed, and the next call tries the same value.
+    ///
+    /// # Examples
+    ///
+    /// ```
+    /// let mut map = StringPatriciaMap::from_iter(rt.alloc(), [("foo", 1), ("bar", 2)])?;
+    /// let mut cursor = map.values_mut();
+    /// assert!(rt; cursor.advance()?);
+    /// if let Some(value) = cursor.value() {
+    ///     *value = 5;
+    /// }
+    /// drop(cursor);
+    /// assert_eq!(rt; map.get("bar"), Some(&5));
+    /// ```
     pub fn advance(&mut self) -> Result<bool, AllocError>
         ensures owner { self.new.owner.ghost_name ≡ self.old.owner.ghost_name }
         ensures found { IfOk result (λ found. IsTrue found ↔ (next_entry self.old.at ≢ None)) }
@@ -45,6 +58,19 @@ where
     /// Lends the value that it advanced to last, or returns `None` before the first one.
     ///
     /// Takes constant time.
+    ///
+    /// # Examples
+    ///
+    /// ```
+    /// let mut map = StringPatriciaMap::from_iter(rt.alloc(), [("foo", 1), ("bar", 2)])?;
+    /// let mut cursor = map.values_mut();
+    /// assert!(rt; cursor.advance()?);
+    /// if let Some(value) = cursor.value() {
+    ///     *value = 5;
+    /// }
+    /// drop(cursor);
+    /// assert_eq!(rt; map.get("bar"), Some(&5));
+    /// ```
     pub fn value(&mut self) -> Option<&mut V>
         ensures* writes { sem 𝓛
             (lends_last M.row (the_row K.row V.row K.Bytes) V.row written self.entry result) }
@@ -88,6 +114,18 @@ where
     ///
     /// The contract says no more than what is read: what the map is after an error, at the end or
     /// after the loan, those of `next_with`, and of `advance` and `value`, say.
+    ///
+    /// # Examples
+    ///
+    /// ```
+    /// let mut map = StringPatriciaMap::from_iter(rt.alloc(), [("foo", 1), ("bar", 2)])?;
+    /// let mut cursor = map.values_mut();
+    /// if let Some(value) = cursor.next()? {
+    ///     *value = 5;
+    /// }
+    /// drop(cursor);
+    /// assert_eq!(rt; map.get("bar"), Some(&5));
+    /// ```
     pub fn next(&mut self) -> Result<Option<&mut V>, AllocError>
         ensures value { IfOk result (λ v. option_copied_mut v ≡ next_value self.old.at) }
         ensures err_only_if_left { OnErr result (next_entry self.old.at ≢ None) }
@@ -107,6 +145,16 @@ where
     ///
     /// Out of memory: the closure is not run, nothing is changed, and the next call tries the same
     /// value.
+    ///
+    /// # Examples
+    ///
+    /// ```
+    /// let mut map = StringPatriciaMap::from_iter(rt.alloc(), [("foo", 1), ("bar", 2)])?;
+    /// let mut cursor = map.values_mut();
+    /// assert_eq!(rt; cursor.next_with(|value| *value)?, Some(2));
+    /// assert_eq!(rt; cursor.next_with(|value| *value)?, Some(1));
+    /// assert_eq!(rt; cursor.next_with(|value| *value)?, None);
+    /// ```
     pub fn next_with<R, F: FnOnce(&mut V) -> R>(&mut self, f: F) -> Result<Option<R>, AllocError>
         requires callable { TakesValue F.FnOnce f (next_value self.old.at) }
         ensures owner { self.new.owner.ghost_name ≡ self.old.owner.ghost_name }

@@ -1,5 +1,5 @@
 -- The steps of a descent to the last entry before a key.
-use Rattle.std.proofs.Common.{◌≡◌, ◌≢◌, ℕ, ◌+◌, true, false, List, [], ◌∷◌, ◌++◌, length, get_or, take}
+use Rattle.std.proofs.Common.{◌≡◌, ◌<◌, ◌≢◌, ℕ, ◌+◌, true, false, List, [], ◌∷◌, ◌++◌, length, get_or, take}
 use Rattle.std.proofs.Common.{drop, Option, Some, None, refl, sym, ap, subst, ◌∙◌, arith}
 use Rattle.std.specs.List.{last_or}
 use Rattle.std.specs.declared.cmp.Ordering.{Ordering}
@@ -36,6 +36,8 @@ use Rattle.patricia_walks.proofs.AlongLemmas.{front_then, left_then, more_within
 use Rattle.patricia_walks.proofs.LastLemmas.{last-append, last_filled, last_there, filled_last, below_filled, top_filled, SiblingsOpen}
 use Rattle.patricia_walks.proofs.LastLemmas.{siblings_open, siblings_filled}
 use Rattle.patricia_walks.proofs.PositionLemmas.{siblings_none}
+use Rattle.patricia_nodes.proofs.SeekLemmas.{head_within}
+use Rattle.patricia_nodes.specs.Internal.Plans.{plan_at}
 
 -- no key comes before the empty one
 nothing_before : {V : Type 0} (es : List (List ℕ × V)) → before [] es ≡ []
@@ -82,6 +84,13 @@ module _ (item : List ℕ → Type 0) (kind : IsKeyKind item) {V : Type 0} (l : 
           ap (λ k. before k (entries (node l v c s))) (sym same) ∙ before_through []
           ∙ ap (prefixed l) (nothing_before (own v ++ entries c))
       by Greater f = absurd (not_after f)
+
+-- the node of a descent is in the vector
+pub lower_within : (item : List ℕ → Type 0) {V : Type 0} (key : List ℕ) (d : LowerDescent V) (id : ℕ)
+    → IsLowerDescent item key d → d.next ≡ Some id → id < length d.arena.now.nodes.items
+lower_within item key d id w next =
+    let nodes = d.arena.now.nodes.items in
+    head_within nodes d.next (plan_at nodes d.next) id w.next_siblings.plan next
 
 module _ (item : List ℕ → Type 0) (kind : IsKeyKind item) {V : Type 0} (key : List ℕ)
     (d e : LowerDescent V) (id : ℕ) (n : Node V) (w : IsLowerDescent item key d)

@@ -59,26 +59,26 @@ impl<'a, V> Descent<'a, V> {
             return;
         }
         // past siblings that lie side by side
-        let id = self.arena.nodes.run(id, rest[0]);
-        let first = self.arena.nodes.first_byte(id);
+        let nodes = &self.arena.nodes;
+        let id = nodes.run(id, rest[0]);
+        let first = nodes.first_byte(id);
         if first < rest[0] {
-            self.next = self.arena.nodes.sibling(id);
+            self.next = nodes.sibling(id);
             return;
         }
         if rest[0] < first {
             self.next = Link::none();
             return;
         }
-        let node = &self.arena.nodes[id.index()];
-        let label = node.label.as_slice();
+        let label = nodes.label(id);
         if rest.starts_with(label) {
             self.len += label.len();
-            self.pending = node.value.as_ref();
-            self.next = node.child;
+            self.pending = nodes.value(id);
+            self.next = nodes.child(id);
         } else if rest.cmp(label) == Ordering::Less {
             self.next = Link::none();
         } else {
-            self.next = node.sibling;
+            self.next = nodes.sibling(id);
         }
     }
 

@@ -116,15 +116,15 @@ impl<V> CursorState<V> {
         ensures tree { self.new.tree.parts ≡ self.old.tree.parts }
         ensures last { self.new.tree.last ≡ self.old.tree.last }
     {
-        let node = &self.tree.parts.arena.nodes[id.index()];
+        let nodes = &self.tree.parts.arena.nodes;
         let front = self.path.len();
-        self.path.extend_from_slice(node.label.as_slice())?;
-        let Ok(()) = push_siblings(&mut self.stack, front, node.sibling) else {
+        self.path.extend_from_slice(nodes.label(id))?;
+        let Ok(()) = push_siblings(&mut self.stack, front, nodes.sibling(id)) else {
             self.path.truncate(front);
             return Err(AllocError);
         };
-        self.pending = held_by(node, id);
-        self.next = node.child;
+        self.pending = held_by(nodes, id);
+        self.next = nodes.child(id);
         Ok(())
     }
 
@@ -215,14 +215,14 @@ impl<V> CursorState<V> {
         ensures tree { self.new.tree.parts ≡ self.old.tree.parts }
         ensures last { self.new.tree.last ≡ self.old.tree.last }
     {
-        let node = &self.tree.parts.arena.nodes[top.index()];
-        let label = node.label.as_slice();
+        let nodes = &self.tree.parts.arena.nodes;
+        let label = nodes.label(top);
         let mut path = Vec::with_capacity(self.tree.parts.alloc, front.len() + label.len())?;
         path.extend_from_slice(front)?;
         path.extend_from_slice(label)?;
         self.path = path;
-        self.pending = held_by(node, top);
-        self.next = node.child;
+        self.pending = held_by(nodes, top);
+        self.next = nodes.child(top);
         Ok(())
     }
 }

@@ -1,13 +1,15 @@
 //! A tree that a cursor owns, and who holds the value that it lent last.
-ghost use Rattle.std.specs.Prelude.{◌≡◌, ◌≢◌, ◌↔◌, MatchOption, ℕ, Some, IsTrue};
+ghost use Rattle.std.specs.Prelude.{◌≡◌, ◌≢◌, ◌<◌, ◌↔◌, MatchOption, ℕ, Some, IsTrue, vec_len};
 ghost use Rattle.std.specs.Borrow.{sem};
 ghost use Rattle.std.specs.Option.{option_copied_mut, option_map};
+ghost use Rattle.patricia_nodes.specs.Internal.NodeVecs.{ReadsNode};
 ghost use Rattle.patricia_walks.specs.declared.held_tree.ValueSlot.TheVariants.{OfEmptyKey};
 ghost use Rattle.patricia_walks.specs.declared.held_tree.ValueSlot.TheVariants.{OfNode};
 ghost use Rattle.patricia_walks.specs.Internal.HeldTrees.{IsHeld, held_last};
 
 use patricia_keys::Bytes;
-use patricia_nodes::arena::{Node, NodeArena};
+use patricia_nodes::arena::NodeArena;
+use patricia_nodes::arena::node_vec::NodeVec;
 use patricia_nodes::link::{Link, NodeId};
 use std::alloc::Global;
 
@@ -37,10 +39,11 @@ pub struct HeldTree<V> {
 }
 
 /// Who holds the value of a node, where it has one.
-pub fn held_by<V>(node: &Node<V>, id: NodeId) -> Option<ValueSlot>
-    ensures { result ≡ option_map (λ _. OfNode id) node.now.value }
+pub fn held_by<V>(nodes: &NodeVec<V>, id: NodeId) -> Option<ValueSlot>
+    requires { id < vec_len nodes.now }
+    ensures { ReadsNode nodes.now id (λ n. result ≡ option_map (λ _. OfNode id) n.value) }
 {
-    match &node.value {
+    match nodes.value(id) {
         Some(_) => Some(ValueSlot::OfNode(id)),
         None => None,
     }

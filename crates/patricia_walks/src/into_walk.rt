@@ -52,11 +52,11 @@ impl<V: Drop> OwnedTraversal<V> {
         requires next { self.old.next ≡ Some id }
         ensures { OnOk result (AdvancesTo K.item (owned self.old) (owned self.new)) }
     {
-        let node = &self.arena.nodes[id.index()];
+        let nodes = &self.arena.nodes;
         let front = self.path.len();
-        push_siblings(&mut self.stack, front, node.sibling)?;
-        self.path.extend_from_slice(node.label.as_slice())?;
-        self.next = node.child;
+        push_siblings(&mut self.stack, front, nodes.sibling(id))?;
+        self.path.extend_from_slice(nodes.label(id))?;
+        self.next = nodes.child(id);
         self.pending = self.arena.nodes.replace_value(id, None);
         Ok(())
     }

@@ -64,18 +64,18 @@ impl<'a, V> LowerDescent<'a, V> {
         requires next { self.old.next ≡ Some id }
         ensures { LowerMoves K.item key.now self.old self.new }
     {
-        let node = &self.arena.nodes[id.index()];
-        let label = node.label.as_slice();
+        let nodes = &self.arena.nodes;
+        let label = nodes.label(id);
         let rest = &key[self.len..];
         if rest.cmp(label) != Ordering::Greater {
             self.next = Link::none();
         } else if rest.starts_with(label) {
             self.len += label.len();
-            put_value::<K, V>(&mut self.lower, self.len, node.value.as_ref());
-            self.next = node.child;
+            put_value::<K, V>(&mut self.lower, self.len, nodes.value(id));
+            self.next = nodes.child(id);
         } else {
             self.lower = Lower::Below(self.len, id);
-            self.next = node.sibling;
+            self.next = nodes.sibling(id);
         }
     }
 }
@@ -121,7 +121,7 @@ fn last_sibling<K: Bytes, V>(arena: &NodeArena<V>, first: NodeId) -> NodeId
         ≤ steps_in (siblings_at arena.now.nodes.items (Some first)) }
 {
     let mut id = first;
-    while let Some(next) = arena.nodes[id.index()].sibling.get() {
+    while let Some(next) = arena.nodes.sibling(id).get() {
         id = next;
     }
     id
@@ -142,11 +142,10 @@ fn last_below<'a, K: Bytes, V>(
 {
     let mut id = top;
     loop {
-        let node = &arena.nodes[id.index()];
-        path.extend_from_slice(node.label.as_slice())?;
-        match node.child.get() {
+        path.extend_from_slice(arena.nodes.label(id))?;
+        match arena.nodes.child(id).get() {
             Some(child) => id = last_sibling::<K, V>(arena, child),
-            None => match &node.value {
+            None => match arena.nodes.value(id) {
                 Some(value) => return Ok(value),
                 None => unreachable!(),
             },

@@ -143,7 +143,18 @@ impl<'a, Q: BorrowedBytes, V> RangeReadCursor<'a, Q, V> {
     ///
     /// # Errors
     ///
-    /// Out of memory: the cursor is at its end then.
+    /// Out of memory, also where no entry is left: the cursor is at its end then.
+    ///
+    /// # Examples
+    ///
+    /// ```
+    /// let map = StringPatriciaMap::from_iter(rt.alloc(), [("bar", 1), ("baz", 2), ("foo", 3)])?;
+    /// let mut cursor = map.cursor_range("bas", "foo");
+    /// assert!(rt; cursor.advance()?);
+    /// assert_eq!(rt; (cursor.text(), cursor.value()), (Some("baz"), Some(&2)));
+    /// assert_eq!(rt; cursor.key(), Some(b"baz".as_slice()));
+    /// assert!(rt; !cursor.advance()?);
+    /// ```
     pub fn advance(&mut self) -> Result<bool, AllocError>
         ensures found { IfOk result (λ found. IsTrue found ↔ (self.old.left ≢ [])) }
         ensures advanced { OnOk result (self.new ≡ advanced self.old) }
@@ -159,6 +170,17 @@ impl<'a, Q: BorrowedBytes, V> RangeReadCursor<'a, Q, V> {
     /// and behind the last one. They are those of a key of its kind.
     ///
     /// Takes constant time.
+    ///
+    /// # Examples
+    ///
+    /// ```
+    /// let map = StringPatriciaMap::from_iter(rt.alloc(), [("bar", 1), ("baz", 2), ("foo", 3)])?;
+    /// let mut cursor = map.cursor_range("bas", "foo");
+    /// assert!(rt; cursor.advance()?);
+    /// assert_eq!(rt; (cursor.text(), cursor.value()), (Some("baz"), Some(&2)));
+    /// assert_eq!(rt; cursor.key(), Some(b"baz".as_slice()));
+    /// assert!(rt; !cursor.advance()?);
+    /// ```
     pub fn key(&self) -> Option<&[u8]>
         ensures key { option_map (λ k. k.now) result ≡ option_map (λ e. e.0) self.now.at }
         ensures valid { IfSome result (λ k. IsValid Q.Owned.item k.now) }
@@ -170,6 +192,17 @@ impl<'a, Q: BorrowedBytes, V> RangeReadCursor<'a, Q, V> {
     /// the last one.
     ///
     /// Takes constant time.
+    ///
+    /// # Examples
+    ///
+    /// ```
+    /// let map = StringPatriciaMap::from_iter(rt.alloc(), [("bar", 1), ("baz", 2), ("foo", 3)])?;
+    /// let mut cursor = map.cursor_range("bas", "foo");
+    /// assert!(rt; cursor.advance()?);
+    /// assert_eq!(rt; (cursor.text(), cursor.value()), (Some("baz"), Some(&2)));
+    /// assert_eq!(rt; cursor.key(), Some(b"baz".as_slice()));
+    /// assert!(rt; !cursor.advance()?);
+    /// ```
     pub fn value(&self) -> Option<&'a V>
         ensures { option_copied result ≡ option_map (λ e. e.1) self.now.at }
     {
@@ -203,7 +236,18 @@ impl<'a, Q: BorrowedBytes, V> RangeReadCursor<'a, Q, V> {
     ///
     /// # Errors
     ///
-    /// Out of memory: the cursor is at its end then.
+    /// Out of memory, also where no entry is left: the cursor is at its end then.
+    ///
+    /// # Examples
+    ///
+    /// ```
+    /// let map = StringPatriciaMap::from_iter(rt.alloc(), [("bar", 1), ("foo", 2)])?;
+    /// let mut cursor = map.cursor_from("baz");
+    /// if let Some((key, value)) = cursor.next_entry()? {
+    ///     assert_eq!(rt; (key.as_str(), value), ("foo", &2));
+    /// }
+    /// assert!(rt; cursor.next_entry()?.is_none());
+    /// ```
     pub fn next_entry(&mut self) -> Result<Option<(Q::Owned, &'a V)>, AllocError>
         ensures entry { IfOk result (λ entry. TakesFirst (λ e. (Q.Owned.key e.0, e.1.now))
             self.old.left entry self.new.left) }
@@ -225,6 +269,17 @@ impl<'a, 'q, V> RangeReadCursor<'a, &'q str, V> {
     /// behind the last one.
     ///
     /// Takes time in proportion to the key, whose bytes are checked.
+    ///
+    /// # Examples
+    ///
+    /// ```
+    /// let map = StringPatriciaMap::from_iter(rt.alloc(), [("bar", 1), ("baz", 2), ("foo", 3)])?;
+    /// let mut cursor = map.cursor_range("bas", "foo");
+    /// assert!(rt; cursor.advance()?);
+    /// assert_eq!(rt; (cursor.text(), cursor.value()), (Some("baz"), Some(&2)));
+    /// assert_eq!(rt; cursor.key(), Some(b"baz".as_slice()));
+    /// assert!(rt; !cursor.advance()?);
+    /// ```
     pub fn text(&self) -> Option<&str>
         ensures { option_map (λ k. k.now) result ≡ option_map (λ e. e.0) self.now.at }
     {

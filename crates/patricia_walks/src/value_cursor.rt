@@ -65,17 +65,19 @@ impl<V> ValueCursorState<V> {
         ensures refused { OnErr result (spot_of self.new ≡ spot_of self.old) }
         ensures tree { self.new.tree ≡ self.old.tree }
     {
-        let node = &self.tree.parts.arena.nodes[id.index()];
-        if node.child.get().is_none() {
-            self.pending = held_by(node, id);
-            self.next = node.sibling;
+        let nodes = &self.tree.parts.arena.nodes;
+        let child = nodes.child(id);
+        let sibling = nodes.sibling(id);
+        if child.get().is_none() {
+            self.pending = held_by(nodes, id);
+            self.next = sibling;
             return Ok(());
         }
-        if node.sibling.get().is_some() {
-            self.stack.push(node.sibling)?;
+        if sibling.get().is_some() {
+            self.stack.push(sibling)?;
         }
-        self.pending = held_by(node, id);
-        self.next = node.child;
+        self.pending = held_by(nodes, id);
+        self.next = child;
         Ok(())
     }
 

@@ -47,17 +47,19 @@ impl<'a, V> ValueTraversal<'a, V> {
         requires next { self.old.next ≡ Some id }
         ensures { OnOk result (GoesTo (place_of self.old) (place_of self.new)) }
     {
-        let node = &self.arena.nodes[id.index()];
-        self.pending = node.value.as_ref();
-        if node.child.get().is_none() {
-            self.next = node.sibling;
+        let nodes = &self.arena.nodes;
+        let child = nodes.child(id);
+        let sibling = nodes.sibling(id);
+        self.pending = nodes.value(id);
+        if child.get().is_none() {
+            self.next = sibling;
             return Ok(());
         }
-        self.next = node.child;
-        if node.sibling.get().is_none() {
+        self.next = child;
+        if sibling.get().is_none() {
             return Ok(());
         }
-        self.stack.push(node.sibling)?;
+        self.stack.push(sibling)?;
         Ok(())
     }
 

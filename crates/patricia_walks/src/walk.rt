@@ -57,12 +57,12 @@ impl<'a, V> Traversal<'a, V> {
         requires next { self.old.next ≡ Some id }
         ensures { OnOk result (AdvancesTo K.item (lent self.old) (lent self.new)) }
     {
-        let node = &self.arena.nodes[id.index()];
+        let nodes = &self.arena.nodes;
         let front = self.path.len();
-        push_siblings(&mut self.stack, front, node.sibling)?;
-        self.path.extend_from_slice(node.label.as_slice())?;
-        self.pending = node.value.as_ref();
-        self.next = node.child;
+        push_siblings(&mut self.stack, front, nodes.sibling(id))?;
+        self.path.extend_from_slice(nodes.label(id))?;
+        self.pending = nodes.value(id);
+        self.next = nodes.child(id);
         Ok(())
     }
 
@@ -197,8 +197,7 @@ impl<'a, K: Bytes, V> Walk<'a, K, V> {
         ensures { IfOk result (λ walk.
             walk ≡ entries_below front.now (siblings_at arena.now.nodes.items (Some top))) }
     {
-        let node = &arena.nodes[top.index()];
-        let label = node.label.as_slice();
+        let label = arena.nodes.label(top);
         let mut path = Vec::with_capacity(alloc, front.len() + label.len())?;
         path.extend_from_slice(front)?;
         path.extend_from_slice(label)?;
@@ -207,8 +206,8 @@ impl<'a, K: Bytes, V> Walk<'a, K, V> {
             place: Traversal {
                 arena,
                 path,
-                pending: node.value.as_ref(),
-                next: node.child,
+                pending: arena.nodes.value(top),
+                next: arena.nodes.child(top),
                 stack: Vec::new(alloc),
             },
             kind: PhantomData,

@@ -1,9 +1,13 @@
 pub mod CompletionLemmas
+pub mod CountLemmas
 pub mod FaultLemmas
+pub mod LineLemmas
 pub mod LongestLemmas
 pub mod NameLemmas
+pub mod NearLemmas
 pub mod PackLemmas
 pub mod ReachLemmas
+pub mod RecordLemmas
 pub mod ResultLemmas
 pub mod SegmentLemmas
 pub mod SubtreeLemmas

@@ -13,7 +13,9 @@ use Rattle.std.specs.Cmp.Lexicographic.{same_text}
 use Rattle.patricia_tree.specs.TextKind.{IsTextItem}
 use Rattle.patricia_tree.specs.Walks.{values_of}
 use Rattle.patricia_tree.specs.Writings.{Means}
-use Rattle.prefixes_core.specs.Packings.{head, counted, packed, Packs}
+use Rattle.std.specs.Prelude.{replicate}
+use Rattle.patricia_tree.specs.Siblings.{keys_of}
+use Rattle.prefixes_core.specs.Packings.{head, counted, packed, Packs, without_values}
 
 -- the number of some bytes has eight bytes
 pub number_length : (n : ℕ) → length (to_be_bytes w64 n) ≡ 8
@@ -203,3 +205,34 @@ packed_values bytes tree rest values entries small e f packs =
     let same = values_same values (values_of entries) short (sym f ∙ parts.1) in
     subst (λ t. Means IsTextItem 2 t values entries) (sym parts.0)
     (subst (λ vs. Means IsTextItem 2 packs.tree vs entries) (sym same) packs.means)
+
+-- one more empty value
+empties_more : (n : ℕ)
+    → concat (map counted (replicate (suc n) [])) ≡ concat (map counted (replicate n [])) ++ counted []
+empties_more zero = append-nil (counted [])
+empties_more (suc n) =
+    ap (λ l. counted [] ++ l) (empties_more n)
+    ∙ sym (append_assoc (counted []) (concat (map counted (replicate n []))) (counted []))
+
+-- behind packed empty values, one more
+pub packed_more : (tree written more : List ℕ) (n m : ℕ) → m ≡ suc n
+    → written ≡ packed tree (replicate n []) → more ≡ written ++ counted []
+    → more ≡ packed tree (replicate m [])
+packed_more tree written more n m next before is =
+    let values = concat (map counted (replicate n [])) in
+    is ∙ ap (λ l. l ++ counted []) before
+    ∙ append_assoc head (counted tree ++ values) (counted [])
+    ∙ ap (λ l. head ++ l) (append_assoc (counted tree) values (counted [])
+    ∙ ap (λ l. counted tree ++ l) (sym (empties_more n)))
+    ∙ ap (λ k. packed tree (replicate k [])) (sym next)
+
+-- the values of names alone are empty
+pub values_without : (names : List (List ℕ))
+    → values_of (without_values names) ≡ replicate (length names) []
+values_without [] = refl
+values_without (name ∷ names) = ap (λ l. [] ∷ l) (values_without names)
+
+-- and their keys are the names
+pub keys_without : (names : List (List ℕ)) → keys_of (without_values names) ≡ names
+keys_without [] = refl
+keys_without (name ∷ names) = ap (λ l. name ∷ l) (keys_without names)

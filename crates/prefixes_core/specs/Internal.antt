@@ -1,2 +1,3 @@
 -- Words of contracts that no user of the library meets: a reader need not believe them.
 pub mod Reversed
+pub mod Splits

@@ -1,7 +1,11 @@
 pub mod Blocks
+pub mod Combinations
 pub mod Completions
 pub mod Internal
+pub mod Lines
+pub mod Nearest
 pub mod Packings
 pub mod Segments
 pub mod Subtrees
+pub mod Trees
 pub mod UnpackFaults

@@ -19,6 +19,10 @@ counted bytes = to_be_bytes w64 (length bytes) ++ bytes
 abbrev pub packed : List ℕ → List (List ℕ) → List ℕ
 packed tree values = head ++ counted tree ++ concat (map counted values)
 
+-- the entries of names alone: each has the empty value
+abbrev pub without_values : List (List ℕ) → List (List ℕ × List ℕ)
+without_values names = map (λ name. (name, [])) names
+
 -- the bytes are tree bytes and values that mean these entries
 pub record Packs (bytes : List ℕ) (entries : List (List ℕ × List ℕ)) : Type 0 where
   pub tree : List ℕ

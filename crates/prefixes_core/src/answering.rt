@@ -1,10 +1,15 @@
-//! What is asked of a list, and the lines that answer it.
+//! What is asked of a list, and the lines or the JSON that answer it.
 
 use crate::blocking::BlockList;
 use crate::completing::complete;
 use crate::cutting::segment;
 use crate::dotted::{drop_subtree, subtree};
 use crate::listing::{Listing, Names};
+use crate::nearing::near;
+use crate::objects::{
+    BlockObject, CompleteObject, EntryObject, NearObject, RouteObject, SegmentObject, Text,
+    TreeObject, push_object,
+};
 use crate::value::Payload;
 use itoa::Buffer;
 use patricia_tree::router::Router;
@@ -15,8 +20,9 @@ use thiserror::Error;
 /// Why a line is not answered.
 #[derive(Clone, Copy, Debug, Drop, PartialEq, Eq, Error)]
 pub enum AnswerError {
-    #[error("not UTF-8")]
-    NotUtf8,
+    /// From this byte of the line on, counted from 0.
+    #[error("not UTF-8 at byte {0}")]
+    NotUtf8(usize),
     #[error("out of memory")]
     Memory,
 }
@@ -27,6 +33,15 @@ impl From<AllocError> for AnswerError {
     }
 }
 
+/// How answers are written.
+#[derive(Clone, Copy)]
+pub enum Style {
+    /// As lines, each up to this byte.
+    Lines(u8),
+    /// As an object of JSON on a line.
+    Json,
+}
+
 /// What each line is asked about.
 #[derive(Drop)]
 pub enum Question {
@@ -34,6 +49,8 @@ pub enum Question {
     Route(Router<String, Payload>),
     /// The first so many names that begin with the line, and how many there are.
     Complete(Names, usize),
+    /// The first so many names that are few edits from the line, and how many there are.
+    Near(Names, u32, usize),
     /// The longest name that covers the host.
     Block(BlockList),
     /// The name and those below it.
@@ -44,40 +61,113 @@ pub enum Question {
     Segment(Names),
 }
 
+// Writes fields with a tab between any two, up to the end of their line.
+fn push_fields(fields: &[&[u8]], end: u8, out: &mut Vec<u8>) -> Result<(), AllocError> {
+    let mut is_first = true;
+    for field in fields {
+        if !is_first {
+            out.push(b'\t')?;
+        }
+        is_first = false;
+        out.extend_from_slice(field)?;
+    }
+    out.push(end)?;
+    Ok(())
+}
+
+// Writes a line that was read, and how many names were found.
+fn push_count(line: &str, count: usize, end: u8, out: &mut Vec<u8>) -> Result<(), AllocError> {
+    let mut buffer = Buffer::new();
+    push_fields(
+        &[line.as_bytes(), buffer.format(count).as_bytes()],
+        end,
+        out,
+    )
+}
+
 fn route(
+    alloc: Global,
     routes: &Router<String, Payload>,
-    key: &str,
+    line: &str,
+    style: Style,
     out: &mut Vec<u8>,
 ) -> Result<bool, AllocError> {
-    let Some((prefix, target)) = routes.route(key) else {
-        out.extend_from_slice(b"-\n")?;
-        return Ok(false);
+    let (prefix, target) = match routes.route(line) {
+        Some((prefix, target)) => (Some(prefix), target.as_bytes()),
+        None => (None, b"".as_slice()),
     };
-    out.extend_from_slice(prefix.as_bytes())?;
-    out.push(b'\t')?;
-    out.extend_from_slice(target.as_bytes())?;
-    out.push(b'\n')?;
-    Ok(true)
+    match (style, prefix) {
+        (Style::Lines(end), Some(prefix)) => push_fields(&[prefix.as_bytes(), target], end, out)?,
+        (Style::Lines(end), None) => push_fields(&[b"-".as_slice()], end, out)?,
+        (Style::Json, _) => {
+            let target = match prefix {
+                Some(_) => Some(Text::new(target)),
+                None => None,
+            };
+            let object = RouteObject {
+                line,
+                prefix,
+                target,
+            };
+            push_object(alloc, &object, out)?;
+        }
+    }
+    Ok(prefix.is_some())
 }
 
 fn complete_all(
     alloc: Global,
     names: &Names,
-    prefix: &str,
+    line: &str,
     most: usize,
+    style: Style,
     out: &mut Vec<u8>,
 ) -> Result<bool, AllocError> {
-    let found = complete(alloc, names, prefix, most)?;
-    out.extend_from_slice(prefix.as_bytes())?;
-    out.push(b'\t')?;
-    out.extend_from_slice(Buffer::new().format(found.count).as_bytes())?;
-    out.push(b'\n')?;
-    for (name, _) in &found.first {
-        out.push(b'\t')?;
-        out.extend_from_slice(name.as_bytes())?;
-        out.push(b'\n')?;
+    let found = complete(alloc, names, line, most)?;
+    let count = found.count;
+    match style {
+        Style::Lines(end) => {
+            push_count(line, count, end, out)?;
+            for (name, _) in &found.first {
+                push_fields(&[b"".as_slice(), name.as_bytes()], end, out)?;
+            }
+        }
+        Style::Json => {
+            let mut names = Vec::new(alloc);
+            for (name, _) in &found.first {
+                names.push(name.as_str())?;
+            }
+            push_object(alloc, &CompleteObject { line, count, names }, out)?;
+        }
     }
-    Ok(found.count != 0)
+    Ok(count != 0)
+}
+
+fn near_all(
+    alloc: Global,
+    names: &Names,
+    line: &str,
+    (edits, most): (u32, usize),
+    style: Style,
+    out: &mut Vec<u8>,
+) -> Result<bool, AllocError> {
+    let found = near(alloc, names, line, edits, most)?;
+    let count = found.count;
+    match style {
+        Style::Lines(end) => {
+            push_count(line, count, end, out)?;
+            for near in &found.first {
+                let mut buffer = Buffer::new();
+                let edits = buffer.format(near.edits).as_bytes();
+                push_fields(&[b"".as_slice(), near.name.as_bytes(), edits], end, out)?;
+            }
+        }
+        Style::Json => {
+            let names = found.first.as_slice();
+            push_object(alloc, &NearObject { line, count, names }, out)?;
+        }
+    }
+    Ok(count != 0)
 }
 
 /// A host name in lower case and without a dot at its end.
@@ -94,29 +184,33 @@ pub fn folded(alloc: Global, name: &[u8]) -> Result<Vec<u8>, AllocError> {
 fn block(
     alloc: Global,
     list: &BlockList,
-    host: &[u8],
+    line: &[u8],
+    style: Style,
     out: &mut Vec<u8>,
 ) -> Result<bool, AllocError> {
-    let host = folded(alloc, host)?;
-    match list.find(&host)? {
-        Some(name) => {
-            out.extend_from_slice(b"blocked\t")?;
-            out.extend_from_slice(name)?;
-            out.push(b'\n')?;
-            Ok(true)
-        }
-        None => {
-            out.extend_from_slice(b"passes\n")?;
-            Ok(false)
+    let host = folded(alloc, line)?;
+    let found = list.find(&host)?;
+    match (style, found) {
+        (Style::Lines(end), Some(name)) => push_fields(&[b"blocked".as_slice(), name], end, out)?,
+        (Style::Lines(end), None) => push_fields(&[b"passes".as_slice()], end, out)?,
+        (Style::Json, _) => {
+            let blocked = match found {
+                Some(name) => Some(Text::new(name)),
+                None => None,
+            };
+            let line = Text::new(line);
+            push_object(alloc, &BlockObject { line, blocked }, out)?;
         }
     }
+    Ok(found.is_some())
 }
 
 // An entry of a tree: two spaces for each dot that its name has behind that of the tree.
-fn write_entry(
+fn push_entry(
     name: &[u8],
     root: &[u8],
     value: &[u8],
+    end: u8,
     out: &mut Vec<u8>,
 ) -> Result<(), AllocError> {
     for b in name.iter().skip(root.len()) {
@@ -124,37 +218,63 @@ fn write_entry(
             out.extend_from_slice(b"  ")?;
         }
     }
-    out.extend_from_slice(name)?;
-    if !value.is_empty() {
-        out.push(b'\t')?;
-        out.extend_from_slice(value)?;
+    if value.is_empty() {
+        push_fields(&[name], end, out)
+    } else {
+        push_fields(&[name, value], end, out)
     }
-    out.push(b'\n')?;
-    Ok(())
 }
 
-fn tree(alloc: Global, list: &Listing, name: &str, out: &mut Vec<u8>) -> Result<bool, AllocError> {
-    let entries = subtree(alloc, list, name)?;
-    for (key, value) in &entries {
-        write_entry(key.as_bytes(), name.as_bytes(), value.as_bytes(), out)?;
-    }
-    if entries.is_empty() {
-        out.extend_from_slice(b"-\n")?;
-    }
-    Ok(!entries.is_empty())
-}
-
-fn cut(alloc: Global, words: &Names, text: &str, out: &mut Vec<u8>) -> Result<bool, AllocError> {
-    let pieces = segment(alloc, words, text)?;
-    let mut is_first = true;
-    for piece in &pieces {
-        if !is_first {
-            out.push(b'\t')?;
+fn tree(
+    alloc: Global,
+    list: &Listing,
+    line: &str,
+    style: Style,
+    out: &mut Vec<u8>,
+) -> Result<bool, AllocError> {
+    let found = subtree(alloc, list, line)?;
+    match style {
+        Style::Lines(end) => {
+            for (name, value) in &found {
+                push_entry(name.as_bytes(), line.as_bytes(), value.as_bytes(), end, out)?;
+            }
+            if found.is_empty() {
+                push_fields(&[b"-".as_slice()], end, out)?;
+            }
         }
-        is_first = false;
-        out.extend_from_slice(piece.as_bytes())?;
+        Style::Json => {
+            let mut entries = Vec::new(alloc);
+            for (name, value) in &found {
+                let (name, value) = (name.as_str(), Text::new(value.as_bytes()));
+                entries.push(EntryObject { name, value })?;
+            }
+            push_object(alloc, &TreeObject { line, entries }, out)?;
+        }
     }
-    out.push(b'\n')?;
+    Ok(!found.is_empty())
+}
+
+fn cut(
+    alloc: Global,
+    words: &Names,
+    line: &str,
+    style: Style,
+    out: &mut Vec<u8>,
+) -> Result<bool, AllocError> {
+    let pieces = segment(alloc, words, line)?;
+    match style {
+        Style::Lines(end) => {
+            let mut fields = Vec::new(alloc);
+            for piece in &pieces {
+                fields.push(piece.as_bytes())?;
+            }
+            push_fields(&fields, end, out)?;
+        }
+        Style::Json => {
+            let pieces = pieces.as_slice();
+            push_object(alloc, &SegmentObject { line, pieces }, out)?;
+        }
+    }
     Ok(!pieces.is_empty())
 }
 
@@ -162,7 +282,7 @@ fn cut(alloc: Global, words: &Names, text: &str, out: &mut Vec<u8>) -> Result<bo
 fn text(line: &[u8]) -> Result<&str, AnswerError> {
     match str::from_utf8(line) {
         Ok(text) => Ok(text),
-        Err(_) => Err(AnswerError::NotUtf8),
+        Err(error) => Err(AnswerError::NotUtf8(error.valid_up_to())),
     }
 }
 
@@ -176,20 +296,26 @@ impl Question {
         &mut self,
         alloc: Global,
         line: &[u8],
+        style: Style,
         out: &mut Vec<u8>,
     ) -> Result<bool, AnswerError> {
         Ok(match self {
-            Question::Route(routes) => route(routes, text(line)?, out)?,
-            Question::Complete(list, most) => complete_all(alloc, list, text(line)?, *most, out)?,
-            Question::Block(list) => block(alloc, list, line, out)?,
-            Question::Tree(list) => tree(alloc, list, text(line)?, out)?,
+            Question::Route(routes) => route(alloc, routes, text(line)?, style, out)?,
+            Question::Complete(list, most) => {
+                complete_all(alloc, list, text(line)?, *most, style, out)?
+            }
+            Question::Near(list, edits, most) => {
+                near_all(alloc, list, text(line)?, (*edits, *most), style, out)?
+            }
+            Question::Block(list) => block(alloc, list, line, style, out)?,
+            Question::Tree(list) => tree(alloc, list, text(line)?, style, out)?,
             Question::DropTree(list) => {
                 let name = text(line)?;
-                let is_found = tree(alloc, list, name, out)?;
+                let is_found = tree(alloc, list, name, style, out)?;
                 drop_subtree(alloc, list, name)?;
                 is_found
             }
-            Question::Segment(list) => cut(alloc, list, text(line)?, out)?,
+            Question::Segment(list) => cut(alloc, list, text(line)?, style, out)?,
         })
     }
 }

@@ -1,6 +1,6 @@
 //! Autocomplete: the first entries that begin with a prefix.
 
-ghost use Rattle.std.specs.Prelude.{◌≡◌, ◌≢◌, ◌≤◌, [], ◌∷◌, ◌++◌, length, take, IfOk, OnOk, OnErr};
+ghost use Rattle.std.specs.Prelude.{◌≢◌, [], IfOk, OnErr};
 ghost use Rattle.std.specs.Prelude.{map as list_map};
 ghost use Rattle.std.specs.FinMap as map;
 ghost use Rattle.patricia_tree.specs.Prefixes.{under};
@@ -16,21 +16,11 @@ pub struct Completions<'a, K: Bytes, V> {
     pub count: usize,
 }
 
-// Puts an entry behind the others, unless there are `most` of them.
-fn keep_first<T: Drop>(first: &mut Vec<T>, most: usize, found: T) -> Result<(), AllocError>
-    requires { length first.old.items ≤ most }
-    ensures { OnOk result (first.new.items ≡ take most (first.old.items ++ found ∷ [])) }
-{
-    if first.len() < most {
-        first.push(found)?;
-    }
-    Ok(())
-}
-
 /// Returns the first `most` entries whose key begins with the prefix, in key order, and the number
 /// of all such entries, for an autocomplete.
 ///
-/// Takes a look-up, and time in proportion to all such entries.
+/// Takes a look-up, and time in proportion to all such entries, to count them. It copies the keys
+/// that it returns alone.
 ///
 /// # Errors
 ///
@@ -55,13 +45,14 @@ pub fn complete<'a, Q: BorrowedBytes, V: Drop>(
         (list_map (λ found. (Q.Owned.key found.0, found.1.now)) c.first.items) c.count) }
     ensures err { OnErr result (under (Q.key prefix) (map.entries entries.now) ≢ []) }
 {
-    // for the proof alone: there are no more entries than `count` can count
-    let _bound = entries.len();
+    let count = entries.count_prefix(prefix)?;
+    let mut left = entries.iter_prefix(prefix);
     let mut first = Vec::new(alloc);
-    let mut count: usize = 0;
-    for entry in entries.iter_prefix(prefix) {
-        keep_first(&mut first, most, entry?)?;
-        count += 1;
+    for _ in 0..most.min(count) {
+        let Some(entry) = left.next() else {
+            break;
+        };
+        first.push(entry?)?;
     }
     Ok(Completions { first, count })
 }

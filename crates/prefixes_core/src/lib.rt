@@ -1,22 +1,37 @@
-//! Questions about prefixes over lists of names: texts cut into words, completions, block lists
-//! and subtrees of dotted names; lists that are packed; and the program that asks all of it.
+//! Questions about prefixes over lists of names: texts cut into words, completions, near names,
+//! block lists and subtrees of dotted names; lists that are combined, measured, drawn and packed;
+//! and the program that asks all of it.
 #![tactic(auto)]
 
 pub mod answering;
 pub mod blocking;
+pub mod combining;
 pub mod completing;
 pub mod cutting;
 pub mod dotted;
+pub mod drawing;
+mod failure;
+mod files;
+mod inputs;
 pub mod listing;
+pub mod measuring;
+pub mod nearing;
+mod objects;
 mod options;
 pub mod packing;
 pub mod program;
+mod records;
+mod showing;
 pub mod value;
 
 pub use blocking::BlockList;
+pub use combining::{Combination, LinesError, combine, lines_of};
 pub use completing::{Completions, complete};
 pub use cutting::segment;
 pub use dotted::{drop_subtree, subtree};
-pub use packing::{PackError, UnpackError, pack, unpack};
+pub use drawing::{Node, draw};
+pub use measuring::{Measures, measure};
+pub use nearing::{NearName, NearNames, near};
+pub use packing::{PackError, UnpackError, pack, pack_names, unpack};
 pub use program::serve;
 pub use value::Payload;

@@ -5,8 +5,8 @@ use crate::blocking::BlockList;
 use crate::packing::{HEAD, UnpackError, unpack};
 use crate::value::Payload;
 use memchr::memchr;
-use patricia_tree::StringPatriciaMap;
 use patricia_tree::router::Router;
+use patricia_tree::{StringPatriciaMap, StringPatriciaSet};
 use std::alloc::{AllocError, AllocFailed, Global};
 use std::io::{self, BufRead, BufReader, Read, Write};
 use std::str;
@@ -18,13 +18,17 @@ pub type Listing = StringPatriciaMap<Payload>;
 /// The names of a list, without their values.
 pub type Names = StringPatriciaMap<()>;
 
+/// The names of a list as a set.
+pub type NameSet = StringPatriciaSet;
+
 /// Why a list is not read. Lines are counted from 1.
 #[derive(Debug, Drop, Error)]
 pub enum ListError {
     #[error("{0}")]
     Read(io::Error),
-    #[error("line {0}: not UTF-8")]
-    NotUtf8(u64),
+    /// From this byte on, counted from 0.
+    #[error("line {0}: not UTF-8 at byte {1}")]
+    NotUtf8(u64, usize),
     #[error("line {0}: no tab between a name and its value")]
     NoTab(u64),
     #[error("{0}")]
@@ -52,10 +56,10 @@ pub enum Values {
     Optional,
 }
 
-/// A line without the byte 10 at its end.
-pub fn without_end(line: &[u8]) -> &[u8] {
+/// A line without the byte that ends it.
+pub fn without_end(line: &[u8], end: u8) -> &[u8] {
     match line {
-        [front @ .., b'\n'] => front,
+        [front @ .., last] if *last == end => front,
         _ => line,
     }
 }
@@ -110,6 +114,13 @@ impl Destination for Names {
     }
 }
 
+impl Destination for NameSet {
+    fn add_entry(&mut self, _alloc: Global, name: &str, _value: &[u8]) -> Result<(), AllocError> {
+        self.insert(name)?;
+        Ok(())
+    }
+}
+
 impl Destination for Router<String, Payload> {
     fn add_entry(&mut self, alloc: Global, name: &str, value: &[u8]) -> Result<(), AllocError> {
         match self.add(name, Payload::new(alloc, value)?) {
@@ -139,8 +150,9 @@ fn add_line<S: Destination>(
         return Ok(());
     }
     let (name, value) = fields(line, number, values)?;
-    let Ok(name) = str::from_utf8(name) else {
-        return Err(ListError::NotUtf8(number));
+    let name = match str::from_utf8(name) {
+        Ok(name) => name,
+        Err(error) => return Err(ListError::NotUtf8(number, error.valid_up_to())),
     };
     destination.add_entry(alloc, name, value)?;
     Ok(())
@@ -151,16 +163,17 @@ fn read_lines<R: BufRead, W: Write, S: Destination>(
     alloc: Global,
     reader: &mut R,
     values: Values,
+    end: u8,
     progress: &mut Option<W>,
     destination: &mut S,
 ) -> Result<(), ListError> {
     let mut line = Vec::new(alloc);
     for number in 1..u64::MAX {
         line.clear();
-        if reader.read_until(b'\n', &mut line)? == 0 {
+        if reader.read_until(end, &mut line)? == 0 {
             break;
         }
-        add_line(alloc, destination, without_end(&line), number, values)?;
+        add_line(alloc, destination, without_end(&line, end), number, values)?;
         if number % 100_000 == 0
             && let Some(progress) = progress
         {
@@ -183,9 +196,9 @@ fn read_head<R: Read>(alloc: Global, file: &mut R) -> io::Result<Vec<u8>> {
 /// Reads a list and adds its entries: packed, if it begins as packed lists do, and else with a line
 /// for each name.
 ///
-/// A line is a name, and behind its first byte 9 the value. Empty lines are passed over. Where
-/// there is a `progress`, it gets a line for each 100,000 that are read. Takes memory in
-/// proportion to the list and its longest line, and where it is packed to its bytes too.
+/// A line, up to the byte `end`, is a name, and behind its first byte 9 the value. Empty lines are
+/// passed over. Where there is a `progress`, it gets a line for each 100,000 that are read. Takes
+/// memory in proportion to the list and its longest line, and where it is packed to its bytes too.
 ///
 /// # Errors
 ///
@@ -194,13 +207,14 @@ pub fn read_list<R: Read + Drop, W: Write, S: Destination>(
     alloc: Global,
     mut file: R,
     values: Values,
+    end: u8,
     progress: &mut Option<W>,
     destination: &mut S,
 ) -> Result<(), ListError> {
     let head = read_head(alloc, &mut file)?;
     let mut reader = BufReader::new(alloc, head.as_slice().chain(file))?;
     if head.as_slice() != HEAD {
-        return read_lines(alloc, &mut reader, values, progress, destination);
+        return read_lines(alloc, &mut reader, values, end, progress, destination);
     }
     let mut bytes = Vec::new(alloc);
     reader.read_to_end(&mut bytes)?;

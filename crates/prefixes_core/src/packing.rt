@@ -1,18 +1,19 @@
 //! Packed lists: a map of texts as bytes, which are read back without inserting each entry.
 
 ghost use Rattle.std.specs.Prelude.{◌≡◌, ◌≢◌, ◌⊎◌, ◌+◌, ◌<◌, ◌^◌, ◌++◌, ℕ, List, length};
-ghost use Rattle.std.specs.Prelude.{map as list_map, IfOk, OnOk, IfErr, IfSome, IfNone, Err};
+ghost use Rattle.std.specs.Prelude.{map as list_map, IfOk, OnOk, IfErr, IfSome, IfNone, Err, []};
+ghost use Rattle.std.specs.Prelude.{replicate};
 ghost use Rattle.std.specs.FinMap as map;
 ghost use Rattle.std.specs.List.{concat};
 ghost use Rattle.patricia_tree.specs.TextKind.{IsTextItem};
 ghost use Rattle.patricia_tree.specs.Writings.{TooDeep};
 ghost use Rattle.prefixes_core.specs.UnpackFaults.{IsUnpackFault, IsValueFault};
 ghost use Rattle.prefixes_core.specs.Packings.{counted, packed, Packs, ArePackedBytes};
-ghost use Rattle.prefixes_core.specs.Packings.{PacksOneList};
+ghost use Rattle.prefixes_core.specs.Packings.{PacksOneList, without_values};
 
 use crate::value::Payload;
-use patricia_tree::wire::laws::{meant_is_never_refused, one_meaning};
-use patricia_tree::{DecodeError, StringPatriciaMap, WireError};
+use patricia_tree::wire::laws::{meant_is_never_refused, one_meaning, tree_bytes_are_keys};
+use patricia_tree::{DecodeError, StringPatriciaMap, StringPatriciaSet, WireError};
 use std::alloc::{AllocError, AllocFailed, Global};
 use thiserror::Error;
 
@@ -131,6 +132,48 @@ pub fn pack(alloc: Global, list: &StringPatriciaMap<Payload>) -> Result<Vec<u8>,
         Err(_) => return Err(PackError::Memory),
     };
     Ok(with_values(alloc, list, &tree)?)
+}
+
+// Tree bytes and so many empty values, packed.
+fn with_empty_values(alloc: Global, count: usize, tree: &[u8]) -> Result<Vec<u8>, AllocError>
+    ensures { IfOk result (λ bytes. bytes.items ≡ packed tree.now (replicate count [])) }
+{
+    let mut out = Vec::from_slice(alloc, HEAD)?;
+    push_counted(&mut out, tree)?;
+    for _ in 0..count {
+        push_counted(&mut out, b"")?;
+    }
+    Ok(out)
+}
+
+/// Packs a set of names, each with the empty value.
+///
+/// The same names are packed to the same bytes. Takes time in proportion to the bytes.
+///
+/// # Errors
+///
+/// Those of `pack`.
+///
+/// # Examples
+///
+/// ```
+/// let names = StringPatriciaSet::from_iter(rt.alloc(), ["foo", "bar"])?;
+/// let list = unpack(rt.alloc(), &pack_names(rt.alloc(), &names)?)?;
+/// assert!(rt; list.get("foo").is_some_and(|value| value.as_bytes().is_empty()));
+/// ```
+pub fn pack_names(alloc: Global, names: &StringPatriciaSet) -> Result<Vec<u8>, PackError>
+    ensures ok { IfOk result (λ bytes.
+        ArePackedBytes bytes.items (without_values (map.keys names.now))) }
+    ensures too_deep { result ≡ Err PackError.TooDeep
+        → TooDeep IsTextItem 2 (map.keys names.now) }
+{
+    let tree = match names.tree_bytes() {
+        Ok(tree) => tree,
+        Err(WireError::TooDeep) => return Err(PackError::TooDeep),
+        Err(_) => return Err(PackError::Memory),
+    };
+    tree_bytes_are_keys::<String, (), Payload>();
+    Ok(with_empty_values(alloc, names.len(), &tree)?)
 }
 
 // The bytes that stand behind their number at the front, and those after them; or `None` where too

@@ -1,144 +1,45 @@
 //! The program over its words, its files and its streams.
 
-use crate::answering::{AnswerError, Question};
-use crate::blocking::BlockList;
-use crate::listing::{Destination, ListError, Listing, Names, Values, read_list, without_end};
-use crate::options;
-use crate::packing::{PackError, pack};
-use crate::value::Payload;
+use crate::answering::{Question, Style};
+use crate::failure::{Failure, put};
+use crate::files::{combine_files, pack_file};
+use crate::inputs::{Inputs, shown};
+use crate::listing::without_end;
+use crate::options::{self, line_end, path};
+use crate::showing::{show_measures, show_tree};
 use clap::ArgMatches;
-use patricia_tree::router::Router;
-use std::alloc::{AllocError, Global};
+use memchr::memchr;
+use std::alloc::Global;
 use std::fs;
-use std::io::{self, BufRead, BufReader, Read, Write};
+use std::io::{BufRead, BufReader, Read, Write};
 use std::rt::Files;
-use thiserror::Error;
 
-/// Why the program does not answer to the end.
-#[derive(Debug, Drop, Error)]
-pub enum Failure {
-    #[error("{0}: {1}")]
-    List(String, ListError),
-    #[error("{0}: {1}")]
-    Pack(String, PackError),
-    #[error("{0}: {1}")]
-    Write(String, io::Error),
-    #[error("standard input: {0}")]
-    Input(io::Error),
-    #[error("standard input: line {0}: {1}")]
-    Line(u64, AnswerError),
-    #[error("standard output: {0}")]
-    Output(io::Error),
-    #[error("{0}")]
-    Usage(clap::Error),
-    #[error("out of memory")]
-    Memory,
-}
+// How many bytes of answers wait for more lines at most, beside those of one line.
+const MOST_WAITING: usize = 1 << 16;
 
-impl From<AllocError> for Failure {
-    fn from(_: AllocError) -> Failure {
-        Failure::Memory
-    }
-}
-
-// The failure of a list at a path.
-fn list_failure(alloc: Global, path: &str, error: ListError) -> Failure {
-    match String::from_str(alloc, path) {
-        Ok(path) => Failure::List(path, error),
-        Err(_) => Failure::Memory,
-    }
-}
-
-// Reads the list at a path, and adds its entries.
-fn add_list_at<R: Files, E: Write, S: Destination>(
-    rt: &R,
-    alloc: Global,
-    path: &str,
-    values: Values,
-    progress: &mut Option<E>,
-    destination: &mut S,
-) -> Result<(), Failure> {
-    let file = match fs::open(rt, path) {
-        Ok(file) => file,
-        Err(error) => return Err(list_failure(alloc, path, ListError::Read(error))),
-    };
-    match read_list(alloc, file, values, progress, destination) {
-        Ok(()) => Ok(()),
-        Err(error) => Err(list_failure(alloc, path, error)),
-    }
-}
-
-// Reads the list at a path.
-fn list_at<R: Files, E: Write>(
-    rt: &R,
-    alloc: Global,
-    path: &str,
-    progress: &mut Option<E>,
-) -> Result<Listing, Failure> {
-    let mut list = Listing::new(alloc);
-    add_list_at(rt, alloc, path, Values::Optional, progress, &mut list)?;
-    Ok(list)
-}
-
-// Reads the names of the list at a path.
-fn names_at<R: Files, E: Write>(
-    rt: &R,
-    alloc: Global,
-    path: &str,
-    progress: &mut Option<E>,
-) -> Result<Names, Failure> {
-    let mut names = Names::new(alloc);
-    add_list_at(rt, alloc, path, Values::Optional, progress, &mut names)?;
-    Ok(names)
-}
-
-// Reads the table of routes at a path.
-fn router_at<R: Files, E: Write>(
-    rt: &R,
-    alloc: Global,
-    path: &str,
-    progress: &mut Option<E>,
-) -> Result<Router<String, Payload>, Failure> {
-    let mut routes = Router::new(alloc);
-    add_list_at(rt, alloc, path, Values::Needed, progress, &mut routes)?;
-    Ok(routes)
-}
-
-// Reads the block list at a path.
-fn block_list_at<R: Files, E: Write>(
-    rt: &R,
-    alloc: Global,
-    path: &str,
-    progress: &mut Option<E>,
-) -> Result<BlockList, Failure> {
-    let mut names = BlockList::new(alloc);
-    add_list_at(rt, alloc, path, Values::Optional, progress, &mut names)?;
-    Ok(names)
-}
-
-// The path that a command has for one of its files, which are required.
-fn path<'a>(matches: &ArgMatches<'a>, id: &str) -> &'a str {
-    matches.get_str(id).unwrap_or("")
+// How many entries a command shows for each line.
+fn most(matches: &ArgMatches<'_>) -> usize {
+    matches.get_one::<u32>("most").unwrap_or(10) as usize
 }
 
 // What a command asks, once its list is read.
-fn question<R: Files, E: Write>(
-    rt: &R,
-    alloc: Global,
+fn question<R: Files, I: Read + Drop, E: Write + Drop>(
+    inputs: &mut Inputs<'_, R, I, E>,
     name: &str,
     matches: &ArgMatches<'_>,
-    progress: &mut Option<E>,
 ) -> Result<Question, Failure> {
     Ok(match name {
-        "route" => Question::Route(router_at(rt, alloc, path(matches, "TABLE"), progress)?),
-        "block" => Question::Block(block_list_at(rt, alloc, path(matches, "LIST"), progress)?),
-        "segment" => Question::Segment(names_at(rt, alloc, path(matches, "DICTIONARY"), progress)?),
-        "complete" => Question::Complete(
-            names_at(rt, alloc, path(matches, "LIST"), progress)?,
-            matches.get_one::<u32>("most").unwrap_or(10) as usize,
+        "route" => Question::Route(inputs.router(path(matches, "TABLE"))?),
+        "block" => Question::Block(inputs.block_list(path(matches, "LIST"))?),
+        "segment" => Question::Segment(inputs.names(path(matches, "DICTIONARY"))?),
+        "complete" => Question::Complete(inputs.names(path(matches, "LIST"))?, most(matches)),
+        "near" => Question::Near(
+            inputs.names(path(matches, "LIST"))?,
+            u32::from(matches.get_one::<u8>("edits").unwrap_or(1)),
+            most(matches),
         ),
         _ => {
-            let list = list_at(rt, alloc, path(matches, "LIST"), progress)?;
+            let list = inputs.list(path(matches, "LIST"))?;
             if matches.get_flag("drop") {
                 Question::DropTree(list)
             } else {
@@ -148,69 +49,64 @@ fn question<R: Files, E: Write>(
     })
 }
 
-// Packs the list at a path into a file.
-fn pack_file<R: Files, E: Write>(
-    rt: &R,
+// Lines that are read from a file or the standard input, and how they are answered.
+#[derive(Clone, Copy)]
+struct Asked<'p> {
+    path: &'p str,
+    end: u8,
+    style: Style,
+}
+
+// Reads the next line in place of the one before, and returns whether there is one.
+fn read_line<R: BufRead>(
     alloc: Global,
-    matches: &ArgMatches<'_>,
-    progress: &mut Option<E>,
-) -> Result<(), Failure> {
-    let (from, to) = (path(matches, "LIST"), path(matches, "OUT"));
-    let list = list_at(rt, alloc, from, progress)?;
-    let bytes = match pack(alloc, &list) {
-        Ok(bytes) => bytes,
-        Err(error) => return Err(Failure::Pack(String::from_str(alloc, from)?, error)),
-    };
-    match fs::write(rt, to, &bytes) {
-        Ok(()) => Ok(()),
-        Err(error) => Err(Failure::Write(String::from_str(alloc, to)?, error)),
+    reader: &mut R,
+    asked: &Asked<'_>,
+    line: &mut Vec<u8>,
+) -> Result<bool, Failure> {
+    line.clear();
+    match reader.read_until(asked.end, line) {
+        Ok(len) => Ok(len != 0),
+        Err(error) => {
+            let name = String::from_str(alloc, shown(asked.path))?;
+            Err(Failure::Input(name, error))
+        }
     }
 }
 
-// Writes what is answered so far.
-fn put<W: Write>(output: &mut W, out: &mut Vec<u8>) -> Result<(), Failure> {
-    if let Err(error) = output.write_all(out) {
-        return Err(Failure::Output(error));
-    }
-    if let Err(error) = output.flush() {
-        return Err(Failure::Output(error));
-    }
-    out.clear();
-    Ok(())
-}
-
-// Answers each line of the input, and writes the answers whenever no more input is at hand. It
-// returns whether something was found.
-fn answer_lines<I: Read + Drop, W: Write>(
+// Answers each line of the input, and writes the answers whenever no whole line is at hand, or many
+// bytes of them wait. It returns whether something was found.
+fn answer_lines<F: Read + Drop, W: Write>(
     alloc: Global,
     question: &mut Question,
-    input: I,
+    input: F,
+    asked: &Asked<'_>,
     output: &mut W,
 ) -> Result<bool, Failure> {
+    let name = shown(asked.path);
     let mut reader = match BufReader::new(alloc, input) {
         Ok(reader) => reader,
-        Err(error) => return Err(Failure::Input(error)),
+        Err(error) => return Err(Failure::Input(String::from_str(alloc, name)?, error)),
     };
     let mut is_found = false;
     let mut line = Vec::new(alloc);
     let mut out = Vec::new(alloc);
     for number in 1..u64::MAX {
-        line.clear();
-        match reader.read_until(b'\n', &mut line) {
-            Ok(0) => break,
-            Ok(_) => {}
-            Err(error) => return Err(Failure::Input(error)),
+        if !read_line(alloc, &mut reader, asked, &mut line)? {
+            break;
         }
         let len = out.len();
-        match question.answer(alloc, without_end(&line), &mut out) {
+        match question.answer(alloc, without_end(&line, asked.end), asked.style, &mut out) {
             Ok(found) => is_found |= found,
             Err(error) => {
                 out.truncate(len);
                 put(output, &mut out)?;
-                return Err(Failure::Line(number, error));
+                return Err(Failure::Line(String::from_str(alloc, name)?, number, error));
             }
         }
-        if reader.buffer().is_empty() {
+        // a line that is not whole yet may be long in coming
+        let waits = memchr(asked.end, reader.buffer()).is_none();
+        if waits || out.len() >= MOST_WAITING {
             put(output, &mut out)?;
         }
     }
@@ -218,16 +114,43 @@ fn answer_lines<I: Read + Drop, W: Write>(
     Ok(is_found)
 }
 
-// Runs the program, and returns whether something was found.
-fn run<R: Files, I: Read + Drop, W: Write, E: Write>(
-    rt: &R,
-    alloc: Global,
-    words: &[String],
-    input: I,
+// Answers the lines of a file or of the standard input, and returns whether something was found.
+fn answer_all<R: Files, I: Read + Drop, W: Write, E: Write + Drop>(
+    inputs: &mut Inputs<'_, R, I, E>,
+    name: &str,
+    matches: &ArgMatches<'_>,
     output: &mut W,
-    progress: &mut Option<E>,
 ) -> Result<bool, Failure> {
-    let command = options::command(alloc)?;
+    let alloc = inputs.alloc;
+    let mut question = question(inputs, name, matches)?;
+    let asked = Asked {
+        path: matches.get_str("lines").unwrap_or("-"),
+        end: inputs.end,
+        style: if matches.get_flag("json") {
+            Style::Json
+        } else {
+            Style::Lines(inputs.end)
+        },
+    };
+    if asked.path == "-" {
+        return match inputs.standard.take() {
+            Some(input) => answer_lines(alloc, &mut question, input, &asked, output),
+            None => Err(Failure::ReadTwice),
+        };
+    }
+    match fs::open(inputs.rt, asked.path) {
+        Ok(file) => answer_lines(alloc, &mut question, file, &asked, output),
+        Err(error) => Err(Failure::Input(String::from_str(alloc, asked.path)?, error)),
+    }
+}
+
+// Runs the program, and returns whether something was found.
+fn run<R: Files, I: Read + Drop, W: Write, E: Write + Drop>(
+    mut inputs: Inputs<'_, R, I, E>,
+    words: &[String],
+    output: &mut W,
+) -> Result<bool, Failure> {
+    let command = options::command(inputs.alloc)?;
     let matches = match command.try_get_matches_from(words) {
         Ok(matches) => matches,
         Err(error) => return Err(Failure::Usage(error)),
@@ -235,12 +158,30 @@ fn run<R: Files, I: Read + Drop, W: Write, E: Write>(
     let Some((name, matches)) = matches.subcommand() else {
         return Ok(false);
     };
-    if name == "pack" {
-        pack_file(rt, alloc, matches, progress)?;
-        return Ok(true);
+    inputs.end = line_end(matches);
+    match name {
+        "pack" => pack_file(&mut inputs, matches)?,
+        "combine" => combine_files(&mut inputs, matches)?,
+        "stats" => return show_measures(&mut inputs, matches, output),
+        "draw" => return show_tree(&mut inputs, matches, output),
+        _ => return answer_all(&mut inputs, name, matches, output),
     }
-    let mut question = question(rt, alloc, name, matches, progress)?;
-    answer_lines(alloc, &mut question, input, output)
+    Ok(true)
+}
+
+// Writes the help or the version, and returns the status to end with.
+fn show_help<W: Write, E: Write>(output: &mut W, errors: &mut E, help: &clap::Error) -> u8 {
+    let mut written = write!(output, "{help}");
+    if written.is_ok() {
+        written = output.flush();
+    }
+    match written {
+        Ok(()) => 0,
+        Err(error) => {
+            let _ = writeln!(errors, "prefixes: {}", Failure::Output(error));
+            2
+        }
+    }
 }
 
 /// The program, over its words and streams. It returns the status to end with: 0 where something
@@ -253,9 +194,16 @@ pub fn serve<R: Files, I: Read + Drop, W: Write + Drop, E: Write + Drop>(
     input: I,
     mut output: W,
     mut errors: E,
-    mut progress: Option<E>,
+    progress: Option<E>,
 ) -> u8 {
-    match run(rt, alloc, words, input, &mut output, &mut progress) {
+    let inputs = Inputs {
+        rt,
+        alloc,
+        standard: Some(input),
+        progress,
+        end: b'\n',
+    };
+    match run(inputs, words, &mut output) {
         Ok(true) => 0,
         Ok(false) => 1,
         Err(Failure::Usage(error)) => {
@@ -263,8 +211,7 @@ pub fn serve<R: Files, I: Read + Drop, W: Write + Drop, E: Write + Drop>(
                 let _ = write!(errors, "{error}");
                 2
             } else {
-                let _ = write!(output, "{error}");
-                0
+                show_help(&mut output, &mut errors, &error)
             }
         }
         Err(failure) => {

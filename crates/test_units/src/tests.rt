@@ -3,4 +3,5 @@
 
 mod asserts;
 mod calls;
+mod unit_examples;
 mod units;

@@ -45,6 +45,13 @@ impl UnitKey {
     /// # Errors
     ///
     /// Out of memory.
+    ///
+    /// # Examples
+    ///
+    /// ```
+    /// let key = UnitKey::from_units(rt.alloc(), &[0x61, 0x3042])?;
+    /// assert!(rt; key.as_units().as_bytes() == [0, 0x61, 0x30, 0x42].as_slice());
+    /// ```
     pub fn from_units(alloc: Global, units: &[u16]) -> Result<UnitKey, AllocError>
         ensures { IfOk result (λ key. key ≡ flat_map (to_be_bytes w16) units.now) }
     {
@@ -56,6 +63,13 @@ impl UnitKey {
     }
 
     /// The key, borrowed.
+    ///
+    /// # Examples
+    ///
+    /// ```
+    /// let key = UnitKey::from_units(rt.alloc(), &[0x61, 0x3042])?;
+    /// assert!(rt; key.as_units().as_bytes() == [0, 0x61, 0x30, 0x42].as_slice());
+    /// ```
     pub fn as_units(&self) -> Units<'_>
         ensures { ⟦<Units<'static> as BorrowedBytes>⟧.key result ≡ self.now }
     {
@@ -67,6 +81,19 @@ impl UnitKey {
 
 impl<'a> Units<'a> {
     /// The key that the bytes are, or `None` where their number is odd.
+    ///
+    /// # Examples
+    ///
+    /// ```
+    /// if let Some(units) = Units::new(b"\0a\0b") {
+    ///     assert_eq!(rt; units.len(), 2);
+    ///     let last = units.len().saturating_sub(1);
+    ///     if last < units.len() {
+    ///         assert_eq!(rt; units.unit(last), 0x62);
+    ///     }
+    /// }
+    /// assert!(rt; Units::new(b"\0a\0").is_none());
+    /// ```
     pub fn new(bytes: &'a [u8]) -> Option<Units<'a>>
         ensures some { IfSome result (λ units.
             ⟦<Units<'a> as BorrowedBytes>⟧.key units ≡ bytes.now) }
@@ -80,6 +107,19 @@ impl<'a> Units<'a> {
     }
 
     /// The number of units.
+    ///
+    /// # Examples
+    ///
+    /// ```
+    /// if let Some(units) = Units::new(b"\0a\0b") {
+    ///     assert_eq!(rt; units.len(), 2);
+    ///     let last = units.len().saturating_sub(1);
+    ///     if last < units.len() {
+    ///         assert_eq!(rt; units.unit(last), 0x62);
+    ///     }
+    /// }
+    /// assert!(rt; Units::new(b"\0a\0").is_none());
+    /// ```
     pub fn len(self) -> usize
         ensures { result ≡ length (⟦<Units<'a> as BorrowedBytes>⟧.key self.entry) / 2 }
     {
@@ -87,6 +127,19 @@ impl<'a> Units<'a> {
     }
 
     /// The unit at a place, counted from 0. The place is less than the number of units.
+    ///
+    /// # Examples
+    ///
+    /// ```
+    /// if let Some(units) = Units::new(b"\0a\0b") {
+    ///     assert_eq!(rt; units.len(), 2);
+    ///     let last = units.len().saturating_sub(1);
+    ///     if last < units.len() {
+    ///         assert_eq!(rt; units.unit(last), 0x62);
+    ///     }
+    /// }
+    /// assert!(rt; Units::new(b"\0a\0").is_none());
+    /// ```
     pub fn unit(self, place: usize) -> u16
         requires { place < length (⟦<Units<'a> as BorrowedBytes>⟧.key self) / 2 }
         ensures { result

@@ -3,7 +3,7 @@ use Rattle.std.specs.Prelude.{◌≡◌, ℕ, ◌+◌, ◌-◌, ◌*◌, ◌%◌
 use Rattle.std.specs.Prelude.{Some, None, nat_eq, nat_lt, if◌then◌else◌, get_or, vec_capacity}
 use Rattle.std.specs.Global.{Vec}
 use Rattle.patricia_nodes.specs.declared.arena.Node.{Node}
-use Rattle.patricia_nodes.specs.declared.arena.node_vec.Head.{Head}
+use Rattle.patricia_nodes.specs.declared.arena.head.Head.{Head}
 
 -- the first byte of a label, 0 where there is none; a label has no number past 255
 abbrev pub byte_of : List ℕ → ℕ

@@ -22,11 +22,8 @@ impl<V> NodeArena<V> {
             (HasValueNode Q.Owned.item self.now (Q.key key)) }
     {
         match self.seek(key).here() {
-            Some(id) => {
-                let node = &self.nodes[id.index()];
-                if node.value.is_some() { Some(id) } else { None }
-            }
-            None => None,
+            Some(id) if self.nodes.value(id).is_some() => Some(id),
+            _ => None,
         }
     }
 

@@ -43,9 +43,7 @@ impl<V: Drop> NodeArena<V> {
         requires lower { lower < vec_len self.now.nodes }
         ensures { IfOk result (λ label. IsJoined self.now upper lower label) }
     {
-        let upper = self.nodes[upper.index()].label.as_slice();
-        let lower = self.nodes[lower.index()].label.as_slice();
-        Label::joined(alloc, upper, lower)
+        Label::joined(alloc, self.nodes.label(upper), self.nodes.label(lower))
     }
 
     // The numbers of two siblings, if they are just two.
@@ -57,10 +55,10 @@ impl<V: Drop> NodeArena<V> {
         let Some(first) = first.get() else {
             return None;
         };
-        let Some(second) = self.nodes[first.index()].sibling.get() else {
+        let Some(second) = self.nodes.sibling(first).get() else {
             return None;
         };
-        match self.nodes[second.index()].sibling.get() {
+        match self.nodes.sibling(second).get() {
             None => Some((first, second)),
             Some(_) => None,
         }
@@ -74,11 +72,10 @@ impl<V: Drop> NodeArena<V> {
         let Some(upper) = link_ref.above() else {
             return None;
         };
-        let node = &self.nodes[upper.index()];
-        if node.value.is_some() {
+        if self.nodes.value(upper).is_some() {
             return None;
         }
-        let Some(children) = self.exactly_two(node.child) else {
+        let Some(children) = self.exactly_two(self.nodes.child(upper)) else {
             return None;
         };
         if children.0.index() == id.index() {

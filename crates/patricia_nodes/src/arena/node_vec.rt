@@ -1,14 +1,11 @@
-//! Nodes in a vector, and beside them eight bytes for each, which are all that a look-up reads of
-//! most nodes that it passes.
-ghost use Rattle.std.specs.Prelude.{◌≡◌, ◌≢◌, ◌+◌, ◌<◌, ◌≤◌, ◌++◌, [], ◌∷◌, IfOk, IsOk, OnOk};
+//! Nodes in a vector, and beside them the head of each.
+ghost use Rattle.std.specs.Prelude.{◌≡◌, ◌+◌, ◌<◌, ◌≤◌, ◌++◌, [], ◌∷◌, IfOk, IsOk, OnOk};
 ghost use Rattle.std.specs.Prelude.{ℕ, take, length, slice_index_or, slice_get};
 ghost use Rattle.std.specs.Prelude.{vec_len, vec_capacity};
 ghost use Rattle.std.specs.Borrow.{sem};
 ghost use Rattle.std.specs.Option.{option_copied, option_copied_mut};
 ghost use Rattle.std.specs.Vec.{with_item};
-ghost use Rattle.patricia_nodes.specs.Internal.Heads.{byte_of, short_len_of, label_bits_of};
-ghost use Rattle.patricia_nodes.specs.Internal.Heads.{leaf_bit_of, apart_bit_of, below_code_of};
-ghost use Rattle.patricia_nodes.specs.Internal.Heads.{beside_code_of, head_of, heads_from};
+ghost use Rattle.patricia_nodes.specs.Internal.Heads.{byte_of, short_len_of, heads_from};
 ghost use Rattle.patricia_nodes.specs.Internal.Permutations.{AreInverse, GathersFirst};
 ghost use Rattle.patricia_nodes.specs.Internal.Renumbering.{moved, Renumbers};
 ghost use Rattle.patricia_nodes.specs.Internal.Renumbering.{KeepsRearranged};
@@ -16,6 +13,10 @@ ghost use Rattle.patricia_nodes.specs.Internal.NodeVecs.{ReadsNode, Changes, Tra
 ghost use Rattle.patricia_nodes.specs.Internal.NodeVecs.{IsRun, lends_value_at};
 
 use crate::arena::Node;
+use crate::arena::head::{
+    APART, FAR_BELOW, FAR_BESIDE, FIRST, Head, LEAF, apart_bit, below_code, beside_code,
+    head_of_node, leaf_bit,
+};
 use crate::arena::interleave::{count_strays, interleave};
 use crate::arena::permute::permute;
 use crate::label::Label;
@@ -23,37 +24,6 @@ use crate::link::{Link, NodeId};
 use std::alloc::{AllocError, Global};
 use std::marker::Model;
 use std::mem;
-use std::ops::Index;
-
-// What a look-up reads of a node first. From its highest bit on, `word` has a bit that says that
-// the sibling is not the next node of the vector, the first byte of the label, a bit for a node
-// without children, and in six bits the length of the label, `LONG` where it is no less. So `word`
-// is less than `FIRST * b` where the sibling is the next node and the first byte is less than b.
-//
-// `below` is how far behind the node its first child stands: 0 for none, and `FAR_BELOW` says that
-// the number is in the node. `beside` is 0 for no sibling, 1 for the next node of the vector, a
-// number below `FAR_BESIDE` is 2 more than that of the node, and `FAR_BESIDE` says that the number
-// is in the node.
-#[derive(Clone, Copy)]
-struct Head {
-    word: u16,
-    below: u16,
-    beside: u32,
-}
-
-const APART: u16 = 32768;
-
-const FIRST: u16 = 128;
-
-const LEAF: u16 = 64;
-
-const LONG: usize = 63;
-
-const FAR_BELOW: u16 = u16::MAX;
-
-const FAR_BESIDE: u32 = u32::MAX;
-
-const _: () = prove!(mem::size_of::<Head>() == 8);
 
 /// The nodes of a tree, which contracts see as a vector of nodes.
 #[derive(Drop)]
@@ -73,77 +43,6 @@ impl<V> Model for NodeVec<V> {
     ghost view = { λ v. v.nodes };
 
     ghost invariant = { λ v. HasHeads v.nodes v.heads };
-}
-
-// The bits of a label: its first byte, 0 where there is none, and its length.
-fn label_bits(label: &Label) -> u16
-    ensures value { result ≡ label_bits_of label.now }
-    ensures small { result < APART }
-{
-    let bytes = label.as_slice();
-    let first = if bytes.is_empty() { 0 } else { bytes[0] };
-    let len = if bytes.len() < LONG {
-        bytes.len()
-    } else {
-        LONG
-    };
-    FIRST * first as u16 + len as u16
-}
-
-// The bit of a node without this child.
-fn leaf_bit(child: Link) -> u16
-    ensures { result ≡ leaf_bit_of child }
-{
-    if child.get().is_none() { LEAF } else { 0 }
-}
-
-// The bit of a node before this number, whose sibling may be there.
-fn apart_bit(next: usize, sibling: Link) -> u16
-    ensures { result ≡ apart_bit_of next sibling }
-{
-    match sibling.get() {
-        Some(id) if id.index() == next => 0,
-        _ => APART,
-    }
-}
-
-// How far behind the node with this number its child stands.
-fn below_code(id: usize, child: Link) -> u16
-    ensures { result ≡ below_code_of id child }
-{
-    let Some(child) = child.get() else {
-        return 0;
-    };
-    if id < child.index() && child.index() - id < FAR_BELOW as usize {
-        (child.index() - id) as u16
-    } else {
-        FAR_BELOW
-    }
-}
-
-// Where this sibling stands of a node before this number.
-fn beside_code(next: usize, sibling: Link) -> u32
-    ensures { result ≡ beside_code_of next sibling }
-{
-    match sibling.get() {
-        None => 0,
-        Some(id) if id.index() == next => 1,
-        Some(id) if id.index() < FAR_BESIDE as usize - 2 => id.index() as u32 + 2,
-        Some(_) => FAR_BESIDE,
-    }
-}
-
-// The head of a node with this number.
-fn head_of_node<V>(id: usize, node: &Node<V>) -> Head
-    requires { id < 18446744073709551615 }
-    ensures { result ≡ head_of id node.now }
-{
-    let bits = leaf_bit(node.child) + label_bits(&node.label);
-    Head {
-        word: apart_bit(id + 1, node.sibling) + bits,
-        below: below_code(id, node.child),
-        beside: beside_code(id + 1, node.sibling),
-    }
 }
 
 // Writes the heads of nodes, in the room of those that were there.
@@ -237,14 +136,6 @@ impl<V> NodeVec<V> {
         ensures { result ≡ vec_capacity self.now }
     {
         self.nodes.capacity()
-    }
-
-    /// The nodes.
-    pub fn as_slice(&self) -> &[Node<V>]
-        ensures value { result.now ≡ self.now.items }
-        ensures len { length result.now ≡ vec_len self.now }
-    {
-        self.nodes.as_slice()
     }
 
     /// The label of a node.
@@ -500,20 +391,5 @@ impl<V: Drop> NodeVec<V> {
     {
         self.nodes.clear();
         self.heads.clear();
-    }
-}
-
-impl<V> Index<usize> for NodeVec<V> {
-    type Output = Node<V>;
-
-    ghost can_index = { λ v i. i < vec_len v };
-
-    ghost index_gives = { λ v i x. x ≡ slice_index_or v.items i x };
-
-    fn index(&self, index: usize) -> &Node<V>
-        requires { index < vec_len self.now }
-        ensures { result.now ≡ slice_index_or self.now.items index result.now }
-    {
-        &self.nodes[index]
     }
 }

@@ -62,9 +62,10 @@ impl<V: Drop> NodeArena<V> {
         let mut i = start;
         while i < end {
             let below = to.len();
-            let child = to[i].child;
+            let id = NodeId::new(i);
+            let child = to.child(id);
             let first = self.relocate_siblings(child, to);
-            to.set_child(NodeId::new(i), first);
+            to.set_child(id, first);
             i += 1;
             if depth == 0 {
                 end = to.len();

@@ -24,7 +24,7 @@ impl<V: Drop> NodeArena<V> {
     {
         match self.free.get() {
             None => 0,
-            Some(id) => match self.nodes[id.index()].sibling.get() {
+            Some(id) => match self.nodes.sibling(id).get() {
                 None => 1,
                 Some(_) => 2,
             },
@@ -101,8 +101,8 @@ impl<V: Drop> NodeArena<V> {
         self.nodes.reserve_exact(more)
     }
 
-    /// Makes room for two more nodes, and relocates the nodes for their order. They may have other
-    /// numbers then. No memory for the order is no error.
+    /// Makes room for two more nodes, and relocates the nodes as `settle` does. They may have other
+    /// numbers then.
     pub fn reserve_two(&mut self, alloc: Global) -> Result<(), AllocError>
         requires whole { IsWellFormed self.old }
         ensures whole { IsWellFormed self.new }
@@ -114,17 +114,20 @@ impl<V: Drop> NodeArena<V> {
         if !self.has_room() {
             self.extend()?;
         }
-        self.try_relocate(alloc);
+        self.settle(alloc);
         Ok(())
     }
 
-    /// Relocates the nodes at the end of a load, where an eighth of them or more were made or freed
-    /// since they were last relocated. Without memory for that they stay where they are.
+    /// Relocates the nodes for their order, where an eighth of them or more were made or freed
+    /// since they were last relocated: a copy that gets few entries more is in order as it is.
+    /// Without memory for that they stay where they are, and it is no error.
     pub fn settle(&mut self, alloc: Global)
         requires whole { IsWellFormed self.old }
         ensures whole { IsWellFormed self.new }
         ensures siblings { siblings_of self.new ≡ siblings_of self.old }
         ensures none_free { self.old.free ≡ None → self.new.free ≡ None }
+        ensures fewer { vec_len self.new.nodes ≤ vec_len self.old.nodes }
+        ensures room { HasRoomFor self.old 2 → HasRoomFor self.new 2 }
     {
         if self.edits >= self.nodes.len() / 8 {
             self.try_relocate(alloc);

@@ -15,7 +15,7 @@ use std::iter::IntoIterator;
 
 impl<K: Bytes, V: Drop> GenericPatriciaMap<K, V> {
     /// Returns the entries in key order, each with an owned key. Making the iterator does not
-    /// allocate; an item that is an error is out of memory, and ends it.
+    /// allocate; an item that is an error is out of memory where an entry was left, and ends it.
     ///
     /// # Examples
     ///
@@ -35,7 +35,7 @@ impl<K: Bytes, V: Drop> GenericPatriciaMap<K, V> {
 
     /// Returns the entries whose key begins with the prefix, in key order, each with an owned key,
     /// as an autocomplete lists them. Making the iterator does not allocate; an item that is an
-    /// error is out of memory, and ends it.
+    /// error is out of memory where an entry was left, and ends it.
     ///
     /// # Examples
     ///
@@ -53,7 +53,7 @@ impl<K: Bytes, V: Drop> GenericPatriciaMap<K, V> {
     }
 
     /// Returns the keys in order, each an owned key. Making the iterator does not allocate; an item
-    /// that is an error is out of memory, and ends it.
+    /// that is an error is out of memory where an entry was left, and ends it.
     ///
     /// # Examples
     ///
@@ -71,7 +71,7 @@ impl<K: Bytes, V: Drop> GenericPatriciaMap<K, V> {
     }
 
     /// Returns the values in the order of their keys. Making the iterator does not allocate; an
-    /// item that is an error is out of memory, and ends it.
+    /// item that is an error is out of memory where an entry was left, and ends it.
     ///
     /// # Examples
     ///

@@ -14,7 +14,7 @@ use std::iter::IntoIterator;
 
 impl<T: Bytes> GenericPatriciaSet<T> {
     /// Returns the elements in order, each owned. Making the iterator does not allocate; an item
-    /// that is an error is out of memory, and ends it.
+    /// that is an error is out of memory where an element was left, and ends it.
     ///
     /// # Examples
     ///
@@ -32,8 +32,8 @@ impl<T: Bytes> GenericPatriciaSet<T> {
     }
 
     /// Returns the elements that begin with the prefix, in order, each owned, as an autocomplete
-    /// lists them. Making the iterator does not allocate; an item that is an error is out of
-    /// memory, and ends it.
+    /// lists them. Making the iterator does not allocate; an item that is an error is out of memory
+    /// where an element was left, and ends it.
     ///
     /// # Examples
     ///

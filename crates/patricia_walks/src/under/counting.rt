@@ -1,7 +1,9 @@
 //! How many values there are under a prefix, without memory for the way.
 ghost use Rattle.std.specs.Prelude.{◌≡◌, ◌≢◌, ◌+◌, ◌<◌, [], length, Any, IfSome, IfNone};
+ghost use Rattle.std.specs.Prelude.{vec_len};
 ghost use Rattle.patricia_model.specs.Prefixes.{under};
 ghost use Rattle.patricia_model.specs.Siblings.{own, entries, IsCanonical};
+ghost use Rattle.patricia_nodes.specs.Internal.NodeVecs.{ReadsNode};
 ghost use Rattle.patricia_nodes.specs.Internal.Plans.{IsPlan, IsWellFormed, plan_at};
 ghost use Rattle.patricia_nodes.specs.Internal.Plans.{siblings_of, entries_of};
 ghost use Rattle.patricia_walks.specs.Internal.Depths.{IsDeeper};
@@ -9,17 +11,19 @@ ghost use Rattle.patricia_walks.specs.Internal.Positions.{siblings_at};
 
 use super::find_start;
 use patricia_keys::BorrowedBytes;
-use patricia_nodes::arena::{Node, NodeArena};
-use patricia_nodes::link::Link;
+use patricia_nodes::arena::NodeArena;
+use patricia_nodes::arena::node_vec::NodeVec;
+use patricia_nodes::link::{Link, NodeId};
 
 // How many levels are counted by recursion.
 const COUNTED_DEPTH: u32 = 64;
 
 // How many values a node has.
-fn count_value<V>(node: &Node<V>) -> usize
-    ensures { result ≡ length (own node.now.value) }
+fn count_value<V>(nodes: &NodeVec<V>, id: NodeId) -> usize
+    requires { id < vec_len nodes.now }
+    ensures { ReadsNode nodes.now id (λ n. result ≡ length (own n.value)) }
 {
-    if node.value.is_some() { 1 } else { 0 }
+    if nodes.value(id).is_some() { 1 } else { 0 }
 }
 
 // How many values siblings and all nodes below them have. `None` where more than `depth` nodes lie
@@ -36,9 +40,9 @@ fn count_siblings<V>(arena: &NodeArena<V>, first: Link, depth: u32) -> Option<us
         if depth == 0 {
             return None;
         }
-        let node = &arena.nodes[id.index()];
-        count += count_value(node) + count_siblings(arena, node.child, depth - 1)?;
-        at = node.sibling;
+        let nodes = &arena.nodes;
+        count += count_value(nodes, id) + count_siblings(arena, nodes.child(id), depth - 1)?;
+        at = nodes.sibling(id);
     }
     Some(count)
 }
@@ -56,7 +60,7 @@ pub fn count_under<Q: BorrowedBytes, V>(arena: &NodeArena<V>, prefix: Q) -> Opti
     let Some(start) = find_start(arena, prefix) else {
         return Some(0);
     };
-    let node = &start.arena.nodes[start.top.index()];
-    let below = count_siblings(start.arena, node.child, COUNTED_DEPTH)?;
-    Some(count_value(node) + below)
+    let nodes = &start.arena.nodes;
+    let below = count_siblings(start.arena, nodes.child(start.top), COUNTED_DEPTH)?;
+    Some(count_value(nodes, start.top) + below)
 }

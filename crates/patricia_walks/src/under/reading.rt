@@ -57,7 +57,19 @@ impl<'a, Q: BorrowedBytes, V> PrefixReadCursor<'a, Q, V> {
     ///
     /// # Errors
     ///
-    /// Out of memory: the cursor is at its end then.
+    /// Out of memory, only where an entry is left: the cursor is at its end then.
+    ///
+    /// # Examples
+    ///
+    /// ```
+    /// let map = StringPatriciaMap::from_iter(rt.alloc(), [("foo", 1), ("bar", 2), ("baz", 3)])?;
+    /// let mut cursor = map.cursor_prefix("ba");
+    /// assert!(rt; cursor.advance()?);
+    /// assert_eq!(rt; (cursor.text(), cursor.value()), (Some("bar"), Some(&2)));
+    /// assert!(rt; cursor.advance()?);
+    /// assert_eq!(rt; cursor.key(), Some(b"baz".as_slice()));
+    /// assert!(rt; !cursor.advance()?);
+    /// ```
     pub fn advance(&mut self) -> Result<bool, AllocError>
         ensures found { IfOk result (λ found. IsTrue found ↔ (self.old.left ≢ [])) }
         ensures advanced { OnOk result (self.new ≡ advanced self.old) }
@@ -83,6 +95,18 @@ impl<'a, Q: BorrowedBytes, V> PrefixReadCursor<'a, Q, V> {
     /// and behind the last one. They are those of a key of its kind.
     ///
     /// Takes constant time.
+    ///
+    /// # Examples
+    ///
+    /// ```
+    /// let map = StringPatriciaMap::from_iter(rt.alloc(), [("foo", 1), ("bar", 2), ("baz", 3)])?;
+    /// let mut cursor = map.cursor_prefix("ba");
+    /// assert!(rt; cursor.advance()?);
+    /// assert_eq!(rt; (cursor.text(), cursor.value()), (Some("bar"), Some(&2)));
+    /// assert!(rt; cursor.advance()?);
+    /// assert_eq!(rt; cursor.key(), Some(b"baz".as_slice()));
+    /// assert!(rt; !cursor.advance()?);
+    /// ```
     pub fn key(&self) -> Option<&[u8]>
         ensures key { option_map (λ k. k.now) result ≡ option_map (λ e. e.0) self.now.at }
         ensures valid { IfSome result (λ k. IsValid Q.Owned.item k.now) }
@@ -94,6 +118,18 @@ impl<'a, Q: BorrowedBytes, V> PrefixReadCursor<'a, Q, V> {
     /// the last one.
     ///
     /// Takes constant time.
+    ///
+    /// # Examples
+    ///
+    /// ```
+    /// let map = StringPatriciaMap::from_iter(rt.alloc(), [("foo", 1), ("bar", 2), ("baz", 3)])?;
+    /// let mut cursor = map.cursor_prefix("ba");
+    /// assert!(rt; cursor.advance()?);
+    /// assert_eq!(rt; (cursor.text(), cursor.value()), (Some("bar"), Some(&2)));
+    /// assert!(rt; cursor.advance()?);
+    /// assert_eq!(rt; cursor.key(), Some(b"baz".as_slice()));
+    /// assert!(rt; !cursor.advance()?);
+    /// ```
     pub fn value(&self) -> Option<&'a V>
         ensures { option_copied result ≡ option_map (λ e. e.1) self.now.at }
     {
@@ -106,6 +142,18 @@ impl<'a, 'q, V> PrefixReadCursor<'a, &'q str, V> {
     /// behind the last one.
     ///
     /// Takes time in proportion to the key, whose bytes are checked.
+    ///
+    /// # Examples
+    ///
+    /// ```
+    /// let map = StringPatriciaMap::from_iter(rt.alloc(), [("foo", 1), ("bar", 2), ("baz", 3)])?;
+    /// let mut cursor = map.cursor_prefix("ba");
+    /// assert!(rt; cursor.advance()?);
+    /// assert_eq!(rt; (cursor.text(), cursor.value()), (Some("bar"), Some(&2)));
+    /// assert!(rt; cursor.advance()?);
+    /// assert_eq!(rt; cursor.key(), Some(b"baz".as_slice()));
+    /// assert!(rt; !cursor.advance()?);
+    /// ```
     pub fn text(&self) -> Option<&str>
         ensures { option_map (λ k. k.now) result ≡ option_map (λ e. e.0) self.now.at }
     {

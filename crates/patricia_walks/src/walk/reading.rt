@@ -59,7 +59,20 @@ impl<'a, K: Bytes, V> ReadCursor<'a, K, V> {
     ///
     /// # Errors
     ///
-    /// Out of memory: the cursor is at its end then.
+    /// Out of memory, only where an entry is left: the cursor is at its end then.
+    ///
+    /// # Examples
+    ///
+    /// ```
+    /// let map = StringPatriciaMap::from_iter(rt.alloc(), [("foo", 1), ("bar", 2)])?;
+    /// let mut cursor = map.cursor();
+    /// assert_eq!(rt; cursor.text(), None);
+    /// assert!(rt; cursor.advance()?);
+    /// assert_eq!(rt; (cursor.text(), cursor.value()), (Some("bar"), Some(&2)));
+    /// assert!(rt; cursor.advance()?);
+    /// assert_eq!(rt; cursor.key(), Some(b"foo".as_slice()));
+    /// assert!(rt; !cursor.advance()?);
+    /// ```
     pub fn advance(&mut self) -> Result<bool, AllocError>
         ensures found { IfOk result (λ found. IsTrue found ↔ (self.old.left ≢ [])) }
         ensures advanced { OnOk result (self.new ≡ advanced self.old) }
@@ -87,6 +100,17 @@ impl<'a, K: Bytes, V> ReadCursor<'a, K, V> {
     ///
     /// Takes time in proportion to the key and to the nodes on its path, however many entries are
     /// passed.
+    ///
+    /// # Examples
+    ///
+    /// ```
+    /// let map = StringPatriciaMap::from_iter(rt.alloc(), [("a/b", 1), ("a/c", 2), ("d", 3)])?;
+    /// let mut cursor = map.cursor();
+    /// assert!(rt; cursor.advance()?);
+    /// cursor.skip(2);
+    /// assert!(rt; cursor.advance()?);
+    /// assert_eq!(rt; cursor.text(), Some("d"));
+    /// ```
     pub fn skip(&mut self, len: usize)
         ensures at { self.new.at ≡ self.old.at }
         ensures nowhere { self.old.at ≡ None → self.new.left ≡ self.old.left }
@@ -106,6 +130,15 @@ impl<'a, K: Bytes, V> ReadCursor<'a, K, V> {
     }
 
     /// Moves the cursor to its end. Does not allocate.
+    ///
+    /// # Examples
+    ///
+    /// ```
+    /// let map = StringPatriciaMap::from_iter(rt.alloc(), [("foo", 1), ("bar", 2)])?;
+    /// let mut cursor = map.cursor();
+    /// cursor.end();
+    /// assert!(rt; !cursor.advance()?);
+    /// ```
     pub fn end(&mut self)
         ensures { self.new ≡ before_entries [] }
     {
@@ -118,6 +151,19 @@ impl<'a, K: Bytes, V> ReadCursor<'a, K, V> {
     /// and behind the last one. They are those of a key of its kind.
     ///
     /// Takes constant time.
+    ///
+    /// # Examples
+    ///
+    /// ```
+    /// let map = StringPatriciaMap::from_iter(rt.alloc(), [("foo", 1), ("bar", 2)])?;
+    /// let mut cursor = map.cursor();
+    /// assert_eq!(rt; cursor.text(), None);
+    /// assert!(rt; cursor.advance()?);
+    /// assert_eq!(rt; (cursor.text(), cursor.value()), (Some("bar"), Some(&2)));
+    /// assert!(rt; cursor.advance()?);
+    /// assert_eq!(rt; cursor.key(), Some(b"foo".as_slice()));
+    /// assert!(rt; !cursor.advance()?);
+    /// ```
     pub fn key(&self) -> Option<&[u8]>
         ensures key { option_map (λ k. k.now) result ≡ option_map (λ e. e.0) self.now.at }
         ensures valid { IfSome result (λ k. IsValid K.item k.now) }
@@ -132,6 +178,19 @@ impl<'a, K: Bytes, V> ReadCursor<'a, K, V> {
     /// the last one.
     ///
     /// Takes constant time.
+    ///
+    /// # Examples
+    ///
+    /// ```
+    /// let map = StringPatriciaMap::from_iter(rt.alloc(), [("foo", 1), ("bar", 2)])?;
+    /// let mut cursor = map.cursor();
+    /// assert_eq!(rt; cursor.text(), None);
+    /// assert!(rt; cursor.advance()?);
+    /// assert_eq!(rt; (cursor.text(), cursor.value()), (Some("bar"), Some(&2)));
+    /// assert!(rt; cursor.advance()?);
+    /// assert_eq!(rt; cursor.key(), Some(b"foo".as_slice()));
+    /// assert!(rt; !cursor.advance()?);
+    /// ```
     pub fn value(&self) -> Option<&'a V>
         ensures { option_copied result ≡ option_map (λ e. e.1) self.now.at }
     {
@@ -144,6 +203,19 @@ impl<'a, V> ReadCursor<'a, String, V> {
     /// behind the last one.
     ///
     /// Takes time in proportion to the key, whose bytes are checked.
+    ///
+    /// # Examples
+    ///
+    /// ```
+    /// let map = StringPatriciaMap::from_iter(rt.alloc(), [("foo", 1), ("bar", 2)])?;
+    /// let mut cursor = map.cursor();
+    /// assert_eq!(rt; cursor.text(), None);
+    /// assert!(rt; cursor.advance()?);
+    /// assert_eq!(rt; (cursor.text(), cursor.value()), (Some("bar"), Some(&2)));
+    /// assert!(rt; cursor.advance()?);
+    /// assert_eq!(rt; cursor.key(), Some(b"foo".as_slice()));
+    /// assert!(rt; !cursor.advance()?);
+    /// ```
     pub fn text(&self) -> Option<&str>
         ensures { option_map (λ k. k.now) result ≡ option_map (λ e. e.0) self.now.at }
     {

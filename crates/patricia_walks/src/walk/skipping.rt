@@ -30,21 +30,21 @@ impl<'a, V> Traversal<'a, V> {
         ensures over { IfOk result (λ moved. moved ≡ false
             → (lent self.new ≡ lent self.old) × HasReached K.item key.now (lent self.old)) }
     {
-        let node = &self.arena.nodes[id.index()];
-        let label = node.label.as_slice();
+        let nodes = &self.arena.nodes;
+        let label = nodes.label(id);
         let front = self.path.len();
         let rest = &key[front..];
         if rest.starts_with(label) {
-            push_siblings(&mut self.stack, front, node.sibling)?;
+            push_siblings(&mut self.stack, front, nodes.sibling(id))?;
             self.path.extend_from_slice(label)?;
-            self.pending = node.value.as_ref();
-            self.next = node.child;
+            self.pending = nodes.value(id);
+            self.next = nodes.child(id);
             return Ok(true);
         }
         if rest.cmp(label) == Ordering::Less {
             return Ok(false);
         }
-        self.next = node.sibling;
+        self.next = nodes.sibling(id);
         Ok(true)
     }
 

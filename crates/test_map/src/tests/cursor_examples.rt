@@ -1,6 +1,6 @@
 //! The examples of cursors, as the documentation has them.
 
-use crate::tests::asserts::{done, map_of, same};
+use crate::tests::asserts::{done, holds, map_of, same};
 use patricia_tree::{BorrowedBytes, GenericPatriciaMap, StringPatriciaMap};
 use std::alloc::AllocError;
 
@@ -103,4 +103,89 @@ fn iter_prefix_mut(rt: HostRuntime) {
     done(&rt, clear_values(&mut map, "f"));
     same!(rt; map.get("foo"), Some(&0));
     same!(rt; map.get("bar"), Some(&2));
+}
+
+#[test]
+fn advance_to_values(rt: HostRuntime) {
+    // example: values advance value
+    let mut map = map_of(&rt, rt.alloc(), &[("foo", 1), ("bar", 2)]);
+    let mut cursor = map.values_mut();
+    holds!(rt; done(&rt, cursor.advance()));
+    if let Some(value) = cursor.value() {
+        *value = 5;
+    }
+    drop(cursor);
+    same!(rt; map.get("bar"), Some(&5));
+    // end
+}
+
+#[test]
+fn next_value(rt: HostRuntime) {
+    // example: values next
+    let mut map = map_of(&rt, rt.alloc(), &[("foo", 1), ("bar", 2)]);
+    let mut cursor = map.values_mut();
+    if let Some(value) = done(&rt, cursor.next()) {
+        *value = 5;
+    }
+    drop(cursor);
+    same!(rt; map.get("bar"), Some(&5));
+    // end
+}
+
+#[test]
+fn next_with_value(rt: HostRuntime) {
+    // example: values next_with
+    let mut map = map_of(&rt, rt.alloc(), &[("foo", 1), ("bar", 2)]);
+    let mut cursor = map.values_mut();
+    same!(rt; done(&rt, cursor.next_with(|value| *value)), Some(2));
+    same!(rt; done(&rt, cursor.next_with(|value| *value)), Some(1));
+    same!(rt; done(&rt, cursor.next_with(|value| *value)), None);
+    // end
+}
+
+// example: prefix_cursor advance value
+// Sets the first value under a prefix.
+fn set_first<Q: BorrowedBytes>(
+    map: &mut GenericPatriciaMap<Q::Owned, u32>,
+    prefix: Q,
+    new: u32,
+) -> Result<(), AllocError> {
+    let mut cursor = map.iter_prefix_mut(prefix);
+    cursor.advance()?;
+    if let Some(value) = cursor.value() {
+        *value = new;
+    }
+    Ok(())
+}
+// end
+
+#[test]
+fn advance_under(rt: HostRuntime) {
+    let mut map = map_of(&rt, rt.alloc(), &[("foo", 1), ("bar", 2)]);
+    done(&rt, set_first(&mut map, "f", 5));
+    same!(rt; map.get("foo"), Some(&5));
+    same!(rt; map.get("bar"), Some(&2));
+}
+
+// example: prefix_cursor next next_with
+// Adds up the first two values under a prefix, the second where it is read by a closure.
+fn sum_of_two<Q: BorrowedBytes>(
+    map: &mut GenericPatriciaMap<Q::Owned, u32>,
+    prefix: Q,
+) -> Result<u32, AllocError> {
+    let mut cursor = map.iter_prefix_mut(prefix);
+    let first = match cursor.next()? {
+        Some((_key, value)) => *value,
+        None => 0,
+    };
+    let second = cursor.next_with(|_key, value| *value)?;
+    Ok(first.wrapping_add(second.unwrap_or(0)))
+}
+// end
+
+#[test]
+fn next_under(rt: HostRuntime) {
+    let mut map = map_of(&rt, rt.alloc(), &[("foo", 1), ("bar", 2), ("baz", 3)]);
+    same!(rt; done(&rt, sum_of_two(&mut map, "ba")), 5);
+    same!(rt; done(&rt, sum_of_two(&mut map, "f")), 1);
 }

@@ -5,6 +5,18 @@ use patricia_tree::{DecodeError, PatriciaMap, StringPatriciaMap};
 use std::vec::Vec;
 
 #[test]
+fn words(rt: HostRuntime) {
+    // example: lib words
+    let mut map = StringPatriciaMap::new(rt.alloc());
+    done(&rt, map.insert("rust", 1));
+    done(&rt, map.insert("ruby", 2));
+    same!(rt; map.get("ruby"), Some(&2));
+    assert_eq!(rt; map.get_longest_common_prefix("rusty"), Some(("rust", &1)));
+    same!(rt; done(&rt, map.count_prefix("ru")), 2);
+    // end
+}
+
+#[test]
 fn new(rt: HostRuntime) {
     // example: map new
     let map: PatriciaMap<u32> = PatriciaMap::new(rt.alloc());

@@ -1,7 +1,8 @@
 //! The examples of the calls of prefixes_core, as the documentation has them.
-use patricia_tree::StringPatriciaMap;
+use patricia_tree::{StringPatriciaMap, StringPatriciaSet};
 use prefixes_core::{
-    BlockList, Payload, UnpackError, complete, drop_subtree, pack, segment, subtree, unpack,
+    BlockList, Combination, Payload, UnpackError, combine, complete, draw, drop_subtree, lines_of,
+    measure, near, pack, pack_names, segment, subtree, unpack,
 };
 
 #[test]
@@ -23,6 +24,72 @@ fn complete_example(rt: HostRuntime) -> anyhow::Result<()> {
     assert_eq!(rt; completions.first.len(), 1);
     assert_eq!(rt; completions.first[0].0.as_str(), "bar");
     assert_eq!(rt; completions.count, 2);
+    // end
+    Ok(())
+}
+
+#[test]
+fn near_example(rt: HostRuntime) -> anyhow::Result<()> {
+    // example: prefixes near
+    let names = StringPatriciaMap::from_iter(rt.alloc(), [("bar", ()), ("bat", ()), ("foo", ())])?;
+    let found = near(rt.alloc(), &names, "bat", 1, 10)?;
+    assert_eq!(rt; found.count, 2);
+    assert_eq!(rt;
+        (found.first[0].name.as_str(), found.first[0].edits),
+        ("bat", 0)
+    );
+    assert_eq!(rt;
+        (found.first[1].name.as_str(), found.first[1].edits),
+        ("bar", 1)
+    );
+    // end
+    Ok(())
+}
+
+#[test]
+fn measure_example(rt: HostRuntime) -> anyhow::Result<()> {
+    // example: prefixes measure
+    let names = StringPatriciaMap::from_iter(rt.alloc(), [("bar", ()), ("baz", ()), ("foo", ())])?;
+    let measures = measure(&names)?;
+    assert_eq!(rt; (measures.names, measures.name_bytes), (3, 9));
+    assert_eq!(rt; (measures.nodes, measures.label_bytes), (5, 7));
+    assert_eq!(rt; (measures.tree_bytes, measures.depth), (27, 2));
+    // end
+    Ok(())
+}
+
+#[test]
+fn draw_example(rt: HostRuntime) -> anyhow::Result<()> {
+    // example: prefixes draw
+    let names = StringPatriciaMap::from_iter(rt.alloc(), [("bar", ()), ("baz", ()), ("foo", ())])?;
+    let nodes = draw(rt.alloc(), names, "b")?;
+    assert_eq!(rt; nodes.len(), 4);
+    assert_eq!(rt; nodes[1].label.as_bytes(), b"ba".as_slice());
+    assert!(rt; !nodes[1].is_name);
+    assert_eq!(rt; nodes[2].label.as_bytes(), b"r".as_slice());
+    assert_eq!(rt; (nodes[2].level, nodes[2].is_name), (2, true));
+    // end
+    Ok(())
+}
+
+#[test]
+fn combine_example(rt: HostRuntime) -> anyhow::Result<()> {
+    // example: prefixes combine
+    let one = StringPatriciaSet::from_iter(rt.alloc(), ["foo", "bar"])?;
+    let other = StringPatriciaSet::from_iter(rt.alloc(), ["bar", "baz"])?;
+    assert_eq!(rt; combine(Combination::Union, &one, &other)?.len(), 3);
+    assert!(rt; combine(Combination::Intersection, &one, &other)?.contains("bar"));
+    assert!(rt; combine(Combination::Difference, &one, &other)?.contains("foo"));
+    // end
+    Ok(())
+}
+
+#[test]
+fn lines_of_example(rt: HostRuntime) -> anyhow::Result<()> {
+    // example: prefixes lines_of
+    let names = StringPatriciaSet::from_iter(rt.alloc(), ["foo", "bar"])?;
+    let lines = lines_of(rt.alloc(), &names, b'\n')?;
+    assert_eq!(rt; lines.as_slice(), b"bar\nfoo\n".as_slice());
     // end
     Ok(())
 }
@@ -90,6 +157,19 @@ fn pack_example(rt: HostRuntime) -> anyhow::Result<()> {
     let bytes = pack(rt.alloc(), &list)?;
     assert!(rt; bytes.starts_with(b"prefixes".as_slice()));
     assert_eq!(rt; unpack(rt.alloc(), &bytes)?.len(), 1);
+    // end
+    Ok(())
+}
+
+#[test]
+fn pack_names_example(rt: HostRuntime) -> anyhow::Result<()> {
+    // example: prefixes pack_names
+    let names = StringPatriciaSet::from_iter(rt.alloc(), ["foo", "bar"])?;
+    let list = unpack(rt.alloc(), &pack_names(rt.alloc(), &names)?)?;
+    assert!(rt;
+        list.get("foo")
+            .is_some_and(|value| value.as_bytes().is_empty())
+    );
     // end
     Ok(())
 }

@@ -1,4 +1,4 @@
-use Rattle.std.proofs.Common.{◌≡◌, ◌∙◌, [], sym, ap, ℕ, List, length, take, Option, Some}
+use Rattle.std.proofs.Common.{◌≡◌, ◌∙◌, [], sym, ap, ℕ, List, take, Option, Some}
 use Rattle.patricia_tree.specs.Prefixes.{under}
 use Rattle.patricia_tree.specs.Ranges.{from}
 use Rattle.patricia_model.proofs.PrefixLemmas.{under_empty}

@@ -7,4 +7,4 @@ pub returns-in_default-clause-count : goal.returns-in_default-clause-count
 returns-in_default-clause-count c _ = sym (ap (λ (entries : List (List ℕ × ℕ)). length (under c.args.prefix.now entries)) (none_entries _ c.in_default.ensures.taken))
 
 pub returns-in_default-clause-left : goal.returns-in_default-clause-left
-returns-in_default-clause-left c _ = none_entries _ (sym c.take.ensures.left) ∙ sym (ap (outside c.args.prefix.now) (none_entries _ c.in_default.ensures.taken))
+returns-in_default-clause-left c _ = none_entries _ c.in_default.ensures.taken ∙ sym (ap (outside c.args.prefix.now) (none_entries _ c.in_default.ensures.taken))

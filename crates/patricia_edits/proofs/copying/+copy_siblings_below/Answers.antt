@@ -19,7 +19,7 @@ loop-i-init g t c = record {
   level = λ e. c.len-end.ensures;
   nonempty = λ e. e;
   laying = λ w marks l none.
-      laying_same w c.args.from.now marks (between c.args.start c.args.start c.len-end.result marks) c.args.to.now.items _ l
+      laying_same w c.args.from.now.items marks (between c.args.start c.args.start c.len-end.result marks) c.args.to.now.items _ l
       (λ at h. between_none c.args.start c.len-end.result marks none at (omega (arith, c.len-end.ensures)));
 }
 
@@ -27,13 +27,14 @@ pub copy_siblings-requires : goal.copy_siblings-requires
 copy_siblings-requires g t c =
     let l = c.loop-i in
     let r = c.requires in
+    let reads = rw c.new-id.ensures at c.child-child.ensures in
     let f = l.invariant.laying r.plan r.marks r.laying r.unmarked in
     let short : l.i < length l.to.items = omega (arith, c.loop-i-test.true, l.invariant.within) in
     let next = laying_siblings r.plan _ _ l.i _ _ f short (between_next c.args.start l.i l.end r.marks l.invariant.on c.loop-i-test.true) in
     record {
       siblings = (
         next.siblings,
-        next_top r.plan _ l.i _ _ next c.index.result.now c.index.ensures,
+        next_top r.plan _ l.i _ _ next c.child-child.result reads,
         next_siblings_kept g.V.Clone.is_clone r.plan _ _ l.i _ _ f next r.kept,
         omega (arith, next.room, r.room, l.invariant.capacity),
       );
@@ -43,44 +44,46 @@ pub set_child-requires : goal.set_child-requires
 set_child-requires g t c =
     let l = c.loop-i in
     let r = c.requires in
+    let reads = rw c.new-id.ensures at c.child-child.ensures in
     let f0 = l.invariant.laying r.plan r.marks r.laying r.unmarked in
     let short : l.i < length l.to.items = omega (arith, c.loop-i-test.true, l.invariant.within) in
     let copied = c.in_ok-first.ensures in
     let next0 = laying_siblings r.plan _ _ l.i _ _ f0 short (between_next c.args.start l.i l.end r.marks l.invariant.on c.loop-i-test.true) in
-    let came = ap length (copied.laid next0.siblings (next_top r.plan _ l.i _ _ next0 c.index.result.now c.index.ensures)) in
+    let came = ap length (copied.laid next0.siblings (next_top r.plan _ l.i _ _ next0 c.child-child.result reads)) in
     let both = length-append l.to.items (laid (length l.to.items) next0.siblings) in
-    omega (arith, short, came, both, c.new.ensures)
+    omega (arith, short, came, both, c.new-id.ensures)
 
 pub loop-i-preserved-then-depth-eq0 : goal.loop-i-preserved-then-depth-eq0
 loop-i-preserved-then-depth-eq0 g t c =
     let l = c.loop-i in
     let r = c.requires in
+    let reads = rw c.new-id.ensures at c.child-child.ensures in
     let f0 = l.invariant.laying r.plan r.marks r.laying r.unmarked in
     let short : l.i < length l.to.items = omega (arith, c.loop-i-test.true, l.invariant.within) in
     let copied = c.in_ok-first.ensures in
     let next0 = laying_siblings r.plan _ _ l.i _ _ f0 short (between_next c.args.start l.i l.end r.marks l.invariant.on c.loop-i-test.true) in
-    let came = ap length (copied.laid next0.siblings (next_top r.plan _ l.i _ _ next0 c.index.result.now c.index.ensures)) in
+    let came = ap length (copied.laid next0.siblings (next_top r.plan _ l.i _ _ next0 c.child-child.result reads)) in
     let both = length-append l.to.items (laid (length l.to.items) next0.siblings) in
     let put = c.set_child.ensures in
     let same : length c.set_child.new.self.items ≡ length c.copy_siblings.new.to.items = ap (λ v. length v.items) put.2 ∙ length-set _ _ _ in
     let turned : (w : Plan g.row.V.Denot) (marks : ℕ → Bool)
-    → Laying w c.args.from.now marks c.args.to.now.items (head (numbered_siblings 0 w))
+    → Laying w c.args.from.now.items marks c.args.to.now.items (head (numbered_siblings 0 w))
     → ((at : ℕ) → c.args.start ≤ at → marks at ≡ false)
-    → Laying w c.args.from.now (up_to c.len-below.result (between c.args.start (l.i + 1) l.end marks)) c.set_child.new.self.items (head (numbered_siblings 0 w)) =
+    → Laying w c.args.from.now.items (up_to c.len-below.result (between c.args.start (l.i + 1) l.end marks)) c.set_child.new.self.items (head (numbered_siblings 0 w)) =
     λ w marks f none.
     let g0 = l.invariant.laying w marks f none in
     let next = laying_siblings w _ _ l.i _ _ g0 short (between_next c.args.start l.i l.end marks l.invariant.on c.loop-i-test.true) in
-    let top = next_top w _ l.i _ _ next c.index.result.now c.index.ensures in
+    let top = next_top w _ l.i _ _ next c.child-child.result reads in
     rw put.2
-    (laying_next w c.args.from.now c.args.from.now (between c.args.start l.i l.end marks)
+    (laying_next w c.args.from.now.items c.args.from.now.items (between c.args.start l.i l.end marks)
     (up_to c.len-below.result (between c.args.start (l.i + 1) l.end marks)) l.i l.to.items _ _
     g0 short
     (between_turns c.args.start l.i l.end c.len-below.result (length l.to.items) marks
     (omega (arith, c.len-below.ensures)) l.invariant.on c.loop-i-test.true (omega (arith, l.invariant.within)))
     next (λ at k. refl) c.copy_siblings.new.to.items
     (copied.laid next.siblings top) c.in_ok-first.first (copied.first next.siblings top)
-    put.0 (rw c.new.ensures at put.1)
-    (ap (λ i. set c.copy_siblings.new.to.items i (record put.0 { child = c.in_ok-first.first })) c.new.ensures)) in
+    put.0 (rw c.new-id.ensures at put.1)
+    (ap (λ i. set c.copy_siblings.new.to.items i (record put.0 { child = c.in_ok-first.first })) c.new-id.ensures)) in
     let level : l.end ≡ length l.to.items = omega (arith, l.invariant.level c.if-depth-eq0.true) in
     record {
       capacity = ap (λ v. v.cap) put.2 ∙ copied.capacity ∙ l.invariant.capacity;
@@ -99,32 +102,33 @@ pub copy_siblings_below-requires : goal.copy_siblings_below-requires
 copy_siblings_below-requires g t c κs within =
     let l = c.loop-i in
     let r = c.requires in
+    let reads = rw c.new-id.ensures at c.child-child.ensures in
     let f0 = l.invariant.laying r.plan r.marks r.laying r.unmarked in
     let short : l.i < length l.to.items = omega (arith, c.loop-i-test.true, l.invariant.within) in
     let copied = c.in_ok-first.ensures in
     let next0 = laying_siblings r.plan _ _ l.i _ _ f0 short (between_next c.args.start l.i l.end r.marks l.invariant.on c.loop-i-test.true) in
-    let came = ap length (copied.laid next0.siblings (next_top r.plan _ l.i _ _ next0 c.index.result.now c.index.ensures)) in
+    let came = ap length (copied.laid next0.siblings (next_top r.plan _ l.i _ _ next0 c.child-child.result reads)) in
     let both = length-append l.to.items (laid (length l.to.items) next0.siblings) in
     let put = c.set_child.ensures in
     let same : length c.set_child.new.self.items ≡ length c.copy_siblings.new.to.items = ap (λ v. length v.items) put.2 ∙ length-set _ _ _ in
     let turned : (w : Plan g.row.V.Denot) (marks : ℕ → Bool)
-    → Laying w c.args.from.now marks c.args.to.now.items (head (numbered_siblings 0 w))
+    → Laying w c.args.from.now.items marks c.args.to.now.items (head (numbered_siblings 0 w))
     → ((at : ℕ) → c.args.start ≤ at → marks at ≡ false)
-    → Laying w c.args.from.now (up_to c.len-below.result (between c.args.start (l.i + 1) l.end marks)) c.set_child.new.self.items (head (numbered_siblings 0 w)) =
+    → Laying w c.args.from.now.items (up_to c.len-below.result (between c.args.start (l.i + 1) l.end marks)) c.set_child.new.self.items (head (numbered_siblings 0 w)) =
     λ w marks f none.
     let g0 = l.invariant.laying w marks f none in
     let next = laying_siblings w _ _ l.i _ _ g0 short (between_next c.args.start l.i l.end marks l.invariant.on c.loop-i-test.true) in
-    let top = next_top w _ l.i _ _ next c.index.result.now c.index.ensures in
+    let top = next_top w _ l.i _ _ next c.child-child.result reads in
     rw put.2
-    (laying_next w c.args.from.now c.args.from.now (between c.args.start l.i l.end marks)
+    (laying_next w c.args.from.now.items c.args.from.now.items (between c.args.start l.i l.end marks)
     (up_to c.len-below.result (between c.args.start (l.i + 1) l.end marks)) l.i l.to.items _ _
     g0 short
     (between_turns c.args.start l.i l.end c.len-below.result (length l.to.items) marks
     (omega (arith, c.len-below.ensures)) l.invariant.on c.loop-i-test.true (omega (arith, l.invariant.within)))
     next (λ at k. refl) c.copy_siblings.new.to.items
     (copied.laid next.siblings top) c.in_ok-first.first (copied.first next.siblings top)
-    put.0 (rw c.new.ensures at put.1)
-    (ap (λ i. set c.copy_siblings.new.to.items i (record put.0 { child = c.in_ok-first.first })) c.new.ensures)) in (
+    put.0 (rw c.new-id.ensures at put.1)
+    (ap (λ i. set c.copy_siblings.new.to.items i (record put.0 { child = c.in_ok-first.first })) c.new-id.ensures)) in (
       omega (arith, c.if-depth-eq0.false),
       (
         within,
@@ -143,32 +147,33 @@ pub loop-i-preserved : goal.loop-i-preserved
 loop-i-preserved g t c =
     let l = c.loop-i in
     let r = c.requires in
+    let reads = rw c.new-id.ensures at c.child-child.ensures in
     let f0 = l.invariant.laying r.plan r.marks r.laying r.unmarked in
     let short : l.i < length l.to.items = omega (arith, c.loop-i-test.true, l.invariant.within) in
     let copied = c.in_ok-first.ensures in
     let next0 = laying_siblings r.plan _ _ l.i _ _ f0 short (between_next c.args.start l.i l.end r.marks l.invariant.on c.loop-i-test.true) in
-    let came = ap length (copied.laid next0.siblings (next_top r.plan _ l.i _ _ next0 c.index.result.now c.index.ensures)) in
+    let came = ap length (copied.laid next0.siblings (next_top r.plan _ l.i _ _ next0 c.child-child.result reads)) in
     let both = length-append l.to.items (laid (length l.to.items) next0.siblings) in
     let put = c.set_child.ensures in
     let same : length c.set_child.new.self.items ≡ length c.copy_siblings.new.to.items = ap (λ v. length v.items) put.2 ∙ length-set _ _ _ in
     let turned : (w : Plan g.row.V.Denot) (marks : ℕ → Bool)
-    → Laying w c.args.from.now marks c.args.to.now.items (head (numbered_siblings 0 w))
+    → Laying w c.args.from.now.items marks c.args.to.now.items (head (numbered_siblings 0 w))
     → ((at : ℕ) → c.args.start ≤ at → marks at ≡ false)
-    → Laying w c.args.from.now (up_to c.len-below.result (between c.args.start (l.i + 1) l.end marks)) c.set_child.new.self.items (head (numbered_siblings 0 w)) =
+    → Laying w c.args.from.now.items (up_to c.len-below.result (between c.args.start (l.i + 1) l.end marks)) c.set_child.new.self.items (head (numbered_siblings 0 w)) =
     λ w marks f none.
     let g0 = l.invariant.laying w marks f none in
     let next = laying_siblings w _ _ l.i _ _ g0 short (between_next c.args.start l.i l.end marks l.invariant.on c.loop-i-test.true) in
-    let top = next_top w _ l.i _ _ next c.index.result.now c.index.ensures in
+    let top = next_top w _ l.i _ _ next c.child-child.result reads in
     rw put.2
-    (laying_next w c.args.from.now c.args.from.now (between c.args.start l.i l.end marks)
+    (laying_next w c.args.from.now.items c.args.from.now.items (between c.args.start l.i l.end marks)
     (up_to c.len-below.result (between c.args.start (l.i + 1) l.end marks)) l.i l.to.items _ _
     g0 short
     (between_turns c.args.start l.i l.end c.len-below.result (length l.to.items) marks
     (omega (arith, c.len-below.ensures)) l.invariant.on c.loop-i-test.true (omega (arith, l.invariant.within)))
     next (λ at k. refl) c.copy_siblings.new.to.items
     (copied.laid next.siblings top) c.in_ok-first.first (copied.first next.siblings top)
-    put.0 (rw c.new.ensures at put.1)
-    (ap (λ i. set c.copy_siblings.new.to.items i (record put.0 { child = c.in_ok-first.first })) c.new.ensures)) in
+    put.0 (rw c.new-id.ensures at put.1)
+    (ap (λ i. set c.copy_siblings.new.to.items i (record put.0 { child = c.in_ok-first.first })) c.new-id.ensures)) in
     let below = c.in_ok-copy_siblings_below.ensures in
     record {
       capacity = below.capacity ∙ ap (λ v. v.cap) put.2 ∙ copied.capacity ∙ l.invariant.capacity;

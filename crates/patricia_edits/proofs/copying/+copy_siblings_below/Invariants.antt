@@ -19,9 +19,9 @@ invariant-loop-i g l = record {
   level : l.depth ≡ 0 → l.end ≡ vec_len l.to;
   nonempty : l.fn.to.items ≡ [] → l.to.items ≡ [];
   laying : (w : Plan g.row.V.Denot) (marks : ℕ → Bool)
-      → Laying w l.from marks l.fn.to.items (head (numbered_siblings 0 w))
+      → Laying w l.from.items marks l.fn.to.items (head (numbered_siblings 0 w))
       → ((at : ℕ) → l.start ≤ at → marks at ≡ false)
-      → Laying w l.from (between l.start l.i l.end marks) l.to.items (head (numbered_siblings 0 w));
+      → Laying w l.from.items (between l.start l.i l.end marks) l.to.items (head (numbered_siblings 0 w));
 }
 
 abbrev pub decreases-loop-i : goal.decreases-loop-i

@@ -21,7 +21,7 @@ copy_siblings-requires g c =
     record {
       siblings = (
         plan_at s.nodes.items s.root,
-        top_there s c.requires.whole c.as_slice.result.now c.as_slice.ensures.value,
+        top_there s c.requires.whole,
         siblings_kept g.V.Clone.is_clone s c.requires.cloned,
         omega (arith, c.used.ensures, c.in_ok-nodes.ensures.capacity, c.in_ok-nodes.ensures.len, (tops_within (plan_at s.nodes.items s.root)).0),
       );
@@ -35,9 +35,9 @@ pub copy_below-requires : goal.copy_below-requires
 copy_below-requires g c =
     let s = c.args.arena.now in
     let p = plan_at s.nodes.items s.root in
-    let comes = c.in_ok-root.ensures.laid p (top_there s c.requires.whole c.as_slice.result.now c.as_slice.ensures.value) in (
+    let comes = c.in_ok-root.ensures.laid p (top_there s c.requires.whole) in (
       p,
-      top_copied s c.requires.whole c.as_slice-2.result.now c.as_slice-2.ensures.value _ _ c.in_ok-nodes.ensures.items comes,
+      top_copied s c.requires.whole _ _ c.in_ok-nodes.ensures.items comes,
       siblings_kept g.V.Clone.is_clone s c.requires.cloned,
       omega (arith, c.used.ensures, c.in_ok-nodes.ensures.capacity, c.in_ok-root.ensures.capacity),
     )
@@ -46,15 +46,15 @@ pub returns-in_err-copy_below-clause-nonempty : goal.returns-in_err-copy_below-c
 returns-in_err-copy_below-clause-nonempty g c =
     let s = c.args.arena.now in
     let p = plan_at s.nodes.items s.root in
-    let comes = c.in_ok-root.ensures.laid p (top_there s c.requires.whole c.as_slice.result.now c.as_slice.ensures.value) in
+    let comes = c.in_ok-root.ensures.laid p (top_there s c.requires.whole) in
     on_err c.from_residual-in_err-copy_below.result (λ e. c.in_err-copy_below.ensures.nonempty (none_laid s _ _ e c.in_ok-nodes.ensures.items comes))
 
 pub returns-clause-whole : goal.returns-clause-whole
 returns-clause-whole g c =
     let s = c.args.arena.now in
     let p = plan_at s.nodes.items s.root in
-    let top = top_there s c.requires.whole c.as_slice.result.now c.as_slice.ensures.value in
-    let laid = top_copied s c.requires.whole c.as_slice-2.result.now c.as_slice-2.ensures.value _ _ c.in_ok-nodes.ensures.items (c.in_ok-root.ensures.laid p top) in
+    let top = top_there s c.requires.whole in
+    let laid = top_copied s c.requires.whole _ _ c.in_ok-nodes.ensures.items (c.in_ok-root.ensures.laid p top) in
     let is : c.in_ok-root.root ≡ head (numbered_siblings 0 p) = rw c.in_ok-nodes.ensures.items at (c.in_ok-root.ensures.first p top) in
     let d = c.in_ok-copy_below.ensures.laid p laid in
     (d.0, ([], rw (c.none.ensures, is) d.1))
@@ -63,8 +63,8 @@ pub returns-clause-siblings : goal.returns-clause-siblings
 returns-clause-siblings g c =
     let s = c.args.arena.now in
     let p = plan_at s.nodes.items s.root in
-    let top = top_there s c.requires.whole c.as_slice.result.now c.as_slice.ensures.value in
-    let laid = top_copied s c.requires.whole c.as_slice-2.result.now c.as_slice-2.ensures.value _ _ c.in_ok-nodes.ensures.items (c.in_ok-root.ensures.laid p top) in
+    let top = top_there s c.requires.whole in
+    let laid = top_copied s c.requires.whole _ _ c.in_ok-nodes.ensures.items (c.in_ok-root.ensures.laid p top) in
     let is : c.in_ok-root.root ≡ head (numbered_siblings 0 p) = rw c.in_ok-nodes.ensures.items at (c.in_ok-root.ensures.first p top) in
     let d = c.in_ok-copy_below.ensures.laid p laid in
     rw is (same_siblings _ _ _ d.0 p [] d.1 d.2)

@@ -10,8 +10,8 @@ abbrev pub invariant-loop-id : goal.invariant-loop-id
 invariant-loop-id g l = record {
   capacity : vec_capacity l.to ≡ vec_capacity l.fn.to;
   nonempty : l.fn.first ≡ None → l.at ≡ None;
-  copying : (w : Plan g.row.V.Denot) → AreTopSiblings l.from l.fn.first w
-      → Copying g.V.Clone.is_clone l.from l.fn.to.items w l.at l.to.items;
+  copying : (w : Plan g.row.V.Denot) → AreTopSiblings l.from.items l.fn.first w
+      → Copying g.V.Clone.is_clone l.from.items l.fn.to.items w l.at l.to.items;
 }
 
 abbrev pub decreases-loop-id : goal.decreases-loop-id

@@ -1,7 +1,7 @@
 use Rattle.std.proofs.Common.{refl, ap, arith, take}
 use Rattle.patricia_nodes.specs.declared.arena.Node.{Node}
 use Rattle.patricia_nodes.specs.Internal.Plans.{linked}
-use Rattle.patricia_edits.proofs.AddLemmas.{splits, cell_within, spot_below, room_write, written_child}
+use Rattle.patricia_edits.proofs.AddLemmas.{splits, cell_within, spot_below, room_write, written_node}
 use Rattle.patricia_edits.proofs.insertion.split.Goals as goal
 
 pub cut_label-value-requires : goal.cut_label-value-requires
@@ -25,13 +25,13 @@ returns-clause-splits g c =
     let put = c.cut_label-value.ensures in
     let cut = take c.args.n put.0.label in
     let within = cell_within c.args.arena.now c.args.id c.requires.cell in
-    let child = written_child c.args.arena.now c.args.id put.0 put.1 (rw c.args.arena.now.nodes.ok.0 within)
-    cut c.args.value c.index-2.result.now (rw (c.index.ensures, put.2) at c.index-2.ensures) in
-    let lower : Node g.row.V.Denot = linked c.args.lower c.cut_label-value.result c.index-2.result.now.child c.none.result in
+    let child = rw put.2 at c.child.ensures _
+    (written_node c.args.arena.now c.args.id put.0 put.1 (rw c.args.arena.now.nodes.ok.0 within) cut c.args.value) in
+    let lower : Node g.row.V.Denot = linked c.args.lower c.cut_label-value.result c.child.result c.none.result in
     splits c.args.arena.now c.args.id put.0 put.1 c.add.new.arena c.args.n c.add.result lower cut c.args.value c.args.value refl
     refl put.3 child c.none.ensures (rw put.2 at c.add.ensures.adds)
 
-pub index-requires-2 : goal.index-requires-2
-index-requires-2 g c =
+pub child-requires : goal.child-requires
+child-requires g c =
     let within = cell_within c.args.arena.now c.args.id c.requires.cell in
-    omega (arith, within, c.index.ensures, ap (λ v. v.len) c.cut_label-value.ensures.2, c.args.arena.now.nodes.ok.0)
+    omega (arith, within, ap (λ v. v.len) c.cut_label-value.ensures.2, c.args.arena.now.nodes.ok.0)

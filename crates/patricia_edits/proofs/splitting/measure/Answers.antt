@@ -1,4 +1,5 @@
 use Rattle.std.proofs.Common.{◌+◌, refl, sym, ◌∙◌, ap, arith}
+use Rattle.patricia_nodes.proofs.NodeVecLemmas.{node_there}
 use Rattle.patricia_edits.proofs.MeasureLemmas.{measuring_start, next_within, not_all, not_full}
 use Rattle.patricia_edits.proofs.MeasureLemmas.{measuring_down, less_down, measuring_back}
 use Rattle.patricia_edits.proofs.MeasureLemmas.{less_back, measuring_done}
@@ -7,37 +8,51 @@ use Rattle.patricia_edits.proofs.splitting.measure.Goals as goal
 pub loop-id-init : goal.loop-id-init
 loop-id-init g c = rw c.new-waiting.ensures.items (measuring_start c.args.arena.now.nodes.items c.args.first c.requires.0 c.requires.1)
 
-pub index-node-requires : goal.index-node-requires
-index-node-requires g c =
+pub value-requires : goal.value-requires
+value-requires g c =
     let within = next_within _ _ _ _ _ _ c.loop-id.invariant c.in-Some.id (sym c.get.ensures ∙ c.in-Some.is) in
-    omega (arith, c.index.ensures)
+    omega (arith, within, c.args.arena.now.nodes.ok.0)
+
+pub sibling-requires : goal.sibling-requires
+sibling-requires g c =
+    let within = next_within _ _ _ _ _ _ c.loop-id.invariant c.in-Some.id (sym c.get.ensures ∙ c.in-Some.is) in
+    omega (arith, within, c.args.arena.now.nodes.ok.0)
+
+pub child-at-requires : goal.child-at-requires
+child-at-requires g c =
+    let within = next_within _ _ _ _ _ _ c.loop-id.invariant c.in-Some.id (sym c.get.ensures ∙ c.in-Some.is) in
+    omega (arith, within, c.args.arena.now.nodes.ok.0)
 
 pub overflow_add-size : goal.overflow_add-size
 overflow_add-size g c =
-    let fits = not_all _ _ _ _ _ _ c.loop-id.invariant c.in-Some.id
-    (sym c.get.ensures ∙ c.in-Some.is) c.index-node.result.now
-    (rw c.index.ensures at c.index-node.ensures) in
+    let is = sym c.get.ensures ∙ c.in-Some.is in
+    let there = node_there _ _ (next_within _ _ _ _ _ _ c.loop-id.invariant c.in-Some.id is) in
+    let fits = not_all _ _ _ _ _ _ c.loop-id.invariant c.in-Some.id is there.0 there.1 in
     omega (arith, fits)
 
 pub overflow_add-size-in-Some : goal.overflow_add-size-in-Some
 overflow_add-size-in-Some g c =
-    let fits = not_full _ _ _ _ _ _ c.loop-id.invariant c.in-Some.id
-    (sym c.get.ensures ∙ c.in-Some.is) c.index-node.result.now
-    (rw c.index.ensures at c.index-node.ensures) in
-    omega (arith, fits, c.how_many.ensures)
+    let is = sym c.get.ensures ∙ c.in-Some.is in
+    let there = node_there _ _ (next_within _ _ _ _ _ _ c.loop-id.invariant c.in-Some.id is) in
+    let fits = not_full _ _ _ _ _ _ c.loop-id.invariant c.in-Some.id is there.0 there.1 in
+    omega (arith, fits, rw (c.value.ensures _ there.1) at c.how_many.ensures)
 
 pub loop-id-smaller-in-Some : goal.loop-id-smaller-in-Some
 loop-id-smaller-in-Some g c =
-    less_down _ _ _ _ _ _ c.loop-id.invariant c.in-Some.id (sym c.get.ensures ∙ c.in-Some.is)
-    c.index-node.result.now (rw c.index.ensures at c.index-node.ensures) _
-    c.in_ok-push-in-Some.ensures.items
+    let is = sym c.get.ensures ∙ c.in-Some.is in
+    let there = node_there _ _ (next_within _ _ _ _ _ _ c.loop-id.invariant c.in-Some.id is) in
+    rw (c.child-at.ensures _ there.1)
+    (less_down _ _ _ _ _ _ c.loop-id.invariant c.in-Some.id is there.0 there.1 _
+    (rw (c.sibling.ensures _ there.1) at c.in_ok-push-in-Some.ensures.items))
 
 pub loop-id-preserved-in-Some : goal.loop-id-preserved-in-Some
 loop-id-preserved-in-Some g c =
-    measuring_down _ _ _ _ _ _ c.loop-id.invariant c.in-Some.id (sym c.get.ensures ∙ c.in-Some.is)
-    c.index-node.result.now (rw c.index.ensures at c.index-node.ensures) _ _ refl
-    (ap (λ n. c.loop-id.size.values + n) c.how_many.ensures) _
-    c.in_ok-push-in-Some.ensures.items
+    let is = sym c.get.ensures ∙ c.in-Some.is in
+    let there = node_there _ _ (next_within _ _ _ _ _ _ c.loop-id.invariant c.in-Some.id is) in
+    rw (c.child-at.ensures _ there.1)
+    (measuring_down _ _ _ _ _ _ c.loop-id.invariant c.in-Some.id is there.0 there.1 _ _ refl
+    (ap (λ n. c.loop-id.size.values + n) (rw (c.value.ensures _ there.1) at c.how_many.ensures)) _
+    (rw (c.sibling.ensures _ there.1) at c.in_ok-push-in-Some.ensures.items))
 
 pub loop-id-smaller : goal.loop-id-smaller
 loop-id-smaller g c = less_back _ _ _ _ _ _ c.loop-id.invariant (sym c.get.ensures ∙ c.in-None.is) _ _ c.in-Some-pop.ensures.items

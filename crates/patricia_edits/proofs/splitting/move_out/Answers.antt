@@ -3,11 +3,11 @@ use Rattle.patricia_edits.proofs.NodeLemmas.{node_within, node_read}
 use Rattle.patricia_edits.proofs.MoveLemmas.{moved, bare_is, laid_top, emptied}
 use Rattle.patricia_edits.proofs.splitting.move_out.Goals as goal
 
-pub index-requires-2 : goal.index-requires-2
-index-requires-2 g c =
+pub child-child-requires : goal.child-child-requires
+child-child-requires g c =
     let h = c.requires.tree in
     let within = node_within c.args.arena.now c.args.id h.0 h.1 h.2 h.3 h.4 h.6 in
-    omega (arith, c.index.ensures, c.args.arena.now.nodes.ok.0)
+    omega (arith, within, c.args.arena.now.nodes.ok.0)
 
 pub take_contents-value-requires : goal.take_contents-value-requires
 take_contents-value-requires g c =
@@ -20,9 +20,8 @@ relocate_descendants-requires g c =
     let h = c.requires.tree in
     let put = c.take_contents-value.ensures in
     let is = node_read c.args.arena.now c.args.id h.0 h.1 h.2 h.3 h.4 h.6 put.0 put.1 in
-    let was = node_read c.args.arena.now c.args.id h.0 h.1 h.2 h.3 h.4 h.6 _ (rw c.index.ensures at c.index-2.ensures) in
     let bare = bare_is c.args.arena.now c.args.id h.0 h.1 h.2 h.3 h.4 h.6 c.args.label put.0 is _ put.2 in
-    let child = ap (λ m. m.child) was in
+    let child = c.child-child.ensures put.0 put.1 ∙ ap (λ m. m.child) is in
     let value = put.3 ∙ ap (λ m. m.value) is in
     let to = c.push_reserved.ensures.items ∙ rw (c.requires.empty, child, value, c.none.ensures) refl in (
       moved c.args.arena.now c.args.id h.0 h.1 h.2 h.3 h.4 h.6 c.args.label,
@@ -35,9 +34,8 @@ unlink-none-requires g c =
     let h = c.requires.tree in
     let put = c.take_contents-value.ensures in
     let is = node_read c.args.arena.now c.args.id h.0 h.1 h.2 h.3 h.4 h.6 put.0 put.1 in
-    let was = node_read c.args.arena.now c.args.id h.0 h.1 h.2 h.3 h.4 h.6 _ (rw c.index.ensures at c.index-2.ensures) in
     let bare = bare_is c.args.arena.now c.args.id h.0 h.1 h.2 h.3 h.4 h.6 c.args.label put.0 is _ put.2 in
-    let child = ap (λ m. m.child) was in
+    let child = c.child-child.ensures put.0 put.1 ∙ ap (λ m. m.child) is in
     let value = put.3 ∙ ap (λ m. m.value) is in
     let to = c.push_reserved.ensures.items ∙ rw (c.requires.empty, child, value, c.none.ensures) refl in
     let laid = laid_top c.args.arena.now c.args.id h.0 h.1 h.2 h.3 h.4 h.6 c.args.label _ bare _ to in (
@@ -55,9 +53,8 @@ pub returns : goal.returns
 returns g c fs l v child d at h =
     let put = c.take_contents-value.ensures in
     let is = node_read c.args.arena.now c.args.id fs l v child d h put.0 put.1 in
-    let was = node_read c.args.arena.now c.args.id fs l v child d h _ (rw c.index.ensures at c.index-2.ensures) in
     let bare = bare_is c.args.arena.now c.args.id fs l v child d h c.args.label put.0 is _ put.2 in
-    let first = ap (λ m. m.child) was in
+    let first = c.child-child.ensures put.0 put.1 ∙ ap (λ m. m.child) is in
     let value = put.3 ∙ ap (λ m. m.value) is in
     let to = c.push_reserved.ensures.items ∙ rw (c.requires.empty, first, value, c.none.ensures) refl in
     let laid = laid_top c.args.arena.now c.args.id fs l v child d h c.args.label _ bare _ to in

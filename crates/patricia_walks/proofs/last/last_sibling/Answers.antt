@@ -1,41 +1,42 @@
 use Rattle.std.proofs.Common.{Some, refl, sym, subst, ◌∙◌, arith}
+use Rattle.patricia_nodes.proofs.NodeVecLemmas.{node_there}
 use Rattle.patricia_walks.specs.Internal.Lowers.{AreSiblingsAt}
 use Rattle.patricia_walks.proofs.LastLemmas.{siblings_open, siblings_within, last_on, last_own}
 use Rattle.patricia_walks.proofs.LastLemmas.{sibling_less}
 use Rattle.patricia_walks.proofs.last.last_sibling.Goals as goal
 
-pub index-requires-in-loop-next : goal.index-requires-in-loop-next
-index-requires-in-loop-next g c =
+pub sibling-requires : goal.sibling-requires
+sibling-requires g c =
     let within = siblings_within g.K.Bytes.item _ c.loop-next.id c.loop-next.invariant.siblings in
-    omega (arith, c.index.ensures, within)
+    omega (arith, within)
 
 pub loop-next-smaller : goal.loop-next-smaller
 loop-next-smaller g c =
-    let reads = rw c.index.ensures at c.index-in-loop-next.ensures in
+    let there = node_there _ _ (siblings_within g.K.Bytes.item _ c.loop-next.id c.loop-next.invariant.siblings) in
     sibling_less g.K.Bytes.item g.met.K.Bytes.lawful c.args.arena.now.nodes.items c.loop-next.id
-    c.index-in-loop-next.result.now c.loop-next.invariant.siblings reads c.in-Some.next
-    (sym c.get.ensures ∙ c.in-Some.is)
+    there.0 c.loop-next.invariant.siblings there.1 c.in-Some.next
+    (sym (c.sibling.ensures _ there.1) ∙ sym c.get.ensures ∙ c.in-Some.is)
 
 pub loop-next-preserved : goal.loop-next-preserved
 loop-next-preserved g c =
-    let reads = rw c.index.ensures at c.index-in-loop-next.ensures in
+    let there = node_there _ _ (siblings_within g.K.Bytes.item _ c.loop-next.id c.loop-next.invariant.siblings) in
     let nodes = c.args.arena.now.nodes.items in
-    let n = c.index-in-loop-next.result.now in
+    let n = there.0 in
     let siblings = c.loop-next.invariant.siblings in
-    let next = sym c.get.ensures ∙ c.in-Some.is in
-    let opens = siblings_open g.K.Bytes.item nodes (Some c.loop-next.id) c.loop-next.id n siblings refl reads in
-    let less = sibling_less g.K.Bytes.item g.met.K.Bytes.lawful nodes c.loop-next.id n siblings reads c.in-Some.next next in
+    let next = sym (c.sibling.ensures _ there.1) ∙ sym c.get.ensures ∙ c.in-Some.is in
+    let opens = siblings_open g.K.Bytes.item nodes (Some c.loop-next.id) c.loop-next.id n siblings refl there.1 in
+    let less = sibling_less g.K.Bytes.item g.met.K.Bytes.lawful nodes c.loop-next.id n siblings there.1 c.in-Some.next next in
     record {
       siblings = subst (AreSiblingsAt g.K.Bytes.item nodes) next opens.sibling_at;
-      same = λ front. last_on g.K.Bytes.item g.met.K.Bytes.lawful nodes c.loop-next.id n siblings reads front c.in-Some.next next
+      same = λ front. last_on g.K.Bytes.item g.met.K.Bytes.lawful nodes c.loop-next.id n siblings there.1 front c.in-Some.next next
           ∙ c.loop-next.invariant.same front;
       fewer = omega (arith, less, c.loop-next.invariant.fewer);
     }
 
 pub returns-clause-last : goal.returns-clause-last
 returns-clause-last g c front =
-    let reads = rw c.index.ensures at c.index-in-loop-next.ensures in
+    let there = node_there _ _ (siblings_within g.K.Bytes.item _ c.loop-next.id c.loop-next.invariant.siblings) in
     sym (c.loop-next.invariant.same front)
     ∙ last_own g.K.Bytes.item g.met.K.Bytes.lawful c.args.arena.now.nodes.items c.loop-next.id
-    c.index-in-loop-next.result.now c.loop-next.invariant.siblings reads front
-    (sym c.get.ensures ∙ c.in_default.is)
+    there.0 c.loop-next.invariant.siblings there.1 front
+    (sym (c.sibling.ensures _ there.1) ∙ sym c.get.ensures ∙ c.in_default.is)

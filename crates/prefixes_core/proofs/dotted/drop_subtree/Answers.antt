@@ -1,7 +1,6 @@
 use Rattle.std.proofs.Common.{inr, sym, ap, ◌∙◌}
 use Rattle.std.specs.FinMap as map
 use Rattle.patricia_tree.specs.Prefixes.{outside}
-use Rattle.prefixes_core.specs.Subtrees.{elsewhere}
 use Rattle.prefixes_core.proofs.ResultLemmas.{on_err_from}
 use Rattle.prefixes_core.proofs.SubtreeLemmas.{all_elsewhere, dotted, elsewhere_is}
 use Rattle.prefixes_core.proofs.SubtreeLemmas.{entries-remove}

@@ -5,6 +5,7 @@ use Rattle.patricia_model.specs.Siblings.{end, node}
 use Rattle.patricia_walks.specs.Internal.Positions.{siblings_at}
 use Rattle.patricia_wire.specs.Records.{Record}
 use Rattle.patricia_keys.specs.Keys.{IsValid}
+use Rattle.patricia_nodes.proofs.NodeVecLemmas.{node_there, lent_some}
 use Rattle.patricia_nodes.proofs.SeekLemmas.{head_within}
 use Rattle.patricia_codec.specs.Internal.Pieces.{IsPiece}
 use Rattle.patricia_codec.specs.Internal.Lefts.{nodes_of}
@@ -14,59 +15,73 @@ use Rattle.patricia_codec.proofs.records.Records.take.Goals as goal
 use Rattle.patricia_codec.proofs.records.Records.take.Goals.{then-self-eq0, else-self-eq0}
 use Rattle.patricia_codec.proofs.records.Records.take.Goals.{then-n-left, else-n-left}
 
-pub index-node-requires : goal.index-node-requires
-index-node-requires g c =
-    let left = c.requires.left.1 in
-    let within = head_within _ _ _ c.args.id left.plan c.requires.next in
-    omega (arith, c.index.ensures, within)
+pub label-requires : goal.label-requires
+label-requires g c =
+    let within = head_within _ _ _ c.args.id c.requires.left.1.plan c.requires.next in
+    omega (arith, within)
+
+pub sibling-beside-requires : goal.sibling-beside-requires
+sibling-beside-requires g c =
+    let within = head_within _ _ _ c.args.id c.requires.left.1.plan c.requires.next in
+    omega (arith, within)
+
+pub child-self-requires : goal.child-self-requires
+child-self-requires g c =
+    let within = head_within _ _ _ c.args.id c.requires.left.1.plan c.requires.next in
+    omega (arith, within)
+
+pub value-requires : goal.value-requires
+value-requires g c =
+    let within = head_within _ _ _ c.args.id c.requires.left.1.plan c.requires.next in
+    omega (arith, within)
 
 pub returns-in_default-clause-too_deep : goal.returns-in_default-clause-too_deep
 returns-in_default-clause-too_deep g c _ =
     let left = c.requires.left.1 in
-    let reads = rw c.index.ensures at c.index-node.ensures in
+    let there = node_there _ _ (head_within _ _ _ c.args.id left.plan c.requires.next) in
     first_deep g.K.Bytes.item g.met.K.Bytes.lawful c.args.self.now c.args.id
-    c.index-node.result.now left.plan c.requires.next reads g.W.Width.width
+    there.0 left.plan c.requires.next there.1 g.W.Width.width
     (c.level_at.ensures.too_deep c.in_default.is)
 
 pub label_behind-left-requires : goal.label_behind-left-requires
 label_behind-left-requires g c =
     let left = c.requires.left.1 in
-    let reads = rw c.index.ensures at c.index-node.ensures in
+    let there = node_there _ _ (head_within _ _ _ c.args.id left.plan c.requires.next) in
     let label = label_left g.K.Bytes.item g.met.K.Bytes.lawful c.args.self.now c.args.id
-    c.index-node.result.now left.plan c.requires.next reads c.requires.left in
-    label.within
+    there.0 left.plan c.requires.next there.1 c.requires.left in
+    rw (c.label.ensures _ there.1) label.within
 
 pub room-n-requires-clause-valid : goal.room-n-requires-clause-valid
 room-n-requires-clause-valid g c =
     let left = c.requires.left.1 in
-    let reads = rw c.index.ensures at c.index-node.ensures in
+    let there = node_there _ _ (head_within _ _ _ c.args.id left.plan c.requires.next) in
     let label = label_left g.K.Bytes.item g.met.K.Bytes.lawful c.args.self.now c.args.id
-    c.index-node.result.now left.plan c.requires.next reads c.requires.left in
-    subst (IsValid g.K.Bytes.item) (sym c.label_behind-left.ensures.rest) label.valid
+    there.0 left.plan c.requires.next there.1 c.requires.left in
+    subst (IsValid g.K.Bytes.item) (sym (rw (c.label.ensures _ there.1) at c.label_behind-left.ensures.rest)) label.valid
 
 pub room-n-requires-clause-nonempty : goal.room-n-requires-clause-nonempty
 room-n-requires-clause-nonempty g c none =
     let left = c.requires.left.1 in
-    let reads = rw c.index.ensures at c.index-node.ensures in
+    let there = node_there _ _ (head_within _ _ _ c.args.id left.plan c.requires.next) in
     let label = label_left g.K.Bytes.item g.met.K.Bytes.lawful c.args.self.now c.args.id
-    c.index-node.result.now left.plan c.requires.next reads c.requires.left in
-    label.nonempty (sym c.label_behind-left.ensures.rest ∙ none)
+    there.0 left.plan c.requires.next there.1 c.requires.left in
+    label.nonempty (sym (rw (c.label.ensures _ there.1) at c.label_behind-left.ensures.rest) ∙ none)
 
 pub overflow_add-self-else-n-left : goal.overflow_add-self-else-n-left
 overflow_add-self-else-n-left g c =
     let left = c.requires.left.1 in
-    let reads = rw c.index.ensures at c.index-node.ensures in
+    let there = node_there _ _ (head_within _ _ _ c.args.id left.plan c.requires.next) in
     let label = label_left g.K.Bytes.item g.met.K.Bytes.lawful c.args.self.now c.args.id
-    c.index-node.result.now left.plan c.requires.next reads c.requires.left in
+    there.0 left.plan c.requires.next there.1 c.requires.left in
     omega (
       arith,
       label.within,
       c.room-n.ensures.within,
       ap length
-          c.label_behind-left.ensures.rest,
+          (rw (c.label.ensures _ there.1) at c.label_behind-left.ensures.rest),
       length-drop c.args.self.now.skipped
-          c.index-node.result.now.label,
-      c.label_behind-left.ensures.counted,
+          there.0.label,
+      (rw (c.label.ensures _ there.1) at c.label_behind-left.ensures.counted),
     )
 
 pub returns-clause-ok : goal.returns-clause-ok
@@ -75,15 +90,16 @@ returns-clause-ok g c =
     let kind = g.met.K.Bytes.lawful in
     let p = c.args.self.now in
     let q = c.if-n-left.self in
-    let n = c.index-node.result.now in
     let k = c.room-n.result in
     let at = c.if-self-eq0.beside in
     let left = c.requires.left.1 in
-    let reads = rw c.index.ensures at c.index-node.ensures in
-    let label = c.label_behind-left.ensures.rest in
+    let there = node_there _ _ (head_within _ _ _ c.args.id left.plan c.requires.next) in
+    let n = there.0 in
+    let reads = there.1 in
+    let label = (rw (c.label.ensures _ there.1) at c.label_behind-left.ensures.rest) in
     let piece = subst (λ l. IsPiece item l k) label c.room-n.ensures in
     let beside : Beside item kind p c.args.id n left.plan c.requires.next reads at = elim c.if-self-eq0.branch [
-      | then-self-eq0 w ↦ beside_first item kind p c.args.id n left.plan c.requires.next reads at w.if-self-eq0.true w.beside-is
+      | then-self-eq0 w ↦ beside_first item kind p c.args.id n left.plan c.requires.next reads at w.if-self-eq0.true (w.beside-is ∙ w.sibling-beside.ensures _ reads)
       | else-self-eq0 w ↦ beside_later item kind p c.args.id n left.plan c.requires.next reads at w.if-self-eq0.false (w.beside-is ∙ w.none-beside.ensures)
     ] in
     let r : Record = record {
@@ -103,11 +119,11 @@ returns-clause-ok g c =
       | then-n-left w ↦
           let kept = ap nodes_of w.self-is in
           let level = ap (λ s. s.level) w.self-is in
-          let value = ap (λ v. v.0) w.value-is ∙ w.is_some.ensures in
-          let child = ap (λ v. v.1) w.value-is ∙ w.is_some-then-n-left.ensures ∙ ap is_some w.get.ensures in
+          let value = ap (λ v. v.0) w.value-is ∙ w.is_some.ensures ∙ lent_some w.value.result n.value (w.value.ensures _ reads) in
+          let child = ap (λ v. v.1) w.value-is ∙ w.is_some-then-n-left.ensures ∙ ap is_some (w.get.ensures ∙ w.child-self.ensures _ reads) in
           let under = siblings_at (nodes_of p) n.child in
           let below = below_whole item kind p c.args.id n left.plan c.requires.next reads q k piece
-          kept level (w.if-n-left.true ∙ ap length label) (ap (λ s. s.next) w.self-is)
+          kept level (w.if-n-left.true ∙ ap length label) (ap (λ s. s.next) w.self-is ∙ w.child-self.ensures _ reads)
           (ap (λ s. s.skipped) w.self-is) in
           taken item kind p c.args.id n left.plan c.requires.next reads q k piece kept level g.W.Width.width r
           at under beside (ap (λ s. s.stack.items) w.self-is ∙ stack) (rw (value, child) below)

@@ -11,6 +11,7 @@ use Rattle.patricia_core.proofs.tree.Tree.clone.Goals as goal
 pub copy_value-requires : goal.copy_value-requires
 copy_value-requires g c =
     let is = ap map.entries (sym c.self.view_is) ∙ entries_map g.K.Bytes.item g.met.K.Bytes.lawful _ _ c.self.invariant.tree.canonical in
+    rw c.as_ref.ensures.value
     (kept_parts g.V.Clone.is_clone c.self.inside.parts.value (siblings_of c.self.inside.parts.arena)
     (subst (λ es. ClonesAreSame g.V.Clone.is_clone (list_map (λ e. e.1) es)) is c.requires)).0
 
@@ -24,9 +25,10 @@ pub returns-in_err-value-clause-err_only_nonempty :
     goal.returns-in_err-value-clause-err_only_nonempty
 returns-in_err-value-clause-err_only_nonempty g c =
     let some : map.len c.args.self.now ≢ 0 = λ none. c.in_err-value.ensures.nonempty
-    (nothing_in g.K.Bytes.item g.met.K.Bytes.lawful c.self.inside.parts.value
+    (c.as_ref.ensures.value
+    ∙ (nothing_in g.K.Bytes.item g.met.K.Bytes.lawful c.self.inside.parts.value
     (siblings_of c.self.inside.parts.arena) c.self.invariant.tree.canonical
-    (ap map.len c.self.view_is ∙ none)).0 in
+    (ap map.len c.self.view_is ∙ none)).0) in
     on_err_from _ some
 
 pub returns-in_err-copy-clause-err_only_nonempty : goal.returns-in_err-copy-clause-err_only_nonempty

@@ -25,13 +25,14 @@ pub relocate_siblings-first-requires : goal.relocate_siblings-first-requires
 relocate_siblings-first-requires g t c =
     let l = c.loop-i in
     let r = c.requires in
+    let reads = rw c.new-id.ensures at c.child-child.ensures in
     let f = l.invariant.filling r.old r.plan r.marks r.filling r.unmarked in
     let short : l.i < length l.to.items = omega (arith, c.loop-i-test.true, l.invariant.within) in
     let next = laying_siblings r.plan _ _ l.i _ _ f.laying short (between_next c.args.start l.i l.end r.marks l.invariant.on c.loop-i-test.true) in
     record {
       siblings = (
         next.siblings,
-        next_top r.plan _ l.i _ _ next c.index.result.now c.index.ensures,
+        next_top r.plan _ l.i _ _ next c.child-child.result reads,
         omega (arith, next.room, r.room, l.invariant.capacity),
       );
     }
@@ -40,23 +41,25 @@ pub set_child-requires : goal.set_child-requires
 set_child-requires g t c =
     let l = c.loop-i in
     let r = c.requires in
+    let reads = rw c.new-id.ensures at c.child-child.ensures in
     let f = l.invariant.filling r.old r.plan r.marks r.filling r.unmarked in
     let short : l.i < length l.to.items = omega (arith, c.loop-i-test.true, l.invariant.within) in
     let next = laying_siblings r.plan _ _ l.i _ _ f.laying short (between_next c.args.start l.i l.end r.marks l.invariant.on c.loop-i-test.true) in
-    let moved = ap length (c.relocate_siblings-first.ensures.laid next.siblings (next_top r.plan _ l.i _ _ next c.index.result.now c.index.ensures)) in
+    let moved = ap length (c.relocate_siblings-first.ensures.laid next.siblings (next_top r.plan _ l.i _ _ next c.child-child.result reads)) in
     let both = length-append l.to.items (laid (length l.to.items) next.siblings) in
-    omega (arith, short, moved, both, c.new.ensures)
+    omega (arith, short, moved, both, c.new-id.ensures)
 
 pub loop-i-preserved-then-depth-eq0 : goal.loop-i-preserved-then-depth-eq0
 loop-i-preserved-then-depth-eq0 g t c =
     let l = c.loop-i in
     let r = c.requires in
+    let reads = rw c.new-id.ensures at c.child-child.ensures in
     let f0 = l.invariant.filling r.old r.plan r.marks r.filling r.unmarked in
     let short : l.i < length l.to.items = omega (arith, c.loop-i-test.true, l.invariant.within) in
     let moved = c.relocate_siblings-first in
     let put = c.set_child.ensures in
     let next0 = laying_siblings r.plan _ _ l.i _ _ f0.laying short (between_next c.args.start l.i l.end r.marks l.invariant.on c.loop-i-test.true) in
-    let came = ap length (moved.ensures.laid next0.siblings (next_top r.plan _ l.i _ _ next0 c.index.result.now c.index.ensures)) in
+    let came = ap length (moved.ensures.laid next0.siblings (next_top r.plan _ l.i _ _ next0 c.child-child.result reads)) in
     let both = length-append l.to.items (laid (length l.to.items) next0.siblings) in
     let same : length c.set_child.new.self.items ≡ length moved.new.to.items = ap (λ v. length v.items) put.2 ∙ length-set _ _ _ in
     let level : l.end ≡ length l.to.items = omega (arith, l.invariant.level c.if-depth-eq0.true) in
@@ -67,7 +70,7 @@ loop-i-preserved-then-depth-eq0 g t c =
     λ old w marks f none.
     let g0 = l.invariant.filling old w marks f none in
     let next = laying_siblings w _ _ l.i _ _ g0.laying short (between_next c.args.start l.i l.end marks l.invariant.on c.loop-i-test.true) in
-    let top = next_top w _ l.i _ _ next c.index.result.now c.index.ensures in
+    let top = next_top w _ l.i _ _ next c.child-child.result reads in
     rw put.2
     (filling_next old w l.self moved.new.self (between c.args.start l.i l.end marks)
     (up_to c.len-below.result (between c.args.start (l.i + 1) l.end marks)) l.i l.to.items _
@@ -76,8 +79,8 @@ loop-i-preserved-then-depth-eq0 g t c =
     (omega (arith, c.len-below.ensures)) l.invariant.on c.loop-i-test.true (omega (arith, l.invariant.within)))
     next (moved.ensures.taken next.siblings top) moved.new.to.items
     (moved.ensures.laid next.siblings top) moved.result (moved.ensures.first next.siblings top)
-    put.0 (rw c.new.ensures at put.1)
-    (ap (λ i. set moved.new.to.items i (record put.0 { child = moved.result })) c.new.ensures)) in
+    put.0 (rw c.new-id.ensures at put.1)
+    (ap (λ i. set moved.new.to.items i (record put.0 { child = moved.result })) c.new-id.ensures)) in
     record {
       capacity = ap (λ v. v.cap) put.2 ∙ moved.ensures.capacity ∙ l.invariant.capacity;
       longer = omega (arith, l.invariant.longer, same, came, both);
@@ -94,12 +97,13 @@ pub relocate_below-requires : goal.relocate_below-requires
 relocate_below-requires g t c κs within =
     let l = c.loop-i in
     let r = c.requires in
+    let reads = rw c.new-id.ensures at c.child-child.ensures in
     let f0 = l.invariant.filling r.old r.plan r.marks r.filling r.unmarked in
     let short : l.i < length l.to.items = omega (arith, c.loop-i-test.true, l.invariant.within) in
     let moved = c.relocate_siblings-first in
     let put = c.set_child.ensures in
     let next0 = laying_siblings r.plan _ _ l.i _ _ f0.laying short (between_next c.args.start l.i l.end r.marks l.invariant.on c.loop-i-test.true) in
-    let came = ap length (moved.ensures.laid next0.siblings (next_top r.plan _ l.i _ _ next0 c.index.result.now c.index.ensures)) in
+    let came = ap length (moved.ensures.laid next0.siblings (next_top r.plan _ l.i _ _ next0 c.child-child.result reads)) in
     let both = length-append l.to.items (laid (length l.to.items) next0.siblings) in
     let same : length c.set_child.new.self.items ≡ length moved.new.to.items = ap (λ v. length v.items) put.2 ∙ length-set _ _ _ in
     let turned : (old : NodeArena g.row.V.Denot) (w : Plan g.row.V.Denot) (marks : ℕ → Bool)
@@ -109,7 +113,7 @@ relocate_below-requires g t c κs within =
     λ old w marks f none.
     let g0 = l.invariant.filling old w marks f none in
     let next = laying_siblings w _ _ l.i _ _ g0.laying short (between_next c.args.start l.i l.end marks l.invariant.on c.loop-i-test.true) in
-    let top = next_top w _ l.i _ _ next c.index.result.now c.index.ensures in
+    let top = next_top w _ l.i _ _ next c.child-child.result reads in
     rw put.2
     (filling_next old w l.self moved.new.self (between c.args.start l.i l.end marks)
     (up_to c.len-below.result (between c.args.start (l.i + 1) l.end marks)) l.i l.to.items _
@@ -118,8 +122,8 @@ relocate_below-requires g t c κs within =
     (omega (arith, c.len-below.ensures)) l.invariant.on c.loop-i-test.true (omega (arith, l.invariant.within)))
     next (moved.ensures.taken next.siblings top) moved.new.to.items
     (moved.ensures.laid next.siblings top) moved.result (moved.ensures.first next.siblings top)
-    put.0 (rw c.new.ensures at put.1)
-    (ap (λ i. set moved.new.to.items i (record put.0 { child = moved.result })) c.new.ensures)) in (
+    put.0 (rw c.new-id.ensures at put.1)
+    (ap (λ i. set moved.new.to.items i (record put.0 { child = moved.result })) c.new-id.ensures)) in (
       omega (arith, c.if-depth-eq0.false),
       (
         within,
@@ -138,12 +142,13 @@ pub loop-i-preserved : goal.loop-i-preserved
 loop-i-preserved g t c =
     let l = c.loop-i in
     let r = c.requires in
+    let reads = rw c.new-id.ensures at c.child-child.ensures in
     let f0 = l.invariant.filling r.old r.plan r.marks r.filling r.unmarked in
     let short : l.i < length l.to.items = omega (arith, c.loop-i-test.true, l.invariant.within) in
     let moved = c.relocate_siblings-first in
     let put = c.set_child.ensures in
     let next0 = laying_siblings r.plan _ _ l.i _ _ f0.laying short (between_next c.args.start l.i l.end r.marks l.invariant.on c.loop-i-test.true) in
-    let came = ap length (moved.ensures.laid next0.siblings (next_top r.plan _ l.i _ _ next0 c.index.result.now c.index.ensures)) in
+    let came = ap length (moved.ensures.laid next0.siblings (next_top r.plan _ l.i _ _ next0 c.child-child.result reads)) in
     let both = length-append l.to.items (laid (length l.to.items) next0.siblings) in
     let same : length c.set_child.new.self.items ≡ length moved.new.to.items = ap (λ v. length v.items) put.2 ∙ length-set _ _ _ in
     let turned : (old : NodeArena g.row.V.Denot) (w : Plan g.row.V.Denot) (marks : ℕ → Bool)
@@ -153,7 +158,7 @@ loop-i-preserved g t c =
     λ old w marks f none.
     let g0 = l.invariant.filling old w marks f none in
     let next = laying_siblings w _ _ l.i _ _ g0.laying short (between_next c.args.start l.i l.end marks l.invariant.on c.loop-i-test.true) in
-    let top = next_top w _ l.i _ _ next c.index.result.now c.index.ensures in
+    let top = next_top w _ l.i _ _ next c.child-child.result reads in
     rw put.2
     (filling_next old w l.self moved.new.self (between c.args.start l.i l.end marks)
     (up_to c.len-below.result (between c.args.start (l.i + 1) l.end marks)) l.i l.to.items _
@@ -162,8 +167,8 @@ loop-i-preserved g t c =
     (omega (arith, c.len-below.ensures)) l.invariant.on c.loop-i-test.true (omega (arith, l.invariant.within)))
     next (moved.ensures.taken next.siblings top) moved.new.to.items
     (moved.ensures.laid next.siblings top) moved.result (moved.ensures.first next.siblings top)
-    put.0 (rw c.new.ensures at put.1)
-    (ap (λ i. set moved.new.to.items i (record put.0 { child = moved.result })) c.new.ensures)) in
+    put.0 (rw c.new-id.ensures at put.1)
+    (ap (λ i. set moved.new.to.items i (record put.0 { child = moved.result })) c.new-id.ensures)) in
     let below = c.relocate_below.ensures in
     record {
       capacity = below.capacity ∙ ap (λ v. v.cap) put.2 ∙ moved.ensures.capacity ∙ l.invariant.capacity;

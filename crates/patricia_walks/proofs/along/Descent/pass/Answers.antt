@@ -16,13 +16,28 @@ first_byte-first-requires g c =
     let within = run_ends g.K.Bytes.item g.met.K.Bytes.lawful c.args.key.now c.args.self.now c.args.id c.run-id.result c.requires.descent c.requires.taken c.requires.next (rw rest_is at c.run-id.ensures) in
     omega (arith, within)
 
-pub index-node-requires : goal.index-node-requires
-index-node-requires g c =
+pub label-label-requires : goal.label-label-requires
+label-label-requires g c =
     let within = run_ends g.K.Bytes.item g.met.K.Bytes.lawful c.args.key.now c.args.self.now c.args.id c.run-id.result c.requires.descent c.requires.taken c.requires.next (rw rest_is at c.run-id.ensures) in
-    omega (arith, within, c.index.ensures)
+    omega (arith, within)
 
 pub sibling-self-requires : goal.sibling-self-requires
 sibling-self-requires g c =
+    let within = run_ends g.K.Bytes.item g.met.K.Bytes.lawful c.args.key.now c.args.self.now c.args.id c.run-id.result c.requires.descent c.requires.taken c.requires.next (rw rest_is at c.run-id.ensures) in
+    omega (arith, within)
+
+pub value-self-requires : goal.value-self-requires
+value-self-requires g c =
+    let within = run_ends g.K.Bytes.item g.met.K.Bytes.lawful c.args.key.now c.args.self.now c.args.id c.run-id.result c.requires.descent c.requires.taken c.requires.next (rw rest_is at c.run-id.ensures) in
+    omega (arith, within)
+
+pub child-self-requires : goal.child-self-requires
+child-self-requires g c =
+    let within = run_ends g.K.Bytes.item g.met.K.Bytes.lawful c.args.key.now c.args.self.now c.args.id c.run-id.result c.requires.descent c.requires.taken c.requires.next (rw rest_is at c.run-id.ensures) in
+    omega (arith, within)
+
+pub sibling-self-requires-else-eq : goal.sibling-self-requires-else-eq
+sibling-self-requires-else-eq g c =
     let within = run_ends g.K.Bytes.item g.met.K.Bytes.lawful c.args.key.now c.args.self.now c.args.id c.run-id.result c.requires.descent c.requires.taken c.requires.next (rw rest_is at c.run-id.ensures) in
     omega (arith, within)
 
@@ -58,24 +73,24 @@ pub returns-then-starts_with : goal.returns-then-starts_with
 returns-then-starts_with g c =
     let run = rw rest_is at c.run-id.ensures in
     let on = moves_past_run g.K.Bytes.item g.met.K.Bytes.lawful c.args.key.now c.args.self.now c.args.id c.run-id.result c.requires.descent c.requires.taken c.requires.next run in
-    let reads = rw c.index.ensures at c.index-node.ensures in
-    let yes = rw (c.as_slice-label.ensures, rest_is) at c.starts_with.ensures.value in
+    let n = node_there _ _ (descent_within g.K.Bytes.item c.args.key.now (moved_to c.args.self.now (Some c.run-id.result)) c.run-id.result on.descent refl) in
+    let yes = rw (c.label-label.ensures _ n.1, rest_is) at c.starts_with.ensures.value in
     moves_after g.K.Bytes.item g.met.K.Bytes.lawful c.args.key.now c.args.self.now _ _ on
     (moves_down g.K.Bytes.item g.met.K.Bytes.lawful c.args.key.now (moved_to c.args.self.now (Some c.run-id.result)) _ c.run-id.result
-    c.index-node.result.now on.descent c.requires.taken refl reads refl
-    (sym yes ∙ c.if-starts_with.true) (rw c.as_slice-label.ensures refl)
-    c.as_ref-self.ensures.value refl)
+    n.0 on.descent c.requires.taken refl n.1 refl
+    (sym yes ∙ c.if-starts_with.true) (rw (c.label-label.ensures _ n.1) refl)
+    (c.value-self.ensures _ n.1) (c.child-self.ensures _ n.1))
 
 pub returns-then-eq : goal.returns-then-eq
 returns-then-eq g c =
     let run = rw rest_is at c.run-id.ensures in
     let on = moves_past_run g.K.Bytes.item g.met.K.Bytes.lawful c.args.key.now c.args.self.now c.args.id c.run-id.result c.requires.descent c.requires.taken c.requires.next run in
-    let reads = rw c.index.ensures at c.index-node.ensures in
-    let other = rw (c.as_slice-label.ensures, rest_is) at c.starts_with.ensures.value in
-    let order = rw (c.as_slice-label.ensures, rest_is) at c.cmp.ensures in
+    let n = node_there _ _ (descent_within g.K.Bytes.item c.args.key.now (moved_to c.args.self.now (Some c.run-id.result)) c.run-id.result on.descent refl) in
+    let other = rw (c.label-label.ensures _ n.1, rest_is) at c.starts_with.ensures.value in
+    let order = rw (c.label-label.ensures _ n.1, rest_is) at c.cmp.ensures in
     moves_after g.K.Bytes.item g.met.K.Bytes.lawful c.args.key.now c.args.self.now _ _ on
     (moves_off g.K.Bytes.item g.met.K.Bytes.lawful c.args.key.now (moved_to c.args.self.now (Some c.run-id.result)) _ c.run-id.result
-    c.index-node.result.now on.descent c.requires.taken refl reads refl
+    n.0 on.descent c.requires.taken refl n.1 refl
     (sym other ∙ c.if-starts_with.false)
     (sym order ∙ less_is c.cmp.result (sym c.eq.ensures ∙ c.if-eq.true)) refl refl
     c.none-self-then-eq.ensures)
@@ -84,9 +99,9 @@ pub returns-else-eq : goal.returns-else-eq
 returns-else-eq g c =
     let run = rw rest_is at c.run-id.ensures in
     let on = moves_past_run g.K.Bytes.item g.met.K.Bytes.lawful c.args.key.now c.args.self.now c.args.id c.run-id.result c.requires.descent c.requires.taken c.requires.next run in
-    let reads = rw c.index.ensures at c.index-node.ensures in
-    let other = rw (c.as_slice-label.ensures, rest_is) at c.starts_with.ensures.value in
+    let n = node_there _ _ (descent_within g.K.Bytes.item c.args.key.now (moved_to c.args.self.now (Some c.run-id.result)) c.run-id.result on.descent refl) in
+    let other = rw (c.label-label.ensures _ n.1, rest_is) at c.starts_with.ensures.value in
     moves_after g.K.Bytes.item g.met.K.Bytes.lawful c.args.key.now c.args.self.now _ _ on
     (moves_past g.K.Bytes.item g.met.K.Bytes.lawful c.args.key.now (moved_to c.args.self.now (Some c.run-id.result)) _ c.run-id.result
-    c.index-node.result.now on.descent c.requires.taken refl reads refl
-    (sym other ∙ c.if-starts_with.false) refl refl refl)
+    n.0 on.descent c.requires.taken refl n.1 refl
+    (sym other ∙ c.if-starts_with.false) refl refl (c.sibling-self-else-eq.ensures _ n.1))

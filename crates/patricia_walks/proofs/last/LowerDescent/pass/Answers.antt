@@ -4,6 +4,8 @@ use Rattle.patricia_model.specs.Siblings.{own, prefixed}
 use Rattle.patricia_walks.specs.Internal.Lowers.{lower_entry}
 use Rattle.patricia_walks.proofs.AlongLemmas.{rest_is}
 use Rattle.patricia_walks.proofs.LowerLemmas.{lower_off, lower_past, lower_down, greater_is, not_greater, before_it}
+use Rattle.patricia_walks.proofs.LowerLemmas.{lower_within}
+use Rattle.patricia_nodes.proofs.NodeVecLemmas.{node_there}
 use Rattle.patricia_walks.proofs.last.LowerDescent.pass.Goals as goal
 
 pub slice_bounds-rest-count : goal.slice_bounds-rest-count
@@ -14,37 +16,37 @@ slice_bounds-rest-start g c = c.requires.descent.front.0
 
 pub returns-then-ne : goal.returns-then-ne
 returns-then-ne g c =
-    let reads = rw c.index.ensures at c.index-node.ensures in
-    let order = rw (c.as_slice-label.ensures, rest_is) at c.cmp.ensures in
+    let there = node_there _ _ (lower_within g.K.Bytes.item c.args.key.now c.args.self.now c.args.id c.requires.descent c.requires.next) in
+    let order = rw (c.label-label.ensures _ there.1, rest_is) at c.cmp.ensures in
     lower_off g.K.Bytes.item g.met.K.Bytes.lawful c.args.key.now c.args.self.now _ c.args.id
-    c.index-node.result.now c.requires.descent c.requires.next reads refl
+    there.0 c.requires.descent c.requires.next there.1 refl
     (λ after. not_greater c.cmp.result (sym c.ne.ensures ∙ c.if-ne.true) (order ∙ after))
     refl refl c.none-self.ensures
 
 pub returns-else-starts_with : goal.returns-else-starts_with
 returns-else-starts_with g c =
-    let reads = rw c.index.ensures at c.index-node.ensures in
-    let other = rw (c.as_slice-label.ensures, rest_is) at c.starts_with.ensures.value in
-    let order = rw (c.as_slice-label.ensures, rest_is) at c.cmp.ensures in
+    let there = node_there _ _ (lower_within g.K.Bytes.item c.args.key.now c.args.self.now c.args.id c.requires.descent c.requires.next) in
+    let other = rw (c.label-label.ensures _ there.1, rest_is) at c.starts_with.ensures.value in
+    let order = rw (c.label-label.ensures _ there.1, rest_is) at c.cmp.ensures in
     lower_past g.K.Bytes.item g.met.K.Bytes.lawful c.args.key.now c.args.self.now _ c.args.id
-    c.index-node.result.now c.requires.descent c.requires.next reads refl
+    there.0 c.requires.descent c.requires.next there.1 refl
     (sym other ∙ c.if-starts_with.false)
-    (before_it (drop c.args.self.now.len c.args.key.now) c.index-node.result.now.label
+    (before_it (drop c.args.self.now.len c.args.key.now) there.0.label
     (sym order ∙ greater_is c.cmp.result (sym c.ne.ensures ∙ c.if-ne.false)))
-    refl refl refl
+    refl refl (c.sibling-self.ensures _ there.1)
 
 pub returns-then-starts_with : goal.returns-then-starts_with
 returns-then-starts_with g c =
-    let reads = rw c.index.ensures at c.index-node.ensures in
-    let yes = rw (c.as_slice-label.ensures, rest_is) at c.starts_with.ensures.value in
-    let order = rw (c.as_slice-label.ensures, rest_is) at c.cmp.ensures in
+    let there = node_there _ _ (lower_within g.K.Bytes.item c.args.key.now c.args.self.now c.args.id c.requires.descent c.requires.next) in
+    let yes = rw (c.label-label.ensures _ there.1, rest_is) at c.starts_with.ensures.value in
+    let order = rw (c.label-label.ensures _ there.1, rest_is) at c.cmp.ensures in
     let nodes = c.args.self.now.arena.now.nodes.items in
     let key = c.args.key.now in
     lower_down g.K.Bytes.item g.met.K.Bytes.lawful key c.args.self.now _ c.args.id
-    c.index-node.result.now c.requires.descent c.requires.next reads refl
+    there.0 c.requires.descent c.requires.next there.1 refl
     (sym yes ∙ c.if-starts_with.true)
     (sym order ∙ greater_is c.cmp.result (sym c.ne.ensures ∙ c.if-ne.false))
-    (ap (λ l. c.args.self.now.len + length l) c.as_slice-label.ensures) refl
+    (ap (λ l. c.args.self.now.len + length l) (c.label-label.ensures _ there.1)) (c.child-self.ensures _ there.1)
     (λ front. c.put_value.ensures.found key nodes front c.requires.descent.found)
     (c.put_value.ensures.entry key nodes
-    ∙ ap (λ v. last_or (lower_entry key nodes c.args.self.now.lower) (prefixed (take (c.args.self.now.len + length c.as_slice-label.result.now) key) (own v))) c.as_ref.ensures.value)
+    ∙ ap (λ v. last_or (lower_entry key nodes c.args.self.now.lower) (prefixed (take (c.args.self.now.len + length c.label-label.result.now) key) (own v))) (c.value.ensures _ there.1))

@@ -1,33 +1,36 @@
 use Rattle.std.proofs.Common.{refl, ap, ◌++◌, ◌∙◌}
+use Rattle.patricia_nodes.proofs.NodeVecLemmas.{node_there}
+use Rattle.patricia_nodes.proofs.SeekLemmas.{head_within}
 use Rattle.patricia_walks.specs.Internal.Positions.{lent}
 use Rattle.patricia_walks.proofs.PositionLemmas.{position_top, left_top}
 use Rattle.patricia_walks.proofs.walk.Walk.below.Goals as goal
 
 pub invariant_of-result : goal.invariant_of-result
 invariant_of-result g c =
-    let reads = rw c.index.ensures at c.index-node.ensures in
+    let there = node_there _ _ (head_within _ _ _ _ c.requires.plan refl) in
     let path = c.in_ok-extend_from_slice-2.ensures.items ∙ ap
-    (λ p. p ++ c.as_slice-label.result.now)
+    (λ p. p ++ c.label-label.result.now)
     (c.in_ok-extend_from_slice.ensures.items ∙ ap (λ p. p ++ c.args.front.now)
-    c.in_ok-path.ensures.items) ∙ ap (λ l. c.args.front.now ++ l) c.as_slice-label.ensures
+    c.in_ok-path.ensures.items) ∙ ap (λ l. c.args.front.now ++ l) (c.label-label.ensures _ there.1)
     in
-    position_top g.K.Bytes.item c.args.arena.now c.args.front.now c.args.top c.index-node.result.now c.requires reads _ refl path refl c.new.ensures.items
+    position_top g.K.Bytes.item c.args.arena.now c.args.front.now c.args.top there.0 c.requires there.1 _ refl path
+    (c.child.ensures _ there.1) c.new.ensures.items
 
 pub returns : goal.returns
 returns g c =
-    let reads = rw c.index.ensures at c.index-node.ensures in
+    let there = node_there _ _ (head_within _ _ _ _ c.requires.plan refl) in
     let path = c.in_ok-extend_from_slice-2.ensures.items ∙ ap
-    (λ p. p ++ c.as_slice-label.result.now)
+    (λ p. p ++ c.label-label.result.now)
     (c.in_ok-extend_from_slice.ensures.items ∙ ap (λ p. p ++ c.args.front.now)
-    c.in_ok-path.ensures.items) ∙ ap (λ l. c.args.front.now ++ l) c.as_slice-label.ensures
+    c.in_ok-path.ensures.items) ∙ ap (λ l. c.args.front.now ++ l) (c.label-label.ensures _ there.1)
     in
-    left_top g.K.Bytes.item c.args.arena.now c.args.front.now c.args.top c.index-node.result.now
-    c.requires reads
+    left_top g.K.Bytes.item c.args.arena.now c.args.front.now c.args.top there.0
+    c.requires there.1
     (lent (record {
       arena = c.args.arena;
       path = c.extend_from_slice-2.new.self;
       pending =
-          c.as_ref.result;
-      next = c.index-node.result.now.child;
+          c.value.result;
+      next = c.child.result;
       stack = c.new.result;
-    })) refl path c.as_ref.ensures.value refl c.new.ensures.items
+    })) refl path (c.value.ensures _ there.1) (c.child.ensures _ there.1) c.new.ensures.items

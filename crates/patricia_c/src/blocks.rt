@@ -1,0 +1,305 @@
+//! Many entries of a cursor at once: one look-up, and then a walk.
+ghost use Rattle.std.specs.Prelude.{◌≡◌, ◌≢◌, ◌≤◌, ◌<◌, ◌++◌, ℕ, List, [], ◌∷◌, drop, length, take};
+ghost use Rattle.std.specs.Prelude.{◌⊎◌, ◌+◌, Some, None, Ok, true, false, IfOk, slice_get};
+ghost use Rattle.std.specs.List.{last_or};
+ghost use Rattle.std.specs.Option.{option_map};
+ghost use Rattle.std.specs.FinMap as map;
+ghost use Rattle.patricia_tree.specs.Cursors.{after};
+ghost use Rattle.patricia_tree.specs.Prefixes.{begins, under};
+ghost use Rattle.patricia_tree.specs.Ranges.{from};
+ghost use Rattle.patricia_c.specs.Blocks.{WritesBlock};
+ghost use Rattle.patricia_c.specs.Cursors.{ahead_of, beyond, prefix_of};
+ghost use Rattle.patricia_c.specs.Maps.{map_of};
+ghost use Rattle.patricia_c.specs.Internal.Filling.{AreWritten, Fills, HasNoRoom};
+ghost use Rattle.patricia_c.specs.Internal.Filling.{IsFullFirst, IsNoneFirst};
+
+use crate::cursor_place::CursorPlace;
+use crate::cursor_pointer::Position;
+use crate::cursors::{END, ENTRY, NO_MEMORY, NO_ROOM};
+use crate::map_place::MapPlace;
+use crate::map_pointer::StoredMap;
+use patricia_tree::map::RangeReadCursor;
+use std::alloc::{AllocError, Global};
+
+// What is written of a block so far.
+#[derive(Clone, Copy)]
+pub(crate) struct Filled {
+    // how many entries
+    count: usize,
+    // how many bytes of keys
+    used: usize,
+    // where the last key begins
+    last_at: usize,
+}
+
+// Writes one more entry behind those that are written, where each of the arrays has room.
+fn write_next(
+    key: &[u8],
+    value: u64,
+    filled: &mut Filled,
+    room: &mut [u8],
+    lens: &mut [usize],
+    values: &mut [u64],
+) -> bool
+    requires { filled.old.used ≤ length room.old }
+    ensures written { result ≡ true → (entries : List (List ℕ × ℕ)) →
+        (room' lens' values' : List ℕ) →
+        AreWritten entries filled.old room.old lens.old values.old room' lens' values' →
+        AreWritten (entries ++ (key.now, value) ∷ []) filled.new
+        room.new lens.new values.new room' lens' values' }
+    ensures full { result ≡ false → HasNoRoom (length key.now) filled.old
+        (length room.old) (length lens.old) (length values.old) }
+    ensures filled { result ≡ false → filled.new ≡ filled.old }
+    ensures room { result ≡ false → room.new ≡ room.old }
+    ensures lens { result ≡ false → lens.new ≡ lens.old }
+    ensures values { result ≡ false → values.new ≡ values.old }
+{
+    let Filled { count, used, .. } = *filled;
+    if count >= lens.len() || count >= values.len() || room.len() - used < key.len() {
+        return false;
+    }
+    let end = used + key.len();
+    room[used..end].copy_from_slice(key);
+    lens[count] = key.len();
+    values[count] = value;
+    *filled = Filled {
+        count: count + 1,
+        used: end,
+        last_at: used,
+    };
+    true
+}
+
+// Writes the entries that a walk has left, up to the first one that does not begin with the prefix,
+// or that has no room: then it returns the length of its key.
+fn write_entries(
+    walk: &mut RangeReadCursor<'_, &[u8], u64>,
+    prefix: &[u8],
+    filled: &mut Filled,
+    room: &mut [u8],
+    lens: &mut [usize],
+    values: &mut [u64],
+) -> Result<Option<usize>, AllocError>
+    requires { AreWritten [] filled.old room.old lens.old values.old room.old lens.old values.old }
+    ensures fills { Fills prefix.now walk.old.left filled.new room.new lens.new values.new
+        room.old lens.old values.old }
+    ensures none { result ≡ Ok None → filled.new.count ≡ 0 →
+        IsNoneFirst prefix.now walk.old.left }
+    ensures full { (n : ℕ) → result ≡ Ok (Some n) → filled.new.count ≡ 0 →
+        IsFullFirst prefix.now walk.old.left n
+        (length room.old) (length lens.old) (length values.old) }
+{
+    while walk.advance()? {
+        let (Some(key), Some(value)) = (walk.key(), walk.value()) else {
+            return Ok(None);
+        };
+        if !key.starts_with(prefix) {
+            return Ok(None);
+        }
+        if !write_next(key, *value, filled, room, lens, values) {
+            return Ok(Some(key.len()));
+        }
+    }
+    Ok(None)
+}
+
+// A key from which on the entries are that the cursor has ahead, if they begin with its prefix.
+fn start(alloc: Global, position: &Position) -> Result<Vec<u8>, AllocError>
+    ensures { IfOk result (λ key. (entries : List (List ℕ × ℕ)) →
+        from key.items entries ≡ beyond position.now.passed position.now.key.items entries) }
+{
+    let mut key = Vec::from_slice(alloc, position.key.as_slice())?;
+    if position.passed {
+        // no key is between one and the same with a byte of 0 behind it
+        key.push(0)?;
+    }
+    Ok(key)
+}
+
+// What is returned where no entry is written.
+fn none_written(ended: Result<Option<usize>, AllocError>, len: &mut usize) -> u32
+    ensures end { result ≡ 0 → ended ≡ Ok None }
+    ensures full { result ≡ 4 → ended ≡ Ok (Some len.new) }
+    ensures len { result ≢ 4 → len.new ≡ len.old }
+    ensures codes { result ≤ 4 }
+    ensures not_one { result ≢ 1 }
+    ensures not_three { result ≢ 3 }
+{
+    match ended {
+        Ok(None) => END,
+        Ok(Some(n)) => {
+            *len = n;
+            NO_ROOM
+        }
+        Err(_) => NO_MEMORY,
+    }
+}
+
+// Writes entries that a cursor has ahead, and passes them.
+fn fill(
+    alloc: Global,
+    stored: &StoredMap,
+    position: &mut Position,
+    room: &mut [u8],
+    lens: &mut [usize],
+    values: &mut [u64],
+    count: &mut usize,
+    len: &mut usize,
+) -> u32
+    ensures end { result ≡ 0 →
+        slice_get (ahead_of (Some position.old) (map.entries stored.now.map)) 0 ≡ None }
+    ensures block { result ≡ 1 →
+        WritesBlock (ahead_of (Some position.old) (map.entries stored.now.map))
+        count.new len.new room.new lens.new values.new room.old lens.old values.old }
+    ensures passed { result ≡ 1 → (entries : List (List ℕ × ℕ)) →
+        ahead_of (Some position.new) entries ≡ under (prefix_of (Some position.old))
+        (after (option_map (λ e. e.0) (last_or None
+        (take count.new (ahead_of (Some position.old) (map.entries stored.now.map))))) entries) }
+    ensures prefix { prefix_of (Some position.new) ≡ prefix_of (Some position.old) }
+    ensures longer { result ≡ 4 →
+        option_map (λ e. length e.0) (slice_get (ahead_of (Some position.old)
+        (map.entries stored.now.map)) 0) ≡ Some len.new }
+    ensures small { result ≡ 4 →
+        (length room.old < len.new) ⊎ (length lens.old ≡ 0) ⊎ (length values.old ≡ 0) }
+    ensures stays { result ≢ 1 → position.new ≡ position.old }
+    ensures room_unwritten { result ≡ 0 ⊎ result ≡ 4 → room.new ≡ room.old }
+    ensures lens_unwritten { result ≡ 0 ⊎ result ≡ 4 → lens.new ≡ lens.old }
+    ensures values_unwritten { result ≡ 0 ⊎ result ≡ 4 → values.new ≡ values.old }
+    ensures count_unwritten { result ≢ 1 → count.new ≡ count.old }
+    ensures end_len { result ≡ 0 → len.new ≡ len.old }
+    ensures refused_len { result ≡ 2 → len.new ≡ len.old }
+    ensures codes { result ≤ 4 }
+    ensures not_three { result ≢ 3 }
+{
+    let Ok(key) = start(alloc, position) else {
+        return NO_MEMORY;
+    };
+    let mut walk = stored.map.cursor_from(key.as_slice());
+    let mut filled = Filled {
+        count: 0,
+        used: 0,
+        last_at: 0,
+    };
+    let ended = write_entries(
+        &mut walk,
+        position.prefix(),
+        &mut filled,
+        room,
+        lens,
+        values,
+    );
+    if filled.count == 0 {
+        return none_written(ended, len);
+    }
+    let Ok(last) = Vec::from_slice(alloc, &room[filled.last_at..filled.used]) else {
+        return NO_MEMORY;
+    };
+    position.pass(last);
+    *count = filled.count;
+    *len = filled.used;
+    ENTRY
+}
+
+// Writes entries of the map that the cursor has ahead, and passes them.
+pub(crate) fn block_ahead(
+    alloc: Global,
+    cursor: &mut CursorPlace,
+    stored: &StoredMap,
+    room: &mut [u8],
+    lens: &mut [usize],
+    values: &mut [u64],
+    count: &mut usize,
+    len: &mut usize,
+) -> u32
+    ensures end { result ≡ 0 →
+        slice_get (ahead_of cursor.old.pointer.stored (map.entries stored.now.map)) 0 ≡ None }
+    ensures block { result ≡ 1 →
+        WritesBlock (ahead_of cursor.old.pointer.stored (map.entries stored.now.map))
+        count.new len.new room.new lens.new values.new room.old lens.old values.old }
+    ensures passed { result ≡ 1 → (entries : List (List ℕ × ℕ)) →
+        ahead_of cursor.new.pointer.stored entries ≡ under (prefix_of cursor.old.pointer.stored)
+        (after (option_map (λ e. e.0) (last_or None
+        (take count.new (ahead_of cursor.old.pointer.stored
+        (map.entries stored.now.map))))) entries) }
+    ensures prefix { prefix_of cursor.new.pointer.stored ≡ prefix_of cursor.old.pointer.stored }
+    ensures longer { result ≡ 4 →
+        option_map (λ e. length e.0) (slice_get (ahead_of cursor.old.pointer.stored
+        (map.entries stored.now.map)) 0) ≡ Some len.new }
+    ensures small { result ≡ 4 →
+        (length room.old < len.new) ⊎ (length lens.old ≡ 0) ⊎ (length values.old ≡ 0) }
+    ensures stays { result ≢ 1 → (entries : List (List ℕ × ℕ)) →
+        ahead_of cursor.new.pointer.stored entries ≡ ahead_of cursor.old.pointer.stored entries }
+    ensures room_unwritten { result ≡ 0 ⊎ result ≡ 4 → room.new ≡ room.old }
+    ensures lens_unwritten { result ≡ 0 ⊎ result ≡ 4 → lens.new ≡ lens.old }
+    ensures values_unwritten { result ≡ 0 ⊎ result ≡ 4 → values.new ≡ values.old }
+    ensures count_unwritten { result ≢ 1 → count.new ≡ count.old }
+    ensures end_len { result ≡ 0 → len.new ≡ len.old }
+    ensures refused_len { result ≡ 2 → len.new ≡ len.old }
+    ensures refused { result ≡ 2 → map.entries stored.now.map ≢ [] }
+    ensures codes { result ≤ 4 }
+    ensures not_three { result ≢ 3 }
+{
+    if stored.map.is_empty() {
+        return END;
+    }
+    let Ok(mut position) = cursor.take_or_make(alloc) else {
+        return NO_MEMORY;
+    };
+    let result = fill(alloc, stored, &mut position, room, lens, values, count, len);
+    cursor.put(position);
+    result
+}
+
+/// Writes entries that the cursor has ahead, as many as have room in each of the arrays, or fewer
+/// where memory runs out behind the first, and passes them: their keys to the room, one behind the
+/// other, the length of each key to `lens` and its value to `values`. Returns `ENTRY`, and writes
+/// how many entries they are to `count` and how many bytes their keys have to `len`; `NO_ROOM`
+/// where the first of them has no room, and writes the length of its key to `len`; `END` where no
+/// entry is ahead; `NO_MEMORY` where memory ran out, and then what the arrays hold is not said. But
+/// with `ENTRY` the cursor stands where it stood.
+#[unsafe(no_mangle)]
+pub extern "C" fn patricia_cursor_next_many(
+    alloc: Global,
+    cursor: &mut CursorPlace,
+    at: &mut MapPlace,
+    room: &mut [u8],
+    lens: &mut [usize],
+    values: &mut [u64],
+    count: &mut usize,
+    len: &mut usize,
+) -> u32
+    ensures same { at.new ≡ at.old }
+    ensures end { result ≡ 0 →
+        slice_get (ahead_of cursor.old.pointer.stored (map.entries
+        (map_of at.old.pointer.stored))) 0 ≡ None }
+    ensures block { result ≡ 1 → WritesBlock (ahead_of cursor.old.pointer.stored
+        (map.entries (map_of at.old.pointer.stored)))
+        count.new len.new room.new lens.new values.new room.old lens.old values.old }
+    ensures passed { result ≡ 1 → (entries : List (List ℕ × ℕ)) →
+        ahead_of cursor.new.pointer.stored entries ≡ under (prefix_of cursor.old.pointer.stored)
+        (after (option_map (λ e. e.0) (last_or None
+        (take count.new (ahead_of cursor.old.pointer.stored (map.entries
+        (map_of at.old.pointer.stored)))))) entries) }
+    ensures prefix { prefix_of cursor.new.pointer.stored ≡ prefix_of cursor.old.pointer.stored }
+    ensures longer { result ≡ 4 →
+        option_map (λ e. length e.0) (slice_get (ahead_of cursor.old.pointer.stored
+        (map.entries (map_of at.old.pointer.stored))) 0) ≡ Some len.new }
+    ensures small { result ≡ 4 →
+        (length room.old < len.new) ⊎ (length lens.old ≡ 0) ⊎ (length values.old ≡ 0) }
+    ensures stays { result ≢ 1 → (entries : List (List ℕ × ℕ)) →
+        ahead_of cursor.new.pointer.stored entries ≡ ahead_of cursor.old.pointer.stored entries }
+    ensures room_unwritten { result ≡ 0 ⊎ result ≡ 4 → room.new ≡ room.old }
+    ensures lens_unwritten { result ≡ 0 ⊎ result ≡ 4 → lens.new ≡ lens.old }
+    ensures values_unwritten { result ≡ 0 ⊎ result ≡ 4 → values.new ≡ values.old }
+    ensures count_unwritten { result ≢ 1 → count.new ≡ count.old }
+    ensures end_len { result ≡ 0 → len.new ≡ len.old }
+    ensures refused_len { result ≡ 2 → len.new ≡ len.old }
+    ensures refused { result ≡ 2 → map.entries (map_of at.old.pointer.stored) ≢ [] }
+    ensures codes { result ≤ 4 }
+    ensures not_three { result ≢ 3 }
+{
+    let Some(stored) = at.as_mut() else {
+        return END;
+    };
+    block_ahead(alloc, cursor, stored, room, lens, values, count, len)
+}

@@ -1,0 +1,249 @@
+//! Many look-ups at once: the keys lie one behind the other in one array.
+ghost use Rattle.std.specs.Prelude.{◌≡◌, ◌≢◌, ◌≤◌, ◌<◌, ◌⊎◌, ℕ, List, length, true, false};
+ghost use Rattle.std.specs.Prelude.{Some, None, map as list_map, get_or, set};
+ghost use Rattle.std.specs.List.{sum};
+ghost use Rattle.std.specs.Option.{option_copied};
+ghost use Rattle.std.specs.FinMap as map;
+ghost use Rattle.patricia_tree.specs.Prefixes.{longest};
+ghost use Rattle.patricia_c.specs.Many.{flag, keys_in, measured, number, written};
+ghost use Rattle.patricia_c.specs.Maps.{map_of};
+
+use crate::map_place::MapPlace;
+use crate::map_pointer::StoredMap;
+
+/// All keys were looked up.
+pub(crate) const DONE: u32 = 0;
+/// An array has too few places, or the lengths reach behind the bytes of the keys.
+pub(crate) const NO_ROOM: u32 = 4;
+
+// Whether keys of these lengths lie in so many bytes.
+pub(crate) fn lie_in(lens: &[usize], bytes: usize) -> bool
+    ensures within { result ≡ true → sum lens.now ≤ bytes }
+    ensures past { result ≡ false → bytes < sum lens.now }
+{
+    let mut left = bytes;
+    let mut i = 0;
+    while i < lens.len() {
+        if left < lens[i] {
+            return false;
+        }
+        left -= lens[i];
+        i += 1;
+    }
+    true
+}
+
+// The value at a key.
+fn value_at(stored: Option<&StoredMap>, key: &[u8]) -> Option<u64>
+    ensures { result ≡ map.get (map_of (option_copied stored.entry)) key.now }
+{
+    match stored {
+        Some(stored) => stored.map.get(key).copied(),
+        None => None,
+    }
+}
+
+// Writes one answer.
+fn write_value(answer: Option<u64>, i: usize, values: &mut [u64], found: &mut [u8])
+    requires values_fit { i < length values.old }
+    requires found_fit { i < length found.old }
+    ensures values { values.new ≡ set values.old i
+        (number (λ v. v) answer (get_or values.old i 0)) }
+    ensures found { found.new ≡ set found.old i (flag answer (get_or found.old i 0)) }
+{
+    match answer {
+        Some(value) => {
+            values[i] = value;
+            found[i] = 1;
+        }
+        None => found[i] = 0,
+    }
+}
+
+// Looks up each key, and writes its answer.
+pub(crate) fn get_each(
+    stored: Option<&StoredMap>,
+    keys: &[u8],
+    lens: &[usize],
+    values: &mut [u64],
+    found: &mut [u8],
+)
+    requires keys_fit { sum lens.now ≤ length keys.now }
+    requires values_fit { length lens.now ≤ length values.old }
+    requires found_fit { length lens.now ≤ length found.old }
+    ensures values { values.new ≡ written (number (λ v. v)) (list_map
+        (map.get (map_of (option_copied stored.entry))) (keys_in keys.now lens.now)) values.old }
+    ensures found { found.new ≡ written flag (list_map
+        (map.get (map_of (option_copied stored.entry))) (keys_in keys.now lens.now)) found.old }
+{
+    let mut used = 0;
+    let mut i = 0;
+    while i < lens.len() {
+        let end = used + lens[i];
+        let answer = value_at(stored, &keys[used..end]);
+        write_value(answer, i, values, found);
+        used = end;
+        i += 1;
+    }
+}
+
+/// Looks up many keys: those of these lengths that lie one behind the other in `keys`. Writes to
+/// `found`, for each in turn, 1 where it is there, and then its value to `values`, and else 0.
+/// Returns `DONE`; or `NO_ROOM` where `values` or `found` has fewer places than there are lengths,
+/// or the lengths reach behind `keys`: nothing is written then. Does not allocate.
+#[unsafe(no_mangle)]
+pub extern "C" fn patricia_get_many(
+    at: &mut MapPlace,
+    keys: &[u8],
+    lens: &[usize],
+    values: &mut [u64],
+    found: &mut [u8],
+) -> u32
+    ensures same { at.new ≡ at.old }
+    ensures values { result ≡ 0 → values.new ≡ written (number (λ v. v)) (list_map
+        (map.get (map_of at.old.pointer.stored)) (keys_in keys.now lens.now)) values.old }
+    ensures found { result ≡ 0 → found.new ≡ written flag (list_map
+        (map.get (map_of at.old.pointer.stored)) (keys_in keys.now lens.now)) found.old }
+    ensures keys_fit { result ≡ 0 → sum lens.now ≤ length keys.now }
+    ensures values_fit { result ≡ 0 → length lens.now ≤ length values.old }
+    ensures found_fit { result ≡ 0 → length lens.now ≤ length found.old }
+    ensures small { result ≢ 0 → (length keys.now < sum lens.now)
+        ⊎ (length values.old < length lens.now) ⊎ (length found.old < length lens.now) }
+    ensures values_unwritten { result ≢ 0 → values.new ≡ values.old }
+    ensures found_unwritten { result ≢ 0 → found.new ≡ found.old }
+    ensures code { result ≢ 0 → result ≡ 4 }
+{
+    if values.len() < lens.len() || found.len() < lens.len() || !lie_in(lens, keys.len()) {
+        return NO_ROOM;
+    }
+    match at.as_mut() {
+        Some(stored) => get_each(Some(stored), keys, lens, values, found),
+        None => get_each(None, keys, lens, values, found),
+    }
+    DONE
+}
+
+// The length and the value of the longest key that is a prefix of this one.
+fn longest_at(stored: Option<&StoredMap>, key: &[u8]) -> Option<(usize, u64)>
+    ensures { result ≡ measured (longest key.now
+        (map.entries (map_of (option_copied stored.entry)))) }
+{
+    let Some(stored) = stored else {
+        return None;
+    };
+    match stored.map.get_longest_common_prefix(key) {
+        Some((front, value)) => Some((front.len(), *value)),
+        None => None,
+    }
+}
+
+// Writes one answer.
+fn write_longest(
+    answer: Option<(usize, u64)>,
+    i: usize,
+    prefix_lens: &mut [usize],
+    values: &mut [u64],
+    found: &mut [u8],
+)
+    requires lens_fit { i < length prefix_lens.old }
+    requires values_fit { i < length values.old }
+    requires found_fit { i < length found.old }
+    ensures lens { prefix_lens.new ≡ set prefix_lens.old i
+        (number (λ e. e.0) answer (get_or prefix_lens.old i 0)) }
+    ensures values { values.new ≡ set values.old i
+        (number (λ e. e.1) answer (get_or values.old i 0)) }
+    ensures found { found.new ≡ set found.old i (flag answer (get_or found.old i 0)) }
+{
+    match answer {
+        Some((len, value)) => {
+            prefix_lens[i] = len;
+            values[i] = value;
+            found[i] = 1;
+        }
+        None => found[i] = 0,
+    }
+}
+
+// Looks up the longest prefix of each key, and writes its answer.
+pub(crate) fn longest_each(
+    stored: Option<&StoredMap>,
+    keys: &[u8],
+    lens: &[usize],
+    prefix_lens: &mut [usize],
+    values: &mut [u64],
+    found: &mut [u8],
+)
+    requires keys_fit { sum lens.now ≤ length keys.now }
+    requires lens_fit { length lens.now ≤ length prefix_lens.old }
+    requires values_fit { length lens.now ≤ length values.old }
+    requires found_fit { length lens.now ≤ length found.old }
+    ensures lens { prefix_lens.new ≡ written (number (λ e. e.0)) (list_map
+        (λ key. measured (longest key (map.entries (map_of (option_copied stored.entry)))))
+        (keys_in keys.now lens.now)) prefix_lens.old }
+    ensures values { values.new ≡ written (number (λ e. e.1)) (list_map
+        (λ key. measured (longest key (map.entries (map_of (option_copied stored.entry)))))
+        (keys_in keys.now lens.now)) values.old }
+    ensures found { found.new ≡ written flag (list_map
+        (λ key. measured (longest key (map.entries (map_of (option_copied stored.entry)))))
+        (keys_in keys.now lens.now)) found.old }
+{
+    let mut used = 0;
+    let mut i = 0;
+    while i < lens.len() {
+        let end = used + lens[i];
+        let answer = longest_at(stored, &keys[used..end]);
+        write_longest(answer, i, prefix_lens, values, found);
+        used = end;
+        i += 1;
+    }
+}
+
+/// Looks up the longest key that is a prefix, for many keys: those of these lengths that lie one
+/// behind the other in `keys`. Writes to `found`, for each in turn, 1 where there is one, and then
+/// its length to `prefix_lens` and its value to `values`, and else 0. Returns `DONE`; or `NO_ROOM`
+/// where one of the three has fewer places than there are lengths, or the lengths reach behind
+/// `keys`: nothing is written then. Does not allocate.
+#[unsafe(no_mangle)]
+pub extern "C" fn patricia_longest_prefix_many(
+    at: &mut MapPlace,
+    keys: &[u8],
+    lens: &[usize],
+    prefix_lens: &mut [usize],
+    values: &mut [u64],
+    found: &mut [u8],
+) -> u32
+    ensures same { at.new ≡ at.old }
+    ensures lens { result ≡ 0 → prefix_lens.new ≡ written (number (λ e. e.0)) (list_map
+        (λ key. measured (longest key (map.entries (map_of at.old.pointer.stored))))
+        (keys_in keys.now lens.now)) prefix_lens.old }
+    ensures values { result ≡ 0 → values.new ≡ written (number (λ e. e.1)) (list_map
+        (λ key. measured (longest key (map.entries (map_of at.old.pointer.stored))))
+        (keys_in keys.now lens.now)) values.old }
+    ensures found { result ≡ 0 → found.new ≡ written flag (list_map
+        (λ key. measured (longest key (map.entries (map_of at.old.pointer.stored))))
+        (keys_in keys.now lens.now)) found.old }
+    ensures keys_fit { result ≡ 0 → sum lens.now ≤ length keys.now }
+    ensures lens_fit { result ≡ 0 → length lens.now ≤ length prefix_lens.old }
+    ensures values_fit { result ≡ 0 → length lens.now ≤ length values.old }
+    ensures found_fit { result ≡ 0 → length lens.now ≤ length found.old }
+    ensures small { result ≢ 0 → (length keys.now < sum lens.now)
+        ⊎ (length prefix_lens.old < length lens.now)
+        ⊎ (length values.old < length lens.now) ⊎ (length found.old < length lens.now) }
+    ensures lens_unwritten { result ≢ 0 → prefix_lens.new ≡ prefix_lens.old }
+    ensures values_unwritten { result ≢ 0 → values.new ≡ values.old }
+    ensures found_unwritten { result ≢ 0 → found.new ≡ found.old }
+    ensures code { result ≢ 0 → result ≡ 4 }
+{
+    let count = lens.len();
+    if prefix_lens.len() < count || values.len() < count || found.len() < count {
+        return NO_ROOM;
+    }
+    if !lie_in(lens, keys.len()) {
+        return NO_ROOM;
+    }
+    match at.as_mut() {
+        Some(stored) => longest_each(Some(stored), keys, lens, prefix_lens, values, found),
+        None => longest_each(None, keys, lens, prefix_lens, values, found),
+    }
+    DONE
+}

@@ -1,0 +1,172 @@
+//! The first and the last entry of maps that handles share, and those next to a key.
+ghost use Rattle.std.specs.Prelude.{◌≡◌, ◌≢◌, ◌≤◌, ◌<◌, [], drop, length, take, slice_get};
+ghost use Rattle.std.specs.Prelude.{Some, None};
+ghost use Rattle.std.specs.List.{last_or};
+ghost use Rattle.std.specs.Option.{option_map};
+ghost use Rattle.std.specs.FinMap as map;
+ghost use Rattle.patricia_tree.specs.Cursors.{after};
+ghost use Rattle.patricia_tree.specs.Ranges.{before};
+ghost use Rattle.patricia_c.specs.Shared.{shared_of};
+
+use crate::ends::{ABSENT, NO_MEMORY, first_of, last_of, next_of, previous_of, write_entry};
+use crate::shared_place::SharedPlace;
+
+/// Answers as `patricia_first` does.
+#[unsafe(no_mangle)]
+pub extern "C" fn patricia_shared_first(
+    shared: &mut SharedPlace,
+    room: &mut [u8],
+    len: &mut usize,
+    value: &mut u64,
+) -> u32
+    ensures same { shared.new ≡ shared.old }
+    ensures absent { result ≡ 0 →
+        slice_get (map.entries (shared_of shared.old.pointer.stored)) 0 ≡ None }
+    ensures found { result ≡ 1 → slice_get (map.entries (shared_of shared.old.pointer.stored)) 0
+        ≡ Some (take len.new room.new, value.new) }
+    ensures within { result ≡ 1 → len.new ≤ length room.new }
+    ensures behind { result ≡ 1 → drop len.new room.new ≡ drop len.new room.old }
+    ensures longer { result ≡ 4 → option_map (λ e. length e.0)
+        (slice_get (map.entries (shared_of shared.old.pointer.stored)) 0) ≡ Some len.new }
+    ensures small { result ≡ 4 → length room.old < len.new }
+    ensures refused { result ≡ 2 → map.entries (shared_of shared.old.pointer.stored) ≢ [] }
+    ensures room_unwritten { result ≢ 1 → room.new ≡ room.old }
+    ensures value_unwritten { result ≢ 1 → value.new ≡ value.old }
+    ensures absent_len { result ≡ 0 → len.new ≡ len.old }
+    ensures refused_len { result ≡ 2 → len.new ≡ len.old }
+    ensures codes { result ≤ 4 }
+    ensures not_three { result ≢ 3 }
+{
+    let Some(handle) = shared.as_mut() else {
+        return ABSENT;
+    };
+    let Some(stored) = handle.stored() else {
+        return ABSENT;
+    };
+    match first_of(stored) {
+        Ok(entry) => write_entry(entry, room, len, value),
+        Err(_) => NO_MEMORY,
+    }
+}
+
+/// Answers as `patricia_last` does.
+#[unsafe(no_mangle)]
+pub extern "C" fn patricia_shared_last(
+    shared: &mut SharedPlace,
+    room: &mut [u8],
+    len: &mut usize,
+    value: &mut u64,
+) -> u32
+    ensures same { shared.new ≡ shared.old }
+    ensures absent { result ≡ 0 →
+        last_or None (map.entries (shared_of shared.old.pointer.stored)) ≡ None }
+    ensures found { result ≡ 1 → last_or None (map.entries (shared_of shared.old.pointer.stored))
+        ≡ Some (take len.new room.new, value.new) }
+    ensures within { result ≡ 1 → len.new ≤ length room.new }
+    ensures behind { result ≡ 1 → drop len.new room.new ≡ drop len.new room.old }
+    ensures longer { result ≡ 4 → option_map (λ e. length e.0)
+        (last_or None (map.entries (shared_of shared.old.pointer.stored))) ≡ Some len.new }
+    ensures small { result ≡ 4 → length room.old < len.new }
+    ensures refused { result ≡ 2 → map.entries (shared_of shared.old.pointer.stored) ≢ [] }
+    ensures room_unwritten { result ≢ 1 → room.new ≡ room.old }
+    ensures value_unwritten { result ≢ 1 → value.new ≡ value.old }
+    ensures absent_len { result ≡ 0 → len.new ≡ len.old }
+    ensures refused_len { result ≡ 2 → len.new ≡ len.old }
+    ensures codes { result ≤ 4 }
+    ensures not_three { result ≢ 3 }
+{
+    let Some(handle) = shared.as_mut() else {
+        return ABSENT;
+    };
+    let Some(stored) = handle.stored() else {
+        return ABSENT;
+    };
+    match last_of(stored) {
+        Ok(entry) => write_entry(entry, room, len, value),
+        Err(_) => NO_MEMORY,
+    }
+}
+
+/// Answers as `patricia_first_after` does.
+#[unsafe(no_mangle)]
+pub extern "C" fn patricia_shared_first_after(
+    shared: &mut SharedPlace,
+    key: &[u8],
+    room: &mut [u8],
+    len: &mut usize,
+    value: &mut u64,
+) -> u32
+    ensures same { shared.new ≡ shared.old }
+    ensures absent { result ≡ 0 →
+        slice_get (after (Some key.now) (map.entries (shared_of shared.old.pointer.stored))) 0
+        ≡ None }
+    ensures found { result ≡ 1 →
+        slice_get (after (Some key.now) (map.entries (shared_of shared.old.pointer.stored))) 0
+        ≡ Some (take len.new room.new, value.new) }
+    ensures within { result ≡ 1 → len.new ≤ length room.new }
+    ensures behind { result ≡ 1 → drop len.new room.new ≡ drop len.new room.old }
+    ensures longer { result ≡ 4 → option_map (λ e. length e.0)
+        (slice_get (after (Some key.now) (map.entries (shared_of shared.old.pointer.stored))) 0)
+        ≡ Some len.new }
+    ensures small { result ≡ 4 → length room.old < len.new }
+    ensures refused { result ≡ 2 → map.entries (shared_of shared.old.pointer.stored) ≢ [] }
+    ensures room_unwritten { result ≢ 1 → room.new ≡ room.old }
+    ensures value_unwritten { result ≢ 1 → value.new ≡ value.old }
+    ensures absent_len { result ≡ 0 → len.new ≡ len.old }
+    ensures refused_len { result ≡ 2 → len.new ≡ len.old }
+    ensures codes { result ≤ 4 }
+    ensures not_three { result ≢ 3 }
+{
+    let Some(handle) = shared.as_mut() else {
+        return ABSENT;
+    };
+    let Some(stored) = handle.stored() else {
+        return ABSENT;
+    };
+    match next_of(stored, key) {
+        Ok(entry) => write_entry(entry, room, len, value),
+        Err(_) => NO_MEMORY,
+    }
+}
+
+/// Answers as `patricia_last_before` does.
+#[unsafe(no_mangle)]
+pub extern "C" fn patricia_shared_last_before(
+    shared: &mut SharedPlace,
+    key: &[u8],
+    room: &mut [u8],
+    len: &mut usize,
+    value: &mut u64,
+) -> u32
+    ensures same { shared.new ≡ shared.old }
+    ensures absent { result ≡ 0 →
+        last_or None (before key.now (map.entries (shared_of shared.old.pointer.stored))) ≡ None }
+    ensures found { result ≡ 1 →
+        last_or None (before key.now (map.entries (shared_of shared.old.pointer.stored)))
+        ≡ Some (take len.new room.new, value.new) }
+    ensures within { result ≡ 1 → len.new ≤ length room.new }
+    ensures behind { result ≡ 1 → drop len.new room.new ≡ drop len.new room.old }
+    ensures longer { result ≡ 4 → option_map (λ e. length e.0)
+        (last_or None (before key.now (map.entries (shared_of shared.old.pointer.stored))))
+        ≡ Some len.new }
+    ensures small { result ≡ 4 → length room.old < len.new }
+    ensures refused { result ≡ 2 →
+        before key.now (map.entries (shared_of shared.old.pointer.stored)) ≢ [] }
+    ensures room_unwritten { result ≢ 1 → room.new ≡ room.old }
+    ensures value_unwritten { result ≢ 1 → value.new ≡ value.old }
+    ensures absent_len { result ≡ 0 → len.new ≡ len.old }
+    ensures refused_len { result ≡ 2 → len.new ≡ len.old }
+    ensures codes { result ≤ 4 }
+    ensures not_three { result ≢ 3 }
+{
+    let Some(handle) = shared.as_mut() else {
+        return ABSENT;
+    };
+    let Some(stored) = handle.stored() else {
+        return ABSENT;
+    };
+    match previous_of(stored, key) {
+        Ok(entry) => write_entry(entry, room, len, value),
+        Err(_) => NO_MEMORY,
+    }
+}

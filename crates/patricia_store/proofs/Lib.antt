@@ -1,0 +1,13 @@
+pub mod ChangeLemmas
+pub mod EndLemmas
+pub mod HeadLemmas
+pub mod LabelLemmas
+pub mod LayLemmas
+pub mod LoanLemmas
+pub mod OrderLemmas
+pub mod PackingLemmas
+pub mod PermuteLemmas
+pub mod RearrangeLemmas
+pub mod SplitLemmas
+pub mod StoreLemmas
+pub mod WriteLemmas

@@ -1,0 +1,19 @@
+//! The nodes of a tree in little memory: a head of 14 bytes for each, which is all that a look-up
+//! reads of most nodes, a body with the value, and the bytes of all labels in one vector.
+//!
+//! `patricia_tree` is the library to use. No crate uses this one yet: `patricia_nodes` is to stand
+//! on it.
+#![tactic(auto)]
+
+mod body;
+pub mod examples;
+mod head;
+mod labels;
+mod laying;
+mod order;
+mod packed;
+pub mod store;
+
+pub use labels::label_room;
+pub use order::moved_link;
+pub use store::Store;

@@ -1,0 +1,554 @@
+//! Nodes in three vectors: their heads, their bodies and the bytes of their labels.
+ghost use Rattle.std.specs.Prelude.{◌≡◌, ◌+◌, ◌<◌, ◌≤◌, ℕ, List, Some, None, [], length};
+ghost use Rattle.std.specs.Prelude.{IfSome, vec_len, slice_get, ◌≢◌, ◌++◌, ◌∷◌, take};
+ghost use Rattle.std.specs.Prelude.{IfOk, IsOk, OnOk};
+ghost use Rattle.std.specs.Vec.{with_item};
+ghost use Rattle.std.specs.Option.{option_copied, option_copied_mut};
+ghost use Rattle.std.specs.Borrow.{sem};
+ghost use Rattle.patricia_store.specs.Internal.Packing.{most};
+ghost use Rattle.patricia_store.specs.Internal.Heads.{byte_of, short_len_of, head_of};
+ghost use Rattle.patricia_store.specs.Internal.Labels.{label_in, IsSpan};
+ghost use Rattle.patricia_store.specs.Internal.Labels.{label_room, joined_room, cut_room};
+ghost use Rattle.patricia_store.specs.Internal.Bodies.{span_in, value_in, body_of};
+ghost use Rattle.patricia_store.specs.Internal.Stores.{IsSound};
+ghost use Rattle.patricia_store.specs.Internal.Nodes.{ReadsNode, IsRun, EndsRun, IsLink};
+ghost use Rattle.patricia_store.specs.Internal.Nodes.{Changes, Trades, KeepsRoom};
+ghost use Rattle.patricia_store.specs.Internal.Nodes.{labels_room, linked, value_at, Splits, Joins};
+ghost use Rattle.patricia_store.specs.Internal.Permutations.{AreInverse};
+ghost use Rattle.patricia_store.specs.Internal.Renumbering.{KeepsRearranged};
+ghost use Rattle.patricia_store.specs.Internal.Loans.{lends_value_at};
+
+use crate::body::Body;
+use crate::head::{Head, LONG};
+use crate::labels::{Labels, Span, cut_room, label_room};
+use crate::laying::{lay, needed_bytes};
+use crate::order::{permute, renumber};
+use crate::packed::{MOST, Packed};
+use std::alloc::{AllocError, Global};
+use std::marker::Model;
+
+// Where the label is of a node with this head and this body.
+fn span_of<V>(head: Head, body: &Body<V>) -> Span
+    ensures { (next : ℕ) (bytes : List ℕ) → IsSound next head body.now bytes
+        → result ≡ span_in body.now }
+{
+    match head.leaf_offset() {
+        Some(offset) if head.short_len() < LONG => Span {
+            len: head.short_len() as u8,
+            offset,
+        },
+        _ => body.span(),
+    }
+}
+
+// The length of the label of a node with this body.
+fn label_len<V>(body: &Body<V>, labels: &Labels) -> usize
+    requires { IsSpan labels.now.items (span_in body.now) }
+    ensures { result ≡ length (label_in labels.now.items (span_in body.now)) }
+{
+    labels.get(body.span()).len()
+}
+
+// Where the label is of a node with this body, if it is to have no child.
+fn offset_of<V>(child: Option<usize>, body: &Body<V>) -> Packed
+    ensures { child ≡ None → result ≡ (span_in body.now).offset }
+{
+    match child {
+        None => body.span().offset,
+        Some(_) => Packed::new(0),
+    }
+}
+
+/// The nodes of a tree, which contracts see as a list of nodes, with how many there is room for and
+/// how many more bytes of labels. Calls that return no `Result` ask for no memory, but for
+/// `lay_labels` and `keep_first`.
+#[derive(Drop)]
+pub struct Store<V> {
+    heads: Vec<Head>,
+    bodies: Vec<Body<V>>,
+    labels: Labels,
+    // about how many bytes belonged to labels that others replaced
+    dead: usize,
+}
+
+// What a node is to be.
+struct Draft<V> {
+    span: Span,
+    child: Option<usize>,
+    sibling: Option<usize>,
+    value: Option<V>,
+}
+
+impl<V> Model for Store<V> {
+    ghost use Rattle.std.specs.Prelude.{length, min, vec_capacity};
+    ghost use Rattle.patricia_store.specs.Internal.Nodes.{Nodes};
+    ghost use Rattle.patricia_store.specs.Internal.Packing.{most};
+
+    ghost Value = { Nodes V };
+
+    ghost use Rattle.patricia_store.specs.Internal.Stores.{nodes_of, AreSound};
+
+    ghost view = { λ s. record {
+      items = nodes_of s.heads.items s.bodies.items s.labels.items;
+      capacity = min (vec_capacity s.heads) (min (vec_capacity s.bodies) most);
+      room = s.labels.room;
+      used = length s.labels.items;
+    } };
+
+    ghost invariant = { λ s. AreSound s.heads.items s.bodies.items s.labels.items };
+}
+
+// Puts another node at a number, and returns the value of the one that was there.
+fn write<V>(
+    heads: &mut Vec<Head>,
+    bodies: &mut Vec<Body<V>>,
+    labels: &Labels,
+    id: usize,
+    node: Draft<V>,
+) -> Option<V>
+    requires in_heads { id < vec_len heads.old }
+    requires in_bodies { id < vec_len bodies.old }
+    requires span { IsSpan labels.now.items node.span }
+    requires child { IfSome node.child (λ n. n < most + 1) }
+    requires sibling { IfSome node.sibling (λ n. n < most + 1) }
+    ensures heads { heads.new ≡ with_item heads.old id (head_of (id + 1) node.child node.sibling
+        (label_in labels.now.items node.span) node.span.offset) }
+    ensures bodies { bodies.new ≡ with_item bodies.old id (body_of node.span node.value) }
+    ensures value { (b : Body V) → slice_get bodies.old.items id ≡ Some b
+        → result ≡ value_in b }
+{
+    let Draft {
+        span,
+        child,
+        sibling,
+        value,
+    } = node;
+    let label = labels.get(span);
+    heads[id] = Head::new(id + 1, child, sibling, label, span.offset);
+    bodies[id].replace(span, value)
+}
+
+impl<V> Store<V> {
+    /// No node. Does not allocate.
+    pub fn new(alloc: Global) -> Store<V>
+        ensures { result.items ≡ [] }
+    {
+        Store {
+            heads: Vec::new(alloc),
+            bodies: Vec::new(alloc),
+            labels: Labels::new(alloc),
+            dead: 0,
+        }
+    }
+
+    /// How many nodes there are.
+    pub fn len(&self) -> usize
+        ensures value { result ≡ length self.now.items }
+        ensures few { result ≤ most }
+    {
+        self.heads.len()
+    }
+
+    /// How many nodes there is room for.
+    pub fn capacity(&self) -> usize
+        ensures value { result ≡ self.now.capacity }
+        ensures few { result ≤ most }
+    {
+        self.heads.capacity().min(self.bodies.capacity()).min(MOST)
+    }
+
+    /// How many more bytes of labels there is room for.
+    pub fn room(&self) -> usize
+        ensures { result ≡ self.now.room }
+    {
+        self.labels.room()
+    }
+
+    /// How many bytes of labels there are, with those of labels that no node has.
+    pub fn used(&self) -> usize
+        ensures { result ≡ self.now.used }
+    {
+        self.labels.len()
+    }
+
+    /// How many bytes there is to be room for where a node's label is split.
+    pub fn cut_room(&self, id: usize) -> usize
+        requires { id < length self.now.items }
+        ensures { ReadsNode self.now id (λ a. result ≡ cut_room (length a.label)) }
+    {
+        cut_room(self.label(id).len())
+    }
+
+    /// How many bytes there is to be room for where the labels of two nodes are joined.
+    pub fn joined_room(&self, upper: usize, lower: usize) -> usize
+        requires upper { upper < length self.now.items }
+        requires lower { lower < length self.now.items }
+        ensures { ReadsNode self.now upper (λ a. ReadsNode self.now lower
+            (λ b. result ≡ joined_room (length a.label) (length b.label))) }
+    {
+        label_room(self.label(upper).len() + self.label(lower).len())
+    }
+
+    /// The label of a node. Reads no body where the node has no child and the label less than 63
+    /// bytes.
+    pub fn label(&self, id: usize) -> &[u8]
+        requires { id < length self.now.items }
+        ensures node { ReadsNode self.now id (λ n. result.now ≡ n.label) }
+        ensures short { length result.now ≤ most }
+    {
+        let span = span_of(self.heads[id], &self.bodies[id]);
+        self.labels.get(span)
+    }
+
+    /// The value of a node, where there is one.
+    pub fn value(&self, id: usize) -> Option<&V>
+        requires { id < length self.now.items }
+        ensures { ReadsNode self.now id (λ n. option_copied result ≡ n.value) }
+    {
+        self.bodies[id].value()
+    }
+
+    /// The first byte of a node's label, 0 where there is none. Reads its head alone.
+    pub fn first_byte(&self, id: usize) -> u8
+        requires { id < length self.now.items }
+        ensures { ReadsNode self.now id (λ n. result ≡ byte_of n.label) }
+    {
+        self.heads[id].first_byte()
+    }
+
+    /// The length of a node's label, in bytes, or 63 where it is no less. Reads its head alone.
+    pub fn short_len(&self, id: usize) -> usize
+        requires { id < length self.now.items }
+        ensures { ReadsNode self.now id (λ n. result ≡ short_len_of n.label) }
+    {
+        self.heads[id].short_len()
+    }
+
+    /// The first child of a node. Reads its head alone.
+    pub fn child(&self, id: usize) -> Option<usize>
+        requires { id < length self.now.items }
+        ensures node { ReadsNode self.now id (λ n. result ≡ n.child) }
+        ensures link { IsLink result }
+    {
+        self.heads[id].child()
+    }
+
+    /// The sibling of a node. Reads its head alone.
+    pub fn sibling(&self, id: usize) -> Option<usize>
+        requires { id < length self.now.items }
+        ensures node { ReadsNode self.now id (λ n. result ≡ n.sibling) }
+        ensures link { IsLink result }
+    {
+        self.heads[id].sibling()
+    }
+
+    /// The first node from this one on, along siblings of which each is the next node of the
+    /// vector, whose first byte is not less than `b`, or the last of them. Reads heads alone, with
+    /// one comparison for each.
+    pub fn run(&self, id: usize, b: u8) -> usize
+        requires within { (to : ℕ) → IsRun self.now b id to → to < length self.now.items }
+        ensures passes { IsRun self.now b id result }
+        ensures ends { EndsRun self.now b result }
+    {
+        let mut at = id;
+        while self.heads[at].is_before(b) {
+            at += 1;
+        }
+        at
+    }
+
+    /// Puts another number for the first child of a node.
+    pub fn set_child(&mut self, id: usize, to: Option<usize>)
+        requires there { id < length self.old.items }
+        requires link { IsLink to }
+        ensures node { Changes self.old self.new id (λ n. record n { child = to }) }
+        ensures room { KeepsRoom self.old self.new }
+    {
+        let offset = offset_of(to, &self.bodies[id]);
+        self.heads[id].set_child(to, offset);
+    }
+
+    /// Puts another number for the sibling of a node. Touches its head alone.
+    pub fn set_sibling(&mut self, id: usize, to: Option<usize>)
+        requires there { id < length self.old.items }
+        requires link { IsLink to }
+        ensures node { Changes self.old self.new id (λ n. record n { sibling = to }) }
+        ensures room { KeepsRoom self.old self.new }
+    {
+        self.heads[id].set_sibling(id + 1, to);
+    }
+
+    /// Puts another value to a node, or none, and returns the one that was there.
+    pub fn replace_value(&mut self, id: usize, value: Option<V>) -> Option<V>
+        requires there { id < length self.old.items }
+        ensures node { Trades self.old self.new id (λ n. record n { value = value }) result }
+        ensures room { KeepsRoom self.old self.new }
+    {
+        let body = &mut self.bodies[id];
+        let span = body.span();
+        body.replace(span, value)
+    }
+
+    /// Takes the value out of a node, and leaves it without children.
+    pub fn take_contents(&mut self, id: usize) -> Option<V>
+        requires there { id < length self.old.items }
+        ensures node { Trades self.old self.new id
+            (λ n. record n { child = None; value = None }) result }
+        ensures room { KeepsRoom self.old self.new }
+    {
+        let body = &mut self.bodies[id];
+        let span = body.span();
+        let value = body.replace(span, None);
+        self.heads[id].set_child(None, span.offset);
+        value
+    }
+
+    /// Puts another label, first child and value to a node, and returns the value that was there.
+    /// Does not allocate.
+    pub fn replace_contents(
+        &mut self,
+        id: usize,
+        label: &[u8],
+        child: Option<usize>,
+        value: Option<V>,
+    ) -> Option<V>
+        requires there { id < length self.old.items }
+        requires link { IsLink child }
+        requires room { label_room (length label.now) ≤ self.old.room }
+        ensures node { Trades self.old self.new id
+            (λ n. record n { label = label.now; child = child; value = value }) result }
+        ensures capacity { self.new.capacity ≡ self.old.capacity }
+        ensures room { self.old.room ≤ self.new.room + label_room (length label.now) }
+    {
+        self.dead = self
+            .dead
+            .saturating_add(label_len(&self.bodies[id], &self.labels));
+        let span = self.labels.push(label);
+        let sibling = self.heads[id].sibling();
+        let node = Draft {
+            span,
+            child,
+            sibling,
+            value,
+        };
+        write(&mut self.heads, &mut self.bodies, &self.labels, id, node)
+    }
+
+    /// Lends the value of a node.
+    pub fn value_mut(&mut self, id: usize) -> Option<&mut V>
+        requires { id < length self.old.items }
+        ensures* writes { sem 𝓛 (lends_value_at V.row self.entry id result) }
+        ensures value { option_copied_mut result ≡ value_at (slice_get self.old.items id) }
+    {
+        self.bodies[id].value_mut()
+    }
+
+    /// Adds a node behind the last. Does not allocate.
+    pub fn push_reserved(
+        &mut self,
+        label: &[u8],
+        value: Option<V>,
+        child: Option<usize>,
+        sibling: Option<usize>,
+    )
+        requires nodes { length self.old.items < self.old.capacity }
+        requires bytes { label_room (length label.now) ≤ self.old.room }
+        requires child { IsLink child }
+        requires sibling { IsLink sibling }
+        ensures items { self.new.items
+            ≡ self.old.items ++ linked label.now value child sibling ∷ [] }
+        ensures capacity { self.new.capacity ≡ self.old.capacity }
+        ensures room { self.old.room ≤ self.new.room + label_room (length label.now) }
+    {
+        let span = self.labels.push(label);
+        let next = self.heads.len() + 1;
+        self.heads
+            .push_reserved(Head::new(next, child, sibling, label, span.offset));
+        self.bodies.push_reserved(Body::new(span, value));
+    }
+
+    /// Keeps the first `n` bytes of a node's label, or all where there are fewer, and puts another
+    /// value to it. The rest of the label, the value and the children that the node had go to the
+    /// node `tail`, which becomes its first child and keeps its own sibling; returns the value that
+    /// `tail` had. Does not allocate, and copies no byte of the label.
+    pub fn split_label(&mut self, id: usize, n: usize, tail: usize, value: Option<V>) -> Option<V>
+        requires there { id < length self.old.items }
+        requires tail { tail < length self.old.items }
+        requires apart { tail ≢ id }
+        requires room { ReadsNode self.old id (λ a. cut_room (length a.label) ≤ self.old.room) }
+        ensures nodes { Splits self.old self.new id n tail value result }
+        ensures capacity { self.new.capacity ≡ self.old.capacity }
+        ensures room { ReadsNode self.old id
+            (λ a. self.old.room ≤ self.new.room + cut_room (length a.label)) }
+    {
+        let replaced = &self.bodies[tail];
+        self.dead = self.dead.saturating_add(label_len(replaced, &self.labels));
+        let head = self.heads[id];
+        let span = span_of(head, &self.bodies[id]);
+        let (front, back) = self.labels.cut(span, n);
+        let upper = Draft {
+            span: front,
+            child: Some(tail),
+            sibling: head.sibling(),
+            value,
+        };
+        let value = write(&mut self.heads, &mut self.bodies, &self.labels, id, upper);
+        let lower = Draft {
+            span: back,
+            child: head.child(),
+            sibling: self.heads[tail].sibling(),
+            value,
+        };
+        write(&mut self.heads, &mut self.bodies, &self.labels, tail, lower)
+    }
+
+    /// Puts the label of another node behind that of a node, another first child and another
+    /// value, and returns the value that was there. Does not allocate.
+    pub fn join_labels(
+        &mut self,
+        upper: usize,
+        lower: usize,
+        child: Option<usize>,
+        value: Option<V>,
+    ) -> Option<V>
+        requires upper { upper < length self.old.items }
+        requires lower { lower < length self.old.items }
+        requires link { IsLink child }
+        requires room { ReadsNode self.old upper (λ a. ReadsNode self.old lower
+            (λ b. joined_room (length a.label) (length b.label) ≤ self.old.room)) }
+        ensures nodes { Joins self.old self.new upper lower child value result }
+        ensures capacity { self.new.capacity ≡ self.old.capacity }
+        ensures room { ReadsNode self.old upper (λ a. ReadsNode self.old lower
+            (λ b. self.old.room
+            ≤ self.new.room + joined_room (length a.label) (length b.label))) }
+    {
+        let head = self.heads[upper];
+        let first = span_of(head, &self.bodies[upper]);
+        let second = span_of(self.heads[lower], &self.bodies[lower]);
+        self.dead = self
+            .dead
+            .saturating_add(label_len(&self.bodies[upper], &self.labels));
+        let node = Draft {
+            span: self.labels.join(first, second),
+            child,
+            sibling: head.sibling(),
+            value,
+        };
+        write(&mut self.heads, &mut self.bodies, &self.labels, upper, node)
+    }
+}
+
+impl<V: Drop> Store<V> {
+    /// No node, with room for some, and for some bytes of labels. Room for more than
+    /// 281,474,976,710,655 nodes, or for more bytes than that, is refused.
+    pub fn with_capacity(alloc: Global, nodes: usize, bytes: usize) -> Result<Store<V>, AllocError>
+        ensures items { IfOk result (λ s. s.items ≡ []) }
+        ensures capacity { IfOk result (λ s. nodes ≤ s.capacity) }
+        ensures room { IfOk result (λ s. bytes ≤ s.room) }
+        ensures succeeds { nodes ≡ 0 → bytes ≡ 0 → IsOk result }
+    {
+        if nodes > MOST {
+            return Err(AllocError);
+        }
+        Ok(Store {
+            heads: Vec::with_capacity(alloc, nodes)?,
+            bodies: Vec::with_capacity(alloc, nodes)?,
+            labels: Labels::with_capacity(alloc, bytes)?,
+            dead: 0,
+        })
+    }
+
+    /// Makes room for so many nodes more, and for so many more bytes of labels. A label takes its
+    /// bytes, and 12 more where it has 255 or more. A split of a label of 255 bytes or more takes
+    /// 24, a joined label what both parts take as one. 281,474,976,710,655 nodes are the most, and
+    /// so many bytes: room for more is refused.
+    #[cold]
+    pub fn reserve(&mut self, nodes: usize, bytes: usize) -> Result<(), AllocError>
+        ensures items { self.new.items ≡ self.old.items }
+        ensures nodes { OnOk result (length self.new.items + nodes ≤ self.new.capacity) }
+        ensures bytes { OnOk result (bytes ≤ self.new.room) }
+        ensures capacity { self.old.capacity ≤ self.new.capacity }
+        ensures room { self.old.room ≤ self.new.room }
+        ensures succeeds { length self.old.items + nodes ≤ self.old.capacity
+            → bytes ≤ self.old.room → IsOk result }
+    {
+        if nodes > MOST - self.heads.len() {
+            return Err(AllocError);
+        }
+        self.heads.reserve_exact(nodes)?;
+        self.bodies.reserve_exact(nodes)?;
+        self.labels.reserve(bytes)?;
+        Ok(())
+    }
+
+    /// Lays the nodes in this order, where they are, links them by their new numbers, and keeps the
+    /// first `used` of them. Their labels stay where they are. Does not allocate.
+    pub fn rearrange(&mut self, order: Vec<u32>, places: Vec<u32>, used: usize)
+        requires inverse { AreInverse order.items places.items }
+        requires long { length order.items ≡ length self.old.items }
+        ensures items { KeepsRearranged used order.items places.items
+            self.old.items self.new.items }
+        ensures capacity { self.new.capacity ≡ self.old.capacity }
+        ensures room { self.new.room ≡ self.old.room }
+    {
+        renumber(&mut self.heads, places.as_slice());
+        permute(&mut self.heads, &mut self.bodies, order, places);
+        self.heads.truncate(used);
+        self.bodies.truncate(used);
+    }
+
+    /// Lays the labels one behind another, in the order of the nodes, so that there is room again
+    /// where bytes belong to no node. Asks for as many bytes as all labels take, and copies them
+    /// twice; takes time in proportion to nodes and bytes. Where they are refused, or would be more
+    /// than there are, labels stay and an error is returned.
+    pub fn lay_labels(&mut self, alloc: Global) -> Result<(), AllocError>
+        ensures laid { OnOk result (self.new.used ≡ labels_room self.new.items) }
+        ensures items { self.new.items ≡ self.old.items }
+        ensures capacity { self.new.capacity ≡ self.old.capacity }
+        ensures room { self.old.room ≤ self.new.room }
+    {
+        let Some(needed) = needed_bytes(&self.bodies, &self.labels, self.labels.len()) else {
+            return Err(AllocError);
+        };
+        let mut laid = Labels::with_capacity(alloc, needed)?;
+        lay(&mut self.heads, &mut self.bodies, &self.labels, &mut laid);
+        self.labels.copy_from(&laid);
+        self.dead = 0;
+        Ok(())
+    }
+
+    /// About how many bytes belonged to labels that other labels replaced. Those of nodes that are
+    /// dropped, and notes, are not counted: give a node an empty label before it is dropped.
+    pub fn dead(&self) -> usize {
+        self.dead
+    }
+
+    /// Keeps the first `n` nodes, with room for half as many more, and drops the others. More room
+    /// for nodes than that is given back, where the allocator takes it. The bytes of all labels
+    /// stay.
+    pub fn keep_first(&mut self, n: usize)
+        ensures items { self.new.items ≡ take n self.old.items }
+        ensures capacity { length self.new.items + 2 ≤ self.old.capacity
+            → length self.new.items + 2 ≤ self.new.capacity }
+        ensures room { self.new.room ≡ self.old.room }
+    {
+        self.heads.truncate(n);
+        self.bodies.truncate(n);
+        let len = self.heads.len();
+        let wanted = len + len / 2 + 4;
+        self.heads.shrink_to(wanted);
+        self.bodies.shrink_to(wanted);
+    }
+
+    /// Drops all nodes.
+    pub fn clear(&mut self)
+        ensures items { self.new.items ≡ [] }
+        ensures capacity { self.new.capacity ≡ self.old.capacity }
+        ensures room { self.old.room ≤ self.new.room }
+    {
+        self.heads.clear();
+        self.bodies.clear();
+        self.labels.clear();
+        self.dead = 0;
+    }
+}

@@ -1,0 +1,84 @@
+//! The tree of the names that begin with a prefix, node by node.
+
+ghost use Rattle.std.specs.Prelude.{◌≡◌, Err, IfOk, map as list_map};
+ghost use Rattle.std.specs.FinMap as map;
+ghost use Rattle.patricia_tree.specs.Prefixes.{under};
+ghost use Rattle.patricia_tree.specs.Siblings.{keys_of};
+ghost use Rattle.patricia_tree.specs.TextKind.{IsTextItem};
+ghost use Rattle.patricia_tree.specs.Writings.{TooDeep};
+ghost use Rattle.prefixes_core.specs.Internal.Splits.{AreRead};
+ghost use Rattle.prefixes_core.specs.Trees.{AreNodes};
+
+use crate::packing::PackError;
+use crate::records::split_record;
+use crate::value::Payload;
+use patricia_tree::{StringPatriciaMap, WireError};
+use std::alloc::{AllocError, Global};
+
+/// A node of a tree: how many levels it lies below the root, its label, and whether a name ends
+/// there.
+#[derive(Drop)]
+pub struct Node {
+    pub level: u16,
+    pub label: Payload,
+    pub is_name: bool,
+}
+
+// The nodes that tree bytes spell.
+fn nodes_of(alloc: Global, tree: &[u8]) -> Result<Vec<Node>, AllocError>
+    ensures { IfOk result (λ nodes. AreRead tree.now
+        (list_map (λ node. (node.level, (node.label, node.is_name))) nodes.items)) }
+{
+    let mut nodes = Vec::new(alloc);
+    let mut rest = tree;
+    while let Some((record, later)) = split_record(rest) {
+        nodes.push(Node {
+            level: record.level,
+            label: Payload::new(alloc, record.label)?,
+            is_name: record.is_name,
+        })?;
+        rest = later;
+    }
+    Ok(nodes)
+}
+
+/// Returns the nodes of the tree of the names that begin with a prefix: each before those below it,
+/// and those with one parent in the order of their labels.
+///
+/// The first is the root, whose label is empty. A label has at most 255 bytes, so a longer part of
+/// a name is several nodes. Consumes the map. Takes time in proportion to it.
+///
+/// # Errors
+///
+/// `TooDeep` where the tree is too deep for tree bytes, which takes names of more than 65,535
+/// bytes; or out of memory.
+///
+/// # Examples
+///
+/// ```
+/// let names = StringPatriciaMap::from_iter(rt.alloc(), [("bar", ()), ("baz", ()), ("foo", ())])?;
+/// let nodes = draw(rt.alloc(), names, "b")?;
+/// assert_eq!(rt; nodes.len(), 4);
+/// assert_eq!(rt; nodes[1].label.as_bytes(), b"ba".as_slice());
+/// assert!(rt; !nodes[1].is_name);
+/// assert_eq!(rt; nodes[2].label.as_bytes(), b"r".as_slice());
+/// assert_eq!(rt; (nodes[2].level, nodes[2].is_name), (2, true));
+/// ```
+pub fn draw<V: Drop>(
+    alloc: Global,
+    mut names: StringPatriciaMap<V>,
+    prefix: &str,
+) -> Result<Vec<Node>, PackError>
+    ensures ok { IfOk result (λ nodes. AreNodes (keys_of (under prefix.now (map.entries names)))
+        (list_map (λ node. (node.level, (node.label, node.is_name))) nodes.items)) }
+    ensures too_deep { result ≡ Err PackError.TooDeep
+        → TooDeep IsTextItem 2 (keys_of (under prefix.now (map.entries names))) }
+{
+    let names = names.split_by_prefix(prefix)?;
+    let tree = match names.tree_bytes() {
+        Ok(tree) => tree,
+        Err(WireError::TooDeep) => return Err(PackError::TooDeep),
+        Err(_) => return Err(PackError::Memory),
+    };
+    Ok(nodes_of(alloc, &tree)?)
+}

@@ -1,0 +1,110 @@
+//! Where lists and lines come from: files, and the standard input.
+
+use crate::blocking::BlockList;
+use crate::failure::Failure;
+use crate::listing::{Destination, ListError, Listing, NameSet, Names, Values, read_list};
+use crate::value::Payload;
+use patricia_tree::router::Router;
+use std::alloc::Global;
+use std::fs;
+use std::io::{Read, Write};
+use std::rt::Files;
+
+/// What lists are read from, and how.
+#[derive(Drop)]
+pub struct Inputs<'r, R: Files, I: Read + Drop, E: Write + Drop> {
+    pub rt: &'r R,
+    pub alloc: Global,
+    /// The standard input, until a list or the lines are read from it.
+    pub standard: Option<I>,
+    /// What is told how far long lists are read.
+    pub progress: Option<E>,
+    /// The byte that ends each line.
+    pub end: u8,
+}
+
+/// What messages call a path, where a hyphen is the standard input.
+pub fn shown(path: &str) -> &str {
+    if path == "-" { "standard input" } else { path }
+}
+
+impl<'r, R: Files, I: Read + Drop, E: Write + Drop> Inputs<'r, R, I, E> {
+    // Adds the entries of the list that is read from a file.
+    fn add_from<F: Read + Drop, S: Destination>(
+        &mut self,
+        file: F,
+        path: &str,
+        values: Values,
+        destination: &mut S,
+    ) -> Result<(), Failure> {
+        let alloc = self.alloc;
+        match read_list(
+            alloc,
+            file,
+            values,
+            self.end,
+            &mut self.progress,
+            destination,
+        ) {
+            Ok(()) => Ok(()),
+            Err(error) => Err(Failure::List(String::from_str(alloc, shown(path))?, error)),
+        }
+    }
+
+    // Reads the list at a path, and adds its entries.
+    fn add_list<S: Destination>(
+        &mut self,
+        path: &str,
+        values: Values,
+        destination: &mut S,
+    ) -> Result<(), Failure> {
+        if path == "-" {
+            return match self.standard.take() {
+                Some(input) => self.add_from(input, path, values, destination),
+                None => Err(Failure::ReadTwice),
+            };
+        }
+        match fs::open(self.rt, path) {
+            Ok(file) => self.add_from(file, path, values, destination),
+            Err(error) => {
+                let path = String::from_str(self.alloc, path)?;
+                Err(Failure::List(path, ListError::Read(error)))
+            }
+        }
+    }
+
+    /// Reads the list at a path.
+    pub fn list(&mut self, path: &str) -> Result<Listing, Failure> {
+        let mut list = Listing::new(self.alloc);
+        self.add_list(path, Values::Optional, &mut list)?;
+        Ok(list)
+    }
+
+    /// Reads the names of the list at a path.
+    pub fn names(&mut self, path: &str) -> Result<Names, Failure> {
+        let mut names = Names::new(self.alloc);
+        self.add_list(path, Values::Optional, &mut names)?;
+        Ok(names)
+    }
+
+    /// Reads the names of the list at a path as a set.
+    pub fn set(&mut self, path: &str) -> Result<NameSet, Failure> {
+        let mut names = NameSet::new(self.alloc);
+        self.add_list(path, Values::Optional, &mut names)?;
+        Ok(names)
+    }
+
+    /// Reads the table of routes at a path.
+    pub fn router(&mut self, path: &str) -> Result<Router<String, Payload>, Failure> {
+        let mut routes = Router::new(self.alloc);
+        self.add_list(path, Values::Needed, &mut routes)?;
+        Ok(routes)
+    }
+
+    /// Reads the block list at a path.
+    pub fn block_list(&mut self, path: &str) -> Result<BlockList, Failure> {
+        let mut names = BlockList::new(self.alloc);
+        self.add_list(path, Values::Optional, &mut names)?;
+        Ok(names)
+    }
+}

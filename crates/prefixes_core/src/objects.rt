@@ -1,0 +1,116 @@
+//! Answers as objects of JSON, each on a line.
+
+use crate::measuring::Measures;
+use crate::nearing::NearName;
+use serde::Serialize;
+use std::alloc::{AllocError, Global};
+use std::str;
+
+/// Bytes: a text where they are UTF-8, and else a list of numbers.
+#[derive(Drop, Serialize)]
+#[serde(untagged)]
+pub enum Text<'a> {
+    Text(&'a str),
+    Bytes(&'a [u8]),
+}
+
+impl<'a> Text<'a> {
+    pub fn new(bytes: &'a [u8]) -> Text<'a> {
+        match str::from_utf8(bytes) {
+            Ok(text) => Text::Text(text),
+            Err(_) => Text::Bytes(bytes),
+        }
+    }
+}
+
+#[derive(Drop, Serialize)]
+pub struct RouteObject<'a> {
+    pub line: &'a str,
+    pub prefix: Option<&'a str>,
+    pub target: Option<Text<'a>>,
+}
+
+#[derive(Drop, Serialize)]
+pub struct CompleteObject<'a> {
+    pub line: &'a str,
+    pub count: usize,
+    pub names: Vec<&'a str>,
+}
+
+#[derive(Drop, Serialize)]
+pub struct NearObject<'a> {
+    pub line: &'a str,
+    pub count: usize,
+    pub names: &'a [NearName],
+}
+
+#[derive(Drop, Serialize)]
+pub struct BlockObject<'a> {
+    pub line: Text<'a>,
+    pub blocked: Option<Text<'a>>,
+}
+
+#[derive(Drop, Serialize)]
+pub struct EntryObject<'a> {
+    pub name: &'a str,
+    pub value: Text<'a>,
+}
+
+#[derive(Drop, Serialize)]
+pub struct TreeObject<'a> {
+    pub line: &'a str,
+    pub entries: Vec<EntryObject<'a>>,
+}
+
+#[derive(Drop, Serialize)]
+pub struct SegmentObject<'a> {
+    pub line: &'a str,
+    pub pieces: &'a [&'a str],
+}
+
+#[derive(Drop, Serialize)]
+pub struct MeasuresObject {
+    pub names: usize,
+    pub name_bytes: u128,
+    pub nodes: usize,
+    pub label_bytes: usize,
+    pub tree_bytes: usize,
+    pub depth: u16,
+    pub saved_percent: u128,
+}
+
+impl MeasuresObject {
+    pub fn new(measures: &Measures, saved_percent: u128) -> MeasuresObject {
+        MeasuresObject {
+            names: measures.names,
+            name_bytes: measures.name_bytes,
+            nodes: measures.nodes,
+            label_bytes: measures.label_bytes,
+            tree_bytes: measures.tree_bytes,
+            depth: measures.depth,
+            saved_percent,
+        }
+    }
+}
+
+#[derive(Drop, Serialize)]
+pub struct NodeObject<'a> {
+    pub level: u16,
+    pub label: Text<'a>,
+    pub name: Option<Text<'a>>,
+}
+
+/// Writes an object on a line.
+pub fn push_object<T: Serialize>(
+    alloc: Global,
+    object: &T,
+    out: &mut Vec<u8>,
+) -> Result<(), AllocError> {
+    // nothing but memory is refused to an object
+    let Ok(text) = serde_json::to_vec(alloc, object) else {
+        return Err(AllocError);
+    };
+    out.extend_from_slice(&text)?;
+    out.push(b'\n')?;
+    Ok(())
+}

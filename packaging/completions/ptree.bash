@@ -1,0 +1,2 @@
+# Completions of ptree(1) for bash.
+complete -W 'bytes text units' ptree

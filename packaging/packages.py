@@ -1,0 +1,113 @@
+"""Makes each package from the files of a commit and from what was built of it."""
+import os
+import shutil
+import subprocess
+import sys
+import archives
+
+sys.path.insert(0, os.path.dirname(os.path.dirname(os.path.abspath(__file__))))
+from tests import crates as repository  # noqa: E402
+
+# The interpreter of Debian's packages, for which setuptools and wheel are installed.
+PYTHON = '/usr/bin/python3'
+PARTS = 'src', 'specs', 'proofs'
+FLAGS = '-ffile-prefix-map=%s=. -g0'
+# In this order. The packages for Debian have the wheel inside.
+KINDS = 'source', 'rattle', 'rust', 'python', 'debian'
+
+
+class Making:
+    """A room with `source`, the files of a commit, in which packages are made and put into `out`."""
+
+    def __init__(self, room, source, built, version, epoch):
+        self.room, self.source, self.built, self.version, self.epoch = room, source, built, version, epoch
+        self.out = os.path.join(room, 'out')
+        os.makedirs(self.out)
+        self.env = {**os.environ, 'SOURCE_DATE_EPOCH': str(epoch), 'LC_ALL': 'C.UTF-8', 'TZ': 'UTC',
+                    'PYTHONHASHSEED': '0'}
+
+    def make(self, names):
+        """Makes these of KINDS. The source is packed first, before anything is built in it."""
+        for name in KINDS:
+            if name in names:
+                getattr(self, 'of_' + name)()
+
+    def library(self):
+        """The folder of the library for C, which is built there."""
+        self.run('make', '-s', '-C', 'bindings/c', 'ARCHIVE=' + os.path.join(self.built, 'libpatricia_c.a'))
+        return os.path.join(self.source, 'bindings', 'c', 'out')
+
+    def run(self, *words, **more):
+        """Runs a program in the source. What it says is shown where it fails."""
+        if not shutil.which(words[0]):
+            sys.exit('make dist: %s is not installed; docs/INSTALL.md names what is wanted' % words[0])
+        ran = subprocess.run(words, cwd=self.source, env={**self.env, **more}, stdin=subprocess.DEVNULL,
+                             stdout=subprocess.PIPE, stderr=subprocess.STDOUT, encoding='utf-8', errors='replace',
+                             check=False)
+        if ran.returncode:
+            sys.exit('make dist: %s failed:\n%s' % (' '.join(words), ran.stdout[-8000:]))
+        return ran.stdout
+
+    def packed(self, name, top, files):
+        """Packs files of the source, each a pair of its path there and its path in the package."""
+        folder = os.path.join(self.room, 'packed', name)
+        for path, to in files:
+            place = os.path.join(folder, to)
+            os.makedirs(os.path.dirname(place), exist_ok=True)
+            (shutil.copytree if os.path.isdir(os.path.join(self.source, path)) else shutil.copy)(
+                os.path.join(self.source, path), place)
+        archives.pack(os.path.join(self.out, name), top, folder, self.epoch)
+
+    def of_source(self):
+        top = 'patricia-' + self.version
+        archives.pack(os.path.join(self.out, top + '.tar.gz'), top, self.source, self.epoch)
+
+    def of_rattle(self):
+        """The crates on which patricia_tree stands, without their mutants, and their lines of crates.txt."""
+        crates = repository.listed(self.source)
+        names = [*repository.below(crates, 'patricia_tree'), 'patricia_tree']
+        with open(os.path.join(self.source, 'crates.txt'), encoding='utf-8') as file:
+            lines = [line for line in file if line.partition(':')[0].split()[:1] and
+                     line.partition(':')[0].split()[0] in names]
+        with open(os.path.join(self.room, 'crates.txt'), 'w', encoding='utf-8') as file:
+            file.writelines(lines)
+        files = [(os.path.join('crates', name, part),) * 2 for name in names for part in PARTS
+                 if os.path.isdir(os.path.join(self.source, 'crates', name, part))]
+        top = 'patricia-rattle-' + self.version
+        own = [(name, name) for name in ('LICENSE', 'PROVED', 'HANDLES')]
+        self.packed(top + '.tar.gz', top, [*files, *own, (os.path.join(self.room, 'crates.txt'), 'crates.txt')])
+
+    def of_rust(self):
+        """The crate with the archive in its folder lib/, where its build script looks first."""
+        top, library = 'patricia-' + self.version, self.library()
+        parts = [(os.path.join('bindings/rust', name), name) for name in ('Cargo.toml', 'build.rs', 'src', 'tests')]
+        own = [(name, name) for name in ('LICENSE', 'PROVED')]
+        self.packed(top + '.crate', top, [*parts, *own, (library + '/libpatricia.a', 'lib/libpatricia.a')])
+
+    def of_python(self):
+        """The wheel, which has the library inside."""
+        folder = os.path.join(self.source, 'bindings', 'python')
+        shutil.copy(os.path.join(self.source, 'LICENSE'), folder)
+        wheels = os.path.join(self.room, 'wheels')
+        self.run(PYTHON, '-m', 'pip', '-q', 'wheel', '--no-build-isolation', '--no-index', '--no-deps', '-w', wheels,
+                 folder, PATRICIA_LIB_DIR=self.library(), CFLAGS=FLAGS % self.source,
+                 LDFLAGS='-Wl,-z,relro,-z,now')
+        found, wanted = os.listdir(wheels), 'patricia-%s-cp38-abi3-linux_x86_64.whl' % self.version
+        if found != [wanted]:
+            sys.exit('make dist: the wheel is %s, and not %s' % (' '.join(found), wanted))
+        self.run(PYTHON, '-m', 'wheel', 'unpack', '-d', wheels, os.path.join(wheels, wanted))
+        top = os.path.join(wheels, 'patricia-' + self.version)
+        shutil.copy(os.path.join(self.source, 'PROVED'), top + '/patricia-%s.dist-info' % self.version)
+        self.run(PYTHON, '-m', 'wheel', 'pack', '-d', self.out, top)
+
+    def of_debian(self):
+        """The packages of debian/control."""
+        wheel = next(name for name in os.listdir(self.out) if name.endswith('.whl'))
+        changelog = self.run(sys.executable, '-B', 'packaging/debian.py', 'changelog')
+        with open(os.path.join(self.source, 'debian', 'changelog'), 'w', encoding='utf-8') as file:
+            file.write(changelog)
+        self.run('dpkg-buildpackage', '-b', '-us', '-uc', '-tc', BUILT=self.built,
+                 WHEEL=os.path.join(self.out, wheel), DEB_BUILD_OPTIONS='nocheck noautodbgsym')
+        for name in os.listdir(self.room):
+            if name.endswith('.deb'):
+                shutil.move(os.path.join(self.room, name), self.out)
