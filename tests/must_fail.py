@@ -27,7 +27,7 @@ crate's code that a comment 'refused:' holds is tried too: as code, it breaks th
 The libraries are those that rt left in out/. With '--beside FOLDER LOG' they are those that an
 rt ci makes there meanwhile, each crate's once the output in LOG says that it is proved. Until LOG
 has the line 'rt ci has ended' one check runs at a time, and then as many as there are processors.
-'--archive FILE' builds the library for C there. What a good edit came to is kept on this machine,
+'--archive FILE' builds the library for C there, which no check holds up. What a good edit came to is kept on this machine,
 and told again while nothing changes that its check reads, and so is that library; with --anew all
 is done.
 
@@ -98,8 +98,7 @@ def tried(asked, sources, history, kept):
         works = [Work(of, edits[x], kept, room) for x, of in sources.items()]
         for work in works:
             work.archive = asked.archive if work.sources.crate.is_static else None
-        # others wait for the archive
-        for work in sorted(works, key=lambda x: not x.archive):
+        for work in works:
             work.add_to(queue)
         return queue.done()
 
@@ -113,13 +112,11 @@ def main(words=None, root=listing.ROOT, folder=None):
         sys.exit('no crate of crates.txt: ' + ' '.join(unknown))
     names = asked.crates or crates
     sources = {x: Sources(crates[x], os.path.join(root, 'crates', x)) for x in names}
-    prover = Prover(crates, asked.beside[0] if asked.beside else root)
+    prover = Prover(crates, asked.beside[0] if asked.beside else root, bool(asked.beside))
     if asked.write_goals:
         lost = written(asked, sources, prover)
         print(*lost, '%d have no goal that fails' % len(lost), sep='\n')
         return 1 if lost else 0
-    if asked.beside:
-        os.nice(19)
     told = tried(asked, sources, History(root), Kept(prover, asked.anew, folder))
     bad = [x.line for x in told if not x.is_good]
     unread = sum(TO_READ in x.line for x in told)

@@ -241,6 +241,23 @@ class Queued(Small):
         self.assertEqual(max(self.most[:3]), 1)
         self.assertEqual(max(self.most), listing.processors())
 
+    def test_what_is_urgent_waits_for_no_other(self):
+        log = written(self.top, 'log', 'rt: small proved\n')
+        queue = Queue(Beside(log))
+        begun = threading.Event()
+
+        def long():
+            begun.wait(60)
+            return [begun.is_set()]
+
+        def urgent():
+            begun.set()
+            written(self.top, 'log', 'rt ci has ended\n')
+            return []
+        queue.add(lambda: True, long)
+        queue.add(lambda: True, urgent, True)
+        self.assertEqual(queue.done(), [True])
+
     def test_a_crate_is_tried_once_rt_ci_says_that_it_is_proved(self):
         crate = listing.listed(self.top)['small']
         for text, is_known, is_proved in (('', False, False), ('rt: small proved\n', True, True),

@@ -99,10 +99,12 @@ def function_of(folder):
 class Prover:
     """The prover, over the libraries in a folder's crates/*/out and those of the toolchain."""
 
-    def __init__(self, crates, folder):
+    def __init__(self, crates, folder, is_last=False):
         self.crates = crates
         self.folder = folder
         self.kit = listing.kit()
+        # a check gives way to all else that runs, the archive for which tests wait does not
+        self.after_others = ['nice', '-n', '19'] if is_last else []
 
     def library(self, name):
         """Where a library lies as it was built."""
@@ -135,7 +137,8 @@ class Prover:
                 with open(os.path.join(room, path), 'w', encoding='utf-8') as file:
                     file.write(text)
             words = [self.kit + '/bin/rattle', verb, *self.words(sources), *more]
-            ran = subprocess.run(words, cwd=room, stdin=subprocess.DEVNULL, check=False,
+            before = self.after_others if verb == 'check' else []
+            ran = subprocess.run([*before, *words], cwd=room, stdin=subprocess.DEVNULL, check=False,
                                  stdout=subprocess.PIPE, stderr=subprocess.STDOUT,
                                  encoding='utf-8', errors='replace')
         return ran.stdout

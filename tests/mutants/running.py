@@ -4,6 +4,7 @@ import re
 import tempfile
 import threading
 import time
+from collections.abc import Callable
 from concurrent.futures import ThreadPoolExecutor
 from typing import NamedTuple
 
@@ -50,37 +51,47 @@ class Beside:
         return self.says(r'^rt: %s (proved$|is kept: )' % crate.name)
 
 
+class Task(NamedTuple):
+    """A call that returns what it tells, one that says if it may begin, and whether others wait
+    for it."""
+    is_ready: Callable
+    call: Callable
+    is_urgent: bool
+
+
 class Queue:
-    """What is to be done: calls that return what they tell, each with a call that says if it may
-    begin."""
+    """What is to be done."""
 
     def __init__(self, beside):
         self.beside = beside
         self.waiting, self.left, self.told, self.taking = [], 0, [], threading.Lock()
 
-    def add(self, is_ready, call):
+    def add(self, is_ready, call, is_urgent=False):
         with self.taking:
-            self.waiting.append((is_ready, call))
+            self.waiting.append(Task(is_ready, call, is_urgent))
             self.left += 1
 
-    def take(self):
-        """The first call that may begin, or None."""
+    def take(self, is_urgent):
+        """The first task that may begin, of all or of those that are urgent, or None."""
         with self.taking:
-            ready = next((x for x in self.waiting if x[0]()), None)
-            if ready:
-                self.waiting.remove(ready)
-        return ready and ready[1]
+            may_begin = (x for x in self.waiting if x.is_urgent >= is_urgent and x.is_ready())
+            task = next(may_begin, None)
+            if task:
+                self.waiting.remove(task)
+        return task
 
     def work(self, number):
-        """Does one call after another. Beside an rt ci, which takes all processors, the first
-        worker works alone: of two checks on a processor each takes up to twice its seconds."""
+        """Does one task after another. Beside an rt ci, which takes all processors, the first
+        worker works alone, since of two checks on a processor each takes up to twice its seconds,
+        and the second does what is urgent."""
         while self.left:
-            call = self.take() if number == 0 or self.beside.has_ended() else None
-            if call is None:
+            is_free = number == 0 or self.beside.has_ended()
+            task = self.take(not is_free) if is_free or number == 1 else None
+            if task is None:
                 time.sleep(1)
                 continue
             try:
-                self.told += call()
+                self.told += task.call()
             finally:
                 with self.taking:
                     self.left -= 1
@@ -108,7 +119,8 @@ class Work:
     def add_to(self, queue):
         """Has a queue do it, once it is known if the crate is proved."""
         if self.archive or self.edits or list(self.sources.lines()):
-            queue.add(lambda: queue.beside.knows(self.sources.crate), lambda: self.begin(queue))
+            queue.add(lambda: queue.beside.knows(self.sources.crate), lambda: self.begin(queue),
+                      bool(self.archive))
 
     def begin(self, queue):
         """Tells what is known, and tries the rest: in turn, or over a check of the crate as it
