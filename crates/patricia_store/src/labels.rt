@@ -1,6 +1,6 @@
 //! The bytes of labels in one vector.
 //!
-//! A label is a part of the vector. What stands there stays until all labels are laid anew, so a
+//! A label is a part of the vector. What stands there stays until all labels are relocated, so a
 //! label can be cut in two with no byte moved.
 ghost use Rattle.std.specs.Prelude.{◌≡◌, ◌+◌, ◌-◌, ◌<◌, ◌≤◌, ◌++◌, [], take, drop, length};
 ghost use Rattle.std.specs.Prelude.{IfOk, OnOk, IsOk, vec_len, vec_capacity};

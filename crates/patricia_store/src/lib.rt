@@ -6,6 +6,7 @@
 #![tactic(auto)]
 
 mod body;
+mod draft;
 pub mod examples;
 mod head;
 mod labels;

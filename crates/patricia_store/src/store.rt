@@ -1,16 +1,12 @@
 //! Nodes in three vectors: their heads, their bodies and the bytes of their labels.
-ghost use Rattle.std.specs.Prelude.{◌≡◌, ◌+◌, ◌<◌, ◌≤◌, ℕ, List, Some, None, [], length};
-ghost use Rattle.std.specs.Prelude.{IfSome, vec_len, slice_get, ◌≢◌, ◌++◌, ◌∷◌, take};
+ghost use Rattle.std.specs.Prelude.{◌≡◌, ◌+◌, ◌<◌, ◌≤◌, ℕ, Some, None, [], length};
+ghost use Rattle.std.specs.Prelude.{slice_get, ◌≢◌, ◌++◌, ◌∷◌, take};
 ghost use Rattle.std.specs.Prelude.{IfOk, IsOk, OnOk};
-ghost use Rattle.std.specs.Vec.{with_item};
 ghost use Rattle.std.specs.Option.{option_copied, option_copied_mut};
 ghost use Rattle.std.specs.Borrow.{sem};
 ghost use Rattle.patricia_store.specs.Internal.Packing.{most};
-ghost use Rattle.patricia_store.specs.Internal.Heads.{byte_of, short_len_of, head_of};
-ghost use Rattle.patricia_store.specs.Internal.Labels.{label_in, IsSpan};
+ghost use Rattle.patricia_store.specs.Internal.Heads.{byte_of, short_len_of};
 ghost use Rattle.patricia_store.specs.Internal.Labels.{label_room, joined_room, cut_room};
-ghost use Rattle.patricia_store.specs.Internal.Bodies.{span_in, value_in, body_of};
-ghost use Rattle.patricia_store.specs.Internal.Stores.{IsSound};
 ghost use Rattle.patricia_store.specs.Internal.Nodes.{ReadsNode, IsRun, EndsRun, IsLink};
 ghost use Rattle.patricia_store.specs.Internal.Nodes.{Changes, Trades, KeepsRoom};
 ghost use Rattle.patricia_store.specs.Internal.Nodes.{labels_room, linked, value_at, Splits, Joins};
@@ -19,45 +15,14 @@ ghost use Rattle.patricia_store.specs.Internal.Renumbering.{KeepsRearranged};
 ghost use Rattle.patricia_store.specs.Internal.Loans.{lends_value_at};
 
 use crate::body::Body;
-use crate::head::{Head, LONG};
-use crate::labels::{Labels, Span, cut_room, label_room};
+use crate::draft::{Draft, label_len, offset_of, span_of, write};
+use crate::head::Head;
+use crate::labels::{Labels, cut_room, label_room};
 use crate::laying::{lay, needed_bytes};
 use crate::order::{permute, renumber};
-use crate::packed::{MOST, Packed};
+use crate::packed::MOST;
 use std::alloc::{AllocError, Global};
 use std::marker::Model;
-
-// Where the label is of a node with this head and this body.
-fn span_of<V>(head: Head, body: &Body<V>) -> Span
-    ensures { (next : ℕ) (bytes : List ℕ) → IsSound next head body.now bytes
-        → result ≡ span_in body.now }
-{
-    match head.leaf_offset() {
-        Some(offset) if head.short_len() < LONG => Span {
-            len: head.short_len() as u8,
-            offset,
-        },
-        _ => body.span(),
-    }
-}
-
-// The length of the label of a node with this body.
-fn label_len<V>(body: &Body<V>, labels: &Labels) -> usize
-    requires { IsSpan labels.now.items (span_in body.now) }
-    ensures { result ≡ length (label_in labels.now.items (span_in body.now)) }
-{
-    labels.get(body.span()).len()
-}
-
-// Where the label is of a node with this body, if it is to have no child.
-fn offset_of<V>(child: Option<usize>, body: &Body<V>) -> Packed
-    ensures { child ≡ None → result ≡ (span_in body.now).offset }
-{
-    match child {
-        None => body.span().offset,
-        Some(_) => Packed::new(0),
-    }
-}
 
 /// The nodes of a tree, which contracts see as a list of nodes, with how many there is room for and
 /// how many more bytes of labels. Calls that return no `Result` ask for no memory, but for
@@ -69,14 +34,6 @@ pub struct Store<V> {
     labels: Labels,
     // about how many bytes belonged to labels that others replaced
     dead: usize,
-}
-
-// What a node is to be.
-struct Draft<V> {
-    span: Span,
-    child: Option<usize>,
-    sibling: Option<usize>,
-    value: Option<V>,
 }
 
 impl<V> Model for Store<V> {
@@ -96,36 +53,6 @@ impl<V> Model for Store<V> {
     } };
 
     ghost invariant = { λ s. AreSound s.heads.items s.bodies.items s.labels.items };
-}
-
-// Puts another node at a number, and returns the value of the one that was there.
-fn write<V>(
-    heads: &mut Vec<Head>,
-    bodies: &mut Vec<Body<V>>,
-    labels: &Labels,
-    id: usize,
-    node: Draft<V>,
-) -> Option<V>
-    requires in_heads { id < vec_len heads.old }
-    requires in_bodies { id < vec_len bodies.old }
-    requires span { IsSpan labels.now.items node.span }
-    requires child { IfSome node.child (λ n. n < most + 1) }
-    requires sibling { IfSome node.sibling (λ n. n < most + 1) }
-    ensures heads { heads.new ≡ with_item heads.old id (head_of (id + 1) node.child node.sibling
-        (label_in labels.now.items node.span) node.span.offset) }
-    ensures bodies { bodies.new ≡ with_item bodies.old id (body_of node.span node.value) }
-    ensures value { (b : Body V) → slice_get bodies.old.items id ≡ Some b
-        → result ≡ value_in b }
-{
-    let Draft {
-        span,
-        child,
-        sibling,
-        value,
-    } = node;
-    let label = labels.get(span);
-    heads[id] = Head::new(id + 1, child, sibling, label, span.offset);
-    bodies[id].replace(span, value)
 }
 
 impl<V> Store<V> {

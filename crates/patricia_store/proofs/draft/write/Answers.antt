@@ -3,7 +3,7 @@ use Rattle.std.specs.Vec.{with_item}
 use Rattle.std.proofs.lemmas.Option.{slice_get_read, same_Some}
 use Rattle.patricia_store.specs.Internal.Heads.{head_of}
 use Rattle.patricia_store.specs.Internal.Bodies.{value_in}
-use Rattle.patricia_store.proofs.store.write.Goals as goal
+use Rattle.patricia_store.proofs.draft.write.Goals as goal
 
 pub returns-clause-heads : goal.returns-clause-heads
 returns-clause-heads g c =
