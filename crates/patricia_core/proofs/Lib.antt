@@ -1,2 +1,3 @@
 pub mod PointNodes
 pub mod StoreLemmas
+pub mod ManyLemmas

@@ -18,6 +18,7 @@ ghost use Rattle.patricia_wire.specs.Faults.{IsRefusal};
 
 mod cursors;
 mod loading;
+mod many;
 mod near;
 mod ranges;
 

@@ -21,6 +21,7 @@ mod debug;
 mod ends;
 mod iterators;
 mod loans;
+mod many;
 mod near;
 mod prefixes;
 mod ranges;

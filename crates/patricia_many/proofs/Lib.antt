@@ -1,0 +1,2 @@
+pub mod LookupLemmas
+pub mod StageLemmas

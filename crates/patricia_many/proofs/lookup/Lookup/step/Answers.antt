@@ -1,0 +1,144 @@
+use Rattle.std.proofs.Common.{refl, sym, ◌∙◌, arith}
+use mathlib.Core.Bool.{false≢true}
+use Rattle.patricia_nodes.specs.declared.arena.seek.Match.TheVariants.{Absent, InsideLabel}
+use Rattle.patricia_many.proofs.LookupLemmas.{stands, at_node, at_within, at_valid, at_labelled, at_filled}
+use Rattle.patricia_many.proofs.LookupLemmas.{at_inside, at_front, stops, stops_here, none_fewer}
+use Rattle.patricia_many.proofs.LookupLemmas.{goes_next, next_fewer, goes_down, down_fewer, left_fits, left_is}
+use Rattle.patricia_many.proofs.lookup.Lookup.step.Goals as goal
+
+pub rest-requires-clause-within : goal.rest-requires-clause-within
+rest-requires-clause-within g c =
+    let here = stands g.Q.Owned.Bytes.item g.met.Q.Owned.Bytes.lawful c.args.arena.now c.requires.whole c.requires.siblings
+    (g.Q.BorrowedBytes.key c.args.key) _ _ _ _ (sym c.get.ensures ∙ c.in-Some.is) c.requires.key.0 in
+    omega (arith, at_inside here _ refl)
+
+pub rest-requires-clause-valid : goal.rest-requires-clause-valid
+rest-requires-clause-valid g c =
+    let here = stands g.Q.Owned.Bytes.item g.met.Q.Owned.Bytes.lawful c.args.arena.now c.requires.whole c.requires.siblings
+    (g.Q.BorrowedBytes.key c.args.key) _ _ _ _ (sym c.get.ensures ∙ c.in-Some.is) c.requires.key.0 in
+    at_front here _ refl
+
+pub compare-requires-clause-within : goal.compare-requires-clause-within
+compare-requires-clause-within g c =
+    let here = stands g.Q.Owned.Bytes.item g.met.Q.Owned.Bytes.lawful c.args.arena.now c.requires.whole c.requires.siblings
+    (g.Q.BorrowedBytes.key c.args.key) _ _ _ _ (sym c.get.ensures ∙ c.in-Some.is) c.requires.key.0 in
+    at_within here
+
+pub compare-requires-clause-valid : goal.compare-requires-clause-valid
+compare-requires-clause-valid g c n reads =
+    let here = stands g.Q.Owned.Bytes.item g.met.Q.Owned.Bytes.lawful c.args.arena.now c.requires.whole c.requires.siblings
+    (g.Q.BorrowedBytes.key c.args.key) _ _ _ _ (sym c.get.ensures ∙ c.in-Some.is) c.requires.key.0 in
+    at_valid here reads
+
+pub compare-requires-clause-nonempty : goal.compare-requires-clause-nonempty
+compare-requires-clause-nonempty g c n reads =
+    let here = stands g.Q.Owned.Bytes.item g.met.Q.Owned.Bytes.lawful c.args.arena.now c.requires.whole c.requires.siblings
+    (g.Q.BorrowedBytes.key c.args.key) _ _ _ _ (sym c.get.ensures ∙ c.in-Some.is) c.requires.key.0 in
+    at_labelled here reads
+
+pub compare-requires-clause-key_filled : goal.compare-requires-clause-key_filled
+compare-requires-clause-key_filled g c =
+    let here = stands g.Q.Owned.Bytes.item g.met.Q.Owned.Bytes.lawful c.args.arena.now c.requires.whole c.requires.siblings
+    (g.Q.BorrowedBytes.key c.args.key) _ _ _ _ (sym c.get.ensures ∙ c.in-Some.is) c.requires.key.0 in
+    rw c.rest.ensures (at_filled here)
+
+pub sibling-requires : goal.sibling-requires
+sibling-requires g c =
+    let here = stands g.Q.Owned.Bytes.item g.met.Q.Owned.Bytes.lawful c.args.arena.now c.requires.whole c.requires.siblings
+    (g.Q.BorrowedBytes.key c.args.key) _ _ _ _ (sym c.get.ensures ∙ c.in-Some.is) c.requires.key.0 in
+    at_within here
+
+pub child-requires : goal.child-requires
+child-requires g c =
+    let here = stands g.Q.Owned.Bytes.item g.met.Q.Owned.Bytes.lawful c.args.arena.now c.requires.whole c.requires.siblings
+    (g.Q.BorrowedBytes.key c.args.key) _ _ _ _ (sym c.get.ensures ∙ c.in-Some.is) c.requires.key.0 in
+    at_within here
+
+pub some-requires : goal.some-requires
+some-requires g c =
+    let here = stands g.Q.Owned.Bytes.item g.met.Q.Owned.Bytes.lawful c.args.arena.now c.requires.whole c.requires.siblings
+    (g.Q.BorrowedBytes.key c.args.key) _ _ _ _ (sym c.get.ensures ∙ c.in-Some.is) c.requires.key.0 in
+    omega (arith, at_within here, c.args.arena.now.nodes.small)
+
+pub returns-in-Before-clause-key : goal.returns-in-Before-clause-key
+returns-in-Before-clause-key g c =
+    let here = stands g.Q.Owned.Bytes.item g.met.Q.Owned.Bytes.lawful c.args.arena.now c.requires.whole c.requires.siblings
+    (g.Q.BorrowedBytes.key c.args.key) _ _ _ _ (sym c.get.ensures ∙ c.in-Some.is) c.requires.key.0 in
+    let there = at_node here in
+    rw (c.end_at.ensures, c.none.ensures) (stops here there.1 Absent (rw c.rest.ensures at c.in-Before.ensures _ there.1) refl, tt)
+
+pub returns-in-Before-clause-ahead : goal.returns-in-Before-clause-ahead
+returns-in-Before-clause-ahead g c going =
+    let here = stands g.Q.Owned.Bytes.item g.met.Q.Owned.Bytes.lawful c.args.arena.now c.requires.whole c.requires.siblings
+    (g.Q.BorrowedBytes.key c.args.key) _ _ _ _ (sym c.get.ensures ∙ c.in-Some.is) c.requires.key.0 in
+    let there = at_node here in
+    rw c.end_at.ensures (none_fewer here there.1)
+
+pub returns-in-Partial-clause-key : goal.returns-in-Partial-clause-key
+returns-in-Partial-clause-key g c =
+    let here = stands g.Q.Owned.Bytes.item g.met.Q.Owned.Bytes.lawful c.args.arena.now c.requires.whole c.requires.siblings
+    (g.Q.BorrowedBytes.key c.args.key) _ _ _ _ (sym c.get.ensures ∙ c.in-Some.is) c.requires.key.0 in
+    let there = at_node here in
+    rw (c.end_at-in-Partial.ensures, c.none-in-Partial.ensures) (stops here there.1 (InsideLabel c.in-Some.id c.in-Partial.field-0) (refl, rw c.rest.ensures at c.in-Partial.ensures _ there.1) refl, tt)
+
+pub returns-in-Partial-clause-ahead : goal.returns-in-Partial-clause-ahead
+returns-in-Partial-clause-ahead g c going =
+    let here = stands g.Q.Owned.Bytes.item g.met.Q.Owned.Bytes.lawful c.args.arena.now c.requires.whole c.requires.siblings
+    (g.Q.BorrowedBytes.key c.args.key) _ _ _ _ (sym c.get.ensures ∙ c.in-Some.is) c.requires.key.0 in
+    let there = at_node here in
+    rw c.end_at-in-Partial.ensures (none_fewer here there.1)
+
+pub returns-in-After-clause-key : goal.returns-in-After-clause-key
+returns-in-After-clause-key g c =
+    let here = stands g.Q.Owned.Bytes.item g.met.Q.Owned.Bytes.lawful c.args.arena.now c.requires.whole c.requires.siblings
+    (g.Q.BorrowedBytes.key c.args.key) _ _ _ _ (sym c.get.ensures ∙ c.in-Some.is) c.requires.key.0 in
+    let there = at_node here in
+    rw (c.go_to.ensures, c.sibling.ensures _ there.1) (goes_next here there.1 (rw c.rest.ensures at c.in-After.ensures _ there.1), tt)
+
+pub returns-in-After-clause-ahead : goal.returns-in-After-clause-ahead
+returns-in-After-clause-ahead g c going =
+    let here = stands g.Q.Owned.Bytes.item g.met.Q.Owned.Bytes.lawful c.args.arena.now c.requires.whole c.requires.siblings
+    (g.Q.BorrowedBytes.key c.args.key) _ _ _ _ (sym c.get.ensures ∙ c.in-Some.is) c.requires.key.0 in
+    let there = at_node here in
+    rw (c.go_to.ensures, c.sibling.ensures _ there.1) (next_fewer here there.1)
+
+pub returns-then-is_empty-clause-key : goal.returns-then-is_empty-clause-key
+returns-then-is_empty-clause-key g c =
+    let here = stands g.Q.Owned.Bytes.item g.met.Q.Owned.Bytes.lawful c.args.arena.now c.requires.whole c.requires.siblings
+    (g.Q.BorrowedBytes.key c.args.key) _ _ _ _ (sym c.get.ensures ∙ c.in-Some.is) c.requires.key.0 in
+    let there = at_node here in
+    rw (c.end_at-then-is_empty.ensures, c.some.ensures) (stops_here here there.1 (rw (c.rest.ensures, c.if-is_empty.ensures.0 refl) at c.in-Full.ensures _ there.1), tt)
+
+pub returns-then-is_empty-clause-ahead : goal.returns-then-is_empty-clause-ahead
+returns-then-is_empty-clause-ahead g c going =
+    let here = stands g.Q.Owned.Bytes.item g.met.Q.Owned.Bytes.lawful c.args.arena.now c.requires.whole c.requires.siblings
+    (g.Q.BorrowedBytes.key c.args.key) _ _ _ _ (sym c.get.ensures ∙ c.in-Some.is) c.requires.key.0 in
+    let there = at_node here in
+    rw c.end_at-then-is_empty.ensures (none_fewer here there.1)
+
+pub returns-else-is_empty-clause-key : goal.returns-else-is_empty-clause-key
+returns-else-is_empty-clause-key g c =
+    let here = stands g.Q.Owned.Bytes.item g.met.Q.Owned.Bytes.lawful c.args.arena.now c.requires.whole c.requires.siblings
+    (g.Q.BorrowedBytes.key c.args.key) _ _ _ _ (sym c.get.ensures ∙ c.in-Some.is) c.requires.key.0 in
+    let there = at_node here in
+    let passes = rw c.rest.ensures at c.in-Full.ensures _ there.1 in
+    let left = left_is g.Q.Owned.Bytes.item (g.Q.BorrowedBytes.key c.args.key) _ _ _ _ _ passes (at_inside here _ refl)
+    c.as_bytes.ensures.value c.as_bytes-else-is_empty.ensures.value in
+    rw (c.go_to-else-is_empty.ensures, c.child.ensures _ there.1)
+    (rw left (goes_down here there.1 _ passes (λ none. absurd (false≢true (c.if-is_empty.ensures.1 none)))), tt)
+
+pub returns-else-is_empty-clause-ahead : goal.returns-else-is_empty-clause-ahead
+returns-else-is_empty-clause-ahead g c going =
+    let here = stands g.Q.Owned.Bytes.item g.met.Q.Owned.Bytes.lawful c.args.arena.now c.requires.whole c.requires.siblings
+    (g.Q.BorrowedBytes.key c.args.key) _ _ _ _ (sym c.get.ensures ∙ c.in-Some.is) c.requires.key.0 in
+    let there = at_node here in
+    rw (c.go_to-else-is_empty.ensures, c.child.ensures _ there.1) (down_fewer here there.1)
+
+pub overflow_sub-self : goal.overflow_sub-self
+overflow_sub-self g c =
+    let here = stands g.Q.Owned.Bytes.item g.met.Q.Owned.Bytes.lawful c.args.arena.now c.requires.whole c.requires.siblings
+    (g.Q.BorrowedBytes.key c.args.key) _ _ _ _ (sym c.get.ensures ∙ c.in-Some.is) c.requires.key.0 in
+    let there = at_node here in
+    let passes = rw c.rest.ensures at c.in-Full.ensures _ there.1 in
+    left_fits g.Q.Owned.Bytes.item (g.Q.BorrowedBytes.key c.args.key) _ _ _ _ _ passes
+    c.as_bytes.ensures.value c.as_bytes-else-is_empty.ensures.value

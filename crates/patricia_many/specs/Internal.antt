@@ -1,0 +1,2 @@
+-- Words of contracts that no user of the library meets: a reader need not believe them.
+pub mod Lookups
