@@ -1,5 +1,5 @@
 //! Cursors over the entries from a key on, up to another one.
-ghost use Rattle.std.specs.Prelude.{◌≡◌, ℕ, List, [], Some, None, true, false, IfOk};
+ghost use Rattle.std.specs.Prelude.{◌≡◌, ℕ, List, [], Some, true, false, IfOk};
 ghost use Rattle.patricia_tree.specs.Ranges.{before, from};
 ghost use Rattle.patricia_c.specs.Cursors.{ahead_of, end_of, prefix_of};
 
