@@ -282,11 +282,11 @@ uint32_t patricia_last_before(const patricia_map *map, const uint8_t *key, size_
                               uint8_t *array, size_t size, size_t *key_len, uint64_t *value);
 
 /* Cursors. A cursor goes over entries in the order of their keys. It has no entries, only the key
- * that it passed last, and each step asks a map for the first entry ahead: of those that come after
- * that key. So the map may be changed between two steps, and what is ahead is always so of the map
- * as it is at the step: an entry that was inserted or removed there meanwhile is passed, or is not.
- * A step takes the time of a look-up, and memory for the key. A cursor that is all zero bytes has
- * all entries ahead. */
+ * that it passed last and maybe an end, and each step asks a map for the first entry ahead: of
+ * those that come after that key, and before the end. So the map may be changed between two steps,
+ * and what is ahead is always so of the map as it is at the step: an entry that was inserted or
+ * removed there meanwhile is passed, or is not. A step takes the time of a look-up, and memory for
+ * the key. A cursor that is all zero bytes has all entries ahead. */
 
 /* Sets the cursor: ahead are the entries whose key is this key or comes after it, among those whose
  * key begins with the first `common` bytes of this key; with the whole key, where `common` is
@@ -295,6 +295,13 @@ uint32_t patricia_last_before(const patricia_map *map, const uint8_t *key, size_
  * unchanged. */
 bool patricia_cursor_seek(patricia_cursor *cursor, const uint8_t *key, size_t key_len,
                           size_t common);
+
+/* Sets the cursor to a range: ahead are the entries whose key is `start` or comes after it, and
+ * which come before `end`; none, where `start` does not come before `end`. The end stays until the
+ * cursor is set anew or freed. patricia_cursor_seek with 0 sets it to a range with no end. Returns
+ * false where memory runs out: the cursor is unchanged. */
+bool patricia_cursor_seek_range(patricia_cursor *cursor, const uint8_t *start, size_t start_len,
+                                const uint8_t *end, size_t end_len);
 
 /* Passes the first entry of the map that the cursor has ahead. Returns PATRICIA_ENTRY, and writes
  * its key to the array, the length of the key to *key_len and the value to *value; or PATRICIA_END
@@ -610,6 +617,18 @@ static inline uint32_t patricia_text_cursor_seek(patricia_cursor *cursor, const 
     if (!patricia_is_text(key, len))
         return PATRICIA_NOT_TEXT;
     return patricia_cursor_seek(cursor, key, len, common) ? PATRICIA_DONE : PATRICIA_NO_MEMORY;
+}
+
+/* As patricia_cursor_seek_range: PATRICIA_DONE, or PATRICIA_NO_MEMORY. */
+static inline uint32_t patricia_text_cursor_seek_range(patricia_cursor *cursor, const char *start,
+                                                       size_t start_len, const char *end,
+                                                       size_t end_len)
+{
+    const uint8_t *from = patricia_bytes(start), *to = patricia_bytes(end);
+    if (!patricia_is_text(from, start_len) || !patricia_is_text(to, end_len))
+        return PATRICIA_NOT_TEXT;
+    return patricia_cursor_seek_range(cursor, from, start_len, to, end_len) ? PATRICIA_DONE
+                                                                            : PATRICIA_NO_MEMORY;
 }
 
 /* As patricia_first_after. */

@@ -419,6 +419,54 @@ static void blocks(void)
     patricia_free(&map);
 }
 
+static bool seek_range(patricia_cursor *cursor, const char *start, const char *end)
+{
+    return patricia_cursor_seek_range(cursor, bytes_of(start), strlen(start), bytes_of(end),
+                                      strlen(end));
+}
+
+static void ranges(void)
+{
+    patricia_map map = PATRICIA_MAP_INIT;
+    patricia_cursor cursor = PATRICIA_CURSOR_INIT;
+    uint64_t old;
+    block to;
+    CHECK(seek_range(&cursor, "", "baz"));
+    ends(&cursor, &map);
+    fill(&map);
+    passes(&cursor, &map, "", 9);
+    passes(&cursor, &map, "bar", 2);
+    ends(&cursor, &map);
+    CHECK(insert(&map, "bas", 5, &old) == PATRICIA_ABSENT);
+    passes(&cursor, &map, "bas", 5);
+    ends(&cursor, &map);
+    /* the start is passed, the end is not */
+    CHECK(seek_range(&cursor, "bar", "foo"));
+    CHECK(next_many(&cursor, &map, &to, 16, 2, 4) == PATRICIA_ENTRY && to.count == 2);
+    CHECK(to.len == 6 && memcmp(to.keys, "barbasx", 7) == 0 && to.values[1] == 5);
+    CHECK(next_many(&cursor, &map, &to, 16, 4, 4) == PATRICIA_ENTRY && to.count == 1);
+    CHECK(to.len == 3 && memcmp(to.keys, "bazx", 4) == 0 && to.values[0] == 3);
+    CHECK(next_many(&cursor, &map, &to, 16, 4, 4) == PATRICIA_END);
+    is_unwritten(&to, 78);
+    /* neither needs to be there, and the start may come behind the end */
+    CHECK(seek_range(&cursor, "bat", "fop"));
+    passes(&cursor, &map, "baz", 3);
+    passes(&cursor, &map, "foo", 4);
+    ends(&cursor, &map);
+    CHECK(seek_range(&cursor, "foo", "foo"));
+    ends(&cursor, &map);
+    CHECK(seek_range(&cursor, "foo", "bar"));
+    ends(&cursor, &map);
+    CHECK(seek_range(&cursor, "", ""));
+    ends(&cursor, &map);
+    /* what is set anew has no end */
+    CHECK(patricia_cursor_seek(&cursor, bytes_of("baz"), 3, 0));
+    passes(&cursor, &map, "baz", 3);
+    passes(&cursor, &map, "foo", 4);
+    patricia_cursor_free(&cursor);
+    patricia_free(&map);
+}
+
 /* Looks up the five keys foo, none, bar, x and foo/ at once. */
 static uint32_t get_many(const patricia_map *map, size_t bytes, size_t count, size_t values_size,
                          size_t found_size, uint64_t *values, uint8_t *found)
@@ -698,6 +746,8 @@ static void no_texts(patricia_map *map)
     CHECK(patricia_text_remove_prefix(map, "\303", 1, &len) == PATRICIA_NOT_TEXT);
     CHECK(patricia_text_iterate(map, "\303", 1, &iterator) == PATRICIA_NOT_TEXT);
     CHECK(patricia_text_cursor_seek(&cursor, "\303", 1, 1) == PATRICIA_NOT_TEXT);
+    CHECK(patricia_text_cursor_seek_range(&cursor, "\303", 1, "", 0) == PATRICIA_NOT_TEXT);
+    CHECK(patricia_text_cursor_seek_range(&cursor, "", 0, "\303", 1) == PATRICIA_NOT_TEXT);
     CHECK(patricia_text_first_after(map, "\303", 1, array, 8, &len, &value) == PATRICIA_NOT_TEXT);
     CHECK(patricia_text_last_before(map, "\303", 1, array, 8, &len, &value) == PATRICIA_NOT_TEXT);
     CHECK(len == 78 && value == 77 && memcmp(array, "unwritte", 8) == 0);
@@ -725,6 +775,9 @@ static void text_prefixes(void)
     CHECK(patricia_iterator_len(&iterator) == 1);
     CHECK(patricia_text_cursor_seek(&cursor, "\303\251", 2, 2) == PATRICIA_DONE);
     passes(&cursor, &map, "\303\251", 6);
+    ends(&cursor, &map);
+    CHECK(patricia_text_cursor_seek_range(&cursor, NULL, 0, "\303\251", 2) == PATRICIA_DONE);
+    passes(&cursor, &map, "\303\250", 5);
     ends(&cursor, &map);
     CHECK(patricia_text_split_by_prefix(&map, "\303\250", 2, &part) == PATRICIA_DONE);
     CHECK(patricia_len(&part) == 1 && patricia_len(&map) == 1);
@@ -811,6 +864,7 @@ int main(void)
     counts();
     cursors();
     blocks();
+    ranges();
     many_keys();
     many_prefixes();
     sorted_entries();

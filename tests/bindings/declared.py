@@ -9,7 +9,7 @@ import re
 from tests.support import ROOT
 
 # How many functions are exported.
-COUNT = 63
+COUNT = 64
 EXPORT = re.compile(r'#\[unsafe\(no_mangle\)\]\npub extern "C" fn (\w+)\(([^)]*)\)(?: -> (\w+))?(.*?)^\{$', re.M | re.S)
 # a clause that says that a place stays as it is, and the word for the place
 SAME = re.compile(r'ensures same(?:_place)? \{ (at|shared)\.new ≡ \1\.old \}')

@@ -29,6 +29,7 @@ typedef struct {
     size_t ahead;  /* the first key that the cursor has not passed */
     size_t common; /* with so many bytes of the key `like` its keys begin */
     size_t like;
+    size_t behind; /* so many of all keys do not come before its end */
 } pair;
 
 static key_text keys[COUNT]; /* in the order of their bytes */
@@ -132,9 +133,29 @@ static void seek(pair *p, size_t i)
 {
     p->ahead = p->like = i;
     p->common = below(keys[i].len + 3);
+    p->behind = 0;
     CHECK(patricia_cursor_seek(&p->cursor, keys[i].bytes, keys[i].len, p->common));
     if (p->common > keys[i].len)
         p->common = keys[i].len;
+}
+
+/* The same from one key on, up to another one, which may come before it. */
+static void seek_range(pair *p, size_t i, size_t end)
+{
+    p->ahead = p->like = i;
+    p->common = 0;
+    p->behind = COUNT - end;
+    CHECK(patricia_cursor_seek_range(&p->cursor, keys[i].bytes, keys[i].len, keys[end].bytes,
+                                     keys[end].len));
+}
+
+/* The first key from this one on that the cursor has ahead, or COUNT. */
+static size_t first_ahead(const pair *p, size_t i)
+{
+    for (; i < COUNT - p->behind; i++)
+        if (p->has[i] && common(&keys[p->like], &keys[i]) >= p->common)
+            return i;
+    return COUNT;
 }
 
 /* The cursor passes the first entry that it has ahead. */
@@ -142,9 +163,7 @@ static void step(pair *p)
 {
     uint8_t array[LONGEST];
     uint64_t value = 77;
-    size_t len = 78, i = p->ahead;
-    while (i < COUNT && !(p->has[i] && common(&keys[p->like], &keys[i]) >= p->common))
-        i++;
+    size_t len = 78, i = first_ahead(p, p->ahead);
     uint32_t result = patricia_cursor_next(&p->cursor, &p->map, array, below(2) * sizeof array,
                                            &len, &value);
     if (result == PATRICIA_NO_ROOM) {
@@ -167,9 +186,7 @@ static void step_many(pair *p)
     size_t most = below(5), size = below(sizeof array + 1);
     uint32_t result = patricia_cursor_next_many(&p->cursor, &p->map, array, size, lens, most,
                                                 values, 4, &count, &len);
-    for (size_t i = p->ahead; i < COUNT; i++) {
-        if (!p->has[i] || common(&keys[p->like], &keys[i]) < p->common)
-            continue;
+    for (size_t i = p->ahead; (i = first_ahead(p, i)) < COUNT; i++) {
         first = first == COUNT ? i : first;
         if (written == most || used + keys[i].len > size)
             break;
@@ -398,8 +415,10 @@ static void call(pair *p, pair *other)
         step(p);
     else if (kind < 920)
         step_many(p);
-    else if (kind < 930)
+    else if (kind < 926)
         seek(p, i);
+    else if (kind < 930)
+        seek_range(p, i, below(COUNT));
     else if (kind < 940)
         ask_neighbours(p, i);
     else if (kind < 947)

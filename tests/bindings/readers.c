@@ -121,6 +121,12 @@ static void is_whole(patricia_map *copy)
         CHECK(calls##longest_prefix_many(from, bytes, len, lens, COUNT, fronts, COUNT, values,     \
                                          COUNT, found, COUNT) == PATRICIA_DONE);                   \
         CHECK(found[17] == 1 && fronts[17] == KEY && values[17] == 17);                            \
+        write_key(17, key);                                                                        \
+        write_key(20, array);                                                                      \
+        CHECK(patricia_cursor_seek_range(&cursor, key, KEY, array, KEY));                          \
+        CHECK(calls##cursor_next_many(&cursor, from, bytes, sizeof bytes, lens, COUNT, values,     \
+                                      COUNT, &count, &len) == PATRICIA_ENTRY && count == 3);       \
+        CHECK(is_entry(bytes + KEY * 2, lens[2], values[2], 19));                                  \
         CHECK(!calls##get(from, bytes_of("key"), 3, &value));                                      \
         CHECK(calls##longest_prefix(from, bytes_of("key0017/"), 8, &len, &value));                 \
         CHECK(len == KEY && value == 17);                                                          \

@@ -245,25 +245,40 @@ static size_t neighbours(patricia_map *map, const bool *has)
     return refused;
 }
 
-/* Whether a key is among those that a cursor has ahead first, in the order of the keys. */
-static bool is_ahead(const bool *has, size_t i, const char *from, size_t common)
+/* What a cursor has ahead: the keys from one on, with so many of its bytes and before the end, if
+ * there is one. */
+typedef struct {
+    const char *from;
+    size_t common;
+    const char *end;
+} range;
+
+static bool is_ahead(const bool *has, size_t i, range of)
 {
-    return has[i] && strcmp(KEYS[i], from) >= 0 && strncmp(KEYS[i], from, common) == 0;
+    return has[i] && strcmp(KEYS[i], of.from) >= 0 && strncmp(KEYS[i], of.from, of.common) == 0 &&
+           (of.end == NULL || strcmp(KEYS[i], of.end) < 0);
+}
+
+static bool is_set(patricia_cursor *cursor, range of)
+{
+    const uint8_t *from = (const uint8_t *)of.from, *end = (const uint8_t *)of.end;
+    return end == NULL
+               ? patricia_cursor_seek(cursor, from, strlen(of.from), of.common)
+               : patricia_cursor_seek_range(cursor, from, strlen(of.from), end, strlen(of.end));
 }
 
 /* A cursor passes all that is ahead, and where it is refused it goes on at the same entry. */
-static size_t passed(patricia_map *map, patricia_cursor *cursor, const bool *has, const char *from,
-                     size_t common)
+static size_t passed(patricia_map *map, patricia_cursor *cursor, const bool *has, range of)
 {
     uint8_t array[64];
     size_t refused = 0, len = 78;
     uint64_t value = 77;
-    if (!patricia_cursor_seek(cursor, (const uint8_t *)from, strlen(from), common)) {
+    if (!is_set(cursor, of)) {
         refused++;
-        CHECK(patricia_cursor_seek(cursor, (const uint8_t *)from, strlen(from), common));
+        CHECK(is_set(cursor, of));
     }
     for (int at = 0; at < COUNT; at++) {
-        if (!is_ahead(has, ORDER[at], from, common))
+        if (!is_ahead(has, ORDER[at], of))
             continue;
         len = 78, value = 77;
         uint32_t result = patricia_cursor_next(cursor, map, array, sizeof array, &len, &value);
@@ -321,7 +336,7 @@ static size_t walked(patricia_map *map, const bool *has)
     uint32_t result = patricia_cursor_next(&cursor, map, array, sizeof array, &len, &value);
     size_t refused = is_entry(result, nearest(has, 0, 1), array, len, value);
     if (refused != 0)
-        refused += passed(map, &cursor, has, "", 0);
+        refused += passed(map, &cursor, has, (range){"", 0, NULL});
     patricia_cursor_free(&cursor);
     return refused;
 }
@@ -414,8 +429,10 @@ static size_t run(long number)
     refused += sought(&map, &iterator, has);
     is_as(&map, has);
     refused += neighbours(&map, has);
-    refused += walked(&map, has) + passed(&map, &cursor, has, "", 0);
-    refused += passed(&map, &cursor, has, "a longer", 8) + passed(&map, &cursor, has, "a", 0);
+    refused += walked(&map, has) + passed(&map, &cursor, has, (range){"", 0, NULL});
+    refused += passed(&map, &cursor, has, (range){"a longer", 8, NULL});
+    refused += passed(&map, &cursor, has, (range){"a", 0, NULL});
+    refused += passed(&map, &cursor, has, (range){"a", 0, "b"});
     refused += passed_in_blocks(&map, has);
     is_as(&map, has);
     refused += counted(&map, has, "a longer") + counted(&map, has, "");

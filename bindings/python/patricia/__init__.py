@@ -19,9 +19,9 @@ An iterator reads entries in blocks and gives the value that a key has when it c
 keys were added or removed since it was made it raises `RuntimeError`, as that of a `dict` does.
 
 As with `dict`, a single call that is written in C, such as `get` or an assignment to a key, needs
-no lock where threads share a map; what takes several calls does. A refused allocation is a
-`MemoryError`, and the map or set is as it was before the call; a call over many keys, as `update`,
-keeps what it did before.
+no lock where threads share a map; what takes several calls does. While many tree bytes are read, as
+in unpickling, other threads run. A refused allocation is a `MemoryError`, and the map or set is as
+it was before the call; a call over many keys, as `update`, keeps what it did before.
 """
 import copyreg
 import reprlib

@@ -173,8 +173,9 @@ PyObject *tree_clone_from(PyObject *self, PyObject *argument)
 
 /* Tree bytes */
 
-/* A guess of how many bytes a key takes, so that most trees are written once. */
-enum { BYTES_OF_A_KEY = 40 };
+/* A guess of how many bytes a key takes, so that most trees are written once; and how many bytes
+ * take longer to read than a thread should keep the others waiting. */
+enum { BYTES_OF_A_KEY = 40, MANY_BYTES = 1 << 16 };
 
 typedef uint32_t writer(const patricia_map *map, uint8_t *array, size_t size, size_t *len);
 typedef uint32_t reader(patricia_map *map, const uint8_t *bytes, size_t len,
@@ -235,6 +236,22 @@ static bool table_of(PyObject *values, object_table *objects)
     return true;
 }
 
+/* Reads tree bytes. While it reads many of them other threads run: nobody else has this map and
+ * these numbers yet, and a bytes object does not change. */
+static uint32_t read_bytes(reader *of_kind, PyObject *bytes, patricia_map *map,
+                           const uint64_t *numbers, size_t count, size_t *offset)
+{
+    const uint8_t *at = (const uint8_t *)PyBytes_AsString(bytes);
+    size_t len = (size_t)PyBytes_Size(bytes);
+    uint32_t result;
+    if (len < MANY_BYTES)
+        return of_kind(map, at, len, numbers, count, offset);
+    Py_BEGIN_ALLOW_THREADS
+    result = of_kind(map, at, len, numbers, count, offset);
+    Py_END_ALLOW_THREADS
+    return result;
+}
+
 /* Becomes what the tree bytes mean with so many values. Returns None, or (fault, offset), with None
  * for the offset where the fault has none. */
 static PyObject *read_from(tree_object *tree, reader *of_kind, PyObject *bytes, size_t count,
@@ -247,8 +264,7 @@ static PyObject *read_from(tree_object *tree, reader *of_kind, PyObject *bytes, 
         return PyErr_NoMemory();
     for (size_t i = 0; i < count; i++)
         numbers[i] = tree->is_set ? 0 : i;
-    uint32_t result = of_kind(&map, (const uint8_t *)PyBytes_AsString(bytes),
-                              (size_t)PyBytes_Size(bytes), numbers, count, &offset);
+    uint32_t result = read_bytes(of_kind, bytes, &map, numbers, count, &offset);
     PyMem_Free(numbers);
     if (result == PATRICIA_NO_MEMORY)
         return PyErr_NoMemory();

@@ -10,7 +10,6 @@ typedef struct {
     tree_object *tree; /* NULL at the end */
     size_t changes;
     int what;
-    key_bytes stop; /* the key at which it ends, or one that is NULL */
     patricia_cursor cursor;
     uint8_t *keys;
     size_t room;
@@ -27,7 +26,6 @@ static int walk_clear(PyObject *self)
     walk_object *walk = (walk_object *)self;
     tree_object *tree = walk->tree;
     walk->tree = NULL;
-    key_release(&walk->stop);
     Py_XDECREF(tree);
     return 0;
 }
@@ -49,7 +47,6 @@ static int walk_traverse(PyObject *self, visitproc visit, void *arg)
     if (types_are_visited)
         Py_VISIT(Py_TYPE(self));
     Py_VISIT(((walk_object *)self)->tree);
-    Py_VISIT(((walk_object *)self)->stop.kept);
     return 0;
 }
 
@@ -65,8 +62,18 @@ static bool make_room(walk_object *walk, size_t room)
     return true;
 }
 
-/* Makes an iterator whose cursor has ahead what `patricia_cursor_seek` says of the key. */
-static walk_object *walk_new(tree_object *tree, int what, const key_bytes *key, size_t common)
+/* Sets a cursor to the entries from a key on: those that come before a stop, where there is one,
+ * and else those whose key begins with the first `common` bytes of this one. */
+static bool seek(patricia_cursor *cursor, const key_bytes *start, size_t common,
+                 const key_bytes *stop)
+{
+    return stop == NULL
+               ? patricia_cursor_seek(cursor, start->at, start->len, common)
+               : patricia_cursor_seek_range(cursor, start->at, start->len, stop->at, stop->len);
+}
+
+static PyObject *walk_new(tree_object *tree, int what, const key_bytes *start, size_t common,
+                          const key_bytes *stop)
 {
     walk_object *walk = (walk_object *)PyType_GenericAlloc(walk_type, 0);
     if (walk == NULL)
@@ -74,14 +81,13 @@ static walk_object *walk_new(tree_object *tree, int what, const key_bytes *key, 
     walk->changes = tree->changes;
     walk->what = what;
     walk->most = FIRST_BLOCK;
-    if (!patricia_cursor_seek(&walk->cursor, key->at, key->len, common)) {
+    if (!seek(&walk->cursor, start, common, stop)) {
         Py_DECREF((PyObject *)walk);
-        PyErr_NoMemory();
-        return NULL;
+        return PyErr_NoMemory();
     }
     Py_INCREF((PyObject *)tree);
     walk->tree = tree;
-    return walk;
+    return (PyObject *)walk;
 }
 
 static uint32_t next_block(walk_object *walk, size_t *len)
@@ -115,15 +121,6 @@ static bool refill(walk_object *walk)
     return false;
 }
 
-static bool is_behind(const walk_object *walk, const uint8_t *key, size_t len)
-{
-    const key_bytes *stop = &walk->stop;
-    if (stop->at == NULL)
-        return false;
-    int order = memcmp(key, stop->at, len < stop->len ? len : stop->len);
-    return order > 0 || (order == 0 && len >= stop->len);
-}
-
 static PyObject *walk_next(PyObject *self)
 {
     walk_object *walk = (walk_object *)self;
@@ -138,10 +135,6 @@ static PyObject *walk_next(PyObject *self)
         return NULL;
     const uint8_t *key = walk->keys + walk->offset;
     size_t len = walk->lens[walk->at];
-    if (is_behind(walk, key, len)) {
-        walk_clear(self);
-        return NULL;
-    }
     uint64_t number = walk->numbers[walk->at++];
     walk->offset += len;
     if (walk->what == WALK_KEYS)
@@ -152,7 +145,7 @@ static PyObject *walk_next(PyObject *self)
 
 PyObject *walk_over(tree_object *tree, int what, const key_bytes *prefix)
 {
-    return (PyObject *)walk_new(tree, what, prefix, prefix->len);
+    return walk_new(tree, what, prefix, prefix->len, NULL);
 }
 
 PyObject *walk_keys(PyObject *self)
@@ -187,16 +180,12 @@ PyObject *tree_between(PyObject *self, PyObject *args)
     if (!PyArg_ParseTuple(args, "OO:between", &from, &to) ||
         (from != Py_None && !key_read(tree, from, &start)))
         return NULL;
-    walk_object *walk = NULL;
+    PyObject *walk = NULL;
     if (to == Py_None || key_read(tree, to, &stop))
-        walk = walk_new(tree, WALK_ENTRIES, &start, 0);
-    if (walk != NULL) {
-        walk->stop = stop;
-        stop.kept = NULL;
-    }
+        walk = walk_new(tree, WALK_ENTRIES, &start, 0, to == Py_None ? NULL : &stop);
     key_release(&start);
     key_release(&stop);
-    return (PyObject *)walk;
+    return walk;
 }
 
 static PyObject *walk_iter(PyObject *self)

@@ -40,7 +40,32 @@ impl Ahead {
     /// Before the first key that is this one or comes after it, among those that begin with the
     /// first `common` bytes of this one.
     pub(crate) fn new(key: &[u8], common: usize) -> Self {
-        let mut ahead = Ahead {
+        let mut ahead = Ahead::all();
+        // SAFETY: the place is empty; the key is a slice.
+        if !unsafe { patricia_cursor_seek(&mut ahead.place, key.as_ptr(), key.len(), common) } {
+            out_of_memory()
+        }
+        ahead
+    }
+
+    /// Before the first key that is this one or comes after it, among those that come before the
+    /// end.
+    pub(crate) fn range(start: &[u8], end: &[u8]) -> Self {
+        let mut ahead = Ahead::all();
+        let (at, len) = (start.as_ptr(), start.len());
+        // SAFETY: the place is empty; both keys are slices.
+        let done = unsafe {
+            patricia_cursor_seek_range(&mut ahead.place, at, len, end.as_ptr(), end.len())
+        };
+        if !done {
+            out_of_memory()
+        }
+        ahead
+    }
+
+    /// Before the first of all keys.
+    fn all() -> Self {
+        Ahead {
             place: EMPTY,
             keys: vec![0; FIRST_BLOCK * ROOM_FOR_A_KEY],
             lens: Vec::new(),
@@ -49,12 +74,7 @@ impl Ahead {
             passed: 0,
             start: 0,
             end: 0,
-        };
-        // SAFETY: the place is empty; the key is a slice.
-        if !unsafe { patricia_cursor_seek(&mut ahead.place, key.as_ptr(), key.len(), common) } {
-            out_of_memory()
         }
-        ahead
     }
 
     /// The key that was passed last.

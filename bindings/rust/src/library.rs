@@ -126,6 +126,13 @@ extern "C" {
         len: usize,
         common: usize,
     ) -> bool;
+    pub(crate) fn patricia_cursor_seek_range(
+        cursor: *mut CursorPlace,
+        start: *const u8,
+        start_len: usize,
+        end: *const u8,
+        end_len: usize,
+    ) -> bool;
     pub(crate) fn patricia_cursor_next_many(
         cursor: *mut CursorPlace,
         map: *const MapPlace,

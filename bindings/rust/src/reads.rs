@@ -108,6 +108,13 @@ macro_rules! reads_map {
                 Cursor::new(self.walk(key.as_bytes(), 0))
             }
 
+            /// Returns a cursor before the first entry from a key on, which ends before another key;
+            /// neither need be there.
+            pub fn cursor_range(&self, start: &K::Borrowed, end: &K::Borrowed) -> Cursor<'_, K, V> {
+                let ahead = Ahead::range(start.as_bytes(), end.as_bytes());
+                Cursor::new(Walk::new(self.source(), &self.values, ahead))
+            }
+
             /// A walk over the entries from a key on that begin with the first `common` bytes of
             /// it.
             fn walk(&self, key: &[u8], common: usize) -> Walk<'_, V> {

@@ -167,6 +167,12 @@ fn cursors() {
     assert_eq!(from.next_entry(), Some(("ab".to_string(), &2)));
     assert_eq!(from.next_entry(), Some(("b".to_string(), &3)));
     assert_eq!(from.next_entry(), None);
+    let mut range = map.cursor_range("a", "b");
+    assert_eq!(range.next_entry(), Some(("a".to_string(), &1)));
+    assert_eq!(range.next_entry(), Some(("ab".to_string(), &2)));
+    assert_eq!(range.next_entry(), None);
+    assert_eq!(map.cursor_range("b", "a").next_entry(), None);
+    assert_eq!(map.cursor_range("", "").next_entry(), None);
     assert_eq!(map.iter_prefix("a").count(), 2);
     assert_eq!(map.iter_prefix("c").next(), None);
 }

@@ -44,6 +44,8 @@ fn read(map: &SharedMap<String, u32>, entries: &[(String, u32)]) {
     assert_eq!(map.count_prefix("01"), map.iter_prefix("01").count());
     let mut cursor = map.cursor_from("00021");
     assert!(cursor.advance() && cursor.key() == Some("00021"));
+    let mut range = map.cursor_range("00021", "00022");
+    assert!(range.advance() && range.key() == Some("00021") && !range.advance());
     assert_eq!(
         map.first_key_value().map(|e| e.0),
         entries.first().map(|e| e.0.clone())

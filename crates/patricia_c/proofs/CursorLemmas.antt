@@ -17,15 +17,16 @@ use Rattle.patricia_keys.proofs.KeyLemmas.{Begins-trans, key_cmp-irreflexive}
 use Rattle.patricia_tree.specs.Prefixes.{begins, under}
 use Rattle.patricia_tree.specs.Ranges.{from}
 use Rattle.patricia_tree.specs.Cursors.{after}
+use Rattle.patricia_tree.specs.Points.{Has}
 use Rattle.patricia_model.proofs.FilterLemmas.{has_filter}
 use Rattle.patricia_model.proofs.ListLemmas.{key_cmp-equal, key_cmp-extends}
 use Rattle.patricia_model.proofs.PrefixLemmas.{begins_from, begins_is, not_above, under_none, under_empty}
-use Rattle.patricia_model.proofs.RangeLemmas.{IsFrom, from_below, from_sorted_entries, from_start, is_less}
+use Rattle.patricia_model.proofs.RangeLemmas.{IsFrom, before_first, from_below, from_sorted_entries, from_start, is_less}
 use Rattle.patricia_model.proofs.SiblingsLemmas.{AllKeys}
 use Rattle.patricia_model.proofs.TestLemmas.{first_part, second_part, less_so}
-use Rattle.patricia_c.specs.Cursors.{ahead_of, beyond}
+use Rattle.patricia_c.specs.Cursors.{ahead_of, beyond, end_of, until}
 use Rattle.patricia_c.specs.Internal.Filling.{IsFullFirst, IsNoneFirst}
-use Rattle.std.specs.Option.{option_map}
+use Rattle.std.specs.Option.{option_map, option_map_or}
 use Rattle.patricia_c.specs.declared.cursor_pointer.Position.{Position}
 
 -- where one key is greater, the other one is less
@@ -122,29 +123,71 @@ module _ {V : Type 0} where
   pub under_taken : (n : ℕ) (entries : List (List ℕ × V)) → under (take n []) (from [] entries) ≡ entries
   under_taken n entries = ap (λ p. under p (from [] entries)) (take_all n [] (omega arith)) ∙ under_start entries
 
+-- the entries before an end are in order
+until_sorted : (end : Option (List ℕ)) (es : List (List ℕ × ℕ)) → T (is_sorted key_cmp es)
+    → T (is_sorted key_cmp (until end es))
+until_sorted None es sorted = sorted
+until_sorted (Some end) es sorted = is_sorted-where_key key_cmp (λ q. is_lt (key_cmp q end)) es sorted
+
+-- and are among all of them
+until_has : (end : Option (List ℕ)) (es : List (List ℕ × ℕ)) (e : List ℕ × ℕ) → Has (until end es) e → Has es e
+until_has None es e has = has
+until_has (Some end) es e has = (has_filter (λ x. is_lt (key_cmp x.0 end)) es e has).0
+
+until_empty : (end : Option (List ℕ)) → until end [] ≡ []
+until_empty None = refl
+until_empty (Some end) = refl
+
+-- where there is no entry, none is before an end
+pub until_none : (end : Option (List ℕ)) (es : List (List ℕ × ℕ)) → None ≡ slice_get es 0
+    → None ≡ slice_get (until end es) 0
+until_none end [] none = ap (λ (l : List (List ℕ × ℕ)). slice_get l 0) (sym (until_empty end))
+until_none end (x ∷ es) none = absurd (cc)
+
+-- the first entry is the first before an end, where its key is
+pub until_some : (end : Option (List ℕ)) (es : List (List ℕ × ℕ)) (e : List ℕ × ℕ) → Some e ≡ slice_get es 0
+    → option_map_or (λ q. is_lt (key_cmp e.0 q)) end true ≡ true
+    → Some e ≡ slice_get (until end es) 0
+until_some end [] e some is = absurd (cc)
+until_some None (x ∷ es) e some is = some
+until_some (Some end) (x ∷ es) e some is = let same : e ≡ x = cc in rw (← same, is) refl
+
+-- and else none is
+pub until_other : (end : Option (List ℕ)) (es : List (List ℕ × ℕ)) (e : List ℕ × ℕ) → T (is_sorted key_cmp es)
+    → Some e ≡ slice_get es 0 → option_map_or (λ q. is_lt (key_cmp e.0 q)) end true ≡ false
+    → None ≡ slice_get (until end es) 0
+until_other end [] e sorted some is = absurd (cc)
+until_other None (x ∷ es) e sorted some is = absurd (cc)
+until_other (Some end) (x ∷ es) e sorted some is =
+    let same : e ≡ x = cc in
+    ap (λ (l : List (List ℕ × ℕ)). slice_get l 0) (sym (before_first end x es sorted (rw (← same) is)))
+
 -- the entries from a place on are in order
-beyond_sorted : (passed : Bool) (key : List ℕ) (es : List (List ℕ × ℕ)) → T (is_sorted key_cmp es)
+pub beyond_sorted : (passed : Bool) (key : List ℕ) (es : List (List ℕ × ℕ)) → T (is_sorted key_cmp es)
     → T (is_sorted key_cmp (beyond passed key es))
 beyond_sorted true key es sorted = is_sorted-where_key key_cmp (λ q. is_lt (key_cmp key q)) es sorted
 beyond_sorted false key es sorted = from_sorted_entries key es sorted
 
--- and the first of them is not before the key
-beyond_from : (passed : Bool) (key : List ℕ) (es : List (List ℕ × ℕ)) (e : List ℕ × ℕ)
-    (rest : List (List ℕ × ℕ)) → beyond passed key es ≡ e ∷ rest → IsFrom key e.0
-beyond_from true key es e rest is =
-    from_below key e.0 (is_less _ (has_filter (λ x. is_lt (key_cmp key x.0)) es e (rw is (inl refl))).1)
-beyond_from false key es e rest is =
-    by (is_lt (key_cmp e.0 key)) refl (has_filter (λ x. not (is_lt (key_cmp x.0 key))) es e (rw is (inl refl))).1
+-- and none of them is before the key
+beyond_has : (passed : Bool) (key : List ℕ) (es : List (List ℕ × ℕ)) (e : List ℕ × ℕ)
+    → Has (beyond passed key es) e → IsFrom key e.0
+beyond_has true key es e has =
+    from_below key e.0 (is_less _ (has_filter (λ x. is_lt (key_cmp key x.0)) es e has).1)
+beyond_has false key es e has =
+    by (is_lt (key_cmp e.0 key)) refl (has_filter (λ x. not (is_lt (key_cmp x.0 key))) es e has).1
   where
     by : (b : Bool) → is_lt (key_cmp e.0 key) ≡ b → not (is_lt (key_cmp e.0 key)) ≡ true → IsFrom key e.0
     by true f h = absurd (let no = rw f at h in cc)
     by false f h = f
 
-module _ (passed : Bool) (n : ℕ) (key : List ℕ) (es : List (List ℕ × ℕ)) (sorted : T (is_sorted key_cmp es)) where
-  -- where no entry is beyond the place, none is under the prefix
-  pub ahead_none : None ≡ slice_get (beyond passed key es) 0
-      → None ≡ slice_get (under (take n key) (beyond passed key es)) 0
-  ahead_none none = by (beyond passed key es) none
+module _ (end : Option (List ℕ)) (passed : Bool) (n : ℕ) (key : List ℕ) (es : List (List ℕ × ℕ)) (sorted : T (is_sorted key_cmp es)) where
+  -- the entries from the place on that come before the end
+  abbrev there : List (List ℕ × ℕ)
+  there = until end (beyond passed key es)
+
+  -- where there is none, none is under the prefix
+  pub ahead_none : None ≡ slice_get there 0 → None ≡ slice_get (under (take n key) there) 0
+  ahead_none none = by there none
     where
       by : (entries : List (List ℕ × ℕ)) → None ≡ slice_get entries 0
           → None ≡ slice_get (under (take n key) entries) 0
@@ -152,10 +195,9 @@ module _ (passed : Bool) (n : ℕ) (key : List ℕ) (es : List (List ℕ × ℕ)
       by (e ∷ entries) none = absurd (cc)
 
   -- the first of them is the first under the prefix, where it is under it
-  pub ahead_some : (e : List ℕ × ℕ) → Some e ≡ slice_get (beyond passed key es) 0
-      → begins (take n key) e.0 ≡ true
-      → Some e ≡ slice_get (under (take n key) (beyond passed key es)) 0
-  ahead_some e some is = by (beyond passed key es) some
+  pub ahead_some : (e : List ℕ × ℕ) → Some e ≡ slice_get there 0 → begins (take n key) e.0 ≡ true
+      → Some e ≡ slice_get (under (take n key) there) 0
+  ahead_some e some is = by there some
     where
       by : (entries : List (List ℕ × ℕ)) → Some e ≡ slice_get entries 0
           → Some e ≡ slice_get (under (take n key) entries) 0
@@ -163,19 +205,19 @@ module _ (passed : Bool) (n : ℕ) (key : List ℕ) (es : List (List ℕ × ℕ)
       by (x ∷ entries) some = let same : e ≡ x = cc in rw (← same, is) refl
 
   -- and else none is
-  pub ahead_other : (e : List ℕ × ℕ) → Some e ≡ slice_get (beyond passed key es) 0
-      → begins (take n key) e.0 ≡ false
-      → None ≡ slice_get (under (take n key) (beyond passed key es)) 0
-  ahead_other e some other = by (beyond passed key es) refl some
+  pub ahead_other : (e : List ℕ × ℕ) → Some e ≡ slice_get there 0 → begins (take n key) e.0 ≡ false
+      → None ≡ slice_get (under (take n key) there) 0
+  ahead_other e some other = by there refl some
     where
-      by : (entries : List (List ℕ × ℕ)) → beyond passed key es ≡ entries → Some e ≡ slice_get entries 0
+      by : (entries : List (List ℕ × ℕ)) → there ≡ entries → Some e ≡ slice_get entries 0
           → None ≡ slice_get (under (take n key) entries) 0
       by [] is some = absurd (cc)
       by (x ∷ entries) is some =
           let same : e ≡ x = cc in
           let whole = take-append-drop n key in
-          let bound = subst (λ k. IsFrom k x.0) (sym whole) (beyond_from passed key es x entries is) in
-          let order = subst (λ l. T (is_sorted key_cmp l)) is (beyond_sorted passed key es sorted) in
+          let has = until_has end (beyond passed key es) x (rw is (inl refl)) in
+          let bound = subst (λ k. IsFrom k x.0) (sym whole) (beyond_has passed key es x has) in
+          let order = subst (λ l. T (is_sorted key_cmp l)) is (until_sorted end _ (beyond_sorted passed key es sorted)) in
           let none = none_under (take n key) (drop n key) x entries order bound (rw (← same) other) in
           rw none refl
 
@@ -186,7 +228,8 @@ ahead_empty o entries none = subst (λ (l : List (List ℕ × ℕ)). slice_get (
   where
     by : (o : Option Position) → slice_get (ahead_of o []) 0 ≡ None
     by None = refl
-    by (Some p) = ap (λ (l : List (List ℕ × ℕ)). slice_get (under (take p.common p.key.items) l) 0) (past p.passed p.key.items)
+    by (Some p) = ap (λ (l : List (List ℕ × ℕ)). slice_get (under (take p.common p.key.items) l) 0)
+        (ap (until (end_of (Some p))) (past p.passed p.key.items) ∙ until_empty (end_of (Some p)))
       where
         past : (passed : Bool) (key : List ℕ) → beyond passed key [] ≡ []
         past true key = refl
@@ -223,19 +266,19 @@ pub from_next : {V : Type 0} (key : List ℕ) (entries : List (List ℕ × V))
 from_next key [] = refl
 from_next key (e ∷ es) = ap₂ (λ b l. cond b (e ∷ l) l) (next_key key e.0) (from_next key es)
 
-module _ (passed : Bool) (n : ℕ) (key : List ℕ) (es : List (List ℕ × ℕ)) (sorted : T (is_sorted key_cmp es)) where
-  -- where the first entry beyond the place is not under the prefix, or there is none, none is under it
-  pub ahead_unlike : (left : List (List ℕ × ℕ)) → left ≡ beyond passed key es → IsNoneFirst (take n key) left
-      → slice_get (under (take n key) (beyond passed key es)) 0 ≡ None
-  ahead_unlike [] is none = sym (ahead_none passed n key es sorted (ap (λ (l : List (List ℕ × ℕ)). slice_get l 0) is))
-  ahead_unlike (x ∷ left) is none = sym (ahead_other passed n key es sorted x (ap (λ (l : List (List ℕ × ℕ)). slice_get l 0) is) none)
+module _ (end : Option (List ℕ)) (passed : Bool) (n : ℕ) (key : List ℕ) (es : List (List ℕ × ℕ)) (sorted : T (is_sorted key_cmp es)) where
+  -- where the first entry from the place on is not under the prefix, or there is none, none is under it
+  pub ahead_unlike : (left : List (List ℕ × ℕ)) → left ≡ until end (beyond passed key es) → IsNoneFirst (take n key) left
+      → slice_get (under (take n key) (until end (beyond passed key es))) 0 ≡ None
+  ahead_unlike [] is none = sym (ahead_none end passed n key es sorted (ap (λ (l : List (List ℕ × ℕ)). slice_get l 0) is))
+  ahead_unlike (x ∷ left) is none = sym (ahead_other end passed n key es sorted x (ap (λ (l : List (List ℕ × ℕ)). slice_get l 0) is) none)
 
   -- where it is under the prefix it is the first there
-  pub ahead_like : (left : List (List ℕ × ℕ)) (m r l v : ℕ) → left ≡ beyond passed key es → IsFullFirst (take n key) left m r l v
-      → option_map (λ e. length e.0) (slice_get (under (take n key) (beyond passed key es)) 0) ≡ Some m
+  pub ahead_like : (left : List (List ℕ × ℕ)) (m r l v : ℕ) → left ≡ until end (beyond passed key es) → IsFullFirst (take n key) left m r l v
+      → option_map (λ e. length e.0) (slice_get (under (take n key) (until end (beyond passed key es))) 0) ≡ Some m
   ahead_like [] m r l v is full = absurd full
   ahead_like (x ∷ left) m r l v is full =
-      ap (option_map (λ e. length e.0)) (sym (ahead_some passed n key es sorted x (ap (λ (l : List (List ℕ × ℕ)). slice_get l 0) is) full.0)) ∙ ap Some full.1
+      ap (option_map (λ e. length e.0)) (sym (ahead_some end passed n key es sorted x (ap (λ (l : List (List ℕ × ℕ)). slice_get l 0) is) full.0)) ∙ ap Some full.1
 
 -- an array has no room for it then
 pub no_room : (p : List ℕ) (left : List (List ℕ × ℕ)) (m r l v : ℕ) → IsFullFirst p left m r l v → (r < m) ⊎ (l ≡ 0) ⊎ (v ≡ 0)

@@ -1,14 +1,25 @@
 -- The entries that a cursor in a place of C has ahead.
 use Rattle.std.specs.Prelude.{ℕ, Bool, true, false, List, [], take, Option, None, Some}
+use Rattle.std.specs.Option.{option_map}
 use Rattle.patricia_tree.specs.Cursors.{after}
 use Rattle.patricia_tree.specs.Prefixes.{under}
-use Rattle.patricia_tree.specs.Ranges.{from}
+use Rattle.patricia_tree.specs.Ranges.{before, from}
 use Rattle.patricia_c.specs.declared.cursor_pointer.Position.{Position}
 
 -- the bytes that the keys of its entries begin with
 abbrev pub prefix_of : Option Position → List ℕ
 prefix_of None = []
 prefix_of (Some position) = take position.common position.key.items
+
+-- the key that its entries come before, if there is one
+abbrev pub end_of : Option Position → Option (List ℕ)
+end_of None = None
+end_of (Some position) = option_map (λ key. key.items) position.end
+
+-- the entries that come before an end; all entries where there is none
+abbrev pub until : Option (List ℕ) → List (List ℕ × ℕ) → List (List ℕ × ℕ)
+until None entries = entries
+until (Some end) entries = before end entries
 
 -- the entries that come after a key that was passed, and else those from it on
 abbrev pub beyond : Bool → List ℕ → List (List ℕ × ℕ) → List (List ℕ × ℕ)
@@ -19,5 +30,5 @@ beyond false key entries = from key entries
 abbrev pub ahead_of : Option Position → List (List ℕ × ℕ) → List (List ℕ × ℕ)
 ahead_of None entries = entries
 ahead_of (Some position) entries =
-    under (take position.common position.key.items)
-    (beyond position.passed position.key.items entries)
+    under (take position.common position.key.items) (until (end_of (Some position))
+    (beyond position.passed position.key.items entries))

@@ -4,11 +4,11 @@ ghost use Rattle.std.specs.Prelude.{◌⊎◌, ◌+◌, Some, None, Ok, true, fa
 ghost use Rattle.std.specs.List.{last_or};
 ghost use Rattle.std.specs.Option.{option_map};
 ghost use Rattle.std.specs.FinMap as map;
-ghost use Rattle.patricia_tree.specs.Cursors.{after};
+ghost use Rattle.patricia_tree.specs.Cursors.{after, before_entries};
 ghost use Rattle.patricia_tree.specs.Prefixes.{begins, under};
 ghost use Rattle.patricia_tree.specs.Ranges.{from};
 ghost use Rattle.patricia_c.specs.Blocks.{WritesBlock};
-ghost use Rattle.patricia_c.specs.Cursors.{ahead_of, beyond, prefix_of};
+ghost use Rattle.patricia_c.specs.Cursors.{ahead_of, beyond, end_of, prefix_of, until};
 ghost use Rattle.patricia_c.specs.Maps.{map_of};
 ghost use Rattle.patricia_c.specs.Internal.Filling.{AreWritten, Fills, HasNoRoom};
 ghost use Rattle.patricia_c.specs.Internal.Filling.{IsFullFirst, IsNoneFirst};
@@ -116,6 +116,49 @@ fn start(alloc: Global, position: &Position) -> Result<Vec<u8>, AllocError>
     Ok(key)
 }
 
+// A walk over the entries from a key on that come before the end of a cursor.
+fn walk_until<'a>(
+    stored: &'a StoredMap,
+    start: &'a [u8],
+    position: &'a Position,
+) -> RangeReadCursor<'a, &'a [u8], u64>
+    ensures { result ≡ before_entries
+        (until (end_of (Some position.now)) (from start.now (map.entries stored.now.map))) }
+{
+    match &position.end {
+        Some(end) => stored.map.cursor_range(start, end.as_slice()),
+        None => stored.map.cursor_from(start),
+    }
+}
+
+// Writes the entries from where a cursor stands on, up to its end, to the first one that does not
+// begin with its prefix, or to the first that has no room: then it returns the length of its key.
+fn write_ahead(
+    alloc: Global,
+    stored: &StoredMap,
+    position: &Position,
+    filled: &mut Filled,
+    room: &mut [u8],
+    lens: &mut [usize],
+    values: &mut [u64],
+) -> Result<Option<usize>, AllocError>
+    requires { AreWritten [] filled.old room.old lens.old values.old room.old lens.old values.old }
+    ensures fills { Fills (prefix_of (Some position.now)) (until (end_of (Some position.now))
+        (beyond position.now.passed position.now.key.items (map.entries stored.now.map)))
+        filled.new room.new lens.new values.new room.old lens.old values.old }
+    ensures none { result ≡ Ok None → filled.new.count ≡ 0 →
+        IsNoneFirst (prefix_of (Some position.now)) (until (end_of (Some position.now))
+        (beyond position.now.passed position.now.key.items (map.entries stored.now.map))) }
+    ensures full { (n : ℕ) → result ≡ Ok (Some n) → filled.new.count ≡ 0 →
+        IsFullFirst (prefix_of (Some position.now)) (until (end_of (Some position.now))
+        (beyond position.now.passed position.now.key.items (map.entries stored.now.map))) n
+        (length room.old) (length lens.old) (length values.old) }
+{
+    let key = start(alloc, position)?;
+    let mut walk = walk_until(stored, key.as_slice(), position);
+    write_entries(&mut walk, position.prefix(), filled, room, lens, values)
+}
+
 // What is returned where no entry is written.
 fn none_written(ended: Result<Option<usize>, AllocError>, len: &mut usize) -> u32
     ensures end { result ≡ 0 → ended ≡ Ok None }
@@ -153,9 +196,10 @@ fn fill(
         count.new len.new room.new lens.new values.new room.old lens.old values.old }
     ensures passed { result ≡ 1 → (entries : List (List ℕ × ℕ)) →
         ahead_of (Some position.new) entries ≡ under (prefix_of (Some position.old))
-        (after (option_map (λ e. e.0) (last_or None
-        (take count.new (ahead_of (Some position.old) (map.entries stored.now.map))))) entries) }
+        (until (end_of (Some position.old)) (after (option_map (λ e. e.0) (last_or None
+        (take count.new (ahead_of (Some position.old) (map.entries stored.now.map))))) entries)) }
     ensures prefix { prefix_of (Some position.new) ≡ prefix_of (Some position.old) }
+    ensures end_key { end_of (Some position.new) ≡ end_of (Some position.old) }
     ensures longer { result ≡ 4 →
         option_map (λ e. length e.0) (slice_get (ahead_of (Some position.old)
         (map.entries stored.now.map)) 0) ≡ Some len.new }
@@ -171,23 +215,12 @@ fn fill(
     ensures codes { result ≤ 4 }
     ensures not_three { result ≢ 3 }
 {
-    let Ok(key) = start(alloc, position) else {
-        return NO_MEMORY;
-    };
-    let mut walk = stored.map.cursor_from(key.as_slice());
     let mut filled = Filled {
         count: 0,
         used: 0,
         last_at: 0,
     };
-    let ended = write_entries(
-        &mut walk,
-        position.prefix(),
-        &mut filled,
-        room,
-        lens,
-        values,
-    );
+    let ended = write_ahead(alloc, stored, position, &mut filled, room, lens, values);
     if filled.count == 0 {
         return none_written(ended, len);
     }
@@ -218,10 +251,11 @@ pub(crate) fn block_ahead(
         count.new len.new room.new lens.new values.new room.old lens.old values.old }
     ensures passed { result ≡ 1 → (entries : List (List ℕ × ℕ)) →
         ahead_of cursor.new.pointer.stored entries ≡ under (prefix_of cursor.old.pointer.stored)
-        (after (option_map (λ e. e.0) (last_or None
+        (until (end_of cursor.old.pointer.stored) (after (option_map (λ e. e.0) (last_or None
         (take count.new (ahead_of cursor.old.pointer.stored
-        (map.entries stored.now.map))))) entries) }
+        (map.entries stored.now.map))))) entries)) }
     ensures prefix { prefix_of cursor.new.pointer.stored ≡ prefix_of cursor.old.pointer.stored }
+    ensures end_key { end_of cursor.new.pointer.stored ≡ end_of cursor.old.pointer.stored }
     ensures longer { result ≡ 4 →
         option_map (λ e. length e.0) (slice_get (ahead_of cursor.old.pointer.stored
         (map.entries stored.now.map)) 0) ≡ Some len.new }
@@ -277,10 +311,11 @@ pub extern "C" fn patricia_cursor_next_many(
         count.new len.new room.new lens.new values.new room.old lens.old values.old }
     ensures passed { result ≡ 1 → (entries : List (List ℕ × ℕ)) →
         ahead_of cursor.new.pointer.stored entries ≡ under (prefix_of cursor.old.pointer.stored)
-        (after (option_map (λ e. e.0) (last_or None
+        (until (end_of cursor.old.pointer.stored) (after (option_map (λ e. e.0) (last_or None
         (take count.new (ahead_of cursor.old.pointer.stored (map.entries
-        (map_of at.old.pointer.stored)))))) entries) }
+        (map_of at.old.pointer.stored)))))) entries)) }
     ensures prefix { prefix_of cursor.new.pointer.stored ≡ prefix_of cursor.old.pointer.stored }
+    ensures end_key { end_of cursor.new.pointer.stored ≡ end_of cursor.old.pointer.stored }
     ensures longer { result ≡ 4 →
         option_map (λ e. length e.0) (slice_get (ahead_of cursor.old.pointer.stored
         (map.entries (map_of at.old.pointer.stored))) 0) ≡ Some len.new }

@@ -1,7 +1,7 @@
 //! A place of C that holds a cursor.
 ghost use Rattle.std.specs.Prelude.{◌≡◌, ℕ, List, Some, None, IfOk, OnErr};
 ghost use Rattle.std.specs.Option.{option_map};
-ghost use Rattle.patricia_c.specs.Cursors.{ahead_of, prefix_of};
+ghost use Rattle.patricia_c.specs.Cursors.{ahead_of, end_of, prefix_of};
 ghost use Rattle.patricia_c.specs.Internal.Full.{is_full};
 
 use crate::cursor_pointer::{CursorPointer, Position};
@@ -85,6 +85,8 @@ impl CursorPlace {
             ahead_of (Some b.value) entries ≡ ahead_of self.old.pointer.stored entries) }
         ensures prefix { IfOk result (λ b.
             prefix_of (Some b.value) ≡ prefix_of self.old.pointer.stored) }
+        ensures end_key { IfOk result (λ b.
+            end_of (Some b.value) ≡ end_of self.old.pointer.stored) }
         ensures err { OnErr result (self.new.pointer.stored ≡ self.old.pointer.stored) }
     {
         match self.take() {
@@ -94,6 +96,7 @@ impl CursorPlace {
                     key: Vec::new(alloc),
                     common: 0,
                     passed: false,
+                    end: None,
                 };
                 Ok(Box::new(alloc, position)?)
             }

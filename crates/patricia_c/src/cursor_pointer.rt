@@ -17,6 +17,8 @@ pub struct Position {
     pub(crate) common: usize,
     /// Whether it has passed that key.
     pub(crate) passed: bool,
+    /// The key that the others come before, if there is one.
+    pub(crate) end: Option<Vec<u8>>,
 }
 
 /// A position on the heap, or none. C sees a pointer.

@@ -1,13 +1,15 @@
-//! Cursors. A cursor has the last key alone, and asks the map for the next entry at each step, so
-//! the map may change in between.
+//! Cursors. A cursor has the last key and maybe an end, and asks the map for the next entry at each
+//! step, so the map may change in between.
 ghost use Rattle.std.specs.Prelude.{◌≡◌, ◌≢◌, ◌≤◌, ◌<◌, ℕ, List, [], drop, length, take, slice_get};
 ghost use Rattle.std.specs.Prelude.{Some, None, true, false, IfOk};
-ghost use Rattle.std.specs.Option.{option_map};
+ghost use Rattle.std.specs.Option.{option_map, option_map_or};
+ghost use Rattle.std.specs.Ordering.{is_lt};
 ghost use Rattle.std.specs.FinMap as map;
 ghost use Rattle.patricia_tree.specs.Cursors.{after};
+ghost use Rattle.patricia_tree.specs.Keys.{key_cmp};
 ghost use Rattle.patricia_tree.specs.Prefixes.{begins, under};
 ghost use Rattle.patricia_tree.specs.Ranges.{from};
-ghost use Rattle.patricia_c.specs.Cursors.{ahead_of, beyond, prefix_of};
+ghost use Rattle.patricia_c.specs.Cursors.{ahead_of, beyond, end_of, prefix_of, until};
 ghost use Rattle.patricia_c.specs.Maps.{map_of};
 
 use crate::cursor_place::CursorPlace;
@@ -17,6 +19,7 @@ use crate::map_place::MapPlace;
 use crate::map_pointer::StoredMap;
 use crate::room::copy_to;
 use std::alloc::{AllocError, Global};
+use std::cmp::Ordering;
 
 /// No entry is ahead.
 pub(crate) const END: u32 = 0;
@@ -43,12 +46,25 @@ impl Position {
     pub(crate) fn pass(&mut self, key: Vec<u8>)
         requires { begins (prefix_of (Some self.old)) key.items ≡ true }
         ensures ahead { (entries : List (List ℕ × ℕ)) → ahead_of (Some self.new) entries
-            ≡ under (prefix_of (Some self.old)) (after (Some key.items) entries) }
+            ≡ under (prefix_of (Some self.old))
+            (until (end_of (Some self.old)) (after (Some key.items) entries)) }
         ensures prefix { prefix_of (Some self.new) ≡ prefix_of (Some self.old) }
+        ensures end_key { end_of (Some self.new) ≡ end_of (Some self.old) }
     {
         self.common = self.prefix().len();
         self.key = key;
         self.passed = true;
+    }
+
+    // Whether a key comes before the end, where there is one.
+    fn is_before_end(&self, key: &[u8]) -> bool
+        ensures { result
+            ≡ option_map_or (λ end. is_lt (key_cmp key.now end)) (end_of (Some self.now)) true }
+    {
+        match &self.end {
+            Some(end) => key.cmp(end.as_slice()) == Ordering::Less,
+            None => true,
+        }
     }
 }
 
@@ -71,6 +87,26 @@ fn first_beyond(
     }
 }
 
+// A copy of the first entry from where a cursor stands on that comes before its end.
+fn first_until(
+    stored: &StoredMap,
+    position: &Position,
+) -> Result<Option<(Vec<u8>, u64)>, AllocError>
+    ensures { IfOk result (λ entry. option_map (λ e. (e.0.items, e.1)) entry
+        ≡ slice_get (until (end_of (Some position.now))
+        (beyond position.now.passed position.now.key.items (map.entries stored.now.map))) 0) }
+{
+    let key = position.key.as_slice();
+    let Some((next, value)) = first_beyond(stored, key, position.passed)? else {
+        return Ok(None);
+    };
+    if position.is_before_end(next.as_slice()) {
+        Ok(Some((next, value)))
+    } else {
+        Ok(None)
+    }
+}
+
 // A copy of the first entry that a cursor has ahead.
 fn first_ahead(
     stored: &StoredMap,
@@ -79,8 +115,7 @@ fn first_ahead(
     ensures { IfOk result (λ entry. option_map (λ e. (e.0.items, e.1)) entry
         ≡ slice_get (ahead_of (Some position.now) (map.entries stored.now.map)) 0) }
 {
-    let key = position.key.as_slice();
-    let Some((next, value)) = first_beyond(stored, key, position.passed)? else {
+    let Some((next, value)) = first_until(stored, position)? else {
         return Ok(None);
     };
     if next.as_slice().starts_with(position.prefix()) {
@@ -106,6 +141,7 @@ pub extern "C" fn patricia_cursor_seek(
     ensures all { result ≡ true → length key.now ≤ common → (entries : List (List ℕ × ℕ)) →
         ahead_of cursor.new.pointer.stored entries ≡ under key.now entries }
     ensures prefix { result ≡ true → prefix_of cursor.new.pointer.stored ≡ take common key.now }
+    ensures end_key { result ≡ true → end_of cursor.new.pointer.stored ≡ None }
     ensures refused { result ≡ false → cursor.new.pointer.stored ≡ cursor.old.pointer.stored }
     ensures refused_nonempty { result ≡ false → key.now ≢ [] }
 {
@@ -120,6 +156,7 @@ pub extern "C" fn patricia_cursor_seek(
         key,
         common,
         passed: false,
+        end: None,
     };
     match Box::new(alloc, position) {
         Ok(stored) => {
@@ -148,8 +185,10 @@ fn step(
     ensures behind { result ≡ 1 → drop len.new room.new ≡ drop len.new room.old }
     ensures passed { result ≡ 1 → (entries : List (List ℕ × ℕ)) →
         ahead_of (Some position.new) entries
-        ≡ under (prefix_of (Some position.old)) (after (Some (take len.new room.new)) entries) }
+        ≡ under (prefix_of (Some position.old))
+        (until (end_of (Some position.old)) (after (Some (take len.new room.new)) entries)) }
     ensures prefix { prefix_of (Some position.new) ≡ prefix_of (Some position.old) }
+    ensures end_key { end_of (Some position.new) ≡ end_of (Some position.old) }
     ensures longer { result ≡ 4 → option_map (λ e. length e.0)
         (slice_get (ahead_of (Some position.old) (map.entries stored.now.map)) 0) ≡ Some len.new }
     ensures small { result ≡ 4 → length room.old < len.new }
@@ -193,8 +232,9 @@ pub(crate) fn next_ahead(
     ensures passed { result ≡ 1 → (entries : List (List ℕ × ℕ)) →
         ahead_of cursor.new.pointer.stored entries
         ≡ under (prefix_of cursor.old.pointer.stored)
-        (after (Some (take len.new room.new)) entries) }
+        (until (end_of cursor.old.pointer.stored) (after (Some (take len.new room.new)) entries)) }
     ensures prefix { prefix_of cursor.new.pointer.stored ≡ prefix_of cursor.old.pointer.stored }
+    ensures end_key { end_of cursor.new.pointer.stored ≡ end_of cursor.old.pointer.stored }
     ensures longer { result ≡ 4 → option_map (λ e. length e.0)
         (slice_get (ahead_of cursor.old.pointer.stored
         (map.entries stored.now.map)) 0) ≡ Some len.new }
@@ -243,8 +283,9 @@ pub extern "C" fn patricia_cursor_next(
     ensures passed { result ≡ 1 → (entries : List (List ℕ × ℕ)) →
         ahead_of cursor.new.pointer.stored entries
         ≡ under (prefix_of cursor.old.pointer.stored)
-        (after (Some (take len.new room.new)) entries) }
+        (until (end_of cursor.old.pointer.stored) (after (Some (take len.new room.new)) entries)) }
     ensures prefix { prefix_of cursor.new.pointer.stored ≡ prefix_of cursor.old.pointer.stored }
+    ensures end_key { end_of cursor.new.pointer.stored ≡ end_of cursor.old.pointer.stored }
     ensures longer { result ≡ 4 → option_map (λ e. length e.0)
         (slice_get (ahead_of cursor.old.pointer.stored
         (map.entries (map_of at.old.pointer.stored))) 0) ≡ Some len.new }
@@ -271,6 +312,7 @@ pub extern "C" fn patricia_cursor_free(cursor: &mut CursorPlace)
     ensures ahead { (entries : List (List ℕ × ℕ)) →
         ahead_of cursor.new.pointer.stored entries ≡ entries }
     ensures prefix { prefix_of cursor.new.pointer.stored ≡ [] }
+    ensures end_key { end_of cursor.new.pointer.stored ≡ None }
 {
     let position = cursor.take();
     drop(position);

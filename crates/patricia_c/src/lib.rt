@@ -22,6 +22,7 @@ mod map_place;
 mod map_pointer;
 mod near;
 mod prefixes;
+mod ranges;
 mod raw_box;
 mod room;
 mod shared;

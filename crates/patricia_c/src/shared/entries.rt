@@ -10,7 +10,7 @@ ghost use Rattle.patricia_tree.specs.Edits.{IsNear};
 ghost use Rattle.patricia_tree.specs.Prefixes.{under};
 ghost use Rattle.patricia_tree.specs.TextKind.{IsTextItem};
 ghost use Rattle.patricia_c.specs.Blocks.{WritesBlock};
-ghost use Rattle.patricia_c.specs.Cursors.{ahead_of, prefix_of};
+ghost use Rattle.patricia_c.specs.Cursors.{ahead_of, end_of, prefix_of, until};
 ghost use Rattle.patricia_c.specs.EntriesLeft.{entries_of};
 ghost use Rattle.patricia_c.specs.Near.{Picks};
 ghost use Rattle.patricia_c.specs.Shared.{shared_of};
@@ -159,8 +159,9 @@ pub extern "C" fn patricia_shared_cursor_next(
     ensures passed { result ≡ 1 → (entries : List (List ℕ × ℕ)) →
         ahead_of cursor.new.pointer.stored entries
         ≡ under (prefix_of cursor.old.pointer.stored)
-        (after (Some (take len.new room.new)) entries) }
+        (until (end_of cursor.old.pointer.stored) (after (Some (take len.new room.new)) entries)) }
     ensures prefix { prefix_of cursor.new.pointer.stored ≡ prefix_of cursor.old.pointer.stored }
+    ensures end_key { end_of cursor.new.pointer.stored ≡ end_of cursor.old.pointer.stored }
     ensures longer { result ≡ 4 → option_map (λ e. length e.0)
         (slice_get (ahead_of cursor.old.pointer.stored
         (map.entries (shared_of shared.old.pointer.stored))) 0) ≡ Some len.new }
@@ -205,10 +206,11 @@ pub extern "C" fn patricia_shared_cursor_next_many(
         count.new len.new room.new lens.new values.new room.old lens.old values.old }
     ensures passed { result ≡ 1 → (entries : List (List ℕ × ℕ)) →
         ahead_of cursor.new.pointer.stored entries ≡ under (prefix_of cursor.old.pointer.stored)
-        (after (option_map (λ e. e.0) (last_or None
+        (until (end_of cursor.old.pointer.stored) (after (option_map (λ e. e.0) (last_or None
         (take count.new (ahead_of cursor.old.pointer.stored (map.entries
-        (shared_of shared.old.pointer.stored)))))) entries) }
+        (shared_of shared.old.pointer.stored)))))) entries)) }
     ensures prefix { prefix_of cursor.new.pointer.stored ≡ prefix_of cursor.old.pointer.stored }
+    ensures end_key { end_of cursor.new.pointer.stored ≡ end_of cursor.old.pointer.stored }
     ensures longer { result ≡ 4 →
         option_map (λ e. length e.0) (slice_get (ahead_of cursor.old.pointer.stored
         (map.entries (shared_of shared.old.pointer.stored))) 0) ≡ Some len.new }
