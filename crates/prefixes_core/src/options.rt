@@ -11,7 +11,11 @@ fn with<'a>(
     command: Result<Command<'a>, AllocError>,
     arg: Arg<'a>,
 ) -> Result<Command<'a>, AllocError> {
-    command?.arg(arg)
+    let Ok(command) = command else {
+        drop(arg);
+        return Err(AllocError);
+    };
+    command.arg(arg)
 }
 
 // A command and one more subcommand of it.
@@ -19,7 +23,15 @@ fn over<'a>(
     command: Result<Command<'a>, AllocError>,
     subcommand: Result<Command<'a>, AllocError>,
 ) -> Result<Command<'a>, AllocError> {
-    command?.subcommand(subcommand?)
+    let Ok(command) = command else {
+        drop(subcommand);
+        return Err(AllocError);
+    };
+    let Ok(subcommand) = subcommand else {
+        drop(command);
+        return Err(AllocError);
+    };
+    command.subcommand(subcommand)
 }
 
 // A file that a command needs.
