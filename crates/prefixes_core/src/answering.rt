@@ -1,11 +1,11 @@
 //! What is asked of a list, and the lines or the JSON that answer it.
 
 use crate::blocking::BlockList;
-use crate::completing::complete;
+use crate::completing::{Completions, complete};
 use crate::cutting::segment;
 use crate::dotted::{drop_subtree, subtree};
 use crate::listing::{Listing, Names};
-use crate::nearing::near;
+use crate::nearing::{NearNames, near};
 use crate::objects::{
     BlockObject, CompleteObject, EntryObject, NearObject, RouteObject, SegmentObject, Text,
     TreeObject, push_object,
@@ -85,6 +85,23 @@ fn push_count(line: &str, count: usize, end: u8, out: &mut Vec<u8>) -> Result<()
     )
 }
 
+// Writes which prefix a line is routed by, and its target, if it is.
+fn push_route(
+    alloc: Global,
+    line: &str,
+    found: Option<(&str, &[u8])>,
+    style: Style,
+    out: &mut Vec<u8>,
+) -> Result<(), AllocError> {
+    match (style, found) {
+        (Style::Lines(end), Some((prefix, target))) => {
+            push_fields(&[prefix.as_bytes(), target], end, out)
+        }
+        (Style::Lines(end), None) => push_fields(&[b"-".as_slice()], end, out),
+        (Style::Json, _) => push_object(alloc, &RouteObject::new(line, found), out),
+    }
+}
+
 fn route(
     alloc: Global,
     routes: &Router<String, Payload>,
@@ -92,27 +109,45 @@ fn route(
     style: Style,
     out: &mut Vec<u8>,
 ) -> Result<bool, AllocError> {
-    let (prefix, target) = match routes.route(line) {
-        Some((prefix, target)) => (Some(prefix), target.as_bytes()),
-        None => (None, b"".as_slice()),
-    };
-    match (style, prefix) {
-        (Style::Lines(end), Some(prefix)) => push_fields(&[prefix.as_bytes(), target], end, out)?,
-        (Style::Lines(end), None) => push_fields(&[b"-".as_slice()], end, out)?,
-        (Style::Json, _) => {
-            let target = match prefix {
-                Some(_) => Some(Text::new(target)),
-                None => None,
-            };
-            let object = RouteObject {
-                line,
-                prefix,
-                target,
-            };
-            push_object(alloc, &object, out)?;
+    match routes.route(line) {
+        Some((prefix, target)) => {
+            push_route(alloc, line, Some((prefix, target.as_bytes())), style, out)?;
+            Ok(true)
+        }
+        None => {
+            push_route(alloc, line, None, style, out)?;
+            Ok(false)
         }
     }
-    Ok(prefix.is_some())
+}
+
+type Completed<'a> = Completions<'a, String, ()>;
+
+fn push_completed(
+    found: &Completed<'_>,
+    line: &str,
+    end: u8,
+    out: &mut Vec<u8>,
+) -> Result<(), AllocError> {
+    push_count(line, found.count, end, out)?;
+    for (name, _) in &found.first {
+        push_fields(&[b"".as_slice(), name.as_bytes()], end, out)?;
+    }
+    Ok(())
+}
+
+fn push_complete_object(
+    alloc: Global,
+    found: &Completed<'_>,
+    line: &str,
+    out: &mut Vec<u8>,
+) -> Result<(), AllocError> {
+    let count = found.count;
+    let mut names = Vec::new(alloc);
+    for (name, _) in &found.first {
+        names.push(name.as_str())?;
+    }
+    push_object(alloc, &CompleteObject { line, count, names }, out)
 }
 
 fn complete_all(
@@ -124,23 +159,21 @@ fn complete_all(
     out: &mut Vec<u8>,
 ) -> Result<bool, AllocError> {
     let found = complete(alloc, names, line, most)?;
-    let count = found.count;
     match style {
-        Style::Lines(end) => {
-            push_count(line, count, end, out)?;
-            for (name, _) in &found.first {
-                push_fields(&[b"".as_slice(), name.as_bytes()], end, out)?;
-            }
-        }
-        Style::Json => {
-            let mut names = Vec::new(alloc);
-            for (name, _) in &found.first {
-                names.push(name.as_str())?;
-            }
-            push_object(alloc, &CompleteObject { line, count, names }, out)?;
-        }
+        Style::Lines(end) => push_completed(&found, line, end, out)?,
+        Style::Json => push_complete_object(alloc, &found, line, out)?,
     }
-    Ok(count != 0)
+    Ok(found.count != 0)
+}
+
+fn push_near(found: &NearNames, line: &str, end: u8, out: &mut Vec<u8>) -> Result<(), AllocError> {
+    push_count(line, found.count, end, out)?;
+    for near in &found.first {
+        let mut buffer = Buffer::new();
+        let edits = buffer.format(near.edits).as_bytes();
+        push_fields(&[b"".as_slice(), near.name.as_bytes(), edits], end, out)?;
+    }
+    Ok(())
 }
 
 fn near_all(
@@ -154,14 +187,7 @@ fn near_all(
     let found = near(alloc, names, line, edits, most)?;
     let count = found.count;
     match style {
-        Style::Lines(end) => {
-            push_count(line, count, end, out)?;
-            for near in &found.first {
-                let mut buffer = Buffer::new();
-                let edits = buffer.format(near.edits).as_bytes();
-                push_fields(&[b"".as_slice(), near.name.as_bytes(), edits], end, out)?;
-            }
-        }
+        Style::Lines(end) => push_near(&found, line, end, out)?,
         Style::Json => {
             let names = found.first.as_slice();
             push_object(alloc, &NearObject { line, count, names }, out)?;
@@ -181,6 +207,21 @@ pub fn folded(alloc: Global, name: &[u8]) -> Result<Vec<u8>, AllocError> {
     Ok(folded)
 }
 
+// Writes by which name a line is blocked, if it is.
+fn push_blocked(
+    alloc: Global,
+    line: &[u8],
+    found: Option<&[u8]>,
+    style: Style,
+    out: &mut Vec<u8>,
+) -> Result<(), AllocError> {
+    match (style, found) {
+        (Style::Lines(end), Some(name)) => push_fields(&[b"blocked".as_slice(), name], end, out),
+        (Style::Lines(end), None) => push_fields(&[b"passes".as_slice()], end, out),
+        (Style::Json, _) => push_object(alloc, &BlockObject::new(line, found), out),
+    }
+}
+
 fn block(
     alloc: Global,
     list: &BlockList,
@@ -190,18 +231,7 @@ fn block(
 ) -> Result<bool, AllocError> {
     let host = folded(alloc, line)?;
     let found = list.find(&host)?;
-    match (style, found) {
-        (Style::Lines(end), Some(name)) => push_fields(&[b"blocked".as_slice(), name], end, out)?,
-        (Style::Lines(end), None) => push_fields(&[b"passes".as_slice()], end, out)?,
-        (Style::Json, _) => {
-            let blocked = match found {
-                Some(name) => Some(Text::new(name)),
-                None => None,
-            };
-            let line = Text::new(line);
-            push_object(alloc, &BlockObject { line, blocked }, out)?;
-        }
-    }
+    push_blocked(alloc, line, found, style, out)?;
     Ok(found.is_some())
 }
 
@@ -225,6 +255,35 @@ fn push_entry(
     }
 }
 
+fn push_entries(
+    found: &[(String, &Payload)],
+    line: &str,
+    end: u8,
+    out: &mut Vec<u8>,
+) -> Result<(), AllocError> {
+    for (name, value) in found {
+        push_entry(name.as_bytes(), line.as_bytes(), value.as_bytes(), end, out)?;
+    }
+    if found.is_empty() {
+        push_fields(&[b"-".as_slice()], end, out)?;
+    }
+    Ok(())
+}
+
+fn push_tree_object(
+    alloc: Global,
+    found: &[(String, &Payload)],
+    line: &str,
+    out: &mut Vec<u8>,
+) -> Result<(), AllocError> {
+    let mut entries = Vec::new(alloc);
+    for (name, value) in found {
+        let (name, value) = (name.as_str(), Text::new(value.as_bytes()));
+        entries.push(EntryObject { name, value })?;
+    }
+    push_object(alloc, &TreeObject { line, entries }, out)
+}
+
 fn tree(
     alloc: Global,
     list: &Listing,
@@ -234,24 +293,22 @@ fn tree(
 ) -> Result<bool, AllocError> {
     let found = subtree(alloc, list, line)?;
     match style {
-        Style::Lines(end) => {
-            for (name, value) in &found {
-                push_entry(name.as_bytes(), line.as_bytes(), value.as_bytes(), end, out)?;
-            }
-            if found.is_empty() {
-                push_fields(&[b"-".as_slice()], end, out)?;
-            }
-        }
-        Style::Json => {
-            let mut entries = Vec::new(alloc);
-            for (name, value) in &found {
-                let (name, value) = (name.as_str(), Text::new(value.as_bytes()));
-                entries.push(EntryObject { name, value })?;
-            }
-            push_object(alloc, &TreeObject { line, entries }, out)?;
-        }
+        Style::Lines(end) => push_entries(&found, line, end, out)?,
+        Style::Json => push_tree_object(alloc, &found, line, out)?,
     }
     Ok(!found.is_empty())
+}
+
+fn drop_tree(
+    alloc: Global,
+    list: &mut Listing,
+    line: &str,
+    style: Style,
+    out: &mut Vec<u8>,
+) -> Result<bool, AllocError> {
+    let is_found = tree(alloc, list, line, style, out)?;
+    drop_subtree(alloc, list, line)?;
+    Ok(is_found)
 }
 
 fn cut(
@@ -287,6 +344,27 @@ fn text(line: &[u8]) -> Result<&str, AnswerError> {
 }
 
 impl Question {
+    // Answers a line that is a text.
+    fn answer_text(
+        &mut self,
+        alloc: Global,
+        line: &str,
+        style: Style,
+        out: &mut Vec<u8>,
+    ) -> Result<bool, AllocError> {
+        match self {
+            Question::Route(routes) => route(alloc, routes, line, style, out),
+            Question::Complete(list, most) => complete_all(alloc, list, line, *most, style, out),
+            Question::Near(list, edits, most) => {
+                near_all(alloc, list, line, (*edits, *most), style, out)
+            }
+            Question::Block(list) => block(alloc, list, line.as_bytes(), style, out),
+            Question::Tree(list) => tree(alloc, list, line, style, out),
+            Question::DropTree(list) => drop_tree(alloc, list, line, style, out),
+            Question::Segment(list) => cut(alloc, list, line, style, out),
+        }
+    }
+
     /// Writes the answer to a line at the end of a text, and returns whether something was found.
     ///
     /// # Errors
@@ -299,23 +377,10 @@ impl Question {
         style: Style,
         out: &mut Vec<u8>,
     ) -> Result<bool, AnswerError> {
-        Ok(match self {
-            Question::Route(routes) => route(alloc, routes, text(line)?, style, out)?,
-            Question::Complete(list, most) => {
-                complete_all(alloc, list, text(line)?, *most, style, out)?
-            }
-            Question::Near(list, edits, most) => {
-                near_all(alloc, list, text(line)?, (*edits, *most), style, out)?
-            }
-            Question::Block(list) => block(alloc, list, line, style, out)?,
-            Question::Tree(list) => tree(alloc, list, text(line)?, style, out)?,
-            Question::DropTree(list) => {
-                let name = text(line)?;
-                let is_found = tree(alloc, list, name, style, out)?;
-                drop_subtree(alloc, list, name)?;
-                is_found
-            }
-            Question::Segment(list) => cut(alloc, list, text(line)?, style, out)?,
-        })
+        let found = match self {
+            Question::Block(list) => block(alloc, list, line, style, out),
+            _ => self.answer_text(alloc, text(line)?, style, out),
+        };
+        Ok(found?)
     }
 }

@@ -30,6 +30,23 @@ fn begins_some<V: Drop>(names: &StringPatriciaMap<V>, name: &str) -> bool
     names.longest_common_prefix_len(name) == bytes.len()
 }
 
+// Adds the entries that begin with a prefix, in key order.
+fn add_under<'a, V: Drop>(
+    names: &'a StringPatriciaMap<V>,
+    prefix: &str,
+    entries: &mut Vec<(String, &'a V)>,
+) -> Result<(), AllocError>
+    ensures { OnOk result (
+        list_map (λ entry. (string_bytes entry.0, entry.1.now)) entries.new.items
+        ≡ list_map (λ entry. (string_bytes entry.0, entry.1.now)) entries.old.items
+        ++ under prefix.now (map.entries names.now)) }
+{
+    for entry in names.iter_prefix(prefix) {
+        entries.push(entry?)?;
+    }
+    Ok(())
+}
+
 /// Returns the entry of a name and those below it, which are the ones that the name and a dot
 /// begin, in key order.
 ///
@@ -66,9 +83,7 @@ pub fn subtree<'a, V: Drop>(
     if let Some(value) = names.get(name) {
         entries.push((String::from_str(alloc, name)?, value))?;
     }
-    for entry in names.iter_prefix(dotted.as_str()) {
-        entries.push(entry?)?;
-    }
+    add_under(names, dotted.as_str(), &mut entries)?;
     Ok(entries)
 }
 

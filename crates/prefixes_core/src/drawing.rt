@@ -42,6 +42,21 @@ fn nodes_of(alloc: Global, tree: &[u8]) -> Result<Vec<Node>, AllocError>
     Ok(nodes)
 }
 
+// The nodes of the tree of names.
+fn nodes_for<V: Drop>(alloc: Global, names: &StringPatriciaMap<V>) -> Result<Vec<Node>, PackError>
+    ensures ok { IfOk result (λ nodes. AreNodes (keys_of (map.entries names.now))
+        (list_map (λ node. (node.level, (node.label, node.is_name))) nodes.items)) }
+    ensures too_deep { result ≡ Err PackError.TooDeep
+        → TooDeep IsTextItem 2 (keys_of (map.entries names.now)) }
+{
+    let tree = match names.tree_bytes() {
+        Ok(tree) => tree,
+        Err(WireError::TooDeep) => return Err(PackError::TooDeep),
+        Err(_) => return Err(PackError::Memory),
+    };
+    Ok(nodes_of(alloc, &tree)?)
+}
+
 /// Returns the nodes of the tree of the names that begin with a prefix: each before those below it,
 /// and those with one parent in the order of their labels.
 ///
@@ -75,10 +90,5 @@ pub fn draw<V: Drop>(
         → TooDeep IsTextItem 2 (keys_of (under prefix.now (map.entries names))) }
 {
     let names = names.split_by_prefix(prefix)?;
-    let tree = match names.tree_bytes() {
-        Ok(tree) => tree,
-        Err(WireError::TooDeep) => return Err(PackError::TooDeep),
-        Err(_) => return Err(PackError::Memory),
-    };
-    Ok(nodes_of(alloc, &tree)?)
+    nodes_for(alloc, &names)
 }

@@ -4,7 +4,7 @@ use crate::answering::AnswerError;
 use crate::combining::LinesError;
 use crate::listing::ListError;
 use crate::packing::PackError;
-use std::alloc::AllocError;
+use std::alloc::{AllocError, Global};
 use std::io::{self, Write};
 use thiserror::Error;
 
@@ -36,6 +36,54 @@ pub enum Failure {
 impl From<AllocError> for Failure {
     fn from(_: AllocError) -> Failure {
         Failure::Memory
+    }
+}
+
+/// A list at a path is not read.
+pub fn list_failure(alloc: Global, path: &str, error: ListError) -> Failure {
+    match String::from_str(alloc, path) {
+        Ok(path) => Failure::List(path, error),
+        Err(_) => Failure::Memory,
+    }
+}
+
+/// What is for a path, or was read from it, is not packed.
+pub fn pack_failure(alloc: Global, path: &str, error: PackError) -> Failure {
+    match String::from_str(alloc, path) {
+        Ok(path) => Failure::Pack(path, error),
+        Err(_) => Failure::Memory,
+    }
+}
+
+/// Names are not written as lines to a path.
+pub fn lines_failure(alloc: Global, path: &str, error: LinesError) -> Failure {
+    match String::from_str(alloc, path) {
+        Ok(path) => Failure::Lines(path, error),
+        Err(_) => Failure::Memory,
+    }
+}
+
+/// A file is not written.
+pub fn write_failure(alloc: Global, path: &str, error: io::Error) -> Failure {
+    match String::from_str(alloc, path) {
+        Ok(path) => Failure::Write(path, error),
+        Err(_) => Failure::Memory,
+    }
+}
+
+/// The lines at a path are not read.
+pub fn input_failure(alloc: Global, path: &str, error: io::Error) -> Failure {
+    match String::from_str(alloc, path) {
+        Ok(path) => Failure::Input(path, error),
+        Err(_) => Failure::Memory,
+    }
+}
+
+/// A line at a path is not answered.
+pub fn line_failure(alloc: Global, path: &str, number: u64, error: AnswerError) -> Failure {
+    match String::from_str(alloc, path) {
+        Ok(path) => Failure::Line(path, number, error),
+        Err(_) => Failure::Memory,
     }
 }
 

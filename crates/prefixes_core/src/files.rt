@@ -1,7 +1,7 @@
 //! Commands that write a file: a list that is packed, and names that are combined.
 
 use crate::combining::{Combination, combine, lines_of};
-use crate::failure::Failure;
+use crate::failure::{Failure, lines_failure, pack_failure, write_failure};
 use crate::inputs::{Inputs, shown};
 use crate::listing::NameSet;
 use crate::options::{line_end, path};
@@ -16,7 +16,7 @@ use std::rt::Files;
 fn write_file<R: Files>(rt: &R, alloc: Global, path: &str, bytes: &[u8]) -> Result<(), Failure> {
     match fs::write(rt, path, bytes) {
         Ok(()) => Ok(()),
-        Err(error) => Err(Failure::Write(String::from_str(alloc, path)?, error)),
+        Err(error) => Err(write_failure(alloc, path, error)),
     }
 }
 
@@ -28,9 +28,11 @@ pub fn pack_file<R: Files, I: Read + Drop, E: Write + Drop>(
     let alloc = inputs.alloc;
     let (from, to) = (path(matches, "LIST"), path(matches, "OUT"));
     let list = inputs.list(from)?;
-    match pack(alloc, &list) {
+    let packed = pack(alloc, &list);
+    drop(list);
+    match packed {
         Ok(bytes) => write_file(inputs.rt, alloc, to, &bytes),
-        Err(error) => Err(Failure::Pack(String::from_str(alloc, shown(from))?, error)),
+        Err(error) => Err(pack_failure(alloc, shown(from), error)),
     }
 }
 
@@ -41,6 +43,20 @@ fn combination(name: &str) -> Combination {
         "intersection" => Combination::Intersection,
         _ => Combination::Difference,
     }
+}
+
+// Names, combined with those of the list at a path.
+fn combined_with<R: Files, I: Read + Drop, E: Write + Drop>(
+    inputs: &mut Inputs<'_, R, I, E>,
+    combination: Combination,
+    names: NameSet,
+    list: &str,
+) -> Result<NameSet, Failure> {
+    let other = inputs.set(list)?;
+    let both = combine(combination, &names, &other);
+    drop(names);
+    drop(other);
+    Ok(both?)
 }
 
 // The names of the lists, combined from the first to the last.
@@ -54,8 +70,7 @@ fn combined<R: Files, I: Read + Drop, E: Write + Drop>(
     };
     let mut names = inputs.set(first)?;
     for list in others {
-        let other = inputs.set(list)?;
-        names = combine(combination, &names, &other)?;
+        names = combined_with(inputs, combination, names, list)?;
     }
     Ok(names)
 }
@@ -71,6 +86,39 @@ fn told_from_packed(alloc: Global, lines: Vec<u8>, end: u8) -> Result<Vec<u8>, A
     Ok(hidden)
 }
 
+// The lines of names, for a file.
+fn lines_for(alloc: Global, names: &NameSet, end: u8, to: &str) -> Result<Vec<u8>, Failure> {
+    match lines_of(alloc, names, end) {
+        Ok(lines) => Ok(told_from_packed(alloc, lines, end)?),
+        Err(error) => Err(lines_failure(alloc, to, error)),
+    }
+}
+
+// Names as a packed list, for a file.
+fn packed_for(alloc: Global, names: &NameSet, to: &str) -> Result<Vec<u8>, Failure> {
+    match pack_names(alloc, names) {
+        Ok(bytes) => Ok(bytes),
+        Err(error) => Err(pack_failure(alloc, to, error)),
+    }
+}
+
+// Writes names into the file that a command has for them.
+fn write_names<R: Files>(
+    rt: &R,
+    alloc: Global,
+    names: &NameSet,
+    end: u8,
+    matches: &ArgMatches<'_>,
+) -> Result<(), Failure> {
+    let to = path(matches, "OUT");
+    let bytes = if matches.get_flag("as-lines") {
+        lines_for(alloc, names, end, to)?
+    } else {
+        packed_for(alloc, names, to)?
+    };
+    write_file(rt, alloc, to, &bytes)
+}
+
 /// Combines lists into a file.
 pub fn combine_files<R: Files, I: Read + Drop, E: Write + Drop>(
     inputs: &mut Inputs<'_, R, I, E>,
@@ -79,21 +127,10 @@ pub fn combine_files<R: Files, I: Read + Drop, E: Write + Drop>(
     let Some((name, matches)) = matches.subcommand() else {
         return Ok(());
     };
-    let alloc = inputs.alloc;
     inputs.end = line_end(matches);
     let lists = matches.get_strs("LIST").unwrap_or(&[]);
     let names = combined(inputs, combination(name), lists)?;
-    let to = path(matches, "OUT");
-    let bytes = if matches.get_flag("as-lines") {
-        match lines_of(alloc, &names, inputs.end) {
-            Ok(lines) => told_from_packed(alloc, lines, inputs.end)?,
-            Err(error) => return Err(Failure::Lines(String::from_str(alloc, to)?, error)),
-        }
-    } else {
-        match pack_names(alloc, &names) {
-            Ok(bytes) => bytes,
-            Err(error) => return Err(Failure::Pack(String::from_str(alloc, to)?, error)),
-        }
-    };
-    write_file(inputs.rt, alloc, to, &bytes)
+    let written = write_names(inputs.rt, inputs.alloc, &names, inputs.end, matches);
+    drop(names);
+    written
 }

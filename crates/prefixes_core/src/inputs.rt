@@ -1,7 +1,7 @@
 //! Where lists and lines come from: files, and the standard input.
 
 use crate::blocking::BlockList;
-use crate::failure::Failure;
+use crate::failure::{Failure, list_failure};
 use crate::listing::{Destination, ListError, Listing, NameSet, Names, Values, read_list};
 use crate::value::Payload;
 use patricia_tree::router::Router;
@@ -47,7 +47,7 @@ impl<'r, R: Files, I: Read + Drop, E: Write + Drop> Inputs<'r, R, I, E> {
             destination,
         ) {
             Ok(()) => Ok(()),
-            Err(error) => Err(Failure::List(String::from_str(alloc, shown(path))?, error)),
+            Err(error) => Err(list_failure(alloc, shown(path), error)),
         }
     }
 
@@ -66,10 +66,7 @@ impl<'r, R: Files, I: Read + Drop, E: Write + Drop> Inputs<'r, R, I, E> {
         }
         match fs::open(self.rt, path) {
             Ok(file) => self.add_from(file, path, values, destination),
-            Err(error) => {
-                let path = String::from_str(self.alloc, path)?;
-                Err(Failure::List(path, ListError::Read(error)))
-            }
+            Err(error) => Err(list_failure(self.alloc, path, ListError::Read(error))),
         }
     }
 

@@ -193,6 +193,21 @@ fn read_head<R: Read>(alloc: Global, file: &mut R) -> io::Result<Vec<u8>> {
     Ok(head)
 }
 
+// Reads a packed list, and adds its entries.
+fn read_packed<R: Read, S: Destination>(
+    alloc: Global,
+    reader: &mut R,
+    destination: &mut S,
+) -> Result<(), ListError> {
+    let mut bytes = Vec::new(alloc);
+    reader.read_to_end(&mut bytes)?;
+    match unpack(alloc, &bytes) {
+        Ok(list) => Ok(destination.add_list(alloc, list)?),
+        Err(UnpackError::Memory) => Err(ListError::Memory),
+        Err(fault) => Err(ListError::Packed(fault)),
+    }
+}
+
 /// Reads a list and adds its entries: packed, if it begins as packed lists do, and else with a line
 /// for each name.
 ///
@@ -213,14 +228,9 @@ pub fn read_list<R: Read + Drop, W: Write, S: Destination>(
 ) -> Result<(), ListError> {
     let head = read_head(alloc, &mut file)?;
     let mut reader = BufReader::new(alloc, head.as_slice().chain(file))?;
-    if head.as_slice() != HEAD {
-        return read_lines(alloc, &mut reader, values, end, progress, destination);
-    }
-    let mut bytes = Vec::new(alloc);
-    reader.read_to_end(&mut bytes)?;
-    match unpack(alloc, &bytes) {
-        Ok(list) => Ok(destination.add_list(alloc, list)?),
-        Err(UnpackError::Memory) => Err(ListError::Memory),
-        Err(fault) => Err(ListError::Packed(fault)),
+    if head.as_slice() == HEAD {
+        read_packed(alloc, &mut reader, destination)
+    } else {
+        read_lines(alloc, &mut reader, values, end, progress, destination)
     }
 }

@@ -30,6 +30,20 @@ pub struct RouteObject<'a> {
     pub target: Option<Text<'a>>,
 }
 
+impl<'a> RouteObject<'a> {
+    pub fn new(line: &'a str, found: Option<(&'a str, &'a [u8])>) -> RouteObject<'a> {
+        let (prefix, target) = match found {
+            Some((prefix, target)) => (Some(prefix), Some(Text::new(target))),
+            None => (None, None),
+        };
+        RouteObject {
+            line,
+            prefix,
+            target,
+        }
+    }
+}
+
 #[derive(Drop, Serialize)]
 pub struct CompleteObject<'a> {
     pub line: &'a str,
@@ -48,6 +62,22 @@ pub struct NearObject<'a> {
 pub struct BlockObject<'a> {
     pub line: Text<'a>,
     pub blocked: Option<Text<'a>>,
+}
+
+impl<'a> BlockObject<'a> {
+    pub fn new(line: &'a [u8], found: Option<&'a [u8]>) -> BlockObject<'a> {
+        let line = Text::new(line);
+        match found {
+            Some(name) => BlockObject {
+                line,
+                blocked: Some(Text::new(name)),
+            },
+            None => BlockObject {
+                line,
+                blocked: None,
+            },
+        }
+    }
 }
 
 #[derive(Drop, Serialize)]

@@ -1,7 +1,7 @@
 //! The program over its words, its files and its streams.
 
 use crate::answering::{Question, Style};
-use crate::failure::{Failure, put};
+use crate::failure::{Failure, input_failure, line_failure, put};
 use crate::files::{combine_files, pack_file};
 use crate::inputs::{Inputs, shown};
 use crate::listing::without_end;
@@ -22,31 +22,47 @@ fn most(matches: &ArgMatches<'_>) -> usize {
     matches.get_one::<u32>("most").unwrap_or(10) as usize
 }
 
+// What a command asks of names that it finds some of.
+fn some_question<R: Files, I: Read + Drop, E: Write + Drop>(
+    inputs: &mut Inputs<'_, R, I, E>,
+    name: &str,
+    matches: &ArgMatches<'_>,
+) -> Result<Question, Failure> {
+    let names = inputs.names(path(matches, "LIST"))?;
+    let most = most(matches);
+    if name == "complete" {
+        return Ok(Question::Complete(names, most));
+    }
+    let edits = matches.get_one::<u8>("edits").unwrap_or(1);
+    Ok(Question::Near(names, u32::from(edits), most))
+}
+
+// What the command about subtrees asks.
+fn tree_question<R: Files, I: Read + Drop, E: Write + Drop>(
+    inputs: &mut Inputs<'_, R, I, E>,
+    matches: &ArgMatches<'_>,
+) -> Result<Question, Failure> {
+    let list = inputs.list(path(matches, "LIST"))?;
+    if matches.get_flag("drop") {
+        Ok(Question::DropTree(list))
+    } else {
+        Ok(Question::Tree(list))
+    }
+}
+
 // What a command asks, once its list is read.
 fn question<R: Files, I: Read + Drop, E: Write + Drop>(
     inputs: &mut Inputs<'_, R, I, E>,
     name: &str,
     matches: &ArgMatches<'_>,
 ) -> Result<Question, Failure> {
-    Ok(match name {
-        "route" => Question::Route(inputs.router(path(matches, "TABLE"))?),
-        "block" => Question::Block(inputs.block_list(path(matches, "LIST"))?),
-        "segment" => Question::Segment(inputs.names(path(matches, "DICTIONARY"))?),
-        "complete" => Question::Complete(inputs.names(path(matches, "LIST"))?, most(matches)),
-        "near" => Question::Near(
-            inputs.names(path(matches, "LIST"))?,
-            u32::from(matches.get_one::<u8>("edits").unwrap_or(1)),
-            most(matches),
-        ),
-        _ => {
-            let list = inputs.list(path(matches, "LIST"))?;
-            if matches.get_flag("drop") {
-                Question::DropTree(list)
-            } else {
-                Question::Tree(list)
-            }
-        }
-    })
+    match name {
+        "route" => Ok(Question::Route(inputs.router(path(matches, "TABLE"))?)),
+        "block" => Ok(Question::Block(inputs.block_list(path(matches, "LIST"))?)),
+        "segment" => Ok(Question::Segment(inputs.names(path(matches, "DICTIONARY"))?)),
+        "complete" | "near" => some_question(inputs, name, matches),
+        _ => tree_question(inputs, matches),
+    }
 }
 
 // Lines that are read from a file or the standard input, and how they are answered.
@@ -67,43 +83,48 @@ fn read_line<R: BufRead>(
     line.clear();
     match reader.read_until(asked.end, line) {
         Ok(len) => Ok(len != 0),
+        Err(error) => Err(input_failure(alloc, shown(asked.path), error)),
+    }
+}
+
+// Answers a line. Where it is refused, what is answered before it is written.
+fn answer_line<W: Write>(
+    alloc: Global,
+    question: &mut Question,
+    line: &[u8],
+    number: u64,
+    asked: &Asked<'_>,
+    out: &mut Vec<u8>,
+    output: &mut W,
+) -> Result<bool, Failure> {
+    let len = out.len();
+    match question.answer(alloc, without_end(line, asked.end), asked.style, out) {
+        Ok(found) => Ok(found),
         Err(error) => {
-            let name = String::from_str(alloc, shown(asked.path))?;
-            Err(Failure::Input(name, error))
+            out.truncate(len);
+            put(output, out)?;
+            Err(line_failure(alloc, shown(asked.path), number, error))
         }
     }
 }
 
-// Answers each line of the input, and writes the answers whenever no whole line is at hand, or many
+// Answers each line of a reader, and writes the answers whenever no whole line is at hand, or many
 // bytes of them wait. It returns whether something was found.
-fn answer_lines<F: Read + Drop, W: Write>(
+fn answer_each<F: Read + Drop, W: Write>(
     alloc: Global,
     question: &mut Question,
-    input: F,
+    reader: &mut BufReader<F>,
     asked: &Asked<'_>,
     output: &mut W,
 ) -> Result<bool, Failure> {
-    let name = shown(asked.path);
-    let mut reader = match BufReader::new(alloc, input) {
-        Ok(reader) => reader,
-        Err(error) => return Err(Failure::Input(String::from_str(alloc, name)?, error)),
-    };
     let mut is_found = false;
     let mut line = Vec::new(alloc);
     let mut out = Vec::new(alloc);
     for number in 1..u64::MAX {
-        if !read_line(alloc, &mut reader, asked, &mut line)? {
+        if !read_line(alloc, reader, asked, &mut line)? {
             break;
         }
-        let len = out.len();
-        match question.answer(alloc, without_end(&line, asked.end), asked.style, &mut out) {
-            Ok(found) => is_found |= found,
-            Err(error) => {
-                out.truncate(len);
-                put(output, &mut out)?;
-                return Err(Failure::Line(String::from_str(alloc, name)?, number, error));
-            }
-        }
+        is_found |= answer_line(alloc, question, &line, number, asked, &mut out, output)?;
         // a line that is not whole yet may be long in coming
         let waits = memchr(asked.end, reader.buffer()).is_none();
         if waits || out.len() >= MOST_WAITING {
@@ -114,33 +135,119 @@ fn answer_lines<F: Read + Drop, W: Write>(
     Ok(is_found)
 }
 
-// Answers the lines of a file or of the standard input, and returns whether something was found.
+// Answers each line of the input, and returns whether something was found.
+fn answer_lines<F: Read + Drop, W: Write>(
+    alloc: Global,
+    question: &mut Question,
+    input: F,
+    asked: &Asked<'_>,
+    output: &mut W,
+) -> Result<bool, Failure> {
+    match BufReader::new(alloc, input) {
+        Ok(mut reader) => answer_each(alloc, question, &mut reader, asked, output),
+        Err(error) => Err(input_failure(alloc, shown(asked.path), error)),
+    }
+}
+
+// How the command line says that answers are written.
+fn style(matches: &ArgMatches<'_>, end: u8) -> Style {
+    if matches.get_flag("json") {
+        Style::Json
+    } else {
+        Style::Lines(end)
+    }
+}
+
+// How the command line says that lines are read and answered.
+fn form_of<'p>(matches: &ArgMatches<'p>, end: u8) -> Asked<'p> {
+    Asked {
+        path: matches.get_str("lines").unwrap_or("-"),
+        end,
+        style: style(matches, end),
+    }
+}
+
+// Answers the lines of a file.
+fn answer_file<R: Files, W: Write>(
+    rt: &R,
+    alloc: Global,
+    question: &mut Question,
+    asked: &Asked<'_>,
+    output: &mut W,
+) -> Result<bool, Failure> {
+    match fs::open(rt, asked.path) {
+        Ok(file) => answer_lines(alloc, question, file, asked, output),
+        Err(error) => Err(input_failure(alloc, asked.path, error)),
+    }
+}
+
+// Answers the lines of the standard input, which no list has been read from.
+fn answer_standard<I: Read + Drop, W: Write>(
+    alloc: Global,
+    question: &mut Question,
+    standard: Option<I>,
+    asked: &Asked<'_>,
+    output: &mut W,
+) -> Result<bool, Failure> {
+    match standard {
+        Some(input) => answer_lines(alloc, question, input, asked, output),
+        None => Err(Failure::ReadTwice),
+    }
+}
+
+// Answers the lines of a file or of the standard input.
+fn answer_asked<R: Files, I: Read + Drop, W: Write, E: Write + Drop>(
+    inputs: &mut Inputs<'_, R, I, E>,
+    question: &mut Question,
+    asked: &Asked<'_>,
+    output: &mut W,
+) -> Result<bool, Failure> {
+    if asked.path == "-" {
+        let standard = inputs.standard.take();
+        answer_standard(inputs.alloc, question, standard, asked, output)
+    } else {
+        answer_file(inputs.rt, inputs.alloc, question, asked, output)
+    }
+}
+
+// Answers lines about a list, and returns whether something was found.
 fn answer_all<R: Files, I: Read + Drop, W: Write, E: Write + Drop>(
     inputs: &mut Inputs<'_, R, I, E>,
     name: &str,
     matches: &ArgMatches<'_>,
     output: &mut W,
 ) -> Result<bool, Failure> {
-    let alloc = inputs.alloc;
     let mut question = question(inputs, name, matches)?;
-    let asked = Asked {
-        path: matches.get_str("lines").unwrap_or("-"),
-        end: inputs.end,
-        style: if matches.get_flag("json") {
-            Style::Json
-        } else {
-            Style::Lines(inputs.end)
-        },
-    };
-    if asked.path == "-" {
-        return match inputs.standard.take() {
-            Some(input) => answer_lines(alloc, &mut question, input, &asked, output),
-            None => Err(Failure::ReadTwice),
-        };
+    let asked = form_of(matches, inputs.end);
+    let found = answer_asked(inputs, &mut question, &asked, output);
+    // by a call, which is proved once for all that a question holds
+    drop(question);
+    found
+}
+
+// Does what a command says, and returns whether something was found.
+fn obey<R: Files, I: Read + Drop, W: Write, E: Write + Drop>(
+    inputs: &mut Inputs<'_, R, I, E>,
+    name: &str,
+    matches: &ArgMatches<'_>,
+    output: &mut W,
+) -> Result<bool, Failure> {
+    inputs.end = line_end(matches);
+    match name {
+        "pack" => pack_file(inputs, matches)?,
+        "combine" => combine_files(inputs, matches)?,
+        "stats" => return show_measures(inputs, matches, output),
+        "draw" => return show_tree(inputs, matches, output),
+        _ => return answer_all(inputs, name, matches, output),
     }
-    match fs::open(inputs.rt, asked.path) {
-        Ok(file) => answer_lines(alloc, &mut question, file, &asked, output),
-        Err(error) => Err(Failure::Input(String::from_str(alloc, asked.path)?, error)),
+    Ok(true)
+}
+
+// What the words of the command line are.
+fn matched<'a>(alloc: Global, words: &'a [String]) -> Result<ArgMatches<'a>, Failure> {
+    match options::command(alloc)?.try_get_matches_from(words) {
+        Ok(matches) => Ok(matches),
+        Err(error) => Err(Failure::Usage(error)),
     }
 }
 
@@ -150,23 +257,17 @@ fn run<R: Files, I: Read + Drop, W: Write, E: Write + Drop>(
     words: &[String],
     output: &mut W,
 ) -> Result<bool, Failure> {
-    let command = options::command(inputs.alloc)?;
-    let matches = match command.try_get_matches_from(words) {
-        Ok(matches) => matches,
-        Err(error) => return Err(Failure::Usage(error)),
-    };
-    let Some((name, matches)) = matches.subcommand() else {
-        return Ok(false);
-    };
-    inputs.end = line_end(matches);
-    match name {
-        "pack" => pack_file(&mut inputs, matches)?,
-        "combine" => combine_files(&mut inputs, matches)?,
-        "stats" => return show_measures(&mut inputs, matches, output),
-        "draw" => return show_tree(&mut inputs, matches, output),
-        _ => return answer_all(&mut inputs, name, matches, output),
+    let matches = matched(inputs.alloc, words)?;
+    match matches.subcommand() {
+        Some((name, matches)) => obey(&mut inputs, name, matches, output),
+        None => Ok(false),
     }
-    Ok(true)
+}
+
+// Writes why the program does not answer to the end, and returns the status to end with.
+fn complain<E: Write>(errors: &mut E, failure: &Failure) -> u8 {
+    let _ = writeln!(errors, "prefixes: {failure}");
+    2
 }
 
 // Writes the help or the version, and returns the status to end with.
@@ -177,11 +278,18 @@ fn show_help<W: Write, E: Write>(output: &mut W, errors: &mut E, help: &clap::Er
     }
     match written {
         Ok(()) => 0,
-        Err(error) => {
-            let _ = writeln!(errors, "prefixes: {}", Failure::Output(error));
-            2
-        }
+        Err(error) => complain(errors, &Failure::Output(error)),
     }
+}
+
+// Writes what is wrong with the words of the command line, or what they ask for, and returns the
+// status to end with.
+fn show_usage<W: Write, E: Write>(output: &mut W, errors: &mut E, usage: &clap::Error) -> u8 {
+    if !usage.use_stderr() {
+        return show_help(output, errors, usage);
+    }
+    let _ = write!(errors, "{usage}");
+    2
 }
 
 /// The program, over its words and streams. It returns the status to end with: 0 where something
@@ -206,17 +314,7 @@ pub fn serve<R: Files, I: Read + Drop, W: Write + Drop, E: Write + Drop>(
     match run(inputs, words, &mut output) {
         Ok(true) => 0,
         Ok(false) => 1,
-        Err(Failure::Usage(error)) => {
-            if error.use_stderr() {
-                let _ = write!(errors, "{error}");
-                2
-            } else {
-                show_help(&mut output, &mut errors, &error)
-            }
-        }
-        Err(failure) => {
-            let _ = writeln!(errors, "prefixes: {failure}");
-            2
-        }
+        Err(Failure::Usage(usage)) => show_usage(&mut output, &mut errors, &usage),
+        Err(failure) => complain(&mut errors, &failure),
     }
 }

@@ -1,7 +1,7 @@
 //! Commands that show a list as a whole: what it takes, and its tree.
 
 use crate::drawing::{Node, draw};
-use crate::failure::{Failure, put};
+use crate::failure::{Failure, pack_failure, put};
 use crate::inputs::{Inputs, shown};
 use crate::measuring::{Measures, measure};
 use crate::objects::{MeasuresObject, NodeObject, Text, push_object};
@@ -149,32 +149,61 @@ fn push_place(place: usize, out: &mut Vec<u8>) -> Result<(), AllocError> {
     out.extend_from_slice(Buffer::new().format(place).as_bytes())
 }
 
+// Writes a node of a graph. Where a name ends, it has two borders.
+fn push_node(
+    alloc: Global,
+    place: usize,
+    node: &Node,
+    out: &mut Vec<u8>,
+) -> Result<(), AllocError> {
+    out.extend_from_slice(b"    ")?;
+    push_place(place, out)?;
+    out.extend_from_slice(b" [label=")?;
+    push_label(alloc, node.label.as_bytes(), out)?;
+    if node.is_name {
+        out.extend_from_slice(b", peripheries=2")?;
+    }
+    out.extend_from_slice(b"];")
+}
+
+// Writes an edge of a graph.
+fn push_edge(parent: usize, place: usize, out: &mut Vec<u8>) -> Result<(), AllocError> {
+    out.push(b' ')?;
+    push_place(parent, out)?;
+    out.extend_from_slice(b" -> ")?;
+    push_place(place, out)?;
+    out.push(b';')?;
+    Ok(())
+}
+
 // Writes the nodes of a tree as a graph of Graphviz, each on a line with the edge that leads to it.
-// Where a name ends, the node has two borders.
 fn push_graph(alloc: Global, nodes: &[Node], out: &mut Vec<u8>) -> Result<(), AllocError> {
     let mut parents: Vec<usize> = Vec::new(alloc);
     out.extend_from_slice(b"digraph prefixes {\n    node [shape=box];\n")?;
     for (place, node) in nodes.iter().enumerate() {
         parents.truncate(usize::from(node.level));
-        out.extend_from_slice(b"    ")?;
-        push_place(place, out)?;
-        out.extend_from_slice(b" [label=")?;
-        push_label(alloc, node.label.as_bytes(), out)?;
-        if node.is_name {
-            out.extend_from_slice(b", peripheries=2")?;
-        }
-        out.extend_from_slice(b"];")?;
+        push_node(alloc, place, node, out)?;
         if let Some(parent) = parents.last() {
-            out.push(b' ')?;
-            push_place(*parent, out)?;
-            out.extend_from_slice(b" -> ")?;
-            push_place(place, out)?;
-            out.push(b';')?;
+            push_edge(*parent, place, out)?;
         }
         out.push(b'\n')?;
         parents.push(place)?;
     }
     out.extend_from_slice(b"}\n")
+}
+
+// What the list at a path takes.
+fn measures_at<R: Files, I: Read + Drop, E: Write + Drop>(
+    inputs: &mut Inputs<'_, R, I, E>,
+    list: &str,
+) -> Result<Measures, Failure> {
+    let names = inputs.names(list)?;
+    let measures = measure(&names);
+    drop(names);
+    match measures {
+        Ok(measures) => Ok(measures),
+        Err(error) => Err(pack_failure(inputs.alloc, shown(list), error)),
+    }
 }
 
 /// Shows what the list at a path takes, and returns whether it has a name.
@@ -183,25 +212,45 @@ pub fn show_measures<R: Files, I: Read + Drop, E: Write + Drop, W: Write>(
     matches: &ArgMatches<'_>,
     output: &mut W,
 ) -> Result<bool, Failure> {
-    let alloc = inputs.alloc;
-    let list = path(matches, "LIST");
-    let names = inputs.names(list)?;
-    let measures = match measure(&names) {
-        Ok(measures) => measures,
-        Err(error) => return Err(Failure::Pack(String::from_str(alloc, shown(list))?, error)),
-    };
-    let mut out = Vec::new(alloc);
+    let measures = measures_at(inputs, path(matches, "LIST"))?;
+    let mut out = Vec::new(inputs.alloc);
     if matches.get_flag("json") {
-        push_object(
-            alloc,
-            &MeasuresObject::new(&measures, saved(&measures)),
-            &mut out,
-        )?;
+        let object = MeasuresObject::new(&measures, saved(&measures));
+        push_object(inputs.alloc, &object, &mut out)?;
     } else {
         push_measures(&measures, &mut out)?;
     }
     put(output, &mut out)?;
     Ok(measures.names != 0)
+}
+
+// The nodes of the list at a path, those of the names that begin with a prefix.
+fn nodes_at<R: Files, I: Read + Drop, E: Write + Drop>(
+    inputs: &mut Inputs<'_, R, I, E>,
+    list: &str,
+    prefix: &str,
+) -> Result<Vec<Node>, Failure> {
+    let names = inputs.names(list)?;
+    match draw(inputs.alloc, names, prefix) {
+        Ok(nodes) => Ok(nodes),
+        Err(error) => Err(pack_failure(inputs.alloc, shown(list), error)),
+    }
+}
+
+// Writes the nodes of a tree in the form that the command line names.
+fn push_drawing(
+    alloc: Global,
+    nodes: &[Node],
+    matches: &ArgMatches<'_>,
+    out: &mut Vec<u8>,
+) -> Result<(), AllocError> {
+    if matches.get_flag("dot") {
+        push_graph(alloc, nodes, out)
+    } else if matches.get_flag("json") {
+        push_nodes(alloc, nodes, out)
+    } else {
+        push_tree(alloc, nodes, out)
+    }
 }
 
 /// Shows the tree of the names that begin with a prefix, and returns whether there is one.
@@ -210,21 +259,9 @@ pub fn show_tree<R: Files, I: Read + Drop, E: Write + Drop, W: Write>(
     matches: &ArgMatches<'_>,
     output: &mut W,
 ) -> Result<bool, Failure> {
-    let alloc = inputs.alloc;
-    let list = path(matches, "LIST");
-    let names = inputs.names(list)?;
-    let nodes = match draw(alloc, names, path(matches, "PREFIX")) {
-        Ok(nodes) => nodes,
-        Err(error) => return Err(Failure::Pack(String::from_str(alloc, shown(list))?, error)),
-    };
-    let mut out = Vec::new(alloc);
-    if matches.get_flag("dot") {
-        push_graph(alloc, &nodes, &mut out)?;
-    } else if matches.get_flag("json") {
-        push_nodes(alloc, &nodes, &mut out)?;
-    } else {
-        push_tree(alloc, &nodes, &mut out)?;
-    }
+    let nodes = nodes_at(inputs, path(matches, "LIST"), path(matches, "PREFIX"))?;
+    let mut out = Vec::new(inputs.alloc);
+    push_drawing(inputs.alloc, &nodes, matches, &mut out)?;
     put(output, &mut out)?;
     Ok(nodes.iter().any(|node| node.is_name))
 }

@@ -3,7 +3,7 @@ use Rattle.std.specs.Prelude.{map as list_map, string_bytes}
 use Rattle.std.specs.FinMap as map
 use Rattle.patricia_tree.specs.Keys.{key_cmp}
 use Rattle.patricia_tree.specs.Prefixes.{under}
-use Rattle.prefixes_core.proofs.SubtreeLemmas.{own, own_first, dotted, nothing_below}
+use Rattle.prefixes_core.proofs.SubtreeLemmas.{own, own_first, nothing_below}
 use Rattle.prefixes_core.proofs.dotted.subtree.Goals.{in-Some+in_ok-from_str+in_ok-push, in_default}
 use Rattle.prefixes_core.proofs.dotted.subtree.Goals as goal
 
@@ -13,13 +13,10 @@ returns-then-not-begins_some-clause-entries g c =
     ∙ sym (nothing_below c.args.name.now (map.entries c.args.names.now)
     (c.begins_some.ensures.none c.if-not-begins_some.true))
 
-pub loop-entry-init : goal.loop-entry-init
-loop-entry-init g c =
+pub returns-clause-entries : goal.returns-clause-entries
+returns-clause-entries g c =
     let name = c.args.name.now in
     let entries = map.entries c.args.names.now in
-    let later : c.into_iter-entry-iterator.result ≡ under (dotted name) entries =
-    c.into_iter-entry-iterator.ensures.into_iter_gives ∙ c.iter_prefix-entry-items.ensures
-    ∙ ap (λ d. under d entries) (c.as_str.ensures.value ∙ c.in_ok-dotted.ensures) in
     let first : list_map (λ entry. (string_bytes entry.0, entry.1.now)) c.match-get.entries.items
     ≡ own name (map.find key_cmp name entries) = elim c.match-get.branch [
       | in-Some+in_ok-from_str+in_ok-push w ↦
@@ -34,6 +31,8 @@ loop-entry-init g c =
           ∙ ap (list_map (λ entry. (string_bytes entry.0, entry.1.now))) c.new-entries.ensures.items
           ∙ ap (own name) (w.in_default.ensures ∙ map.get-entries c.args.names.now name)
     ] in
-    ap (λ l. l ++ c.into_iter-entry-iterator.result) first ∙ ap (λ l. own name
-    (map.find key_cmp name entries) ++ l) later
+    c.in_ok-add_under.ensures
+    ∙ ap (λ l. l ++ under c.as_str.result.now entries) first
+    ∙ ap (λ d. own name (map.find key_cmp name entries) ++ under d entries)
+    (c.as_str.ensures.value ∙ c.in_ok-dotted.ensures)
     ∙ sym (own_first name entries (map.entries_sorted c.args.names.now))

@@ -1,11 +1,12 @@
 use Rattle.std.proofs.Common.{◌≡◌, ◌++◌}
 use Rattle.std.specs.Prelude.{map as list_map, string_bytes}
 use Rattle.std.specs.FinMap as map
-use Rattle.prefixes_core.specs.Subtrees.{subtree}
-use Rattle.prefixes_core.proofs.dotted.subtree.Given as goal
+use Rattle.patricia_tree.specs.Prefixes.{under}
+use Rattle.prefixes_core.proofs.dotted.add_under.Given as goal
 
--- the entries so far and those that are left are the subtree
+-- the entries so far and those that are left are those before and those of the prefix
 abbrev pub invariant-loop-entry : goal.invariant-loop-entry
 invariant-loop-entry g l =
     list_map (λ entry. (string_bytes entry.0, entry.1.now)) l.entries.items ++ l.entry-iterator
-    ≡ subtree l.name (map.entries l.names)
+    ≡ list_map (λ entry. (string_bytes entry.0, entry.1.now)) l.fn.entries.items
+    ++ under l.prefix (map.entries l.names)
