@@ -6,6 +6,7 @@ mod key_examples;
 mod listings;
 mod loans;
 mod long_keys;
+mod many;
 mod longest_loans;
 mod map_examples;
 mod range_examples;

@@ -75,6 +75,25 @@ fn get(rt: HostRuntime) {
 }
 
 #[test]
+fn get_many_into(rt: HostRuntime) {
+    // example: map get_many_into
+    let map = map_of(&rt, rt.alloc(), &[("foo", 1), ("bar", 2)]);
+    let mut found = [None; 2];
+    same!(rt; map.get_many_into(&["bar", "baz", "foo"], &mut found), 2);
+    same!(rt; found, [Some(&2), None]);
+    // end
+}
+
+#[test]
+fn get_many(rt: HostRuntime) {
+    // example: map get_many
+    let map = map_of(&rt, rt.alloc(), &[("foo", 1), ("bar", 2)]);
+    let values = done(&rt, map.get_many(&["bar", "baz", "foo"]));
+    same!(rt; values.as_slice(), [Some(&2), None, Some(&1)].as_slice());
+    // end
+}
+
+#[test]
 fn get_mut(rt: HostRuntime) {
     // example: map get_mut
     let mut map = StringPatriciaMap::new(rt.alloc());
