@@ -5,16 +5,15 @@ use Rattle.std.specs.Prelude.{vec_len}
 use Rattle.patricia_nodes.specs.declared.arena.Node.{Node}
 use Rattle.patricia_nodes.specs.declared.arena.NodeArena.{NodeArena}
 use Rattle.patricia_nodes.specs.declared.arena.seek.LinkRef.{LinkRef}
-use Rattle.patricia_nodes.specs.declared.arena.seek.LinkRef.TheVariants.{Root}
 use Rattle.patricia_nodes.specs.declared.arena.seek.Match.{Match}
-use Rattle.patricia_nodes.specs.declared.arena.seek.Match.TheVariants.{Absent, Exact}
+use Rattle.patricia_nodes.specs.declared.arena.seek.Match.TheVariants.{Exact}
 use Rattle.patricia_keys.specs.Keys.{IsKeyKind, IsValid}
 use Rattle.patricia_model.specs.Siblings.{IsBefore, IsCanonical}
 use Rattle.patricia_model.specs.Internal.LabelCmp.{Passes}
 use Rattle.patricia_model.proofs.GetLemmas.{find_own}
 use Rattle.patricia_nodes.specs.Internal.NodeVecs.{IsRun}
 use Rattle.patricia_nodes.specs.Internal.Plans.{IsWellFormed, siblings_of, read, size}
-use Rattle.patricia_nodes.specs.Internal.Places.{MatchesAt, Placed, node_of}
+use Rattle.patricia_nodes.specs.Internal.Places.{MatchesAt, node_of}
 use Rattle.patricia_nodes.specs.Internal.Trails.{HasCome}
 use Rattle.patricia_nodes.specs.Internal.Trails.{path_of}
 use Rattle.patricia_nodes.proofs.TrailLemmas.{path_front, path_length, path_valid, filled_length}
@@ -23,8 +22,7 @@ use Rattle.patricia_nodes.proofs.ResumeLemmas.{walks_on}
 use Rattle.patricia_nodes.proofs.SeekLemmas.{Walks, sought_at, ends_placed, stops_placed, walks_root}
 use Rattle.patricia_nodes.proofs.SeekLemmas.{in_nodes, opens_siblings, walks_next, walks_down}
 use Rattle.patricia_nodes.proofs.SeekLemmas.{less_next, less_down, walks_past, fewer_past, run_within}
-use Rattle.patricia_nodes.proofs.SeekLemmas.{find_none, find_some, here_within}
-use Rattle.patricia_nodes.specs.Internal.Places.{node_above}
+use Rattle.patricia_nodes.proofs.SeekLemmas.{find_none, find_some}
 use Rattle.patricia_many.specs.Internal.Lookups.{EndsAt, IsAt, nodes_ahead}
 
 -- a walk that has come to a link is a look-up there

@@ -23,11 +23,7 @@ const FEW: usize = 3;
 const MOST_ROUNDS: usize = 64;
 
 // The first stage of all look-ups.
-fn read_heads<Q: BorrowedBytes, V>(
-    arena: &NodeArena<V>,
-    keys: &[Q],
-    lookups: &mut [Lookup<'_>],
-)
+fn read_heads<Q: BorrowedBytes, V>(arena: &NodeArena<V>, keys: &[Q], lookups: &mut [Lookup<'_>])
     requires whole { IsWellFormed arena.now }
     requires siblings { IsCanonical Q.Owned.item (siblings_of arena.now) }
     requires as_many { length keys.now ≡ length lookups.old }
@@ -43,11 +39,7 @@ fn read_heads<Q: BorrowedBytes, V>(
 }
 
 // The second stage of all look-ups.
-fn pass_siblings<Q: BorrowedBytes, V>(
-    arena: &NodeArena<V>,
-    keys: &[Q],
-    lookups: &mut [Lookup<'_>],
-)
+fn pass_siblings<Q: BorrowedBytes, V>(arena: &NodeArena<V>, keys: &[Q], lookups: &mut [Lookup<'_>])
     requires whole { IsWellFormed arena.now }
     requires siblings { IsCanonical Q.Owned.item (siblings_of arena.now) }
     requires as_many { length keys.now ≡ length lookups.old }
@@ -152,11 +144,7 @@ fn finish_all<'a, Q: BorrowedBytes, V>(
 }
 
 // Begins the look-ups of keys.
-fn start_all<Q: BorrowedBytes, V>(
-    arena: &NodeArena<V>,
-    keys: &[Q],
-    lookups: &mut [Lookup<'_>],
-)
+fn start_all<Q: BorrowedBytes, V>(arena: &NodeArena<V>, keys: &[Q], lookups: &mut [Lookup<'_>])
     requires whole { IsWellFormed arena.now }
     requires siblings { IsCanonical Q.Owned.item (siblings_of arena.now) }
     requires as_many { length keys.now ≡ length lookups.old }

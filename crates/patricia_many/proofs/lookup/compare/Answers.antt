@@ -1,4 +1,4 @@
-use Rattle.std.proofs.Common.{subst, sym, ◌∙◌, take, arith}
+use Rattle.std.proofs.Common.{subst, sym, ◌∙◌, arith}
 use Rattle.patricia_keys.specs.Keys.{IsValid}
 use Rattle.patricia_model.proofs.MeetingLemmas.{before_by_first_byte, passes_taken}
 use Rattle.patricia_nodes.proofs.HeadLemmas.{short_exact}

@@ -1,4 +1,4 @@
-use Rattle.std.proofs.Common.{◌≡◌, ◌≤◌, ◌-◌, length}
+use Rattle.std.proofs.Common.{◌≡◌, ◌-◌, length}
 use Rattle.std.proofs.Common.{map as list_map}
 use Rattle.patricia_many.specs.Internal.Lookups.{AreLookups}
 use Rattle.patricia_many.proofs.many.read_labels.Given as goal

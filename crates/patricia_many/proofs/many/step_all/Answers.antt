@@ -9,13 +9,12 @@ step-requires-clause-key g c =
     c.loop-k.k c.index-lookups-k.result (omega (arith, c.loop-k-test.true, c.loop-k.invariant.1, c.requires.as_many)) _ c.loop-k-test.true c.index-keys-k.is
 
 pub loop-k-preserved : goal.loop-k-preserved
-loop-k-preserved g c =
-    (
-      one_goes_on g.Q.Owned.Bytes.item c.args.arena.now g.Q.BorrowedBytes.key c.args.keys.now c.loop-k.lookups c.loop-k.invariant.0
+loop-k-preserved g c = (
+  one_goes_on g.Q.Owned.Bytes.item c.args.arena.now g.Q.BorrowedBytes.key c.args.keys.now c.loop-k.lookups c.loop-k.invariant.0
       c.loop-k.k c.index-lookups-k.result (omega (arith, c.loop-k-test.true, c.loop-k.invariant.1, c.requires.as_many)) _ c.loop-k-test.true c.index-keys-k.is _ c.step.ensures.key,
-      length-set c.loop-k.lookups c.loop-k.k _ ∙ c.loop-k.invariant.1,
-      elim c.if-goes_on.branch [
-        | then-goes_on w ↦ omega (arith, w.left-is, c.loop-k.invariant.2)
-        | else-goes_on w ↦ omega (arith, w.left-is, c.loop-k.invariant.2)
-      ],
-    )
+  length-set c.loop-k.lookups c.loop-k.k _ ∙ c.loop-k.invariant.1,
+  elim c.if-goes_on.branch [
+    | then-goes_on w ↦ omega (arith, w.left-is, c.loop-k.invariant.2)
+    | else-goes_on w ↦ omega (arith, w.left-is, c.loop-k.invariant.2)
+  ],
+)

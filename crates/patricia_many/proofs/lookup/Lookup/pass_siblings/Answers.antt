@@ -17,8 +17,8 @@ rest-requires-clause-valid g c =
 pub run-requires : goal.run-requires
 run-requires g c = record {
   within = λ to run.
-    let here = stands g.Q.Owned.Bytes.item g.met.Q.Owned.Bytes.lawful c.args.arena.now c.requires.whole c.requires.siblings
-    (g.Q.BorrowedBytes.key c.args.key) _ _ _ _ (sym c.get.ensures ∙ c.in-Some.is) c.requires.key.0 in
+      let here = stands g.Q.Owned.Bytes.item g.met.Q.Owned.Bytes.lawful c.args.arena.now c.requires.whole c.requires.siblings
+      (g.Q.BorrowedBytes.key c.args.key) _ _ _ _ (sym c.get.ensures ∙ c.in-Some.is) c.requires.key.0 in
       run_ends here (rw c.rest.ensures at c.as_bytes.ensures.valid) to (rw (c.as_bytes.ensures.value, c.rest.ensures) at run);
 }
 

@@ -7,10 +7,14 @@ use Rattle.patricia_many.proofs.lookup.Lookup.start.Goals.{then-is_empty, else-i
 pub returns : goal.returns
 returns g c =
     rw c.go_to.ensures (elim c.if-is_empty.branch [
-      | then-is_empty w ↦ rw (w.top-is, w.none-top.ensures)
-          (starts_empty g.Q.Owned.Bytes.item g.met.Q.Owned.Bytes.lawful c.args.arena.now c.requires.whole c.requires.siblings _
-          (w.if-is_empty.ensures.0 refl), tt)
-      | else-is_empty w ↦ rw w.top-is
-          (starts g.Q.Owned.Bytes.item g.met.Q.Owned.Bytes.lawful c.args.arena.now c.requires.whole c.requires.siblings _
-          (λ none. absurd (false≢true (w.if-is_empty.ensures.1 none))), tt)
+      | then-is_empty w ↦ rw (w.top-is, w.none-top.ensures) (
+        starts_empty g.Q.Owned.Bytes.item g.met.Q.Owned.Bytes.lawful c.args.arena.now c.requires.whole c.requires.siblings _
+            (w.if-is_empty.ensures.0 refl),
+        tt,
+      )
+      | else-is_empty w ↦ rw w.top-is (
+        starts g.Q.Owned.Bytes.item g.met.Q.Owned.Bytes.lawful c.args.arena.now c.requires.whole c.requires.siblings _
+            (λ none. absurd (false≢true (w.if-is_empty.ensures.1 none))),
+        tt,
+      )
     ])
