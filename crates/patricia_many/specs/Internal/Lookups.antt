@@ -1,6 +1,5 @@
 -- A look-up on its way, and at its end.
-use Rattle.std.specs.Option.{option_copied}
-use Rattle.std.specs.Prelude.{◌≡◌, ℕ, ◌<◌, ◌≤◌, List, [], Option, Some, None, slice_get, IfSome, drop}
+use Rattle.std.specs.Prelude.{◌≡◌, ℕ, ◌<◌, List, [], drop, Option, Some, None, slice_get, IfSome}
 use Rattle.std.specs.Prelude.{vec_len}
 use Rattle.std.specs.Borrow.{Bor}
 use Rattle.std.specs.FinMap.{find}
@@ -48,10 +47,3 @@ module _ (item : List ℕ → Type 0) {V : Type 0} (s : NodeArena V) where
 -- the first n look-ups are at their ends
 abbrev pub AreEndedTo : ℕ → List Lookup → Type 0
 AreEndedTo n ls = (k : ℕ) (l : Lookup) → k < n → slice_get ls k ≡ Some l → l.at ≡ None
-
--- from one place up to another stand the values at the keys
-abbrev pub AreFound : {V : Type 0} → NodeArena V → List (List ℕ) → ℕ → ℕ → List (Option (Bor V))
-    → Type 0
-AreFound s keys from to found =
-    (k : ℕ) (key : List ℕ) (f : Option (Bor _)) → from ≤ k → k < to → slice_get keys k ≡ Some key
-    → slice_get found k ≡ Some f → option_copied f ≡ find key_cmp key (entries_of s)
