@@ -6,7 +6,7 @@
 
 An example is code between two comments, '// example: MODULE NAME ..' and '// end'. It stands in the doc comment of each
 function of these names, in a file of CALLS or of a folder of CALLS, as the last section. Each public function of these
-files has one, but for HAS_NONE; so has each function of the traits of keys, and the library at its head. Where the tests call `done`, `same!`, `holds!`, `map_of` and `set_of` (asserts.rt),
+files has one, but for HAS_NONE; so has each function of the traits of keys, and the library at its head. Where the tests call `done`, `same!`, `alike!`, `holds!`, `map_of` and `set_of` (asserts.rt),
 which are quick to prove, an example has `?`, `assert_eq!`, `assert!` and `from_iter` of an array.
 
 On a page of PAGES it stands indented behind a line '<!-- example: MODULE NAME -->' and an empty one.
@@ -63,6 +63,7 @@ HAS_NONE = {'map keys_are_valid', 'set keys_are_valid', 'prefixes packed_is_one_
 WRITTEN = {
     r'\bdone\(\s*&rt,\s*': '%s?',
     r'\bsame!\(rt;\s*': 'assert_eq!(rt; %s)',
+    r'\balike!\(rt;\s*': 'assert_eq!(rt; %s)',
     r'\bholds!\(rt;\s*': 'assert!(rt; %s)',
     r'\bmap_of\(\s*&rt,\s*rt\.alloc\(\),\s*&': 'StringPatriciaMap::from_iter(rt.alloc(), %s)?',
     r'\bset_of\(\s*&rt,\s*rt\.alloc\(\),\s*&': 'StringPatriciaSet::from_iter(rt.alloc(), %s)?',

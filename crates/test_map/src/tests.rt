@@ -7,7 +7,6 @@ mod listings;
 mod loans;
 mod long_keys;
 mod longest_loans;
-mod many;
 mod map_examples;
 mod range_examples;
 mod read_cursor_examples;

@@ -31,6 +31,13 @@ macro_rules! same {
     };
 }
 
+// `assert_eq!` of two arrays as a call.
+macro_rules! alike {
+    ($rt:expr; $got:expr, $want:expr $(,)?) => {
+        $crate::tests::asserts::same!($rt; $got.as_slice(), $want.as_slice())
+    };
+}
+
 // `assert!` as a call.
 macro_rules! holds {
     ($rt:expr; $holds:expr $(,)?) => {
@@ -38,6 +45,7 @@ macro_rules! holds {
     };
 }
 
+pub(super) use alike;
 pub(super) use holds;
 pub(super) use same;
 

@@ -1,6 +1,6 @@
 //! The examples of the calls of maps, as the documentation has them.
 
-use crate::tests::asserts::{done, holds, map_of, same};
+use crate::tests::asserts::{alike, done, holds, map_of, same};
 use patricia_tree::{DecodeError, PatriciaMap, StringPatriciaMap};
 use std::vec::Vec;
 
@@ -80,7 +80,7 @@ fn get_many_into(rt: HostRuntime) {
     let map = map_of(&rt, rt.alloc(), &[("foo", 1), ("bar", 2)]);
     let mut found = [None; 2];
     same!(rt; map.get_many_into(&["bar", "baz", "foo"], &mut found), 2);
-    same!(rt; found, [Some(&2), None]);
+    alike!(rt; found, [Some(&2), None]);
     // end
 }
 
