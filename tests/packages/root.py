@@ -26,7 +26,9 @@ INCLUDED = 'gcc,libc6-dev,pkg-config,python3,man-db,bash-completion,cargo'
 UNABLE = 3
 PURGED = 'libpatricia0 libpatricia-dev python3-patricia patricia-tools'
 # what Debian's tools write there beside the files of packages
-OTHER = '/proc', '/sys', '/dev', '/tmp', '/var/cache', '/var/lib/dpkg', '/var/log', '/etc/ld.so.cache', '/root/.cargo'
+OTHER = '/proc', '/sys', '/dev', '/tmp', '/srv', '/var/cache', '/var/lib/dpkg', '/var/log', '/etc/ld.so.cache'
+# where all is tried there, and what programs take for the user's folder
+PLACE = '/srv/try'
 CARGO = '[package]\nname = "example"\nversion = "0.1.0"\nedition = "2021"\n\n' \
         '[dependencies]\npatricia = { path = "../crate" }\n'
 
@@ -51,10 +53,10 @@ class Root:
         return os.path.join(self.folder, *parts)
 
     def run(self, script):
-        """Runs a script of the shell there, in /tmp/try, and returns what it writes."""
+        """Runs a script of the shell there, in PLACE, and returns what it writes."""
         words = ['unshare', '--mount', '--pid', '--fork', '--mount-proc=' + self.path('proc'), 'chroot', self.folder,
-                 'env', '-i', 'PATH=/usr/sbin:/usr/bin:/sbin:/bin', 'HOME=/root', 'LC_ALL=C.UTF-8',
-                 'DEBIAN_FRONTEND=noninteractive', 'sh', '-ec', 'cd /tmp/try && ' + script]
+                 'env', '-i', 'PATH=/usr/sbin:/usr/bin:/sbin:/bin', 'HOME=' + PLACE, 'LC_ALL=C.UTF-8',
+                 'DEBIAN_FRONTEND=noninteractive', 'sh', '-ec', 'cd %s && %s' % (PLACE, script)]
         ran = subprocess.run(words, stdin=subprocess.DEVNULL, stdout=subprocess.PIPE, stderr=subprocess.STDOUT,
                              encoding='utf-8', errors='replace', check=False)
         if ran.returncode:
@@ -91,8 +93,8 @@ def base(folder, kept):
 
 
 def fill(root, dist):
-    """Puts the packages, the examples and the lists there, into /tmp/try."""
-    place = root.path('tmp', 'try')
+    """Puts the packages, the examples and the lists there, into PLACE."""
+    place = root.path(PLACE.lstrip('/'))
     shutil.copytree(dist, place)
     for name, (code, _) in documented.examples().items():
         folder = os.path.join(place, 'example', 'src') if name == 'main.rs' else place
@@ -123,7 +125,7 @@ def tried(root):
                 'complete -F _prefixes prefixes\n')
     root.run('mkdir crate && tar xf *.crate -C crate --strip-components=1')
     root.prints('cd example && cargo run --offline --quiet', printed['main.rs'])
-    root.run('dpkg -P %s && rm -rf /tmp/try/words' % PURGED)
+    root.run('dpkg -P %s && rm -rf words' % PURGED)
     left = sorted(root.files() - before)
     if left:
         raise Failed('left behind: ' + ' '.join(left))
