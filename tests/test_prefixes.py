@@ -197,7 +197,7 @@ class Pieces(Case):
         'route': ('routes', b'/api/users/7\nx\n'), 'complete': ('names', b'foo\nba\n'),
         'near': ('names', b'fooo\nbat\n'),
         'block': ('blocked', b'eu.ads.example.com\nnet\n'), 'tree': ('settings', b'log\nlo\n'),
-        'segment': ('words', b'applepie\n'),
+        'segment': ('words', b'applepie\n'), 'stats': ('names', b''), 'draw': ('names', b''),
     }
 
     def contents(self, name, build):
@@ -217,6 +217,14 @@ class Pieces(Case):
             whole = run([*words, path], lines)
             self.assertEqual(whole.returncode, 0)
             self.assert_ends(run_in_pieces(words, contents, lines), whole.stdout)
+
+    @each('clang', 'rattle')
+    def combine(self, build):
+        words = [self.program('prefixes', build), 'combine', 'union', '--as-lines', '-o', '/dev/stdout', os.devnull]
+        for path, contents in self.contents('names', build):
+            whole = run([*words, path])
+            self.assertEqual(len(whole.stdout.split(b'\n')), 6)
+            self.assert_ends(run_in_pieces(words, contents, b''), whole.stdout)
 
     @each('clang', 'rattle')
     def pack(self, build):
