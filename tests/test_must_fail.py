@@ -61,6 +61,8 @@ ghost use Rattle.std.specs.Prelude.{◌≡◌, ◌*◌, IsTrue, ◌↔◌, [], l
 SAID = '''./proofs/low/Pair/cut/Answers.antt:9:29: error: `returns`: `rw`: no occurrence of
   the path's left endpoint in the goal
 ./proofs/low/gone/Answers.antt:3:1: error: `returns`: `Goals` has no field `early`
+./proofs/low/part/Answers.antt:4:7: error: `returns`: the two types differ only where one has
+  `c.as_bytes-in-Some` and the other has `c.as_bytes`
 note: src/low.rt:65:5: it is not proved that what the function ensures holds when it returns
   (`returns-clause-value`)
 note: a goal may be false even if its line does not say so
@@ -166,6 +168,7 @@ class Said(unittest.TestCase):
         self.assertEqual(found, [
             ('low::Pair::cut', 'returns', 'proofs/low/Pair/cut/Answers.antt:9', False, False),
             ('low::gone', 'returns', 'proofs/low/gone/Answers.antt:3', False, True),
+            ('low::part', 'returns', 'proofs/low/part/Answers.antt:4', False, True),
             ('low::is_empty', 'returns-clause-value', 'src/low.rt:65', False, False),
             ('low::taken', 'take-requires', 'src/low.rt:97', True, False)])
         self.assertTrue(check.is_refused)
@@ -192,6 +195,18 @@ class Packs(Small):
         made = packs(sources.edits(), sources, lambda x: x.turns(sources))
         names = [[x.name for x in pack.edits] for pack in made]
         self.assertEqual(names, [['a.edit', 'c.edit'], ['b.edit']])
+
+    def test_code_is_that_of_a_function_whose_head_has_several_lines(self):
+        written(self.top, 'crates/small/src/lib.rt', SOURCE + '''
+pub fn long(
+    a: u8,
+    b: u8,
+) -> u8 {
+    a & b
+}
+''')
+        path = edit(self.top, 'long', '    a & b', '    a | b', 'long returns')
+        self.assertEqual(Edit(path).turns(self.sources()), {('src/lib.rt', 'long')})
 
     def test_a_promise_stands_apart_where_nothing_else_names_the_function(self):
         path = edit(self.top, 'promise', 'result ≡ a', 'result ≡ b', 'first returns')
