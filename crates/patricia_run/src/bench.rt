@@ -360,8 +360,8 @@ impl<K: Bytes, V: Copy> Bench<K, V> {
 ///
 /// # Errors
 ///
-/// Out of memory for the list of replies, which is reserved before the first command: nothing is
-/// done then.
+/// Out of memory for the list of replies, which is reserved before the first command, never for no
+/// commands: nothing is done then.
 pub fn run<K: Bytes, V: Copy, Q: BorrowedBytes<Owned = K>>(
     bench: &mut Bench<K, V>,
     commands: &[Command<Q, V>],
@@ -371,6 +371,7 @@ pub fn run<K: Bytes, V: Copy, Q: BorrowedBytes<Owned = K>>(
         Run K.item K.key
         bench.old (list_map (with_key Q.key) commands.now) replies.items bench.new) }
     ensures unchanged { OnErr result (bench.new ≡ bench.old) }
+    ensures err_only_nonempty { OnErr result (commands.now ≢ []) }
 {
     let mut replies = Vec::with_capacity(bench.alloc, commands.len())?;
     for command in commands {
