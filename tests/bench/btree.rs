@@ -215,9 +215,11 @@ fn from_copy(bytes: &[u8], ends: &[(usize, u64)]) -> Map {
 }
 
 // What a map is asked as it is filled.
-const QUESTIONS: [&str; 12] = [
+const QUESTIONS: [&str; 15] = [
     "get",
     "get_absent",
+    "get_many",
+    "get_many_absent",
     "walk",
     "lend",
     "scan",
@@ -225,6 +227,7 @@ const QUESTIONS: [&str; 12] = [
     "range",
     "under",
     "longest",
+    "longest_many",
     "first_after",
     "last_before",
     "count",
@@ -233,14 +236,14 @@ const QUESTIONS: [&str; 12] = [
 // What the calls of a line answer.
 fn answer(line: &str, map: &Map, lists: &Lists) -> u64 {
     match line {
-        "get" => found(map, &lists.present),
-        "get_absent" => found(map, &lists.absent),
+        "get" | "get_many" => found(map, &lists.present),
+        "get_absent" | "get_many_absent" => found(map, &lists.absent),
         "walk" | "lend" => walked(map),
         "scan" => scanned(map),
         "values" => summed(map),
         "range" => from_ten(map, lists.few()),
         "under" => under(map, lists.few()),
-        "longest" => longest(map, lists.few()),
+        "longest" | "longest_many" => longest(map, lists.few()),
         "first_after" => entries_after(map, lists.few()),
         "last_before" => entries_before(map, lists.few()),
         "count" => count(map, lists.prefix),
@@ -251,8 +254,8 @@ fn answer(line: &str, map: &Map, lists: &Lists) -> u64 {
 // How many calls a line has, or over how many entries they go.
 fn calls(line: &str, map: &Map, lists: &Lists, answer: u64) -> usize {
     match line {
-        "get" => lists.present.len(),
-        "get_absent" => lists.absent.len(),
+        "get" | "get_many" => lists.present.len(),
+        "get_absent" | "get_many_absent" => lists.absent.len(),
         "walk" | "lend" | "scan" | "values" => map.len(),
         "count" => answer as usize,
         _ => lists.few().len(),

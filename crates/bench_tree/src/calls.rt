@@ -9,9 +9,13 @@ use std::mem;
 pub(super) enum Each {
     Put,
     Get,
+    // of many keys by each call
+    GetMany,
     From,
     Under,
     Longest,
+    // of many keys by each call
+    LongestMany,
     After,
     Before,
     Take,
@@ -71,9 +75,9 @@ fn under<Q: BorrowedBytes>(
     Ok(entries)
 }
 
-// The length of the longest key that begins a key.
-fn longest<Q: BorrowedBytes>(map: &GenericPatriciaMap<Q::Owned, u64>, key: Q) -> u64 {
-    match map.get_longest_common_prefix(key) {
+// The length of the key of an entry, where there is one.
+fn prefix_len<Q: BorrowedBytes>(entry: Option<(Q, &u64)>) -> u64 {
+    match entry {
         Some((prefix, _)) => prefix.as_bytes().len() as u64,
         None => 0,
     }
@@ -106,6 +110,50 @@ fn taken<Q: BorrowedBytes>(
     Ok(u64::from(old.is_some()))
 }
 
+// How many keys a call for many of them looks up at the most.
+const AT_ONCE: usize = 256;
+
+// How many of the keys are there, of `AT_ONCE` at the most.
+fn there<Q: BorrowedBytes>(map: &GenericPatriciaMap<Q::Owned, u64>, keys: &[Q]) -> u64 {
+    let mut sum: u64 = 0;
+    let mut found = [None; AT_ONCE];
+    let n = map.get_many_into(keys, &mut found);
+    for value in &found[..n] {
+        sum = sum.wrapping_add(u64::from(value.is_some()));
+    }
+    sum
+}
+
+// The sum of the lengths of the longest prefixes of the keys.
+fn longest<Q: BorrowedBytes>(
+    map: &GenericPatriciaMap<Q::Owned, u64>,
+    keys: &[Q],
+) -> Result<u64, AllocError> {
+    let mut sum: u64 = 0;
+    let entries = map.longest_many(keys)?;
+    for entry in &entries {
+        sum = sum.wrapping_add(prefix_len(*entry));
+    }
+    Ok(sum)
+}
+
+// The sum of what a call for many keys answers, of which each has `AT_ONCE` at the most.
+fn call_many<Q: BorrowedBytes>(
+    map: &GenericPatriciaMap<Q::Owned, u64>,
+    call: Each,
+    keys: &[Q],
+) -> Result<u64, AllocError> {
+    let mut sum: u64 = 0;
+    for at in (0..keys.len()).step_by(AT_ONCE) {
+        let some = &keys[at..(at + AT_ONCE).min(keys.len())];
+        sum = sum.wrapping_add(match call {
+            Each::LongestMany => longest(map, some)?,
+            _ => there(map, some),
+        });
+    }
+    Ok(sum)
+}
+
 // Makes a call for one key, which inserts the value if it inserts one.
 fn call_one<Q: BorrowedBytes>(
     map: &mut GenericPatriciaMap<Q::Owned, u64>,
@@ -115,18 +163,18 @@ fn call_one<Q: BorrowedBytes>(
 ) -> Result<u64, AllocError> {
     match call {
         Each::Put => put(map, key, value),
-        Each::Get => Ok(u64::from(map.get(key).is_some())),
+        Each::Get | Each::GetMany => Ok(u64::from(map.get(key).is_some())),
         Each::From => from_ten(map, key),
         Each::Under => under(map, key),
-        Each::Longest => Ok(longest(map, key)),
+        Each::Longest | Each::LongestMany => Ok(prefix_len(map.get_longest_common_prefix(key))),
         Each::After => after(map, key),
         Each::Before => before(map, key),
         Each::Take => taken(map, key),
     }
 }
 
-/// The sum of what the call answers for the keys. `Put` gives each key the sum so far.
-pub(super) fn call_each<Q: BorrowedBytes>(
+// The sum of what a call for one key answers for each.
+fn call_singly<Q: BorrowedBytes>(
     map: &mut GenericPatriciaMap<Q::Owned, u64>,
     call: Each,
     keys: &[Q],
@@ -136,6 +184,18 @@ pub(super) fn call_each<Q: BorrowedBytes>(
         sum = sum.wrapping_add(call_one(map, call, *key, sum)?);
     }
     Ok(sum)
+}
+
+/// The sum of what the call answers for the keys. `Put` gives each key the sum so far.
+pub(super) fn call_each<Q: BorrowedBytes>(
+    map: &mut GenericPatriciaMap<Q::Owned, u64>,
+    call: Each,
+    keys: &[Q],
+) -> Result<u64, AllocError> {
+    match call {
+        Each::GetMany | Each::LongestMany => call_many(map, call, keys),
+        _ => call_singly(map, call, keys),
+    }
 }
 
 /// A call on a whole map.

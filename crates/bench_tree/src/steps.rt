@@ -40,9 +40,11 @@ enum Step {
 }
 
 // What a map is asked as it is filled.
-const QUESTIONS: [(&str, Step); 12] = [
+const QUESTIONS: [(&str, Step); 15] = [
     ("get", Step::Each(Each::Get, Part::Present)),
     ("get_absent", Step::Each(Each::Get, Part::Absent)),
+    ("get_many", Step::Each(Each::GetMany, Part::Present)),
+    ("get_many_absent", Step::Each(Each::GetMany, Part::Absent)),
     ("walk", Step::Whole(Whole::Walk)),
     ("lend", Step::Whole(Whole::Lend)),
     ("scan", Step::Whole(Whole::Scan)),
@@ -50,6 +52,7 @@ const QUESTIONS: [(&str, Step); 12] = [
     ("range", Step::Each(Each::From, Part::Few)),
     ("under", Step::Each(Each::Under, Part::Halves)),
     ("longest", Step::Each(Each::Longest, Part::Few)),
+    ("longest_many", Step::Each(Each::LongestMany, Part::Few)),
     ("first_after", Step::Each(Each::After, Part::Few)),
     ("last_before", Step::Each(Each::Before, Part::Few)),
     ("count", Step::Whole(Whole::Count)),

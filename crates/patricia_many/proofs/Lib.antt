@@ -1,2 +1,3 @@
+pub mod AheadLemmas
 pub mod LookupLemmas
 pub mod StageLemmas

@@ -1,7 +1,9 @@
 -- The steps of a look-up that is one of many.
-use Rattle.std.proofs.Common.{◌≡◌, ◌≢◌, ℕ, zero, suc, ◌+◌, ◌-◌, ◌<◌, ◌≤◌, List, [], ◌∷◌, length, length-append, length-drop, get_or, take, drop, drop-drop, drop_at, ◌∙◌}
+use Rattle.std.proofs.Common.{◌≡◌, ◌≢◌, ℕ, zero, suc, ◌+◌, ◌-◌, ◌<◌, ◌≤◌, List, [], ◌∷◌, length, ◌++◌, length-append, length-drop, get_or, take, drop, drop-drop, drop_at, ◌∙◌}
 use Rattle.std.proofs.Common.{Option, Some, None, refl, sym, ap, subst, arith}
-use Rattle.std.specs.Prelude.{vec_len}
+use Rattle.std.specs.Prelude.{IfSome, vec_len}
+use Rattle.std.proofs.lemmas.List.{take_at}
+use lib.Seq.{take-add}
 use Rattle.patricia_nodes.specs.declared.arena.Node.{Node}
 use Rattle.patricia_nodes.specs.declared.arena.NodeArena.{NodeArena}
 use Rattle.patricia_nodes.specs.declared.arena.seek.LinkRef.{LinkRef}
@@ -80,7 +82,7 @@ module _ {item : List ℕ → Type 0} {V : Type 0} {s : NodeArena V} {key : List
     {id : ℕ} {rest : List ℕ} (h : Stands item s key at id rest) where
   open h use {kind, whole, ok, is}
 
-  walk : Walks item s key h.link_ref (Some id) rest [] 0 (length h.come.frames)
+  pub walk : Walks item s key h.link_ref (Some id) rest [] 0 (length h.come.frames)
   walk = walks_on h.come
 
   -- the node there is in the vector, and something is left of the key
@@ -160,6 +162,14 @@ module _ {item : List ℕ → Type 0} {V : Type 0} {s : NodeArena V} {key : List
     pub down_fewer : nodes_ahead s n.child < nodes_ahead s at
     down_fewer = rw is (less_down kind whole ok walk refl reads)
 
+-- where it goes on, there is a node in the vector
+pub within_at : (item : List ℕ → Type 0) (kind : IsKeyKind item) {V : Type 0} (s : NodeArena V) → IsWellFormed s
+    → IsCanonical item (siblings_of s) → (key : List ℕ) (at : Option ℕ) (rest : List ℕ) (end : Option ℕ)
+    → IsAt item s key at rest end → IfSome at (λ id. id < vec_len s.nodes)
+within_at item kind s whole ok key None rest end here = tt
+within_at item kind s whole ok key (Some id) rest end here =
+    at_within (stands item kind s whole ok key (Some id) rest end id refl here)
+
 -- what is left behind a label is what is left of the key behind more bytes
 pub left_is : (item : List ℕ → Type 0) (key label left bytes rest : List ℕ) (passed : ℕ)
     → Passes item (drop passed key) label left → passed < length key → bytes ≡ key → rest ≡ left
@@ -169,6 +179,17 @@ left_is item key label left bytes rest passed h inside all some =
     let dropped = length-drop passed key in
     let is : length bytes - length rest ≡ passed + length label = omega (arith, long, dropped, ap length h.splits, inside, ap length all, ap length some) in
     rw is (sym (drop-drop (length label) passed key) ∙ ap (drop (length label)) (sym h.splits) ∙ drop_at label left (length label) refl)
+
+-- and the bytes before that are those passed, with the label
+pub front_is : (item : List ℕ → Type 0) (key label left bytes rest : List ℕ) (passed : ℕ)
+    → Passes item (drop passed key) label left → passed < length key → bytes ≡ key → rest ≡ left
+    → take (length bytes - length rest) key ≡ take passed key ++ label
+front_is item key label left bytes rest passed h inside all some =
+    let long = length-append label left in
+    let dropped = length-drop passed key in
+    let is : length bytes - length rest ≡ passed + length label = omega (arith, long, dropped, ap length h.splits, inside, ap length all, ap length some) in
+    rw is (take-add passed (length label) key
+    ∙ ap (λ r. take passed key ++ r) (ap (take (length label)) (sym h.splits) ∙ take_at label left (length label) refl))
 
 pub left_fits : (item : List ℕ → Type 0) (key label left bytes rest : List ℕ) (passed : ℕ)
     → Passes item (drop passed key) label left → bytes ≡ key → rest ≡ left → length rest ≤ length bytes

@@ -1,14 +1,15 @@
-//! A look-up on its way, which goes on in four stages.
-ghost use Rattle.std.specs.Prelude.{◌≡◌, ◌<◌, ◌≤◌, ◌≢◌, ◌↔◌, [], None, Some, IfSome, vec_len};
-ghost use Rattle.std.specs.Prelude.{◌++◌, IsTrue, drop, length, slice_index_or, take};
-ghost use Rattle.std.specs.Option.{option_copied};
+//! A look-up on its way, which goes on a node at a time.
+ghost use Rattle.std.specs.Prelude.{◌≡◌, ◌<◌, ◌≤◌, ◌≢◌, ◌↔◌, [], None, IfSome, vec_len, Bool};
+ghost use Rattle.std.specs.Prelude.{◌++◌, IsTrue, drop, false, length, take, true};
+ghost use Rattle.std.specs.Option.{option_copied, option_map};
 ghost use Rattle.std.specs.FinMap.{find};
 ghost use Rattle.patricia_keys.specs.Keys.{key_cmp, IsValid};
+ghost use Rattle.patricia_model.specs.Prefixes.{longest};
 ghost use Rattle.patricia_model.specs.Siblings.{own, IsCanonical};
 ghost use Rattle.patricia_model.specs.Internal.LabelCmp.{ComparesLabel};
 ghost use Rattle.patricia_nodes.specs.Internal.NodeVecs.{ReadsNode};
 ghost use Rattle.patricia_nodes.specs.Internal.Plans.{IsWellFormed, siblings_of, entries_of};
-ghost use Rattle.patricia_many.specs.Internal.Lookups.{IsLookup, nodes_ahead};
+ghost use Rattle.patricia_many.specs.Internal.Lookups.{IsFind, IsLookup, KeepsBest, nodes_ahead};
 
 use patricia_keys::{BorrowedBytes, Bytes};
 use patricia_model::label_cmp::{LabelCmp, compare_label};
@@ -17,32 +18,32 @@ use patricia_nodes::link::{Link, NodeId};
 
 /// A look-up on its way, or at its end.
 #[derive(Clone, Copy)]
-pub struct Lookup<'a> {
+pub struct Lookup {
     // the first of the siblings where it goes on, none at its end
     at: Link,
     // how many bytes of the key the nodes above them have
     passed: usize,
-    // the first byte of the node there, where it was read
+    // the first byte of the node there, which is read long before it is asked for, so that look-ups
+    // wait for memory together
     head: u8,
-    // the label of the node there, where it was read
-    label: Option<&'a [u8]>,
+    // whether the node itself was read, too
+    is_read: bool,
     // at its end the node of the key, where there is one
     end: Link,
+    // where the longest prefix is looked for, its node among those that were passed, if it is not
+    // the empty key, and how many bytes it has
+    best: Link,
+    best_len: usize,
 }
 
-// How a key meets the label of a node, which is given where it was read.
+// How a key meets the label of a node. Where their first bytes differ, or the label has one byte,
+// the node is not read.
 #[inline(always)]
-fn compare<Q: BorrowedBytes, V>(
-    arena: &NodeArena<V>,
-    id: NodeId,
-    key: Q,
-    label: Option<&[u8]>,
-) -> LabelCmp<Q>
+fn compare<Q: BorrowedBytes, V>(arena: &NodeArena<V>, id: NodeId, key: Q) -> LabelCmp<Q>
     requires within { id < vec_len arena.now.nodes }
     requires valid { ReadsNode arena.now.nodes id (λ n. IsValid Q.Owned.item n.label) }
     requires nonempty { ReadsNode arena.now.nodes id (λ n. n.label ≢ []) }
     requires key_filled { Q.key key ≢ [] }
-    requires label { IfSome label (λ l. ReadsNode arena.now.nodes id (λ n. l.now ≡ n.label)) }
     ensures { ReadsNode arena.now.nodes id
         (λ n. ComparesLabel Q.Owned.item Q.key (Q.key key) n.label result) }
 {
@@ -57,37 +58,37 @@ fn compare<Q: BorrowedBytes, V>(
     if arena.nodes.short_len(id) == 1 {
         return LabelCmp::Full(key.strip_n_prefix(1));
     }
-    match label {
-        Some(label) => compare_label(key, label),
-        None => compare_label(key, arena.nodes.label(id)),
-    }
+    compare_label(key, arena.nodes.label(id))
 }
 
-impl<'a> Lookup<'a> {
-    /// Room for a look-up among these nodes.
-    pub fn room<V>(_arena: &'a NodeArena<V>) -> Lookup<'a> {
+impl Lookup {
+    /// A look-up of no key, at its end.
+    pub fn new() -> Lookup {
         Lookup {
             at: Link::none(),
             passed: 0,
             head: 0,
-            label: None,
+            is_read: false,
             end: Link::none(),
+            best: Link::none(),
+            best_len: 0,
         }
     }
 
-    /// Begins the look-up of a key, at the top.
+    /// Begins the look-up of a key, and of its longest prefix where that is asked for, at the top.
     pub fn start<Q: BorrowedBytes, V>(&mut self, arena: &NodeArena<V>, key: Q)
         requires whole { IsWellFormed arena.now }
         requires siblings { IsCanonical Q.Owned.item (siblings_of arena.now) }
-        ensures { IsLookup Q.Owned.item arena.now (Q.key key) self.new }
+        ensures { (by_prefix : Bool)
+            → IsLookup Q.Owned.item arena.now by_prefix (Q.key key) self.new }
     {
         self.passed = 0;
-        let top = if key.is_empty() {
-            Link::none()
+        self.best = Link::none();
+        if key.is_empty() {
+            self.end_at(Link::none());
         } else {
-            arena.root
-        };
-        self.go_to(top);
+            self.go_to(arena, arena.root);
+        }
     }
 
     /// Whether it is not yet at its end.
@@ -97,21 +98,30 @@ impl<'a> Lookup<'a> {
         self.at.get().is_some()
     }
 
-    // Goes to these siblings.
-    fn go_to(&mut self, at: Link)
-        ensures { self.new ≡ record self.old { at = at; label = None; end = None } }
+    // Goes to these siblings, and reads the head of the first.
+    #[inline(always)]
+    fn go_to<V>(&mut self, arena: &NodeArena<V>, at: Link)
+        requires { IfSome at (λ id. id < vec_len arena.now.nodes) }
+        ensures { self.new ≡ record self.old {
+          at = at;
+          head = self.new.head;
+          is_read = false;
+          end = None;
+        } }
     {
         self.at = at;
-        self.label = None;
+        self.is_read = false;
         self.end = Link::none();
+        if let Some(id) = at.get() {
+            self.head = arena.nodes.first_byte(id);
+        }
     }
 
     // Ends at this node.
     fn end_at(&mut self, end: Link)
-        ensures { self.new ≡ record self.old { at = None; label = None; end = end } }
+        ensures { self.new ≡ record self.old { at = None; end = end } }
     {
         self.at = Link::none();
-        self.label = None;
         self.end = end;
     }
 
@@ -125,78 +135,122 @@ impl<'a> Lookup<'a> {
         key.strip_n_prefix(self.passed)
     }
 
-    /// The first stage: reads the head of the node there.
+    // Passes the siblings that come before the key and lie behind one another.
     #[inline(always)]
-    pub fn read_head<V>(&mut self, arena: &NodeArena<V>)
-        requires { IfSome self.old.at (λ id. id < vec_len arena.now.nodes) }
-        ensures { self.new ≡ record self.old { head = self.new.head } }
-    {
-        if let Some(id) = self.at.get() {
-            self.head = arena.nodes.first_byte(id);
-        }
-    }
-
-    /// The second stage: passes the siblings that come before the key and lie behind one another.
-    #[inline(always)]
-    pub fn pass_siblings<Q: BorrowedBytes, V>(&mut self, arena: &NodeArena<V>, key: Q)
+    fn pass_siblings<Q: BorrowedBytes, V>(&mut self, arena: &NodeArena<V>, key: Q)
         requires whole { IsWellFormed arena.now }
         requires siblings { IsCanonical Q.Owned.item (siblings_of arena.now) }
-        requires key { IsLookup Q.Owned.item arena.now (Q.key key) self.old }
-        ensures key { IsLookup Q.Owned.item arena.now (Q.key key) self.new }
-        ensures going { self.old.at ≢ None → self.new.at ≢ None }
+        requires key { IsFind Q.Owned.item arena.now (Q.key key) self.old }
+        ensures key { (by_prefix : Bool)
+            → IsLookup Q.Owned.item arena.now by_prefix (Q.key key) self.old
+            → IsLookup Q.Owned.item arena.now by_prefix (Q.key key) self.new }
         ensures ahead { nodes_ahead arena.now self.new.at ≤ nodes_ahead arena.now self.old.at }
+        ensures going { self.old.at ≢ None → self.new.at ≢ None }
     {
         let Some(id) = self.at.get() else {
             return;
         };
         let b = self.rest(key).as_bytes()[0];
         if self.head < b {
-            self.go_to(Link::some(arena.nodes.run(id, b)));
+            self.go_to(arena, Link::some(arena.nodes.run(id, b)));
         }
     }
 
-    /// The third stage: reads the label of the node there, if the key is compared with it.
+    // Reads the node there, if its label is compared with the key.
     #[inline(always)]
-    pub fn read_label<Q: BorrowedBytes, V>(&mut self, arena: &'a NodeArena<V>, key: Q)
+    fn read_label<Q: BorrowedBytes, V>(&mut self, arena: &NodeArena<V>, key: Q)
         requires whole { IsWellFormed arena.now }
         requires siblings { IsCanonical Q.Owned.item (siblings_of arena.now) }
-        requires key { IsLookup Q.Owned.item arena.now (Q.key key) self.old }
-        ensures key { IsLookup Q.Owned.item arena.now (Q.key key) self.new }
+        requires key { IsFind Q.Owned.item arena.now (Q.key key) self.old }
+        ensures { self.new ≡ record self.old { head = self.new.head; is_read = self.new.is_read } }
     {
         let Some(id) = self.at.get() else {
             return;
         };
         let b = self.rest(key).as_bytes()[0];
-        if arena.nodes.first_byte(id) == b && arena.nodes.short_len(id) != 1 {
-            self.label = Some(arena.nodes.label(id));
+        if self.head == b && arena.nodes.short_len(id) != 1 {
+            self.head = arena.nodes.label(id)[0];
+            self.is_read = true;
         }
     }
 
-    /// The last stage: goes to the sibling of the node there, to its children, or to the end.
+    // Keeps a node that was passed as that of the longest prefix so far, where that is asked for
+    // and the node has a value. So many bytes of the key end there.
     #[inline(always)]
-    pub fn step<Q: BorrowedBytes, V>(&mut self, arena: &NodeArena<V>, key: Q)
+    fn keep<V>(&mut self, arena: &NodeArena<V>, id: NodeId, len: usize, by_prefix: bool)
+        requires { id < vec_len arena.now.nodes }
+        ensures others { self.new
+            ≡ record self.old { best = self.new.best; best_len = self.new.best_len } }
+        ensures best { by_prefix ≡ true → ReadsNode arena.now.nodes id
+            (λ n. KeepsBest n.value id len self.old self.new) }
+    {
+        if by_prefix && arena.nodes.value(id).is_some() {
+            self.best = Link::some(id);
+            self.best_len = len;
+        }
+    }
+
+    // Goes to the sibling of the node there, to its children, or to the end.
+    #[inline(always)]
+    fn step<Q: BorrowedBytes, V>(&mut self, arena: &NodeArena<V>, key: Q, by_prefix: bool)
         requires whole { IsWellFormed arena.now }
         requires siblings { IsCanonical Q.Owned.item (siblings_of arena.now) }
-        requires key { IsLookup Q.Owned.item arena.now (Q.key key) self.old }
-        ensures key { IsLookup Q.Owned.item arena.now (Q.key key) self.new }
+        requires key { IsLookup Q.Owned.item arena.now by_prefix (Q.key key) self.old }
+        ensures key { IsLookup Q.Owned.item arena.now by_prefix (Q.key key) self.new }
         ensures ahead { self.old.at ≢ None
             → nodes_ahead arena.now self.new.at < nodes_ahead arena.now self.old.at }
     {
         let Some(id) = self.at.get() else {
             return;
         };
-        match compare(arena, id, self.rest(key), self.label) {
+        match compare(arena, id, self.rest(key)) {
             LabelCmp::Before => self.end_at(Link::none()),
-            LabelCmp::After => self.go_to(arena.nodes.sibling(id)),
+            LabelCmp::After => self.go_to(arena, arena.nodes.sibling(id)),
             LabelCmp::Partial(_) => self.end_at(Link::none()),
             LabelCmp::Full(rest) => {
+                let passed = key.as_bytes().len() - rest.as_bytes().len();
+                self.keep(arena, id, passed, by_prefix);
                 if rest.is_empty() {
                     self.end_at(Link::some(id));
                 } else {
-                    self.passed = key.as_bytes().len() - rest.as_bytes().len();
-                    self.go_to(arena.nodes.child(id));
+                    self.passed = passed;
+                    self.go_to(arena, arena.nodes.child(id));
                 }
             }
+        }
+    }
+
+    /// Goes on, but where the label of the node there is not yet read: reads it, and goes on the
+    /// next time.
+    #[inline(always)]
+    pub fn go<Q: BorrowedBytes, V>(&mut self, arena: &NodeArena<V>, key: Q, by_prefix: bool)
+        requires whole { IsWellFormed arena.now }
+        requires siblings { IsCanonical Q.Owned.item (siblings_of arena.now) }
+        requires key { IsLookup Q.Owned.item arena.now by_prefix (Q.key key) self.old }
+        ensures { IsLookup Q.Owned.item arena.now by_prefix (Q.key key) self.new }
+    {
+        if self.is_read {
+            self.step(arena, key, by_prefix);
+            return;
+        }
+        self.pass_siblings(arena, key);
+        self.read_label(arena, key);
+        if !self.is_read {
+            self.step(arena, key, by_prefix);
+        }
+    }
+
+    /// Goes on to its end.
+    pub fn finish<Q: BorrowedBytes, V>(&mut self, arena: &NodeArena<V>, key: Q, by_prefix: bool)
+        requires whole { IsWellFormed arena.now }
+        requires siblings { IsCanonical Q.Owned.item (siblings_of arena.now) }
+        requires key { IsLookup Q.Owned.item arena.now by_prefix (Q.key key) self.old }
+        ensures key { IsLookup Q.Owned.item arena.now by_prefix (Q.key key) self.new }
+        ensures ended { self.new.at ≡ None }
+    {
+        while self.goes_on() {
+            self.pass_siblings(arena, key);
+            self.step(arena, key, by_prefix);
         }
     }
 
@@ -208,7 +262,7 @@ impl<'a> Lookup<'a> {
         key: Q,
     ) -> Option<&'b V>
         requires siblings { IsCanonical Q.Owned.item (siblings_of arena.now) }
-        requires key { IsLookup Q.Owned.item arena.now (Q.key key) self.now }
+        requires key { IsFind Q.Owned.item arena.now (Q.key key) self.now }
         requires ended { self.now.at ≡ None }
         ensures { option_copied result
             ≡ find key_cmp (Q.key key) (own (option_copied top.entry) ++ entries_of arena.now) }
@@ -219,6 +273,30 @@ impl<'a> Lookup<'a> {
         match self.end.get() {
             Some(id) => arena.nodes.value(id),
             None => None,
+        }
+    }
+    /// The longest prefix of the key and the value there, where this was looked for and the look-up
+    /// is at its end. The value at the empty key is given.
+    pub fn prefix<'b, Q: BorrowedBytes, V>(
+        &self,
+        arena: &'b NodeArena<V>,
+        top: Option<&'b V>,
+        key: Q,
+    ) -> Option<(Q, &'b V)>
+        requires key { IsLookup Q.Owned.item arena.now true (Q.key key) self.now }
+        requires ended { self.now.at ≡ None }
+        ensures { option_map (λ e. (Q.key e.0, e.1.now)) result
+            ≡ longest (Q.key key) (own (option_copied top.entry) ++ entries_of arena.now) }
+    {
+        match self.best.get() {
+            None => match top {
+                Some(value) => Some((key.keep_n_prefix(0), value)),
+                None => None,
+            },
+            Some(id) => match arena.nodes.value(id) {
+                Some(value) => Some((key.keep_n_prefix(self.best_len), value)),
+                None => None,
+            },
         }
     }
 }

@@ -1,17 +1,17 @@
 //! Look-ups side by side: a look-up waits for memory most of its time, and the waits overlap.
-ghost use Rattle.std.specs.Prelude.{◌≡◌, ◌≤◌, ◌++◌, None, length};
+ghost use Rattle.std.specs.Prelude.{◌≡◌, ◌≤◌, ◌++◌, Bool, false, is_some, length, true};
 ghost use Rattle.std.specs.Prelude.{map as list_map};
-ghost use Rattle.std.specs.Option.{option_copied};
+ghost use Rattle.std.specs.Option.{option_copied, option_map};
 ghost use Rattle.std.specs.FinMap.{find};
 ghost use Rattle.patricia_keys.specs.Keys.{key_cmp};
+ghost use Rattle.patricia_model.specs.Prefixes.{longest};
 ghost use Rattle.patricia_model.specs.Siblings.{own, IsCanonical};
 ghost use Rattle.patricia_nodes.specs.Internal.Plans.{IsWellFormed, entries_of, siblings_of};
-ghost use Rattle.patricia_many.specs.Internal.Lookups.{AreEndedTo, AreLookups, IsLookup};
+ghost use Rattle.patricia_many.specs.Internal.Lookups.{AreEndedTo, AreLookups};
 
 use crate::lookup::Lookup;
 use patricia_keys::{BorrowedBytes, Bytes};
 use patricia_nodes::arena::NodeArena;
-use std::array;
 
 // so many look-ups go on side by side
 const SIDE_BY_SIDE: usize = 32;
@@ -22,75 +22,26 @@ const FEW: usize = 3;
 // a look-up of more steps, which is rare, goes on by itself
 const MOST_ROUNDS: usize = 64;
 
-// The first stage of all look-ups.
-fn read_heads<Q: BorrowedBytes, V>(arena: &NodeArena<V>, keys: &[Q], lookups: &mut [Lookup<'_>])
-    requires whole { IsWellFormed arena.now }
-    requires siblings { IsCanonical Q.Owned.item (siblings_of arena.now) }
-    requires as_many { length keys.now ≡ length lookups.old }
-    requires keys { AreLookups Q.Owned.item arena.now (list_map Q.key keys.now) lookups.old }
-    ensures as_many { length lookups.new ≡ length lookups.old }
-    ensures keys { AreLookups Q.Owned.item arena.now (list_map Q.key keys.now) lookups.new }
-{
-    let mut k = 0;
-    while k < keys.len() {
-        lookups[k].read_head(arena);
-        k += 1;
-    }
-}
-
-// The second stage of all look-ups.
-fn pass_siblings<Q: BorrowedBytes, V>(arena: &NodeArena<V>, keys: &[Q], lookups: &mut [Lookup<'_>])
-    requires whole { IsWellFormed arena.now }
-    requires siblings { IsCanonical Q.Owned.item (siblings_of arena.now) }
-    requires as_many { length keys.now ≡ length lookups.old }
-    requires keys { AreLookups Q.Owned.item arena.now (list_map Q.key keys.now) lookups.old }
-    ensures as_many { length lookups.new ≡ length lookups.old }
-    ensures keys { AreLookups Q.Owned.item arena.now (list_map Q.key keys.now) lookups.new }
-{
-    let mut k = 0;
-    while k < keys.len() {
-        lookups[k].pass_siblings(arena, keys[k]);
-        k += 1;
-    }
-}
-
-// The third stage of all look-ups.
-fn read_labels<'a, Q: BorrowedBytes, V>(
-    arena: &'a NodeArena<V>,
-    keys: &[Q],
-    lookups: &mut [Lookup<'a>],
-)
-    requires whole { IsWellFormed arena.now }
-    requires siblings { IsCanonical Q.Owned.item (siblings_of arena.now) }
-    requires as_many { length keys.now ≡ length lookups.old }
-    requires keys { AreLookups Q.Owned.item arena.now (list_map Q.key keys.now) lookups.old }
-    ensures as_many { length lookups.new ≡ length lookups.old }
-    ensures keys { AreLookups Q.Owned.item arena.now (list_map Q.key keys.now) lookups.new }
-{
-    let mut k = 0;
-    while k < keys.len() {
-        lookups[k].read_label(arena, keys[k]);
-        k += 1;
-    }
-}
-
-// The last stage of all look-ups. Returns how many are not at their ends.
-fn step_all<Q: BorrowedBytes, V>(
+// All look-ups go on. Returns how many are not at their ends.
+fn go_all<Q: BorrowedBytes, V>(
     arena: &NodeArena<V>,
     keys: &[Q],
-    lookups: &mut [Lookup<'_>],
+    by_prefix: bool,
+    lookups: &mut [Lookup],
 ) -> usize
     requires whole { IsWellFormed arena.now }
     requires siblings { IsCanonical Q.Owned.item (siblings_of arena.now) }
     requires as_many { length keys.now ≡ length lookups.old }
-    requires keys { AreLookups Q.Owned.item arena.now (list_map Q.key keys.now) lookups.old }
+    requires keys { AreLookups Q.Owned.item arena.now by_prefix
+        (list_map Q.key keys.now) lookups.old }
     ensures as_many { length lookups.new ≡ length lookups.old }
-    ensures keys { AreLookups Q.Owned.item arena.now (list_map Q.key keys.now) lookups.new }
+    ensures keys { AreLookups Q.Owned.item arena.now by_prefix
+        (list_map Q.key keys.now) lookups.new }
 {
     let mut left = 0;
     let mut k = 0;
     while k < keys.len() {
-        lookups[k].step(arena, keys[k]);
+        lookups[k].go(arena, keys[k], by_prefix);
         if lookups[k].goes_on() {
             left += 1;
         }
@@ -99,57 +50,44 @@ fn step_all<Q: BorrowedBytes, V>(
     left
 }
 
-// A look-up goes on to its end, by itself.
-fn finish<Q: BorrowedBytes, V>(arena: &NodeArena<V>, key: Q, lookup: &mut Lookup<'_>)
-    requires whole { IsWellFormed arena.now }
-    requires siblings { IsCanonical Q.Owned.item (siblings_of arena.now) }
-    requires key { IsLookup Q.Owned.item arena.now (Q.key key) lookup.old }
-    ensures key { IsLookup Q.Owned.item arena.now (Q.key key) lookup.new }
-    ensures ended { lookup.new.at ≡ None }
-{
-    while lookup.goes_on() {
-        lookup.pass_siblings(arena, key);
-        lookup.step(arena, key);
-    }
-}
-
 // All look-ups go on to their ends, side by side until few are left.
-fn finish_all<'a, Q: BorrowedBytes, V>(
-    arena: &'a NodeArena<V>,
+fn finish_all<Q: BorrowedBytes, V>(
+    arena: &NodeArena<V>,
     keys: &[Q],
-    lookups: &mut [Lookup<'a>],
+    by_prefix: bool,
+    lookups: &mut [Lookup],
 )
     requires whole { IsWellFormed arena.now }
     requires siblings { IsCanonical Q.Owned.item (siblings_of arena.now) }
     requires as_many { length keys.now ≡ length lookups.old }
-    requires keys { AreLookups Q.Owned.item arena.now (list_map Q.key keys.now) lookups.old }
+    requires keys { AreLookups Q.Owned.item arena.now by_prefix
+        (list_map Q.key keys.now) lookups.old }
     ensures as_many { length lookups.new ≡ length lookups.old }
-    ensures keys { AreLookups Q.Owned.item arena.now (list_map Q.key keys.now) lookups.new }
+    ensures keys { AreLookups Q.Owned.item arena.now by_prefix
+        (list_map Q.key keys.now) lookups.new }
     ensures ended { AreEndedTo (length keys.now) lookups.new }
 {
     let mut rounds = 0;
     let mut left = keys.len();
     while left > FEW && rounds < MOST_ROUNDS {
-        read_heads(arena, keys, lookups);
-        pass_siblings(arena, keys, lookups);
-        read_labels(arena, keys, lookups);
-        left = step_all(arena, keys, lookups);
+        left = go_all(arena, keys, by_prefix, lookups);
         rounds += 1;
     }
     let mut k = 0;
     while k < keys.len() {
-        finish(arena, keys[k], &mut lookups[k]);
+        lookups[k].finish(arena, keys[k], by_prefix);
         k += 1;
     }
 }
 
 // Begins the look-ups of keys.
-fn start_all<Q: BorrowedBytes, V>(arena: &NodeArena<V>, keys: &[Q], lookups: &mut [Lookup<'_>])
+fn start_all<Q: BorrowedBytes, V>(arena: &NodeArena<V>, keys: &[Q], lookups: &mut [Lookup])
     requires whole { IsWellFormed arena.now }
     requires siblings { IsCanonical Q.Owned.item (siblings_of arena.now) }
     requires as_many { length keys.now ≡ length lookups.old }
     ensures as_many { length lookups.new ≡ length lookups.old }
-    ensures keys { AreLookups Q.Owned.item arena.now (list_map Q.key keys.now) lookups.new }
+    ensures keys { (by_prefix : Bool)
+        → AreLookups Q.Owned.item arena.now by_prefix (list_map Q.key keys.now) lookups.new }
 {
     let mut k = 0;
     while k < keys.len() {
@@ -158,18 +96,37 @@ fn start_all<Q: BorrowedBytes, V>(arena: &NodeArena<V>, keys: &[Q], lookups: &mu
     }
 }
 
+// Looks up the keys of a block, and their longest prefixes where these are asked for.
+fn look_up<Q: BorrowedBytes, V>(
+    arena: &NodeArena<V>,
+    keys: &[Q],
+    by_prefix: bool,
+    lookups: &mut [Lookup],
+)
+    requires whole { IsWellFormed arena.now }
+    requires siblings { IsCanonical Q.Owned.item (siblings_of arena.now) }
+    requires as_many { length keys.now ≡ length lookups.old }
+    ensures as_many { length lookups.new ≡ length lookups.old }
+    ensures keys { AreLookups Q.Owned.item arena.now by_prefix
+        (list_map Q.key keys.now) lookups.new }
+    ensures ended { AreEndedTo (length keys.now) lookups.new }
+{
+    start_all(arena, keys, lookups);
+    finish_all(arena, keys, by_prefix, lookups);
+}
+
 // Writes the values at a block of keys, by their look-ups.
 fn write_values<'a, Q: BorrowedBytes, V>(
     arena: &'a NodeArena<V>,
     keys: &[Q],
-    lookups: &[Lookup<'_>],
+    lookups: &[Lookup],
     top: Option<&'a V>,
     found: &mut [Option<&'a V>],
 )
     requires siblings { IsCanonical Q.Owned.item (siblings_of arena.now) }
     requires as_many { length keys.now ≡ length lookups.now }
     requires found_as_many { length keys.now ≡ length found.old }
-    requires keys { AreLookups Q.Owned.item arena.now (list_map Q.key keys.now) lookups.now }
+    requires keys { AreLookups Q.Owned.item arena.now false (list_map Q.key keys.now) lookups.now }
     requires ended { AreEndedTo (length keys.now) lookups.now }
     ensures { list_map option_copied found.new
         ≡ list_map (λ key. find key_cmp (Q.key key)
@@ -197,10 +154,9 @@ fn get_block<'a, Q: BorrowedBytes, V>(
         ≡ list_map (λ key. find key_cmp (Q.key key)
         (own (option_copied top.entry) ++ entries_of arena.now)) keys.now }
 {
-    let mut lookups: [Lookup<'a>; SIDE_BY_SIDE] = array::from_fn(|_| Lookup::room(arena));
+    let mut lookups = [Lookup::new(); SIDE_BY_SIDE];
     let lookups = &mut lookups[..keys.len()];
-    start_all(arena, keys, lookups);
-    finish_all(arena, keys, lookups);
+    look_up(arena, keys, false, lookups);
     write_values(arena, keys, lookups, top, found);
 }
 
@@ -223,6 +179,138 @@ pub fn get_many<'a, Q: BorrowedBytes, V>(
     while at < keys.len() {
         let end = at + (keys.len() - at).min(SIDE_BY_SIDE);
         get_block(arena, &keys[at..end], top, &mut found[at..end]);
+        at = end;
+    }
+}
+
+// Writes which keys of a block are there, by their look-ups.
+fn write_flags<Q: BorrowedBytes, V>(
+    arena: &NodeArena<V>,
+    keys: &[Q],
+    lookups: &[Lookup],
+    top: Option<&V>,
+    found: &mut [bool],
+)
+    requires siblings { IsCanonical Q.Owned.item (siblings_of arena.now) }
+    requires as_many { length keys.now ≡ length lookups.now }
+    requires found_as_many { length keys.now ≡ length found.old }
+    requires keys { AreLookups Q.Owned.item arena.now false (list_map Q.key keys.now) lookups.now }
+    requires ended { AreEndedTo (length keys.now) lookups.now }
+    ensures { found.new ≡ list_map (λ key. is_some (find key_cmp (Q.key key)
+        (own (option_copied top.entry) ++ entries_of arena.now))) keys.now }
+{
+    let mut k = 0;
+    while k < keys.len() {
+        found[k] = lookups[k].value(arena, top, keys[k]).is_some();
+        k += 1;
+    }
+}
+
+// Looks up whether the keys of a block are there.
+fn contains_block<Q: BorrowedBytes, V>(
+    arena: &NodeArena<V>,
+    keys: &[Q],
+    top: Option<&V>,
+    found: &mut [bool],
+)
+    requires whole { IsWellFormed arena.now }
+    requires siblings { IsCanonical Q.Owned.item (siblings_of arena.now) }
+    requires few { length keys.now ≤ 32 }
+    requires as_many { length keys.now ≡ length found.old }
+    ensures { found.new ≡ list_map (λ key. is_some (find key_cmp (Q.key key)
+        (own (option_copied top.entry) ++ entries_of arena.now))) keys.now }
+{
+    let mut lookups = [Lookup::new(); SIDE_BY_SIDE];
+    let lookups = &mut lookups[..keys.len()];
+    look_up(arena, keys, false, lookups);
+    write_flags(arena, keys, lookups, top, found);
+}
+
+/// Looks up keys side by side, and writes whether each is there to the place of the key. The value
+/// at the empty key is given. Does not allocate.
+pub fn contains_many<Q: BorrowedBytes, V>(
+    arena: &NodeArena<V>,
+    keys: &[Q],
+    top: Option<&V>,
+    found: &mut [bool],
+)
+    requires whole { IsWellFormed arena.now }
+    requires siblings { IsCanonical Q.Owned.item (siblings_of arena.now) }
+    requires as_many { length keys.now ≡ length found.old }
+    ensures { found.new ≡ list_map (λ key. is_some (find key_cmp (Q.key key)
+        (own (option_copied top.entry) ++ entries_of arena.now))) keys.now }
+{
+    let mut at = 0;
+    while at < keys.len() {
+        let end = at + (keys.len() - at).min(SIDE_BY_SIDE);
+        contains_block(arena, &keys[at..end], top, &mut found[at..end]);
+        at = end;
+    }
+}
+
+// Writes the longest prefixes of a block of keys, by their look-ups.
+fn write_prefixes<'a, Q: BorrowedBytes, V>(
+    arena: &'a NodeArena<V>,
+    keys: &[Q],
+    lookups: &[Lookup],
+    top: Option<&'a V>,
+    found: &mut [Option<(Q, &'a V)>],
+)
+    requires as_many { length keys.now ≡ length lookups.now }
+    requires found_as_many { length keys.now ≡ length found.old }
+    requires keys { AreLookups Q.Owned.item arena.now true (list_map Q.key keys.now) lookups.now }
+    requires ended { AreEndedTo (length keys.now) lookups.now }
+    ensures { list_map (option_map (λ e. (Q.key e.0, e.1.now))) found.new
+        ≡ list_map (λ key. longest (Q.key key)
+        (own (option_copied top.entry) ++ entries_of arena.now)) keys.now }
+{
+    let mut k = 0;
+    while k < keys.len() {
+        found[k] = lookups[k].prefix(arena, top, keys[k]);
+        k += 1;
+    }
+}
+
+// Looks up the longest prefixes of the keys of a block.
+fn longest_block<'a, Q: BorrowedBytes, V>(
+    arena: &'a NodeArena<V>,
+    keys: &[Q],
+    top: Option<&'a V>,
+    found: &mut [Option<(Q, &'a V)>],
+)
+    requires whole { IsWellFormed arena.now }
+    requires siblings { IsCanonical Q.Owned.item (siblings_of arena.now) }
+    requires few { length keys.now ≤ 32 }
+    requires as_many { length keys.now ≡ length found.old }
+    ensures { list_map (option_map (λ e. (Q.key e.0, e.1.now))) found.new
+        ≡ list_map (λ key. longest (Q.key key)
+        (own (option_copied top.entry) ++ entries_of arena.now)) keys.now }
+{
+    let mut lookups = [Lookup::new(); SIDE_BY_SIDE];
+    let lookups = &mut lookups[..keys.len()];
+    look_up(arena, keys, true, lookups);
+    write_prefixes(arena, keys, lookups, top, found);
+}
+
+/// Looks up the longest prefixes of keys side by side, and writes each, with the value there, to
+/// the place of the key. The value at the empty key is given. Does not allocate.
+pub fn longest_many<'a, Q: BorrowedBytes, V>(
+    arena: &'a NodeArena<V>,
+    keys: &[Q],
+    top: Option<&'a V>,
+    found: &mut [Option<(Q, &'a V)>],
+)
+    requires whole { IsWellFormed arena.now }
+    requires siblings { IsCanonical Q.Owned.item (siblings_of arena.now) }
+    requires as_many { length keys.now ≡ length found.old }
+    ensures { list_map (option_map (λ e. (Q.key e.0, e.1.now))) found.new
+        ≡ list_map (λ key. longest (Q.key key)
+        (own (option_copied top.entry) ++ entries_of arena.now)) keys.now }
+{
+    let mut at = 0;
+    while at < keys.len() {
+        let end = at + (keys.len() - at).min(SIDE_BY_SIDE);
+        longest_block(arena, &keys[at..end], top, &mut found[at..end]);
         at = end;
     }
 }

@@ -29,7 +29,6 @@ use std::marker::Model;
 /// ```
 #[derive(Drop)]
 pub struct Router<K: Bytes, V> {
-    alloc: Global,
     routes: GenericPatriciaMap<K, V>,
 }
 
@@ -60,7 +59,6 @@ impl<K: Bytes, V: Drop> Router<K, V> {
         ensures { result ≡ map.empty }
     {
         Router {
-            alloc,
             routes: GenericPatriciaMap::new(alloc),
         }
     }
@@ -182,7 +180,8 @@ impl<K: Bytes, V: Drop> Router<K, V> {
         self.routes.get_longest_common_prefix(key)
     }
 
-    /// Returns the route of each key, in the order of the keys.
+    /// Returns the route of each key, in the order of the keys. Up to 32 look-ups go on side by
+    /// side, so that they wait for memory together.
     ///
     /// # Errors
     ///
@@ -206,10 +205,6 @@ impl<K: Bytes, V: Drop> Router<K, V> {
             ≡ list_map (λ key. longest (Q.key key) (map.entries self.now)) keys.now) }
         ensures err_only_nonempty { OnErr result (keys.now ≢ []) }
     {
-        let mut routes = Vec::with_capacity(self.alloc, keys.len())?;
-        for key in keys {
-            routes.push(self.route(*key)).unwrap();
-        }
-        Ok(routes)
+        self.routes.longest_many(keys)
     }
 }

@@ -17,6 +17,7 @@ mod collects;
 mod debug;
 mod ends;
 mod iterators;
+mod many;
 mod near;
 mod ranges;
 mod sorted;

@@ -1,13 +1,15 @@
 -- A look-up on its way, and at its end.
-use Rattle.std.specs.Prelude.{◌≡◌, ℕ, ◌<◌, List, [], drop, Option, Some, None, slice_get, IfSome}
-use Rattle.std.specs.Prelude.{vec_len}
-use Rattle.std.specs.Borrow.{Bor}
+use Rattle.std.specs.Prelude.{◌≡◌, ℕ, ◌<◌, ◌≤◌, ◌++◌, Bool, true, List, [], drop, take, length}
+use Rattle.std.specs.Prelude.{Option, Some, None, IfSome, slice_get, vec_len}
+use Rattle.std.specs.List.{last_or}
 use Rattle.std.specs.FinMap.{find}
-use Rattle.patricia_keys.specs.Keys.{key_cmp}
+use Rattle.patricia_keys.specs.Keys.{key_cmp, IsValid}
+use Rattle.patricia_model.specs.Prefixes.{along, longest}
+use Rattle.patricia_model.specs.Siblings.{entries, own, prefixed}
 use Rattle.patricia_nodes.specs.declared.arena.NodeArena.{NodeArena}
 use Rattle.patricia_nodes.specs.declared.arena.seek.LinkRef.{LinkRef}
-use Rattle.patricia_nodes.specs.Internal.NodeVecs.{ReadsNode}
-use Rattle.patricia_nodes.specs.Internal.Plans.{entries_of, plan_at, size}
+use Rattle.patricia_nodes.specs.Internal.NodeVecs.{ReadsNode, value_in}
+use Rattle.patricia_nodes.specs.Internal.Plans.{entries_of, plan_at, siblings_in, size}
 use Rattle.patricia_nodes.specs.Internal.Trails.{HasCome}
 use Rattle.patricia_many.specs.declared.lookup.Lookup.{Lookup}
 
@@ -15,10 +17,23 @@ use Rattle.patricia_many.specs.declared.lookup.Lookup.{Lookup}
 abbrev pub nodes_ahead : {V : Type 0} → NodeArena V → Option ℕ → ℕ
 nodes_ahead s at = size (plan_at s.nodes.items at)
 
--- a label that was read is that of the node there
-abbrev pub HasLabel : {V : Type 0} → NodeArena V → Option ℕ → Option (Bor (List ℕ)) → Type 0
-HasLabel s at label =
-    IfSome label (λ l. IfSome at (λ id. ReadsNode s.nodes id (λ n. l.now ≡ n.label)))
+module _ {V : Type 0} (s : NodeArena V) (key : List ℕ) where
+  -- the common prefixes of the key among these siblings, behind so many bytes of it
+  abbrev pub along_ahead : ℕ → Option ℕ → List (List ℕ × V)
+  along_ahead len at =
+      prefixed (take len key)
+      (along (drop len key) (entries (siblings_in (plan_at s.nodes.items at))))
+
+  -- the entry of so many bytes of the key at a node, or that of the empty key at no node
+  abbrev pub entry_at : Option V → Option ℕ → ℕ → Option (List ℕ × V)
+  entry_at top None len = last_or None (own top)
+  entry_at top (Some id) len =
+      last_or None (prefixed (take len key) (own (value_in (slice_get s.nodes.items id))))
+
+-- a node is kept where it has a value, and else the one that was kept
+abbrev pub KeepsBest : {V : Type 0} → Option V → ℕ → ℕ → Lookup → Lookup → Type 0
+KeepsBest None id len old new = (new.best ≡ old.best) × (new.best_len ≡ old.best_len)
+KeepsBest (Some v) id len old new = (new.best ≡ Some id) × (new.best_len ≡ len)
 
 module _ (item : List ℕ → Type 0) {V : Type 0} (s : NodeArena V) where
   -- a look-up of the key ends at this node, or at none
@@ -34,15 +49,28 @@ module _ (item : List ℕ → Type 0) {V : Type 0} (s : NodeArena V) where
   IsAt key None rest end = EndsAt key end
   IsAt key (Some id) rest end = (link_ref : LinkRef) × HasCome item s key link_ref (Some id) rest []
 
-  -- this is a look-up of the key, with the label of the node where it is
-  abbrev pub IsLookup : List ℕ → Lookup → Type 0
-  IsLookup key l = IsAt key l.at (drop l.passed key) l.end × HasLabel s l.at l.label
+  -- the node that is kept is that of the longest prefix of the key so far: whatever the value at
+  -- the empty key is, the longest prefix is the last of this one and of those that are ahead
+  pub record HasBest (key : List ℕ) (l : Lookup) : Type 0 where
+    pub within : IfSome l.best (λ id. (id < vec_len s.nodes) × (l.best_len ≤ length key)
+        × IsValid item (take l.best_len key))
+    pub last : (top : Option V)
+        → last_or (entry_at s key top l.best l.best_len) (along_ahead s key l.passed l.at)
+        ≡ longest key (own top ++ entries_of s)
+
+  -- this is a look-up of the key
+  abbrev pub IsFind : List ℕ → Lookup → Type 0
+  IsFind key l = IsAt key l.at (drop l.passed key) l.end
+
+  -- and of its longest prefix, where that is asked for
+  abbrev pub IsLookup : Bool → List ℕ → Lookup → Type 0
+  IsLookup by_prefix key l = IsFind key l × (by_prefix ≡ true → HasBest key l)
 
   -- each key has its look-up
-  abbrev pub AreLookups : List (List ℕ) → List Lookup → Type 0
-  AreLookups keys ls =
+  abbrev pub AreLookups : Bool → List (List ℕ) → List Lookup → Type 0
+  AreLookups by_prefix keys ls =
       (k : ℕ) (key : List ℕ) (l : Lookup) → slice_get keys k ≡ Some key → slice_get ls k ≡ Some l
-      → IsLookup key l
+      → IsLookup by_prefix key l
 
 -- the first n look-ups are at their ends
 abbrev pub AreEndedTo : ℕ → List Lookup → Type 0

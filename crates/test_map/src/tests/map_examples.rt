@@ -85,6 +85,44 @@ fn get_many_into(rt: HostRuntime) {
 }
 
 #[test]
+fn contains_many_into(rt: HostRuntime) {
+    // example: map contains_many_into
+    let map = map_of(&rt, rt.alloc(), &[("foo", 1), ("bar", 2)]);
+    let mut found = [false; 2];
+    same!(rt; map.contains_many_into(&["bar", "baz", "foo"], &mut found), 2);
+    alike!(rt; found, [true, false]);
+    // end
+}
+
+#[test]
+fn contains_many(rt: HostRuntime) {
+    // example: map contains_many
+    let map = map_of(&rt, rt.alloc(), &[("foo", 1), ("bar", 2)]);
+    let found = done(&rt, map.contains_many(&["bar", "baz", "foo"]));
+    same!(rt; found.as_slice(), [true, false, true].as_slice());
+    // end
+}
+
+#[test]
+fn longest_many_into(rt: HostRuntime) {
+    // example: map longest_many_into
+    let map = map_of(&rt, rt.alloc(), &[("foo", 1), ("bar", 2)]);
+    let mut found = [None; 2];
+    same!(rt; map.longest_many_into(&["foot", "fo", "bar"], &mut found), 2);
+    alike!(rt; found, [Some(("foo", &1)), None]);
+    // end
+}
+
+#[test]
+fn longest_many(rt: HostRuntime) {
+    // example: map longest_many
+    let map = map_of(&rt, rt.alloc(), &[("foo", 1), ("bar", 2)]);
+    let entries = done(&rt, map.longest_many(&["foot", "fo", "bar"]));
+    same!(rt; entries.as_slice(), [Some(("foo", &1)), None, Some(("bar", &2))].as_slice());
+    // end
+}
+
+#[test]
 fn get_many(rt: HostRuntime) {
     // example: map get_many
     let map = map_of(&rt, rt.alloc(), &[("foo", 1), ("bar", 2)]);

@@ -54,6 +54,25 @@ fn contains(rt: HostRuntime) {
 }
 
 #[test]
+fn contains_many_into(rt: HostRuntime) {
+    // example: set contains_many_into
+    let set = set_of(&rt, rt.alloc(), &["foo", "bar"]);
+    let mut found = [false; 2];
+    same!(rt; set.contains_many_into(&["bar", "baz", "foo"], &mut found), 2);
+    same!(rt; found.as_slice(), [true, false].as_slice());
+    // end
+}
+
+#[test]
+fn contains_many(rt: HostRuntime) {
+    // example: set contains_many
+    let set = set_of(&rt, rt.alloc(), &["foo", "bar"]);
+    let found = done(&rt, set.contains_many(&["bar", "baz", "foo"]));
+    same!(rt; found.as_slice(), [true, false, true].as_slice());
+    // end
+}
+
+#[test]
 fn get_longest_common_prefix(rt: HostRuntime) {
     // example: set get_longest_common_prefix
     let mut set = StringPatriciaSet::new(rt.alloc());

@@ -46,21 +46,9 @@ returns-then-short_len-eq1 g c n reads =
 pub compare_label-requires-clause-valid : goal.compare_label-requires-clause-valid
 compare_label-requires-clause-valid g c =
     let there = node_there c.args.arena.now.nodes.items c.args.id (omega (arith, c.requires.within, c.args.arena.now.nodes.ok.0)) in
-    let read = rw c.in-Some.is at c.requires.label in
-    rw (read there.0 there.1) (c.requires.valid there.0 there.1)
+    rw (c.label.ensures there.0 there.1) (c.requires.valid there.0 there.1)
 
 pub compare_label-requires-clause-nonempty : goal.compare_label-requires-clause-nonempty
 compare_label-requires-clause-nonempty g c =
-    let there = node_there c.args.arena.now.nodes.items c.args.id (omega (arith, c.requires.within, c.args.arena.now.nodes.ok.0)) in
-    let read = rw c.in-Some.is at c.requires.label in
-    rw (read there.0 there.1) (c.requires.nonempty there.0 there.1)
-
-pub compare_label-requires-in-None-clause-valid : goal.compare_label-requires-in-None-clause-valid
-compare_label-requires-in-None-clause-valid g c =
-    let there = node_there c.args.arena.now.nodes.items c.args.id (omega (arith, c.requires.within, c.args.arena.now.nodes.ok.0)) in
-    rw (c.label.ensures there.0 there.1) (c.requires.valid there.0 there.1)
-
-pub compare_label-requires-in-None-clause-nonempty : goal.compare_label-requires-in-None-clause-nonempty
-compare_label-requires-in-None-clause-nonempty g c =
     let there = node_there c.args.arena.now.nodes.items c.args.id (omega (arith, c.requires.within, c.args.arena.now.nodes.ok.0)) in
     rw (c.label.ensures there.0 there.1) (c.requires.nonempty there.0 there.1)

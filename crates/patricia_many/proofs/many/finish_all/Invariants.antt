@@ -5,7 +5,7 @@ use Rattle.patricia_many.proofs.many.finish_all.Given as goal
 
 abbrev pub invariant-loop-left : goal.invariant-loop-left
 invariant-loop-left g l =
-    AreLookups g.Q.Owned.Bytes.item l.arena (list_map g.Q.BorrowedBytes.key l.keys) l.lookups
+    AreLookups g.Q.Owned.Bytes.item l.arena l.by_prefix (list_map g.Q.BorrowedBytes.key l.keys) l.lookups
     × (length l.lookups ≡ length l.fn.lookups)
 
 abbrev pub decreases-loop-left : goal.decreases-loop-left
@@ -13,7 +13,7 @@ decreases-loop-left g l = 64 - l.rounds
 
 abbrev pub invariant-loop-k : goal.invariant-loop-k
 invariant-loop-k g l =
-    AreLookups g.Q.Owned.Bytes.item l.arena (list_map g.Q.BorrowedBytes.key l.keys) l.lookups
+    AreLookups g.Q.Owned.Bytes.item l.arena l.by_prefix (list_map g.Q.BorrowedBytes.key l.keys) l.lookups
     × (length l.lookups ≡ length l.fn.lookups)
     × AreEndedTo l.k l.lookups
 

@@ -1,20 +1,29 @@
 use Rattle.std.proofs.Common.{refl}
 use mathlib.Core.Bool.{false≢true}
-use Rattle.patricia_many.proofs.LookupLemmas.{starts, starts_empty}
+use Rattle.patricia_many.proofs.LookupLemmas.{starts, starts_empty, within_at}
+use Rattle.patricia_many.proofs.AheadLemmas.{ahead_top, ahead_top_empty, best_starts}
 use Rattle.patricia_many.proofs.lookup.Lookup.start.Goals as goal
-use Rattle.patricia_many.proofs.lookup.Lookup.start.Goals.{then-is_empty, else-is_empty}
 
-pub returns : goal.returns
-returns g c =
-    rw c.go_to.ensures (elim c.if-is_empty.branch [
-      | then-is_empty w ↦ rw (w.top-is, w.none-top.ensures) (
-        starts_empty g.Q.Owned.Bytes.item g.met.Q.Owned.Bytes.lawful c.args.arena.now c.requires.whole c.requires.siblings _
-            (w.if-is_empty.ensures.0 refl),
-        tt,
-      )
-      | else-is_empty w ↦ rw w.top-is (
-        starts g.Q.Owned.Bytes.item g.met.Q.Owned.Bytes.lawful c.args.arena.now c.requires.whole c.requires.siblings _
-            (λ none. absurd (false≢true (w.if-is_empty.ensures.1 none))),
-        tt,
-      )
-    ])
+pub go_to-requires : goal.go_to-requires
+go_to-requires g c =
+    within_at g.Q.Owned.Bytes.item g.met.Q.Owned.Bytes.lawful c.args.arena.now c.requires.whole c.requires.siblings
+    (g.Q.BorrowedBytes.key c.args.key) _ _ _
+    (starts g.Q.Owned.Bytes.item g.met.Q.Owned.Bytes.lawful c.args.arena.now c.requires.whole c.requires.siblings _
+    (λ none. absurd (false≢true (c.if-is_empty.ensures.1 none))))
+
+pub returns-then-is_empty : goal.returns-then-is_empty
+returns-then-is_empty g c by_prefix =
+    rw (c.end_at.ensures, c.none.ensures) (
+      starts_empty g.Q.Owned.Bytes.item g.met.Q.Owned.Bytes.lawful c.args.arena.now c.requires.whole c.requires.siblings _
+          (c.if-is_empty.ensures.0 refl),
+      λ wants. best_starts g.Q.Owned.Bytes.item c.args.arena.now _ _ c.none-self.ensures
+          (ahead_top_empty g.Q.Owned.Bytes.item g.met.Q.Owned.Bytes.lawful c.args.arena.now c.requires.siblings _ (c.if-is_empty.ensures.0 refl)),
+    )
+
+pub returns-else-is_empty : goal.returns-else-is_empty
+returns-else-is_empty g c by_prefix =
+    rw c.go_to.ensures (
+      starts g.Q.Owned.Bytes.item g.met.Q.Owned.Bytes.lawful c.args.arena.now c.requires.whole c.requires.siblings _
+          (λ none. absurd (false≢true (c.if-is_empty.ensures.1 none))),
+      λ wants. best_starts g.Q.Owned.Bytes.item c.args.arena.now _ _ c.none-self.ensures (ahead_top c.args.arena.now _),
+    )

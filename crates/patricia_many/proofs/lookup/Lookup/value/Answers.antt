@@ -14,7 +14,7 @@ pub value-requires : goal.value-requires
 value-requires g c =
     let s = c.args.arena.now in
     let key = g.Q.BorrowedBytes.key c.args.key in
-    let ended = subst (λ a. IsAt g.Q.Owned.Bytes.item s key a (drop c.args.self.now.passed key) c.args.self.now.end) c.requires.ended c.requires.key.0 in
+    let ended = subst (λ a. IsAt g.Q.Owned.Bytes.item s key a (drop c.args.self.now.passed key) c.args.self.now.end) c.requires.ended c.requires.key in
     let here = subst (EndsAt g.Q.Owned.Bytes.item s key) (sym c.get.ensures ∙ c.in-Some.is) ended in
     here.0
 
@@ -22,7 +22,7 @@ pub returns-in-Some : goal.returns-in-Some
 returns-in-Some g c =
     let s = c.args.arena.now in
     let key = g.Q.BorrowedBytes.key c.args.key in
-    let ended = subst (λ a. IsAt g.Q.Owned.Bytes.item s key a (drop c.args.self.now.passed key) c.args.self.now.end) c.requires.ended c.requires.key.0 in
+    let ended = subst (λ a. IsAt g.Q.Owned.Bytes.item s key a (drop c.args.self.now.passed key) c.args.self.now.end) c.requires.ended c.requires.key in
     let here = subst (EndsAt g.Q.Owned.Bytes.item s key) (sym c.get.ensures ∙ c.in-Some.is) ended in
     let there = node_there s.nodes.items c.in-Some.id (omega (arith, here.0, s.nodes.ok.0)) in
     c.value.ensures there.0 there.1 ∙ here.1 there.0 there.1
@@ -32,7 +32,7 @@ pub returns-in-None : goal.returns-in-None
 returns-in-None g c =
     let s = c.args.arena.now in
     let key = g.Q.BorrowedBytes.key c.args.key in
-    let ended = subst (λ a. IsAt g.Q.Owned.Bytes.item s key a (drop c.args.self.now.passed key) c.args.self.now.end) c.requires.ended c.requires.key.0 in
+    let ended = subst (λ a. IsAt g.Q.Owned.Bytes.item s key a (drop c.args.self.now.passed key) c.args.self.now.end) c.requires.ended c.requires.key in
     let here = subst (EndsAt g.Q.Owned.Bytes.item s key) (sym c.get.ensures ∙ c.in-None.is) ended in
     sym here
     ∙ sym (find_child g.Q.Owned.Bytes.item g.met.Q.Owned.Bytes.lawful key _ (siblings_of s) (λ none. absurd (false≢true (c.if-is_empty.ensures.1 none))))

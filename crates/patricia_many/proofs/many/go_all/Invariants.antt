@@ -1,0 +1,12 @@
+use Rattle.std.proofs.Common.{◌≡◌, ◌≤◌, ◌-◌, length}
+use Rattle.std.proofs.Common.{map as list_map}
+use Rattle.patricia_many.specs.Internal.Lookups.{AreLookups}
+use Rattle.patricia_many.proofs.many.go_all.Given as goal
+
+abbrev pub invariant-loop-k : goal.invariant-loop-k
+invariant-loop-k g l =
+    AreLookups g.Q.Owned.Bytes.item l.arena l.by_prefix (list_map g.Q.BorrowedBytes.key l.keys) l.lookups
+    × (length l.lookups ≡ length l.fn.lookups) × (l.left ≤ l.k)
+
+abbrev pub decreases-loop-k : goal.decreases-loop-k
+decreases-loop-k g l = length l.keys - l.k
