@@ -9,7 +9,7 @@ mod PopLemmas
 mod SetLemmas
 mod WholeLemmas
 mod RetainLemmas
-mod RouteLemmas
+mod ManyLemmas
 mod ChoiceLemmas
 mod CollectLemmas
 mod FoldLemmas
