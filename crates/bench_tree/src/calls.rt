@@ -76,7 +76,7 @@ fn under<Q: BorrowedBytes>(
 }
 
 // The length of the key of an entry, where there is one.
-fn prefix_len<Q: BorrowedBytes>(entry: Option<(Q, &u64)>) -> u64 {
+fn prefix_len<Q: BorrowedBytes>(entry: &Option<(Q, &u64)>) -> u64 {
     match entry {
         Some((prefix, _)) => prefix.as_bytes().len() as u64,
         None => 0,
@@ -132,7 +132,7 @@ fn longest<Q: BorrowedBytes>(
     let mut sum: u64 = 0;
     let entries = map.longest_many(keys)?;
     for entry in &entries {
-        sum = sum.wrapping_add(prefix_len(*entry));
+        sum = sum.wrapping_add(prefix_len(entry));
     }
     Ok(sum)
 }
@@ -145,7 +145,7 @@ fn call_many<Q: BorrowedBytes>(
 ) -> Result<u64, AllocError> {
     let mut sum: u64 = 0;
     for at in (0..keys.len()).step_by(AT_ONCE) {
-        let some = &keys[at..(at + AT_ONCE).min(keys.len())];
+        let some = &keys[at..at.saturating_add(AT_ONCE).min(keys.len())];
         sum = sum.wrapping_add(match call {
             Each::LongestMany => longest(map, some)?,
             _ => there(map, some),
@@ -166,7 +166,7 @@ fn call_one<Q: BorrowedBytes>(
         Each::Get | Each::GetMany => Ok(u64::from(map.get(key).is_some())),
         Each::From => from_ten(map, key),
         Each::Under => under(map, key),
-        Each::Longest | Each::LongestMany => Ok(prefix_len(map.get_longest_common_prefix(key))),
+        Each::Longest | Each::LongestMany => { Ok(prefix_len(&map.get_longest_common_prefix(key))) }
         Each::After => after(map, key),
         Each::Before => before(map, key),
         Each::Take => taken(map, key),
