@@ -243,8 +243,8 @@ bool patricia_remove_prefix(patricia_map *map, const uint8_t *prefix, size_t pre
  * places than there are lengths, or the lengths reach behind `keys`; nothing is written. What lies
  * behind the answers in the arrays stays. Neither allocates. */
 
-/* Looks up each key as patricia_get does: writes 1 to `found` and its value to `values` where it is
- * there, and else 0 to `found`. */
+/* Looks up each key as patricia_get does, up to 32 keys side by side: writes 1 to `found` and its
+ * value to `values` where it is there, and else 0 to `found`. */
 uint32_t patricia_get_many(const patricia_map *map, const uint8_t *keys, size_t keys_size,
                            const size_t *lens, size_t count, uint64_t *values, size_t values_size,
                            uint8_t *found, size_t found_size);

@@ -10,6 +10,10 @@ ghost use Rattle.patricia_c.specs.Maps.{map_of};
 
 use crate::map_place::MapPlace;
 use crate::map_pointer::StoredMap;
+use std::array;
+
+// so many keys are looked up side by side
+const SIDE_BY_SIDE: usize = 32;
 
 /// All keys were looked up.
 pub(crate) const DONE: u32 = 0;
@@ -33,16 +37,6 @@ pub(crate) fn lie_in(lens: &[usize], bytes: usize) -> bool
     true
 }
 
-// The value at a key.
-fn value_at(stored: Option<&StoredMap>, key: &[u8]) -> Option<u64>
-    ensures { result ≡ map.get (map_of (option_copied stored.entry)) key.now }
-{
-    match stored {
-        Some(stored) => stored.map.get(key).copied(),
-        None => None,
-    }
-}
-
 // Writes one answer.
 fn write_value(answer: Option<u64>, i: usize, values: &mut [u64], found: &mut [u8])
     requires values_fit { i < length values.old }
@@ -57,6 +51,89 @@ fn write_value(answer: Option<u64>, i: usize, values: &mut [u64], found: &mut [u
             found[i] = 1;
         }
         None => found[i] = 0,
+    }
+}
+
+// Writes answers, one behind the other.
+fn write_answers(answers: &[Option<&u64>], values: &mut [u64], found: &mut [u8])
+    requires values_fit { length answers.now ≤ length values.old }
+    requires found_fit { length answers.now ≤ length found.old }
+    ensures values { values.new ≡ written (number (λ v. v)) (list_map option_copied answers.now)
+        values.old }
+    ensures found { found.new ≡ written flag (list_map option_copied answers.now) found.old }
+{
+    let mut i = 0;
+    while i < answers.len() {
+        write_value(answers[i].copied(), i, values, found);
+        i += 1;
+    }
+}
+
+// Cuts off the keys of these lengths, and returns how many bytes they have.
+fn cut_keys<'a>(keys: &'a [u8], lens: &[usize], block: &mut [&'a [u8]]) -> usize
+    requires keys_fit { sum lens.now ≤ length keys.now }
+    requires as_many { length lens.now ≡ length block.old }
+    ensures used { result ≡ sum lens.now }
+    ensures keys { list_map (λ key. key.now) block.new ≡ keys_in keys.now lens.now }
+{
+    let mut used = 0;
+    let mut i = 0;
+    while i < lens.len() {
+        let end = used + lens[i];
+        block[i] = &keys[used..end];
+        used = end;
+        i += 1;
+    }
+    used
+}
+
+// Looks up a block of keys side by side, and writes their answers. Returns how many bytes the keys
+// have.
+fn get_block(
+    stored: &StoredMap,
+    keys: &[u8],
+    lens: &[usize],
+    values: &mut [u64],
+    found: &mut [u8],
+) -> usize
+    requires few { length lens.now ≤ 32 }
+    requires keys_fit { sum lens.now ≤ length keys.now }
+    requires values_fit { length lens.now ≤ length values.old }
+    requires found_fit { length lens.now ≤ length found.old }
+    ensures used { result ≡ sum lens.now }
+    ensures values { values.new ≡ written (number (λ v. v)) (list_map
+        (map.get stored.now.map) (keys_in keys.now lens.now)) values.old }
+    ensures found { found.new ≡ written flag (list_map
+        (map.get stored.now.map) (keys_in keys.now lens.now)) found.old }
+{
+    let mut block: [&[u8]; SIDE_BY_SIDE] = array::from_fn(|_| keys);
+    let block = &mut block[..lens.len()];
+    let used = cut_keys(keys, lens, block);
+    let mut answers: [Option<&u64>; SIDE_BY_SIDE] = [None; SIDE_BY_SIDE];
+    let answers = &mut answers[..lens.len()];
+    stored.map.get_many_into(block, answers);
+    write_answers(answers, values, found);
+    used
+}
+
+// Looks up keys, a block of them after the other.
+fn get_blocks(stored: &StoredMap, keys: &[u8], lens: &[usize], values: &mut [u64], found: &mut [u8])
+    requires keys_fit { sum lens.now ≤ length keys.now }
+    requires values_fit { length lens.now ≤ length values.old }
+    requires found_fit { length lens.now ≤ length found.old }
+    ensures values { values.new ≡ written (number (λ v. v)) (list_map
+        (map.get stored.now.map) (keys_in keys.now lens.now)) values.old }
+    ensures found { found.new ≡ written flag (list_map
+        (map.get stored.now.map) (keys_in keys.now lens.now)) found.old }
+{
+    let mut used = 0;
+    let mut i = 0;
+    while i < lens.len() {
+        let end = i + (lens.len() - i).min(SIDE_BY_SIDE);
+        let rest = &keys[used..];
+        let block = &lens[i..end];
+        used += get_block(stored, rest, block, &mut values[i..end], &mut found[i..end]);
+        i = end;
     }
 }
 
@@ -76,21 +153,17 @@ pub(crate) fn get_each(
     ensures found { found.new ≡ written flag (list_map
         (map.get (map_of (option_copied stored.entry))) (keys_in keys.now lens.now)) found.old }
 {
-    let mut used = 0;
-    let mut i = 0;
-    while i < lens.len() {
-        let end = used + lens[i];
-        let answer = value_at(stored, &keys[used..end]);
-        write_value(answer, i, values, found);
-        used = end;
-        i += 1;
+    match stored {
+        Some(stored) => get_blocks(stored, keys, lens, values, found),
+        None => found[..lens.len()].fill(0),
     }
 }
 
-/// Looks up many keys: those of these lengths that lie one behind the other in `keys`. Writes to
-/// `found`, for each in turn, 1 where it is there, and then its value to `values`, and else 0.
-/// Returns `DONE`; or `NO_ROOM` where `values` or `found` has fewer places than there are lengths,
-/// or the lengths reach behind `keys`: nothing is written then. Does not allocate.
+/// Looks up many keys: those of these lengths that lie one behind the other in `keys`, up to 32 of
+/// them side by side. Writes to `found`, for each in turn, 1 where it is there, and then its value
+/// to `values`, and else 0. Returns `DONE`; or `NO_ROOM` where `values` or `found` has fewer places
+/// than there are lengths, or the lengths reach behind `keys`: nothing is written then. Does not
+/// allocate.
 #[unsafe(no_mangle)]
 pub extern "C" fn patricia_get_many(
     at: &mut MapPlace,

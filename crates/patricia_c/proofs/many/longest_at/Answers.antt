@@ -1,4 +1,4 @@
-use Rattle.std.proofs.Common.{sym, ap, ◌∙◌}
+use Rattle.std.proofs.Common.{sym, ap}
 use Rattle.std.specs.Option.{option_copied}
 use Rattle.patricia_tree.specs.Prefixes.{longest}
 use Rattle.patricia_c.specs.Many.{measured}
