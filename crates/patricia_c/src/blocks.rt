@@ -13,9 +13,9 @@ ghost use Rattle.patricia_c.specs.Maps.{map_of};
 ghost use Rattle.patricia_c.specs.Internal.Filling.{AreWritten, Fills, HasNoRoom};
 ghost use Rattle.patricia_c.specs.Internal.Filling.{IsFullFirst, IsNoneFirst};
 
+use crate::codes::{END, ENTRY, NO_MEMORY, NO_ROOM};
 use crate::cursor_place::CursorPlace;
 use crate::cursor_pointer::Position;
-use crate::cursors::{END, ENTRY, NO_MEMORY, NO_ROOM};
 use crate::map_place::MapPlace;
 use crate::map_pointer::StoredMap;
 use patricia_tree::map::RangeReadCursor;

@@ -12,6 +12,7 @@ ghost use Rattle.patricia_tree.specs.Ranges.{from};
 ghost use Rattle.patricia_c.specs.Cursors.{ahead_of, beyond, end_of, prefix_of, until};
 ghost use Rattle.patricia_c.specs.Maps.{map_of};
 
+use crate::codes::{END, ENTRY, NO_MEMORY, NO_ROOM};
 use crate::cursor_place::CursorPlace;
 use crate::cursor_pointer::Position;
 use crate::ends::next_of;
@@ -20,15 +21,6 @@ use crate::map_pointer::StoredMap;
 use crate::room::copy_to;
 use std::alloc::{AllocError, Global};
 use std::cmp::Ordering;
-
-/// No entry is ahead.
-pub(crate) const END: u32 = 0;
-/// An entry was written.
-pub(crate) const ENTRY: u32 = 1;
-/// Out of memory.
-pub(crate) const NO_MEMORY: u32 = 2;
-/// The room is too small: only the length of the key was written.
-pub(crate) const NO_ROOM: u32 = 4;
 
 impl Position {
     // The bytes that the keys of its entries begin with.

@@ -7,19 +7,11 @@ ghost use Rattle.patricia_tree.specs.Writings.{Means, TooDeep};
 ghost use Rattle.patricia_c.specs.Codes.{IsCode, IsLen, IsRefused};
 ghost use Rattle.patricia_c.specs.Maps.{map_of};
 
+use crate::codes::{DONE, NO_MEMORY, NO_ROOM, TOO_DEEP};
 use crate::map_place::MapPlace;
 use crate::room::copy_to;
 use patricia_tree::{DecodeError, PatriciaMap, WireError};
 use std::alloc::Global;
-
-/// The bytes were written, or the map was made.
-pub(crate) const DONE: u32 = 0;
-/// Out of memory.
-pub(crate) const NO_MEMORY: u32 = 2;
-/// A record would lie too deep.
-pub(crate) const TOO_DEEP: u32 = 3;
-/// The room is too small: nothing was written to it.
-pub(crate) const NO_ROOM: u32 = 4;
 
 // The code of an error, with the offset that it names.
 pub(crate) fn code(error: DecodeError, offset: &mut usize) -> u32

@@ -8,19 +8,11 @@ ghost use Rattle.patricia_tree.specs.Cursors.{after};
 ghost use Rattle.patricia_tree.specs.Ranges.{before};
 ghost use Rattle.patricia_c.specs.Maps.{map_of};
 
+use crate::codes::{ABSENT, FOUND, NO_MEMORY, NO_ROOM};
 use crate::map_place::MapPlace;
 use crate::map_pointer::StoredMap;
 use crate::room::copy_to;
 use std::alloc::AllocError;
-
-/// There is no such entry.
-pub(crate) const ABSENT: u32 = 0;
-/// The entry was written.
-const FOUND: u32 = 1;
-/// Out of memory.
-pub(crate) const NO_MEMORY: u32 = 2;
-/// The room is too small: only the length of the key was written.
-const NO_ROOM: u32 = 4;
 
 // Writes an entry, where the room is as long as its key.
 pub(crate) fn write_entry(

@@ -7,6 +7,7 @@ ghost use Rattle.patricia_tree.specs.Prefixes.{under};
 ghost use Rattle.patricia_c.specs.Maps.{map_of};
 ghost use Rattle.patricia_c.specs.EntriesLeft.{entries_of, TakesEntry, IsFirstLen, pairs_of};
 
+use crate::codes::{END, ENTRY, NO_ROOM};
 use crate::entries_pointer::EntriesLeft;
 use crate::iterator_place::IteratorPlace;
 use crate::map_place::MapPlace;
@@ -14,13 +15,6 @@ use crate::map_pointer::StoredMap;
 use crate::room::copy_to;
 use std::alloc::{AllocError, Global};
 use std::collections::VecDeque;
-
-/// No entry is left.
-const END: u32 = 0;
-/// An entry was written.
-const ENTRY: u32 = 1;
-/// The room is too small: no entry was removed.
-const NO_ROOM: u32 = 4;
 
 // Copies of the entries whose key begins with the prefix, in key order, or none where there are
 // none.

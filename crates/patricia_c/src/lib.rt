@@ -7,6 +7,7 @@
 #![tactic(auto)]
 
 mod blocks;
+mod codes;
 mod cursor_place;
 mod cursor_pointer;
 mod cursors;

@@ -9,18 +9,14 @@ ghost use Rattle.patricia_tree.specs.declared.map.sorted.LoadError.TheVariants.{
 ghost use Rattle.patricia_c.specs.Many.{keys_in, pairs_in};
 ghost use Rattle.patricia_c.specs.Maps.{map_of};
 
-use crate::many::{DONE, NO_ROOM, lie_in};
+use crate::codes::{DONE, NO_MEMORY, NO_ROOM, NOT_IN_ORDER};
+use crate::many::lie_in;
 use crate::map_place::MapPlace;
 use crate::map_pointer::StoredMap;
 use patricia_tree::map::LoadError;
 use std::alloc::Global;
 use std::iter::Iterator;
 use std::marker::Model;
-
-/// Out of memory: the entries before the refused one were put in.
-const NO_MEMORY: u32 = 2;
-/// A key does not come after the last one: the entries before it were put in.
-const NOT_IN_ORDER: u32 = 6;
 
 // Entries that lie in arrays: keys one behind the other, the length of each, and the values.
 #[derive(Drop)]

@@ -8,17 +8,13 @@ ghost use Rattle.patricia_tree.specs.Prefixes.{longest};
 ghost use Rattle.patricia_c.specs.Many.{flag, keys_in, measured, number, written};
 ghost use Rattle.patricia_c.specs.Maps.{map_of};
 
+use crate::codes::{DONE, NO_ROOM};
 use crate::map_place::MapPlace;
 use crate::map_pointer::StoredMap;
 use std::array;
 
 // so many keys are looked up side by side
 const SIDE_BY_SIDE: usize = 32;
-
-/// All keys were looked up.
-pub(crate) const DONE: u32 = 0;
-/// An array has too few places, or the lengths reach behind the bytes of the keys.
-pub(crate) const NO_ROOM: u32 = 4;
 
 // Whether keys of these lengths lie in so many bytes.
 pub(crate) fn lie_in(lens: &[usize], bytes: usize) -> bool

@@ -5,16 +5,10 @@ ghost use Rattle.patricia_tree.specs.ByteKind.{IsByteItem};
 ghost use Rattle.patricia_tree.specs.Points.{Joins};
 ghost use Rattle.patricia_c.specs.Maps.{map_of};
 
+use crate::codes::{ABSENT, FOUND, NO_MEMORY};
 use crate::map_place::MapPlace;
 use crate::map_pointer::StoredMap;
 use std::alloc::{AllocError, Global};
-
-/// The key was not there.
-const ABSENT: u32 = 0;
-/// The key was there.
-const FOUND: u32 = 1;
-/// Out of memory: nothing has changed.
-const NO_MEMORY: u32 = 2;
 
 /// Drops the entries and frees their memory. The place holds the empty map.
 #[unsafe(no_mangle)]

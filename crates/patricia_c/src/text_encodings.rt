@@ -7,15 +7,13 @@ ghost use Rattle.patricia_tree.specs.Writings.{Means, TooDeep};
 ghost use Rattle.patricia_c.specs.Codes.{HasOther, IsLen, IsRefused};
 ghost use Rattle.patricia_c.specs.Maps.{map_of};
 
-use crate::encodings::{DONE, NO_MEMORY, NO_ROOM, TOO_DEEP, code};
+use crate::codes::{DONE, NO_MEMORY, NO_ROOM, NOT_TEXT, TOO_DEEP};
+use crate::encodings::code;
 use crate::map_place::MapPlace;
 use crate::room::copy_to;
 use patricia_keys::keys::text_of;
 use patricia_tree::{Bytes, DecodeError, PatriciaMap, StringPatriciaMap, WireError};
 use std::alloc::{AllocError, Global};
-
-/// Some key is no text.
-const NOT_TEXT: u32 = 5;
 
 // The map with texts as keys, or none where some key is no text.
 fn to_texts(

@@ -8,7 +8,8 @@ ghost use Rattle.patricia_tree.specs.Cursors.{after};
 ghost use Rattle.patricia_tree.specs.Ranges.{before};
 ghost use Rattle.patricia_c.specs.Shared.{shared_of};
 
-use crate::ends::{ABSENT, NO_MEMORY, first_of, last_of, next_of, previous_of, write_entry};
+use crate::codes::{ABSENT, NO_MEMORY};
+use crate::ends::{first_of, last_of, next_of, previous_of, write_entry};
 use crate::shared_place::SharedPlace;
 
 /// Answers as `patricia_first` does.

@@ -16,8 +16,9 @@ ghost use Rattle.patricia_c.specs.Near.{Picks};
 ghost use Rattle.patricia_c.specs.Shared.{shared_of};
 
 use crate::blocks::block_ahead;
+use crate::codes::END;
 use crate::cursor_place::CursorPlace;
-use crate::cursors::{END, next_ahead};
+use crate::cursors::next_ahead;
 use crate::iteration::write_iterator;
 use crate::iterator_place::IteratorPlace;
 use crate::map::get_to;

@@ -6,7 +6,8 @@ ghost use Rattle.patricia_tree.specs.Prefixes.{longest};
 ghost use Rattle.patricia_c.specs.Many.{flag, keys_in, measured, number, written};
 ghost use Rattle.patricia_c.specs.Shared.{shared_of};
 
-use crate::many::{DONE, NO_ROOM, get_each, lie_in, longest_each};
+use crate::codes::{DONE, NO_ROOM};
+use crate::many::{get_each, lie_in, longest_each};
 use crate::shared_place::SharedPlace;
 
 /// Answers as `patricia_get_many` does.
