@@ -1,11 +1,12 @@
 //! Many look-ups at once: the keys lie one behind the other in one array.
-ghost use Rattle.std.specs.Prelude.{◌≡◌, ◌≢◌, ◌≤◌, ◌<◌, ◌⊎◌, ℕ, List, length, true, false};
+ghost use Rattle.std.specs.Prelude.{◌≡◌, ◌≤◌, ◌<◌, length, true, false};
 ghost use Rattle.std.specs.Prelude.{Some, None, map as list_map, get_or, set};
 ghost use Rattle.std.specs.List.{sum};
 ghost use Rattle.std.specs.Option.{option_copied};
 ghost use Rattle.std.specs.FinMap as map;
 ghost use Rattle.patricia_tree.specs.Prefixes.{longest};
-ghost use Rattle.patricia_c.specs.Many.{flag, keys_in, measured, number, written};
+ghost use Rattle.patricia_c.specs.Many.{AnswersLongest, AnswersMany, flag, keys_in, measured};
+ghost use Rattle.patricia_c.specs.Many.{number, written};
 ghost use Rattle.patricia_c.specs.Maps.{map_of};
 
 use crate::codes::{DONE, NO_ROOM};
@@ -134,7 +135,7 @@ fn get_blocks(stored: &StoredMap, keys: &[u8], lens: &[usize], values: &mut [u64
 }
 
 // Looks up each key, and writes its answer.
-pub(crate) fn get_each(
+fn get_each(
     stored: Option<&StoredMap>,
     keys: &[u8],
     lens: &[usize],
@@ -155,6 +156,24 @@ pub(crate) fn get_each(
     }
 }
 
+// Looks up each key, where there is room for the answers.
+pub(crate) fn get_many(
+    stored: Option<&StoredMap>,
+    keys: &[u8],
+    lens: &[usize],
+    values: &mut [u64],
+    found: &mut [u8],
+) -> u32
+    ensures { AnswersMany (map.get (map_of (option_copied stored.entry))) keys.now lens.now
+        result values.old found.old values.new found.new }
+{
+    if values.len() < lens.len() || found.len() < lens.len() || !lie_in(lens, keys.len()) {
+        return NO_ROOM;
+    }
+    get_each(stored, keys, lens, values, found);
+    DONE
+}
+
 /// Looks up many keys: those of these lengths that lie one behind the other in `keys`, up to 32 of
 /// them side by side. Writes to `found`, for each in turn, 1 where it is there, and then its value
 /// to `values`, and else 0. Returns `DONE`; or `NO_ROOM` where `values` or `found` has fewer places
@@ -169,27 +188,13 @@ pub extern "C" fn patricia_get_many(
     found: &mut [u8],
 ) -> u32
     ensures same { at.new ≡ at.old }
-    ensures values { result ≡ 0 → values.new ≡ written (number (λ v. v)) (list_map
-        (map.get (map_of at.old.pointer.stored)) (keys_in keys.now lens.now)) values.old }
-    ensures found { result ≡ 0 → found.new ≡ written flag (list_map
-        (map.get (map_of at.old.pointer.stored)) (keys_in keys.now lens.now)) found.old }
-    ensures keys_fit { result ≡ 0 → sum lens.now ≤ length keys.now }
-    ensures values_fit { result ≡ 0 → length lens.now ≤ length values.old }
-    ensures found_fit { result ≡ 0 → length lens.now ≤ length found.old }
-    ensures small { result ≢ 0 → (length keys.now < sum lens.now)
-        ⊎ (length values.old < length lens.now) ⊎ (length found.old < length lens.now) }
-    ensures values_unwritten { result ≢ 0 → values.new ≡ values.old }
-    ensures found_unwritten { result ≢ 0 → found.new ≡ found.old }
-    ensures code { result ≢ 0 → result ≡ 4 }
+    ensures answers { AnswersMany (map.get (map_of at.old.pointer.stored)) keys.now lens.now
+        result values.old found.old values.new found.new }
 {
-    if values.len() < lens.len() || found.len() < lens.len() || !lie_in(lens, keys.len()) {
-        return NO_ROOM;
-    }
     match at.as_mut() {
-        Some(stored) => get_each(Some(stored), keys, lens, values, found),
-        None => get_each(None, keys, lens, values, found),
+        Some(stored) => get_many(Some(stored), keys, lens, values, found),
+        None => get_many(None, keys, lens, values, found),
     }
-    DONE
 }
 
 // The length and the value of the longest key that is a prefix of this one.
@@ -234,7 +239,7 @@ fn write_longest(
 }
 
 // Looks up the longest prefix of each key, and writes its answer.
-pub(crate) fn longest_each(
+fn longest_each(
     stored: Option<&StoredMap>,
     keys: &[u8],
     lens: &[usize],
@@ -267,6 +272,29 @@ pub(crate) fn longest_each(
     }
 }
 
+// Looks up the longest prefix of each key, where there is room for the answers.
+pub(crate) fn longest_prefix_many(
+    stored: Option<&StoredMap>,
+    keys: &[u8],
+    lens: &[usize],
+    prefix_lens: &mut [usize],
+    values: &mut [u64],
+    found: &mut [u8],
+) -> u32
+    ensures { AnswersLongest (map.entries (map_of (option_copied stored.entry))) keys.now lens.now
+        result prefix_lens.old values.old found.old prefix_lens.new values.new found.new }
+{
+    let count = lens.len();
+    if prefix_lens.len() < count || values.len() < count || found.len() < count {
+        return NO_ROOM;
+    }
+    if !lie_in(lens, keys.len()) {
+        return NO_ROOM;
+    }
+    longest_each(stored, keys, lens, prefix_lens, values, found);
+    DONE
+}
+
 /// Looks up the longest key that is a prefix, for many keys: those of these lengths that lie one
 /// behind the other in `keys`. Writes to `found`, for each in turn, 1 where there is one, and then
 /// its length to `prefix_lens` and its value to `values`, and else 0. Returns `DONE`; or `NO_ROOM`
@@ -282,37 +310,11 @@ pub extern "C" fn patricia_longest_prefix_many(
     found: &mut [u8],
 ) -> u32
     ensures same { at.new ≡ at.old }
-    ensures lens { result ≡ 0 → prefix_lens.new ≡ written (number (λ e. e.0)) (list_map
-        (λ key. measured (longest key (map.entries (map_of at.old.pointer.stored))))
-        (keys_in keys.now lens.now)) prefix_lens.old }
-    ensures values { result ≡ 0 → values.new ≡ written (number (λ e. e.1)) (list_map
-        (λ key. measured (longest key (map.entries (map_of at.old.pointer.stored))))
-        (keys_in keys.now lens.now)) values.old }
-    ensures found { result ≡ 0 → found.new ≡ written flag (list_map
-        (λ key. measured (longest key (map.entries (map_of at.old.pointer.stored))))
-        (keys_in keys.now lens.now)) found.old }
-    ensures keys_fit { result ≡ 0 → sum lens.now ≤ length keys.now }
-    ensures lens_fit { result ≡ 0 → length lens.now ≤ length prefix_lens.old }
-    ensures values_fit { result ≡ 0 → length lens.now ≤ length values.old }
-    ensures found_fit { result ≡ 0 → length lens.now ≤ length found.old }
-    ensures small { result ≢ 0 → (length keys.now < sum lens.now)
-        ⊎ (length prefix_lens.old < length lens.now)
-        ⊎ (length values.old < length lens.now) ⊎ (length found.old < length lens.now) }
-    ensures lens_unwritten { result ≢ 0 → prefix_lens.new ≡ prefix_lens.old }
-    ensures values_unwritten { result ≢ 0 → values.new ≡ values.old }
-    ensures found_unwritten { result ≢ 0 → found.new ≡ found.old }
-    ensures code { result ≢ 0 → result ≡ 4 }
+    ensures answers { AnswersLongest (map.entries (map_of at.old.pointer.stored)) keys.now lens.now
+        result prefix_lens.old values.old found.old prefix_lens.new values.new found.new }
 {
-    let count = lens.len();
-    if prefix_lens.len() < count || values.len() < count || found.len() < count {
-        return NO_ROOM;
-    }
-    if !lie_in(lens, keys.len()) {
-        return NO_ROOM;
-    }
     match at.as_mut() {
-        Some(stored) => longest_each(Some(stored), keys, lens, prefix_lens, values, found),
-        None => longest_each(None, keys, lens, prefix_lens, values, found),
+        Some(stored) => longest_prefix_many(Some(stored), keys, lens, prefix_lens, values, found),
+        None => longest_prefix_many(None, keys, lens, prefix_lens, values, found),
     }
-    DONE
 }
