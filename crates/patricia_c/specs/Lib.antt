@@ -1,6 +1,7 @@
 pub mod Blocks
 pub mod Codes
 pub mod Cursors
+pub mod Ends
 pub mod Internal
 pub mod Many
 pub mod Maps

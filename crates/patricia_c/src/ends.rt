@@ -1,11 +1,11 @@
 //! The first and the last entry, and those next to a key.
-ghost use Rattle.std.specs.Prelude.{◌≡◌, ◌≢◌, ◌≤◌, ◌<◌, [], drop, length, take, slice_get};
-ghost use Rattle.std.specs.Prelude.{ℕ, List, Some, None, IfOk, OnErr};
+ghost use Rattle.std.specs.Prelude.{◌≡◌, ◌≢◌, [], slice_get, Some, None, IfOk, OnErr};
 ghost use Rattle.std.specs.List.{last_or};
 ghost use Rattle.std.specs.Option.{option_map};
 ghost use Rattle.std.specs.FinMap as map;
 ghost use Rattle.patricia_tree.specs.Cursors.{after};
 ghost use Rattle.patricia_tree.specs.Ranges.{before};
+ghost use Rattle.patricia_c.specs.Ends.{WritesEntry};
 ghost use Rattle.patricia_c.specs.Maps.{map_of};
 
 use crate::codes::{ABSENT, FOUND, NO_MEMORY, NO_ROOM};
@@ -21,19 +21,9 @@ pub(crate) fn write_entry(
     len: &mut usize,
     value: &mut u64,
 ) -> u32
-    ensures absent { result ≡ 0 → entry ≡ None }
-    ensures found { result ≡ 1 → option_map {U = List ℕ × ℕ} (λ e. (e.0.items, e.1)) entry
-        ≡ Some (take len.new room.new, value.new) }
-    ensures within { result ≡ 1 → len.new ≤ length room.new }
-    ensures behind { result ≡ 1 → drop len.new room.new ≡ drop len.new room.old }
-    ensures longer { result ≡ 4 → option_map (λ e. length e.0.items) entry ≡ Some len.new }
-    ensures small { result ≡ 4 → length room.old < len.new }
-    ensures room_unwritten { result ≢ 1 → room.new ≡ room.old }
-    ensures value_unwritten { result ≢ 1 → value.new ≡ value.old }
-    ensures len_unwritten { result ≡ 0 → len.new ≡ len.old }
-    ensures codes { result ≤ 4 }
+    ensures entry { WritesEntry (option_map (λ e. (e.0.items, e.1)) entry)
+        result room.old len.old value.old room.new len.new value.new }
     ensures not_two { result ≢ 2 }
-    ensures not_three { result ≢ 3 }
 {
     let Some((key, there)) = entry else {
         return ABSENT;
@@ -108,22 +98,10 @@ pub extern "C" fn patricia_first(
     value: &mut u64,
 ) -> u32
     ensures same { at.new ≡ at.old }
-    ensures absent { result ≡ 0 →
-        slice_get (map.entries (map_of at.old.pointer.stored)) 0 ≡ None }
-    ensures found { result ≡ 1 → slice_get (map.entries (map_of at.old.pointer.stored)) 0
-        ≡ Some (take len.new room.new, value.new) }
-    ensures within { result ≡ 1 → len.new ≤ length room.new }
-    ensures behind { result ≡ 1 → drop len.new room.new ≡ drop len.new room.old }
-    ensures longer { result ≡ 4 → option_map (λ e. length e.0)
-        (slice_get (map.entries (map_of at.old.pointer.stored)) 0) ≡ Some len.new }
-    ensures small { result ≡ 4 → length room.old < len.new }
+    ensures entry { WritesEntry
+        (slice_get (map.entries (map_of at.old.pointer.stored)) 0)
+        result room.old len.old value.old room.new len.new value.new }
     ensures refused { result ≡ 2 → map.entries (map_of at.old.pointer.stored) ≢ [] }
-    ensures room_unwritten { result ≢ 1 → room.new ≡ room.old }
-    ensures value_unwritten { result ≢ 1 → value.new ≡ value.old }
-    ensures absent_len { result ≡ 0 → len.new ≡ len.old }
-    ensures refused_len { result ≡ 2 → len.new ≡ len.old }
-    ensures codes { result ≤ 4 }
-    ensures not_three { result ≢ 3 }
 {
     let Some(stored) = at.as_mut() else {
         return ABSENT;
@@ -143,22 +121,10 @@ pub extern "C" fn patricia_last(
     value: &mut u64,
 ) -> u32
     ensures same { at.new ≡ at.old }
-    ensures absent { result ≡ 0 →
-        last_or None (map.entries (map_of at.old.pointer.stored)) ≡ None }
-    ensures found { result ≡ 1 → last_or None (map.entries (map_of at.old.pointer.stored))
-        ≡ Some (take len.new room.new, value.new) }
-    ensures within { result ≡ 1 → len.new ≤ length room.new }
-    ensures behind { result ≡ 1 → drop len.new room.new ≡ drop len.new room.old }
-    ensures longer { result ≡ 4 → option_map (λ e. length e.0)
-        (last_or None (map.entries (map_of at.old.pointer.stored))) ≡ Some len.new }
-    ensures small { result ≡ 4 → length room.old < len.new }
+    ensures entry { WritesEntry
+        (last_or None (map.entries (map_of at.old.pointer.stored)))
+        result room.old len.old value.old room.new len.new value.new }
     ensures refused { result ≡ 2 → map.entries (map_of at.old.pointer.stored) ≢ [] }
-    ensures room_unwritten { result ≢ 1 → room.new ≡ room.old }
-    ensures value_unwritten { result ≢ 1 → value.new ≡ value.old }
-    ensures absent_len { result ≡ 0 → len.new ≡ len.old }
-    ensures refused_len { result ≡ 2 → len.new ≡ len.old }
-    ensures codes { result ≤ 4 }
-    ensures not_three { result ≢ 3 }
 {
     let Some(stored) = at.as_mut() else {
         return ABSENT;
@@ -180,24 +146,10 @@ pub extern "C" fn patricia_first_after(
     value: &mut u64,
 ) -> u32
     ensures same { at.new ≡ at.old }
-    ensures absent { result ≡ 0 →
-        slice_get (after (Some key.now) (map.entries (map_of at.old.pointer.stored))) 0 ≡ None }
-    ensures found { result ≡ 1 →
-        slice_get (after (Some key.now) (map.entries (map_of at.old.pointer.stored))) 0
-        ≡ Some (take len.new room.new, value.new) }
-    ensures within { result ≡ 1 → len.new ≤ length room.new }
-    ensures behind { result ≡ 1 → drop len.new room.new ≡ drop len.new room.old }
-    ensures longer { result ≡ 4 → option_map (λ e. length e.0)
+    ensures entry { WritesEntry
         (slice_get (after (Some key.now) (map.entries (map_of at.old.pointer.stored))) 0)
-        ≡ Some len.new }
-    ensures small { result ≡ 4 → length room.old < len.new }
+        result room.old len.old value.old room.new len.new value.new }
     ensures refused { result ≡ 2 → map.entries (map_of at.old.pointer.stored) ≢ [] }
-    ensures room_unwritten { result ≢ 1 → room.new ≡ room.old }
-    ensures value_unwritten { result ≢ 1 → value.new ≡ value.old }
-    ensures absent_len { result ≡ 0 → len.new ≡ len.old }
-    ensures refused_len { result ≡ 2 → len.new ≡ len.old }
-    ensures codes { result ≤ 4 }
-    ensures not_three { result ≢ 3 }
 {
     let Some(stored) = at.as_mut() else {
         return ABSENT;
@@ -219,25 +171,11 @@ pub extern "C" fn patricia_last_before(
     value: &mut u64,
 ) -> u32
     ensures same { at.new ≡ at.old }
-    ensures absent { result ≡ 0 →
-        last_or None (before key.now (map.entries (map_of at.old.pointer.stored))) ≡ None }
-    ensures found { result ≡ 1 →
-        last_or None (before key.now (map.entries (map_of at.old.pointer.stored)))
-        ≡ Some (take len.new room.new, value.new) }
-    ensures within { result ≡ 1 → len.new ≤ length room.new }
-    ensures behind { result ≡ 1 → drop len.new room.new ≡ drop len.new room.old }
-    ensures longer { result ≡ 4 → option_map (λ e. length e.0)
+    ensures entry { WritesEntry
         (last_or None (before key.now (map.entries (map_of at.old.pointer.stored))))
-        ≡ Some len.new }
-    ensures small { result ≡ 4 → length room.old < len.new }
+        result room.old len.old value.old room.new len.new value.new }
     ensures refused { result ≡ 2 →
         before key.now (map.entries (map_of at.old.pointer.stored)) ≢ [] }
-    ensures room_unwritten { result ≢ 1 → room.new ≡ room.old }
-    ensures value_unwritten { result ≢ 1 → value.new ≡ value.old }
-    ensures absent_len { result ≡ 0 → len.new ≡ len.old }
-    ensures refused_len { result ≡ 2 → len.new ≡ len.old }
-    ensures codes { result ≤ 4 }
-    ensures not_three { result ≢ 3 }
 {
     let Some(stored) = at.as_mut() else {
         return ABSENT;

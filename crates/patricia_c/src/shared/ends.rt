@@ -1,11 +1,10 @@
 //! The first and the last entry of maps that handles share, and those next to a key.
-ghost use Rattle.std.specs.Prelude.{◌≡◌, ◌≢◌, ◌≤◌, ◌<◌, [], drop, length, take, slice_get};
-ghost use Rattle.std.specs.Prelude.{Some, None};
+ghost use Rattle.std.specs.Prelude.{◌≡◌, ◌≢◌, [], slice_get, Some, None};
 ghost use Rattle.std.specs.List.{last_or};
-ghost use Rattle.std.specs.Option.{option_map};
 ghost use Rattle.std.specs.FinMap as map;
 ghost use Rattle.patricia_tree.specs.Cursors.{after};
 ghost use Rattle.patricia_tree.specs.Ranges.{before};
+ghost use Rattle.patricia_c.specs.Ends.{WritesEntry};
 ghost use Rattle.patricia_c.specs.Shared.{shared_of};
 
 use crate::codes::{ABSENT, NO_MEMORY};
@@ -21,22 +20,10 @@ pub extern "C" fn patricia_shared_first(
     value: &mut u64,
 ) -> u32
     ensures same { shared.new ≡ shared.old }
-    ensures absent { result ≡ 0 →
-        slice_get (map.entries (shared_of shared.old.pointer.stored)) 0 ≡ None }
-    ensures found { result ≡ 1 → slice_get (map.entries (shared_of shared.old.pointer.stored)) 0
-        ≡ Some (take len.new room.new, value.new) }
-    ensures within { result ≡ 1 → len.new ≤ length room.new }
-    ensures behind { result ≡ 1 → drop len.new room.new ≡ drop len.new room.old }
-    ensures longer { result ≡ 4 → option_map (λ e. length e.0)
-        (slice_get (map.entries (shared_of shared.old.pointer.stored)) 0) ≡ Some len.new }
-    ensures small { result ≡ 4 → length room.old < len.new }
+    ensures entry { WritesEntry
+        (slice_get (map.entries (shared_of shared.old.pointer.stored)) 0)
+        result room.old len.old value.old room.new len.new value.new }
     ensures refused { result ≡ 2 → map.entries (shared_of shared.old.pointer.stored) ≢ [] }
-    ensures room_unwritten { result ≢ 1 → room.new ≡ room.old }
-    ensures value_unwritten { result ≢ 1 → value.new ≡ value.old }
-    ensures absent_len { result ≡ 0 → len.new ≡ len.old }
-    ensures refused_len { result ≡ 2 → len.new ≡ len.old }
-    ensures codes { result ≤ 4 }
-    ensures not_three { result ≢ 3 }
 {
     let Some(handle) = shared.as_mut() else {
         return ABSENT;
@@ -59,22 +46,10 @@ pub extern "C" fn patricia_shared_last(
     value: &mut u64,
 ) -> u32
     ensures same { shared.new ≡ shared.old }
-    ensures absent { result ≡ 0 →
-        last_or None (map.entries (shared_of shared.old.pointer.stored)) ≡ None }
-    ensures found { result ≡ 1 → last_or None (map.entries (shared_of shared.old.pointer.stored))
-        ≡ Some (take len.new room.new, value.new) }
-    ensures within { result ≡ 1 → len.new ≤ length room.new }
-    ensures behind { result ≡ 1 → drop len.new room.new ≡ drop len.new room.old }
-    ensures longer { result ≡ 4 → option_map (λ e. length e.0)
-        (last_or None (map.entries (shared_of shared.old.pointer.stored))) ≡ Some len.new }
-    ensures small { result ≡ 4 → length room.old < len.new }
+    ensures entry { WritesEntry
+        (last_or None (map.entries (shared_of shared.old.pointer.stored)))
+        result room.old len.old value.old room.new len.new value.new }
     ensures refused { result ≡ 2 → map.entries (shared_of shared.old.pointer.stored) ≢ [] }
-    ensures room_unwritten { result ≢ 1 → room.new ≡ room.old }
-    ensures value_unwritten { result ≢ 1 → value.new ≡ value.old }
-    ensures absent_len { result ≡ 0 → len.new ≡ len.old }
-    ensures refused_len { result ≡ 2 → len.new ≡ len.old }
-    ensures codes { result ≤ 4 }
-    ensures not_three { result ≢ 3 }
 {
     let Some(handle) = shared.as_mut() else {
         return ABSENT;
@@ -98,25 +73,10 @@ pub extern "C" fn patricia_shared_first_after(
     value: &mut u64,
 ) -> u32
     ensures same { shared.new ≡ shared.old }
-    ensures absent { result ≡ 0 →
-        slice_get (after (Some key.now) (map.entries (shared_of shared.old.pointer.stored))) 0
-        ≡ None }
-    ensures found { result ≡ 1 →
-        slice_get (after (Some key.now) (map.entries (shared_of shared.old.pointer.stored))) 0
-        ≡ Some (take len.new room.new, value.new) }
-    ensures within { result ≡ 1 → len.new ≤ length room.new }
-    ensures behind { result ≡ 1 → drop len.new room.new ≡ drop len.new room.old }
-    ensures longer { result ≡ 4 → option_map (λ e. length e.0)
+    ensures entry { WritesEntry
         (slice_get (after (Some key.now) (map.entries (shared_of shared.old.pointer.stored))) 0)
-        ≡ Some len.new }
-    ensures small { result ≡ 4 → length room.old < len.new }
+        result room.old len.old value.old room.new len.new value.new }
     ensures refused { result ≡ 2 → map.entries (shared_of shared.old.pointer.stored) ≢ [] }
-    ensures room_unwritten { result ≢ 1 → room.new ≡ room.old }
-    ensures value_unwritten { result ≢ 1 → value.new ≡ value.old }
-    ensures absent_len { result ≡ 0 → len.new ≡ len.old }
-    ensures refused_len { result ≡ 2 → len.new ≡ len.old }
-    ensures codes { result ≤ 4 }
-    ensures not_three { result ≢ 3 }
 {
     let Some(handle) = shared.as_mut() else {
         return ABSENT;
@@ -140,25 +100,11 @@ pub extern "C" fn patricia_shared_last_before(
     value: &mut u64,
 ) -> u32
     ensures same { shared.new ≡ shared.old }
-    ensures absent { result ≡ 0 →
-        last_or None (before key.now (map.entries (shared_of shared.old.pointer.stored))) ≡ None }
-    ensures found { result ≡ 1 →
-        last_or None (before key.now (map.entries (shared_of shared.old.pointer.stored)))
-        ≡ Some (take len.new room.new, value.new) }
-    ensures within { result ≡ 1 → len.new ≤ length room.new }
-    ensures behind { result ≡ 1 → drop len.new room.new ≡ drop len.new room.old }
-    ensures longer { result ≡ 4 → option_map (λ e. length e.0)
+    ensures entry { WritesEntry
         (last_or None (before key.now (map.entries (shared_of shared.old.pointer.stored))))
-        ≡ Some len.new }
-    ensures small { result ≡ 4 → length room.old < len.new }
+        result room.old len.old value.old room.new len.new value.new }
     ensures refused { result ≡ 2 →
         before key.now (map.entries (shared_of shared.old.pointer.stored)) ≢ [] }
-    ensures room_unwritten { result ≢ 1 → room.new ≡ room.old }
-    ensures value_unwritten { result ≢ 1 → value.new ≡ value.old }
-    ensures absent_len { result ≡ 0 → len.new ≡ len.old }
-    ensures refused_len { result ≡ 2 → len.new ≡ len.old }
-    ensures codes { result ≤ 4 }
-    ensures not_three { result ≢ 3 }
 {
     let Some(handle) = shared.as_mut() else {
         return ABSENT;
