@@ -1,7 +1,7 @@
 -- Laws of entries that lie in arrays.
-use Rattle.std.proofs.Common.{◌≡◌, ◌≤◌, ◌<◌, ◌+◌, ◌-◌, ℕ, zero, suc, List, [], ◌∷◌, ◌++◌, ◌≢◌, Option, None, Some, Result, Ok, Err, OnOk, IfErr, IfSome}
+use Rattle.std.proofs.Common.{◌≡◌, ◌≤◌, ◌<◌, ◌+◌, ◌-◌, ℕ, zero, suc, List, [], ◌∷◌, ◌++◌, ◌≢◌, Some, Result, Ok, Err, OnOk, IfErr, IfSome}
 use Rattle.std.proofs.Common.{length, take, drop, slice_get, refl, sym, ap, subst, ◌∙◌, arith}
-use Rattle.std.proofs.lemmas.List.{append-nil, append_assoc, length-append, length-map, map-append, take_all, take_at}
+use Rattle.std.proofs.lemmas.List.{append-nil, append_assoc, length-append, length-map, map-append, take_at}
 use Rattle.std.specs.Prelude.{map as list_map}
 use Rattle.std.specs.FinMap as map
 use Rattle.std.specs.FinMap.{len-entries}

@@ -8,3 +8,4 @@ pub mod Maps
 pub mod Near
 pub mod EntriesLeft
 pub mod Shared
+pub mod Trees

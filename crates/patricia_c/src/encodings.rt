@@ -1,11 +1,9 @@
 //! Tree bytes. The values are stored beside them, in key order, as an iterator gives them.
-ghost use Rattle.std.specs.Prelude.{◌≡◌, ◌≢◌, ◌≤◌, ◌<◌, drop, length, take};
-ghost use Rattle.std.specs.FinMap as map;
+ghost use Rattle.std.specs.Prelude.{◌≡◌, ◌≢◌, ◌≤◌};
 ghost use Rattle.patricia_tree.specs.ByteKind.{IsByteItem};
-ghost use Rattle.patricia_tree.specs.TreeBytes.{AreTreeBytes};
-ghost use Rattle.patricia_tree.specs.Writings.{Means, TooDeep};
-ghost use Rattle.patricia_c.specs.Codes.{IsCode, IsLen, IsRefused};
+ghost use Rattle.patricia_c.specs.Codes.{IsCode};
 ghost use Rattle.patricia_c.specs.Maps.{map_of};
+ghost use Rattle.patricia_c.specs.Trees.{ReadsTree, WritesTree};
 
 use crate::codes::{DONE, NO_MEMORY, NO_ROOM, TOO_DEEP};
 use crate::map_place::MapPlace;
@@ -38,17 +36,9 @@ pub(crate) fn code(error: DecodeError, offset: &mut usize) -> u32
 
 // Writes the tree bytes of a map to the room, where it is as long, and their number to `len`.
 pub(crate) fn write_tree_bytes(entries: &PatriciaMap<u64>, room: &mut [u8], len: &mut usize) -> u32
-    ensures done { result ≡ 0 →
-        AreTreeBytes IsByteItem 2 (take len.new room.new) (map.entries entries.now) }
-    ensures within { result ≡ 0 → len.new ≤ length room.new }
-    ensures behind { result ≡ 0 → drop len.new room.new ≡ drop len.new room.old }
-    ensures too_deep { result ≡ 3 → TooDeep IsByteItem 2 (map.keys entries.now) }
-    ensures len { result ≡ 4 → IsLen IsByteItem 2 len.new (map.entries entries.now) }
-    ensures small { result ≡ 4 → length room.old < len.new }
-    ensures unwritten { result ≢ 0 → room.new ≡ room.old }
-    ensures len_unwritten { result ≢ 0 → result ≢ 4 → len.new ≡ len.old }
+    ensures tree { WritesTree IsByteItem 2 entries.now
+        result room.old len.old room.new len.new }
     ensures codes { result ≤ 4 }
-    ensures not_one { result ≢ 1 }
 {
     match entries.tree_bytes() {
         Ok(bytes) => {
@@ -69,17 +59,9 @@ pub(crate) fn write_wide_tree_bytes(
     room: &mut [u8],
     len: &mut usize,
 ) -> u32
-    ensures done { result ≡ 0 →
-        AreTreeBytes IsByteItem 4 (take len.new room.new) (map.entries entries.now) }
-    ensures within { result ≡ 0 → len.new ≤ length room.new }
-    ensures behind { result ≡ 0 → drop len.new room.new ≡ drop len.new room.old }
-    ensures too_deep { result ≡ 3 → TooDeep IsByteItem 4 (map.keys entries.now) }
-    ensures len { result ≡ 4 → IsLen IsByteItem 4 len.new (map.entries entries.now) }
-    ensures small { result ≡ 4 → length room.old < len.new }
-    ensures unwritten { result ≢ 0 → room.new ≡ room.old }
-    ensures len_unwritten { result ≢ 0 → result ≢ 4 → len.new ≡ len.old }
+    ensures tree { WritesTree IsByteItem 4 entries.now
+        result room.old len.old room.new len.new }
     ensures codes { result ≤ 4 }
-    ensures not_one { result ≢ 1 }
 {
     match entries.wide_tree_bytes() {
         Ok(bytes) => {
@@ -105,19 +87,9 @@ pub extern "C" fn patricia_tree_bytes(
     len: &mut usize,
 ) -> u32
     ensures same { at.new ≡ at.old }
-    ensures done { result ≡ 0 → AreTreeBytes IsByteItem 2 (take len.new room.new)
-        (map.entries (map_of at.old.pointer.stored)) }
-    ensures within { result ≡ 0 → len.new ≤ length room.new }
-    ensures behind { result ≡ 0 → drop len.new room.new ≡ drop len.new room.old }
-    ensures too_deep { result ≡ 3 →
-        TooDeep IsByteItem 2 (map.keys (map_of at.old.pointer.stored)) }
-    ensures len { result ≡ 4 →
-        IsLen IsByteItem 2 len.new (map.entries (map_of at.old.pointer.stored)) }
-    ensures small { result ≡ 4 → length room.old < len.new }
-    ensures unwritten { result ≢ 0 → room.new ≡ room.old }
-    ensures len_unwritten { result ≢ 0 → result ≢ 4 → len.new ≡ len.old }
+    ensures tree { WritesTree IsByteItem 2 (map_of at.old.pointer.stored)
+        result room.old len.old room.new len.new }
     ensures codes { result ≤ 4 }
-    ensures not_one { result ≢ 1 }
 {
     match at.as_mut() {
         Some(stored) => write_tree_bytes(&stored.map, room, len),
@@ -135,19 +107,9 @@ pub extern "C" fn patricia_wide_tree_bytes(
     len: &mut usize,
 ) -> u32
     ensures same { at.new ≡ at.old }
-    ensures done { result ≡ 0 → AreTreeBytes IsByteItem 4 (take len.new room.new)
-        (map.entries (map_of at.old.pointer.stored)) }
-    ensures within { result ≡ 0 → len.new ≤ length room.new }
-    ensures behind { result ≡ 0 → drop len.new room.new ≡ drop len.new room.old }
-    ensures too_deep { result ≡ 3 →
-        TooDeep IsByteItem 4 (map.keys (map_of at.old.pointer.stored)) }
-    ensures len { result ≡ 4 →
-        IsLen IsByteItem 4 len.new (map.entries (map_of at.old.pointer.stored)) }
-    ensures small { result ≡ 4 → length room.old < len.new }
-    ensures unwritten { result ≢ 0 → room.new ≡ room.old }
-    ensures len_unwritten { result ≢ 0 → result ≢ 4 → len.new ≡ len.old }
+    ensures tree { WritesTree IsByteItem 4 (map_of at.old.pointer.stored)
+        result room.old len.old room.new len.new }
     ensures codes { result ≤ 4 }
-    ensures not_one { result ≢ 1 }
 {
     match at.as_mut() {
         Some(stored) => write_wide_tree_bytes(&stored.map, room, len),
@@ -166,12 +128,8 @@ pub extern "C" fn patricia_from_tree_bytes(
     values: &[u64],
     offset: &mut usize,
 ) -> u32
-    ensures done { result ≡ 0 → Means IsByteItem 2 bytes.now values.now
-        (map.entries (map_of at.new.pointer.stored)) }
-    ensures empty { result ≢ 0 → map_of at.new.pointer.stored ≡ map.empty }
-    ensures refused { result ≢ 0 →
-        IsRefused IsByteItem 2 bytes.now (length values.now) result offset.new }
-    ensures unwritten { result ≡ 0 → offset.new ≡ offset.old }
+    ensures { ReadsTree IsByteItem 2 bytes.now values.now result offset.old
+        (map_of at.new.pointer.stored) offset.new }
 {
     drop(at.take());
     let Ok(mut stored) = at.take_or_make(alloc) else {
@@ -199,12 +157,8 @@ pub extern "C" fn patricia_from_wide_tree_bytes(
     values: &[u64],
     offset: &mut usize,
 ) -> u32
-    ensures done { result ≡ 0 → Means IsByteItem 4 bytes.now values.now
-        (map.entries (map_of at.new.pointer.stored)) }
-    ensures empty { result ≢ 0 → map_of at.new.pointer.stored ≡ map.empty }
-    ensures refused { result ≢ 0 →
-        IsRefused IsByteItem 4 bytes.now (length values.now) result offset.new }
-    ensures unwritten { result ≡ 0 → offset.new ≡ offset.old }
+    ensures { ReadsTree IsByteItem 4 bytes.now values.now result offset.old
+        (map_of at.new.pointer.stored) offset.new }
 {
     drop(at.take());
     let Ok(mut stored) = at.take_or_make(alloc) else {

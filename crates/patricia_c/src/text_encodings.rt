@@ -1,11 +1,10 @@
 //! Tree bytes of a map whose keys are texts: no label is cut inside a character.
-ghost use Rattle.std.specs.Prelude.{◌≡◌, ◌≢◌, ◌≤◌, ◌<◌, drop, length, take, None, IfOk, IfSome};
+ghost use Rattle.std.specs.Prelude.{◌≡◌, ◌≤◌, None, IfOk, IfSome};
 ghost use Rattle.std.specs.FinMap as map;
 ghost use Rattle.patricia_tree.specs.TextKind.{IsTextItem};
-ghost use Rattle.patricia_tree.specs.TreeBytes.{AreTreeBytes};
-ghost use Rattle.patricia_tree.specs.Writings.{Means, TooDeep};
-ghost use Rattle.patricia_c.specs.Codes.{HasOther, IsLen, IsRefused};
+ghost use Rattle.patricia_c.specs.Codes.{HasOther};
 ghost use Rattle.patricia_c.specs.Maps.{map_of};
+ghost use Rattle.patricia_c.specs.Trees.{ReadsTree, WritesTree};
 
 use crate::codes::{DONE, NO_MEMORY, NO_ROOM, NOT_TEXT, TOO_DEEP};
 use crate::encodings::code;
@@ -58,18 +57,10 @@ pub(crate) fn write_text_tree_bytes(
     room: &mut [u8],
     len: &mut usize,
 ) -> u32
-    ensures done { result ≡ 0 →
-        AreTreeBytes IsTextItem 2 (take len.new room.new) (map.entries entries.now) }
-    ensures within { result ≡ 0 → len.new ≤ length room.new }
-    ensures behind { result ≡ 0 → drop len.new room.new ≡ drop len.new room.old }
-    ensures too_deep { result ≡ 3 → TooDeep IsTextItem 2 (map.keys entries.now) }
-    ensures len { result ≡ 4 → IsLen IsTextItem 2 len.new (map.entries entries.now) }
-    ensures small { result ≡ 4 → length room.old < len.new }
+    ensures tree { WritesTree IsTextItem 2 entries.now
+        result room.old len.old room.new len.new }
     ensures not_text { result ≡ 5 → HasOther IsTextItem (map.keys entries.now) }
-    ensures unwritten { result ≢ 0 → room.new ≡ room.old }
-    ensures len_unwritten { result ≢ 0 → result ≢ 4 → len.new ≡ len.old }
     ensures codes { result ≤ 5 }
-    ensures not_one { result ≢ 1 }
 {
     let texts = match to_texts(alloc, entries) {
         Ok(Some(texts)) => texts,
@@ -96,18 +87,10 @@ pub(crate) fn write_wide_text_tree_bytes(
     room: &mut [u8],
     len: &mut usize,
 ) -> u32
-    ensures done { result ≡ 0 →
-        AreTreeBytes IsTextItem 4 (take len.new room.new) (map.entries entries.now) }
-    ensures within { result ≡ 0 → len.new ≤ length room.new }
-    ensures behind { result ≡ 0 → drop len.new room.new ≡ drop len.new room.old }
-    ensures too_deep { result ≡ 3 → TooDeep IsTextItem 4 (map.keys entries.now) }
-    ensures len { result ≡ 4 → IsLen IsTextItem 4 len.new (map.entries entries.now) }
-    ensures small { result ≡ 4 → length room.old < len.new }
+    ensures tree { WritesTree IsTextItem 4 entries.now
+        result room.old len.old room.new len.new }
     ensures not_text { result ≡ 5 → HasOther IsTextItem (map.keys entries.now) }
-    ensures unwritten { result ≢ 0 → room.new ≡ room.old }
-    ensures len_unwritten { result ≢ 0 → result ≢ 4 → len.new ≡ len.old }
     ensures codes { result ≤ 5 }
-    ensures not_one { result ≢ 1 }
 {
     let texts = match to_texts(alloc, entries) {
         Ok(Some(texts)) => texts,
@@ -137,21 +120,11 @@ pub extern "C" fn patricia_text_tree_bytes(
     len: &mut usize,
 ) -> u32
     ensures same { at.new ≡ at.old }
-    ensures done { result ≡ 0 → AreTreeBytes IsTextItem 2 (take len.new room.new)
-        (map.entries (map_of at.old.pointer.stored)) }
-    ensures within { result ≡ 0 → len.new ≤ length room.new }
-    ensures behind { result ≡ 0 → drop len.new room.new ≡ drop len.new room.old }
-    ensures too_deep { result ≡ 3 →
-        TooDeep IsTextItem 2 (map.keys (map_of at.old.pointer.stored)) }
-    ensures len { result ≡ 4 →
-        IsLen IsTextItem 2 len.new (map.entries (map_of at.old.pointer.stored)) }
-    ensures small { result ≡ 4 → length room.old < len.new }
+    ensures tree { WritesTree IsTextItem 2 (map_of at.old.pointer.stored)
+        result room.old len.old room.new len.new }
     ensures not_text { result ≡ 5 →
         HasOther IsTextItem (map.keys (map_of at.old.pointer.stored)) }
-    ensures unwritten { result ≢ 0 → room.new ≡ room.old }
-    ensures len_unwritten { result ≢ 0 → result ≢ 4 → len.new ≡ len.old }
     ensures codes { result ≤ 5 }
-    ensures not_one { result ≢ 1 }
 {
     match at.as_mut() {
         Some(stored) => write_text_tree_bytes(alloc, &stored.map, room, len),
@@ -169,21 +142,11 @@ pub extern "C" fn patricia_text_wide_tree_bytes(
     len: &mut usize,
 ) -> u32
     ensures same { at.new ≡ at.old }
-    ensures done { result ≡ 0 → AreTreeBytes IsTextItem 4 (take len.new room.new)
-        (map.entries (map_of at.old.pointer.stored)) }
-    ensures within { result ≡ 0 → len.new ≤ length room.new }
-    ensures behind { result ≡ 0 → drop len.new room.new ≡ drop len.new room.old }
-    ensures too_deep { result ≡ 3 →
-        TooDeep IsTextItem 4 (map.keys (map_of at.old.pointer.stored)) }
-    ensures len { result ≡ 4 →
-        IsLen IsTextItem 4 len.new (map.entries (map_of at.old.pointer.stored)) }
-    ensures small { result ≡ 4 → length room.old < len.new }
+    ensures tree { WritesTree IsTextItem 4 (map_of at.old.pointer.stored)
+        result room.old len.old room.new len.new }
     ensures not_text { result ≡ 5 →
         HasOther IsTextItem (map.keys (map_of at.old.pointer.stored)) }
-    ensures unwritten { result ≢ 0 → room.new ≡ room.old }
-    ensures len_unwritten { result ≢ 0 → result ≢ 4 → len.new ≡ len.old }
     ensures codes { result ≤ 5 }
-    ensures not_one { result ≢ 1 }
 {
     match at.as_mut() {
         Some(stored) => write_wide_text_tree_bytes(alloc, &stored.map, room, len),
@@ -201,12 +164,8 @@ pub extern "C" fn patricia_text_from_tree_bytes(
     values: &[u64],
     offset: &mut usize,
 ) -> u32
-    ensures done { result ≡ 0 → Means IsTextItem 2 bytes.now values.now
-        (map.entries (map_of at.new.pointer.stored)) }
-    ensures empty { result ≢ 0 → map_of at.new.pointer.stored ≡ map.empty }
-    ensures refused { result ≢ 0 →
-        IsRefused IsTextItem 2 bytes.now (length values.now) result offset.new }
-    ensures unwritten { result ≡ 0 → offset.new ≡ offset.old }
+    ensures { ReadsTree IsTextItem 2 bytes.now values.now result offset.old
+        (map_of at.new.pointer.stored) offset.new }
 {
     drop(at.take());
     let Ok(mut stored) = at.take_or_make(alloc) else {
@@ -239,12 +198,8 @@ pub extern "C" fn patricia_text_from_wide_tree_bytes(
     values: &[u64],
     offset: &mut usize,
 ) -> u32
-    ensures done { result ≡ 0 → Means IsTextItem 4 bytes.now values.now
-        (map.entries (map_of at.new.pointer.stored)) }
-    ensures empty { result ≢ 0 → map_of at.new.pointer.stored ≡ map.empty }
-    ensures refused { result ≢ 0 →
-        IsRefused IsTextItem 4 bytes.now (length values.now) result offset.new }
-    ensures unwritten { result ≡ 0 → offset.new ≡ offset.old }
+    ensures { ReadsTree IsTextItem 4 bytes.now values.now result offset.old
+        (map_of at.new.pointer.stored) offset.new }
 {
     drop(at.take());
     let Ok(mut stored) = at.take_or_make(alloc) else {

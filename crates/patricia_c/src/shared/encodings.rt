@@ -1,12 +1,11 @@
 //! Tree bytes of maps that handles share.
-ghost use Rattle.std.specs.Prelude.{◌≡◌, ◌≢◌, ◌≤◌, ◌<◌, drop, length, take};
+ghost use Rattle.std.specs.Prelude.{◌≡◌, ◌≤◌};
 ghost use Rattle.std.specs.FinMap as map;
 ghost use Rattle.patricia_tree.specs.ByteKind.{IsByteItem};
 ghost use Rattle.patricia_tree.specs.TextKind.{IsTextItem};
-ghost use Rattle.patricia_tree.specs.TreeBytes.{AreTreeBytes};
-ghost use Rattle.patricia_tree.specs.Writings.{TooDeep};
-ghost use Rattle.patricia_c.specs.Codes.{HasOther, IsLen};
+ghost use Rattle.patricia_c.specs.Codes.{HasOther};
 ghost use Rattle.patricia_c.specs.Shared.{shared_of};
+ghost use Rattle.patricia_c.specs.Trees.{WritesTree};
 
 use crate::encodings::{write_tree_bytes, write_wide_tree_bytes};
 use crate::shared_place::SharedPlace;
@@ -23,19 +22,9 @@ pub extern "C" fn patricia_shared_tree_bytes(
     len: &mut usize,
 ) -> u32
     ensures same { shared.new ≡ shared.old }
-    ensures done { result ≡ 0 → AreTreeBytes IsByteItem 2 (take len.new room.new)
-        (map.entries (shared_of shared.old.pointer.stored)) }
-    ensures within { result ≡ 0 → len.new ≤ length room.new }
-    ensures behind { result ≡ 0 → drop len.new room.new ≡ drop len.new room.old }
-    ensures too_deep { result ≡ 3 →
-        TooDeep IsByteItem 2 (map.keys (shared_of shared.old.pointer.stored)) }
-    ensures len { result ≡ 4 →
-        IsLen IsByteItem 2 len.new (map.entries (shared_of shared.old.pointer.stored)) }
-    ensures small { result ≡ 4 → length room.old < len.new }
-    ensures unwritten { result ≢ 0 → room.new ≡ room.old }
-    ensures len_unwritten { result ≢ 0 → result ≢ 4 → len.new ≡ len.old }
+    ensures tree { WritesTree IsByteItem 2 (shared_of shared.old.pointer.stored)
+        result room.old len.old room.new len.new }
     ensures codes { result ≤ 4 }
-    ensures not_one { result ≢ 1 }
 {
     let Some(handle) = shared.as_mut() else {
         return write_tree_bytes(&PatriciaMap::new(alloc), room, len);
@@ -55,19 +44,9 @@ pub extern "C" fn patricia_shared_wide_tree_bytes(
     len: &mut usize,
 ) -> u32
     ensures same { shared.new ≡ shared.old }
-    ensures done { result ≡ 0 → AreTreeBytes IsByteItem 4 (take len.new room.new)
-        (map.entries (shared_of shared.old.pointer.stored)) }
-    ensures within { result ≡ 0 → len.new ≤ length room.new }
-    ensures behind { result ≡ 0 → drop len.new room.new ≡ drop len.new room.old }
-    ensures too_deep { result ≡ 3 →
-        TooDeep IsByteItem 4 (map.keys (shared_of shared.old.pointer.stored)) }
-    ensures len { result ≡ 4 →
-        IsLen IsByteItem 4 len.new (map.entries (shared_of shared.old.pointer.stored)) }
-    ensures small { result ≡ 4 → length room.old < len.new }
-    ensures unwritten { result ≢ 0 → room.new ≡ room.old }
-    ensures len_unwritten { result ≢ 0 → result ≢ 4 → len.new ≡ len.old }
+    ensures tree { WritesTree IsByteItem 4 (shared_of shared.old.pointer.stored)
+        result room.old len.old room.new len.new }
     ensures codes { result ≤ 4 }
-    ensures not_one { result ≢ 1 }
 {
     let Some(handle) = shared.as_mut() else {
         return write_wide_tree_bytes(&PatriciaMap::new(alloc), room, len);
@@ -87,21 +66,11 @@ pub extern "C" fn patricia_shared_text_tree_bytes(
     len: &mut usize,
 ) -> u32
     ensures same { shared.new ≡ shared.old }
-    ensures done { result ≡ 0 → AreTreeBytes IsTextItem 2 (take len.new room.new)
-        (map.entries (shared_of shared.old.pointer.stored)) }
-    ensures within { result ≡ 0 → len.new ≤ length room.new }
-    ensures behind { result ≡ 0 → drop len.new room.new ≡ drop len.new room.old }
-    ensures too_deep { result ≡ 3 →
-        TooDeep IsTextItem 2 (map.keys (shared_of shared.old.pointer.stored)) }
-    ensures len { result ≡ 4 →
-        IsLen IsTextItem 2 len.new (map.entries (shared_of shared.old.pointer.stored)) }
-    ensures small { result ≡ 4 → length room.old < len.new }
+    ensures tree { WritesTree IsTextItem 2 (shared_of shared.old.pointer.stored)
+        result room.old len.old room.new len.new }
     ensures not_text { result ≡ 5 →
         HasOther IsTextItem (map.keys (shared_of shared.old.pointer.stored)) }
-    ensures unwritten { result ≢ 0 → room.new ≡ room.old }
-    ensures len_unwritten { result ≢ 0 → result ≢ 4 → len.new ≡ len.old }
     ensures codes { result ≤ 5 }
-    ensures not_one { result ≢ 1 }
 {
     let Some(handle) = shared.as_mut() else {
         return write_text_tree_bytes(alloc, &PatriciaMap::new(alloc), room, len);
@@ -121,21 +90,11 @@ pub extern "C" fn patricia_shared_text_wide_tree_bytes(
     len: &mut usize,
 ) -> u32
     ensures same { shared.new ≡ shared.old }
-    ensures done { result ≡ 0 → AreTreeBytes IsTextItem 4 (take len.new room.new)
-        (map.entries (shared_of shared.old.pointer.stored)) }
-    ensures within { result ≡ 0 → len.new ≤ length room.new }
-    ensures behind { result ≡ 0 → drop len.new room.new ≡ drop len.new room.old }
-    ensures too_deep { result ≡ 3 →
-        TooDeep IsTextItem 4 (map.keys (shared_of shared.old.pointer.stored)) }
-    ensures len { result ≡ 4 →
-        IsLen IsTextItem 4 len.new (map.entries (shared_of shared.old.pointer.stored)) }
-    ensures small { result ≡ 4 → length room.old < len.new }
+    ensures tree { WritesTree IsTextItem 4 (shared_of shared.old.pointer.stored)
+        result room.old len.old room.new len.new }
     ensures not_text { result ≡ 5 →
         HasOther IsTextItem (map.keys (shared_of shared.old.pointer.stored)) }
-    ensures unwritten { result ≢ 0 → room.new ≡ room.old }
-    ensures len_unwritten { result ≢ 0 → result ≢ 4 → len.new ≡ len.old }
     ensures codes { result ≤ 5 }
-    ensures not_one { result ≢ 1 }
 {
     let Some(handle) = shared.as_mut() else {
         return write_wide_text_tree_bytes(alloc, &PatriciaMap::new(alloc), room, len);

@@ -1,4 +1,3 @@
-use Rattle.std.proofs.Common.{arith, sym}
 use Rattle.patricia_c.proofs.LoadLemmas.{ends, more, front_is, whole_is, left_is, late_is, in_order_is}
 use Rattle.patricia_c.proofs.loading.load.Goals as goal
 
