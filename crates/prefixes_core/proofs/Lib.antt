@@ -1,7 +1,9 @@
+pub mod AnswerLemmas
 pub mod CompletionLemmas
 pub mod CountLemmas
 pub mod FaultLemmas
 pub mod LineLemmas
+pub mod ListLemmas
 pub mod LongestLemmas
 pub mod NameLemmas
 pub mod NearLemmas
@@ -10,4 +12,6 @@ pub mod ReachLemmas
 pub mod RecordLemmas
 pub mod ResultLemmas
 pub mod SegmentLemmas
+pub mod StopLemmas
 pub mod SubtreeLemmas
+pub mod TakenLemmas

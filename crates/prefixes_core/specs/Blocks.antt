@@ -1,7 +1,13 @@
 -- Host names, and the names of a list that block them.
-use Rattle.std.specs.Prelude.{◌≡◌, ◌≤◌, ◌⊎◌, ℕ, List, ◌∷◌, ◌++◌, length, true}
+use Rattle.std.specs.Prelude.{◌≡◌, ◌≤◌, ◌⊎◌, ℕ, List, ◌∷◌, ◌++◌, length, true, map as list_map}
+use Rattle.std.specs.Char.{to_ascii_lowercase}
 use Rattle.std.specs.FinMap as map
+use Rattle.std.specs.Io.BufRead.{strip_last}
 use Rattle.patricia_tree.specs.Sets.{KeySet}
+
+-- a name as the program compares it: in lower case, and without a byte 46, a dot, at its end
+abbrev pub folded : List ℕ → List ℕ
+folded name = list_map to_ascii_lowercase (strip_last 46 name)
 
 -- the host is the name, or ends in a dot and the name: `tracker.net` covers itself and
 -- `cdn.tracker.net`, but not `mytracker.net`

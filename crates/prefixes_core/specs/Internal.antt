@@ -1,3 +1,6 @@
 -- Words of contracts that no user of the library meets: a reader need not believe them.
+pub mod Failures
 pub mod Reversed
 pub mod Splits
+pub mod Styles
+pub mod TakenLines

@@ -1,8 +1,10 @@
+pub mod Answers
 pub mod Blocks
 pub mod Combinations
 pub mod Completions
 pub mod Internal
 pub mod Lines
+pub mod Lists
 pub mod Nearest
 pub mod Packings
 pub mod Segments

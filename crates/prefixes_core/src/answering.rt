@@ -1,17 +1,32 @@
 //! What is asked of a list, and the lines or the JSON that answer it.
 
-use crate::blocking::BlockList;
+ghost use Rattle.std.specs.Prelude.{◌≡◌, ◌≢◌, ◌↔◌, ◌++◌, ◌∷◌, ℕ, List, [], drop, length};
+ghost use Rattle.std.specs.Prelude.{IfOk, OnOk, IfErr, IsTrue, IfSome, IfNone, string_bytes};
+ghost use Rattle.std.specs.Prelude.{map as list_map};
+ghost use Rattle.std.specs.FinMap as map;
+ghost use Rattle.std.specs.Fmt.{decimal};
+ghost use Rattle.std.specs.List.{flat_map, join_by};
+ghost use Rattle.std.specs.Option.{option_map};
+ghost use Rattle.std.specs.Str.{IsUtf8, IsValidUpTo};
+ghost use Rattle.prefixes_core.specs.Answers.{fields_line, route_line, count_line, block_line};
+ghost use Rattle.prefixes_core.specs.Answers.{indent, value_line, entry_line, tree_lines};
+ghost use Rattle.prefixes_core.specs.Answers.{Writes, IsFound, Leaves, IsRightLine, IsAnswerFault};
+ghost use Rattle.prefixes_core.specs.Internal.Styles.{IsWritten};
+ghost use Rattle.prefixes_core.specs.Subtrees.{elsewhere};
+
+use crate::blocking::{BlockList, folded};
 use crate::completing::{Completions, complete};
 use crate::cutting::segment;
 use crate::dotted::{drop_subtree, subtree};
 use crate::listing::{Listing, Names};
-use crate::nearing::{NearNames, near};
+use crate::nearing::{NearName, NearNames, near};
 use crate::objects::{
     BlockObject, CompleteObject, EntryObject, NearObject, RouteObject, SegmentObject, Text,
     TreeObject, push_object,
 };
 use crate::value::Payload;
 use itoa::Buffer;
+use patricia_tree::BorrowedBytes;
 use patricia_tree::router::Router;
 use std::alloc::{AllocError, Global};
 use std::str;
@@ -28,6 +43,11 @@ pub enum AnswerError {
 }
 
 impl From<AllocError> for AnswerError {
+    ghost use Rattle.std.specs.Prelude.{◌≡◌};
+    ghost use Rattle.prefixes_core.specs.declared.answering.AnswerError.TheVariants.{Memory};
+
+    ghost from_gives = { λ _ e. e ≡ Memory };
+
     fn from(_: AllocError) -> AnswerError {
         AnswerError::Memory
     }
@@ -61,43 +81,65 @@ pub enum Question {
     Segment(Names),
 }
 
-// Writes fields with a tab between any two, up to the end of their line.
-fn push_fields(fields: &[&[u8]], end: u8, out: &mut Vec<u8>) -> Result<(), AllocError> {
-    let mut is_first = true;
+// Writes fields, each behind a tab.
+fn push_others<Q: BorrowedBytes>(fields: &[Q], out: &mut Vec<u8>) -> Result<(), AllocError>
+    ensures { OnOk result (out.new.items
+        ≡ out.old.items ++ flat_map (λ field. 9 ∷ Q.key field) fields.now) }
+{
     for field in fields {
-        if !is_first {
-            out.push(b'\t')?;
-        }
-        is_first = false;
-        out.extend_from_slice(field)?;
+        out.push(b'\t')?;
+        out.extend_from_slice(BorrowedBytes::as_bytes(field))?;
     }
+    Ok(())
+}
+
+// Writes fields with a tab between any two.
+fn push_joined<Q: BorrowedBytes>(fields: &[Q], out: &mut Vec<u8>) -> Result<(), AllocError>
+    ensures { OnOk result (out.new.items
+        ≡ out.old.items ++ join_by Q.key (9 ∷ []) fields.now) }
+{
+    let Some((first, others)) = fields.split_first() else {
+        return Ok(());
+    };
+    out.extend_from_slice(BorrowedBytes::as_bytes(first))?;
+    push_others(others, out)
+}
+
+// Writes fields with a tab between any two, up to the end of their line.
+fn push_fields<Q: BorrowedBytes>(fields: &[Q], end: u8, out: &mut Vec<u8>) -> Result<(), AllocError>
+    ensures { OnOk result (out.new.items
+        ≡ out.old.items ++ fields_line end (list_map Q.key fields.now)) }
+{
+    push_joined(fields, out)?;
     out.push(end)?;
     Ok(())
 }
 
 // Writes a line that was read, and how many names were found.
-fn push_count(line: &str, count: usize, end: u8, out: &mut Vec<u8>) -> Result<(), AllocError> {
+fn push_count(line: &str, count: usize, end: u8, out: &mut Vec<u8>) -> Result<(), AllocError>
+    ensures { OnOk result (out.new.items ≡ out.old.items ++ count_line end line.now count) }
+{
     let mut buffer = Buffer::new();
-    push_fields(
-        &[line.as_bytes(), buffer.format(count).as_bytes()],
-        end,
-        out,
-    )
+    push_fields(&[line, buffer.format(count)], end, out)
 }
 
 // Writes which prefix a line is routed by, and its target, if it is.
 fn push_route(
     alloc: Global,
     line: &str,
-    found: Option<(&str, &[u8])>,
+    found: Option<(&str, &Payload)>,
     style: Style,
     out: &mut Vec<u8>,
-) -> Result<(), AllocError> {
+) -> Result<(), AllocError>
+    ensures { OnOk result (IsWritten style
+        (λ end. route_line end (option_map (λ route. (route.0.now, route.1.now)) found.entry))
+        out.old.items out.new.items) }
+{
     match (style, found) {
         (Style::Lines(end), Some((prefix, target))) => {
-            push_fields(&[prefix.as_bytes(), target], end, out)
+            push_fields(&[prefix.as_bytes(), target.as_bytes()], end, out)
         }
-        (Style::Lines(end), None) => push_fields(&[b"-".as_slice()], end, out),
+        (Style::Lines(end), None) => push_fields(&["-"], end, out),
         (Style::Json, _) => push_object(alloc, &RouteObject::new(line, found), out),
     }
 }
@@ -108,46 +150,64 @@ fn route(
     line: &str,
     style: Style,
     out: &mut Vec<u8>,
-) -> Result<bool, AllocError> {
-    match routes.route(line) {
-        Some((prefix, target)) => {
-            push_route(alloc, line, Some((prefix, target.as_bytes())), style, out)?;
-            Ok(true)
-        }
-        None => {
-            push_route(alloc, line, None, style, out)?;
-            Ok(false)
-        }
-    }
+) -> Result<bool, AllocError>
+    ensures written { OnOk result
+        (Writes style (Question.Route routes.now) line.now out.old.items out.new.items) }
+    ensures found { IfOk result (λ found. IsFound (Question.Route routes.now) line.now found) }
+{
+    let found = routes.route(line);
+    push_route(alloc, line, found, style, out)?;
+    Ok(found.is_some())
 }
 
-type Completed<'a> = Completions<'a, String, ()>;
-
-fn push_completed(
-    found: &Completed<'_>,
-    line: &str,
-    end: u8,
-    out: &mut Vec<u8>,
-) -> Result<(), AllocError> {
-    push_count(line, found.count, end, out)?;
-    for (name, _) in &found.first {
-        push_fields(&[b"".as_slice(), name.as_bytes()], end, out)?;
+// Writes names that were found, each on a line behind a tab.
+fn push_names(found: &[(String, &())], end: u8, out: &mut Vec<u8>) -> Result<(), AllocError>
+    ensures { OnOk result (out.new.items ≡ out.old.items
+        ++ flat_map (λ name. fields_line end ([] ∷ string_bytes name.0 ∷ [])) found.now) }
+{
+    for (name, _) in found {
+        push_fields(&["", name.as_str()], end, out)?;
     }
     Ok(())
 }
+
+type Completed<'a> = Completions<'a, String, ()>;
 
 fn push_complete_object(
     alloc: Global,
     found: &Completed<'_>,
     line: &str,
     out: &mut Vec<u8>,
-) -> Result<(), AllocError> {
+) -> Result<(), AllocError>
+    ensures { OnOk result
+        ((written : List ℕ) × (out.new.items ≡ out.old.items ++ written)) }
+{
     let count = found.count;
     let mut names = Vec::new(alloc);
     for (name, _) in &found.first {
         names.push(name.as_str())?;
     }
     push_object(alloc, &CompleteObject { line, count, names }, out)
+}
+
+fn push_completed(
+    alloc: Global,
+    found: &Completed<'_>,
+    line: &str,
+    style: Style,
+    out: &mut Vec<u8>,
+) -> Result<(), AllocError>
+    ensures { OnOk result (IsWritten style (λ end. count_line end line.now found.now.count
+        ++ flat_map (λ name. fields_line end ([] ∷ string_bytes name.0 ∷ []))
+        found.now.first.items) out.old.items out.new.items) }
+{
+    match style {
+        Style::Lines(end) => {
+            push_count(line, found.count, end, out)?;
+            push_names(&found.first, end, out)
+        }
+        Style::Json => push_complete_object(alloc, found, line, out),
+    }
 }
 
 fn complete_all(
@@ -157,54 +217,82 @@ fn complete_all(
     most: usize,
     style: Style,
     out: &mut Vec<u8>,
-) -> Result<bool, AllocError> {
+) -> Result<bool, AllocError>
+    ensures written { OnOk result
+        (Writes style (Question.Complete names.now most) line.now out.old.items out.new.items) }
+    ensures found { IfOk result (λ found.
+        IsFound (Question.Complete names.now most) line.now found) }
+{
     let found = complete(alloc, names, line, most)?;
-    match style {
-        Style::Lines(end) => push_completed(&found, line, end, out)?,
-        Style::Json => push_complete_object(alloc, &found, line, out)?,
-    }
+    push_completed(alloc, &found, line, style, out)?;
     Ok(found.count != 0)
 }
 
-fn push_near(found: &NearNames, line: &str, end: u8, out: &mut Vec<u8>) -> Result<(), AllocError> {
-    push_count(line, found.count, end, out)?;
-    for near in &found.first {
-        let mut buffer = Buffer::new();
-        let edits = buffer.format(near.edits).as_bytes();
-        push_fields(&[b"".as_slice(), near.name.as_bytes(), edits], end, out)?;
+// Writes a name that is near, and how many edits away it is.
+fn push_near_name(near: &NearName, end: u8, out: &mut Vec<u8>) -> Result<(), AllocError>
+    ensures { OnOk result (out.new.items ≡ out.old.items
+        ++ fields_line end ([] ∷ string_bytes near.now.name ∷ decimal near.now.edits ∷ [])) }
+{
+    let mut buffer = Buffer::new();
+    push_fields(
+        &["", near.name.as_str(), buffer.format(near.edits)],
+        end,
+        out,
+    )
+}
+
+fn push_near_names(found: &[NearName], end: u8, out: &mut Vec<u8>) -> Result<(), AllocError>
+    ensures { OnOk result (out.new.items ≡ out.old.items ++ flat_map
+        (λ near. fields_line end ([] ∷ string_bytes near.name ∷ decimal near.edits ∷ []))
+        found.now) }
+{
+    for near in found {
+        push_near_name(near, end, out)?;
     }
     Ok(())
+}
+
+fn push_near(
+    alloc: Global,
+    found: &NearNames,
+    line: &str,
+    style: Style,
+    out: &mut Vec<u8>,
+) -> Result<(), AllocError>
+    ensures { OnOk result (IsWritten style (λ end. count_line end line.now found.now.count
+        ++ flat_map
+        (λ near. fields_line end ([] ∷ string_bytes near.name ∷ decimal near.edits ∷ []))
+        found.now.first.items) out.old.items out.new.items) }
+{
+    match style {
+        Style::Lines(end) => {
+            push_count(line, found.count, end, out)?;
+            push_near_names(&found.first, end, out)
+        }
+        Style::Json => {
+            let (count, names) = (found.count, found.first.as_slice());
+            push_object(alloc, &NearObject { line, count, names }, out)
+        }
+    }
 }
 
 fn near_all(
     alloc: Global,
     names: &Names,
     line: &str,
-    (edits, most): (u32, usize),
+    edits: u32,
+    most: usize,
     style: Style,
     out: &mut Vec<u8>,
-) -> Result<bool, AllocError> {
+) -> Result<bool, AllocError>
+    ensures written { OnOk result
+        (Writes style (Question.Near names.now edits most) line.now out.old.items out.new.items) }
+    ensures found { IfOk result (λ found.
+        IsFound (Question.Near names.now edits most) line.now found) }
+{
     let found = near(alloc, names, line, edits, most)?;
-    let count = found.count;
-    match style {
-        Style::Lines(end) => push_near(&found, line, end, out)?,
-        Style::Json => {
-            let names = found.first.as_slice();
-            push_object(alloc, &NearObject { line, count, names }, out)?;
-        }
-    }
-    Ok(count != 0)
-}
-
-/// A host name in lower case and without a dot at its end.
-pub fn folded(alloc: Global, name: &[u8]) -> Result<Vec<u8>, AllocError> {
-    let name = match name {
-        [front @ .., b'.'] => front,
-        _ => name,
-    };
-    let mut folded = Vec::from_slice(alloc, name)?;
-    folded.make_ascii_lowercase();
-    Ok(folded)
+    push_near(alloc, &found, line, style, out)?;
+    Ok(found.count != 0)
 }
 
 // Writes by which name a line is blocked, if it is.
@@ -214,10 +302,14 @@ fn push_blocked(
     found: Option<&[u8]>,
     style: Style,
     out: &mut Vec<u8>,
-) -> Result<(), AllocError> {
+) -> Result<(), AllocError>
+    ensures { OnOk result (IsWritten style
+        (λ end. block_line end (option_map (λ name. name.now) found.entry))
+        out.old.items out.new.items) }
+{
     match (style, found) {
         (Style::Lines(end), Some(name)) => push_fields(&[b"blocked".as_slice(), name], end, out),
-        (Style::Lines(end), None) => push_fields(&[b"passes".as_slice()], end, out),
+        (Style::Lines(end), None) => push_fields(&["passes"], end, out),
         (Style::Json, _) => push_object(alloc, &BlockObject::new(line, found), out),
     }
 }
@@ -228,26 +320,34 @@ fn block(
     line: &[u8],
     style: Style,
     out: &mut Vec<u8>,
-) -> Result<bool, AllocError> {
+) -> Result<bool, AllocError>
+    ensures written { OnOk result
+        (Writes style (Question.Block list.now) line.now out.old.items out.new.items) }
+    ensures found { IfOk result (λ found. IsFound (Question.Block list.now) line.now found) }
+{
     let host = folded(alloc, line)?;
     let found = list.find(&host)?;
+    let is_blocked = found.is_some();
     push_blocked(alloc, line, found, style, out)?;
-    Ok(found.is_some())
+    Ok(is_blocked)
 }
 
-// An entry of a tree: two spaces for each dot that its name has behind that of the tree.
-fn push_entry(
-    name: &[u8],
-    root: &[u8],
-    value: &[u8],
-    end: u8,
-    out: &mut Vec<u8>,
-) -> Result<(), AllocError> {
-    for b in name.iter().skip(root.len()) {
+// Writes two spaces for each dot.
+fn push_indent(name: &[u8], out: &mut Vec<u8>) -> Result<(), AllocError>
+    ensures { OnOk result (out.new.items ≡ out.old.items ++ indent name.now) }
+{
+    for b in name {
         if *b == b'.' {
             out.extend_from_slice(b"  ")?;
         }
     }
+    Ok(())
+}
+
+// Writes a name, and its value where that is not empty.
+fn push_value(name: &[u8], value: &[u8], end: u8, out: &mut Vec<u8>) -> Result<(), AllocError>
+    ensures { OnOk result (out.new.items ≡ out.old.items ++ value_line end name.now value.now) }
+{
     if value.is_empty() {
         push_fields(&[name], end, out)
     } else {
@@ -255,17 +355,32 @@ fn push_entry(
     }
 }
 
-fn push_entries(
-    found: &[(String, &Payload)],
-    line: &str,
+// An entry of a tree: two spaces for each dot that its name has behind that of the tree.
+fn push_entry(
+    name: &[u8],
+    value: &[u8],
+    root: &[u8],
     end: u8,
     out: &mut Vec<u8>,
-) -> Result<(), AllocError> {
+) -> Result<(), AllocError>
+    ensures { OnOk result (out.new.items
+        ≡ out.old.items ++ entry_line end root.now (name.now, value.now)) }
+{
+    push_indent(&name[root.len().min(name.len())..], out)?;
+    push_value(name, value, end, out)
+}
+
+fn push_entries(
+    found: &[(String, &Payload)],
+    root: &[u8],
+    end: u8,
+    out: &mut Vec<u8>,
+) -> Result<(), AllocError>
+    ensures { OnOk result (out.new.items ≡ out.old.items ++ flat_map
+        (λ entry. entry_line end root.now (string_bytes entry.0, entry.1.now)) found.now) }
+{
     for (name, value) in found {
-        push_entry(name.as_bytes(), line.as_bytes(), value.as_bytes(), end, out)?;
-    }
-    if found.is_empty() {
-        push_fields(&[b"-".as_slice()], end, out)?;
+        push_entry(name.as_bytes(), value.as_bytes(), root, end, out)?;
     }
     Ok(())
 }
@@ -275,7 +390,10 @@ fn push_tree_object(
     found: &[(String, &Payload)],
     line: &str,
     out: &mut Vec<u8>,
-) -> Result<(), AllocError> {
+) -> Result<(), AllocError>
+    ensures { OnOk result
+        ((written : List ℕ) × (out.new.items ≡ out.old.items ++ written)) }
+{
     let mut entries = Vec::new(alloc);
     for (name, value) in found {
         let (name, value) = (name.as_str(), Text::new(value.as_bytes()));
@@ -284,18 +402,38 @@ fn push_tree_object(
     push_object(alloc, &TreeObject { line, entries }, out)
 }
 
+// Writes the entries of a tree, if there are any.
+fn push_tree(
+    alloc: Global,
+    found: &[(String, &Payload)],
+    line: &str,
+    style: Style,
+    out: &mut Vec<u8>,
+) -> Result<(), AllocError>
+    ensures { OnOk result (IsWritten style (λ end. tree_lines end line.now
+        (list_map (λ entry. (string_bytes entry.0, entry.1.now)) found.now))
+        out.old.items out.new.items) }
+{
+    match style {
+        Style::Lines(end) if found.is_empty() => push_fields(&["-"], end, out),
+        Style::Lines(end) => push_entries(found, line.as_bytes(), end, out),
+        Style::Json => push_tree_object(alloc, found, line, out),
+    }
+}
+
 fn tree(
     alloc: Global,
     list: &Listing,
     line: &str,
     style: Style,
     out: &mut Vec<u8>,
-) -> Result<bool, AllocError> {
+) -> Result<bool, AllocError>
+    ensures written { OnOk result
+        (Writes style (Question.Tree list.now) line.now out.old.items out.new.items) }
+    ensures found { IfOk result (λ found. IsFound (Question.Tree list.now) line.now found) }
+{
     let found = subtree(alloc, list, line)?;
-    match style {
-        Style::Lines(end) => push_entries(&found, line, end, out)?,
-        Style::Json => push_tree_object(alloc, &found, line, out)?,
-    }
+    push_tree(alloc, &found, line, style, out)?;
     Ok(!found.is_empty())
 }
 
@@ -305,10 +443,34 @@ fn drop_tree(
     line: &str,
     style: Style,
     out: &mut Vec<u8>,
-) -> Result<bool, AllocError> {
+) -> Result<bool, AllocError>
+    ensures written { OnOk result
+        (Writes style (Question.Tree list.old) line.now out.old.items out.new.items) }
+    ensures found { IfOk result (λ found. IsFound (Question.Tree list.old) line.now found) }
+    ensures dropped { OnOk result
+        (map.entries list.new ≡ elsewhere line.now (map.entries list.old)) }
+{
     let is_found = tree(alloc, list, line, style, out)?;
     drop_subtree(alloc, list, line)?;
     Ok(is_found)
+}
+
+// Writes the pieces that a line is cut into.
+fn push_pieces(
+    alloc: Global,
+    pieces: &[&str],
+    line: &str,
+    style: Style,
+    out: &mut Vec<u8>,
+) -> Result<(), AllocError>
+    ensures { OnOk result (IsWritten style
+        (λ end. fields_line end (list_map (λ piece. piece.now) pieces.now))
+        out.old.items out.new.items) }
+{
+    match style {
+        Style::Lines(end) => push_fields(pieces, end, out),
+        Style::Json => push_object(alloc, &SegmentObject { line, pieces }, out),
+    }
 }
 
 fn cut(
@@ -317,26 +479,23 @@ fn cut(
     line: &str,
     style: Style,
     out: &mut Vec<u8>,
-) -> Result<bool, AllocError> {
+) -> Result<bool, AllocError>
+    ensures written { OnOk result
+        (Writes style (Question.Segment words.now) line.now out.old.items out.new.items) }
+    ensures found { IfOk result (λ found. IsFound (Question.Segment words.now) line.now found) }
+{
     let pieces = segment(alloc, words, line)?;
-    match style {
-        Style::Lines(end) => {
-            let mut fields = Vec::new(alloc);
-            for piece in &pieces {
-                fields.push(piece.as_bytes())?;
-            }
-            push_fields(&fields, end, out)?;
-        }
-        Style::Json => {
-            let pieces = pieces.as_slice();
-            push_object(alloc, &SegmentObject { line, pieces }, out)?;
-        }
-    }
-    Ok(!pieces.is_empty())
+    push_pieces(alloc, &pieces, line, style, out)?;
+    Ok(!line.is_empty())
 }
 
 // The text that a line is.
-fn text(line: &[u8]) -> Result<&str, AnswerError> {
+fn text(line: &[u8]) -> Result<&str, AnswerError>
+    ensures text { IfOk result (λ text. text.now ≡ line.now) }
+    ensures utf8 { OnOk result (IsUtf8 line.now) }
+    ensures named { IfErr result (λ e. (at : ℕ) × (e ≡ AnswerError.NotUtf8 at)
+        × (IsUtf8 line.now → ⊥) × IsValidUpTo line.now at) }
+{
     match str::from_utf8(line) {
         Ok(text) => Ok(text),
         Err(error) => Err(AnswerError::NotUtf8(error.valid_up_to())),
@@ -351,12 +510,17 @@ impl Question {
         line: &str,
         style: Style,
         out: &mut Vec<u8>,
-    ) -> Result<bool, AllocError> {
+    ) -> Result<bool, AllocError>
+        ensures written { OnOk result
+            (Writes style self.old line.now out.old.items out.new.items) }
+        ensures found { IfOk result (λ found. IsFound self.old line.now found) }
+        ensures left { OnOk result (Leaves self.old line.now self.new) }
+    {
         match self {
             Question::Route(routes) => route(alloc, routes, line, style, out),
             Question::Complete(list, most) => complete_all(alloc, list, line, *most, style, out),
             Question::Near(list, edits, most) => {
-                near_all(alloc, list, line, (*edits, *most), style, out)
+                near_all(alloc, list, line, *edits, *most, style, out)
             }
             Question::Block(list) => block(alloc, list, line.as_bytes(), style, out),
             Question::Tree(list) => tree(alloc, list, line, style, out),
@@ -376,11 +540,20 @@ impl Question {
         line: &[u8],
         style: Style,
         out: &mut Vec<u8>,
-    ) -> Result<bool, AnswerError> {
-        let found = match self {
-            Question::Block(list) => block(alloc, list, line, style, out),
-            _ => self.answer_text(alloc, text(line)?, style, out),
-        };
-        Ok(found?)
+    ) -> Result<bool, AnswerError>
+        ensures written { OnOk result
+            (Writes style self.old line.now out.old.items out.new.items) }
+        ensures found { IfOk result (λ found. IsFound self.old line.now found) }
+        ensures left { OnOk result (Leaves self.old line.now self.new) }
+        ensures right { OnOk result (IsRightLine self.old line.now) }
+        ensures named { IfErr result (λ e. IsAnswerFault self.old line.now e) }
+    {
+        if let Question::Block(list) = self {
+            return Ok(block(alloc, list, line, style, out)?);
+        }
+        match text(line) {
+            Ok(line) => Ok(self.answer_text(alloc, line, style, out)?),
+            Err(error) => Err(error),
+        }
     }
 }

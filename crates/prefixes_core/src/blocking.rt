@@ -2,9 +2,10 @@
 
 ghost use Rattle.std.specs.Prelude.{◌≡◌, not, IfOk, OnOk, OnErr, IfSome, IfNone};
 ghost use Rattle.std.specs.FinMap as map;
-ghost use Rattle.prefixes_core.specs.Blocks.{Blocks, Passes};
+ghost use Rattle.prefixes_core.specs.Blocks.{Blocks, Passes, folded};
 ghost use Rattle.prefixes_core.specs.Internal.Reversed.{key_of};
 
+use crate::listing::without_end;
 use patricia_tree::PatriciaSet;
 use std::alloc::{AllocError, Global};
 use std::marker::Model;
@@ -42,6 +43,15 @@ impl Model for BlockList {
     ghost view = { λ list. names_of list.keys };
 
     ghost invariant = { λ list. AreKeysOfNames list.keys };
+}
+
+/// A host name as names are to be compared: in lower case, and without a dot at its end.
+pub fn folded(alloc: Global, name: &[u8]) -> Result<Vec<u8>, AllocError>
+    ensures { IfOk result (λ name_folded. name_folded.items ≡ folded name.now) }
+{
+    let mut folded = Vec::from_slice(alloc, without_end(name, b'.'))?;
+    folded.make_ascii_lowercase();
+    Ok(folded)
 }
 
 // The bytes of a dot and the name, from the last to the first. So a name covers a host exactly

@@ -1,5 +1,9 @@
 //! Why the program does not answer to the end.
 
+ghost use Rattle.std.specs.Prelude.{◌≡◌, [], OnOk, IfErr};
+ghost use Rattle.std.specs.Io.KnownBytes.{Appends};
+ghost use Rattle.prefixes_core.specs.Internal.Failures.{IsLineFailure, IsOutputFailure};
+
 use crate::answering::AnswerError;
 use crate::combining::LinesError;
 use crate::listing::ListError;
@@ -80,7 +84,9 @@ pub fn input_failure(alloc: Global, path: &str, error: io::Error) -> Failure {
 }
 
 /// A line at a path is not answered.
-pub fn line_failure(alloc: Global, path: &str, number: u64, error: AnswerError) -> Failure {
+pub fn line_failure(alloc: Global, path: &str, number: u64, error: AnswerError) -> Failure
+    ensures { IsLineFailure number error result }
+{
     match String::from_str(alloc, path) {
         Ok(path) => Failure::Line(path, number, error),
         Err(_) => Failure::Memory,
@@ -88,7 +94,12 @@ pub fn line_failure(alloc: Global, path: &str, number: u64, error: AnswerError) 
 }
 
 /// Writes what is answered so far.
-pub fn put<W: Write>(output: &mut W, out: &mut Vec<u8>) -> Result<(), Failure> {
+pub fn put<W: Write>(output: &mut W, out: &mut Vec<u8>) -> Result<(), Failure>
+    ensures written { OnOk result
+        (Appends (W.contents output.old) (W.contents output.new) out.old.items) }
+    ensures none_left { OnOk result (out.new.items ≡ []) }
+    ensures named { IfErr result IsOutputFailure }
+{
     if let Err(error) = output.write_all(out) {
         return Err(Failure::Output(error));
     }

@@ -1,7 +1,13 @@
 //! Lists: files of names with their values, a line for each, or packed.
 
-use crate::answering::folded;
-use crate::blocking::BlockList;
+ghost use Rattle.std.specs.Prelude.{◌≡◌, ◌≢◌, ℕ, List, IfOk, OnOk, IfErr};
+ghost use Rattle.std.specs.FinMap as map;
+ghost use Rattle.std.specs.Io.BufRead.{strip_last};
+ghost use Rattle.std.specs.Str.{IsUtf8, IsValidUpTo};
+ghost use Rattle.prefixes_core.specs.Blocks.{folded as folded_name};
+ghost use Rattle.prefixes_core.specs.Lists.{name_of, value_of, IsListLine, IsLineFault, with_line};
+
+use crate::blocking::{BlockList, folded};
 use crate::packing::{HEAD, UnpackError, unpack};
 use crate::value::Payload;
 use memchr::memchr;
@@ -38,12 +44,22 @@ pub enum ListError {
 }
 
 impl From<io::Error> for ListError {
+    ghost use Rattle.std.specs.Prelude.{◌≡◌};
+    ghost use Rattle.prefixes_core.specs.declared.listing.ListError.TheVariants as Errors;
+
+    ghost from_gives = { λ error e. e ≡ Errors.Read error };
+
     fn from(error: io::Error) -> ListError {
         ListError::Read(error)
     }
 }
 
 impl From<AllocError> for ListError {
+    ghost use Rattle.std.specs.Prelude.{◌≡◌};
+    ghost use Rattle.prefixes_core.specs.declared.listing.ListError.TheVariants.{Memory};
+
+    ghost from_gives = { λ _ e. e ≡ Memory };
+
     fn from(_: AllocError) -> ListError {
         ListError::Memory
     }
@@ -56,31 +72,55 @@ pub enum Values {
     Optional,
 }
 
-/// A line without the byte that ends it.
-pub fn without_end(line: &[u8], end: u8) -> &[u8] {
-    match line {
-        [front @ .., last] if *last == end => front,
-        _ => line,
+/// Bytes without the last one, if that is this byte: a line without what ends it.
+pub fn without_end(bytes: &[u8], end: u8) -> &[u8]
+    ensures { result.now ≡ strip_last end bytes.now }
+{
+    match bytes.split_last() {
+        Some((last, front)) if *last == end => front,
+        _ => bytes,
     }
 }
 
 // The name and the value of a line, which are separated by the first byte 9.
-fn fields(line: &[u8], number: u64, values: Values) -> Result<(&[u8], &[u8]), ListError> {
-    match memchr(b'\t', line) {
-        Some(place) => Ok((&line[..place], &line[place + 1..])),
-        None if values == Values::Needed => Err(ListError::NoTab(number)),
-        None => Ok((line, b"")),
+fn fields(line: &[u8], number: u64, values: Values) -> Result<(&[u8], &[u8]), ListError>
+    ensures name { IfOk result (λ fields. fields.0.now ≡ name_of line.now) }
+    ensures value { IfOk result (λ fields. fields.1.now ≡ value_of line.now) }
+    ensures tab { OnOk result (values ≡ Values.Needed → name_of line.now ≢ line.now) }
+    ensures named { IfErr result (λ e. IsLineFault values number line.now e) }
+{
+    match (memchr(b'\t', line), values) {
+        (Some(place), _) => Ok((&line[..place], &line[place + 1..])),
+        (None, Values::Needed) => Err(ListError::NoTab(number)),
+        (None, Values::Optional) => Ok((line, b"")),
+    }
+}
+
+// The text of a name.
+fn name_text(name: &[u8], number: u64) -> Result<&str, ListError>
+    ensures text { IfOk result (λ text. text.now ≡ name.now) }
+    ensures utf8 { OnOk result (IsUtf8 name.now) }
+    ensures named { IfErr result (λ e. (at : ℕ) × (e ≡ ListError.NotUtf8 number at)
+        × (IsUtf8 name.now → ⊥) × IsValidUpTo name.now at) }
+{
+    match str::from_utf8(name) {
+        Ok(text) => Ok(text),
+        Err(error) => Err(ListError::NotUtf8(number, error.valid_up_to())),
     }
 }
 
 /// What a list is read into.
 pub trait Destination {
+    // what it holds with a name and its value added
+    ghost added: { Self → List ℕ → List ℕ → Self };
+
     /// Adds a name with its value. Of two values for one name the later stays.
     ///
     /// # Errors
     ///
     /// Out of memory.
-    fn add_entry(&mut self, alloc: Global, name: &str, value: &[u8]) -> Result<(), AllocError>;
+    fn add_entry(&mut self, alloc: Global, name: &str, value: &[u8]) -> Result<(), AllocError>
+        ensures { OnOk result (self.new ≡ added self.old name.now value.now) };
 
     /// Adds the names of a list with their values.
     ///
@@ -97,6 +137,8 @@ pub trait Destination {
 }
 
 impl Destination for Listing {
+    ghost added = { λ list name value. map.insert list name value };
+
     fn add_entry(&mut self, alloc: Global, name: &str, value: &[u8]) -> Result<(), AllocError> {
         match self.insert(name, Payload::new(alloc, value)?) {
             Ok(_) => Ok(()),
@@ -106,6 +148,8 @@ impl Destination for Listing {
 }
 
 impl Destination for Names {
+    ghost added = { λ names name _. map.insert names name tt };
+
     fn add_entry(&mut self, _alloc: Global, name: &str, _value: &[u8]) -> Result<(), AllocError> {
         match self.insert(name, ()) {
             Ok(_) => Ok(()),
@@ -115,6 +159,8 @@ impl Destination for Names {
 }
 
 impl Destination for NameSet {
+    ghost added = { λ names name _. map.insert names name tt };
+
     fn add_entry(&mut self, _alloc: Global, name: &str, _value: &[u8]) -> Result<(), AllocError> {
         self.insert(name)?;
         Ok(())
@@ -122,6 +168,8 @@ impl Destination for NameSet {
 }
 
 impl Destination for Router<String, Payload> {
+    ghost added = { λ routes name value. map.insert routes name value };
+
     fn add_entry(&mut self, alloc: Global, name: &str, value: &[u8]) -> Result<(), AllocError> {
         match self.add(name, Payload::new(alloc, value)?) {
             Ok(_) => Ok(()),
@@ -131,6 +179,8 @@ impl Destination for Router<String, Payload> {
 }
 
 impl Destination for BlockList {
+    ghost added = { λ names name _. map.insert names (folded_name name) tt };
+
     fn add_entry(&mut self, alloc: Global, name: &str, _value: &[u8]) -> Result<(), AllocError> {
         let name = folded(alloc, name.as_bytes())?;
         self.add(&name)?;
@@ -138,21 +188,28 @@ impl Destination for BlockList {
     }
 }
 
-// Adds the name of a line. An empty line has none.
+// Adds the name of a line with its value. An empty line has none.
 fn add_line<S: Destination>(
     alloc: Global,
     destination: &mut S,
     line: &[u8],
     number: u64,
     values: Values,
-) -> Result<(), ListError> {
+) -> Result<(), ListError>
+    ensures added { OnOk result (destination.new ≡ with_line S.added destination.old line.now) }
+    ensures right { OnOk result (IsListLine values line.now) }
+    ensures named { IfErr result (λ e. IsLineFault values number line.now e) }
+{
     if line.is_empty() {
         return Ok(());
     }
-    let (name, value) = fields(line, number, values)?;
-    let name = match str::from_utf8(name) {
+    let (name, value) = match fields(line, number, values) {
+        Ok(fields) => fields,
+        Err(error) => return Err(error),
+    };
+    let name = match name_text(name, number) {
         Ok(name) => name,
-        Err(error) => return Err(ListError::NotUtf8(number, error.valid_up_to())),
+        Err(error) => return Err(error),
     };
     destination.add_entry(alloc, name, value)?;
     Ok(())

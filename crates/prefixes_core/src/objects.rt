@@ -1,7 +1,10 @@
 //! Answers as objects of JSON, each on a line.
 
+ghost use Rattle.std.specs.Prelude.{◌≡◌, ◌++◌, ℕ, List, OnOk};
+
 use crate::measuring::Measures;
 use crate::nearing::NearName;
+use crate::value::Payload;
 use serde::Serialize;
 use std::alloc::{AllocError, Global};
 use std::str;
@@ -31,9 +34,9 @@ pub struct RouteObject<'a> {
 }
 
 impl<'a> RouteObject<'a> {
-    pub fn new(line: &'a str, found: Option<(&'a str, &'a [u8])>) -> RouteObject<'a> {
+    pub fn new(line: &'a str, found: Option<(&'a str, &'a Payload)>) -> RouteObject<'a> {
         let (prefix, target) = match found {
-            Some((prefix, target)) => (Some(prefix), Some(Text::new(target))),
+            Some((prefix, target)) => (Some(prefix), Some(Text::new(target.as_bytes()))),
             None => (None, None),
         };
         RouteObject {
@@ -135,7 +138,10 @@ pub fn push_object<T: Serialize>(
     alloc: Global,
     object: &T,
     out: &mut Vec<u8>,
-) -> Result<(), AllocError> {
+) -> Result<(), AllocError>
+    ensures { OnOk result
+        ((written : List ℕ) × (out.new.items ≡ out.old.items ++ written)) }
+{
     // nothing but memory is refused to an object
     let Ok(text) = serde_json::to_vec(alloc, object) else {
         return Err(AllocError);

@@ -1,6 +1,10 @@
 //! The program over its words, its files and its streams.
 
-use crate::answering::{Question, Style};
+ghost use Rattle.std.specs.Prelude.{◌≡◌, if◌then◌else◌, IfOk, OnOk, IfErr, OnErr};
+ghost use Rattle.prefixes_core.specs.Answers.{Writes, IsFound, Leaves, IsRightLine, IsAnswerFault};
+ghost use Rattle.prefixes_core.specs.Internal.Failures.{IsStop};
+
+use crate::answering::{AnswerError, Question, Style};
 use crate::failure::{Failure, input_failure, line_failure, put};
 use crate::files::{combine_files, pack_file};
 use crate::inputs::{Inputs, shown};
@@ -87,6 +91,32 @@ fn read_line<R: BufRead>(
     }
 }
 
+// Writes the answer to a line behind those that wait, which stay as they are where it is refused.
+fn add_answer(
+    alloc: Global,
+    question: &mut Question,
+    line: &[u8],
+    style: Style,
+    next: &mut Vec<u8>,
+    out: &mut Vec<u8>,
+) -> Result<bool, AnswerError>
+    ensures written { OnOk result
+        (Writes style question.old line.now out.old.items out.new.items) }
+    ensures found { IfOk result (λ found. IsFound question.old line.now found) }
+    ensures left { OnOk result (Leaves question.old line.now question.new) }
+    ensures right { OnOk result (IsRightLine question.old line.now) }
+    ensures named { IfErr result (λ e. IsAnswerFault question.old line.now e) }
+    ensures kept { OnErr result (out.new.items ≡ out.old.items) }
+{
+    next.clear();
+    let found = match question.answer(alloc, line, style, next) {
+        Ok(found) => found,
+        Err(error) => return Err(error),
+    };
+    out.extend_from_slice(next)?;
+    Ok(found)
+}
+
 // Answers a line. Where it is refused, what is answered before it is written.
 fn answer_line<W: Write>(
     alloc: Global,
@@ -94,17 +124,25 @@ fn answer_line<W: Write>(
     line: &[u8],
     number: u64,
     asked: &Asked<'_>,
+    next: &mut Vec<u8>,
     out: &mut Vec<u8>,
     output: &mut W,
-) -> Result<bool, Failure> {
-    let len = out.len();
-    match question.answer(alloc, without_end(line, asked.end), asked.style, out) {
+) -> Result<bool, Failure>
+    ensures written { OnOk result
+        (Writes asked.now.style question.old line.now out.old.items out.new.items) }
+    ensures found { IfOk result (λ found. IsFound question.old line.now found) }
+    ensures left { OnOk result (Leaves question.old line.now question.new) }
+    ensures right { OnOk result (IsRightLine question.old line.now) }
+    ensures waits { OnOk result (output.new ≡ output.old) }
+    ensures named { IfErr result (λ e. IsStop question.old line.now number out.old.items
+        (W.contents output.old) (W.contents output.new) e) }
+{
+    match add_answer(alloc, question, line, asked.style, next, out) {
         Ok(found) => Ok(found),
-        Err(error) => {
-            out.truncate(len);
-            put(output, out)?;
-            Err(line_failure(alloc, shown(asked.path), number, error))
-        }
+        Err(error) => match put(output, out) {
+            Ok(()) => Err(line_failure(alloc, shown(asked.path), number, error)),
+            Err(failure) => Err(failure),
+        },
     }
 }
 
@@ -119,12 +157,16 @@ fn answer_each<F: Read + Drop, W: Write>(
 ) -> Result<bool, Failure> {
     let mut is_found = false;
     let mut line = Vec::new(alloc);
+    let mut next = Vec::new(alloc);
     let mut out = Vec::new(alloc);
     for number in 1..u64::MAX {
         if !read_line(alloc, reader, asked, &mut line)? {
             break;
         }
-        is_found |= answer_line(alloc, question, &line, number, asked, &mut out, output)?;
+        let line = without_end(&line, asked.end);
+        is_found |= answer_line(
+            alloc, question, line, number, asked, &mut next, &mut out, output,
+        )?;
         // a line that is not whole yet may be long in coming
         let waits = memchr(asked.end, reader.buffer()).is_none();
         if waits || out.len() >= MOST_WAITING {
@@ -264,6 +306,13 @@ fn run<R: Files, I: Read + Drop, W: Write, E: Write + Drop>(
     }
 }
 
+// The status to end with, where nothing went wrong.
+fn status(is_found: bool) -> u8
+    ensures { result ≡ (if is_found then 0 else 1) }
+{
+    if is_found { 0 } else { 1 }
+}
+
 // Writes why the program does not answer to the end, and returns the status to end with.
 fn complain<E: Write>(errors: &mut E, failure: &Failure) -> u8 {
     let _ = writeln!(errors, "prefixes: {failure}");
@@ -312,8 +361,7 @@ pub fn serve<R: Files, I: Read + Drop, W: Write + Drop, E: Write + Drop>(
         end: b'\n',
     };
     match run(inputs, words, &mut output) {
-        Ok(true) => 0,
-        Ok(false) => 1,
+        Ok(is_found) => status(is_found),
         Err(Failure::Usage(usage)) => show_usage(&mut output, &mut errors, &usage),
         Err(failure) => complain(&mut errors, &failure),
     }

@@ -1,0 +1,133 @@
+-- What is written for a line, and whether that counts as found.
+use Rattle.std.specs.Prelude.{◌≡◌, ◌≢◌, ◌==◌, ◌↔◌, ◌++◌, if◌then◌else◌, ℕ, Bool, List, [], ◌∷◌}
+use Rattle.std.specs.Prelude.{length, take, drop, codes, IsTrue, Option, None, Some, MatchOption}
+use Rattle.std.specs.Bool.{MatchBool}
+use Rattle.std.specs.FinMap as map
+use Rattle.std.specs.Fmt.{decimal}
+use Rattle.std.specs.List.{flat_map, join_by}
+use Rattle.std.specs.Option.{is_some}
+use Rattle.std.specs.Str.{IsUtf8, IsValidUpTo}
+use Rattle.patricia_tree.specs.Keys.{key_cmp}
+use Rattle.patricia_tree.specs.Prefixes.{longest, under}
+use Rattle.prefixes_core.specs.Blocks.{Blocks, Passes, folded}
+use Rattle.prefixes_core.specs.Nearest.{AreNearest}
+use Rattle.prefixes_core.specs.Segments.{AreSegments}
+use Rattle.prefixes_core.specs.Subtrees.{subtree, elsewhere}
+use Rattle.prefixes_core.specs.declared.answering.AnswerError.{AnswerError}
+use Rattle.prefixes_core.specs.declared.answering.AnswerError.TheVariants as Errors
+use Rattle.prefixes_core.specs.declared.answering.Question.{Question}
+use Rattle.prefixes_core.specs.declared.answering.Question.TheVariants as Questions
+use Rattle.prefixes_core.specs.declared.answering.Style.{Style}
+use Rattle.prefixes_core.specs.declared.answering.Style.TheVariants as Styles
+
+-- the line of some fields: a byte 9 stands between each two, and at its end the byte `end`
+abbrev pub fields_line : ℕ → List (List ℕ) → List ℕ
+fields_line end fields = join_by (λ field. field) (9 ∷ []) fields ++ end ∷ []
+
+-- the line that says that there is nothing
+abbrev pub dash_line : ℕ → List ℕ
+dash_line end = fields_line end (codes "-" ∷ [])
+
+-- a prefix and its target
+abbrev pub route_line : ℕ → Option (List ℕ × List ℕ) → List ℕ
+route_line end None = dash_line end
+route_line end (Some route) = fields_line end (route.0 ∷ route.1 ∷ [])
+
+-- the line that is asked about, and how many names are found
+abbrev pub count_line : ℕ → List ℕ → ℕ → List ℕ
+count_line end line count = fields_line end (line ∷ decimal count ∷ [])
+
+-- the names of entries, each on a line behind a byte 9
+abbrev pub name_lines : {V : Type 0} → ℕ → List (List ℕ × V) → List ℕ
+name_lines end entries = flat_map (λ e. fields_line end ([] ∷ e.0 ∷ [])) entries
+
+-- names in the same way, with how many edits away each is
+abbrev pub near_lines : ℕ → List (List ℕ × ℕ) → List ℕ
+near_lines end found = flat_map (λ e. fields_line end ([] ∷ e.0 ∷ decimal e.1 ∷ [])) found
+
+-- by which name a host is blocked, if it is
+abbrev pub block_line : ℕ → Option (List ℕ) → List ℕ
+block_line end None = fields_line end (codes "passes" ∷ [])
+block_line end (Some name) = fields_line end (codes "blocked" ∷ name ∷ [])
+
+-- two spaces for each byte 46, a dot
+abbrev pub indent : List ℕ → List ℕ
+indent name = flat_map (λ b. if b == 46 then codes "  " else []) name
+
+-- a name, and its value where that is not empty
+abbrev pub value_line : ℕ → List ℕ → List ℕ → List ℕ
+value_line end name [] = fields_line end (name ∷ [])
+value_line end name (b ∷ value) = fields_line end (name ∷ (b ∷ value) ∷ [])
+
+-- an entry of the tree of a name, indented by the dots that its own name has behind that one
+abbrev pub entry_line : ℕ → List ℕ → List ℕ × List ℕ → List ℕ
+entry_line end root entry =
+    indent (drop (length root) entry.0) ++ value_line end entry.0 entry.1
+
+-- the entries of the tree of a name
+abbrev pub tree_lines : ℕ → List ℕ → List (List ℕ × List ℕ) → List ℕ
+tree_lines end root [] = dash_line end
+tree_lines end root (entry ∷ entries) = flat_map (entry_line end root) (entry ∷ entries)
+
+-- what is written for a line
+abbrev pub IsAnswer : ℕ → Question → List ℕ → List ℕ → Type 0
+IsAnswer end (Questions.Route routes) line written =
+    written ≡ route_line end (longest line (map.entries routes))
+IsAnswer end (Questions.Complete names most) line written =
+    let found = under line (map.entries names) in
+    written ≡ count_line end line (length found) ++ name_lines end (take most found)
+IsAnswer end (Questions.Near names edits most) line written =
+    (first : List (List ℕ × ℕ)) × (count : ℕ)
+    × AreNearest (map.entries names) line edits most first count
+    × (written ≡ count_line end line count ++ near_lines end first)
+IsAnswer end (Questions.Block names) line written =
+    (name : Option (List ℕ))
+    × MatchOption name (Passes names (folded line)) (Blocks names (folded line))
+    × (written ≡ block_line end name)
+IsAnswer end (Questions.Tree list) line written =
+    written ≡ tree_lines end line (subtree line (map.entries list))
+IsAnswer end (Questions.DropTree list) line written =
+    written ≡ tree_lines end line (subtree line (map.entries list))
+IsAnswer end (Questions.Segment words) line written =
+    (pieces : List (List ℕ)) × AreSegments words line pieces × (written ≡ fields_line end pieces)
+
+-- whether something is found for a line
+abbrev pub IsFound : Question → List ℕ → Bool → Type 0
+IsFound (Questions.Route routes) line found = found ≡ is_some (longest line (map.entries routes))
+IsFound (Questions.Complete names most) line found =
+    IsTrue found ↔ (under line (map.entries names) ≢ [])
+IsFound (Questions.Near names edits most) line found =
+    (first : List (List ℕ × ℕ)) × (count : ℕ)
+    × AreNearest (map.entries names) line edits most first count × (IsTrue found ↔ (count ≢ 0))
+IsFound (Questions.Block names) line found =
+    MatchBool found ((name : List ℕ) × Blocks names (folded line) name)
+    (Passes names (folded line))
+IsFound (Questions.Tree list) line found =
+    IsTrue found ↔ (subtree line (map.entries list) ≢ [])
+IsFound (Questions.DropTree list) line found =
+    IsTrue found ↔ (subtree line (map.entries list) ≢ [])
+IsFound (Questions.Segment words) line found = IsTrue found ↔ (line ≢ [])
+
+-- what later lines are asked of: what is shown of a tree may be dropped
+abbrev pub Leaves : Question → List ℕ → Question → Type 0
+Leaves (Questions.DropTree list) line left =
+    (rest : map.FinMap key_cmp (List ℕ)) × (left ≡ Questions.DropTree rest)
+    × (map.entries rest ≡ elsewhere line (map.entries list))
+Leaves question line left = left ≡ question
+
+-- an answer comes at the end of a text, where no clause says what it is as JSON
+abbrev pub Writes : Style → Question → List ℕ → List ℕ → List ℕ → Type 0
+Writes (Styles.Lines end) question line old new =
+    (written : List ℕ) × (new ≡ old ++ written) × IsAnswer end question line written
+Writes Styles.Json question line old new = (written : List ℕ) × (new ≡ old ++ written)
+
+-- a line is UTF-8, or a host, which may be any bytes
+abbrev pub IsRightLine : Question → List ℕ → Type 0
+IsRightLine (Questions.Block names) line = Unit {0}
+IsRightLine question line = IsUtf8 line
+
+-- what each error says of a line
+abbrev pub IsAnswerFault : Question → List ℕ → AnswerError → Type 0
+IsAnswerFault question line (Errors.NotUtf8 at) =
+    (IsRightLine question line → ⊥) × IsValidUpTo line at
+IsAnswerFault question line Errors.Memory = Unit {0}
