@@ -9,6 +9,7 @@ pub mod NameLemmas
 pub mod NearLemmas
 pub mod PackLemmas
 pub mod ReachLemmas
+pub mod ReadLemmas
 pub mod RecordLemmas
 pub mod ResultLemmas
 pub mod SegmentLemmas

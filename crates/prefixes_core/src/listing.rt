@@ -1,13 +1,17 @@
 //! Lists: files of names with their values, a line for each, or packed.
 
-ghost use Rattle.std.specs.Prelude.{◌≡◌, ◌≢◌, ℕ, List, IfOk, OnOk, IfErr};
+ghost use Rattle.std.specs.Prelude.{◌≡◌, ◌≢◌, ◌<◌, ◌^◌, ℕ, List, length};
+ghost use Rattle.std.specs.Prelude.{IfOk, OnOk, IfErr, IfSome};
 ghost use Rattle.std.specs.FinMap as map;
 ghost use Rattle.std.specs.Io.BufRead.{strip_last};
+ghost use Rattle.std.specs.List.{All};
 ghost use Rattle.std.specs.Str.{IsUtf8, IsValidUpTo};
 ghost use Rattle.prefixes_core.specs.Blocks.{folded as folded_name};
-ghost use Rattle.prefixes_core.specs.Lists.{name_of, value_of, IsListLine, IsLineFault, with_line};
+ghost use Rattle.prefixes_core.specs.Lists.{name_of, value_of, lines_of, with_line, with_lines};
+ghost use Rattle.prefixes_core.specs.Lists.{IsListLine, IsLineFault, IsListFault};
 
 use crate::blocking::{BlockList, folded};
+use crate::lines::next_line;
 use crate::packing::{HEAD, UnpackError, unpack};
 use crate::value::Payload;
 use memchr::memchr;
@@ -215,6 +219,15 @@ fn add_line<S: Destination>(
     Ok(())
 }
 
+// Tells how far a long list is read.
+fn tell<W: Write>(progress: &mut Option<W>, number: u64) {
+    if number % 100_000 == 0
+        && let Some(progress) = progress
+    {
+        let _ = writeln!(progress, "prefixes: {number} lines read");
+    }
+}
+
 // Reads a line for each name. Of two lines with one name the later stays.
 fn read_lines<R: BufRead, W: Write, S: Destination>(
     alloc: Global,
@@ -223,18 +236,23 @@ fn read_lines<R: BufRead, W: Write, S: Destination>(
     end: u8,
     progress: &mut Option<W>,
     destination: &mut S,
-) -> Result<(), ListError> {
+) -> Result<(), ListError>
+    ensures read { OnOk result (IfSome (R.remaining reader.old) (λ bytes. length bytes < 2 ^ 63
+        → destination.new ≡ with_lines S.added destination.old (lines_of end bytes))) }
+    ensures right { OnOk result (IfSome (R.remaining reader.old) (λ bytes. length bytes < 2 ^ 63
+        → All (IsListLine values) (lines_of end bytes))) }
+    ensures named { IfErr result (λ e. IfSome (R.remaining reader.old) (λ bytes.
+        IsListFault values (lines_of end bytes) e)) }
+{
     let mut line = Vec::new(alloc);
     for number in 1..u64::MAX {
-        line.clear();
-        if reader.read_until(end, &mut line)? == 0 {
-            break;
+        if !next_line(reader, end, &mut line)? {
+            return Ok(());
         }
-        add_line(alloc, destination, without_end(&line, end), number, values)?;
-        if number % 100_000 == 0
-            && let Some(progress) = progress
-        {
-            let _ = writeln!(progress, "prefixes: {number} lines read");
+        let line = without_end(&line, end);
+        match add_line(alloc, destination, line, number, values) {
+            Ok(()) => tell(progress, number),
+            Err(error) => return Err(error),
         }
     }
     Ok(())
