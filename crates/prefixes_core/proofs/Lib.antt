@@ -16,3 +16,4 @@ pub mod SegmentLemmas
 pub mod StopLemmas
 pub mod SubtreeLemmas
 pub mod TakenLemmas
+pub mod TurnLemmas

@@ -10,4 +10,5 @@ pub mod Packings
 pub mod Segments
 pub mod Subtrees
 pub mod Trees
+pub mod Turns
 pub mod UnpackFaults

@@ -2,7 +2,7 @@
 
 ghost use Rattle.std.specs.Prelude.{◌≡◌, [], OnOk, IfErr};
 ghost use Rattle.std.specs.Io.KnownBytes.{Appends};
-ghost use Rattle.prefixes_core.specs.Internal.Failures.{IsLineFailure, IsOutputFailure};
+ghost use Rattle.prefixes_core.specs.Internal.Failures.{IsLineFailure, IsOutputFailure, IsKept, IsNoLine};
 
 use crate::answering::AnswerError;
 use crate::combining::LinesError;
@@ -76,7 +76,9 @@ pub fn write_failure(alloc: Global, path: &str, error: io::Error) -> Failure {
 }
 
 /// The lines at a path are not read.
-pub fn input_failure(alloc: Global, path: &str, error: io::Error) -> Failure {
+pub fn input_failure(alloc: Global, path: &str, error: io::Error) -> Failure
+    ensures { IsNoLine result }
+{
     match String::from_str(alloc, path) {
         Ok(path) => Failure::Input(path, error),
         Err(_) => Failure::Memory,
@@ -108,4 +110,13 @@ pub fn put<W: Write>(output: &mut W, out: &mut Vec<u8>) -> Result<(), Failure>
     }
     out.clear();
     Ok(())
+}
+
+/// Writes what is answered so far, where it is time to.
+pub fn put_if<W: Write>(is_time: bool, output: &mut W, out: &mut Vec<u8>) -> Result<(), Failure>
+    ensures kept { OnOk result (IsKept (W.contents output.old) (W.contents output.new)
+        out.old.items out.new.items) }
+    ensures named { IfErr result IsOutputFailure }
+{
+    if is_time { put(output, out) } else { Ok(()) }
 }

@@ -1,13 +1,19 @@
 //! The program over its words, its files and its streams.
 
-ghost use Rattle.std.specs.Prelude.{◌≡◌, if◌then◌else◌, IfOk, OnOk, IfErr, OnErr};
+ghost use Rattle.std.specs.Prelude.{◌≡◌, ◌<◌, ◌^◌, ◌++◌, if◌then◌else◌, ℕ, List};
+ghost use Rattle.std.specs.Prelude.{length, IfOk, OnOk, IfErr, OnErr, IfSome, Some};
+ghost use Rattle.std.specs.Io.Buffered.{reader_remaining};
 ghost use Rattle.prefixes_core.specs.Answers.{Writes, IsFound, Leaves, IsRightLine, IsAnswerFault};
-ghost use Rattle.prefixes_core.specs.Internal.Failures.{IsStop};
+ghost use Rattle.prefixes_core.specs.Internal.Failures.{IsStop, IsNoLine};
+ghost use Rattle.prefixes_core.specs.Internal.TakenLines.{TakesLine};
+ghost use Rattle.prefixes_core.specs.Lists.{lines_of};
+ghost use Rattle.prefixes_core.specs.Turns.{AnswersAll, answered, IsStoppedAt};
 
 use crate::answering::{AnswerError, Question, Style};
-use crate::failure::{Failure, input_failure, line_failure, put};
+use crate::failure::{Failure, input_failure, line_failure, put, put_if};
 use crate::files::{combine_files, pack_file};
 use crate::inputs::{Inputs, shown};
+use crate::lines::next_line;
 use crate::listing::without_end;
 use crate::options::{self, line_end, path};
 use crate::showing::{show_measures, show_tree};
@@ -83,10 +89,13 @@ fn read_line<R: BufRead>(
     reader: &mut R,
     asked: &Asked<'_>,
     line: &mut Vec<u8>,
-) -> Result<bool, Failure> {
-    line.clear();
-    match reader.read_until(asked.end, line) {
-        Ok(len) => Ok(len != 0),
+) -> Result<bool, Failure>
+    ensures taken { IfOk result (λ is_some. TakesLine asked.now.end (R.remaining reader.old)
+        (R.remaining reader.new) is_some line.new.items) }
+    ensures named { IfErr result IsNoLine }
+{
+    match next_line(reader, asked.end, line) {
+        Ok(is_some) => Ok(is_some),
         Err(error) => Err(input_failure(alloc, shown(asked.path), error)),
     }
 }
@@ -154,24 +163,37 @@ fn answer_each<F: Read + Drop, W: Write>(
     reader: &mut BufReader<F>,
     asked: &Asked<'_>,
     output: &mut W,
-) -> Result<bool, Failure> {
+) -> Result<bool, Failure>
+    ensures answered { IfOk result (λ found.
+        IfSome (reader_remaining F.remaining reader.old) (λ bytes.
+        IfSome (W.contents output.old) (λ start. length bytes < 2 ^ 63 → (written : List ℕ)
+        × AnswersAll asked.now.style question.old (lines_of asked.now.end bytes)
+        (answered question.new written found)
+        × (W.contents output.new ≡ Some (start ++ written))))) }
+    ensures stopped { IfErr result (λ e.
+        IfSome (reader_remaining F.remaining reader.old) (λ bytes.
+        IfSome (W.contents output.old) (λ start. IsStoppedAt asked.now.style question.old
+        (lines_of asked.now.end bytes) start (W.contents output.new) e))) }
+{
     let mut is_found = false;
     let mut line = Vec::new(alloc);
     let mut next = Vec::new(alloc);
     let mut out = Vec::new(alloc);
     for number in 1..u64::MAX {
         if !read_line(alloc, reader, asked, &mut line)? {
-            break;
+            put(output, &mut out)?;
+            return Ok(is_found);
         }
         let line = without_end(&line, asked.end);
-        is_found |= answer_line(
+        match answer_line(
             alloc, question, line, number, asked, &mut next, &mut out, output,
-        )?;
+        ) {
+            Ok(found) => is_found |= found,
+            Err(failure) => return Err(failure),
+        }
         // a line that is not whole yet may be long in coming
         let waits = memchr(asked.end, reader.buffer()).is_none();
-        if waits || out.len() >= MOST_WAITING {
-            put(output, &mut out)?;
-        }
+        put_if(waits || out.len() >= MOST_WAITING, output, &mut out)?;
     }
     put(output, &mut out)?;
     Ok(is_found)

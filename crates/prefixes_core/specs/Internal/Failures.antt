@@ -1,5 +1,5 @@
 -- Why the program does not answer to the end.
-use Rattle.std.specs.Prelude.{◌≡◌, ℕ, List, Option}
+use Rattle.std.specs.Prelude.{◌≡◌, ◌++◌, ℕ, List, Option, Some, IfSome}
 use Rattle.std.specs.Io.KnownBytes.{Appends}
 use Rattle.prefixes_core.specs.Answers.{IsAnswerFault}
 use Rattle.prefixes_core.specs.declared.answering.AnswerError.{AnswerError}
@@ -26,3 +26,13 @@ IsStop question line number waiting old new (Failures.Line path n error) =
 IsStop question line number waiting old new Failures.Memory = Appends old new waiting
 IsStop question line number waiting old new (Failures.Output e) = Unit {0}
 IsStop question line number waiting old new _ = ⊥
+
+-- no line is refused
+abbrev pub IsNoLine : Failure → Type 0
+IsNoLine (Failures.Line path n error) = ⊥
+IsNoLine _ = Unit {0}
+
+-- what a writer has and what waits are together what they were, where it is known
+abbrev pub IsKept : Option (List ℕ) → Option (List ℕ) → List ℕ → List ℕ → Type 0
+IsKept old new waiting left =
+    IfSome old (λ xs. (ys : List ℕ) × (new ≡ Some ys) × (ys ++ left ≡ xs ++ waiting))
