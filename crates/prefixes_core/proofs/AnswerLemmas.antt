@@ -1,19 +1,19 @@
 -- The answers to lines.
-use Rattle.std.proofs.Common.{◌≡◌, ◌≢◌, ◌==◌, ◌↔◌, ℕ, ◌+◌, true, false, not, List, [], ◌∷◌, ◌++◌}
-use Rattle.std.proofs.Common.{length, take, drop, min, map, refl, sym, ap, subst, ◌∙◌, arith}
-use Rattle.std.proofs.Common.{Option, None, Some, Bor, MatchOption, IfSome, IfNone, cond}
+use Rattle.std.proofs.Common.{◌≡◌, ◌≢◌, ◌==◌, ◌↔◌, ℕ, true, false, not, List, [], ◌∷◌, ◌++◌}
+use Rattle.std.proofs.Common.{length, map, refl, sym, ap, subst, ◌∙◌, arith}
+use Rattle.std.proofs.Common.{Option, None, Some, Bor, MatchOption, IfSome, IfNone}
 use Rattle.std.specs.Bool.{MatchBool}
 use Rattle.std.specs.FinMap as finite
 use Rattle.std.specs.List.{flat_map, join_by}
 use Rattle.std.specs.Option.{option_map, is_some}
 use Rattle.std.proofs.lemmas.Bool.{false≢true, ne_eqb, cond-true, cond-false}
-use Rattle.std.proofs.lemmas.List.{append_assoc, append-nil, drop_min}
+use Rattle.std.proofs.lemmas.List.{append_assoc}
 use Rattle.patricia_tree.specs.Keys.{key_cmp}
-use Rattle.patricia_tree.specs.Prefixes.{longest, under}
+use Rattle.patricia_tree.specs.Prefixes.{under}
 use Rattle.patricia_tree.specs.Sets.{KeySet}
-use Rattle.prefixes_core.specs.Answers.{fields_line, dash_line, route_line, count_line, name_lines}
-use Rattle.prefixes_core.specs.Answers.{near_lines, indent, value_line, entry_line, tree_lines}
-use Rattle.prefixes_core.specs.Answers.{IsAnswer, Writes, Leaves}
+use Rattle.prefixes_core.specs.Answers.{fields_line, dash_line, count_line, name_lines}
+use Rattle.prefixes_core.specs.Answers.{indent, value_line, entry_line, tree_lines}
+use Rattle.prefixes_core.specs.Answers.{IsAnswer, Writes}
 use Rattle.prefixes_core.specs.Blocks.{Blocks, Passes, folded}
 use Rattle.prefixes_core.specs.Completions.{Completes}
 use Rattle.prefixes_core.specs.Internal.Styles.{IsWritten}

@@ -6,9 +6,9 @@ use Rattle.std.specs.Io.BufRead.{strip_last}
 use Rattle.std.specs.Io.KnownBytes.{Appends}
 use Rattle.std.proofs.lemmas.Fn.{FoldsTo-push}
 use Rattle.std.proofs.lemmas.List.{append_assoc, append-nil, length-append, length_push}
-use Rattle.prefixes_core.specs.Answers.{IsFound, IsRightLine, IsAnswerFault, Leaves, Writes}
-use Rattle.prefixes_core.specs.Turns.{Answered, AnswersLine, AnswersAll, answered, IsStoppedAt}
-use Rattle.prefixes_core.specs.Internal.Failures.{IsStop, IsNoLine, IsKept}
+use Rattle.prefixes_core.specs.Answers.{IsFound, IsRightLine, Leaves, Writes}
+use Rattle.prefixes_core.specs.Turns.{AnswersLine, AnswersAll, answered, IsStoppedAt}
+use Rattle.prefixes_core.specs.Internal.Failures.{IsStop, IsKept}
 use Rattle.prefixes_core.specs.Internal.TakenLines.{TakesLine}
 use Rattle.prefixes_core.specs.Lists.{lines_of}
 use Rattle.prefixes_core.specs.declared.answering.Question.{Question}
