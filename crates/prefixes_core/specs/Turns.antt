@@ -30,7 +30,8 @@ pub record AnswersLine (style : Style) (old : Answered) (line : List ℕ) (new :
 
 -- all of these lines are, from the first to the last
 abbrev pub AnswersAll : Style → Question → List (List ℕ) → Answered → Type 0
-AnswersAll style question lines all = FoldsTo (AnswersLine style) (answered question [] false) lines all
+AnswersAll style question lines all =
+    FoldsTo (AnswersLine style) (answered question [] false) lines all
 
 -- an error that names a line: the lines before it are answered, and these answers are written
 -- behind what was written at the start

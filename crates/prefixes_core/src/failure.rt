@@ -2,7 +2,8 @@
 
 ghost use Rattle.std.specs.Prelude.{◌≡◌, [], OnOk, IfErr};
 ghost use Rattle.std.specs.Io.KnownBytes.{Appends};
-ghost use Rattle.prefixes_core.specs.Internal.Failures.{IsLineFailure, IsOutputFailure, IsKept, IsNoLine};
+ghost use Rattle.prefixes_core.specs.Internal.Failures.{IsLineFailure, IsOutputFailure, IsKept};
+ghost use Rattle.prefixes_core.specs.Internal.Failures.{IsNoLine};
 
 use crate::answering::AnswerError;
 use crate::combining::LinesError;

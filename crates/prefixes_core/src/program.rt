@@ -155,6 +155,12 @@ fn answer_line<W: Write>(
     }
 }
 
+// Whether it is time to write so many bytes of answers: they are many, or no whole line is at hand,
+// and the next one may be long in coming.
+fn is_time<F: Read + Drop>(reader: &BufReader<F>, end: u8, waiting: usize) -> bool {
+    waiting >= MOST_WAITING || memchr(end, reader.buffer()).is_none()
+}
+
 // Answers each line of a reader, and writes the answers whenever no whole line is at hand, or many
 // bytes of them wait. It returns whether something was found.
 fn answer_each<F: Read + Drop, W: Write>(
@@ -191,9 +197,8 @@ fn answer_each<F: Read + Drop, W: Write>(
             Ok(found) => is_found |= found,
             Err(failure) => return Err(failure),
         }
-        // a line that is not whole yet may be long in coming
-        let waits = memchr(asked.end, reader.buffer()).is_none();
-        put_if(waits || out.len() >= MOST_WAITING, output, &mut out)?;
+        let is_time = is_time(reader, asked.end, out.len());
+        put_if(is_time, output, &mut out)?;
     }
     put(output, &mut out)?;
     Ok(is_found)
