@@ -1,5 +1,5 @@
-//! The codes that calls return to C. The code of a fault in tree bytes is 10 more than the number of
-//! the rule that is broken.
+//! The codes that calls return to C. The code of a fault in tree bytes is 10 more than the number
+//! of the rule that is broken.
 
 /// All was done.
 pub(crate) const DONE: u32 = 0;

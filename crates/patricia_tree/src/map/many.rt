@@ -127,9 +127,9 @@ impl<K: Bytes, V: Drop> GenericPatriciaMap<K, V> {
         Ok(found)
     }
 
-    /// Looks up the longest prefix of many keys, and writes each, with the value there, to the place
-    /// of its key in `found`, or `None` where there is none. Looks up as many as there are places,
-    /// and returns how many. Does not allocate.
+    /// Looks up the longest prefix of many keys, and writes each, with the value there, to the
+    /// place of its key in `found`, or `None` where there is none. Looks up as many as there are
+    /// places, and returns how many. Does not allocate.
     ///
     /// The prefixes are parts of the keys that are passed. The look-ups go on side by side, as in
     /// [`get_many_into`](GenericPatriciaMap::get_many_into).
