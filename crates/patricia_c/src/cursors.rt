@@ -10,6 +10,7 @@ ghost use Rattle.patricia_tree.specs.Keys.{key_cmp};
 ghost use Rattle.patricia_tree.specs.Prefixes.{begins, under};
 ghost use Rattle.patricia_tree.specs.Ranges.{from};
 ghost use Rattle.patricia_c.specs.Cursors.{ahead_of, beyond, end_of, prefix_of, until};
+ghost use Rattle.patricia_c.specs.Ends.{WritesEntry};
 ghost use Rattle.patricia_c.specs.Maps.{map_of};
 
 use crate::codes::{END, ENTRY, NO_MEMORY, NO_ROOM};
@@ -168,29 +169,15 @@ fn step(
     len: &mut usize,
     value: &mut u64,
 ) -> u32
-    ensures end { result ≡ 0 →
-        slice_get (ahead_of (Some position.old) (map.entries stored.now.map)) 0 ≡ None }
-    ensures entry { result ≡ 1 →
-        slice_get (ahead_of (Some position.old) (map.entries stored.now.map)) 0
-        ≡ Some (take len.new room.new, value.new) }
-    ensures within { result ≡ 1 → len.new ≤ length room.new }
-    ensures behind { result ≡ 1 → drop len.new room.new ≡ drop len.new room.old }
+    ensures entry { WritesEntry (slice_get (ahead_of (Some position.old) (map.entries stored.now.map)) 0)
+        result room.old len.old value.old room.new len.new value.new }
     ensures passed { result ≡ 1 → (entries : List (List ℕ × ℕ)) →
         ahead_of (Some position.new) entries
         ≡ under (prefix_of (Some position.old))
         (until (end_of (Some position.old)) (after (Some (take len.new room.new)) entries)) }
     ensures prefix { prefix_of (Some position.new) ≡ prefix_of (Some position.old) }
     ensures end_key { end_of (Some position.new) ≡ end_of (Some position.old) }
-    ensures longer { result ≡ 4 → option_map (λ e. length e.0)
-        (slice_get (ahead_of (Some position.old) (map.entries stored.now.map)) 0) ≡ Some len.new }
-    ensures small { result ≡ 4 → length room.old < len.new }
     ensures stays { result ≢ 1 → position.new ≡ position.old }
-    ensures room_unwritten { result ≢ 1 → room.new ≡ room.old }
-    ensures value_unwritten { result ≢ 1 → value.new ≡ value.old }
-    ensures end_len { result ≡ 0 → len.new ≡ len.old }
-    ensures refused_len { result ≡ 2 → len.new ≡ len.old }
-    ensures codes { result ≤ 4 }
-    ensures not_three { result ≢ 3 }
 {
     let Ok(first) = first_ahead(stored, position) else {
         return NO_MEMORY;
@@ -215,31 +202,18 @@ pub(crate) fn next_ahead(
     len: &mut usize,
     value: &mut u64,
 ) -> u32
-    ensures end { result ≡ 0 → slice_get (ahead_of cursor.old.pointer.stored
-        (map.entries stored.now.map)) 0 ≡ None }
-    ensures entry { result ≡ 1 → slice_get (ahead_of cursor.old.pointer.stored
-        (map.entries stored.now.map)) 0 ≡ Some (take len.new room.new, value.new) }
-    ensures within { result ≡ 1 → len.new ≤ length room.new }
-    ensures behind { result ≡ 1 → drop len.new room.new ≡ drop len.new room.old }
+    ensures entry { WritesEntry (slice_get (ahead_of cursor.old.pointer.stored
+        (map.entries stored.now.map)) 0)
+        result room.old len.old value.old room.new len.new value.new }
     ensures passed { result ≡ 1 → (entries : List (List ℕ × ℕ)) →
         ahead_of cursor.new.pointer.stored entries
         ≡ under (prefix_of cursor.old.pointer.stored)
         (until (end_of cursor.old.pointer.stored) (after (Some (take len.new room.new)) entries)) }
     ensures prefix { prefix_of cursor.new.pointer.stored ≡ prefix_of cursor.old.pointer.stored }
     ensures end_key { end_of cursor.new.pointer.stored ≡ end_of cursor.old.pointer.stored }
-    ensures longer { result ≡ 4 → option_map (λ e. length e.0)
-        (slice_get (ahead_of cursor.old.pointer.stored
-        (map.entries stored.now.map)) 0) ≡ Some len.new }
-    ensures small { result ≡ 4 → length room.old < len.new }
     ensures stays { result ≢ 1 → (entries : List (List ℕ × ℕ)) →
         ahead_of cursor.new.pointer.stored entries ≡ ahead_of cursor.old.pointer.stored entries }
-    ensures room_unwritten { result ≢ 1 → room.new ≡ room.old }
-    ensures value_unwritten { result ≢ 1 → value.new ≡ value.old }
-    ensures end_len { result ≡ 0 → len.new ≡ len.old }
-    ensures refused_len { result ≡ 2 → len.new ≡ len.old }
     ensures refused { result ≡ 2 → map.entries stored.now.map ≢ [] }
-    ensures codes { result ≤ 4 }
-    ensures not_three { result ≢ 3 }
 {
     if stored.map.is_empty() {
         return END;
@@ -266,31 +240,18 @@ pub extern "C" fn patricia_cursor_next(
     value: &mut u64,
 ) -> u32
     ensures same { at.new ≡ at.old }
-    ensures end { result ≡ 0 → slice_get (ahead_of cursor.old.pointer.stored
-        (map.entries (map_of at.old.pointer.stored))) 0 ≡ None }
-    ensures entry { result ≡ 1 → slice_get (ahead_of cursor.old.pointer.stored
-        (map.entries (map_of at.old.pointer.stored))) 0 ≡ Some (take len.new room.new, value.new) }
-    ensures within { result ≡ 1 → len.new ≤ length room.new }
-    ensures behind { result ≡ 1 → drop len.new room.new ≡ drop len.new room.old }
+    ensures entry { WritesEntry (slice_get (ahead_of cursor.old.pointer.stored
+        (map.entries (map_of at.old.pointer.stored))) 0)
+        result room.old len.old value.old room.new len.new value.new }
     ensures passed { result ≡ 1 → (entries : List (List ℕ × ℕ)) →
         ahead_of cursor.new.pointer.stored entries
         ≡ under (prefix_of cursor.old.pointer.stored)
         (until (end_of cursor.old.pointer.stored) (after (Some (take len.new room.new)) entries)) }
     ensures prefix { prefix_of cursor.new.pointer.stored ≡ prefix_of cursor.old.pointer.stored }
     ensures end_key { end_of cursor.new.pointer.stored ≡ end_of cursor.old.pointer.stored }
-    ensures longer { result ≡ 4 → option_map (λ e. length e.0)
-        (slice_get (ahead_of cursor.old.pointer.stored
-        (map.entries (map_of at.old.pointer.stored))) 0) ≡ Some len.new }
-    ensures small { result ≡ 4 → length room.old < len.new }
     ensures stays { result ≢ 1 → (entries : List (List ℕ × ℕ)) →
         ahead_of cursor.new.pointer.stored entries ≡ ahead_of cursor.old.pointer.stored entries }
-    ensures room_unwritten { result ≢ 1 → room.new ≡ room.old }
-    ensures value_unwritten { result ≢ 1 → value.new ≡ value.old }
-    ensures end_len { result ≡ 0 → len.new ≡ len.old }
-    ensures refused_len { result ≡ 2 → len.new ≡ len.old }
     ensures refused { result ≡ 2 → map.entries (map_of at.old.pointer.stored) ≢ [] }
-    ensures codes { result ≤ 4 }
-    ensures not_three { result ≢ 3 }
 {
     let Some(stored) = at.as_mut() else {
         return END;
