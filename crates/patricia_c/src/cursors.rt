@@ -169,7 +169,8 @@ fn step(
     len: &mut usize,
     value: &mut u64,
 ) -> u32
-    ensures entry { WritesEntry (slice_get (ahead_of (Some position.old) (map.entries stored.now.map)) 0)
+    ensures entry { WritesEntry
+        (slice_get (ahead_of (Some position.old) (map.entries stored.now.map)) 0)
         result room.old len.old value.old room.new len.new value.new }
     ensures passed { result ≡ 1 → (entries : List (List ℕ × ℕ)) →
         ahead_of (Some position.new) entries
