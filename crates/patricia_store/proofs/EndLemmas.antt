@@ -3,7 +3,7 @@ use Rattle.std.proofs.Common.{◌≡◌, ◌⊎◌, ℕ, zero, suc, ◌+◌, ◌
 use Rattle.std.proofs.Common.{Option, Some, slice_get, refl, ap, ◌∙◌, inl, inr, arith, length-append}
 use Rattle.std.proofs.lemmas.List.{length-take}
 use Rattle.std.proofs.lemmas.Option.{slice_get_within}
-use Rattle.patricia_store.specs.Internal.Packing.{most}
+use Rattle.patricia_store.specs.Internal.Packing.{most, most_nodes}
 use Rattle.patricia_store.specs.declared.head.Head.{Head}
 use Rattle.patricia_store.specs.declared.body.Body.{Body}
 use Rattle.patricia_store.specs.declared.labels.Span.{Span}
@@ -54,7 +54,7 @@ module _ {V : Type 0} where
       (nodes : List (Node V)) (view : nodes_of hs bs xs ≡ nodes) where
     -- with a node more all are sound
     more_at : (h : Head) (b : Body V) (ys : List ℕ) → Extends xs ys → IsSound (length hs + 1) h b ys
-        → length hs < most → AreSound (hs ++ h ∷ []) (bs ++ b ∷ []) ys
+        → length hs < most_nodes → AreSound (hs ++ h ∷ []) (bs ++ b ∷ []) ys
         × (nodes_of (hs ++ h ∷ []) (bs ++ b ∷ []) ys ≡ nodes ++ node_of h b ys ∷ [])
     more_at h b ys e is short =
         let all = all_kept hs bs xs ys e are in (
@@ -77,8 +77,8 @@ module _ {V : Type 0} where
 
     -- and where it is made of its parts
     pub adds : (ys : List ℕ) → Extends xs ys → (c s : Option ℕ) → IsLink c → IsLink s → (span : Span) → IsSpan ys span → (l : List ℕ)
-        → label_in ys span ≡ l → (v : Option V) → length hs < most → (next : ℕ) → next ≡ length hs + 1
-        → (h : Head) → h ≡ head_of next c s l span.offset → (b : Body V) → b ≡ body_of span v
+        → label_in ys span ≡ l → (v : Option V) → length hs < most_nodes → (next : ℕ) → next ≡ length hs + 1
+        → (h : Head) → h ≡ head_of next c s (label_in ys span) span.offset → (b : Body V) → b ≡ body_of span v
         → (ks : List Head) → ks ≡ hs ++ h ∷ [] → (cs : List (Body V)) → cs ≡ bs ++ b ∷ []
         → AreSound ks cs ys × (nodes_of ks cs ys ≡ nodes ++ linked l v c s ∷ [])
     adds ys more c s child_ok link span ok l labelled v short next at h e b f ks p cs q =

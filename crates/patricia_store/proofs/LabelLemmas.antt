@@ -1,12 +1,11 @@
 -- Labels as parts of one list of bytes.
 use Rattle.std.proofs.Common.{◌≡◌, ℕ, ◌+◌, ◌-◌, min, ◌/◌, ◌%◌, ◌≤◌, List, [], ◌++◌, length, take, drop, get_or}
-use Rattle.std.proofs.Common.{Result, Ok, Err, sym, ap, ◌∙◌, inl, inr, arith, append_assoc, length-append, length-drop}
+use Rattle.std.proofs.Common.{sym, ap, ◌∙◌, inl, inr, arith, append_assoc, length-append, length-drop}
 use native.Mathlib.Numerals.{unary_clauses}
 use Rattle.std.proofs.lemmas.Bool.{cases_lt}
 use Rattle.std.proofs.lemmas.Bool.Decides.{nat_tests}
 use Rattle.std.proofs.lemmas.List.{get_or_append_left, get_or-append-add, take-append-le, drop-append-le, append-nil}
 use Rattle.std.proofs.lemmas.List.{drop_at, take_all, length-take-le, length-take, take-take, drop_all, drop-drop, drop-take}
-use Rattle.std.specs.Prelude.{if◌then◌else◌, IsOk, is_ok}
 use Rattle.patricia_store.specs.declared.labels.Span.{Span}
 use Rattle.patricia_store.specs.declared.packed.Packed.{Packed}
 use Rattle.patricia_store.specs.Internal.Packing.{number}
@@ -108,12 +107,6 @@ pub label_len : (bytes : List ℕ) (s : Span) → IsSpan bytes s → length (lab
 label_len bytes s is =
     length-take-le (len_in bytes s) (drop (start_in bytes s) bytes)
     (omega (arith, is.label_within, length-drop (start_in bytes s) bytes))
-
--- what a call adds that succeeds
-pub added : {X T E : Type 0} (r : Result T E) (was ys now : List X) → IsOk r
-    → now ≡ (if is_ok r then was ++ ys else was) → now ≡ was ++ ys
-added (Ok x) was ys now ok e = e
-added (Err x) was ys now ok e = absurd (cc)
 
 -- a part of the bytes stays where more come
 pub part_kept : (xs ys : List ℕ) (i n : ℕ) → Extends xs ys → i + n ≤ length xs

@@ -10,7 +10,7 @@ use Rattle.patricia_store.specs.Internal.Labels.{label_in, label_room, IsSpan, E
 use Rattle.patricia_store.specs.Internal.Heads.{head_of, child_in, sibling_in, with_child}
 use Rattle.patricia_store.specs.Internal.Bodies.{span_in, value_in, body_of}
 use Rattle.patricia_store.specs.Internal.Nodes.{IsLink, labels_room}
-use Rattle.patricia_store.specs.Internal.Stores.{node_of, nodes_of, IsSound, AreSound, spans_room}
+use Rattle.patricia_store.specs.Internal.Stores.{node_of, nodes_of, IsSound, AreSound, AreSpans, spans_room}
 use Rattle.patricia_store.proofs.HeadLemmas.{child-head, child-changed}
 use Rattle.patricia_store.proofs.LabelLemmas.{label_kept}
 use Rattle.patricia_store.proofs.StoreLemmas.{get-nodes, length-nodes, item_there}
@@ -37,6 +37,12 @@ module _ {V : Type 0} where
   room-more bytes (c ∷ bs) (suc i) b e =
       let next : suc i + 1 ≡ suc (i + 1) = omega arith in
       rw next (room-more bytes bs i b e)
+
+  -- the labels of sound nodes are among the bytes
+  pub are_spans : (hs : List Head) (bs : List (Body V)) (bytes : List ℕ) → AreSound hs bs bytes → AreSpans bytes bs
+  are_spans hs bs bytes are i b e =
+      let h = item_there hs i (omega (arith, slice_get_within bs i b e, are.long)) in
+      (are.sound i h.0 b h.1 e).span
 
   -- the labels of nodes take what those of their bodies take
   pub room-nodes : (hs : List Head) (bs : List (Body V)) (bytes : List ℕ) → length bs ≡ length hs

@@ -1,5 +1,5 @@
 -- Heads, bodies and the bytes of labels, as nodes.
-use Rattle.std.proofs.Common.{◌≡◌, ℕ, zero, suc, ◌+◌, ◌*◌, ◌/◌, ◌%◌, ◌<◌, ◌≤◌, List, [], ◌∷◌, length, get_or}
+use Rattle.std.proofs.Common.{◌≡◌, ◌≢◌, ℕ, zero, suc, ◌+◌, ◌*◌, ◌/◌, ◌%◌, ◌<◌, ◌≤◌, List, [], ◌∷◌, length, get_or}
 use Rattle.std.proofs.Common.{Some, slice_get, refl, sym, ap, ◌∙◌, inl, inr, arith}
 use Rattle.std.specs.Global.{Vec}
 use Rattle.std.specs.Prelude.{vec_len}
@@ -53,6 +53,10 @@ module _ {V : Type 0} (heads : Vec Head) (bodies : Vec (Body V)) (bytes : List �
   -- and as bodies
   pub as_many_bodies : vec_len bodies ≡ length nodes
   as_many_bodies = bodies.ok.0 ∙ sound.long ∙ sym heads.ok.0 ∙ as_many
+
+  -- where there is a head there is a node
+  pub nonempty : vec_len heads ≢ 0 → nodes ≢ []
+  nonempty some e = some (as_many ∙ ap length e)
 
   module _ (id : ℕ) (within : id < length nodes) where
     pub in_heads : id < vec_len heads

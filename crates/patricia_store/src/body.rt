@@ -1,12 +1,14 @@
 //! What a node has beside its head.
-ghost use Rattle.std.specs.Prelude.{◌≡◌};
+ghost use Rattle.std.specs.Prelude.{◌≡◌, IfOk, IfSome};
 ghost use Rattle.std.specs.Borrow.{sem};
 ghost use Rattle.std.specs.Option.{option_copied, option_copied_mut};
+ghost use Rattle.patricia_model.specs.Clones.{CloneIsSame};
 ghost use Rattle.patricia_store.specs.Internal.Bodies.{span_in, value_in, body_of};
 ghost use Rattle.patricia_store.specs.Internal.Bodies.{lends_value_in};
 
 use crate::labels::Span;
 use crate::packed::Packed;
+use std::alloc::AllocError;
 use std::mem;
 
 /// Where the label of a node is, and the value.
@@ -104,6 +106,26 @@ impl<V> Body<V> {
                 *len = span.len;
                 *offset = span.offset;
             }
+        }
+    }
+}
+
+impl<V: Clone> Body<V> {
+    /// The same label, and a copy of the value where there is one.
+    pub fn try_clone(&self) -> Result<Body<V>, AllocError>
+        requires { IfSome (value_in self.now) (CloneIsSame V.is_clone) }
+        ensures { IfOk result (λ b. b ≡ self.now) }
+    {
+        match self {
+            Body::Plain { len, offset } => Ok(Body::Plain {
+                len: *len,
+                offset: *offset,
+            }),
+            Body::Valued { len, offset, value } => Ok(Body::Valued {
+                len: *len,
+                offset: *offset,
+                value: value.clone()?,
+            }),
         }
     }
 }

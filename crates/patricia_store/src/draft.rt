@@ -1,6 +1,6 @@
 //! A node as it is to be written, and where its label is.
 ghost use Rattle.std.specs.Prelude.{◌≡◌, ◌+◌, ◌<◌, ℕ, List, Some, None, length};
-ghost use Rattle.std.specs.Prelude.{IfSome, vec_len, slice_get};
+ghost use Rattle.std.specs.Prelude.{IfSome, vec_len, vec_capacity, slice_get, ◌++◌, ◌∷◌, []};
 ghost use Rattle.std.specs.Vec.{with_item};
 ghost use Rattle.patricia_store.specs.Internal.Packing.{most};
 ghost use Rattle.patricia_store.specs.Internal.Heads.{head_of};
@@ -81,4 +81,29 @@ pub fn write<V>(
     let label = labels.get(span);
     heads[id] = Head::new(id + 1, child, sibling, label, span.offset);
     bodies[id].replace(span, value)
+}
+
+/// Adds a node behind the last. Does not allocate.
+pub fn push<V>(heads: &mut Vec<Head>, bodies: &mut Vec<Body<V>>, labels: &Labels, node: Draft<V>)
+    requires in_heads { vec_len heads.old < vec_capacity heads.old }
+    requires in_bodies { vec_len bodies.old < vec_capacity bodies.old }
+    requires span { IsSpan labels.now.items node.span }
+    requires child { IfSome node.child (λ n. n < most + 1) }
+    requires sibling { IfSome node.sibling (λ n. n < most + 1) }
+    ensures heads { heads.new.items ≡ heads.old.items ++ head_of (vec_len heads.old + 1) node.child
+        node.sibling (label_in labels.now.items node.span) node.span.offset ∷ [] }
+    ensures bodies { bodies.new.items ≡ bodies.old.items ++ body_of node.span node.value ∷ [] }
+    ensures heads_capacity { vec_capacity heads.new ≡ vec_capacity heads.old }
+    ensures bodies_capacity { vec_capacity bodies.new ≡ vec_capacity bodies.old }
+{
+    let Draft {
+        span,
+        child,
+        sibling,
+        value,
+    } = node;
+    let label = labels.get(span);
+    let next = heads.len() + 1;
+    heads.push_reserved(Head::new(next, child, sibling, label, span.offset));
+    bodies.push_reserved(Body::new(span, value));
 }

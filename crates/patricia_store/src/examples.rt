@@ -3,12 +3,13 @@ ghost use Rattle.std.specs.Prelude.{◌≡◌, ◌+◌, ◌*◌, Some, None, [],
 ghost use Rattle.patricia_store.specs.Internal.Packing.{number, packed};
 ghost use Rattle.patricia_store.specs.Internal.Heads.{word_of, head_of, child_in, sibling_in};
 ghost use Rattle.patricia_store.specs.Internal.Heads.{offset_in};
-ghost use Rattle.patricia_store.specs.Internal.Nodes.{Splits, Joins, IsRun, EndsRun};
+ghost use Rattle.patricia_store.specs.Internal.Nodes.{Splits, Joins, IsRun, EndsRun, labels_room};
 ghost use Rattle.patricia_store.specs.Internal.Renumbering.{KeepsRearranged};
 ghost use Rattle.patricia_store.specs.Internal.Examples.{some_nodes, whole_label, cut_label};
 ghost use Rattle.patricia_store.specs.Internal.Examples.{joined_label, child_behind};
 ghost use Rattle.patricia_store.specs.Internal.Examples.{child_before, siblings};
 ghost use Rattle.patricia_store.specs.Internal.Labels.{label_in, label_room, cut_room, six_bytes};
+ghost use Rattle.patricia_store.specs.Internal.Labels.{joined_room};
 
 /// Numbers where a part of 16 bits is full, and the greatest.
 pub fn parts_of_numbers()
@@ -60,8 +61,11 @@ pub fn labels()
         (record { len = 255; offset = packed 255 }) ≡ replicate 255 7 }
     ensures short_room { label_room 254 ≡ 254 }
     ensures long_room { label_room 255 ≡ 267 }
+    ensures joined { joined_room 200 54 ≡ 254 }
+    ensures joined_long { joined_room 200 55 ≡ 267 }
     ensures cut { cut_room 254 ≡ 0 }
     ensures cut_long { cut_room 255 ≡ 24 }
+    ensures together { labels_room cut_label ≡ 3 }
 {}
 
 /// A cut label, and what joins the two parts again.

@@ -3,7 +3,7 @@
 //! A label is a part of the vector. What stands there stays until all labels are relocated, so a
 //! label can be cut in two with no byte moved.
 ghost use Rattle.std.specs.Prelude.{◌≡◌, ◌+◌, ◌-◌, ◌<◌, ◌≤◌, ◌++◌, [], take, drop, length};
-ghost use Rattle.std.specs.Prelude.{IfOk, OnOk, IsOk, vec_len, vec_capacity};
+ghost use Rattle.std.specs.Prelude.{IfOk, OnOk, OnErr, IsOk, vec_len, vec_capacity};
 ghost use Rattle.patricia_store.specs.Internal.Packing.{most};
 ghost use Rattle.patricia_store.specs.Internal.Labels.{number_at, start_in, len_in, label_in};
 ghost use Rattle.patricia_store.specs.Internal.Labels.{IsSpan, Extends, note_room, six_bytes};
@@ -75,6 +75,17 @@ fn bounds(bytes: &[u8], span: Span) -> (usize, usize)
     } else {
         (read_number(bytes, offset), read_number(bytes, offset + 6))
     }
+}
+
+// Adds bytes. Does not allocate.
+fn add(bytes: &mut Vec<u8>, more: &[u8])
+    requires { vec_len bytes.old + length more.now ≤ vec_capacity bytes.old }
+    ensures items { bytes.new.items ≡ bytes.old.items ++ more.now }
+    ensures length { vec_len bytes.new ≡ vec_len bytes.old + length more.now }
+    ensures capacity { vec_capacity bytes.old ≤ vec_capacity bytes.new }
+{
+    // there is room
+    let _added = bytes.extend_from_slice(more);
 }
 
 // Adds a part of the bytes behind them again. Does not allocate.
@@ -176,9 +187,23 @@ impl Labels {
         ensures room { self.old.room ≤ self.new.room + label_room (length label.now) }
     {
         let start = self.bytes.len();
-        // there is room
-        let _added = self.bytes.extend_from_slice(label);
+        add(&mut self.bytes, label);
         note(&mut self.bytes, start, label.len())
+    }
+
+    /// Adds the label that begins with `upper` and ends with `lower`. Does not allocate.
+    pub fn push_joined(&mut self, upper: &[u8], lower: &[u8]) -> Span
+        requires { joined_room (length upper.now) (length lower.now) ≤ self.old.room }
+        ensures extends { Extends self.old.items self.new.items }
+        ensures span { IsSpan self.new.items result }
+        ensures label { label_in self.new.items result ≡ upper.now ++ lower.now }
+        ensures room { self.old.room
+            ≤ self.new.room + joined_room (length upper.now) (length lower.now) }
+    {
+        let start = self.bytes.len();
+        add(&mut self.bytes, upper);
+        add(&mut self.bytes, lower);
+        note(&mut self.bytes, start, upper.len() + lower.len())
     }
 
     /// Adds the label that begins with one and ends with another. Does not allocate.
@@ -238,6 +263,15 @@ impl Labels {
         Ok(Labels { bytes })
     }
 
+    /// The same bytes in a vector of their own, which is reserved once.
+    pub fn try_clone(&self, alloc: Global) -> Result<Labels, AllocError>
+        ensures { IfOk result (λ l. l.items ≡ self.now.items) }
+    {
+        Ok(Labels {
+            bytes: Vec::from_slice(alloc, self.bytes.as_slice())?,
+        })
+    }
+
     /// How many bytes there are.
     pub fn len(&self) -> usize
         ensures value { result ≡ length self.now.items }
@@ -248,20 +282,10 @@ impl Labels {
 
     /// How many more bytes there is room for.
     pub fn room(&self) -> usize
-        ensures { result ≡ self.now.room }
+        ensures value { result ≡ self.now.room }
+        ensures few { length self.now.items + result ≤ most }
     {
         self.bytes.capacity().min(MOST) - self.bytes.len()
-    }
-
-    /// Copies the bytes of another, of which there are no more. Does not allocate.
-    pub fn copy_from(&mut self, other: &Labels)
-        requires { length other.now.items ≤ length self.old.items }
-        ensures items { self.new.items ≡ other.now.items }
-        ensures room { self.old.room ≤ self.new.room }
-    {
-        self.bytes.clear();
-        // there is room
-        let _added = self.bytes.extend_from_slice(other.bytes.as_slice());
     }
 
     /// Makes room for so many bytes more.
@@ -269,6 +293,8 @@ impl Labels {
         ensures items { self.new.items ≡ self.old.items }
         ensures room { OnOk result (more ≤ self.new.room) }
         ensures kept { self.old.room ≤ self.new.room }
+        ensures same { more ≤ self.old.room → self.new.room ≡ self.old.room }
+        ensures refused { OnErr result (self.new.room ≡ self.old.room) }
         ensures succeeds { more ≤ self.old.room → IsOk result }
     {
         let len = self.bytes.len();

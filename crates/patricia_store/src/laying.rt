@@ -1,5 +1,5 @@
 //! Labels that are laid one behind another in the order of their nodes.
-ghost use Rattle.std.specs.Prelude.{◌≡◌, ◌+◌, ◌≤◌, length, vec_capacity, IfSome};
+ghost use Rattle.std.specs.Prelude.{◌≡◌, ◌+◌, ◌<◌, ◌≤◌, length, vec_capacity, IfSome, IfNone};
 ghost use Rattle.patricia_store.specs.Internal.Packing.{most};
 ghost use Rattle.patricia_store.specs.Internal.Heads.{child_in, with_child};
 ghost use Rattle.patricia_store.specs.Internal.Bodies.{span_in, value_in, body_of};
@@ -16,6 +16,7 @@ pub fn needed_bytes<V>(bodies: &Vec<Body<V>>, labels: &Labels, limit: usize) -> 
     requires small { limit ≤ most }
     ensures value { IfSome result (λ n. n ≡ spans_room labels.now.items bodies.now.items) }
     ensures fits { IfSome result (λ n. n ≤ limit) }
+    ensures more { IfNone result (limit < spans_room labels.now.items bodies.now.items) }
 {
     let mut total = 0;
     let mut id = 0;
@@ -62,6 +63,8 @@ pub fn lay<V>(heads: &mut Vec<Head>, bodies: &mut Vec<Body<V>>, labels: &Labels,
         ≡ nodes_of heads.old.items bodies.old.items labels.now.items }
     ensures length { length laid.new.items
         ≡ length laid.old.items + spans_room labels.now.items bodies.old.items }
+    ensures room { laid.old.room
+        ≤ laid.new.room + spans_room labels.now.items bodies.old.items }
     ensures heads_capacity { vec_capacity heads.new ≡ vec_capacity heads.old }
     ensures bodies_capacity { vec_capacity bodies.new ≡ vec_capacity bodies.old }
 {

@@ -1,8 +1,7 @@
 //! The nodes of a tree in little memory: a head of 14 bytes for each, which is all that a look-up
 //! reads of most nodes, a body with the value, and the bytes of all labels in one vector.
 //!
-//! `patricia_tree` is the library to use. No crate uses this one yet: `patricia_nodes` is to stand
-//! on it.
+//! `patricia_tree` is the library to use. It depends on this crate.
 #![tactic(auto)]
 
 mod body;

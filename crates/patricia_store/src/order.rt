@@ -5,7 +5,7 @@
 ghost use Rattle.std.specs.Prelude.{◌≡◌, ◌<◌, ◌≤◌, ℕ, length, IfSome};
 ghost use Rattle.std.specs.Prelude.{vec_len, vec_capacity};
 ghost use Rattle.patricia_store.specs.Internal.Permutations.{AreInverse, Gathers};
-ghost use Rattle.patricia_store.specs.Internal.Renumbering.{place_of, moved, moved_head};
+ghost use Rattle.patricia_store.specs.Internal.Renumbering.{place_of, moved};
 ghost use Rattle.patricia_store.specs.Internal.Renumbering.{RenumbersHeads};
 
 use crate::body::Body;

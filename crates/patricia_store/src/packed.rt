@@ -4,8 +4,11 @@ ghost use Rattle.patricia_store.specs.Internal.Packing.{number, packed, most};
 
 use std::mem;
 
-/// The greatest number, and the most nodes and bytes that a store has.
+/// The greatest number, and the most bytes that a store has.
 pub const MOST: usize = 281474976710655;
+
+/// The most nodes that a store has. The number of the next one is less than `MOST`.
+pub const MOST_NODES: usize = MOST - 1;
 
 /// A number below 2^48, in three parts of 16 bits from the lowest.
 #[derive(Clone, Copy)]

@@ -1,7 +1,6 @@
 //! Nodes in three vectors: their heads, their bodies and the bytes of their labels.
 ghost use Rattle.std.specs.Prelude.{◌≡◌, ◌+◌, ◌<◌, ◌≤◌, ℕ, Some, None, [], length};
-ghost use Rattle.std.specs.Prelude.{slice_get, ◌≢◌, ◌++◌, ◌∷◌, take};
-ghost use Rattle.std.specs.Prelude.{IfOk, IsOk, OnOk};
+ghost use Rattle.std.specs.Prelude.{slice_get, ◌≢◌, take};
 ghost use Rattle.std.specs.Option.{option_copied, option_copied_mut};
 ghost use Rattle.std.specs.Borrow.{sem};
 ghost use Rattle.patricia_store.specs.Internal.Packing.{most};
@@ -9,24 +8,27 @@ ghost use Rattle.patricia_store.specs.Internal.Heads.{byte_of, short_len_of};
 ghost use Rattle.patricia_store.specs.Internal.Labels.{label_room, joined_room, cut_room};
 ghost use Rattle.patricia_store.specs.Internal.Nodes.{ReadsNode, IsRun, EndsRun, IsLink};
 ghost use Rattle.patricia_store.specs.Internal.Nodes.{Changes, Trades, KeepsRoom};
-ghost use Rattle.patricia_store.specs.Internal.Nodes.{labels_room, linked, value_at, Splits, Joins};
+ghost use Rattle.patricia_store.specs.Internal.Nodes.{value_at, Splits, Joins};
 ghost use Rattle.patricia_store.specs.Internal.Permutations.{AreInverse};
 ghost use Rattle.patricia_store.specs.Internal.Renumbering.{KeepsRearranged};
 ghost use Rattle.patricia_store.specs.Internal.Loans.{lends_value_at};
 
+mod copies;
+mod growth;
+mod space;
+
 use crate::body::Body;
 use crate::draft::{Draft, label_len, offset_of, span_of, write};
 use crate::head::Head;
-use crate::labels::{Labels, cut_room, label_room};
-use crate::laying::{lay, needed_bytes};
+use crate::labels::Labels;
 use crate::order::{permute, renumber};
-use crate::packed::MOST;
-use std::alloc::{AllocError, Global};
+use crate::packed::MOST_NODES;
+use std::alloc::Global;
 use std::marker::Model;
 
 /// The nodes of a tree, which contracts see as a list of nodes, with how many there is room for and
 /// how many more bytes of labels. Calls that return no `Result` ask for no memory, but for
-/// `lay_labels` and `keep_first`.
+/// `keep_first`.
 #[derive(Drop)]
 pub struct Store<V> {
     heads: Vec<Head>,
@@ -34,12 +36,13 @@ pub struct Store<V> {
     labels: Labels,
     // about how many bytes belonged to labels that others replaced
     dead: usize,
+    alloc: Global,
 }
 
 impl<V> Model for Store<V> {
     ghost use Rattle.std.specs.Prelude.{length, min, vec_capacity};
     ghost use Rattle.patricia_store.specs.Internal.Nodes.{Nodes};
-    ghost use Rattle.patricia_store.specs.Internal.Packing.{most};
+    ghost use Rattle.patricia_store.specs.Internal.Packing.{most_nodes};
 
     ghost Value = { Nodes V };
 
@@ -47,7 +50,7 @@ impl<V> Model for Store<V> {
 
     ghost view = { λ s. record {
       items = nodes_of s.heads.items s.bodies.items s.labels.items;
-      capacity = min (vec_capacity s.heads) (min (vec_capacity s.bodies) most);
+      capacity = min (vec_capacity s.heads) (min (vec_capacity s.bodies) most_nodes);
       room = s.labels.room;
       used = length s.labels.items;
     } };
@@ -65,13 +68,14 @@ impl<V> Store<V> {
             bodies: Vec::new(alloc),
             labels: Labels::new(alloc),
             dead: 0,
+            alloc,
         }
     }
 
     /// How many nodes there are.
     pub fn len(&self) -> usize
         ensures value { result ≡ length self.now.items }
-        ensures few { result ≤ most }
+        ensures few { result < most }
     {
         self.heads.len()
     }
@@ -79,9 +83,13 @@ impl<V> Store<V> {
     /// How many nodes there is room for.
     pub fn capacity(&self) -> usize
         ensures value { result ≡ self.now.capacity }
-        ensures few { result ≤ most }
+        ensures enough { length self.now.items ≤ result }
+        ensures few { result < most }
     {
-        self.heads.capacity().min(self.bodies.capacity()).min(MOST)
+        self.heads
+            .capacity()
+            .min(self.bodies.capacity())
+            .min(MOST_NODES)
     }
 
     /// How many more bytes of labels there is room for.
@@ -96,24 +104,6 @@ impl<V> Store<V> {
         ensures { result ≡ self.now.used }
     {
         self.labels.len()
-    }
-
-    /// How many bytes there is to be room for where a node's label is split.
-    pub fn cut_room(&self, id: usize) -> usize
-        requires { id < length self.now.items }
-        ensures { ReadsNode self.now id (λ a. result ≡ cut_room (length a.label)) }
-    {
-        cut_room(self.label(id).len())
-    }
-
-    /// How many bytes there is to be room for where the labels of two nodes are joined.
-    pub fn joined_room(&self, upper: usize, lower: usize) -> usize
-        requires upper { upper < length self.now.items }
-        requires lower { lower < length self.now.items }
-        ensures { ReadsNode self.now upper (λ a. ReadsNode self.now lower
-            (λ b. result ≡ joined_room (length a.label) (length b.label))) }
-    {
-        label_room(self.label(upper).len() + self.label(lower).len())
     }
 
     /// The label of a node. Reads no body where the node has no child and the label less than 63
@@ -270,30 +260,6 @@ impl<V> Store<V> {
         self.bodies[id].value_mut()
     }
 
-    /// Adds a node behind the last. Does not allocate.
-    pub fn push_reserved(
-        &mut self,
-        label: &[u8],
-        value: Option<V>,
-        child: Option<usize>,
-        sibling: Option<usize>,
-    )
-        requires nodes { length self.old.items < self.old.capacity }
-        requires bytes { label_room (length label.now) ≤ self.old.room }
-        requires child { IsLink child }
-        requires sibling { IsLink sibling }
-        ensures items { self.new.items
-            ≡ self.old.items ++ linked label.now value child sibling ∷ [] }
-        ensures capacity { self.new.capacity ≡ self.old.capacity }
-        ensures room { self.old.room ≤ self.new.room + label_room (length label.now) }
-    {
-        let span = self.labels.push(label);
-        let next = self.heads.len() + 1;
-        self.heads
-            .push_reserved(Head::new(next, child, sibling, label, span.offset));
-        self.bodies.push_reserved(Body::new(span, value));
-    }
-
     /// Keeps the first `n` bytes of a node's label, or all where there are fewer, and puts another
     /// value to it. The rest of the label, the value and the children that the node had go to the
     /// node `tail`, which becomes its first child and keeps its own sibling; returns the value that
@@ -366,48 +332,6 @@ impl<V> Store<V> {
 }
 
 impl<V: Drop> Store<V> {
-    /// No node, with room for some, and for some bytes of labels. Room for more than
-    /// 281,474,976,710,655 nodes, or for more bytes than that, is refused.
-    pub fn with_capacity(alloc: Global, nodes: usize, bytes: usize) -> Result<Store<V>, AllocError>
-        ensures items { IfOk result (λ s. s.items ≡ []) }
-        ensures capacity { IfOk result (λ s. nodes ≤ s.capacity) }
-        ensures room { IfOk result (λ s. bytes ≤ s.room) }
-        ensures succeeds { nodes ≡ 0 → bytes ≡ 0 → IsOk result }
-    {
-        if nodes > MOST {
-            return Err(AllocError);
-        }
-        Ok(Store {
-            heads: Vec::with_capacity(alloc, nodes)?,
-            bodies: Vec::with_capacity(alloc, nodes)?,
-            labels: Labels::with_capacity(alloc, bytes)?,
-            dead: 0,
-        })
-    }
-
-    /// Makes room for so many nodes more, and for so many more bytes of labels. A label takes its
-    /// bytes, and 12 more where it has 255 or more. A split of a label of 255 bytes or more takes
-    /// 24, a joined label what both parts take as one. 281,474,976,710,655 nodes are the most, and
-    /// so many bytes: room for more is refused.
-    #[cold]
-    pub fn reserve(&mut self, nodes: usize, bytes: usize) -> Result<(), AllocError>
-        ensures items { self.new.items ≡ self.old.items }
-        ensures nodes { OnOk result (length self.new.items + nodes ≤ self.new.capacity) }
-        ensures bytes { OnOk result (bytes ≤ self.new.room) }
-        ensures capacity { self.old.capacity ≤ self.new.capacity }
-        ensures room { self.old.room ≤ self.new.room }
-        ensures succeeds { length self.old.items + nodes ≤ self.old.capacity
-            → bytes ≤ self.old.room → IsOk result }
-    {
-        if nodes > MOST - self.heads.len() {
-            return Err(AllocError);
-        }
-        self.heads.reserve_exact(nodes)?;
-        self.bodies.reserve_exact(nodes)?;
-        self.labels.reserve(bytes)?;
-        Ok(())
-    }
-
     /// Lays the nodes in this order, where they are, links them by their new numbers, and keeps the
     /// first `used` of them. Their labels stay where they are. Does not allocate.
     pub fn rearrange(&mut self, order: Vec<u32>, places: Vec<u32>, used: usize)
@@ -422,32 +346,6 @@ impl<V: Drop> Store<V> {
         permute(&mut self.heads, &mut self.bodies, order, places);
         self.heads.truncate(used);
         self.bodies.truncate(used);
-    }
-
-    /// Lays the labels one behind another, in the order of the nodes, so that there is room again
-    /// where bytes belong to no node. Asks for as many bytes as all labels take, and copies them
-    /// twice; takes time in proportion to nodes and bytes. Where they are refused, or would be more
-    /// than there are, labels stay and an error is returned.
-    pub fn lay_labels(&mut self, alloc: Global) -> Result<(), AllocError>
-        ensures laid { OnOk result (self.new.used ≡ labels_room self.new.items) }
-        ensures items { self.new.items ≡ self.old.items }
-        ensures capacity { self.new.capacity ≡ self.old.capacity }
-        ensures room { self.old.room ≤ self.new.room }
-    {
-        let Some(needed) = needed_bytes(&self.bodies, &self.labels, self.labels.len()) else {
-            return Err(AllocError);
-        };
-        let mut laid = Labels::with_capacity(alloc, needed)?;
-        lay(&mut self.heads, &mut self.bodies, &self.labels, &mut laid);
-        self.labels.copy_from(&laid);
-        self.dead = 0;
-        Ok(())
-    }
-
-    /// About how many bytes belonged to labels that other labels replaced. Those of nodes that are
-    /// dropped, and notes, are not counted: give a node an empty label before it is dropped.
-    pub fn dead(&self) -> usize {
-        self.dead
     }
 
     /// Keeps the first `n` nodes, with room for half as many more, and drops the others. More room

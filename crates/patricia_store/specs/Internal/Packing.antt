@@ -13,3 +13,7 @@ packed n = record { low = n % 65536; middle = n / 65536 % 65536; high = n / 4294
 -- the greatest number
 abbrev pub most : ℕ
 most = 281474976710655
+
+-- the most nodes there are, so that the number of the next one is less than the greatest
+abbrev pub most_nodes : ℕ
+most_nodes = 281474976710654

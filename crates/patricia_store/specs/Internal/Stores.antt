@@ -1,5 +1,5 @@
 -- Heads, bodies and the bytes of labels, as nodes.
-use Rattle.std.specs.Prelude.{◌≡◌, ℕ, ◌+◌, ◌≤◌, List, [], ◌∷◌, length, Some, slice_get}
+use Rattle.std.specs.Prelude.{◌≡◌, ℕ, ◌+◌, ◌<◌, List, [], ◌∷◌, length, Some, slice_get}
 use Rattle.patricia_store.specs.Internal.Packing.{most}
 use Rattle.patricia_store.specs.declared.head.Head.{Head}
 use Rattle.patricia_store.specs.declared.body.Body.{Body}
@@ -47,6 +47,6 @@ module _ {V : Type 0} where
   -- there is a head for each body, and each node is sound
   pub record AreSound (heads : List Head) (bodies : List (Body V)) (bytes : List ℕ) : Type 0 where
     pub long : length bodies ≡ length heads
-    pub few : length heads ≤ most
+    pub few : length heads < most
     pub sound : (i : ℕ) (head : Head) (body : Body V) → slice_get heads i ≡ Some head
         → slice_get bodies i ≡ Some body → IsSound (i + 1) head body bytes

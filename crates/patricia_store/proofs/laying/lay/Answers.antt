@@ -47,6 +47,7 @@ loop-id-preserved g c =
           l.laid.items c.lay_label-span.new.laid.items c.requires.sound p e.extends h here b beside c.lay_label-span.result e.span e.label
           c.lay_label-span.new.head e.head c.lay_label-span.new.body e.body;
       room = omega (arith, room, l.invariant.room, e.room);
+      left = omega (arith, room, l.invariant.left, e.room);
       length = omega (arith, room, l.invariant.length, e.length);
       within = omega (arith, c.loop-id-test.true, c.len.ensures);
       heads_capacity = l.invariant.heads_capacity;

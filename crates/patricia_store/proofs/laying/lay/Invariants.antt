@@ -8,6 +8,8 @@ abbrev pub invariant-loop-id : goal.invariant-loop-id
 invariant-loop-id g l = record {
   laid : Laid l.fn.heads.items l.fn.bodies.items l.labels.items l.id l.heads.items l.bodies.items l.laid.items;
   room : spans_room l.labels.items (drop l.id l.fn.bodies.items) ≤ l.laid.room;
+  left : l.fn.laid.room + spans_room l.labels.items (drop l.id l.fn.bodies.items)
+      ≤ l.laid.room + spans_room l.labels.items l.fn.bodies.items;
   length : length l.laid.items + spans_room l.labels.items (drop l.id l.fn.bodies.items)
       ≡ length l.fn.laid.items + spans_room l.labels.items l.fn.bodies.items;
   within : l.id ≤ vec_len l.heads;

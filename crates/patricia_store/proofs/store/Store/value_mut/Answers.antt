@@ -1,7 +1,7 @@
 use Rattle.std.proofs.Common.{ℕ, ◌<◌, length, min, vec_capacity, ap, refl, ◌∙◌, arith}
 use borrow.Follows.Closed.{read_of}
 use Rattle.std.specs.Option.{ghost_name_of}
-use Rattle.patricia_store.specs.Internal.Packing.{most}
+use Rattle.patricia_store.specs.Internal.Packing.{most_nodes}
 use Rattle.patricia_store.specs.Internal.Stores.{nodes_of}
 use Rattle.patricia_store.proofs.StoreLemmas.{in_bodies}
 use Rattle.patricia_store.proofs.LoanLemmas.{lent_sound, lent_nothing_sound, lent_write, lent_none, lent_value}
@@ -27,7 +27,7 @@ returns g c =
     let bytes = c.self.inside.labels.items in
     let room = c.self.inside.labels.room in
     let used = length bytes in
-    let capacity : ℕ = min (vec_capacity hs) (min (vec_capacity bs) most) in
+    let capacity : ℕ = min (vec_capacity hs) (min (vec_capacity bs) most_nodes) in
     let within : c.args.id < length (nodes_of hs.items bs.items bytes) =
     omega (arith, c.requires, ap (λ s. length s.items) c.self.view_is) in
     let b = c.index_mut.result.now in
