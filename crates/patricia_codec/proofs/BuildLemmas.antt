@@ -9,7 +9,8 @@ use Rattle.std.proofs.lemmas.Option.{slice_get-get_or}
 use Rattle.std.proofs.lemmas.List.{reverse-append}
 use Rattle.std.proofs.lemmas.List.Elements.{All-nil, All-cons}
 use Rattle.patricia_model.specs.Siblings.{Siblings, end, node, IsBeforeSiblings}
-use Rattle.patricia_nodes.specs.declared.arena.Node.{Node}
+use Rattle.patricia_store.specs.Internal.Nodes.{Node}
+use Rattle.patricia_nodes.specs.Internal.NodeVecs.{next_if}
 use Rattle.patricia_nodes.specs.Internal.Plans.{linked}
 use Rattle.patricia_wire.specs.Records.{Record}
 use Rattle.patricia_wire.specs.Forests.{IsInner}
@@ -19,7 +20,7 @@ use Rattle.patricia_codec.specs.declared.builder.Builder.{Builder}
 use Rattle.patricia_codec.specs.declared.builder.Next.{Next}
 use Rattle.patricia_codec.specs.declared.builder.Next.TheVariants.{Root, Below, Within, Beside}
 use Rattle.patricia_codec.specs.Internal.Growing.{Gap, Unlaid, IsOpenBeside, IsOpenAt, IsOpenWithin}
-use Rattle.patricia_codec.specs.Internal.Builds.{link_if, number_if, gap_if, ids, dues, Fall}
+use Rattle.patricia_codec.specs.Internal.Builds.{number_if, gap_if, ids, dues, Fall}
 use Rattle.patricia_codec.specs.Internal.Builds.{count_of, Lays, HasLinked, Opens, ClosesAs}
 use Rattle.patricia_codec.specs.Internal.Builds.{Prepares, Suits, Wait, IsBuiltAs, IsBuilt}
 use Rattle.patricia_codec.specs.Internal.Builds.{AddsRecord}
@@ -147,7 +148,7 @@ module _ (item : List ℕ → Type 0) {V : Type 0} where
   laid_is : (b new : Builder V) (u : Unlaid V) (x : Option V) (child : Bool)
       → u.label ≡ b.label.items → u.value ≡ x → u.child ≡ child → Lays b x child new
       → new.nodes.items ≡ b.nodes.items ++ laid_node item b.nodes.items b.root b.value u ∷ []
-  laid_is b new u x child l v c lays = lays.nodes ∙ (λ i. b.nodes.items ++ linked (sym l i) (sym v i) (link_if (sym c i) (count_of b + 1)) None ∷ [])
+  laid_is b new u x child l v c lays = lays.nodes ∙ (λ i. b.nodes.items ++ linked (sym l i) (sym v i) (next_if (sym c i) (count_of b)) None ∷ [])
 
   -- there is one node more
   laid_count : (b new : Builder V) (x : Option V) (child : Bool) → Lays b x child new

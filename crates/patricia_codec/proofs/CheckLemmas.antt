@@ -14,7 +14,7 @@ use Rattle.patricia_keys.specs.Keys.{IsKeyKind, IsValid, IsFirstItem, ComparesFi
 use Rattle.patricia_keys.specs.Keys.{key_cmp}
 use Rattle.patricia_keys.proofs.KeyLemmas.{begins_same, first_of, IsValid-item}
 use Rattle.patricia_wire.specs.Records.{Record}
-use Rattle.patricia_wire.specs.Internal.Readings.{Rule, level, root_label, root_sibling}
+use Rattle.patricia_wire.specs.Internal.Readings.{level, root_label, root_sibling}
 use Rattle.patricia_wire.specs.Internal.Readings.{empty_label, invalid_label, sibling_order}
 use Rattle.patricia_wire.specs.Internal.Readings.{no_value_no_child, too_few_values, Due}
 use Rattle.patricia_wire.specs.Internal.Readings.{BreaksRule, BreaksNone, BreaksNoneBelow}

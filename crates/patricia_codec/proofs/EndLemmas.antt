@@ -7,7 +7,7 @@ use Rattle.std.proofs.lemmas.Bool.Decides.{nat_tests}
 use Rattle.patricia_keys.specs.Keys.{IsKeyKind}
 use Rattle.patricia_model.specs.Siblings.{Siblings, end, own, entries, keys_of, IsCanonical}
 use Rattle.patricia_model.specs.Walks.{values_of}
-use Rattle.patricia_nodes.specs.declared.arena.Node.{Node}
+use Rattle.patricia_store.specs.Internal.Nodes.{Node}
 use Rattle.patricia_nodes.specs.declared.arena.NodeArena.{NodeArena}
 use Rattle.patricia_nodes.specs.Internal.Plans.{Plan, Nil, siblings_in, size, count, below}
 use Rattle.patricia_nodes.specs.Internal.Plans.{siblings_of}

@@ -11,7 +11,8 @@ use Rattle.std.proofs.lemmas.List.Elements.{All-nil, All-cons, All-head, All-tai
 use Rattle.patricia_model.specs.Siblings.{Siblings, end, node, prefixed, own, entries}
 use Rattle.patricia_model.specs.Siblings.{IsBeforeSiblings}
 use Rattle.patricia_model.specs.Walks.{values_of}
-use Rattle.patricia_nodes.specs.declared.arena.Node.{Node}
+use Rattle.patricia_store.specs.Internal.Nodes.{Node}
+use Rattle.patricia_nodes.specs.Internal.NodeVecs.{next_if}
 use Rattle.patricia_nodes.specs.Internal.Plans.{Plan, Nil, Cell, siblings_in, head, size, count}
 use Rattle.patricia_nodes.specs.Internal.Plans.{below, one}
 use Rattle.patricia_nodes.specs.Internal.Plans.{linked, LaidOut}
@@ -22,7 +23,7 @@ use Rattle.patricia_wire.specs.Forests.{IsInner}
 use Rattle.patricia_wire.specs.Internal.WrittenSiblings.{has_node, record_of, records_of, over}
 use Rattle.patricia_wire.specs.Internal.WrittenSiblings.{joined}
 use Rattle.patricia_wire.specs.Internal.WrittenSiblings.{IsWritable}
-use Rattle.patricia_codec.specs.Internal.Builds.{link_if, gap_if}
+use Rattle.patricia_codec.specs.Internal.Builds.{gap_if}
 use Rattle.patricia_codec.specs.Internal.Growing.{Gap, IsLater, Hangs, Unlaid, AreBeside, IsGrown}
 use Rattle.patricia_codec.specs.Internal.Growing.{IsOpenBeside, IsOpenAt, IsOpenWithin}
 
@@ -240,7 +241,7 @@ module _ (item : List ℕ → Type 0) {V : Type 0} (nodes : List (Node V)) (root
 
   -- the node that is laid for an open one
   abbrev pub laid_node : Unlaid V → Node V
-  laid_node u = linked u.label u.value (link_if u.child (length nodes + 1)) None
+  laid_node u = linked u.label u.value (next_if u.child (length nodes)) None
 
   -- the siblings that wait then
   abbrev pub laid_gaps : Unlaid V → List Gap → List Gap
@@ -297,7 +298,7 @@ module _ (item : List ℕ → Type 0) {V : Type 0} (nodes : List (Node V)) (root
       → IsOpenWithin item nodes root value u gaps R vs → AreWithin (length nodes) gaps
       → (later : List (Node V)) → IsLater (nodes ++ laid_node u ∷ []) (laid_gaps u gaps) later
       → (plan : Plan V) (c : Siblings V)
-      → Hangs item later (link_if u.child (length nodes + 1)) plan c → has_node c ≡ u.child
+      → Hangs item later (next_if u.child (length nodes)) plan c → has_node c ≡ u.child
       → ((s : Siblings V) → over u.label u.value (joined c) s ≡ node u.label u.value (joined c) s)
       → (R2 : List Record) (vs2 : List V) (ids : ℕ → ℕ) (n : ℕ)
       → AreBeside item later (laid_gaps u gaps) R2 vs2 ids n
@@ -308,7 +309,7 @@ module _ (item : List ℕ → Type 0) {V : Type 0} (nodes : List (Node V)) (root
   laid u gaps R vs goes within later is_later plan c hangs cm kept R2 vs2 ids n beside =
       let here = is_later (length nodes) (laid_node u) (get-push_same nodes (laid_node u)) in
       let (side, s, hangs2, sm, rises, R3, vs3, ids3, n3, others, records, values, numbers, sizes) =
-      split_beside later u.label u.own_label u.value (link_if u.child (length nodes + 1)) u.sibling
+      split_beside later u.label u.own_label u.value (next_if u.child (length nodes)) u.sibling
       u.level gaps R2 vs2 ids n within here.0 here.1 here.2 beside in
       let cell = Cell (length nodes) u.label u.value plan side in
       let stands : LaidOut later cell = (
@@ -342,8 +343,8 @@ module _ (item : List ℕ → Type 0) {V : Type 0} (nodes : List (Node V)) (root
       → IsOpenAt item (nodes ++ laid_node u ∷ []) root value Allowed u.below (laid_gaps u gaps) R vs
   laid_above u gaps R vs goes within child Allowed kept later is_later plan c hangs there allowed R2 vs2 ids n beside =
       let len = length-append nodes (laid_node u ∷ []) in
-      let link : Some (length (nodes ++ laid_node u ∷ [])) ≡ link_if u.child (length nodes + 1) =
-      ap Some len ∙ ap (λ b. link_if b (length nodes + 1)) (sym child) in
+      let link : Some (length (nodes ++ laid_node u ∷ [])) ≡ next_if u.child (length nodes) =
+      ap Some len ∙ ap (λ b. next_if b (length nodes)) (sym child) in
       let grown = laid u gaps R vs goes within later is_later plan c
       (subst (λ at. Hangs item later at plan c) link hangs) (there ∙ sym child)
       (kept c allowed) R2 vs2 ids n beside in
@@ -358,10 +359,10 @@ module _ (item : List ℕ → Type 0) {V : Type 0} (nodes : List (Node V)) (root
       → IsOpenBeside item (nodes ++ laid_node u ∷ []) root value (laid_gaps u gaps) R vs
   laid_alone u gaps R vs goes within child later is_later R2 vs2 ids n beside =
       let len = length-append nodes (laid_node u ∷ []) in
-      let hangs : Hangs item later (link_if u.child (length nodes + 1)) Nil end =
+      let hangs : Hangs item later (next_if u.child (length nodes)) Nil end =
       record {
         stands = tt;
-        at_is = ap (λ b. link_if b (length nodes + 1)) child;
+        at_is = ap (λ b. next_if b (length nodes)) child;
         same = refl;
         writable = tt;
       } in

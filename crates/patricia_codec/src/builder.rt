@@ -6,9 +6,7 @@ ghost use Rattle.patricia_codec.specs.Internal.Builds.{AddsRecord};
 
 use crate::record::Record;
 use patricia_keys::Bytes;
-use patricia_nodes::arena::Node;
 use patricia_nodes::arena::node_vec::NodeVec;
-use patricia_nodes::label::Label;
 use patricia_nodes::link::{Link, NodeId};
 use std::alloc::{AllocError, Global};
 
@@ -28,7 +26,6 @@ pub enum Next {
 /// The nodes of the records that were read, and what is open.
 #[derive(Drop)]
 pub struct Builder<V> {
-    pub alloc: Global,
     // the root's value
     pub value: Option<V>,
     // the number of the first node
@@ -47,7 +44,6 @@ impl<V: Drop> Builder<V> {
         ensures { IsNew result }
     {
         Builder {
-            alloc,
             value: None,
             root: Link::none(),
             nodes: NodeVec::new(alloc),
@@ -61,18 +57,8 @@ impl<V: Drop> Builder<V> {
     fn lay(&mut self, value: Option<V>, child: bool) -> Result<(), AllocError>
         ensures { OnOk result (Lays self.old value child self.new) }
     {
-        let label = Label::from_slice(self.alloc, self.label.as_slice())?;
-        let child = if child {
-            Link::some(NodeId::new(self.nodes.len() + 1))
-        } else {
-            Link::none()
-        };
-        self.nodes.push(Node {
-            label,
-            value,
-            child,
-            sibling: Link::none(),
-        })?;
+        self.nodes
+            .push_in_order(self.label.as_slice(), value, child)?;
         self.label.clear();
         Ok(())
     }
@@ -83,8 +69,7 @@ impl<V: Drop> Builder<V> {
         ensures { HasLinked self.old self.new }
     {
         if let Some(id) = self.waiting.pop() {
-            let next = Link::some(NodeId::new(self.nodes.len()));
-            self.nodes.set_sibling(id, next);
+            self.nodes.link_next(id);
         }
     }
 

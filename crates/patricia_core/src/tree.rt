@@ -235,7 +235,7 @@ impl<K: Bytes, V: Drop> Tree<K, V> {
         if key.is_empty() {
             return Ok(self.parts.value.take());
         }
-        match remove(&mut self.parts.arena, self.parts.alloc, key) {
+        match remove(&mut self.parts.arena, key) {
             Ok(Some(old)) => {
                 self.parts.count -= 1;
                 Ok(Some(old))

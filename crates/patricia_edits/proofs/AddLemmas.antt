@@ -1,26 +1,24 @@
 -- A new node in a place.
-use Rattle.std.proofs.Common.{◌≡◌, ◌≢◌, inl, inr, ℕ, suc, ◌+◌, ◌<◌, List, [], ◌∷◌, length, set}
-use Rattle.std.proofs.Common.{take, Option, Some, None, slice_get, get_or, refl, sym, ap, ◌∙◌}
+use Rattle.std.proofs.Common.{◌≡◌, ◌≢◌, inl, inr, ℕ, ◌+◌, ◌<◌, ◌≤◌, List, [], ◌∷◌, length, set}
+use Rattle.std.proofs.Common.{Some, slice_get, refl, sym, ap, ◌∙◌}
 use Rattle.std.proofs.Common.{arith, length-set}
-use Rattle.std.specs.Prelude.{vec_len, vec_capacity}
-use Rattle.std.proofs.lemmas.List.{get_or-set_same}
 use Rattle.std.proofs.lemmas.Option.{slice_get_within}
-use Rattle.patricia_nodes.specs.declared.arena.Node.{Node}
+use Rattle.patricia_store.specs.Internal.Nodes.{Node}
+use Rattle.patricia_store.specs.Internal.Labels.{label_room}
 use Rattle.patricia_nodes.specs.declared.arena.NodeArena.{NodeArena}
 use Rattle.patricia_nodes.specs.declared.arena.seek.LinkRef.{LinkRef}
-use Rattle.patricia_nodes.specs.declared.arena.seek.LinkRef.TheVariants.{Root, Child}
-use Rattle.patricia_nodes.specs.Internal.Plans.{Plan, Nil, Cell, linked, head, size, count, one}
-use Rattle.patricia_nodes.specs.Internal.Plans.{below, times, LaidOut, IsChain, IsSound, Holds}
+use Rattle.patricia_nodes.specs.declared.arena.seek.LinkRef.TheVariants.{Root}
+use Rattle.patricia_nodes.specs.Internal.Plans.{Plan, Cell, linked, head, size, count, one}
+use Rattle.patricia_nodes.specs.Internal.Plans.{below, times, LaidOut, IsChain, IsSound}
 use Rattle.patricia_nodes.specs.Internal.Places.{Frame, InChild, InSibling, fill, count_frames}
 use Rattle.patricia_nodes.specs.Internal.Places.{link_ref_of}
-use Rattle.patricia_nodes.specs.Internal.Writes.{RoomFor, HasRoomFor, Relinks}
+use Rattle.patricia_nodes.specs.Internal.Writes.{Relinks}
 use Rattle.patricia_edits.specs.Internal.Inserts.{Makes, MakesNode, IsBelowOrBeside, AddsNode}
-use Rattle.patricia_edits.specs.Internal.Inserts.{HasCell, SplitsNode}
+use Rattle.patricia_edits.specs.Internal.Inserts.{HasCell}
 use Rattle.patricia_nodes.proofs.PlanLemmas.{one-same, below_le}
-use Rattle.patricia_nodes.proofs.FillLemmas.{stands-within, size-fill, count-fill}
+use Rattle.patricia_nodes.proofs.FillLemmas.{stands-within, count-fill}
 use Rattle.patricia_nodes.proofs.WriteLemmas.{get-set_same, get-set_other, stands-keep, chain-keep}
 use Rattle.patricia_nodes.proofs.WriteLemmas.{stands-refill, head-refill, sound-swap, one_chain}
-use Rattle.patricia_nodes.proofs.WriteLemmas.{read_at, holds_write}
 
 module _ {V : Type 0} where
   -- a plan that is taken below or beside a node keeps its numbers
@@ -183,66 +181,22 @@ module _ {V : Type 0} where
   -- a node that was made and linked stands in the place
   pub adds : (old made new : NodeArena V) (link_ref : LinkRef) (n : Node V) (id : ℕ)
       → new.free ≡ made.free → length new.nodes.items ≡ length made.nodes.items
-      → vec_capacity new.nodes ≡ vec_capacity old.nodes → MakesNode old made n id
-      → Relinks made new link_ref (Some id) → AddsNode old new link_ref n id
-  adds old made new link_ref n id free_is long capacity makes links fs c d q at takes child_is sibling_is h =
+      → new.nodes.capacity ≡ old.nodes.capacity
+      → old.nodes.room ≤ new.nodes.room + label_room (length n.label)
+      → MakesNode old made n id → Relinks made new link_ref (Some id)
+      → AddsNode old new link_ref n id
+  adds old made new link_ref n id free_is long capacity bytes makes links fs c d q at takes child_is sibling_is h =
       let m = makes h.0 (h.1.chain, h.1.free_is) in
       let sound = sound-add old made new c d q takes n id child_is sibling_is free_is h.0 m fs h.1 (rw at at links) in (
         (m.left, sound),
-        λ k room.
-            let same = one_chain old.nodes.items room.0 h.0 room.1.0 h.1.chain (sym room.1.1 ∙ h.1.free_is) in
-            (m.left, (sound.chain, sound.free_is), omega (arith, room.2, m.longer, ap length same)),
+        λ k left room.
+            let fits = room.nodes_fit in
+            let same = one_chain old.nodes.items fits.0 h.0 fits.1.0 h.1.chain (sym fits.1.1 ∙ h.1.free_is) in
+            record {
+              nodes_fit = (m.left, (sound.chain, sound.free_is), omega (arith, fits.2, m.longer, ap length same));
+              bytes_fit = omega (arith, room.bytes_fit, bytes);
+            },
       )
-
-module _ {V : Type 0} (s : NodeArena V) (id : ℕ) (r : Node V)
-    (reads : r ≡ get_or s.nodes.items id r) where
-  -- another label and value at a node leave as much room
-  pub room_write : (fs : List (Frame V)) (l l' : List ℕ) (v v' : Option V) (c d : Plan V)
-      → Holds s (fill fs (Cell id l v c d)) → (n : ℕ) → HasRoomFor s n
-      → RoomFor (set s.nodes.items id (linked l' v' r.child r.sibling)) s.free (vec_capacity s.nodes) n
-  room_write fs l l' v v' c d h n room =
-      let mid = holds_write s id r reads fs l l' v v' c d h in
-      let same = one_chain s.nodes.items room.0 h.0 room.1.0 h.1.chain (sym room.1.1 ∙ h.1.free_is) in
-      let long = length-set s.nodes.items id (linked l' v' r.child r.sibling) in (
-        mid.0,
-        (mid.1.chain, mid.1.free_is),
-        omega (arith, room.2, long, mid.1.total, h.1.total, size-fill fs (Cell id l v c d), size-fill fs (Cell id l' v' c d), ap length same),
-      )
-
-  -- a node in two: the upper one is written, and the lower one added below it
-  module _ (new : NodeArena V) (n k : ℕ) (lower : Node V) (ul : List ℕ) (w uv : Option V)
-      (label_is : ul ≡ take n r.label) (value_is : uv ≡ w) (moved : lower.value ≡ r.value)
-      (child_is : lower.child ≡ r.child) (sibling_is : lower.sibling ≡ None) where
-    -- a node's first bytes stay in it, and its value and children are in a new node below it
-    pub splits :
-        ((fs : List (Frame V)) (c d q : Plan V) → Child id ≡ link_ref_of fs → IsBelowOrBeside c d q
-        → lower.child ≡ head c → lower.sibling ≡ head d → (spare : List ℕ) × IsSound
-        (set s.nodes.items id (linked ul uv r.child r.sibling)) s.root s.free (fill fs q) spare
-        → Holds new (fill fs (Cell k lower.label lower.value c d))
-        × ((j : ℕ) → RoomFor (set s.nodes.items id (linked ul uv r.child r.sibling)) s.free (vec_capacity s.nodes) (suc j) → HasRoomFor new j))
-        → SplitsNode s new id n lower.label w k
-    splits adds fs l v c d h =
-        let is = read_at s id r reads fs l v c d h in
-        let label : ul ≡ take n l = label_is ∙ ap (λ (x : Node V). take n x.label) is in
-        let value : lower.value ≡ v = moved ∙ ap (λ (x : Node V). x.value) is in
-        let mid = holds_write s id r reads fs l ul v uv c d h in
-        let grown = adds (InChild id ul uv d ∷ fs) c Nil c refl (inl (refl, refl)) (child_is ∙ ap (λ (x : Node V). x.child) is) sibling_is mid in
-        (rw (← label, ← value_is, ← value) grown.0, λ j room. grown.1 j (room_write fs l ul v uv c d h (suc j) room))
-
-  -- once a node is written, the place of its children is below it
-  pub spot_below : (ul : List ℕ) (uv : Option V) → HasCell s id
-      → (fs : List (Frame V)) × (q : Plan V) × (Child id ≡ link_ref_of fs) ×
-      ((spare : List ℕ) × IsSound (set s.nodes.items id (linked ul uv r.child r.sibling))
-      s.root s.free (fill fs q) spare)
-  spot_below ul uv h = (InChild id ul uv h.4 ∷ h.0, h.3, refl, holds_write s id r reads h.0 h.1 ul h.2 uv h.3 h.4 h.5)
-
-  -- a node whose label and value are changed is read as it was changed
-  pub written_node : (id < vec_len s.nodes) → (ul : List ℕ) (uv : Option V)
-      → linked ul uv r.child r.sibling
-      ≡ get_or (set s.nodes.items id (linked ul uv r.child r.sibling)) id (linked ul uv r.child r.sibling)
-  written_node within ul uv =
-      let m = linked ul uv r.child r.sibling in
-      sym (get_or-set_same s.nodes.items id m m (rw (← s.nodes.ok.0) within))
 
 -- a number of the plan is in the vector
 pub cell_within : {V : Type 0} (s : NodeArena V) (id : ℕ) → HasCell s id → id < length s.nodes.items

@@ -5,7 +5,7 @@ use Rattle.std.proofs.lemmas.List.{append-nil}
 use Rattle.std.proofs.lemmas.Option.{slice_get_within}
 use Rattle.std.specs.Prelude.{IfSome}
 use Rattle.patricia_model.specs.Clones.{CloneIsSame}
-use Rattle.patricia_nodes.specs.declared.arena.Node.{Node}
+use Rattle.patricia_store.specs.Internal.Nodes.{Node}
 use Rattle.patricia_nodes.specs.Internal.Plans.{Plan, Nil, Cell, linked, head, siblings_in}
 use Rattle.patricia_nodes.specs.Internal.Growth.{tops, numbered_siblings, laid, AreTopSiblings}
 use Rattle.patricia_nodes.proofs.PlanLemmas.{node_is}

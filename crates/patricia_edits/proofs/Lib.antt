@@ -2,7 +2,9 @@ pub mod AddLemmas
 pub mod AlongLemmas
 pub mod CopyLemmas
 pub mod CountLemmas
+pub mod CutLemmas
 pub mod KeptLemmas
+pub mod LeafLemmas
 pub mod MakeLemmas
 pub mod MeasureLemmas
 pub mod MoveLemmas
@@ -11,5 +13,6 @@ pub mod OtherLemmas
 pub mod PutLemmas
 pub mod RemoveLemmas
 pub mod SplitLemmas
+pub mod StayLemmas
 pub mod TakeLemmas
 pub mod WholeLemmas

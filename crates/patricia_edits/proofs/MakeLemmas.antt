@@ -1,24 +1,37 @@
 -- A node in a free slot, or behind the last.
 use Rattle.std.proofs.Common.{◌≡◌, ℕ, suc, ◌+◌, ◌<◌, ◌≤◌, List, [], ◌∷◌, ◌++◌, length, set, Some}
-use Rattle.std.proofs.Common.{None, slice_get, get_or, refl, sym, ap, ◌∙◌, arith, length-set}
+use Rattle.std.proofs.Common.{None, Option, slice_get, get_or, refl, sym, ap, ◌∙◌, arith, length-set}
 use Rattle.std.proofs.Common.{length-append}
-use Rattle.std.specs.Prelude.{vec_capacity}
 use Rattle.std.proofs.lemmas.Bool.Decides.{nat_tests}
+use Rattle.std.proofs.lemmas.List.{set-set}
 use Rattle.std.proofs.lemmas.Option.{slice_get_within}
-use Rattle.patricia_nodes.specs.declared.arena.Node.{Node}
+use Rattle.patricia_store.specs.Internal.Nodes.{Node}
 use Rattle.patricia_nodes.specs.declared.arena.NodeArena.{NodeArena}
 use Rattle.patricia_nodes.specs.Internal.Plans.{first, IsChain}
-use Rattle.patricia_nodes.specs.Internal.Writes.{IsFree, HasRoomFor}
+use Rattle.patricia_nodes.specs.Internal.Writes.{IsFree, RoomFor}
 use Rattle.patricia_edits.specs.Internal.Inserts.{Makes}
+use Rattle.patricia_nodes.proofs.FreeLemmas.{read_written}
 use Rattle.patricia_nodes.proofs.PlanLemmas.{node_is}
 use Rattle.patricia_nodes.proofs.WriteLemmas.{get-set_same, get-set_other, get-push_same}
 use Rattle.patricia_nodes.proofs.WriteLemmas.{get-push_other}
 
 -- where no node is free, room is behind the last
-pub room_behind : {V : Type 0} (s : NodeArena V) (n : ℕ) → HasRoomFor s n → s.free ≡ None
-    → n + length s.nodes.items ≤ vec_capacity s.nodes
+pub room_behind : {V : Type 0} (s : NodeArena V) (n : ℕ)
+    → RoomFor s.nodes.items s.free s.nodes.capacity n → s.free ≡ None
+    → n + length s.nodes.items ≤ s.nodes.capacity
 room_behind s n ([], free, fits) none = omega arith
 room_behind s n (i ∷ ids, free, fits) none = absurd (let e = free.1 in cc)
+
+-- a node that is written to its label, child and value, and then to its sibling, is a new one
+pub written_twice : {V : Type 0} (nodes mid new : List (Node V)) (id : ℕ) (m w : Node V)
+    → id < length nodes → mid ≡ set nodes id m → w ≡ get_or mid id w → (sibling : Option ℕ)
+    → new ≡ set mid id (record w { sibling = sibling })
+    → new ≡ set nodes id (record m { sibling = sibling })
+written_twice nodes mid new id m w within first reads sibling then =
+    let is : w ≡ m = read_written nodes mid id m w within first reads in
+    then ∙ ap (λ xs. set xs id (record w { sibling = sibling })) first
+    ∙ set-set nodes id m (record w { sibling = sibling })
+    ∙ ap (λ (x : Node _). set nodes id (record x { sibling = sibling })) is
 
 module _ {V : Type 0} (old new : NodeArena V) (spare : List ℕ) (n : Node V) (id : ℕ)
     (free : IsFree old.nodes.items old.free spare) (root_is : new.root ≡ old.root) where

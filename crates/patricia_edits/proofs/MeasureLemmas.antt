@@ -2,10 +2,12 @@
 use Rattle.std.proofs.Common.{◌≡◌, ℕ, suc, ◌+◌, ◌*◌, ◌<◌, ◌≤◌, List, [], ◌∷◌, ◌++◌, length, Option}
 use Rattle.std.proofs.Common.{Some, None, get_or, refl, ap, arith, length-append}
 use Rattle.patricia_model.specs.Siblings.{prefixed, own, entries}
-use Rattle.patricia_nodes.specs.declared.arena.Node.{Node}
+use Rattle.patricia_store.specs.Internal.Nodes.{Node}
 use Rattle.patricia_nodes.specs.Internal.Plans.{Plan, Nil, Cell, siblings_in, size, IsPlan, plan_at}
 use Rattle.patricia_nodes.proofs.PlanLemmas.{plan_is}
 use Rattle.patricia_nodes.proofs.SeekLemmas.{Opened, opened, head_within}
+use Rattle.patricia_nodes.specs.Internal.Growth.{bytes}
+use Rattle.patricia_store.specs.Internal.Labels.{label_room}
 use Rattle.patricia_edits.specs.Internal.Splits.{values}
 
 -- entries under a label are as many
@@ -46,6 +48,11 @@ module _ {V : Type 0} where
     values_of [] = 0
     values_of (at ∷ ats) = values (plan_at nodes at) + values_of ats
 
+    -- how many bytes their labels take
+    abbrev pub bytes_of : List (Option ℕ) → ℕ
+    bytes_of [] = 0
+    bytes_of (at ∷ ats) = bytes (plan_at nodes at) + bytes_of ats
+
     -- a plan is read from each of these links
     abbrev pub AllPlans : List (Option ℕ) → Type 0
     AllPlans [] = Unit {0}
@@ -62,6 +69,12 @@ module _ {V : Type 0} where
         → values_of (ats ++ at ∷ []) ≡ values_of ats + values (plan_at nodes at)
     values-last [] at = omega arith
     values-last (b ∷ ats) at = omega (arith, values-last ats at)
+
+    -- and its bytes to theirs
+    bytes-last : (ats : List (Option ℕ)) (at : Option ℕ)
+        → bytes_of (ats ++ at ∷ []) ≡ bytes_of ats + bytes (plan_at nodes at)
+    bytes-last [] at = omega arith
+    bytes-last (b ∷ ats) at = omega (arith, bytes-last ats at)
 
     -- where a plan is read from each link, so it is with one more link at the end
     plans-last : (ats : List (Option ℕ)) (at : Option ℕ) → AllPlans ats
@@ -80,13 +93,15 @@ module _ {V : Type 0} where
     no_siblings [] e = refl
     no_siblings (at ∷ ats) e = absurd (omega (arith, e))
 
-    -- so many nodes and values are counted, and the rest is at hand or waits
-    pub record Measuring (first at : Option ℕ) (waiting : List (Option ℕ)) (n m : ℕ) : Type 0 where
+    -- so many nodes, values and bytes are counted, and the rest is at hand or waits
+    pub record Measuring (first at : Option ℕ) (waiting : List (Option ℕ)) (n m k : ℕ) : Type 0 where
       pub here : IsPlan nodes at (plan_at nodes at)
       pub waits : AllPlans waiting
       pub sized : n + (size (plan_at nodes at) + size_of waiting) ≡ size (plan_at nodes first)
       pub valued :
           m + (values (plan_at nodes at) + values_of waiting) ≡ values (plan_at nodes first)
+      pub summed :
+          k + (bytes (plan_at nodes at) + bytes_of waiting) ≡ bytes (plan_at nodes first)
       pub within : size (plan_at nodes first) ≤ length nodes
 
     -- what is left to do
@@ -95,13 +110,13 @@ module _ {V : Type 0} where
 
     -- at first nothing is counted
     pub measuring_start : (first : Option ℕ) (p : Plan V) → IsPlan nodes first p
-        → Measuring first first [] 0 0
+        → Measuring first first [] 0 0 0
     measuring_start first p plan =
         let is = plan_is nodes first p plan in
         let here : IsPlan nodes first (plan_at nodes first) = rw is plan in
-        record { here = here; waits = tt; sized = omega arith; valued = omega arith; within = here.fits }
+        record { here = here; waits = tt; sized = omega arith; valued = omega arith; summed = omega arith; within = here.fits }
 
-    module _ (first at : Option ℕ) (waiting : List (Option ℕ)) (n m : ℕ) (w : Measuring first at waiting n m) where
+    module _ (first at : Option ℕ) (waiting : List (Option ℕ)) (n m k : ℕ) (w : Measuring first at waiting n m k) where
       -- a node
       module _ (id : ℕ) (is : at ≡ Some id) where
         -- the node that is next is in the vector
@@ -139,6 +154,11 @@ module _ {V : Type 0} where
                 sibling_is,
           )
 
+          -- the bytes from it on are its own, those below it and those beside it
+          bytes_are :
+              bytes (plan_at nodes at) ≡ label_room (length r.label) + (bytes (plan_at nodes r.child) + bytes (plan_at nodes r.sibling))
+          bytes_are = omega (arith, ap (λ (p : Plan V). bytes p) o.is, ap (λ (p : Plan V). bytes p) child_is, ap (λ (p : Plan V). bytes p) sibling_is)
+
           -- not all nodes are counted yet, so the count does not overflow
           pub not_all : n < length nodes
           not_all = omega (arith, w.sized, w.within, sizes_are)
@@ -148,14 +168,16 @@ module _ {V : Type 0} where
           not_full = omega (arith, w.valued, w.within, values_are, values-within (plan_at nodes first))
 
           -- the node is counted, and its sibling waits
-          pub measuring_down : (n' m' : ℕ) → n' ≡ n + 1 → m' ≡ m + length (own r.value)
+          pub measuring_down : (n' m' k' : ℕ) → n' ≡ n + 1 → m' ≡ m + length (own r.value)
+              → k' ≡ k + label_room (length r.label)
               → (more : List (Option ℕ)) → more ≡ waiting ++ r.sibling ∷ []
-              → Measuring first r.child more n' m'
-          measuring_down n' m' ns ms more is = rw (is) (record {
+              → Measuring first r.child more n' m' k'
+          measuring_down n' m' k' ns ms ks more is = rw (is) (record {
             here = rw child_is o.child_plan;
             waits = plans-last waiting r.sibling w.waits (rw sibling_is o.sibling_plan);
             sized = omega (arith, w.sized, ns, sizes_are, size-last waiting r.sibling);
             valued = omega (arith, w.valued, ms, values_are, values-last waiting r.sibling);
+            summed = omega (arith, w.summed, ks, bytes_are, bytes-last waiting r.sibling);
             within = w.within;
           })
 
@@ -176,7 +198,7 @@ module _ {V : Type 0} where
 
         -- at their end those that wait last are next
         pub measuring_back : (rest : List (Option ℕ)) (next : Option ℕ)
-            → waiting ≡ rest ++ next ∷ [] → Measuring first next rest n m
+            → waiting ≡ rest ++ next ∷ [] → Measuring first next rest n m k
         measuring_back rest next is =
             let all = plans-but_last rest next (rw (← is) w.waits) in
             record {
@@ -184,6 +206,7 @@ module _ {V : Type 0} where
               waits = all.0;
               sized = omega (arith, w.sized, ap (λ (p : Plan V). size p) no_node, ap size_of is, size-last rest next);
               valued = omega (arith, w.valued, ap (λ (p : Plan V). values p) no_node, ap values_of is, values-last rest next);
+              summed = omega (arith, w.summed, ap (λ (p : Plan V). bytes p) no_node, ap bytes_of is, bytes-last rest next);
               within = w.within;
             }
 
@@ -192,12 +215,13 @@ module _ {V : Type 0} where
             → left next rest < left at waiting
         less_back rest next is = omega (arith, ap size_of is, ap length is, size-last rest next, length-append rest (next ∷ []))
 
-        -- at the end all nodes and values are counted
+        -- at the end all nodes, values and bytes are counted
         pub measuring_done : length waiting ≡ 0 → (p : Plan V) → IsPlan nodes first p
-            → (n ≡ size p) × (m ≡ values p)
+            → (n ≡ size p) × (m ≡ values p) × (k ≡ bytes p)
         measuring_done none_left p plan =
             let is = plan_is nodes first p plan in
             let over : waiting ≡ [] = no_siblings waiting none_left in (
               omega (arith, w.sized, ap (λ (q : Plan V). size q) no_node, ap size_of over, ap (λ (q : Plan V). size q) is),
               omega (arith, w.valued, ap (λ (q : Plan V). values q) no_node, ap values_of over, ap (λ (q : Plan V). values q) is),
+              omega (arith, w.summed, ap (λ (q : Plan V). bytes q) no_node, ap bytes_of over, ap (λ (q : Plan V). bytes q) is),
             )

@@ -1,9 +1,7 @@
 -- What is below a node moves out of its vector.
 use Rattle.std.proofs.Common.{◌≡◌, ◌≢◌, ℕ, ◌+◌, List, [], ◌∷◌, length, set, Option, None, slice_get}
 use Rattle.std.proofs.Common.{refl, ap, ◌∙◌, arith, length-set}
-use Rattle.std.specs.Global.{Vec}
-use Rattle.std.specs.Vec.{with_item}
-use Rattle.patricia_nodes.specs.declared.arena.Node.{Node}
+use Rattle.patricia_store.specs.Internal.Nodes.{Node}
 use Rattle.patricia_nodes.specs.declared.arena.NodeArena.{NodeArena}
 use Rattle.patricia_nodes.specs.Internal.Plans.{Plan, Nil, Cell, linked, head, count, one, below}
 use Rattle.patricia_nodes.specs.Internal.Plans.{times, Holds}
@@ -40,9 +38,9 @@ module _ {V : Type 0} (s : NodeArena V) (id : ℕ) (fs : List (Frame V)) (l : Li
     moved = Cell id top v c Nil
 
     -- a node that is written back without value and child has the label and sibling it had
-    pub bare_is : (n : Node V) → n ≡ linked l v (head c) (head d) → (new : Vec (Node V))
-        → new ≡ with_item s.nodes id (record n { child = None; value = None })
-        → new.items ≡ set s.nodes.items id (linked l None None (head d))
+    pub bare_is : (n : Node V) → n ≡ linked l v (head c) (head d) → (new : List (Node V))
+        → new ≡ set s.nodes.items id (record n { child = None; value = None })
+        → new ≡ set s.nodes.items id (linked l None None (head d))
     bare_is n is new written = rw (written, is) refl
 
     module _ (nodes : List (Node V)) (nodes_is : nodes ≡ set s.nodes.items id (linked l None None (head d))) where

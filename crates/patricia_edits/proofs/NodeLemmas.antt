@@ -3,7 +3,7 @@ use Rattle.std.proofs.Common.{◌≡◌, ℕ, suc, ◌+◌, ◌<◌, ◌≤◌, 
 use Rattle.std.proofs.Common.{slice_get, ap, arith, length-append}
 use Rattle.std.proofs.lemmas.Option.{slice_get_within}
 use Rattle.patricia_model.specs.Siblings.{own, entries}
-use Rattle.patricia_nodes.specs.declared.arena.Node.{Node}
+use Rattle.patricia_store.specs.Internal.Nodes.{Node}
 use Rattle.patricia_nodes.specs.declared.arena.NodeArena.{NodeArena}
 use Rattle.patricia_nodes.specs.Internal.Plans.{Plan, Cell, linked, head, siblings_in, size, IsPlan}
 use Rattle.patricia_nodes.specs.Internal.Plans.{Holds}

@@ -1,11 +1,16 @@
 -- A value that is inserted at the place of a key.
-use Rattle.std.proofs.Common.{◌≡◌, ◌≢◌, inr, ℕ, suc, ◌<◌, List, [], ◌∷◌, length, take, drop, Option}
-use Rattle.std.proofs.Common.{Some, None, get_or, refl, sym, ap, subst, ◌∙◌}
+use Rattle.std.proofs.Common.{◌≡◌, ◌≢◌, inr, ℕ, ◌+◌, ◌<◌, ◌≤◌, List, [], ◌∷◌, length, take, drop}
+use Rattle.std.proofs.Common.{Option, Some, None, get_or, refl, sym, ap, subst, ◌∙◌, arith}
+use Rattle.std.proofs.Common.{length-append}
+use Rattle.std.proofs.lemmas.List.{length-drop}
 use Rattle.std.specs.FinMap.{put}
-use Rattle.std.specs.Prelude.{Result, Ok, Err, OnOk, OnErr}
+use Rattle.std.specs.Prelude.{Result, Ok, Err, OnOk, is_err, false}
+use mathlib.Core.Bool.{false≢true}
+use Rattle.std.proofs.lemmas.Bool.Decides.{nat_tests}
+use Rattle.patricia_store.specs.Internal.Labels.{label_room, cut_room}
 use Rattle.std.specs.declared.cmp.Ordering.{Ordering}
 use Rattle.std.specs.declared.cmp.Ordering.TheVariants.{Less, Equal, Greater}
-use Rattle.patricia_nodes.specs.declared.arena.Node.{Node}
+use Rattle.patricia_store.specs.Internal.Nodes.{Node}
 use Rattle.patricia_nodes.specs.declared.arena.NodeArena.{NodeArena}
 use Rattle.patricia_nodes.specs.declared.arena.seek.LinkRef.{LinkRef}
 use Rattle.patricia_nodes.specs.declared.arena.seek.LinkRef.TheVariants.{Child, Sibling}
@@ -15,12 +20,12 @@ use Rattle.patricia_keys.specs.Keys.{IsKeyKind, IsValid, ComparesFirst, key_cmp}
 use Rattle.patricia_model.specs.Siblings.{node, entries, IsCanonical}
 use Rattle.patricia_model.specs.Internal.LabelCmp.{EndsWithin}
 use Rattle.patricia_nodes.specs.Internal.Plans.{Plan, Nil, Cell, linked, head, siblings_in, Holds}
-use Rattle.patricia_nodes.specs.Internal.Plans.{IsWellFormed, siblings_of}
-use Rattle.patricia_nodes.specs.Internal.Places.{Frame, InChild, InSibling, fill, Matches}
-use Rattle.patricia_nodes.specs.Internal.Writes.{HasRoomFor, HasLinkRef}
+use Rattle.patricia_nodes.specs.Internal.Places.{Frame, InChild, InSibling, fill, Matches, Leads}
+use Rattle.patricia_nodes.specs.Internal.Writes.{HasRoomFor, HasLinkRef, IsWithin}
 use Rattle.patricia_nodes.specs.Internal.Trails.{KeepsAround}
 use Rattle.patricia_nodes.specs.Internal.Writes.{Puts}
 use Rattle.patricia_edits.specs.Internal.Inserts.{AddsNode, AddsLeaf, HasCell, SplitsNode}
+use Rattle.patricia_edits.specs.Internal.Inserts.{HasRoomToPut}
 use Rattle.patricia_nodes.proofs.SeekLemmas.{Sought, Opened, opened, head_within, focus_plan_at}
 use Rattle.patricia_nodes.proofs.ValueLemmas.{place_holds, focus_ok, puts_around}
 use Rattle.patricia_model.proofs.GetLemmas.{compared_less}
@@ -29,6 +34,23 @@ use Rattle.patricia_model.proofs.DivideLemmas.{Divides, divides_label, ends_at_c
 use Rattle.patricia_model.proofs.DivideLemmas.{siblings_before_cut, put_before_cut}
 use Rattle.patricia_model.proofs.DivideLemmas.{siblings_after_cut}
 use Rattle.patricia_model.proofs.DivideLemmas.{put_after_cut, past_cut}
+
+-- what is said of a value holds where there is no error
+pub ok_of : {T E P : Type 0} (r : Result T E) → OnOk r P → false ≡ is_err r → P
+ok_of (Ok x) holds e = holds
+ok_of (Err x) holds e = absurd (false≢true e)
+
+-- a longer label takes no fewer bytes
+pub label_room_le : {m n : ℕ} → m ≤ n → label_room m ≤ label_room n
+label_room_le {m} {n} shorter = grind (arith, nat_tests)
+
+-- where there is room, there is room for less
+pub room_within : {V : Type 0} {s : NodeArena V} {n m bytes fewer : ℕ} → HasRoomFor s n bytes
+    → m ≤ n → fewer ≤ bytes → HasRoomFor s m fewer
+room_within room less short = record {
+  nodes_fit = (room.nodes_fit.0, room.nodes_fit.1, omega (arith, room.nodes_fit.2, less));
+  bytes_fit = omega (arith, room.bytes_fit, short);
+}
 
 module _ (item : List ℕ → Type 0) (kind : IsKeyKind item) {V : Type 0} (x : V) where
   -- a new leaf before siblings that come after its label leaves the invariant
@@ -53,6 +75,15 @@ module _ (item : List ℕ → Type 0) (kind : IsKeyKind item) {V : Type 0} (x : 
   put_first k Nil ok rest h = single item kind x rest
   put_first k (Cell i l v c d) ok rest h = put_before item kind x l v (siblings_in c) (siblings_in d) ok rest h
 
+module _ (item : List ℕ → Type 0) {V : Type 0} where
+  -- a look-up leaves no more of a key than there was
+  leads_short : (fs : List (Frame V)) (key rest : List ℕ) → Leads item fs key rest
+      → length rest ≤ length key
+  leads_short [] key rest leads = omega (arith, ap length leads)
+  leads_short (InChild id l v d ∷ fs) key rest leads =
+      omega (arith, leads_short fs key leads.0 leads.3, ap length leads.1.splits, length-append l rest)
+  leads_short (InSibling id l v c ∷ fs) key rest leads = leads_short fs key rest leads.1
+
 module _ {item : List ℕ → Type 0} {V : Type 0} {s : NodeArena V} {key : List ℕ}
     {link_ref : LinkRef} {at : Option ℕ} {rest : List ℕ} {matched : Match}
     (sought : Sought item s key link_ref at rest matched) where
@@ -61,6 +92,24 @@ module _ {item : List ℕ → Type 0} {V : Type 0} {s : NodeArena V} {key : List
   -- the value was inserted at the key, and what is around its place is kept
   abbrev PutsAround : NodeArena V → V → Type 0
   PutsAround new x = Puts item s new key x × KeepsAround p.frames new
+
+  -- the number at a place is that of a node, or none
+  pub at_within : IsWithin at (length s.nodes.items)
+  at_within = by at refl
+    where
+      by : (link : Option ℕ) → at ≡ link → IsWithin link (length s.nodes.items)
+      by None is = tt
+      by (Some id) is = head_within s.nodes.items at p.focus id (focus_plan_at sought) is
+
+  -- what is left of the key is no longer than it
+  rest_short : length rest ≤ length key
+  rest_short = leads_short item p.frames key rest p.leads
+
+  -- room for the key is room for what is left of it
+  pub room_to_put : {bytes : ℕ} → HasRoomFor s 2 bytes
+      → ((n : ℕ) → label_room (length key) + cut_room n ≤ bytes) → HasRoomToPut s rest
+  room_to_put room enough n = room_within room (omega arith)
+      (omega (arith, label_room_le rest_short, enough n))
 
   -- the link to a place is that to some place
   pub place_link_ref : HasLinkRef s link_ref
@@ -132,18 +181,18 @@ module _ {item : List ℕ → Type 0} {V : Type 0} {s : NodeArena V} {key : List
             (put_is ∙ ap (λ (q : Plan V). put key_cmp rest x (entries (siblings_in q))) (sym there.is))
 
         -- where the key ends at the cut, the upper node takes the value, and the key has it
-        pub puts_cut : (new : NodeArena V) (x : V) (lower : List ℕ) (k : ℕ) → lower ≡ drop n r.label
-            → drop n rest ≡ [] → SplitsNode s new id n lower (Some x) k → PutsAround new x
-        puts_cut new x lower k label none splits =
+        pub puts_cut : (new : NodeArena V) (x : V) (k : ℕ) → drop n rest ≡ []
+            → SplitsNode s new id n (Some x) k → PutsAround new x
+        puts_cut new x k none splits =
             puts_there new x (Cell id (take n r.label) (Some x) (Cell k (drop n r.label) r.value there.child Nil) there.sibling)
-            (rw (← label) (splits p.frames r.label r.value there.child there.sibling there_holds).0)
+            (splits p.frames r.label r.value there.child there.sibling there_holds).0
             (ends_at_cut item kind x r.label r.value (siblings_in there.child) (siblings_in there.sibling) there_ok
             rest (take n r.label) (drop n rest) (drop n r.label) div none)
             (put_at_cut item kind x r.label r.value (siblings_in there.child) (siblings_in there.sibling) there_ok
             rest (take n r.label) (drop n rest) (drop n r.label) div none)
 
         -- or goes on beside the rest of the label
-        module _ (mid : NodeArena V) (lower : List ℕ) (k : ℕ) (label : lower ≡ drop n r.label) (splits : SplitsNode s mid id n lower None k) where
+        module _ (mid : NodeArena V) (k : ℕ) (splits : SplitsNode s mid id n None k) where
           abbrev low : Plan V
           low = Cell k (drop n r.label) r.value there.child Nil
 
@@ -155,11 +204,14 @@ module _ {item : List ℕ → Type 0} {V : Type 0} {s : NodeArena V} {key : List
 
           -- once it is split, the upper node has the first bytes and the lower one all the rest
           cut_holds : Holds mid (fill above low)
-          cut_holds = rw (← label) (splits p.frames r.label r.value there.child there.sibling there_holds).0
+          cut_holds = (splits p.frames r.label r.value there.child there.sibling there_holds).0
 
-          -- splitting the node takes the room of one
-          pub cut_room : (j : ℕ) → HasRoomFor s (suc j) → HasRoomFor mid j
-          cut_room = (splits p.frames r.label r.value there.child there.sibling there_holds).1
+          -- splitting the node leaves room for a leaf
+          pub room_left : HasRoomToPut s rest → HasRoomFor mid 1 (label_room (length (drop n rest)))
+          room_left room =
+              let left = (splits p.frames r.label r.value there.child there.sibling there_holds).1 1 (label_room (length rest))
+              (room_within (room (length r.label)) (omega arith) (omega arith)) in
+              room_within left (omega arith) (label_room_le (omega (arith, length-drop n rest)))
 
           -- the new node can come first below it
           pub link_ref_before : HasLinkRef mid (Child id)
@@ -214,11 +266,3 @@ module _ {item : List ℕ → Type 0} {V : Type 0} {s : NodeArena V} {key : List
               puts_after new x (linked more (Some x) None None) j some is refl refl Equal compared (λ e. absurd (cc)) refl (adds.1 (λ e. absurd (cc)))
           puts_leaf new x j Greater {more} is some compared adds =
               puts_after new x (linked more (Some x) None None) j some is refl refl Greater compared (λ e. absurd (cc)) refl (adds.1 (λ e. absurd (cc)))
-
--- what holds after a value was inserted, or refused
-pub put_or_same : (item : List ℕ → Type 0) {T E : Type 0} (r : Result T E) {V : Type 0}
-    (old new : NodeArena V) (key : List ℕ) (x : V) → OnOk r (Puts item old new key x)
-    → OnErr r (new ≡ old) → IsWellFormed old → IsCanonical item (siblings_of old)
-    → IsWellFormed new × IsCanonical item (siblings_of new)
-put_or_same item (Ok y) old new key x ok err whole canonical = (ok.whole, ok.canonical)
-put_or_same item (Err e) old new key x ok err whole canonical = rw err (whole, canonical)

@@ -2,9 +2,9 @@
 use Rattle.std.proofs.Common.{◌≡◌, ℕ, ◌+◌, ◌<◌, ◌≤◌, List, [], ◌++◌, length, set, Option, Some}
 use Rattle.std.proofs.Common.{None, get_or, slice_get, refl, sym, ap, subst, ◌∙◌, arith}
 use Rattle.std.proofs.lemmas.List.{append-nil}
-use Rattle.std.proofs.lemmas.Option.{slice_get_within, get_or_from_slice_get}
+use Rattle.std.proofs.lemmas.Option.{get_or_from_slice_get}
 use Rattle.std.specs.Prelude.{Result, Ok, Err, OnOk, OnErr}
-use Rattle.patricia_nodes.specs.declared.arena.Node.{Node}
+use Rattle.patricia_store.specs.Internal.Nodes.{Node, Nodes}
 use Rattle.patricia_nodes.specs.declared.arena.NodeArena.{NodeArena}
 use Rattle.patricia_nodes.specs.declared.arena.seek.LinkRef.{LinkRef}
 use Rattle.patricia_nodes.specs.declared.arena.seek.Match.{Match}
@@ -20,9 +20,10 @@ use Rattle.patricia_nodes.specs.Internal.Plans.{Holds, IsWellFormed, plan_at, si
 use Rattle.patricia_nodes.specs.Internal.Plans.{entries_of}
 use Rattle.patricia_nodes.specs.Internal.Places.{fill, node_of, Matches}
 use Rattle.patricia_nodes.specs.Internal.Merges.{Unlinks, Absorbs, HasLeafAt, HasLone, Spares}
-use Rattle.patricia_nodes.specs.Internal.Merges.{LeavesOther, LeftAlone, StandsAt, HasNodeAt}
-use Rattle.patricia_nodes.specs.Internal.Merges.{IsJoined}
-use Rattle.patricia_edits.specs.Internal.Removes.{IsLeaf, IsValued, HasValue, Removes}
+use Rattle.patricia_nodes.specs.Internal.Merges.{LeavesOther, StandsAt}
+use Rattle.patricia_nodes.specs.Internal.NodeVecs.{HasJoinedRoom}
+use Rattle.patricia_nodes.specs.Internal.Writes.{Stays}
+use Rattle.patricia_edits.specs.Internal.Removes.{HasValue, Removes}
 use Rattle.patricia_nodes.proofs.AloneLemmas.{plan_end, plan_more}
 use Rattle.patricia_nodes.proofs.PlanLemmas.{plan_is, node_is}
 use Rattle.patricia_nodes.proofs.FillLemmas.{siblings-within, stands-within}
@@ -32,6 +33,7 @@ use Rattle.patricia_nodes.proofs.SeekLemmas.{focus_plan_at, stop_at, here_passes
 use Rattle.patricia_edits.proofs.TakeLemmas.{Gone, gone-fill, spared-fill, joins-fill}
 use Rattle.patricia_edits.proofs.OtherLemmas.{Inside, inside, whole_ok, upper_ok, left_plan}
 use Rattle.patricia_edits.proofs.OtherLemmas.{labels_are, other_gone}
+use Rattle.patricia_edits.proofs.StayLemmas.{joined_as, whole_stays, siblings_stay}
 use Rattle.patricia_model.proofs.LeavingLemmas.{others_leave}
 use Rattle.patricia_model.proofs.RemovalLemmas.{others_before, others_within}
 use Rattle.patricia_model.proofs.RemovalLemmas.{siblings_first_removed}
@@ -223,18 +225,18 @@ module _ {item : List ℕ → Type 0} {V : Type 0} {s : NodeArena V} {key : List
       has_lone = (p.frames, r.label, r.value, m, w, e, there.sibling, subst (λ (q : Plan V). Holds s (fill p.frames q)) cell_is holds)
 
       -- merging them removes the key
-      pub removes_lone : (new : NodeArena V) (joined : List ℕ) (taken : Option V)
-          → joined ≡ r.label ++ m → Absorbs s new id k joined taken → Removes item s new key
-      removes_lone new joined taken is absorbs =
+      pub removes_lone : (new : NodeArena V) (taken : Option V) → Absorbs s new id k taken
+          → Removes item s new key
+      removes_lone new taken absorbs =
           removes_in new (Cell id (r.label ++ m) w e there.sibling)
-          (rw (← is) (absorbs p.frames r.label r.value m w e there.sibling (subst (λ (q : Plan V). Holds s (fill p.frames q)) cell_is holds)).0)
+          (absorbs p.frames r.label r.value m w e there.sibling (subst (λ (q : Plan V). Holds s (fill p.frames q)) cell_is holds)).0
           (ap (λ (q : Plan V). without_first (siblings_in q)) cell_is ∙ first_lone r.label r.value m w (siblings_in e) (siblings_in there.sibling) valued)
           (omega arith)
 
       -- the value that is returned is that of the node
-      pub lone_value : (new : NodeArena V) (joined : List ℕ) (taken : Option V)
-          → Absorbs s new id k joined taken → HasValue s id taken
-      lone_value new joined taken absorbs n at_n =
+      pub lone_value : (new : NodeArena V) (taken : Option V) → Absorbs s new id k taken
+          → HasValue s id taken
+      lone_value new taken absorbs n at_n =
           (absorbs p.frames r.label r.value m w e there.sibling
           (subst (λ (q : Plan V). Holds s (fill p.frames q)) cell_is holds)).1 ∙ ap
           (λ (x : Node V). x.value) (read_is n at_n)
@@ -331,13 +333,22 @@ module _ {item : List ℕ → Type 0} {V : Type 0} {s : NodeArena V} {key : List
           pub mid_lone : HasLone mid u o
           mid_lone = (left.outer, left.label, None, left.inner, left.own, left.below, left.beside, mid_holds)
 
+          -- there is room for their labels as one, where it was made before
+          pub room_kept : (nodes : Nodes V) → nodes.items ≡ s.nodes.items
+              → HasJoinedRoom nodes nodes.room u o → nodes.room ≤ mid.nodes.room
+              → HasJoinedRoom mid.nodes mid.nodes.room u o
+          room_kept nodes same room kept =
+              let at = stands-within mid.nodes.items left.outer (Cell u left.label None (Cell o left.inner left.own left.below Nil) left.beside) mid_holds.1.plan_ok.stands in
+              joined_as nodes mid.nodes u o labels_left.0.0 labels_left.1.0 _ _
+              (ap (λ xs. slice_get xs u) same ∙ labels_left.0.1) (ap (λ xs. slice_get xs o) same ∙ labels_left.1.1)
+              at.0 at.1.0 labels_left.0.2 labels_left.1.2 room kept
+
           -- merging the two then removes the key
-          pub removes_left : (new : NodeArena V) (joined : List ℕ) (none : Option V)
-              → joined ≡ left.label ++ left.inner → Absorbs mid new u o joined none
+          pub removes_left : (new : NodeArena V) (none : Option V) → Absorbs mid new u o none
               → Removes item s new key
-          removes_left new joined _ is absorbs =
+          removes_left new _ absorbs =
               removes new (fill left.outer (Cell u (left.label ++ left.inner) left.own left.below left.beside))
-              (rw (← is) (absorbs left.outer left.label None left.inner left.own left.below left.beside mid_holds).0)
+              (absorbs left.outer left.label None left.inner left.own left.below left.beside mid_holds).0
               (subst (λ (q : Plan V). Gone item others (siblings_in (fill p.frames q))
               (siblings_in (fill left.outer
               (Cell u (left.label ++ left.inner) left.own left.below left.beside))) key)
@@ -360,97 +371,6 @@ module _ {item : List ℕ → Type 0} {V : Type 0} {s : NodeArena V} {key : List
           let same : i ≡ id = let h = w.at_is in cc in
           let n = linked l v (head c) (head d) in
           (n, sym (get_or_from_slice_get s.nodes.items id n n (ap (slice_get s.nodes.items) (sym same) ∙ w.stands.0)))
-
--- a node that is there has the value that the plan says
-value_is : {V : Type 0} (nodes : List (Node V)) (id : ℕ) (n : Node V) (l : List ℕ) (v : Option V)
-    (c d : Option ℕ) → slice_get nodes id ≡ Some n → slice_get nodes id ≡ Some (linked l v c d)
-    → v ≡ n.value
-value_is nodes id n l v c d there is = let same : linked l v c d ≡ n = cc in ap (λ (m : Node _). m.value) same
-
--- a leaf with a value at the place of a key
-module _ {item : List ℕ → Type 0} {V : Type 0} {s : NodeArena V} {key : List ℕ}
-    {link_ref : LinkRef} {at : Option ℕ} {rest : List ℕ} {matched : Match}
-    (sought : Sought item s key link_ref at rest matched) {id : ℕ} (is : matched ≡ Exact id) (leaf : IsLeaf s id) (valued : IsValued s id) where
-  open sought use {kind, whole, canonical as ok, place as p}
-
-  -- the node at the place
-  abbrev pub r : Node V
-  r = (node_here sought is).0
-
-  -- it is read from the vector
-  abbrev pub reads : r ≡ get_or s.nodes.items id r
-  reads = (node_here sought is).1
-
-  -- its child and its sibling
-  abbrev pub around : Opened s.nodes.items p.focus id r
-  around = there sought is reads
-
-  -- it is what the vector has at its number
-  pub at_id : slice_get s.nodes.items id ≡ Some r
-  at_id = here_is sought is reads
-
-  -- it has no child
-  pub no_child : around.child ≡ Nil
-  no_child = plan_end s.nodes.items r.child around.child around.child_plan (leaf r at_id)
-
-  -- it has a value
-  pub has_value : r.value ≡ None → ⊥
-  has_value = valued r at_id
-
-  -- it stands at its link, in siblings that keep the invariant
-  pub leaf_stands : HasNodeAt item s link_ref id
-  leaf_stands = (p.frames, r.label, r.value, around.child, around.sibling, stands_at sought is reads)
-
-  -- it stands there as a leaf
-  pub leaf_at : HasLeafAt s link_ref id
-  leaf_at = has_leaf sought is reads has_value no_child
-
-  -- its value is what is taken
-  pub leaf_value : (new : NodeArena V) (taken : Option V) → Unlinks s new link_ref id taken
-      → HasValue s id taken
-  leaf_value new taken unlinks n there =
-      (unlinks leaf_at.0 leaf_at.1 leaf_at.2 leaf_at.3 leaf_at.4 leaf_at.5).1
-      ∙ value_is s.nodes.items id n leaf_at.1 leaf_at.2 None (head leaf_at.3) there
-      (stands-within s.nodes.items leaf_at.0 (Cell id leaf_at.1 leaf_at.2 Nil leaf_at.3)
-      leaf_at.5.1.plan_ok.stands).0
-
-  -- the node above keeps its place
-  pub leaf_spared : (new : NodeArena V) (taken : Option V) → LeftAlone item s link_ref id None
-      → Unlinks s new link_ref id taken → Removes item s new key
-  leaf_spared new taken alone unlinks =
-      removes_leaf sought is reads has_value no_child new taken unlinks
-      (alone p.frames r.label r.value around.child around.sibling (stands_at sought is reads))
-
-  -- or takes in the other child
-  module _ (u o : ℕ) (alone : LeftAlone item s link_ref id (Some (u, o))) where
-    -- the node above, and its other child
-    abbrev pub left : LeavesOther p.frames around.sibling u o
-    left = alone p.frames r.label r.value around.child around.sibling (stands_at sought is reads)
-
-    abbrev labels :
-        ((n : Node V) × (slice_get s.nodes.items u ≡ Some n) × (n.label ≡ left.label)) ×
-        ((m : Node V) × (slice_get s.nodes.items o ≡ Some m) × (m.label ≡ left.inner))
-    labels = labels_left sought is reads has_value no_child u o left
-
-    -- both are in the vector
-    pub both_within : (u < length s.nodes.items) × (o < length s.nodes.items)
-    both_within = (slice_get_within s.nodes.items u _ labels.0.1, slice_get_within s.nodes.items o _ labels.1.1)
-
-    -- without the key their labels are joined
-    pub leaf_joins : Joins item (keys_of (entries_of s)) key
-    leaf_joins = joins_left sought is reads has_value no_child u o left
-
-    module _ (mid : NodeArena V) (taken : Option V) (unlinks : Unlinks s mid link_ref id taken) where
-      -- once the leaf is unlinked, the other child is the only one
-      pub leaf_lone : HasLone mid u o
-      leaf_lone = mid_lone sought is reads has_value no_child u o left mid taken unlinks
-
-      -- merging the two removes the key
-      pub leaf_left : (new : NodeArena V) (joined : List ℕ) (none : Option V)
-          → IsJoined s u o joined → Absorbs mid new u o joined none → Removes item s new key
-      leaf_left new joined none is_joined absorbs =
-          removes_left sought is reads has_value no_child u o left mid taken unlinks new joined none
-          (is_joined labels.0.0 labels.1.0 labels.0.1 labels.1.1 ∙ ap (λ k. k ++ labels.1.0.label) labels.0.2 ∙ ap (λ k. left.label ++ k) labels.1.2) absorbs
 
 -- what holds in any case, holds on an error
 pub on_err_from : {T E P : Type 0} (r : Result T E) → P → OnErr r P
@@ -489,11 +409,12 @@ module _ {item : List ℕ → Type 0} {V : Type 0} {s : NodeArena V} {key : List
 
 -- what holds after a value was removed, or not
 pub removed_or_same : (item : List ℕ → Type 0) {T E : Type 0} (r : Result T E) {V : Type 0}
-    (old new : NodeArena V) (key : List ℕ) → OnOk r (Removes item old new key) → OnErr r (new ≡ old)
+    (old new : NodeArena V) (key : List ℕ) → OnOk r (Removes item old new key) → OnErr r (Stays old new)
     → IsWellFormed old → IsCanonical item (siblings_of old)
     → IsWellFormed new × IsCanonical item (siblings_of new)
 removed_or_same item (Ok y) old new key ok err whole canonical = (ok.whole, ok.canonical)
-removed_or_same item (Err e) old new key ok err whole canonical = rw err (whole, canonical)
+removed_or_same item (Err e) old new key ok err whole canonical =
+    (whole_stays err whole, subst (IsCanonical item) (sym (siblings_stay err)) canonical)
 
 -- a look-up that ends at a node ends at that node
 pub here_stop : (matched : Match) (id : ℕ) → node_of matched ≡ Some id → matched ≡ Exact id

@@ -15,7 +15,7 @@ use Rattle.patricia_model.proofs.OutsideLemmas.{outside_all, outside_first}
 use Rattle.patricia_model.proofs.PointLemmas.{nil_second}
 use Rattle.patricia_model.proofs.SiblingsLemmas.{prefixed-prefixed}
 use Rattle.patricia_model.proofs.UniqueLemmas.{has_entry}
-use Rattle.patricia_nodes.specs.declared.arena.Node.{Node}
+use Rattle.patricia_store.specs.Internal.Nodes.{Node, Nodes}
 use Rattle.patricia_nodes.specs.declared.arena.NodeArena.{NodeArena}
 use Rattle.patricia_nodes.specs.declared.arena.seek.LinkRef.{LinkRef}
 use Rattle.patricia_nodes.specs.declared.arena.seek.Match.{Match}
@@ -25,17 +25,21 @@ use Rattle.patricia_nodes.specs.Internal.Plans.{plan_at}
 use Rattle.patricia_nodes.specs.Internal.Plans.{siblings_of, entries_of}
 use Rattle.patricia_nodes.specs.Internal.Places.{Frame, fill, Leads, Matches, node_under}
 use Rattle.patricia_nodes.proofs.FillLemmas.{siblings-within, stands-within}
+use Rattle.patricia_nodes.proofs.NodeVecLemmas.{there}
 use Rattle.patricia_nodes.proofs.SeekLemmas.{Sought}
 use Rattle.patricia_nodes.proofs.PlanLemmas.{plan_is}
 use Rattle.patricia_walks.proofs.PlaceLemmas.{Passed, passed-fill}
 use Rattle.patricia_walks.proofs.UnderLemmas.{within_node, stop_some}
 use Rattle.patricia_nodes.specs.Internal.Merges.{StandsAt, HasNodeAt, LeftAlone, LeavesOther}
-use Rattle.patricia_nodes.specs.Internal.Merges.{HasLone, IsJoined, Absorbs}
+use Rattle.patricia_nodes.specs.Internal.Merges.{HasLone, Absorbs}
+use Rattle.patricia_nodes.specs.Internal.NodeVecs.{ReadsNode, HasJoinedRoom}
+use Rattle.patricia_nodes.specs.Internal.Writes.{Stays}
 use Rattle.patricia_edits.proofs.OtherLemmas.{left_plan, labels_are, other_gone}
 use Rattle.patricia_edits.proofs.TakeLemmas.{Gone, spared-fill}
-use Rattle.patricia_edits.specs.Internal.Splits.{HasSplitNode, HasTreeAt, CountsTree, IsTopLabel}
+use Rattle.patricia_edits.specs.Internal.Splits.{HasSplitNode, HasTreeAt, CountsTree}
 use Rattle.patricia_edits.specs.Internal.Splits.{SplitsOff}
 use Rattle.patricia_edits.proofs.MeasureLemmas.{length-prefixed}
+use Rattle.patricia_edits.proofs.StayLemmas.{joined_as, holds_stays}
 
 -- the bytes of two lists without as many as the first has are those of the second
 drop-front : (xs ys : List ℕ) → drop (length xs) (xs ++ ys) ≡ ys
@@ -177,16 +181,17 @@ module _ {item : List ℕ → Type 0} (kind : IsKeyKind item) {V : Type 0} {s : 
   pub has_node_at : HasNodeAt item s link_ref id
   has_node_at = (f.frames, f.label, f.value, f.child, f.sibling, f.at)
 
-  -- there is room for it and those below it
-  pub has_tree_at : (room count : ℕ) → CountsTree s id room count → HasTreeAt s link_ref id room
-  has_tree_at room count counts = (
+  -- there is room for it and those below it, also where there is more room beside them
+  pub has_tree_at : (t : NodeArena V) → Stays s t → (room count : ℕ) → CountsTree s id room count
+      → HasTreeAt t link_ref id room
+  has_tree_at t stays room count counts = (
     f.frames,
     f.label,
     f.value,
     f.child,
     f.sibling,
     f.at.link_ref_is,
-    f.at.holds,
+    holds_stays stays f.at.holds,
     (counts f.frames f.label f.value f.child f.sibling f.at.holds).0,
   )
 
@@ -212,27 +217,30 @@ module _ {item : List ℕ → Type 0} (kind : IsKeyKind item) {V : Type 0} {s : 
       empty (x ∷ es) e nonempty = absurd (cc)
 
   -- the label is at least as long as what is left of the prefix
-  pub label_long : (n : Node V) → slice_get s.nodes.items id ≡ Some n → length rest ≤ length n.label
+  label_long : (n : Node V) → slice_get s.nodes.items id ≡ Some n → length rest ≤ length n.label
   label_long n there =
       let is = (stands-within s.nodes.items f.frames here f.at.holds.1.plan_ok.stands).0 in
       let same : n.label ≡ f.label = cc in
       omega (arith, ap length same, ap length f.begun.1, length-append rest f.begun.0)
 
   -- it is in the vector
-  pub node_short : id < length s.nodes.items
+  node_short : id < length s.nodes.items
   node_short = slice_get_within s.nodes.items id _ (stands-within s.nodes.items f.frames here f.at.holds.1.plan_ok.stands).0
+
+  -- and so it is as it is read
+  pub label_passed : (passed : ℕ) → passed ≡ length rest → ReadsNode s.nodes id (λ n. passed ≤ length n.label)
+  label_passed passed is n reads = omega (arith, is, label_long n (there s.nodes.items id n node_short reads))
 
   -- the entries under the prefix go
   goes : (b : Siblings V) → IsCanonical item (node f.label f.value (siblings_in f.child) b)
       → Gone item outside (node f.label f.value (siblings_in f.child) b) b rest
   goes b inner = record { canonical = inner.sibling; left_is = sym (outside_first item kind f.label f.value (siblings_in f.child) b inner rest f.shares f.begun) }
 
-  module _ (top : List ℕ) (labelled : IsTopLabel s id prefix (length rest) top) where
+  module _ (top : List ℕ) (labelled : top ≡ prefix ++ drop (length rest) f.label) where
     -- the new tree's top label is the path to the node and its label
     top_is : top ≡ f.path ++ f.label
     top_is =
-        let there = (stands-within s.nodes.items f.frames here f.at.holds.1.plan_ok.stands).0 in
-        labelled _ there ∙ ap (λ l. prefix ++ drop (length rest) l) (sym f.begun.1) ∙ ap (λ l. prefix ++ l) (drop-front rest f.begun.0)
+        labelled ∙ ap (λ l. prefix ++ drop (length rest) l) (sym f.begun.1) ∙ ap (λ l. prefix ++ l) (drop-front rest f.begun.0)
         ∙ ap (λ l. l ++ f.begun.0) (sym f.path_is) ∙ append_assoc f.path rest f.begun.0 ∙ ap (λ l. f.path ++ l) f.begun.1
 
     -- the new tree's siblings keep the invariant
@@ -321,16 +329,22 @@ module _ {item : List ℕ → Type 0} (kind : IsKeyKind item) {V : Type 0} {s : 
     pub other_lone : (mid : NodeArena V) → Holds mid (fill f.frames f.sibling) → HasLone mid u o
     other_lone mid held = (other.outer, other.label, None, other.inner, other.own, other.below, other.beside, other_left mid held)
 
+    -- there is room for their labels as one, where it was made before
+    pub other_room : (mid : NodeArena V) → Holds mid (fill f.frames f.sibling) → (nodes : Nodes V)
+        → nodes.items ≡ s.nodes.items → HasJoinedRoom nodes nodes.room u o
+        → nodes.room ≤ mid.nodes.room → HasJoinedRoom mid.nodes mid.nodes.room u o
+    other_room mid held nodes same room kept =
+        let at = stands-within mid.nodes.items other.outer (Cell u other.label None (Cell o other.inner other.own other.below Nil) other.beside) (other_left mid held).1.plan_ok.stands in
+        joined_as nodes mid.nodes u o both_labels.0.0 both_labels.1.0 _ _
+        (ap (λ xs. slice_get xs u) same ∙ both_labels.0.1) (ap (λ xs. slice_get xs o) same ∙ both_labels.1.1)
+        at.0 at.1.0 both_labels.0.2 both_labels.1.2 room kept
+
     -- merging the two leaves one node in their place
-    pub other_absorbed : (mid new : NodeArena V) (joined : List ℕ) (own : Option V)
-        → IsJoined s u o joined → Holds mid (fill f.frames f.sibling)
-        → Absorbs mid new u o joined own
+    pub other_absorbed : (mid new : NodeArena V) (own : Option V)
+        → Holds mid (fill f.frames f.sibling) → Absorbs mid new u o own
         → Holds new (fill other.outer (Cell u (other.label ++ other.inner) other.own other.below other.beside))
-    other_absorbed mid new joined own is_joined held absorbs =
-        let is : joined ≡ other.label ++ other.inner = is_joined both_labels.0.0 both_labels.1.0
-        both_labels.0.1 both_labels.1.1 ∙ ap (λ k. k ++ both_labels.1.0.label)
-        both_labels.0.2 ∙ ap (λ k. other.label ++ k) both_labels.1.2 in
-        rw (← is) (absorbs other.outer other.label None other.inner other.own other.below other.beside (other_left mid held)).0
+    other_absorbed mid new own held absorbs =
+        (absorbs other.outer other.label None other.inner other.own other.below other.beside (other_left mid held)).0
 
 -- where nothing is under the prefix, nothing goes
 module _ (item : List ℕ → Type 0) {V : Type 0} (s : NodeArena V) (prefix : List ℕ)

@@ -4,11 +4,10 @@
 //! siblings side by side, and what is below a node behind its siblings. What waits stands in the
 //! new vector, which is reserved once.
 ghost use Rattle.std.specs.Prelude.{◌≡◌, ◌≢◌, ◌+◌, ◌≤◌, ◌++◌, [], None, IfSome, IfOk, OnOk, OnErr};
-ghost use Rattle.std.specs.Prelude.{◌<◌, length, slice_get, vec_len, vec_capacity, ℕ, Some};
+ghost use Rattle.std.specs.Prelude.{length};
 ghost use Rattle.std.specs.Option.{option_copied};
 ghost use Rattle.patricia_model.specs.Siblings.{end};
-ghost use Rattle.patricia_nodes.specs.Internal.NodeVecs.{ReadsNode};
-ghost use Rattle.patricia_nodes.specs.Internal.Plans.{Plan, linked, head, siblings_in, siblings_of};
+ghost use Rattle.patricia_nodes.specs.Internal.Plans.{Plan, head, siblings_in, siblings_of};
 ghost use Rattle.patricia_nodes.specs.Internal.Plans.{size};
 ghost use Rattle.patricia_nodes.specs.Internal.Plans.{plan_at, IsSound, IsWellFormed};
 ghost use Rattle.patricia_nodes.specs.Internal.Growth.{IsLaid, AreTopSiblings, tops, laid};
@@ -18,8 +17,7 @@ ghost use Rattle.patricia_edits.specs.Internal.Copies.{SiblingsKept, EntriesKept
 ghost use Rattle.patricia_edits.specs.Internal.Copies.{AwaitsFrom, CopiesFrom};
 
 use patricia_nodes::arena::node_vec::NodeVec;
-use patricia_nodes::arena::{DEPTH_FIRST, Node, NodeArena};
-use patricia_nodes::label::Label;
+use patricia_nodes::arena::{DEPTH_FIRST, NodeArena};
 use patricia_nodes::link::{Link, NodeId};
 use std::alloc::{AllocError, Global};
 
@@ -49,45 +47,24 @@ pub fn copy_value<V: Clone>(value: Option<&V>) -> Result<Option<V>, AllocError>
     }
 }
 
-// A copy of a node, with its child and another sibling.
-fn copy_node<V: Clone>(
-    alloc: Global,
-    from: &NodeVec<V>,
-    id: NodeId,
-    sibling: Link,
-) -> Result<Node<V>, AllocError>
-    requires within { id < vec_len from.now }
-    requires cloned { ReadsNode from.now id (λ n. IfSome n.value (CloneIsSame V.is_clone)) }
-    ensures { IfOk result (λ c. ReadsNode from.now id
-        (λ n. c ≡ linked n.label n.value n.child sibling)) }
-{
-    let label = Label::from_slice(alloc, from.label(id))?;
-    Ok(Node {
-        child: from.child(id),
-        sibling,
-        label,
-        value: copy_value(from.value(id))?,
-    })
-}
-
 // Copies siblings behind the last of some new nodes, each with the old number of its first child,
 // and returns the new number of the first of them.
 fn copy_siblings<V: Clone>(
-    alloc: Global,
     from: &NodeVec<V>,
     first: Link,
     to: &mut NodeVec<V>,
 ) -> Result<Link, AllocError>
     requires siblings { (w : Plan V) × AreTopSiblings from.now.items first w
         × SiblingsKept V.is_clone (siblings_in w)
-        × (vec_len to.old + length (tops w) ≤ vec_capacity to.old) }
+        × (length to.old.items + length (tops w) ≤ to.old.capacity) }
     ensures laid { OnOk result ((w : Plan V) → AreTopSiblings from.now.items first w
         → to.new.items ≡ to.old.items ++ laid (length to.old.items) w) }
     ensures first { IfOk result (λ at. (w : Plan V) → AreTopSiblings from.now.items first w
         → at ≡ head (numbered_siblings (length to.old.items) w)) }
-    ensures capacity { OnOk result (vec_capacity to.new ≡ vec_capacity to.old) }
-    ensures nonempty { OnErr result (first ≢ None) }
+    ensures capacity { OnOk result (to.old.capacity ≤ to.new.capacity) }
 {
+    // for the proof alone: there are no more nodes than links can say
+    let _few = to.capacity();
     let start = to.len();
     let mut at = first;
     while let Some(id) = at.get() {
@@ -96,7 +73,8 @@ fn copy_siblings<V: Clone>(
             None => Link::none(),
             Some(_) => Link::some(NodeId::new(to.len() + 1)),
         };
-        to.push_reserved(copy_node(alloc, from, id, sibling)?);
+        let value = copy_value(from.value(id))?;
+        to.push(from.label(id), value, from.child(id), sibling)?;
     }
     Ok(match first.get() {
         None => Link::none(),
@@ -108,17 +86,15 @@ fn copy_siblings<V: Clone>(
 // them before what is below the next. They have the old numbers of their children. What lies more
 // than `depth` levels below them is copied level by level.
 fn copy_siblings_below<V: Clone>(
-    alloc: Global,
     from: &NodeVec<V>,
     to: &mut NodeVec<V>,
     start: usize,
     depth: u32,
 ) -> Result<(), AllocError>
-    requires { AwaitsFrom V.is_clone from.now.items start to.old.items (vec_capacity to.old) }
+    requires { AwaitsFrom V.is_clone from.now.items start to.old.items (to.old.capacity) }
     ensures copied { OnOk result (CopiesFrom from.now.items start to.old.items to.new.items) }
-    ensures longer { OnOk result (vec_len to.old ≤ vec_len to.new) }
-    ensures capacity { OnOk result (vec_capacity to.new ≡ vec_capacity to.old) }
-    ensures nonempty { OnErr result (to.old.items ≢ []) }
+    ensures longer { OnOk result (length to.old.items ≤ length to.new.items) }
+    ensures capacity { OnOk result (to.old.capacity ≤ to.new.capacity) }
 {
     let mut end = to.len();
     let mut i = start;
@@ -126,13 +102,13 @@ fn copy_siblings_below<V: Clone>(
         let below = to.len();
         let id = NodeId::new(i);
         let child = to.child(id);
-        let first = copy_siblings(alloc, from, child, to)?;
+        let first = copy_siblings(from, child, to)?;
         to.set_child(id, first);
         i += 1;
         if depth == 0 {
             end = to.len();
         } else {
-            copy_siblings_below(alloc, from, to, below, depth - 1)?;
+            copy_siblings_below(from, to, below, depth - 1)?;
         }
     }
     Ok(())
@@ -140,35 +116,15 @@ fn copy_siblings_below<V: Clone>(
 
 // Copies what is below the nodes of a new vector behind them, depth first. They have the old
 // numbers of their children.
-fn copy_below<V: Clone>(
-    alloc: Global,
-    from: &NodeVec<V>,
-    to: &mut NodeVec<V>,
-) -> Result<(), AllocError>
+fn copy_below<V: Clone>(from: &NodeVec<V>, to: &mut NodeVec<V>) -> Result<(), AllocError>
     requires { (w : Plan V) × IsLaid from.now.items to.old.items w
         × SiblingsKept V.is_clone (siblings_in w)
-        × (size w ≤ vec_capacity to.old) }
-    ensures laid { OnOk result ((w : Plan V) → IsLaid from.now.items to.old.items w
+        × (size w ≤ to.old.capacity) }
+    ensures { OnOk result ((w : Plan V) → IsLaid from.now.items to.old.items w
         → (q : Plan V) × IsSound to.new.items (head (numbered_siblings 0 w)) None q []
         × (siblings_in q ≡ siblings_in w)) }
-    ensures nonempty { OnErr result (to.old.items ≢ []) }
 {
-    copy_siblings_below(alloc, from, to, 0, DEPTH_FIRST)
-}
-
-// Copies nodes, each to the number that it has.
-fn copy_nodes<V: Clone>(alloc: Global, from: &NodeVec<V>) -> Result<NodeVec<V>, AllocError>
-    requires { (i : ℕ) (n : Node V) → slice_get from.now.items i ≡ Some n
-        → IfSome n.value (CloneIsSame V.is_clone) }
-    ensures same { IfOk result (λ to. to.items ≡ from.now.items) }
-    ensures nonempty { OnErr result (from.now.items ≢ []) }
-{
-    let mut to = NodeVec::with_capacity(alloc, from.len())?;
-    for i in 0..from.len() {
-        let id = NodeId::new(i);
-        to.push_reserved(copy_node(alloc, from, id, from.sibling(id))?);
-    }
-    Ok(to)
+    copy_siblings_below(from, to, 0, DEPTH_FIRST)
 }
 
 // The same nodes, of which none is free, each at the number that it had.
@@ -179,10 +135,9 @@ fn copy_in_place<V: Clone>(arena: &NodeArena<V>, alloc: Global) -> Result<NodeAr
     ensures whole { IfOk result (λ c. IsWellFormed c) }
     ensures siblings { IfOk result (λ c. siblings_of c ≡ siblings_of arena.now) }
     ensures none_free { IfOk result (λ c. c.free ≡ None) }
-    ensures nonempty { OnErr result (siblings_of arena.now ≢ end) }
 {
     Ok(NodeArena {
-        nodes: copy_nodes(alloc, &arena.nodes)?,
+        nodes: arena.nodes.try_clone(alloc)?,
         root: arena.root,
         free: Link::none(),
         edits: arena.edits,
@@ -196,11 +151,12 @@ fn copy_laid<V: Clone>(arena: &NodeArena<V>, alloc: Global) -> Result<NodeArena<
     ensures whole { IfOk result (λ c. IsWellFormed c) }
     ensures siblings { IfOk result (λ c. siblings_of c ≡ siblings_of arena.now) }
     ensures none_free { IfOk result (λ c. c.free ≡ None) }
-    ensures nonempty { OnErr result (siblings_of arena.now ≢ end) }
 {
-    let mut nodes = NodeVec::with_capacity(alloc, used(arena))?;
-    let root = copy_siblings(alloc, &arena.nodes, arena.root, &mut nodes)?;
-    copy_below(alloc, &arena.nodes, &mut nodes)?;
+    // where bytes are not counted, they are asked for when they are pushed
+    let bytes = arena.nodes.label_bytes().unwrap_or(0);
+    let mut nodes = NodeVec::with_capacity(alloc, used(arena), bytes)?;
+    let root = copy_siblings(&arena.nodes, arena.root, &mut nodes)?;
+    copy_below(&arena.nodes, &mut nodes)?;
     Ok(NodeArena {
         nodes,
         root,
@@ -210,8 +166,8 @@ fn copy_laid<V: Clone>(arena: &NodeArena<V>, alloc: Global) -> Result<NodeArena<
 }
 
 /// The same nodes in a vector of their own, with none free. Where none is free each has the number
-/// that it had, and the vector is read and written from front to end; else they are laid as a
-/// relocation lays them. The vector is reserved once.
+/// that it had, and the vector is copied from front to end; else they are laid as a relocation lays
+/// them. The vector is reserved once. Asks for nothing where there is no node.
 pub fn copy<V: Clone>(arena: &NodeArena<V>, alloc: Global) -> Result<NodeArena<V>, AllocError>
     requires whole { IsWellFormed arena.now }
     requires cloned { EntriesKept V.is_clone arena.now }
@@ -220,6 +176,9 @@ pub fn copy<V: Clone>(arena: &NodeArena<V>, alloc: Global) -> Result<NodeArena<V
     ensures none_free { IfOk result (λ c. c.free ≡ None) }
     ensures nonempty { OnErr result (siblings_of arena.now ≢ end) }
 {
+    if arena.root.get().is_none() {
+        return Ok(NodeArena::new(alloc));
+    }
     match arena.free.get() {
         None => copy_in_place(arena, alloc),
         Some(_) => copy_laid(arena, alloc),

@@ -1,94 +1,117 @@
 //! Putting a value in at a key.
-ghost use Rattle.std.specs.Prelude.{◌≡◌, ◌≢◌, ◌≤◌, ◌<◌, [], Some, None, drop, length, IfOk, OnOk};
-ghost use Rattle.std.specs.Prelude.{IfErr, IfSome, OnErr, vec_len, vec_capacity};
+ghost use Rattle.std.specs.Prelude.{◌≡◌, ◌≢◌, ◌≤◌, ◌<◌, ◌+◌, ℕ, [], Some, None, drop, length};
+ghost use Rattle.std.specs.Prelude.{IfOk, OnOk, IfErr, IfSome, OnErr};
 ghost use Rattle.std.specs.FinMap.{find};
 ghost use Rattle.patricia_keys.specs.Keys.{key_cmp};
 ghost use Rattle.patricia_model.specs.Siblings.{IsCanonical};
 ghost use Rattle.patricia_nodes.specs.declared.arena.seek.LinkRef.TheVariants.{Child, Sibling};
 ghost use Rattle.patricia_nodes.specs.declared.arena.seek.Match.TheVariants.{Absent, InsideLabel};
-ghost use Rattle.patricia_nodes.specs.Internal.Plans.{IsWellFormed, siblings_of, entries_of};
+ghost use Rattle.patricia_store.specs.Internal.Labels.{label_room, cut_room};
+ghost use Rattle.patricia_nodes.specs.Internal.NodeVecs.{ReadsNode};
+ghost use Rattle.patricia_nodes.specs.Internal.Plans.{linked, IsWellFormed, siblings_of};
+ghost use Rattle.patricia_nodes.specs.Internal.Plans.{entries_of};
 ghost use Rattle.patricia_nodes.specs.Internal.Places.{node_of};
 ghost use Rattle.patricia_nodes.specs.Internal.Trails.{IsTrail};
 ghost use Rattle.patricia_nodes.specs.Internal.Writes.{HasRoomFor, Reuses, HasLinkRef, Ready};
-ghost use Rattle.patricia_nodes.specs.Internal.Writes.{IsPut};
+ghost use Rattle.patricia_nodes.specs.Internal.Writes.{IsPut, IsWithin};
 ghost use Rattle.patricia_edits.specs.Internal.Inserts.{MakesNode, AddsNode, AddsLeaf, HasCell};
 ghost use Rattle.patricia_edits.specs.Internal.Inserts.{SplitsNode, FindsAt, PutsAt};
+ghost use Rattle.patricia_edits.specs.Internal.Inserts.{HasRoomToPut};
 
 use patricia_keys::{BorrowedBytes, Bytes};
 use patricia_nodes::arena::seek::{LinkRef, Match, SeekResult};
-use patricia_nodes::arena::{Node, NodeArena, Refused};
-use patricia_nodes::label::Label;
+use patricia_nodes::arena::{NodeArena, Refused};
 use patricia_nodes::link::{Link, NodeId};
 use std::alloc::Global;
 use std::cmp::Ordering;
 
-// What follows the first bytes.
-fn behind(bytes: &[u8], n: usize) -> &[u8]
+/// What follows the first bytes.
+pub fn behind(bytes: &[u8], n: usize) -> &[u8]
     requires { n ≤ length bytes.now }
     ensures { result.now ≡ drop n bytes.now }
 {
     &bytes[n..]
 }
 
+// How many bytes of labels there is to be room for, where so many bytes of a key become the label
+// of a leaf beside a label that is cut: the bytes, 12 for their note, and 24 for those of the
+// label's parts. `None` where that is more than a number can say.
+fn needed_bytes(rest: usize) -> Option<usize>
+    ensures { IfSome result (λ bytes.
+        (n : ℕ) → label_room rest + cut_room n ≤ bytes) }
+{
+    rest.checked_add(36)
+}
+
 // Puts a node into a free slot, or behind the last.
-fn make<V: Drop>(arena: &mut NodeArena<V>, node: Node<V>) -> NodeId
-    requires room { HasRoomFor arena.old 1 }
-    ensures makes { MakesNode arena.old arena.new node result }
+fn make<V: Drop>(
+    arena: &mut NodeArena<V>,
+    label: &[u8],
+    value: Option<V>,
+    child: Link,
+    sibling: Link,
+) -> NodeId
+    requires room { HasRoomFor arena.old 1 (label_room (length label.now)) }
+    requires child { IsWithin child (length arena.old.nodes.items) }
+    requires sibling { IsWithin sibling (length arena.old.nodes.items) }
+    ensures makes { MakesNode arena.old arena.new (linked label.now value child sibling) result }
     ensures reuses { Reuses arena.old arena.new }
-    ensures within { result < vec_len arena.new.nodes }
-    ensures keeps { vec_len arena.old.nodes ≤ vec_len arena.new.nodes }
-    ensures capacity { vec_capacity arena.new.nodes ≡ vec_capacity arena.old.nodes }
+    ensures within { result < length arena.new.nodes.items }
+    ensures keeps { length arena.old.nodes.items ≤ length arena.new.nodes.items }
+    ensures capacity { arena.new.nodes.capacity ≡ arena.old.nodes.capacity }
+    ensures bytes { arena.old.nodes.room
+        ≤ arena.new.nodes.room + label_room (length label.now) }
 {
     arena.edits = arena.edits.saturating_add(1);
     match arena.free.get() {
         None => {
             let id = NodeId::new(arena.nodes.len());
-            arena.nodes.push_reserved(node);
+            arena.nodes.push_reserved(label, value, child, sibling);
             id
         }
         Some(id) => {
-            let old = arena.nodes.replace(id, node);
-            arena.free = old.sibling;
+            arena.free = arena.nodes.sibling(id);
+            let _none = arena.nodes.replace_contents(id, label, child, value);
+            arena.nodes.set_sibling(id, sibling);
             id
         }
     }
 }
 
-// Links a new node in. It is already linked to the node to which the link led.
-fn add<V: Drop>(arena: &mut NodeArena<V>, link_ref: LinkRef, node: Node<V>) -> NodeId
-    requires room { HasRoomFor arena.old 1 }
+// Links a new leaf in. Its sibling is the node to which the link led.
+fn add<V: Drop>(
+    arena: &mut NodeArena<V>,
+    link_ref: LinkRef,
+    label: &[u8],
+    value: V,
+    sibling: Link,
+) -> NodeId
+    requires room { HasRoomFor arena.old 1 (label_room (length label.now)) }
     requires link_ref { HasLinkRef arena.old link_ref }
-    ensures adds { AddsNode arena.old arena.new link_ref node result }
+    requires sibling { IsWithin sibling (length arena.old.nodes.items) }
+    ensures adds { AddsNode arena.old arena.new link_ref
+        (linked label.now (Some value) None sibling) result }
     ensures reuses { Reuses arena.old arena.new }
-    ensures within { result < vec_len arena.new.nodes }
 {
-    let id = make(arena, node);
+    let id = make(arena, label, Some(value), Link::none(), sibling);
+    // for the proof alone: there are no more nodes than links can say
+    let _few = arena.nodes.len();
     arena.relink(link_ref, Link::some(id));
     id
 }
 
-// Cuts the label of a node. Its value and its children go to a new node below it.
-fn split<V: Drop>(
-    arena: &mut NodeArena<V>,
-    id: NodeId,
-    n: usize,
-    lower: Label,
-    value: Option<V>,
-) -> NodeId
-    requires room { HasRoomFor arena.old 1 }
+// Cuts the label of a node. The rest of it, its value and its children go to a new node below it.
+fn split<V: Drop>(arena: &mut NodeArena<V>, id: NodeId, n: usize, value: Option<V>) -> NodeId
+    requires room { ReadsNode arena.old.nodes id
+        (λ a. HasRoomFor arena.old 1 (cut_room (length a.label))) }
     requires cell { HasCell arena.old id }
-    ensures splits { SplitsNode arena.old arena.new id n lower value result }
+    ensures splits { SplitsNode arena.old arena.new id n value result }
     ensures reuses { Reuses arena.old arena.new }
-    ensures within { result < vec_len arena.new.nodes }
+    ensures within { result < length arena.new.nodes.items }
 {
-    let value = arena.nodes.cut_label(id, n, value);
-    let lower = Node {
-        label: lower,
-        value,
-        child: arena.nodes.child(id),
-        sibling: Link::none(),
-    };
-    add(arena, LinkRef::Child(id), lower)
+    let tail = make(arena, &[], None, Link::none(), Link::none());
+    let _none = arena.nodes.split_label(id, n, tail, value);
+    tail
 }
 
 // Puts a leaf in below a node: before its only child, or behind it.
@@ -97,123 +120,99 @@ fn add_leaf<V: Drop>(
     upper: NodeId,
     lower: NodeId,
     order: Ordering,
-    label: Label,
+    label: &[u8],
     value: V,
 ) -> NodeId
-    requires room { HasRoomFor arena.old 1 }
-    requires within { lower < vec_len arena.old.nodes }
+    requires room { HasRoomFor arena.old 1 (label_room (length label.now)) }
+    requires within { lower < length arena.old.nodes.items }
     requires before { HasLinkRef arena.old (Child upper) }
     requires behind { HasLinkRef arena.old (Sibling lower (Some upper)) }
-    ensures adds { AddsLeaf arena.old arena.new upper lower order label value result }
+    ensures adds { AddsLeaf arena.old arena.new upper lower order label.now value result }
     ensures reuses { Reuses arena.old arena.new }
 {
-    let mut leaf = Node {
-        label,
-        value: Some(value),
-        child: Link::none(),
-        sibling: Link::none(),
-    };
+    // for the proof alone: there are no more nodes than links can say
+    let _few = arena.nodes.len();
     match order {
-        Ordering::Less => {
-            leaf.sibling = Link::some(lower);
-            add(arena, LinkRef::Child(upper), leaf)
+        Ordering::Less => add(
+            arena,
+            LinkRef::Child(upper),
+            label,
+            value,
+            Link::some(lower),
+        ),
+        _ => {
+            let behind = LinkRef::Sibling(lower, Some(upper));
+            add(arena, behind, label, value, Link::none())
         }
-        _ => add(arena, LinkRef::Sibling(lower, Some(upper)), leaf),
     }
 }
 
 // Inserts a key that comes between two nodes, or where there is none.
 fn insert_first<V: Drop, Q: BorrowedBytes>(
     arena: &mut NodeArena<V>,
-    alloc: Global,
     place: &SeekResult<Q>,
     value: V,
-) -> Result<(), Refused<V>>
+)
     requires ready { Ready Q.Owned.item Q.key arena.old place.now }
     requires gap { place.now.matched ≡ Absent }
-    requires room { HasRoomFor arena.old 2 }
-    ensures ok { OnOk result (PutsAt Q.Owned.item Q.key arena.old arena.new place.now value) }
-    ensures refused { IfErr result (λ r. r.value ≡ value) }
-    ensures unchanged { OnErr result (arena.new ≡ arena.old) }
+    requires room { HasRoomToPut arena.old (Q.key place.now.rest) }
+    ensures puts { PutsAt Q.Owned.item Q.key arena.old arena.new place.now value }
     ensures reuses { Reuses arena.old arena.new }
 {
-    let Ok(label) = Label::from_slice(alloc, place.rest.as_bytes()) else {
-        return Err(Refused { value });
-    };
-    let leaf = Node {
-        label,
-        value: Some(value),
-        child: Link::none(),
-        sibling: place.at,
-    };
-    add(arena, place.link_ref, leaf);
-    Ok(())
+    add(
+        arena,
+        place.link_ref,
+        place.rest.as_bytes(),
+        value,
+        place.at,
+    );
 }
 
 // Inserts a key that ends within the label of a node, or leaves it there.
 fn insert_within<V: Drop, Q: BorrowedBytes>(
     arena: &mut NodeArena<V>,
-    alloc: Global,
     place: &SeekResult<Q>,
     id: NodeId,
     n: usize,
     value: V,
-) -> Result<(), Refused<V>>
+)
     requires ready { Ready Q.Owned.item Q.key arena.old place.now }
     requires within { place.now.matched ≡ InsideLabel id n }
-    requires room { HasRoomFor arena.old 2 }
-    ensures ok { OnOk result (PutsAt Q.Owned.item Q.key arena.old arena.new place.now value) }
-    ensures refused { IfErr result (λ r. r.value ≡ value) }
-    ensures unchanged { OnErr result (arena.new ≡ arena.old) }
+    requires room { HasRoomToPut arena.old (Q.key place.now.rest) }
+    ensures puts { PutsAt Q.Owned.item Q.key arena.old arena.new place.now value }
     ensures reuses { Reuses arena.old arena.new }
 {
     // for the proof alone: the rest of the key is a valid key
     let _valid = place.rest.as_bytes();
-    let tail = place.rest.strip_n_prefix(n);
-    let cut = behind(arena.nodes.label(id), n);
-    let Ok(lower) = Label::from_slice(alloc, cut) else {
-        return Err(Refused { value });
-    };
-    if tail.is_empty() {
-        split(arena, id, n, lower, Some(value));
-        return Ok(());
+    let more = place.rest.strip_n_prefix(n);
+    if more.is_empty() {
+        split(arena, id, n, Some(value));
+        return;
     }
-    let Ok(label) = Label::from_slice(alloc, tail.as_bytes()) else {
-        return Err(Refused { value });
-    };
-    let order = tail.cmp_first_item(cut);
-    let below = split(arena, id, n, lower, None);
-    add_leaf(arena, id, below, order, label, value);
-    Ok(())
+    let order = more.cmp_first_item(behind(arena.nodes.label(id), n));
+    let lower = split(arena, id, n, None);
+    add_leaf(arena, id, lower, order, more.as_bytes(), value);
 }
 
 // Puts the value in at the place of a key, and gives the old one.
 fn insert_at<V: Drop, Q: BorrowedBytes>(
     arena: &mut NodeArena<V>,
-    alloc: Global,
     place: &SeekResult<Q>,
     value: V,
-) -> Result<Option<V>, Refused<V>>
+) -> Option<V>
     requires ready { Ready Q.Owned.item Q.key arena.old place.now }
-    requires room { node_of place.now.matched ≡ None → HasRoomFor arena.old 2 }
-    ensures old { IfOk result (λ old. FindsAt Q.Owned.item Q.key arena.old place.now old) }
-    ensures ok { OnOk result (PutsAt Q.Owned.item Q.key arena.old arena.new place.now value) }
-    ensures refused { IfErr result (λ r. r.value ≡ value) }
-    ensures unchanged { OnErr result (arena.new ≡ arena.old) }
-    ensures only_new { OnErr result (node_of place.now.matched ≡ None) }
+    requires room { node_of place.now.matched ≡ None
+        → HasRoomToPut arena.old (Q.key place.now.rest) }
+    ensures old { FindsAt Q.Owned.item Q.key arena.old place.now result }
+    ensures puts { PutsAt Q.Owned.item Q.key arena.old arena.new place.now value }
     ensures reuses { Reuses arena.old arena.new }
 {
-    let put = match place.matched {
-        Match::Exact(id) => {
-            return Ok(arena.nodes.replace_value(id, Some(value)));
-        }
-        Match::Absent => insert_first(arena, alloc, place, value),
-        Match::InsideLabel(id, n) => insert_within(arena, alloc, place, id, n, value),
-    };
-    match put {
-        Ok(()) => Ok(None),
-        Err(refused) => Err(refused),
+    match place.matched {
+        Match::Exact(id) => return arena.nodes.replace_value(id, Some(value)),
+        Match::Absent => insert_first(arena, place, value),
+        Match::InsideLabel(id, n) => insert_within(arena, place, id, n, value),
     }
+    None
 }
 
 /// Puts the value in at a nonempty key, and gives the old one. Free nodes are used first.
@@ -236,14 +235,20 @@ pub fn insert<V: Drop, Q: BorrowedBytes>(
     ensures reuses { Reuses arena.old arena.new }
 {
     let place = arena.seek(key);
-    if place.here().is_some() || arena.is_ready() {
-        return insert_at(arena, alloc, &place, value);
+    if place.here().is_some() {
+        return Ok(insert_at(arena, &place, value));
     }
-    if arena.reserve_two(alloc).is_err() {
+    let Some(bytes) = needed_bytes(key.as_bytes().len()) else {
+        return Err(Refused { value });
+    };
+    if arena.is_ready(bytes) {
+        return Ok(insert_at(arena, &place, value));
+    }
+    if arena.reserve_two(alloc, bytes).is_err() {
         return Err(Refused { value });
     }
     let place = arena.seek(key);
-    insert_at(arena, alloc, &place, value)
+    Ok(insert_at(arena, &place, value))
 }
 
 /// Puts the value in at a nonempty key, and gives the old one. The look-up goes on from the trail
@@ -252,7 +257,6 @@ pub fn insert<V: Drop, Q: BorrowedBytes>(
 pub fn insert_along<V: Drop, Q: BorrowedBytes>(
     arena: &mut NodeArena<V>,
     trail: &mut Vec<(NodeId, usize)>,
-    alloc: Global,
     last: Option<Q>,
     key: Q,
     value: V,
@@ -272,11 +276,14 @@ pub fn insert_along<V: Drop, Q: BorrowedBytes>(
     ensures trail { IsTrail Q.Owned.item arena.new (Q.key key) trail.new.items }
 {
     let place = arena.seek_along(trail, last, key);
-    if place.here().is_some() || arena.has_room() {
-        return insert_at(arena, alloc, &place, value);
+    if place.here().is_some() {
+        return Ok(insert_at(arena, &place, value));
     }
-    if arena.extend().is_err() {
+    let Some(bytes) = needed_bytes(key.as_bytes().len()) else {
+        return Err(Refused { value });
+    };
+    if !arena.has_room(bytes) && arena.extend(bytes).is_err() {
         return Err(Refused { value });
     }
-    insert_at(arena, alloc, &place, value)
+    Ok(insert_at(arena, &place, value))
 }

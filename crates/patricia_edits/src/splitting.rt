@@ -1,30 +1,33 @@
 //! Taking out the nodes under a prefix.
-ghost use Rattle.std.specs.Prelude.{◌≡◌, ◌≢◌, ◌<◌, ◌≤◌, [], Some, None, IfOk, OnOk, OnErr, length};
-ghost use Rattle.std.specs.Prelude.{slice_get, vec_len, vec_capacity};
+ghost use Rattle.std.specs.Prelude.{◌≡◌, ◌≢◌, ◌+◌, ◌≤◌, [], Some, None, IfOk, OnOk, OnErr, length};
 ghost use Rattle.std.specs.Option.{option_copied};
 ghost use Rattle.patricia_model.specs.Prefixes.{under};
 ghost use Rattle.patricia_model.specs.Siblings.{own, IsCanonical};
+ghost use Rattle.patricia_store.specs.Internal.Labels.{joined_room};
+ghost use Rattle.patricia_nodes.specs.Internal.NodeVecs.{ReadsNode};
 ghost use Rattle.patricia_nodes.specs.Internal.Plans.{Plan, IsPlan, IsWellFormed, siblings_of};
 ghost use Rattle.patricia_nodes.specs.Internal.Plans.{entries_of, size};
+ghost use Rattle.patricia_nodes.specs.Internal.Growth.{bytes};
 ghost use Rattle.patricia_nodes.specs.Internal.Places.{IsSeekResult, node_under};
-ghost use Rattle.patricia_nodes.specs.declared.arena.Node.{Node as NodeOf};
+ghost use Rattle.patricia_nodes.specs.Internal.Writes.{Stays};
 ghost use Rattle.patricia_edits.specs.Internal.Splits.{values, HasSplitNode, HasTreeAt, CountsTree};
-ghost use Rattle.patricia_edits.specs.Internal.Splits.{MovesOut, IsTopLabel, SplitsOff};
+ghost use Rattle.patricia_edits.specs.Internal.Splits.{FitsTree, MovesOut, SplitsOff};
 
+use crate::insertion::behind;
 use patricia_keys::{BorrowedBytes, Bytes};
+use patricia_nodes::arena::NodeArena;
 use patricia_nodes::arena::node_vec::NodeVec;
 use patricia_nodes::arena::seek::{LinkRef, SeekResult};
-use patricia_nodes::arena::{Node, NodeArena};
-use patricia_nodes::label::Label;
 use patricia_nodes::link::{Link, NodeId};
 use patricia_walks::TreeParts;
 use std::alloc::{AllocError, Global};
 
-// How many nodes there are, and how many of them have a value.
+// How many nodes there are, how many of them have a value, and how many bytes their labels take.
 #[derive(Clone, Copy)]
 struct Size {
     nodes: usize,
     values: usize,
+    bytes: usize,
 }
 
 // One value, or none.
@@ -37,15 +40,25 @@ fn how_many<V>(value: Option<&V>) -> usize
     }
 }
 
+// The sum of two counts of bytes. More bytes than a number can say are refused.
+fn sum(a: usize, b: usize) -> Result<usize, AllocError>
+    ensures { IfOk result (λ s. s ≡ a + b) }
+{
+    a.checked_add(b).ok_or(AllocError)
+}
+
 // Counts siblings and the nodes below them.
 fn measure<V: Drop>(arena: &NodeArena<V>, alloc: Global, first: Link) -> Result<Size, AllocError>
     requires { (p : Plan V) × IsPlan arena.now.nodes.items first p }
     ensures { IfOk result (λ s. (p : Plan V) → IsPlan arena.now.nodes.items first p
-        → (s.nodes ≡ size p) × (s.values ≡ values p)) }
+        → (s.nodes ≡ size p) × (s.values ≡ values p) × (s.bytes ≡ bytes p)) }
 {
+    // for the proof alone: there are no more nodes than links can say
+    let _few = arena.nodes.len();
     let mut size = Size {
         nodes: 0,
         values: 0,
+        bytes: 0,
     };
     let mut waiting = Vec::new(alloc);
     let mut at = first;
@@ -54,6 +67,7 @@ fn measure<V: Drop>(arena: &NodeArena<V>, alloc: Global, first: Link) -> Result<
             Some(id) => {
                 size.nodes += 1;
                 size.values += how_many(arena.nodes.value(id));
+                size.bytes = sum(size.bytes, arena.nodes.label_room(id))?;
                 waiting.push(arena.nodes.sibling(id))?;
                 at = arena.nodes.child(id);
             }
@@ -65,59 +79,61 @@ fn measure<V: Drop>(arena: &NodeArena<V>, alloc: Global, first: Link) -> Result<
     }
 }
 
-// Room for a node and those below it, and how many of them have a value.
-fn room_for<V: Drop>(
-    arena: &NodeArena<V>,
-    alloc: Global,
-    id: NodeId,
-) -> Result<(NodeVec<V>, usize), AllocError>
-    requires { HasSplitNode arena.now id }
-    ensures empty { IfOk result (λ r. r.0.items ≡ []) }
-    ensures counted { IfOk result (λ r. CountsTree arena.now id (vec_capacity r.0) r.1) }
+// How many bytes a label of two parts takes at most.
+fn joined_bytes(upper: &[u8], lower: &[u8]) -> Result<usize, AllocError>
+    ensures { IfOk result (λ n.
+        joined_room (length upper.now) (length lower.now) ≤ n) }
 {
-    let below = measure(arena, alloc, arena.nodes.child(id))?;
-    let room = NodeVec::with_capacity(alloc, below.nodes + 1)?;
-    Ok((room, below.values + how_many(arena.nodes.value(id))))
+    // 12 for the note of a long label
+    sum(sum(upper.len(), lower.len())?, 12)
 }
 
-// The label of the topmost node: the prefix, and what the node's label has past these bytes.
-fn top_label<V: Drop>(
+// Room for a node and those below it, and how many of them have a value. The node's label is to be
+// the prefix, and what its own has past so many bytes.
+fn room_for<V: Drop>(
     arena: &NodeArena<V>,
     alloc: Global,
     id: NodeId,
     prefix: &[u8],
     passed: usize,
-) -> Result<Label, AllocError>
-    requires within { id < vec_len arena.now.nodes }
-    requires passed { (n : NodeOf V) → slice_get arena.now.nodes.items id ≡ Some n
-        → passed ≤ length n.label }
-    ensures { IfOk result (λ label. IsTopLabel arena.now id prefix.now passed label) }
+) -> Result<(NodeVec<V>, usize), AllocError>
+    requires node { HasSplitNode arena.now id }
+    requires passed { ReadsNode arena.now.nodes id (λ n. passed ≤ length n.label) }
+    ensures empty { IfOk result (λ r. r.0.items ≡ []) }
+    ensures counted { IfOk result (λ r. CountsTree arena.now id r.0.capacity r.1) }
+    ensures bytes { IfOk result (λ r. FitsTree arena.now id prefix.now passed r.0.room) }
 {
-    let label = arena.nodes.label(id);
-    Label::joined(alloc, prefix, &label[passed..])
+    // for the proof alone: there are no more nodes than links can say
+    let _few = arena.nodes.len();
+    let below = measure(arena, alloc, arena.nodes.child(id))?;
+    let top = joined_bytes(prefix, behind(arena.nodes.label(id), passed))?;
+    let bytes = sum(top, below.bytes)?;
+    let room = NodeVec::with_capacity(alloc, below.nodes + 1, bytes)?;
+    Ok((room, below.values + how_many(arena.nodes.value(id))))
 }
 
-// Moves a node and those below it into a vector with room for them, and unlinks it.
+// Moves a node and those below it into a vector with room for them, and unlinks it. The node's
+// label there is the prefix, and what its own has past so many bytes.
 fn move_out<V: Drop>(
     arena: &mut NodeArena<V>,
     link_ref: LinkRef,
     id: NodeId,
-    label: Label,
+    prefix: &[u8],
+    passed: usize,
     room: NodeVec<V>,
 ) -> NodeArena<V>
     requires empty { room.items ≡ [] }
-    requires tree { HasTreeAt arena.old link_ref id (vec_capacity room) }
-    ensures { MovesOut arena.old arena.new link_ref id label result }
+    requires tree { HasTreeAt arena.old link_ref id room.capacity }
+    requires passed { ReadsNode arena.old.nodes id (λ n. passed ≤ length n.label) }
+    requires bytes { FitsTree arena.old id prefix.now passed room.room }
+    ensures moves { MovesOut arena.old arena.new link_ref id prefix.now passed result }
+    ensures room { arena.old.nodes.room ≤ arena.new.nodes.room }
 {
     let mut nodes = room;
     let child = arena.nodes.child(id);
     let value = arena.nodes.take_contents(id);
-    nodes.push_reserved(Node {
-        child,
-        sibling: Link::none(),
-        label,
-        value,
-    });
+    let rest = behind(arena.nodes.label(id), passed);
+    nodes.push_joined(prefix, rest, value, child, Link::none());
     arena.relocate_descendants(&mut nodes);
     let _none = arena.unlink(link_ref, id);
     NodeArena {
@@ -143,14 +159,14 @@ fn split_at<V: Drop, Q: BorrowedBytes>(
     ensures ok { IfOk result (λ t.
         SplitsOff Q.Owned.item arena.old arena.new (Q.key prefix) t.arena t.count) }
     ensures no_value { IfOk result (λ t. t.value ≡ None) }
-    ensures unchanged { OnErr result (arena.new ≡ arena.old) }
+    ensures unchanged { OnErr result (Stays arena.old arena.new) }
     ensures begun { OnErr result (under (Q.key prefix) (entries_of arena.old) ≢ []) }
 {
-    let (room, count) = room_for(arena, alloc, id)?;
+    let front = prefix.as_bytes();
     let passed = place.rest.as_bytes().len();
-    let label = top_label(arena, alloc, id, prefix.as_bytes(), passed)?;
+    let (room, count) = room_for(arena, alloc, id, front, passed)?;
     let Some(alone) = arena.would_merge::<Q::Owned>(place.link_ref, id) else {
-        let arena = move_out(arena, place.link_ref, id, label, room);
+        let arena = move_out(arena, place.link_ref, id, front, passed, room);
         return Ok(TreeParts {
             alloc,
             value: None,
@@ -158,9 +174,9 @@ fn split_at<V: Drop, Q: BorrowedBytes>(
             count,
         });
     };
-    let together = arena.concat_labels(alloc, alone.0, alone.1)?;
-    let taken = move_out(arena, place.link_ref, id, label, room);
-    let _none = arena.merge_only_child(alone.0, alone.1, together);
+    arena.reserve_joined(alone.0, alone.1)?;
+    let taken = move_out(arena, place.link_ref, id, front, passed, room);
+    let _none = arena.merge_only_child(alone.0, alone.1);
     Ok(TreeParts {
         alloc,
         value: None,
@@ -181,7 +197,7 @@ pub fn split<V: Drop, Q: BorrowedBytes>(
     ensures ok { IfOk result (λ t.
         SplitsOff Q.Owned.item arena.old arena.new (Q.key prefix) t.arena t.count) }
     ensures no_value { IfOk result (λ t. t.value ≡ None) }
-    ensures unchanged { OnErr result (arena.new ≡ arena.old) }
+    ensures unchanged { OnErr result (Stays arena.old arena.new) }
     ensures begun { OnErr result (under (Q.key prefix) (entries_of arena.old) ≢ []) }
 {
     let place = arena.seek(prefix);

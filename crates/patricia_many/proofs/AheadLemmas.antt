@@ -3,7 +3,6 @@ use Rattle.std.proofs.Common.{◌≡◌, ℕ, zero, suc, ◌+◌, ◌-◌, ◌<�
 use Rattle.std.proofs.Common.{Bool, drop, Option, Some, None, slice_get, refl, sym, ap, subst, ◌∙◌, arith}
 use Rattle.std.proofs.lemmas.List.{append-nil}
 use Rattle.std.specs.List.{last_or}
-use Rattle.std.specs.Prelude.{vec_len}
 use Rattle.patricia_keys.specs.Keys.{Begins, IsKeyKind, IsValid, key_cmp}
 use Rattle.patricia_keys.proofs.KeyLemmas.{begins_same, key_cmp-irreflexive}
 use Rattle.std.specs.declared.cmp.Ordering.TheVariants.{Less}
@@ -17,7 +16,7 @@ use Rattle.patricia_model.proofs.OrderLemmas.{IsBefore-less, below_siblings}
 use Rattle.patricia_model.proofs.PrefixLemmas.{AllKeys-follows, along_down, along_none, along_past, not_above}
 use Rattle.patricia_model.proofs.SiblingsLemmas.{lacks_empty, prefixed-prefixed}
 use Rattle.patricia_model.proofs.WalkLemmas.{prefixed-nil}
-use Rattle.patricia_nodes.specs.declared.arena.Node.{Node}
+use Rattle.patricia_store.specs.Internal.Nodes.{Node}
 use Rattle.patricia_nodes.specs.declared.arena.NodeArena.{NodeArena}
 use Rattle.patricia_nodes.specs.Internal.NodeVecs.{IsRun}
 use Rattle.patricia_nodes.specs.Internal.Plans.{Nil, entries_of, plan_at, read, siblings_in, siblings_of, IsWellFormed}
@@ -227,7 +226,7 @@ best_grows item {V} s key a k b best_is len_is id len n there within fits valid 
     by : (v : Option V) → n.value ≡ v → KeepsBest v id len a k → HasBest item s key b
     by None none kept = best_stays item s key a b (best_is ∙ kept.0) (len_is ∙ kept.1) (after ∙ sym (before ∙ ap (λ v. prefixed (take len key) (own v ++ es)) none)) h
     by (Some v) some kept = record {
-      within = rw (best_is ∙ kept.0, len_is ∙ kept.1) (omega (arith, within, s.nodes.ok.0), fits, valid);
+      within = rw (best_is ∙ kept.0, len_is ∙ kept.1) (within, fits, valid);
       last = λ top.
           rw (best_is ∙ kept.0, len_is ∙ kept.1, there, some, after)
           (sym (last_own (entry_at s key top a.best a.best_len) (take len key) (Some v) es)
@@ -237,7 +236,7 @@ best_grows item {V} s key a k b best_is len_is id len n there within fits valid 
 
 -- a node that is kept is in the vector, and its bytes of the key are whole items
 pub kept_there : (item : List ℕ → Type 0) {V : Type 0} (s : NodeArena V) (key : List ℕ) (a : Lookup) (id : ℕ) → a.best ≡ Some id
-    → HasBest item s key a → (id < vec_len s.nodes) × (a.best_len ≤ length key) × IsValid item (take a.best_len key)
+    → HasBest item s key a → (id < length s.nodes.items) × (a.best_len ≤ length key) × IsValid item (take a.best_len key)
 kept_there item s key a id best h = rw best at h.within
 
 -- its entry is that of these bytes, where it has a value

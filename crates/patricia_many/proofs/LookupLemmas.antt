@@ -1,10 +1,10 @@
 -- The steps of a look-up that is one of many.
 use Rattle.std.proofs.Common.{◌≡◌, ◌≢◌, ℕ, zero, suc, ◌+◌, ◌-◌, ◌<◌, ◌≤◌, List, [], ◌∷◌, length, ◌++◌, length-append, length-drop, get_or, take, drop, drop-drop, drop_at, ◌∙◌}
 use Rattle.std.proofs.Common.{Option, Some, None, refl, sym, ap, subst, arith}
-use Rattle.std.specs.Prelude.{IfSome, vec_len}
+use Rattle.std.specs.Prelude.{IfSome}
 use Rattle.std.proofs.lemmas.List.{take_at}
 use lib.Seq.{take-add}
-use Rattle.patricia_nodes.specs.declared.arena.Node.{Node}
+use Rattle.patricia_store.specs.Internal.Nodes.{Node}
 use Rattle.patricia_nodes.specs.declared.arena.NodeArena.{NodeArena}
 use Rattle.patricia_nodes.specs.declared.arena.seek.LinkRef.{LinkRef}
 use Rattle.patricia_nodes.specs.declared.arena.seek.Match.{Match}
@@ -86,8 +86,8 @@ module _ {item : List ℕ → Type 0} {V : Type 0} {s : NodeArena V} {key : List
   walk = walks_on h.come
 
   -- the node there is in the vector, and something is left of the key
-  pub at_within : id < vec_len s.nodes
-  at_within = omega (arith, in_nodes kind whole ok walk refl, s.nodes.ok.0)
+  pub at_within : id < length s.nodes.items
+  at_within = in_nodes kind whole ok walk refl
 
   pub at_filled : rest ≢ []
   at_filled = h.come.rest_nonempty
@@ -116,7 +116,7 @@ module _ {item : List ℕ → Type 0} {V : Type 0} {s : NodeArena V} {key : List
 
   -- past siblings it is at a later one
   module _ (valid : IsValid item rest) (to : ℕ) (run : IsRun s.nodes (get_or rest 0 0) id to) where
-    pub run_ends : to < vec_len s.nodes
+    pub run_ends : to < length s.nodes.items
     run_ends = run_within kind whole ok valid walk refl to run
 
     pub run_passes : IsAt item s key (Some to) rest None
@@ -165,7 +165,7 @@ module _ {item : List ℕ → Type 0} {V : Type 0} {s : NodeArena V} {key : List
 -- where it goes on, there is a node in the vector
 pub within_at : (item : List ℕ → Type 0) (kind : IsKeyKind item) {V : Type 0} (s : NodeArena V) → IsWellFormed s
     → IsCanonical item (siblings_of s) → (key : List ℕ) (at : Option ℕ) (rest : List ℕ) (end : Option ℕ)
-    → IsAt item s key at rest end → IfSome at (λ id. id < vec_len s.nodes)
+    → IsAt item s key at rest end → IfSome at (λ id. id < length s.nodes.items)
 within_at item kind s whole ok key None rest end here = tt
 within_at item kind s whole ok key (Some id) rest end here =
     at_within (stands item kind s whole ok key (Some id) rest end id refl here)

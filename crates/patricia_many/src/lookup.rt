@@ -40,7 +40,7 @@ pub struct Lookup {
 // the node is not read.
 #[inline(always)]
 fn compare<Q: BorrowedBytes, V>(arena: &NodeArena<V>, id: NodeId, key: Q) -> LabelCmp<Q>
-    requires within { id < vec_len arena.now.nodes }
+    requires within { id < length arena.now.nodes.items }
     requires valid { ReadsNode arena.now.nodes id (λ n. IsValid Q.Owned.item n.label) }
     requires nonempty { ReadsNode arena.now.nodes id (λ n. n.label ≢ []) }
     requires key_filled { Q.key key ≢ [] }
@@ -101,7 +101,7 @@ impl Lookup {
     // Goes to these siblings, and reads the head of the first.
     #[inline(always)]
     fn go_to<V>(&mut self, arena: &NodeArena<V>, at: Link)
-        requires { IfSome at (λ id. id < vec_len arena.now.nodes) }
+        requires { IfSome at (λ id. id < length arena.now.nodes.items) }
         ensures { self.new ≡ record self.old {
           at = at;
           head = self.new.head;
@@ -178,13 +178,15 @@ impl Lookup {
     // and the node has a value. So many bytes of the key end there.
     #[inline(always)]
     fn keep<V>(&mut self, arena: &NodeArena<V>, id: NodeId, len: usize, by_prefix: bool)
-        requires { id < vec_len arena.now.nodes }
+        requires { id < length arena.now.nodes.items }
         ensures others { self.new
             ≡ record self.old { best = self.new.best; best_len = self.new.best_len } }
         ensures best { by_prefix ≡ true → ReadsNode arena.now.nodes id
             (λ n. KeepsBest n.value id len self.old self.new) }
     {
         if by_prefix && arena.nodes.value(id).is_some() {
+            // for the proof alone: there are no more nodes than links can say
+            let _few = arena.nodes.len();
             self.best = Link::some(id);
             self.best_len = len;
         }
@@ -211,6 +213,8 @@ impl Lookup {
                 let passed = key.as_bytes().len() - rest.as_bytes().len();
                 self.keep(arena, id, passed, by_prefix);
                 if rest.is_empty() {
+                    // for the proof alone: there are no more nodes than links can say
+                    let _few = arena.nodes.len();
                     self.end_at(Link::some(id));
                 } else {
                     self.passed = passed;

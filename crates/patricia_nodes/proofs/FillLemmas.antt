@@ -2,7 +2,7 @@
 use Rattle.std.proofs.Common.{◌≡◌, ◌≢◌, ℕ, suc, ◌+◌, List, [], ◌∷◌, length, Option, sym, ap, subst}
 use Rattle.std.proofs.Common.{◌∙◌, arith}
 use Rattle.std.specs.FinMap.{find, put}
-use Rattle.patricia_nodes.specs.declared.arena.Node.{Node}
+use Rattle.patricia_store.specs.Internal.Nodes.{Node}
 use Rattle.patricia_keys.specs.Keys.{IsKeyKind, key_cmp}
 use Rattle.patricia_model.specs.Siblings.{entries, IsCanonical}
 use Rattle.patricia_model.specs.Internal.LabelCmp.{Passes}

@@ -1,8 +1,9 @@
 -- A node that is freed: what was around it stands.
-use Rattle.std.proofs.Common.{◌≡◌, ◌≢◌, ℕ, ◌+◌, ◌<◌, ◌≤◌, List, [], ◌∷◌, length, set, Option, Some}
-use Rattle.std.proofs.Common.{None, slice_get, get_or, refl, sym, ap, subst, ◌∙◌, arith, length-set}
-use Rattle.std.proofs.lemmas.Option.{slice_get_within}
-use Rattle.patricia_nodes.specs.declared.arena.Node.{Node}
+use Rattle.std.proofs.Common.{◌≡◌, ◌≢◌, ℕ, ◌+◌, ◌<◌, ◌≤◌, List, [], ◌∷◌, ◌++◌, length, set}
+use Rattle.std.proofs.Common.{Option, Some, None, slice_get, get_or, refl, sym, ap, subst, ◌∙◌, arith, length-set}
+use Rattle.std.proofs.lemmas.List.{set-set, get_or-set_same}
+use Rattle.std.proofs.lemmas.Option.{slice_get_within, slice_get-get_or}
+use Rattle.patricia_store.specs.Internal.Nodes.{Node}
 use Rattle.patricia_nodes.specs.declared.arena.NodeArena.{NodeArena}
 use Rattle.patricia_nodes.specs.declared.arena.seek.LinkRef.{LinkRef}
 use Rattle.patricia_nodes.specs.Internal.Plans.{Plan, Nil, Cell, linked, head, count, one, below}
@@ -16,6 +17,54 @@ use Rattle.patricia_nodes.proofs.FillLemmas.{stands-within, count-fill}
 use Rattle.patricia_nodes.proofs.LinkRefLemmas.{has_spot_within}
 use Rattle.patricia_nodes.proofs.WriteLemmas.{get-set_same, get-set_other, stands-keep, chain-keep}
 use Rattle.patricia_nodes.proofs.WriteLemmas.{stands-refill, head-refill, sound-swap}
+
+module _ {V : Type 0} where
+  -- a node below the length is there, as it is read
+  pub there_read : (nodes : List (Node V)) (id : ℕ) (n : Node V) → id < length nodes
+      → n ≡ get_or nodes id n → slice_get nodes id ≡ Some n
+  there_read nodes id n short reads = slice_get-get_or nodes id n short ∙ ap (λ m. Some m) (sym reads)
+
+  -- a node that was written is read so
+  pub read_written : (nodes new : List (Node V)) (id : ℕ) (x n : Node V) → id < length nodes
+      → new ≡ set nodes id x → n ≡ get_or new id n → n ≡ x
+  read_written nodes new id x n short is reads =
+      node_is new id n x (ap (λ xs. slice_get xs id) is ∙ get-set_same nodes id x short) reads
+
+  -- what was written is read
+  pub written_reads : (nodes new : List (Node V)) (id : ℕ) (x : Node V) → id < length nodes
+      → new ≡ set nodes id x → x ≡ get_or new id x
+  written_reads nodes new id x short is = rw is (sym (get_or-set_same nodes id x x short))
+
+  -- a node that loses its contents, and then gets another sibling, is a free one
+  pub hollowed : (nodes mid new : List (Node V)) (id : ℕ) (next : Option ℕ) (n m : Node V)
+      → id < length nodes → mid ≡ set nodes id (linked [] None None n.sibling)
+      → m ≡ get_or mid id m → new ≡ set mid id (record m { sibling = next })
+      → new ≡ set nodes id (linked [] None None next)
+  hollowed nodes mid new id next n m short emptied reads is =
+      let bare = linked [] None None n.sibling in
+      let same : m ≡ bare = read_written nodes mid id bare m short emptied reads in
+      let last = linked [] None None next in
+      is ∙ rw (same, emptied) (set-set nodes id bare last)
+
+  -- a node whose value is taken out, and which is released then, is freed as it was
+  pub frees_emptied : (old mid new : NodeArena V) (id : ℕ) (value : Option V) (n m : Node V)
+      → slice_get old.nodes.items id ≡ Some n
+      → mid.nodes.items ≡ set old.nodes.items id (record n { value = value })
+      → mid.root ≡ old.root → mid.free ≡ old.free → Frees mid new id m → Frees old new id n
+  frees_emptied old mid new id value n m there emptied root_is free_is f = record {
+    taken = there;
+    nodes_is = f.nodes_is ∙ rw (emptied, free_is) (set-set old.nodes.items id _ _);
+    root_is = f.root_is ∙ root_is;
+    free_is = f.free_is;
+  }
+
+  -- what is pushed with the parts of a node is that node, with another sibling
+  pub pushed_node : (to longer : List (Node V)) (label : List ℕ) (value : Option V)
+      (child sibling : Option ℕ) (n : Node V) → label ≡ n.label → value ≡ n.value → child ≡ n.child
+      → longer ≡ to ++ linked label value child sibling ∷ []
+      → longer ≡ to ++ linked n.label n.value n.child sibling ∷ []
+  pushed_node to longer label value child sibling n labels values children pushed =
+      rw (← labels, ← values, ← children) pushed
 
 module _ {V : Type 0} (old freed : NodeArena V) (id : ℕ) (n : Node V) (f : Frees old freed id n)
     (spare : List ℕ) where
@@ -262,31 +311,3 @@ module _ {V : Type 0} where
   lone_within s u k h =
       let at = stands-within s.nodes.items h.0 (Cell u h.1 h.2 (Cell k h.3 h.4 h.5 Nil) h.6) h.7.1.plan_ok.stands in
       (slice_get_within s.nodes.items u _ at.0, slice_get_within s.nodes.items k _ at.1.0)
-
-  -- and merging a node with its only child does
-  pub absorbs :
-      (s freed : NodeArena V) (u k : ℕ) (n r : Node V) (joined : List ℕ) (taken : Option V)
-      → Frees s freed k n → r ≡ get_or freed.nodes.items u r → taken ≡ r.value
-      → (fs : List (Frame V)) (l : List ℕ) (v : Option V) (m : List ℕ) (w : Option V) (e d : Plan V)
-      → Holds s (fill fs (Cell u l v (Cell k m w e Nil) d))
-      → ((spare : List ℕ) × IsSound
-      (set freed.nodes.items u (linked joined n.value n.child r.sibling)) freed.root freed.free
-      (fill fs (Cell u joined w e d)) spare) × (taken ≡ v)
-  absorbs s freed u k n r joined taken f reads is fs l v m w e d h =
-      let q = Cell u l v (Cell k m w e Nil) d in
-      let at = stands-within s.nodes.items fs q h.1.plan_ok.stands in
-      let lower : n ≡ linked m w (head e) None = let t = f.taken in let there = at.1.0 in cc in
-      let apart : u ≢ k = λ same. omega (arith, h.1.once u, below_le (length s.nodes.items) u, count-fill fs q u, one-same u, ap (λ j. one j u) same) in
-      let there : slice_get freed.nodes.items u ≡ Some (linked l v (Some k) (head d)) = ap
-      (λ xs. slice_get xs u) f.nodes_is ∙ get-set_other s.nodes.items k u
-      (linked [] None None s.free) apart ∙ at.0 in
-      let upper : r ≡ linked l v (Some k) (head d) = node_is freed.nodes.items u r _ there reads in
-      let node : linked joined n.value n.child r.sibling ≡ linked joined w (head e) (head d) = rw (lower, upper) refl in (
-        (
-          k ∷ h.0,
-          rw (f.nodes_is, node, f.root_is, f.free_is)
-              (sound-merge_only_child s freed k n f h.0 u l joined v m w e d fs h.1),
-        ),
-        is ∙ ap
-            (λ (x : Node V). x.value) upper,
-      )

@@ -1,16 +1,18 @@
 -- Nodes that are relocated.
 use Rattle.std.proofs.Common.{◌≡◌, ◌≢◌, ℕ, suc, ◌+◌, ◌<◌, List, [], ◌∷◌, ◌++◌, length, Option, Some}
-use Rattle.std.proofs.Common.{None, slice_get, refl, sym, ap, ◌∙◌, arith, length-append, length-set}
+use Rattle.std.proofs.Common.{None, slice_get, ◌≤◌, refl, sym, ap, ◌∙◌, arith, length-append, length-set}
 use Rattle.std.proofs.lemmas.List.{append_assoc, append-nil}
-use Rattle.std.proofs.lemmas.Option.{slice_get_within}
-use Rattle.patricia_nodes.specs.declared.arena.Node.{Node}
+use Rattle.std.proofs.lemmas.Option.{slice_get_within, get_or_from_slice_get}
+use Rattle.patricia_store.specs.Internal.Nodes.{Node, Nodes}
+use Rattle.patricia_store.specs.Internal.Labels.{label_room}
+use Rattle.patricia_nodes.specs.Internal.NodeVecs.{ReadsNode}
 use Rattle.patricia_nodes.specs.declared.arena.NodeArena.{NodeArena}
 use Rattle.patricia_nodes.specs.Internal.Plans.{Plan, Nil, Cell, linked, head, one, times}
 use Rattle.patricia_nodes.specs.Internal.Growth.{tops, numbered_siblings, laid, SiblingsStand}
-use Rattle.patricia_nodes.specs.Internal.Growth.{AreTopSiblings}
+use Rattle.patricia_nodes.specs.Internal.Growth.{AreTopSiblings, top_bytes}
 use Rattle.patricia_nodes.specs.Internal.Growth.{TakesNodes, TakesSiblings}
-use Rattle.patricia_nodes.specs.Internal.Writes.{Frees}
-use Rattle.patricia_nodes.proofs.PlanLemmas.{one-same}
+use Rattle.patricia_nodes.specs.Internal.Writes.{Frees, IsWithin}
+use Rattle.patricia_nodes.proofs.PlanLemmas.{one-same, node_is}
 use Rattle.patricia_nodes.proofs.WriteLemmas.{get-set_same, get-set_other, chain-keep}
 
 module _ {V : Type 0} where
@@ -70,20 +72,28 @@ module _ {V : Type 0} where
         );
       }
 
+  -- the first of the free nodes is in the vector once a node is freed
+  pub freed_within : (old new : NodeArena V) (id : ℕ) (n : Node V) → Frees old new id n
+      → IsWithin new.free (length new.nodes.items)
+  freed_within old new id n f =
+      let short = slice_get_within old.nodes.items id n f.taken in
+      rw (f.free_is, f.nodes_is, length-set old.nodes.items id (linked [] None None old.free)) short
+
   -- how far siblings are moved
-  pub record Moving (from0 : NodeArena V) (to0 : List (Node V)) (w : Plan V) (from : NodeArena V) (at : Option ℕ) (to : List (Node V)) : Type 0 where
+  pub record Moving (from0 : NodeArena V) (to0 : Nodes V) (w : Plan V) (from : NodeArena V) (at : Option ℕ) (to : Nodes V) : Type 0 where
     pub rest : Plan V
     pub siblings : AreTopSiblings from.nodes.items at rest
-    pub moved : to ++ laid (length to) rest ≡ to0 ++ laid (length to0) w
+    pub moved : to.items ++ laid (length to.items) rest ≡ to0.items ++ laid (length to0.items) w
     pub counts : ℕ → ℕ
     pub number : ℕ
     pub takes : TakesNodes from0 from counts number
     pub split : (i : ℕ) → counts i + times (tops rest) i ≡ times (tops w) i
     pub sized : number + length (tops rest) ≡ length (tops w)
-    pub counted : length to + length (tops rest) ≡ length to0 + length (tops w)
+    pub counted : length to.items + length (tops rest) ≡ length to0.items + length (tops w)
+    pub bytes : to0.room + top_bytes rest ≤ to.room + top_bytes w
 
   -- nothing is moved at first
-  pub moving_none : (from : NodeArena V) (to : List (Node V)) (at : Option ℕ) (w : Plan V)
+  pub moving_none : (from : NodeArena V) (to : Nodes V) (at : Option ℕ) (w : Plan V)
       → AreTopSiblings from.nodes.items at w → Moving from to w from at to
   moving_none from to at w siblings = record {
     rest = w;
@@ -95,6 +105,7 @@ module _ {V : Type 0} where
     split = λ i. omega arith;
     sized = omega arith;
     counted = refl;
+    bytes = omega arith;
   }
 
   -- the node at the head of siblings
@@ -105,11 +116,38 @@ module _ {V : Type 0} where
       let same : id ≡ i = let e = siblings.at_is in cc in
       (l, v, c, d, rw same refl, rw same siblings.stands.0)
 
-  -- the next node to move is in the vector
-  pub next_within : (from0 : NodeArena V) (to0 : List (Node V)) (w : Plan V) (from : NodeArena V)
-      (to : List (Node V)) (id : ℕ) → Moving from0 to0 w from (Some id) to
-      → id < length from.nodes.items
-  next_within from0 to0 w from to id m = let o = opens_top from.nodes.items id m.rest m.siblings in slice_get_within from.nodes.items id _ o.5
+  -- siblings with a first one are one or more
+  some_more : (d : Plan V) (k : ℕ) → head d ≡ Some k → 1 ≤ length (tops d)
+  some_more Nil k e = absurd (cc)
+  some_more (Cell id l v c d) k e = omega arith
+
+  -- a node is there, its label fits in another vector, and there is room for the node behind it where
+  -- it has a sibling
+  pub record NextFits (nodes : Nodes V) (id : ℕ) (to : Nodes V) (capacity : ℕ) : Type 0 where
+    pub within : id < length nodes.items
+    pub bytes_fit : ReadsNode nodes id (λ n. label_room (length n.label) ≤ to.room)
+    pub sibling_fits : (next : Option ℕ) → ReadsNode nodes id (λ n. next ≡ n.sibling)
+        → (k : ℕ) → next ≡ Some k → length to.items + 1 < capacity
+
+  -- the next node to move is there, and there is room
+  pub next_fits : (from0 : NodeArena V) (to0 : Nodes V) (w : Plan V) (from : NodeArena V)
+      (to : Nodes V) (id : ℕ) → Moving from0 to0 w from (Some id) to
+      → length to0.items + length (tops w) ≤ to0.capacity → top_bytes w ≤ to0.room
+      → NextFits from.nodes id to to0.capacity
+  next_fits from0 to0 w from to id m nodes_fit bytes_fit =
+      let o = opens_top from.nodes.items id m.rest m.siblings in
+      let parts = linked o.0 o.1 (head o.2) (head o.3) in
+      let counted = rw o.4 at m.counted in
+      let bytes = rw o.4 at m.bytes in
+      record {
+        within = slice_get_within from.nodes.items id parts o.5;
+        bytes_fit = λ n reads.
+            let same = node_is from.nodes.items id n parts o.5 reads in
+            omega (arith, bytes, bytes_fit, ap (λ (x : Node V). label_room (length x.label)) same);
+        sibling_fits = λ next is k some.
+            let sibling = is parts (sym (get_or_from_slice_get from.nodes.items id parts parts o.5)) in
+            omega (arith, counted, nodes_fit, some_more o.3 k (sym sibling ∙ some));
+      }
 
   -- what stands at other numbers, stands still
   siblings-keep : (nodes new : List (Node V)) (q : Plan V)
@@ -144,34 +182,36 @@ module _ {V : Type 0} where
             ∙ ap (λ y. to ++ y ∷ laid (suc (length to)) d) node,
       )
 
-  module _ (from0 : NodeArena V) (to0 : List (Node V)) (w : Plan V) (from later : NodeArena V)
-      (id : ℕ) (to to' : List (Node V)) (m : Moving from0 to0 w from (Some id) to)
+  module _ (from0 : NodeArena V) (to0 : Nodes V) (w : Plan V) (from later : NodeArena V)
+      (id : ℕ) (to to' : Nodes V) (m : Moving from0 to0 w from (Some id) to)
       (n : Node V) (frees : Frees from later id n) (number : Option ℕ)
       (numbers : (d : Plan V) → n.sibling ≡ head d → number ≡ head
-      (numbered_siblings (suc (length to)) d))
-      (pushed : to' ≡ to ++ linked n.label n.value n.child number ∷ []) where
+      (numbered_siblings (suc (length to.items)) d))
+      (pushed : to'.items ≡ to.items ++ linked n.label n.value n.child number ∷ [])
+      (room : to.room ≤ to'.room + label_room (length n.label)) where
     -- the node that moves is the one that is freed, and all others are as before
     one_taken : TakesNodes from later (λ i. one id i) 1
     one_taken = takes_one from later id n frees
 
     -- one more node was moved
     pub moving_next : Moving from0 to0 w later n.sibling to'
-    moving_next = by m.rest m.siblings m.moved m.split m.sized m.counted
+    moving_next = by m.rest m.siblings m.moved m.split m.sized m.counted m.bytes
       where
         by : (r : Plan V) → AreTopSiblings from.nodes.items (Some id) r
-            → to ++ laid (length to) r ≡ to0 ++ laid (length to0) w
+            → to.items ++ laid (length to.items) r ≡ to0.items ++ laid (length to0.items) w
             → ((i : ℕ) → m.counts i + times (tops r) i ≡ times (tops w) i)
             → m.number + length (tops r) ≡ length (tops w)
-            → length to + length (tops r) ≡ length to0 + length (tops w)
+            → length to.items + length (tops r) ≡ length to0.items + length (tops w)
+            → to0.room + top_bytes r ≤ to.room + top_bytes w
             → Moving from0 to0 w later n.sibling to'
-        by Nil siblings moved split sized counted = let e = siblings.at_is in absurd (cc)
-        by (Cell i l v c d) siblings moved split sized counted =
+        by Nil siblings moved split sized counted bytes = let e = siblings.at_is in absurd (cc)
+        by (Cell i l v c d) siblings moved split sized counted bytes =
             let same : id ≡ i = let e = siblings.at_is in cc in
             let is : n ≡ linked l v (head c) (head d) = let there = siblings.stands.0 in
             let here' : slice_get from.nodes.items i ≡ Some n = rw (← same) frees.taken in
             cc in
             let sibling : n.sibling ≡ head d = ap (λ (x : Node V). x.sibling) is in
-            let comes = laid_next to to' n number i l v c d is (numbers d sibling) pushed in
+            let comes = laid_next to.items to'.items n number i l v c d is (numbers d sibling) pushed in
             record {
               rest = d;
               siblings = record {
@@ -188,21 +228,25 @@ module _ {V : Type 0} where
               split = λ k. omega (arith, split k, ap (λ x. one x k) same);
               sized = omega (arith, sized);
               counted = omega (arith, counted, comes.0);
+              bytes = omega (arith, bytes, room, ap (λ (x : Node V). label_room (length x.label)) is);
             }
 
   -- at the end all is moved
-  pub moving_done : (from0 : NodeArena V) (to0 : List (Node V)) (w : Plan V) (from : NodeArena V)
-      (to : List (Node V)) → Moving from0 to0 w from None to
-      → (to ≡ to0 ++ laid (length to0) w) × TakesSiblings from0 from w
-  moving_done from0 to0 w from to m = by m.rest m.siblings.at_is m.moved m.split m.sized
+  pub moving_done : (from0 : NodeArena V) (to0 : Nodes V) (w : Plan V) (from : NodeArena V)
+      (to : Nodes V) → Moving from0 to0 w from None to
+      → (to.items ≡ to0.items ++ laid (length to0.items) w) × TakesSiblings from0 from w × (to0.room ≤ to.room + top_bytes w)
+  moving_done from0 to0 w from to m = by m.rest m.siblings.at_is m.moved m.split m.sized m.bytes
     where
-      by : (r : Plan V) → None ≡ head r → to ++ laid (length to) r ≡ to0 ++ laid (length to0) w
+      by : (r : Plan V) → None ≡ head r
+          → to.items ++ laid (length to.items) r ≡ to0.items ++ laid (length to0.items) w
           → ((i : ℕ) → m.counts i + times (tops r) i ≡ times (tops w) i)
           → m.number + length (tops r) ≡ length (tops w)
-          → (to ≡ to0 ++ laid (length to0) w) × TakesSiblings from0 from w
-      by Nil e moved split sized = (
-        sym (append-nil to) ∙ moved,
+          → to0.room + top_bytes r ≤ to.room + top_bytes w
+          → (to.items ≡ to0.items ++ laid (length to0.items) w) × TakesSiblings from0 from w × (to0.room ≤ to.room + top_bytes w)
+      by Nil e moved split sized bytes = (
+        sym (append-nil to.items) ∙ moved,
         takes_same from0 from m.counts (λ i. times (tops w) i)
             m.number (length (tops w)) (λ i. omega (arith, split i)) (omega (arith, sized)) m.takes,
+        omega (arith, bytes),
       )
-      by (Cell i l v c d) e moved split sized = absurd (cc)
+      by (Cell i l v c d) e moved split sized bytes = absurd (cc)

@@ -6,28 +6,30 @@ use Rattle.std.proofs.Common.{◌∙◌, arith, length-append, length-set}
 use Rattle.std.proofs.lemmas.Bool.{cases_lt}
 use Rattle.std.proofs.lemmas.Bool.Decides.{nat_tests}
 use Rattle.std.proofs.lemmas.Option.{get_or_from_slice_get}
-use Rattle.patricia_nodes.specs.declared.arena.Node.{Node}
+use Rattle.patricia_store.specs.Internal.Nodes.{Node, Nodes, KeepsRoom}
+use Rattle.patricia_nodes.specs.Internal.NodeVecs.{ReadsNode, Changes}
+use Rattle.patricia_nodes.specs.Internal.Writes.{IsWithin}
 use Rattle.patricia_nodes.specs.declared.arena.NodeArena.{NodeArena}
 use Rattle.patricia_nodes.specs.Internal.Plans.{Plan, linked, head, siblings_in, size, count, times}
 use Rattle.patricia_nodes.specs.Internal.Plans.{below}
 use Rattle.patricia_nodes.specs.Internal.Plans.{LaidOut, IsSound, plan_at}
 use Rattle.patricia_nodes.specs.Internal.Growth.{tops, numbered_siblings, laid, AreTopSiblings}
-use Rattle.patricia_nodes.specs.Internal.Growth.{IsLaid}
+use Rattle.patricia_nodes.specs.Internal.Growth.{IsLaid, top_bytes, bytes_below}
 use Rattle.patricia_nodes.specs.Internal.Growth.{TakesSiblings, TakesBelow, count_below}
 use Rattle.patricia_nodes.specs.Internal.Growth.{size_below}
 use Rattle.patricia_nodes.proofs.PlanLemmas.{below_le, below_in, plan_is, node_is, below_out}
 use Rattle.patricia_nodes.proofs.WriteLemmas.{get-set_same, get-set_other}
 use Rattle.patricia_nodes.proofs.GrowthLemmas.{takes_none, takes_same, takes_more}
-use Rattle.patricia_nodes.specs.Internal.Relocation.{Mix, flat, news}
+use Rattle.patricia_nodes.specs.Internal.Relocation.{Mix, flat, news, waiting_bytes}
 use Rattle.patricia_nodes.specs.Internal.Relocation.{Laying, Emptied, Filling, marked_from}
 use Rattle.patricia_nodes.proofs.RelayLemmas.{flat_first, OpenAt, opened, Turns, step}
-use Rattle.patricia_nodes.proofs.RelayLemmas.{siblings-opened}
+use Rattle.patricia_nodes.proofs.RelayLemmas.{siblings-opened, bytes-below}
 use Rattle.patricia_nodes.proofs.RelayLemmas.{size-opened, first-opened, olds-below, waits-opened}
 use Rattle.patricia_nodes.proofs.RelayLemmas.{waits-below, count-parts, below-keep, news-opened}
 use Rattle.patricia_nodes.proofs.RelayLemmas.{moved-opened, siblings-step, size-step, first-step}
 use Rattle.patricia_nodes.proofs.RelayLemmas.{step-moves, open_exists, opens_at, open_within}
 use Rattle.patricia_nodes.proofs.RelayLemmas.{top_siblings, tops_within, moved-step, moved-same, lies-opened}
-use Rattle.patricia_nodes.proofs.RelayLemmas.{length-laid, lies-step, lies_done}
+use Rattle.patricia_nodes.proofs.RelayLemmas.{length-laid, first_within, lies-step, lies_done}
 
 -- no mark
 abbrev pub unmarked : ℕ → Bool
@@ -133,6 +135,7 @@ module _ {V : Type 0} where
     pub there : slice_get to i ≡ Some parent
     pub top : AreTopSiblings from parent.child siblings
     pub room : length to + length (tops siblings) ≤ size p
+    pub bytes : top_bytes siblings ≤ waiting_bytes mix
 
   -- the siblings below a node without a mark are still to be laid
   pub laying_siblings : (p : Plan V) (from : List (Node V)) (marks : ℕ → Bool) (i : ℕ)
@@ -143,6 +146,8 @@ module _ {V : Type 0} where
       let w = some.0 in
       let opens = opens_at from to i l.mix w l.lies some.1 in
       let within = open_within i l.mix w some.1 in
+      let once : news l.mix i ≤ 1 = omega (arith, l.news_once i, below_le (length to) i) in
+      let moves = step-moves i (length to) l.mix w once some.1 in
       record {
         siblings = w;
         due = some.1;
@@ -150,6 +155,7 @@ module _ {V : Type 0} where
         there = opens.1.1;
         top = top_siblings from _ w opens.0 opens.1.2 (λ k. omega (arith, within.1 k, l.olds_once k));
         room = omega (arith, l.sized, within.0, (tops_within w).0);
+        bytes = omega (arith, moves.bytes);
       }
 
   -- the siblings from the number that is read of the node for its child are the next ones
@@ -278,29 +284,100 @@ module _ {V : Type 0} where
       }
 
   -- at first nothing below the top siblings was moved
-  pub filling_start : (w : Plan V) (s : NodeArena V) (to : List (Node V))
-      → IsLaid s.nodes.items to w → Filling s w s unmarked to
+  pub filling_start : (w : Plan V) (s : NodeArena V) (to : Nodes V)
+      → IsLaid s.nodes.items to.items w → Filling s w s unmarked to.room to
   unfolding laying_start
-  filling_start w s to l = record { laying = laying_start w s.nodes.items to l; emptied = emptied_start s w }
+  filling_start w s to l = record {
+    laying = laying_start w s.nodes.items to.items l;
+    emptied = emptied_start s w;
+    bytes_taken = omega (arith, bytes-below 0 w);
+  }
 
   -- once they are moved and the node has their new number, it has its mark
   pub filling_next : (old : NodeArena V) (w : Plan V) (from later : NodeArena V)
-      (marks marked : ℕ → Bool) (i : ℕ) (to final : List (Node V))
-      (f : Filling old w from marks to) → i < length to → Turns marks marked i (length to)
-      → (next : NextSiblings w from.nodes.items i to f.laying.mix) → TakesSiblings from later next.siblings
-      → (moved : List (Node V)) → moved ≡ to ++ laid (length to) next.siblings → (first : Option ℕ)
-      → first ≡ head (numbered_siblings (length to) next.siblings) → (n : Node V) → n ≡ get_or moved i n
-      → final ≡ set moved i (linked n.label n.value first n.sibling)
-      → Filling old w later marked final
+      (marks marked : ℕ → Bool) (room i : ℕ) (to final : Nodes V)
+      (f : Filling old w from marks room to) → i < length to.items
+      → Turns marks marked i (length to.items)
+      → (next : NextSiblings w from.nodes.items i to.items f.laying.mix)
+      → TakesSiblings from later next.siblings → (moved : List (Node V))
+      → moved ≡ to.items ++ laid (length to.items) next.siblings → (first : Option ℕ)
+      → first ≡ head (numbered_siblings (length to.items) next.siblings) → (n : Node V)
+      → n ≡ get_or moved i n
+      → final.items ≡ set moved i (linked n.label n.value first n.sibling)
+      → to.room ≤ final.room + top_bytes next.siblings
+      → Filling old w later marked room final
   unfolding laying_on laying_next
-  filling_next old w from later marks marked i to final f short turns next takes moved comes first first_is n reads written =
+  filling_next old w from later marks marked room i to final f short turns next takes moved comes first first_is n reads written takes_bytes =
       let l = f.laying in
+      let once : news l.mix i ≤ 1 = omega (arith, l.news_once i, below_le (length to.items) i) in
+      let moves = step-moves i (length to.items) l.mix next.siblings once next.due in
       record {
-        laying = laying_next w from.nodes.items later.nodes.items marks marked i to final
+        laying = laying_next w from.nodes.items later.nodes.items marks marked i to.items final.items
             (head (numbered_siblings 0 w)) l short turns next takes.others moved comes first
             first_is n reads written;
-        emptied = emptied_next old w l.mix from later i (length to) next.siblings (omega (arith, l.news_once i, below_le (length to) i)) next.due takes f.emptied;
+        emptied = emptied_next old w l.mix from later i (length to.items) next.siblings once next.due takes f.emptied;
+        bytes_taken = omega (arith, f.bytes_taken, moves.bytes, takes_bytes);
       }
+
+  -- siblings from a link on came behind the nodes of another vector, and this is the new number of
+  -- the first of them
+  abbrev pub Comes : (from later : NodeArena V) (child first : Option ℕ) (to moved : Nodes V) → Type 0
+  Comes from later child first to moved = record {
+    taken : (w : Plan V) → AreTopSiblings from.nodes.items child w → TakesSiblings from later w;
+    laid : (w : Plan V) → AreTopSiblings from.nodes.items child w
+        → moved.items ≡ to.items ++ laid (length to.items) w;
+    first : (w : Plan V) → AreTopSiblings from.nodes.items child w
+        → first ≡ head (numbered_siblings (length to.items) w);
+    capacity : moved.capacity ≡ to.capacity;
+    room : (w : Plan V) → AreTopSiblings from.nodes.items child w
+        → to.room ≤ moved.room + top_bytes w;
+    free : IsWithin later.free (length later.nodes.items);
+    kept : from.nodes.room ≤ later.nodes.room;
+  }
+
+  -- the siblings below the next node can be moved, and there is room for them
+  pub due_siblings : (old : NodeArena V) (w : Plan V) (from : NodeArena V) (marks : ℕ → Bool)
+      (room i : ℕ) (to : Nodes V) (child : Option ℕ) → Filling old w from marks room to
+      → i < length to.items → marks i ≡ false → size w ≤ to.capacity → bytes_below w ≤ room
+      → ReadsNode to i (λ n. child ≡ n.child)
+      → (v : Plan V) × AreTopSiblings from.nodes.items child v
+      × (length to.items + length (tops v) ≤ to.capacity) × (top_bytes v ≤ to.room)
+  due_siblings old w from marks room i to child f short bare nodes_fit bytes_fit reads =
+      let next = laying_siblings w from.nodes.items marks i to.items _ f.laying short bare in (
+        next.siblings,
+        next_top w from.nodes.items i to.items f.laying.mix next child reads,
+        omega (arith, next.room, nodes_fit),
+        omega (arith, next.bytes, f.bytes_taken, bytes_fit),
+      )
+
+  -- once they came they are behind the others, and the first of them is there
+  pub come_behind : (from later : NodeArena V) (to moved : Nodes V) (i : ℕ) (child first : Option ℕ)
+      → ReadsNode to i (λ n. child ≡ n.child) → Comes from later child first to moved
+      → (old : NodeArena V) (w : Plan V) (marks : ℕ → Bool) (room : ℕ)
+      → Filling old w from marks room to → i < length to.items → marks i ≡ false
+      → (length to.items ≤ length moved.items) × IsWithin first (length moved.items)
+  come_behind from later to moved i child first reads comes old w marks room f short bare =
+      let next = laying_siblings w from.nodes.items marks i to.items _ f.laying short bare in
+      let v = next.siblings in
+      let top = next_top w from.nodes.items i to.items f.laying.mix next child reads in
+      let n = length to.items in
+      let long : length moved.items ≡ n + length (tops v) = ap length (comes.laid v top) ∙ length-append to.items (laid n v) ∙ ap (λ k. n + k) (length-laid n v) in
+      (omega (arith, long), first_within n v first (length moved.items) (comes.first v top) long)
+
+  -- once the siblings below a node came, and it has the number of the first, it has its mark
+  pub filling_turns : (from later : NodeArena V) (to moved final : Nodes V) (i : ℕ)
+      (child first : Option ℕ) → ReadsNode to i (λ n. child ≡ n.child)
+      → Comes from later child first to moved → Changes moved final i (λ n. record n { child = first })
+      → KeepsRoom moved final → (old : NodeArena V) (w : Plan V) (marks marked : ℕ → Bool) (room : ℕ)
+      → Filling old w from marks room to → i < length to.items → marks i ≡ false
+      → Turns marks marked i (length to.items) → Filling old w later marked room final
+  filling_turns from later to moved final i child first reads comes put kept old w marks marked room f short bare turns =
+      let next = laying_siblings w from.nodes.items marks i to.items _ f.laying short bare in
+      let top = next_top w from.nodes.items i to.items f.laying.mix next child reads in
+      filling_next old w from later marks marked room i to final f short turns next
+      (comes.taken next.siblings top) moved.items (comes.laid next.siblings top) first
+      (comes.first next.siblings top) put.0 put.1 put.2
+      (omega (arith, comes.room next.siblings top, kept.room_is))
 
   -- marks at numbers past the nodes say nothing
   pub laying_same : (p : Plan V) (from : List (Node V)) (marks later : ℕ → Bool)
@@ -319,25 +396,26 @@ module _ {V : Type 0} where
   }
 
   pub filling_same : (old : NodeArena V) (w : Plan V) (now : NodeArena V) (marks later : ℕ → Bool)
-      (to : List (Node V)) → Filling old w now marks to
-      → ((at : ℕ) → at < length to → later at ≡ marks at) → Filling old w now later to
+      (room : ℕ) (to : Nodes V) → Filling old w now marks room to
+      → ((at : ℕ) → at < length to.items → later at ≡ marks at) → Filling old w now later room to
   unfolding laying_same
-  filling_same old w now marks later to f same = record {
-    laying = laying_same w now.nodes.items marks later to (head (numbered_siblings 0 w)) f.laying same;
+  filling_same old w now marks later room to f same = record {
+    laying = laying_same w now.nodes.items marks later to.items (head (numbered_siblings 0 w)) f.laying same;
     emptied = f.emptied;
+    bytes_taken = f.bytes_taken;
   }
 
   -- and at the end they are sound, and what is below the siblings was taken
   pub filling_done :
-      (old : NodeArena V) (w : Plan V) (now : NodeArena V) (marks : ℕ → Bool)
-      (to : List (Node V)) → Filling old w now marks to
-      → ((at : ℕ) → at < length to → marks at ≡ true)
-      → ((q : Plan V) × IsSound to (head (numbered_siblings 0 w)) None q [] × (siblings_in q ≡ siblings_in w) × (size q ≡ size w)) × TakesBelow old now w
-  filling_done old w now marks to f all =
+      (old : NodeArena V) (w : Plan V) (now : NodeArena V) (marks : ℕ → Bool) (room : ℕ)
+      (to : Nodes V) → Filling old w now marks room to
+      → ((at : ℕ) → at < length to.items → marks at ≡ true)
+      → ((q : Plan V) × IsSound to.items (head (numbered_siblings 0 w)) None q [] × (siblings_in q ≡ siblings_in w) × (size q ≡ size w)) × TakesBelow old now w
+  filling_done old w now marks room to f all =
       let l = f.laying in
       let e = f.emptied in
-      let done = lies_done now.nodes.items to marks l.mix l.lies l.moved all in (
-        laying_done w now.nodes.items marks to (head (numbered_siblings 0 w)) l all,
+      let done = lies_done now.nodes.items to.items marks l.mix l.lies l.moved all in (
+        laying_done w now.nodes.items marks to.items (head (numbered_siblings 0 w)) l all,
         takes_same old now e.counts (λ at. count_below w at) e.number (size_below w)
             (λ at. omega (arith, e.split at, done.3 at)) (omega (arith, e.sized, done.2)) e.takes,
       )
@@ -352,12 +430,6 @@ module _ {V : Type 0} where
     below_stands = below-keep from later p (λ at n. others at (omega (arith, count-parts p at, once at))) stands;
     once = λ at. omega (arith, count-parts p at, once at);
   }
-
-  -- so where the siblings were moved
-  pub laid_siblings : (old now : NodeArena V) (p : Plan V) (to0 to : List (Node V))
-      → LaidOut old.nodes.items p → ((at : ℕ) → count p at ≤ 1) → TakesSiblings old now p → to0 ≡ []
-      → to ≡ to0 ++ laid (length to0) p → IsLaid now.nodes.items to p
-  laid_siblings old now p to0 to stands once takes none moved = laid_apart old.nodes.items now.nodes.items p to0 to stands once takes.others none moved
 
   -- the plan that is read, as siblings to move
   pub record Readable (nodes : List (Node V)) (root : Option ℕ) (p : Plan V) : Type 0 where

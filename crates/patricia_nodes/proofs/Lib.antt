@@ -2,11 +2,10 @@ pub mod AloneLemmas
 pub mod FillLemmas
 pub mod FreeLemmas
 pub mod GrowthLemmas
-pub mod HeadLemmas
-pub mod InterleaveLemmas
 pub mod LayLemmas
 pub mod LinkRefLemmas
 pub mod LoanLemmas
+pub mod MergeLemmas
 pub mod NodeVecLemmas
 pub mod OrderLemmas
 pub mod PermuteLemmas
@@ -14,6 +13,7 @@ pub mod PlanLemmas
 pub mod RelayLemmas
 pub mod RenumberLemmas
 pub mod ResumeLemmas
+pub mod RoomLemmas
 pub mod SeekLemmas
 pub mod TrailLemmas
 pub mod ValueLemmas

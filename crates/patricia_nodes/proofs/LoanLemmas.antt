@@ -1,10 +1,9 @@
 -- A loan of the value of one node.
-use Rattle.std.proofs.Common.{◌≡◌, ℕ, ◌<◌, List, Option, Some, None, get_or}
+use Rattle.std.proofs.Common.{◌≡◌, ℕ, ◌<◌, List, Option, Some, None, get_or, set}
 use Rattle.std.proofs.Common.{refl, sym, ap, subst, ◌∙◌}
-use Rattle.std.specs.Prelude.{true, false, is_some, vec_len}
+use Rattle.std.specs.Prelude.{true, false, is_some, length}
 use Rattle.std.specs.FinMap.{find}
-use Rattle.std.specs.Vec.{with_item}
-use Rattle.patricia_nodes.specs.declared.arena.Node.{Node}
+use Rattle.patricia_store.specs.Internal.Nodes.{Node}
 use Rattle.patricia_nodes.specs.declared.arena.NodeArena.{NodeArena}
 use Rattle.patricia_nodes.specs.declared.arena.seek.LinkRef.{LinkRef}
 use Rattle.patricia_nodes.specs.declared.arena.seek.Match.{Match}
@@ -29,15 +28,15 @@ module _ {item : List ℕ → Type 0} {V : Type 0} {s : NodeArena V} {key : List
   open sought use {kind, whole, canonical as ok, place as p}
 
   -- the node is in the vector
-  found_within : id < vec_len s.nodes
-  found_within = rw s.nodes.ok.0 (here_within sought id is)
+  found_within : id < length s.nodes.items
+  found_within = here_within sought id is
 
   -- a write at the key's node puts the value in
   found_writes : (w : V) → Puts item s (with_value s id w) key w
   found_writes w =
       subst (λ new. Puts item s new key w)
-      (ap (λ v. record s { nodes = v }) (lent_write s.nodes id id refl found_within n reads w))
-      (puts_here sought id is n reads (record s { nodes = with_item s.nodes id (record n { value = Some w }) }) w (Some w) refl refl refl refl).0
+      (ap (λ v. record s { nodes = v }) (lent_write s.nodes id found_within n reads w))
+      (puts_here sought id is n reads (record s { nodes = record s.nodes { items = set s.nodes.items id (record n { value = Some w }) } }) w (Some w) refl refl refl refl).0
 
   -- the node has the key's value
   pub has_node : is_some n.value ≡ true → HasValueNode item s key id
@@ -45,7 +44,7 @@ module _ {item : List ℕ → Type 0} {V : Type 0} {s : NodeArena V} {key : List
       let value = some_of n.value some in record {
         within = found_within;
         value = value.0;
-        is_value = sym (lent_value s.nodes id id refl found_within n reads) ∙ value.1;
+        is_value = sym (lent_value s.nodes id found_within n reads) ∙ value.1;
         found = find_some sought id is n reads ∙ value.1;
         writes = found_writes;
       }

@@ -1,43 +1,21 @@
 -- A vector in which a node is read, written or lent.
 use Rattle.std.proofs.Common.{◌≡◌, ℕ, ◌+◌, ◌<◌, List, length, set, Some, get_or, slice_get}
-use Rattle.std.proofs.Common.{refl, sym, ap, subst, ◌∙◌, inl, inr, arith}
-use native.Mathlib.Nat.{ℕ_set}
-use Rattle.std.specs.Global.{Vec}
-use Rattle.std.specs.Prelude.{vec_len, Option, None, is_some}
+use Rattle.std.proofs.Common.{refl, sym, ap, subst, inl, inr, arith, zero, suc, ◌-◌}
+use Rattle.std.specs.Prelude.{Option, None, is_some}
 use Rattle.std.specs.Borrow.{Bor}
 use Rattle.std.specs.Option.{option_copied}
-use Rattle.std.specs.Vec.{with_item}
 use Rattle.std.proofs.lemmas.Bool.{cases_lt}
-use Rattle.std.proofs.lemmas.List.{set-get_or}
-use Rattle.std.proofs.lemmas.Option.{slice_get_read, slice_get_cases}
-use Rattle.patricia_nodes.specs.declared.arena.Node.{Node}
-use Rattle.patricia_nodes.specs.Internal.Heads.{byte_of}
-use Rattle.patricia_nodes.specs.Internal.NodeVecs.{ReadsNode, IsRun, Changes, value_in, with_valued}
+use Rattle.std.proofs.lemmas.Bool.Decides.{nat_tests}
+use Rattle.std.proofs.lemmas.Option.{slice_get_read, slice_get_cases, slice_get_within}
+use Rattle.std.proofs.lemmas.Option.{get_or_from_slice_get}
+use Rattle.patricia_store.specs.Internal.Heads.{byte_of, short_len_of}
+use Rattle.patricia_store.specs.Internal.Nodes.{Node, Nodes}
+use Rattle.patricia_store.specs.Internal.Nodes.{IsRun as IsStoredRun}
+use Rattle.patricia_nodes.specs.Internal.NodeVecs.{ReadsNode, IsRun, value_in, with_valued}
 
--- a vector with the same items is the same
-pub same_vec : {X : Type 0} (v : Vec X) (xs : List X) → v.items ≡ xs → (ok : v.len ≡ length xs)
-    → record { ptr = v.ptr; len = v.len; cap = v.cap; alloc = v.alloc; items = xs; ok = (ok, v.ok.1); small = v.small } ≡ v
-same_vec {X} v xs is =
-    subst (λ (ys : List X). (ok : v.len ≡ length ys) →
-    record {
-      ptr = v.ptr;
-      len = v.len;
-      cap = v.cap;
-      alloc = v.alloc;
-      items = ys;
-      ok = (ok, v.ok.1);
-      small = v.small;
-    } ≡ v) is
-    (λ ok. ap
-    (λ o. record {
-      ptr = v.ptr;
-      len = v.len;
-      cap = v.cap;
-      alloc = v.alloc;
-      items = v.items;
-      ok = (o, v.ok.1);
-      small = v.small;
-    }) (ℕ_set _ _ ok v.ok.0))
+-- a length below 63 is that of the label
+pub short_exact : (l : List ℕ) (n : ℕ) → n ≡ short_len_of l → n < 63 → length l ≡ n
+short_exact l n e less = grind (arith, nat_tests)
 
 module _ {V : Type 0} where
   -- below the length there is a node
@@ -49,14 +27,18 @@ module _ {V : Type 0} where
         | inr past ↦ absurd (omega (arith, past.0))
       ]
 
-  -- whether a value is lent says whether the node has one
-  pub lent_some : (lent : Option (Bor V)) (value : Option V) → option_copied lent ≡ value
-      → is_some lent ≡ is_some value
-  lent_some None value is = ap is_some is
-  lent_some (Some b) value is = ap is_some is
+  -- what is read below the length is there
+  pub there : (nodes : List (Node V)) (id : ℕ) (n : Node V) → id < length nodes
+      → n ≡ get_or nodes id n → slice_get nodes id ≡ Some n
+  there nodes id n within reads = slice_get_read nodes (length nodes) id n refl within reads
+
+  -- what is there is read
+  pub reads_there : (nodes : List (Node V)) (id : ℕ) (n : Node V) → slice_get nodes id ≡ Some n
+      → n ≡ get_or nodes id n
+  reads_there nodes id n is = sym (get_or_from_slice_get nodes id n n is)
 
   -- a run goes on where the next node is the sibling and the first byte is less
-  pub run_more : (nodes : Vec (Node V)) (b from at : ℕ) → IsRun nodes b from at
+  pub run_more : (nodes : Nodes V) (b from at : ℕ) → IsRun nodes b from at
       → ReadsNode nodes at (λ n. (n.sibling ≡ Some (at + 1)) × (byte_of n.label < b))
       → IsRun nodes b from (at + 1)
   run_more nodes b from at run more = record {
@@ -69,37 +51,57 @@ module _ {V : Type 0} where
     ];
   }
 
-  module _ (inside nodes : Vec (Node V)) (is : inside ≡ nodes) (id at : ℕ) (same : at ≡ id) where
-    -- what is read at a number is the node there
-    pub read_at : (n : Node V) → n ≡ get_or inside.items at n → n ≡ get_or nodes.items id n
-    read_at n reads = rw (same, is) at reads
+  -- whether a value is lent says whether the node has one
+  pub lent_some : (lent : Option (Bor V)) (value : Option V) → option_copied lent ≡ value
+      → is_some lent ≡ is_some value
+  lent_some None value is = ap is_some is
+  lent_some (Some b) value is = ap is_some is
 
-    -- what is written at a number is the node there
-    pub written_at : (m : Node V) → with_item inside at m ≡ with_item nodes id m
-    written_at m = rw (same, is) refl
+  -- a run of nodes that are there is one of nodes that are read
+  pub run_read : (nodes : Nodes V) (b from to : ℕ) → to < length nodes.items
+      → IsStoredRun nodes b from to → IsRun nodes b from to
+  run_read nodes b from to within run = record {
+    forward = run.forward;
+    passes = λ i behind before n reads.
+        run.passes i behind before n (there nodes.items i n (omega (arith, before, within)) reads);
+  }
 
-    -- a node that is read and written is changed
-    pub node_changed : (n : Node V) → n ≡ get_or inside.items at n → (changed : Node V → Node V)
-        → Changes nodes (with_item inside at (changed n)) id changed
-    node_changed n reads changed = (n, read_at n reads, written_at (changed n))
+  module _ (nodes : Nodes V) (b from : ℕ)
+      (within : (to : ℕ) → IsRun nodes b from to → to < length nodes.items) where
+    -- where each run of nodes that are read ends at a node, so does each of nodes that are there
+    ends_within : (n : ℕ) → IsStoredRun nodes b from (n + from) → n + from < length nodes.items
+    ends_within zero run = omega (arith, within from (record { forward = omega arith; passes = λ i behind before. absurd (omega (arith, behind, before)) }))
+    ends_within (suc n) run =
+        let shorter : n + from < length nodes.items = ends_within n (record { forward = omega arith; passes = λ i behind before. run.passes i behind (omega (arith, before)) }) in
+        let passed : IsRun nodes b from (n + from) = run_read nodes b from (n + from) shorter (record { forward = omega arith; passes = λ i behind before. run.passes i behind (omega (arith, before)) }) in
+        let last : ReadsNode nodes (n + from) (λ m. (m.sibling ≡ Some (n + from + 1)) × (byte_of m.label < b)) = λ m reads. run.passes (n + from) (omega arith) (omega arith) m (there nodes.items (n + from) m shorter reads) in
+        omega (arith, within (n + from + 1) (run_more nodes b from (n + from) passed last))
 
-  module _ (nodes : Vec (Node V)) (id at : ℕ) (same : at ≡ id) (within : id < vec_len nodes)
-      (n : Node V) (reads : n ≡ get_or nodes.items at n) where
-    -- at the number is the node that is read
-    there : slice_get nodes.items id ≡ Some n
-    there = slice_get_read nodes.items (vec_len nodes) id n nodes.ok.0 within (rw same at reads)
+    stored_within : (to : ℕ) → IsStoredRun nodes b from to → to < length nodes.items
+    stored_within to run =
+        let far : (to - from) + from ≡ to = omega (arith, run.forward) in
+        subst (λ k. k < length nodes.items) far (ends_within (to - from) (subst (IsStoredRun nodes b from) (sym far) run))
 
+  module _ (inside nodes : Nodes V) (is : inside ≡ nodes) (b at id : ℕ) (same : at ≡ id)
+      (within : (to : ℕ) → IsRun nodes b id to → to < length nodes.items) where
+    -- what a run of the nodes inside asks for
+    pub run_asked : (to : ℕ) → IsStoredRun inside b at to → to < length inside.items
+    run_asked to run = rw is (stored_within nodes b id within to (rw (is, same) at run))
+
+    -- and the run that it gives
+    pub run_given : (to : ℕ) → IsStoredRun inside b at to → IsRun nodes b id to
+    run_given to run =
+        let stored = rw (is, same) at run in
+        run_read nodes b id to (stored_within nodes b id within to stored) stored
+
+  module _ (nodes : Nodes V) (id : ℕ) (within : id < length nodes.items)
+      (n : Node V) (reads : n ≡ get_or nodes.items id n) where
     -- the value that is lent is that of the node with the number
     pub lent_value : n.value ≡ value_in (slice_get nodes.items id)
-    lent_value = ap value_in (sym there)
+    lent_value = ap value_in (sym (there nodes.items id n within reads))
 
     -- what is left behind the loan is the node's value
-    pub lent_write : (w : V) → with_item nodes at (record n { value = Some w })
+    pub lent_write : (w : V)
+        → record nodes { items = set nodes.items id (record n { value = Some w }) }
         ≡ with_valued nodes id w (slice_get nodes.items id)
-    lent_write w = rw (there, same) refl
-
-    -- where nothing is lent, the node stays
-    pub lent_none : with_item nodes at n ≡ nodes
-    lent_none =
-        same_vec nodes (set nodes.items at n)
-        (sym (ap (set nodes.items at) reads ∙ set-get_or nodes.items at n)) _
+    lent_write w = rw (there nodes.items id n within reads) refl

@@ -7,7 +7,7 @@ use Rattle.std.proofs.Math.ListN.{drop_of_length-le}
 use Rattle.std.proofs.lemmas.List.{append_assoc, append-nil, drop-append-le, take-append-le}
 use Rattle.std.proofs.lemmas.List.{length-take, length-take-le, get_or-take}
 use Rattle.std.proofs.lemmas.Option.{slice_get_within, get_or_from_slice_get}
-use Rattle.patricia_nodes.specs.declared.arena.Node.{Node}
+use Rattle.patricia_store.specs.Internal.Nodes.{Node}
 use Rattle.patricia_nodes.specs.Internal.Plans.{Plan, Nil, Cell, head, size, count, times, first}
 use Rattle.patricia_nodes.specs.Internal.Plans.{LaidOut, IsChain, IsSound, linked}
 use Rattle.patricia_nodes.specs.Internal.Growth.{tops}

@@ -5,7 +5,7 @@ use Rattle.std.specs.Prelude.{false, is_some}
 use mathlib.Core.Bool.{false≢true}
 use Rattle.std.proofs.lemmas.Option.{get_or_from_slice_get}
 use Rattle.std.proofs.lemmas.Bool.Decides.{nat_tests}
-use Rattle.patricia_nodes.specs.declared.arena.Node.{Node}
+use Rattle.patricia_store.specs.Internal.Nodes.{Node}
 use Rattle.patricia_nodes.specs.Internal.Plans.{Plan, Nil, Cell, head, size, LaidOut, IsPlan}
 use Rattle.patricia_nodes.specs.Internal.Plans.{IsSound, read, plan_at, one, below}
 

@@ -7,15 +7,16 @@ use Rattle.std.proofs.lemmas.Bool.{cases_eq, cases_lt}
 use Rattle.std.proofs.lemmas.Bool.Decides.{nat_tests}
 use Rattle.std.proofs.lemmas.Option.{slice_get_within}
 use Rattle.patricia_model.specs.Siblings.{node}
-use Rattle.patricia_nodes.specs.declared.arena.Node.{Node}
+use Rattle.patricia_store.specs.Internal.Nodes.{Node}
 use Rattle.patricia_nodes.specs.Internal.Plans.{Plan, Nil, Cell, linked, head, siblings_in, size}
 use Rattle.patricia_nodes.specs.Internal.Plans.{count}
 use Rattle.patricia_nodes.specs.Internal.Plans.{one, below, times, LaidOut}
+use Rattle.patricia_nodes.specs.Internal.Writes.{IsWithin}
 use Rattle.patricia_nodes.specs.Internal.Growth.{tops, numbered_siblings, laid, SiblingsStand}
-use Rattle.patricia_nodes.specs.Internal.Growth.{AreTopSiblings}
+use Rattle.patricia_nodes.specs.Internal.Growth.{AreTopSiblings, top_bytes, bytes, bytes_below}
 use Rattle.patricia_nodes.specs.Internal.Growth.{count_below, size_below, BelowStands}
 use Rattle.patricia_nodes.specs.Internal.Relocation.{Mix, Empty, Done, Open, flat, first_of, Lies}
-use Rattle.patricia_nodes.specs.Internal.Relocation.{AreMoved, news, olds, waits}
+use Rattle.patricia_nodes.specs.Internal.Relocation.{AreMoved, news, olds, waits, waiting_bytes}
 use Rattle.patricia_nodes.proofs.PlanLemmas.{one-same}
 use Rattle.patricia_nodes.proofs.WriteLemmas.{stands-keep}
 
@@ -111,6 +112,17 @@ module _ {V : Type 0} where
   waits-opened n Nil = refl
   waits-opened n (Cell id l v c d) = omega (arith, waits-opened (suc n) d)
 
+  -- and the bytes of their labels
+  pub bytes-opened : (n : ℕ) (w : Plan V)
+      → waiting_bytes (opened n w) + top_bytes w ≡ bytes w
+  bytes-opened n Nil = refl
+  bytes-opened n (Cell id l v c d) = omega (arith, bytes-opened (suc n) d)
+
+  -- those are the bytes of the labels below
+  pub bytes-below : (n : ℕ) (w : Plan V) → waiting_bytes (opened n w) ≡ bytes_below w
+  bytes-below n Nil = refl
+  bytes-below n (Cell id l v c d) = omega (arith, bytes-below (suc n) d)
+
   -- its top nodes have the new numbers from the first on
   pub news-opened : (n : ℕ) (w : Plan V) (at : ℕ)
       → news (opened n w) at + below n at ≡ below (n + length (tops w)) at
@@ -193,6 +205,7 @@ module _ {V : Type 0} where
   Moved i n q w = record {
     left : (at : ℕ) → olds (step i n q) at + times (tops w) at ≡ olds q at;
     waits : waits (step i n q) + length (tops w) ≡ waits q;
+    bytes : waiting_bytes (step i n q) + top_bytes w ≡ waiting_bytes q;
     came : (at : ℕ)
         → news (step i n q) at + below n at ≡ news q at + below (n + length (tops w)) at;
   }
@@ -203,17 +216,18 @@ module _ {V : Type 0} where
   step-moves i n (Done id l v c d) w once (inl due) =
       let inner = step-moves i n c w (omega arith) due in
       let none = step_none i n d (omega (arith, some_at i c w due)) in
-      rw none (record { left = λ at. omega (arith, inner.left at); waits = omega (arith, inner.waits); came = λ at. omega (arith, inner.came at) })
+      rw none (record { left = λ at. omega (arith, inner.left at); waits = omega (arith, inner.waits); bytes = omega (arith, inner.bytes); came = λ at. omega (arith, inner.came at) })
   step-moves i n (Done id l v c d) w once (inr due) =
       let inner = step-moves i n d w (omega arith) due in
       let none = step_none i n c (omega (arith, some_at i d w due)) in
-      rw none (record { left = λ at. omega (arith, inner.left at); waits = omega (arith, inner.waits); came = λ at. omega (arith, inner.came at) })
+      rw none (record { left = λ at. omega (arith, inner.left at); waits = omega (arith, inner.waits); bytes = omega (arith, inner.bytes); came = λ at. omega (arith, inner.came at) })
   step-moves i n (Open id l v c d) w once (inr due) =
       let inner = step-moves i n d w (omega arith) due in
       rw (other_number id i (omega (arith, some_at i d w due)))
       (record {
         left = λ at. omega (arith, inner.left at);
         waits = omega (arith, inner.waits);
+        bytes = omega (arith, inner.bytes);
         came = λ at. omega (arith, inner.came at);
       })
   step-moves i n (Open id l v c d) w once (inl here) =
@@ -221,6 +235,7 @@ module _ {V : Type 0} where
       rw (here.0, same_number i, here.1, none) (record {
         left = λ at. omega (arith, olds-opened n w at);
         waits = omega (arith, waits-opened n w);
+        bytes = omega (arith, bytes-opened n w);
         came = λ at. omega (arith, news-opened n w at);
       })
 
@@ -318,6 +333,12 @@ module _ {V : Type 0} where
   pub length-laid : (n : ℕ) (w : Plan V) → length (laid n w) ≡ length (tops w)
   length-laid n Nil = refl
   length-laid n (Cell id l v c d) = omega (arith, length-laid (suc n) d)
+
+  -- the first of siblings with new numbers is among so many nodes, where they are
+  pub first_within : (n : ℕ) (w : Plan V) (first : Option ℕ) (len : ℕ)
+      → first ≡ head (numbered_siblings n w) → len ≡ n + length (tops w) → IsWithin first len
+  first_within n Nil first len is long = rw is tt
+  first_within n (Cell id l v c d) first len is long = rw is (omega (arith, long))
 
   -- right behind a list of nodes is the next one
   get-behind : (xs ys : List (Node V)) (y : Node V) → slice_get (xs ++ y ∷ ys) (length xs) ≡ Some y

@@ -3,69 +3,21 @@ use Rattle.std.proofs.Common.{◌≡◌, ◌≢◌, ℕ, zero, suc, ◌+◌, ◌
 use Rattle.std.proofs.Common.{set, map, take, Option, Some, None, slice_get, refl, sym, ap, ◌∙◌, arith}
 use Rattle.std.proofs.Common.{length-set, length-append}
 use Rattle.std.proofs.lemmas.List.{length-map, length-take, get_or_past}
-use Rattle.std.proofs.Math.Seq.{take-append_seam}
 use Rattle.std.proofs.lemmas.Bool.{cases_eq, cases_lt}
 use Rattle.std.proofs.lemmas.Bool.Decides.{nat_tests}
 use Rattle.std.proofs.lemmas.Option.{slice_get_within, slice_get-get_or, get_or_from_slice_get}
-use Rattle.patricia_nodes.specs.declared.arena.Node.{Node}
+use Rattle.patricia_store.specs.Internal.Nodes.{Node}
 use Rattle.patricia_nodes.specs.Internal.Plans.{Plan, Nil, Cell, linked, head, siblings_in, size, count, one, times, below}
 use Rattle.patricia_nodes.specs.Internal.Plans.{first, LaidOut, IsChain, IsSound}
-use Rattle.patricia_nodes.specs.Internal.Permutations.{IsOrder, AreInverse, Gathers}
-use Rattle.patricia_nodes.specs.Internal.Renumbering.{place_of, moved, renumbered, Renumbers, Rearranges}
+use Rattle.patricia_nodes.specs.Internal.Permutations.{IsOrder, AreInverse}
+use Rattle.patricia_store.specs.Internal.Renumbering.{place_of, moved, renumbered, Rearranges}
 use Rattle.patricia_nodes.specs.Internal.Order.{Lists}
 use Rattle.patricia_nodes.proofs.OrderLemmas.{times-append}
 use Rattle.patricia_nodes.proofs.PermuteLemmas.{counts_at}
 use Rattle.patricia_nodes.proofs.PlanLemmas.{one-same, below_le, below_in, below_out}
 use Rattle.patricia_nodes.proofs.WriteLemmas.{get-set_same, get-set_other, stands-keep}
 
--- what was written behind a loan of a whole list is there
-pub written_back : {X : Type 0} (n : ℕ) (xs ys : List X) → n ≡ length xs → take n (xs ++ ys) ≡ xs
-written_back n xs ys e = rw e (take-append_seam xs ys)
-
 module _ {V : Type 0} where
-  -- the nodes up to a number have new links
-  pub record RenumbersTo (places : List ℕ) (old : List (Node V)) (n : ℕ) (new : List (Node V)) : Type 0 where
-    pub done : (at : ℕ) (m : Node V) → at < n → slice_get old at ≡ Some m
-        → slice_get new at ≡ Some (renumbered places m)
-    pub left : (at : ℕ) → n ≤ at → slice_get new at ≡ slice_get old at
-    pub long : length new ≡ length old
-
-  -- none has at first
-  pub renumbers_none : (places : List ℕ) (old : List (Node V)) → RenumbersTo places old 0 old
-  renumbers_none places old = record { done = λ at m short e. absurd (omega arith); left = λ at h. refl; long = refl }
-
-  -- the next one has them
-  pub renumbers_next : (places : List ℕ) (old : List (Node V)) (n : ℕ) (new : List (Node V)) (m : Node V)
-      → RenumbersTo places old n new → slice_get new n ≡ Some m
-      → RenumbersTo places old (n + 1) (set new n (renumbered places m))
-  renumbers_next places old n new m r e = record {
-    done = λ at k short f. elim (cases_eq at n) [
-      | inl same ↦ let is : Some k ≡ Some m = sym f ∙ ap (slice_get old) same ∙ sym (r.left n (omega arith)) ∙ e in
-          ap (slice_get (set new n (renumbered places m))) same
-          ∙ get-set_same new n (renumbered places m) (slice_get_within new n m e)
-          ∙ sym (ap (λ o. elim o [ Some x ↦ Some (renumbered places x) | None ↦ None ]) is)
-      | inr other ↦ get-set_other new n at (renumbered places m) other ∙ r.done at k (omega (arith, short, other)) f
-    ];
-    left = λ at h. get-set_other new n at (renumbered places m) (λ z. absurd (omega (arith, h, z))) ∙ r.left at (omega (arith, h));
-    long = length-set new n (renumbered places m) ∙ r.long;
-  }
-
-  -- all have
-  pub renumbers_all : (places : List ℕ) (old : List (Node V)) (n : ℕ) (new : List (Node V))
-      → RenumbersTo places old n new → length old ≤ n → Renumbers places old new
-  renumbers_all places old n new r all = record {
-    node = λ at m e. r.done at m (omega (arith, all, slice_get_within old at m e)) e;
-    long = r.long;
-  }
-
-  -- nodes with new links, in their order
-  pub rearranged : (order places : List ℕ) (old mid new : List (Node V)) → Renumbers places old mid
-      → Gathers order mid new → Rearranges order places old new
-  rearranged order places old mid new r g = record {
-    node = λ i id n e f. g.item i id e ∙ r.node id n f;
-    long = g.long ∙ r.long;
-  }
-
   -- a plan with the new numbers
   abbrev pub renamed : List ℕ → Plan V → Plan V
   renamed places Nil = Nil

@@ -7,7 +7,7 @@ use Rattle.std.specs.Prelude.{reverse}
 use Rattle.patricia_keys.specs.Keys.{IsValid}
 use Rattle.patricia_model.specs.Siblings.{IsCanonical}
 use Rattle.patricia_model.specs.Internal.LabelCmp.{Passes}
-use Rattle.patricia_nodes.specs.declared.arena.Node.{Node}
+use Rattle.patricia_store.specs.Internal.Nodes.{Node}
 use Rattle.patricia_nodes.specs.declared.arena.NodeArena.{NodeArena}
 use Rattle.patricia_nodes.specs.declared.arena.seek.LinkRef.{LinkRef}
 use Rattle.patricia_nodes.specs.declared.arena.seek.LinkRef.TheVariants.{Root, Child}

@@ -1,14 +1,13 @@
 -- The steps of a walk to the place of a key.
 use Rattle.std.proofs.Common.{◌≡◌, ◌≢◌, ℕ, zero, suc, ◌+◌, ◌-◌, ◌<◌, ◌≤◌, List, [], ◌∷◌, length, get_or}
 use Rattle.std.proofs.Common.{Option, Some, None, refl, sym, ap, subst, ◌∙◌, inl, inr, arith}
-use Rattle.std.specs.Prelude.{vec_len}
 use Rattle.std.proofs.lemmas.Bool.{cases_eq}
 use Rattle.std.proofs.lemmas.Bool.Decides.{nat_tests}
 use Rattle.std.proofs.lemmas.List.Elements.{All-get_or}
 use Rattle.std.proofs.lemmas.Option.{slice_get_within}
 use Rattle.std.specs.Prelude.{reverse}
 use Rattle.std.specs.FinMap.{find}
-use Rattle.patricia_nodes.specs.declared.arena.Node.{Node}
+use Rattle.patricia_store.specs.Internal.Nodes.{Node}
 use Rattle.patricia_nodes.specs.declared.arena.NodeArena.{NodeArena}
 use Rattle.patricia_nodes.specs.declared.arena.seek.LinkRef.{LinkRef}
 use Rattle.patricia_nodes.specs.declared.arena.seek.SeekResult.{SeekResult}
@@ -26,7 +25,7 @@ use Rattle.patricia_nodes.specs.Internal.Places.{Frame, InChild, InSibling, fill
 use Rattle.patricia_nodes.specs.Internal.Places.{link_ref_of, node_above, ref_behind, node_of}
 use Rattle.patricia_nodes.specs.Internal.Places.{Leads, Matches}
 use Rattle.patricia_nodes.specs.Internal.Places.{MatchesAt, Placed, IsSeekResult}
-use Rattle.patricia_nodes.specs.Internal.Heads.{byte_of}
+use Rattle.patricia_store.specs.Internal.Heads.{byte_of}
 use Rattle.patricia_nodes.specs.Internal.NodeVecs.{IsRun}
 use Rattle.patricia_nodes.specs.Internal.Trails.{AreAbove, PlacedBehind}
 use Rattle.patricia_nodes.specs.Internal.Writes.{Ready}
@@ -389,8 +388,8 @@ module _ {item : List ℕ → Type 0} (kind : IsKeyKind item) {V : Type 0} {s : 
     fewer_past = rw is past.fewer
 
     -- so it ends in the vector
-    pub run_within : to < vec_len s.nodes
-    run_within = rw s.nodes.ok.0 (in_nodes kind whole ok walks_past refl)
+    pub run_within : to < length s.nodes.items
+    run_within = in_nodes kind whole ok walks_past refl
 
 module _ (item : List ℕ → Type 0) (rest : List ℕ) where
   -- a node at which a look-up ends begins what is in the place

@@ -1,7 +1,7 @@
 -- A value written at the place of a key.
 use Rattle.std.proofs.Common.{◌≡◌, ℕ, List, [], set, Option, Some, get_or, sym, ap, subst, ◌∙◌}
 use Rattle.std.specs.FinMap.{put}
-use Rattle.patricia_nodes.specs.declared.arena.Node.{Node}
+use Rattle.patricia_store.specs.Internal.Nodes.{Node}
 use Rattle.patricia_nodes.specs.declared.arena.NodeArena.{NodeArena}
 use Rattle.patricia_nodes.specs.declared.arena.seek.LinkRef.{LinkRef}
 use Rattle.patricia_nodes.specs.declared.arena.seek.Match.{Match}

@@ -1,7 +1,5 @@
 -- Words of contracts that no user of the library meets: a reader need not believe them.
 pub mod Growth
-pub mod Heads
-pub mod Labels
 pub mod Links
 pub mod Loans
 pub mod Merges
@@ -11,6 +9,5 @@ pub mod Permutations
 pub mod Places
 pub mod Plans
 pub mod Relocation
-pub mod Renumbering
 pub mod Trails
 pub mod Writes

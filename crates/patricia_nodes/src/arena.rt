@@ -1,23 +1,22 @@
 //! The nodes of a tree in one vector, each with its first child and its next sibling.
-ghost use Rattle.std.specs.Prelude.{◌≡◌, ◌<◌, [], None, vec_len, vec_capacity};
+ghost use Rattle.std.specs.Prelude.{◌≡◌, ◌+◌, ◌<◌, ◌≤◌, ◌++◌, ◌∷◌, [], None, length};
+ghost use Rattle.patricia_store.specs.Internal.Labels.{label_room};
+ghost use Rattle.patricia_store.specs.Internal.Nodes.{Node, IsLink, KeepsRoom};
+ghost use Rattle.patricia_nodes.specs.Internal.NodeVecs.{ReadsNode};
 ghost use Rattle.patricia_nodes.specs.Internal.Plans.{IsWellFormed, linked, siblings_of};
-ghost use Rattle.patricia_nodes.specs.Internal.Writes.{Frees, Relinks, LinkRefWithin};
+ghost use Rattle.patricia_nodes.specs.Internal.Writes.{Frees, Relinks, LinkRefWithin, IsWithin};
 ghost use Rattle.patricia_model.specs.Siblings.{end};
 
-mod head;
-pub mod interleave;
 mod lending;
 mod merging;
 pub mod node_vec;
 mod order;
-pub mod permute;
 mod relocation;
 mod room;
 pub mod seek;
 
 use crate::arena::node_vec::NodeVec;
 use crate::arena::seek::LinkRef;
-use crate::label::Label;
 use crate::link::{Link, NodeId};
 pub use relocation::DEPTH_FIRST;
 use std::alloc::Global;
@@ -28,30 +27,6 @@ use thiserror::Error;
 #[error("out of memory")]
 pub struct Refused<V> {
     pub value: V,
-}
-
-/// A node with its whole label. In a free node only `sibling` counts.
-// The label and the value come first: for most values they lie in one line of the cache.
-#[derive(Drop)]
-pub struct Node<V> {
-    pub label: Label,
-    pub value: Option<V>,
-    pub child: Link,
-    pub sibling: Link,
-}
-
-impl<V> Node<V> {
-    // A node with no label, value and child.
-    fn hollow(sibling: Link) -> Node<V>
-        ensures { result ≡ linked [] None None sibling }
-    {
-        Node {
-            label: Label::empty(),
-            value: None,
-            child: Link::none(),
-            sibling,
-        }
-    }
 }
 
 /// Nodes, the first of the top siblings, and the first of those that are free for use.
@@ -73,6 +48,7 @@ impl<V: Drop> NodeArena<V> {
     pub fn new(alloc: Global) -> NodeArena<V>
         ensures whole { IsWellFormed result }
         ensures siblings { siblings_of result ≡ end }
+        ensures none_free { result.free ≡ None }
     {
         NodeArena {
             nodes: NodeVec::new(alloc),
@@ -84,7 +60,7 @@ impl<V: Drop> NodeArena<V> {
 
     /// How many nodes the vector has, used or free.
     pub fn node_count(&self) -> usize
-        ensures { result ≡ vec_len self.now.nodes }
+        ensures { result ≡ length self.now.nodes.items }
     {
         self.nodes.len()
     }
@@ -93,7 +69,7 @@ impl<V: Drop> NodeArena<V> {
     pub fn clear(&mut self)
         ensures whole { IsWellFormed self.new }
         ensures siblings { siblings_of self.new ≡ end }
-        ensures none { vec_len self.new.nodes ≡ 0 }
+        ensures none { length self.new.nodes.items ≡ 0 }
     {
         self.nodes.clear();
         self.root = Link::none();
@@ -101,26 +77,56 @@ impl<V: Drop> NodeArena<V> {
         self.edits = 0;
     }
 
-    /// Takes a node out. Its place in the vector holds the number of the next free one, so that
-    /// nothing is asked for. That the nodes are whole then is for the caller to prove.
-    pub fn release(&mut self, id: NodeId) -> Node<V>
-        requires { id < vec_len self.old.nodes }
-        ensures frees { Frees self.old self.new id result }
-        ensures capacity { vec_capacity self.new.nodes ≡ vec_capacity self.old.nodes }
+    /// Takes a node out, and returns its value. Its place in the vector holds the number of the
+    /// next free one, so that nothing is asked for. That the nodes are whole then is for the caller
+    /// to prove.
+    pub fn release(&mut self, id: NodeId) -> Option<V>
+        requires there { id < length self.old.nodes.items }
+        requires free { IsWithin self.old.free (length self.old.nodes.items) }
+        ensures frees { (n : Node V) × Frees self.old self.new id n × (result ≡ n.value) }
+        ensures capacity { self.new.nodes.capacity ≡ self.old.nodes.capacity }
+        ensures room { self.old.nodes.room ≤ self.new.nodes.room }
     {
-        let hollow = Node::hollow(self.free);
+        // for the proof alone: there are no more nodes than links can say
+        let _few = self.nodes.len();
+        let next = self.free;
         self.free = Link::some(id);
         self.edits = self.edits.saturating_add(1);
-        self.nodes.replace(id, hollow)
+        let value = self.nodes.replace_contents(id, &[], Link::none(), None);
+        self.nodes.set_sibling(id, next);
+        value
+    }
+
+    /// Moves a node behind the last of another vector, with another sibling. What it leaves is
+    /// free. Does not allocate.
+    pub fn move_node(&mut self, id: NodeId, to: &mut NodeVec<V>, sibling: Link)
+        requires there { id < length self.old.nodes.items }
+        requires free { IsWithin self.old.free (length self.old.nodes.items) }
+        requires sibling { IsLink sibling }
+        requires nodes { length to.old.items < to.old.capacity }
+        requires bytes { ReadsNode self.old.nodes id
+            (λ n. label_room (length n.label) ≤ to.old.room) }
+        ensures moves { (n : Node V) × Frees self.old self.new id n
+            × (to.new.items ≡ to.old.items ++ linked n.label n.value n.child sibling ∷ []) }
+        ensures capacity { to.new.capacity ≡ to.old.capacity }
+        ensures bytes { ReadsNode self.old.nodes id
+            (λ n. to.old.room ≤ to.new.room + label_room (length n.label)) }
+        ensures kept { self.old.nodes.room ≤ self.new.nodes.room }
+    {
+        let child = self.nodes.child(id);
+        let value = self.nodes.replace_value(id, None);
+        to.push_reserved(self.nodes.label(id), value, child, sibling);
+        let _none = self.release(id);
     }
 
     /// Writes a number to a link. That the nodes are whole then is for the caller to prove.
     pub fn relink(&mut self, link_ref: LinkRef, to: Link)
-        requires { LinkRefWithin link_ref (vec_len self.old.nodes) }
+        requires there { LinkRefWithin link_ref (length self.old.nodes.items) }
+        requires within { IsWithin to (length self.old.nodes.items) }
         ensures relinks { Relinks self.old self.new link_ref to }
         ensures free { self.new.free ≡ self.old.free }
-        ensures len { vec_len self.new.nodes ≡ vec_len self.old.nodes }
-        ensures capacity { vec_capacity self.new.nodes ≡ vec_capacity self.old.nodes }
+        ensures len { length self.new.nodes.items ≡ length self.old.nodes.items }
+        ensures room { KeepsRoom self.old.nodes self.new.nodes }
     {
         match link_ref {
             LinkRef::Root => self.root = to,

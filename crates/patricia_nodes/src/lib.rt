@@ -1,11 +1,10 @@
-//! The nodes of a tree in one vector: labels and links, look-ups, room and growth, loans of values,
+//! The nodes of a tree in one vector: links, look-ups, room and growth, loans of values,
 //! and nodes that are unlinked or merged. And a count of steps.
 //!
 //! `patricia_tree` is the library to use. It depends on this crate.
 #![tactic(auto)]
 
 pub mod arena;
-pub mod label;
 pub mod link;
 pub mod steps;
 

@@ -1,6 +1,6 @@
 -- The steps of a walk over the common prefixes of a key.
 use Rattle.std.proofs.Common.{◌≡◌, ◌≢◌, ◌<◌, ◌∷◌, [], ℕ, ◌+◌, ◌-◌, ◌≤◌, true, false, List, ◌++◌, length, get_or, take}
-use Rattle.std.proofs.Common.{zero, suc, vec_len}
+use Rattle.std.proofs.Common.{zero, suc}
 use Rattle.std.proofs.Common.{drop, Option, Some, None, refl, sym, ap, subst, ◌∙◌, arith}
 use Rattle.std.specs.Option.{option_copied}
 use Rattle.std.specs.Prelude.{nat_eq}
@@ -20,9 +20,9 @@ use Rattle.patricia_model.proofs.SiblingsLemmas.{prefixed-prefixed}
 use Rattle.patricia_model.proofs.WalkLemmas.{prefixed-nil}
 use Rattle.patricia_model.proofs.PrefixLemmas.{begins_is, begins_other, along-append, along_own}
 use Rattle.patricia_model.proofs.PrefixLemmas.{along_down, along_past, along_stop}
-use Rattle.patricia_nodes.specs.declared.arena.Node.{Node}
+use Rattle.patricia_store.specs.Internal.Nodes.{Node}
 use Rattle.patricia_nodes.specs.declared.arena.NodeArena.{NodeArena}
-use Rattle.patricia_nodes.specs.Internal.Heads.{byte_of}
+use Rattle.patricia_store.specs.Internal.Heads.{byte_of}
 use Rattle.patricia_nodes.specs.Internal.NodeVecs.{IsRun}
 use Rattle.patricia_nodes.proofs.NodeVecLemmas.{node_there}
 use Rattle.patricia_nodes.specs.Internal.Plans.{Nil, siblings_in, plan_at, IsPlan, IsWellFormed}
@@ -250,8 +250,8 @@ module _ (item : List ℕ → Type 0) (kind : IsKeyKind item) {V : Type 0} (k : 
     moves_past_run = moves_run (to - from) from to d (omega (arith, run.forward)) w taken next run
 
     -- so it ends in the vector
-    pub run_ends : to < vec_len d.arena.now.nodes
-    run_ends = rw d.arena.now.nodes.ok.0 (descent_within item k (moved_to d (Some to)) to moves_past_run.descent refl)
+    pub run_ends : to < length d.arena.now.nodes.items
+    run_ends = descent_within item k (moved_to d (Some to)) to moves_past_run.descent refl
 
   -- a step from there is one
   pub moves_after : (d e m : Descent V) → MovesOn item k d m → Moves item k m e → Moves item k d e

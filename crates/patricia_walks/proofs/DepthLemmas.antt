@@ -7,7 +7,7 @@ use Rattle.std.proofs.lemmas.List.{length-append, get_or_append_left, get_or-app
 use Rattle.patricia_keys.specs.Keys.{IsKeyKind}
 use Rattle.patricia_model.specs.Siblings.{Siblings, end, node, prefixed, own, entries, IsCanonical}
 use Rattle.patricia_model.proofs.UniqueLemmas.{has_entry}
-use Rattle.patricia_nodes.specs.declared.arena.Node.{Node}
+use Rattle.patricia_store.specs.Internal.Nodes.{Node}
 use Rattle.patricia_nodes.specs.Internal.Plans.{Plan, Nil, Cell, head, siblings_in, size, plan_at}
 use Rattle.patricia_nodes.specs.Internal.Plans.{IsPlan}
 use Rattle.patricia_nodes.proofs.PlanLemmas.{plan_is}

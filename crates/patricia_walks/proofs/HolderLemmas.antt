@@ -20,7 +20,7 @@ use Rattle.patricia_walks.specs.declared.held_tree.ValueSlot.{ValueSlot}
 use Rattle.patricia_walks.specs.declared.held_tree.ValueSlot.TheVariants.{OfEmptyKey, OfNode}
 use Rattle.patricia_walks.specs.Internal.Holders.{numbered_slots, holders, held, uses, ReadsHeld}
 use Rattle.patricia_walks.proofs.NumberLemmas.{mark, marks, head-marks, length-marks}
-use Rattle.patricia_walks.proofs.NumberLemmas.{numbered_slots-length, own-uses, plan_at-marks}
+use Rattle.patricia_walks.proofs.NumberLemmas.{own-uses, plan_at-marks}
 use Rattle.patricia_walks.proofs.NumberLemmas.{reads-append, reads-marks, reads-own}
 use Rattle.patricia_walks.proofs.NumberLemmas.{canonical-marks, sound-marks, uses-append}
 use Rattle.patricia_walks.proofs.NumberLemmas.{uses-marks, uses-top}
@@ -78,13 +78,10 @@ module _ {V : Type 0} (s : NodeArena V) (whole : IsWellFormed s) where
       let v = s.nodes in
       let m : NodeArena ValueSlot = record {
         nodes = record {
-          ptr = v.ptr;
-          len = v.len;
-          cap = v.cap;
-          alloc = v.alloc;
           items = items;
-          ok = (v.ok.0 ∙ sym (numbered_slots-length 0 v.items), v.ok.1);
-          small = v.small;
+          capacity = v.capacity;
+          room = v.room;
+          used = v.used;
         };
         root = s.root;
         free = s.free;

@@ -8,7 +8,7 @@ use Rattle.patricia_model.specs.Siblings.{Siblings, end, node, prefixed, own, en
 use Rattle.patricia_model.proofs.SiblingsLemmas.{prefixed-append, prefixed-prefixed}
 use Rattle.patricia_model.proofs.UniqueLemmas.{has_entry}
 use Rattle.patricia_model.specs.Internal.WalkStates.{steps_in}
-use Rattle.patricia_nodes.specs.declared.arena.Node.{Node}
+use Rattle.patricia_store.specs.Internal.Nodes.{Node}
 use Rattle.patricia_nodes.specs.Internal.Plans.{Plan, Nil, Cell, head, siblings_in, plan_at}
 use Rattle.patricia_nodes.proofs.PlanLemmas.{plan_is}
 use Rattle.patricia_nodes.proofs.SeekLemmas.{opened, head_within}

@@ -10,7 +10,7 @@ use Rattle.patricia_model.specs.Internal.CursorSteps.{written_at, value_at}
 use Rattle.patricia_model.specs.Siblings.{own}
 use Rattle.patricia_model.specs.Trees.{IsTree, map_of}
 use Rattle.patricia_model.proofs.TreeLemmas.{from_sorted-put, tree_sorted}
-use Rattle.patricia_nodes.specs.declared.arena.Node.{Node}
+use Rattle.patricia_store.specs.Internal.Nodes.{Node}
 use Rattle.patricia_nodes.specs.Internal.Plans.{IsWellFormed, siblings_of, entries_of}
 use Rattle.patricia_model.specs.Internal.WalkStates.{entries_left}
 use Rattle.patricia_walks.specs.Internal.Positions.{IsPosition, state_of}

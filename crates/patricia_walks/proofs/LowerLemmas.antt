@@ -20,7 +20,7 @@ use Rattle.patricia_model.proofs.PrefixLemmas.{begins_is, begins_other, stop_bel
 use Rattle.patricia_model.proofs.RangeLemmas.{IsFrom, before-append, before-prefixed, before_all}
 use Rattle.patricia_model.proofs.RangeLemmas.{before_none, before_own, first_above, siblings_from}
 use Rattle.patricia_model.proofs.RangeLemmas.{below_from}
-use Rattle.patricia_nodes.specs.declared.arena.Node.{Node}
+use Rattle.patricia_store.specs.Internal.Nodes.{Node}
 use Rattle.patricia_nodes.specs.declared.arena.NodeArena.{NodeArena}
 use Rattle.patricia_nodes.specs.Internal.Plans.{IsWellFormed}
 use Rattle.patricia_nodes.specs.Internal.Plans.{siblings_of}

@@ -7,7 +7,7 @@ use Rattle.patricia_keys.proofs.KeyLemmas.{IsValid-nil, IsValid-append}
 use Rattle.patricia_model.specs.Siblings.{node, end, IsCanonical}
 use Rattle.patricia_model.specs.Internal.WalkStates.{entries_left, WaitsWithin}
 use Rattle.patricia_model.proofs.WalkLemmas.{step_down, step_back, left_filled}
-use Rattle.patricia_nodes.specs.declared.arena.Node.{Node}
+use Rattle.patricia_store.specs.Internal.Nodes.{Node}
 use Rattle.patricia_nodes.specs.declared.arena.NodeArena.{NodeArena}
 use Rattle.patricia_nodes.specs.Internal.Plans.{Plan, Nil, Cell, head, siblings_in, count, plan_at}
 use Rattle.patricia_nodes.specs.Internal.Plans.{siblings_of, IsPlan, IsWellFormed}

@@ -18,7 +18,7 @@ use Rattle.patricia_model.proofs.WalkLemmas.{waiting-snoc, waiting-longer}
 use Rattle.patricia_model.proofs.PrefixLemmas.{begins_is, begins_other, stop_below}
 use Rattle.patricia_model.proofs.RangeLemmas.{from-append, from-prefixed, from_all, from_start}
 use Rattle.patricia_model.proofs.RangeLemmas.{from_own, from_past, siblings_from, below_from}
-use Rattle.patricia_nodes.specs.declared.arena.Node.{Node}
+use Rattle.patricia_store.specs.Internal.Nodes.{Node}
 use Rattle.patricia_nodes.specs.Internal.Plans.{siblings_in, count, plan_at}
 use Rattle.patricia_nodes.proofs.PlanLemmas.{plan_is}
 use Rattle.patricia_nodes.proofs.SeekLemmas.{Opened, opened}

@@ -1,5 +1,5 @@
 //! A tree that a cursor owns, and who holds the value that it lent last.
-ghost use Rattle.std.specs.Prelude.{◌≡◌, ◌≢◌, ◌<◌, ◌↔◌, MatchOption, ℕ, Some, IsTrue, vec_len};
+ghost use Rattle.std.specs.Prelude.{◌≡◌, ◌≢◌, ◌<◌, ◌↔◌, MatchOption, ℕ, Some, IsTrue, length};
 ghost use Rattle.std.specs.Borrow.{sem};
 ghost use Rattle.std.specs.Option.{option_copied_mut, option_map};
 ghost use Rattle.patricia_nodes.specs.Internal.NodeVecs.{ReadsNode};
@@ -40,7 +40,7 @@ pub struct HeldTree<V> {
 
 /// Who holds the value of a node, where it has one.
 pub fn held_by<V>(nodes: &NodeVec<V>, id: NodeId) -> Option<ValueSlot>
-    requires { id < vec_len nodes.now }
+    requires { id < length nodes.now.items }
     ensures { ReadsNode nodes.now id (λ n. result ≡ option_map (λ _. OfNode id) n.value) }
 {
     match nodes.value(id) {

@@ -11,7 +11,7 @@ ghost use Rattle.patricia_nodes.specs.Internal.Plans.{IsWellFormed, siblings_of,
 ghost use Rattle.patricia_walks.specs.Internal.Lowers.{AreSiblingsAt, IsLower, IsLowerDescent};
 ghost use Rattle.patricia_walks.specs.Internal.Lowers.{LowerMoves};
 ghost use Rattle.patricia_walks.specs.Internal.Lowers.{IsFront, lower_entry};
-ghost use Rattle.patricia_nodes.specs.declared.arena.Node.{Node};
+ghost use Rattle.patricia_store.specs.Internal.Nodes.{Node};
 ghost use Rattle.patricia_walks.specs.Internal.Positions.{siblings_at, entries_below};
 
 use patricia_keys::{BorrowedBytes, Bytes};

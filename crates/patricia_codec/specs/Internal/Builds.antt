@@ -1,9 +1,10 @@
 -- What the steps of the builder say.
-use Rattle.std.specs.Prelude.{◌≡◌, ◌≢◌, ℕ, ◌+◌, ◌<◌, Bool, true, false, List, [], ◌∷◌, ◌++◌, length}
+use Rattle.std.specs.Prelude.{◌≡◌, ◌≢◌, ℕ, ◌<◌, Bool, true, false, List, [], ◌∷◌, ◌++◌, length}
 use Rattle.std.specs.Prelude.{map, reverse, Option, Some, None, is_some, slice_get, slice_set}
 use Rattle.std.specs.Option.{option_to_list}
 use Rattle.patricia_model.specs.Siblings.{IsBefore}
-use Rattle.patricia_nodes.specs.declared.arena.Node.{Node}
+use Rattle.patricia_store.specs.Internal.Nodes.{Node}
+use Rattle.patricia_nodes.specs.Internal.NodeVecs.{next_if}
 use Rattle.patricia_nodes.specs.Internal.Plans.{linked}
 use Rattle.patricia_wire.specs.Records.{Record}
 use Rattle.patricia_wire.specs.Forests.{IsInner}
@@ -14,10 +15,6 @@ use Rattle.patricia_codec.specs.declared.builder.Next.TheVariants.{Root, Below, 
 use Rattle.patricia_codec.specs.Internal.Growing.{Gap, Unlaid, IsOpenBeside, IsOpenAt, IsOpenWithin}
 
 -- the number, where the mark is set
-abbrev pub link_if : Bool → ℕ → Option ℕ
-link_if true n = Some n
-link_if false n = None
-
 abbrev pub number_if : Bool → ℕ → List ℕ
 number_if true n = n ∷ []
 number_if false n = []
@@ -62,7 +59,7 @@ module _ {V : Type 0} where
     pub nodes :
         new.nodes.items
         ≡ old.nodes.items
-        ++ linked old.label.items value (link_if child (count_of old + 1)) None ∷ []
+        ++ linked old.label.items value (next_if child (count_of old)) None ∷ []
     pub label : new.label.items ≡ []
     pub waiting : new.waiting.items ≡ old.waiting.items
     pub keeps : KeepsNodes old new

@@ -3,7 +3,7 @@ use Rattle.std.specs.Prelude.{◌≡◌, ◌≢◌, ℕ, ◌+◌, Bool, true, Li
 use Rattle.std.specs.Prelude.{Some, All, slice_get}
 use Rattle.patricia_model.specs.Siblings.{Siblings, own, entries, IsBeforeSiblings}
 use Rattle.patricia_model.specs.Walks.{values_of}
-use Rattle.patricia_nodes.specs.declared.arena.Node.{Node}
+use Rattle.patricia_store.specs.Internal.Nodes.{Node}
 use Rattle.patricia_nodes.specs.Internal.Plans.{Plan, siblings_in, head, size, count, below, linked}
 use Rattle.patricia_nodes.specs.Internal.Plans.{LaidOut}
 use Rattle.patricia_wire.specs.Records.{Record}

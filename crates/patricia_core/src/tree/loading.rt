@@ -96,14 +96,7 @@ impl<Q: BorrowedBytes, V: Drop> Loader<Q, V> {
             return Err(Refused { value });
         }
         let last = mem::replace(&mut self.last, Some(key));
-        match insert_along(
-            &mut self.tree.arena,
-            &mut self.trail,
-            self.tree.alloc,
-            last,
-            key,
-            value,
-        ) {
+        match insert_along(&mut self.tree.arena, &mut self.trail, last, key, value) {
             Ok(None) => {
                 self.tree.count += 1;
                 Ok(None)

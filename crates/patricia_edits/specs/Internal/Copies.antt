@@ -3,7 +3,7 @@ use Rattle.std.specs.Prelude.{◌≡◌, ◌≤◌, ℕ, Bool, false, List, IfSo
 use Rattle.std.specs.List.{All}
 use Rattle.patricia_model.specs.Siblings.{Siblings, end, node}
 use Rattle.patricia_model.specs.Clones.{CloneIsSame}
-use Rattle.patricia_nodes.specs.declared.arena.Node.{Node}
+use Rattle.patricia_store.specs.Internal.Nodes.{Node}
 use Rattle.patricia_nodes.specs.declared.arena.NodeArena.{NodeArena}
 use Rattle.patricia_nodes.specs.Internal.Growth.{numbered_siblings}
 use Rattle.patricia_nodes.specs.Internal.Plans.{Plan, head, siblings_in, size, entries_of}

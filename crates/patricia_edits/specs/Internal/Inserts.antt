@@ -1,10 +1,11 @@
 -- What is left of nodes in one vector where a value is inserted.
-use Rattle.std.specs.Prelude.{◌≡◌, ◌≢◌, ◌⊎◌, ℕ, ◌+◌, suc, List, length, take, Option, Some, None}
-use Rattle.std.specs.Prelude.{slice_get}
+use Rattle.std.specs.Prelude.{◌≡◌, ◌≢◌, ◌⊎◌, ℕ, ◌+◌, suc, List, length, take, drop, Option}
+use Rattle.std.specs.Prelude.{Some, None, slice_get}
+use Rattle.patricia_store.specs.Internal.Labels.{label_room, cut_room}
 use Rattle.std.specs.FinMap.{find}
 use Rattle.std.specs.declared.cmp.Ordering.{Ordering}
 use Rattle.std.specs.declared.cmp.Ordering.TheVariants.{Less}
-use Rattle.patricia_nodes.specs.declared.arena.Node.{Node}
+use Rattle.patricia_store.specs.Internal.Nodes.{Node}
 use Rattle.patricia_nodes.specs.declared.arena.NodeArena.{NodeArena}
 use Rattle.patricia_nodes.specs.declared.arena.seek.SeekResult.{SeekResult}
 use Rattle.patricia_nodes.specs.declared.arena.seek.LinkRef.{LinkRef}
@@ -38,9 +39,15 @@ module _ {V : Type 0} where
   IsBelowOrBeside child sibling q =
       ((child ≡ q) × (sibling ≡ Nil)) ⊎ ((child ≡ Nil) × (sibling ≡ q))
 
-  -- the nodes are this plan, with room for one less
-  abbrev pub Grows : NodeArena V → NodeArena V → Plan V → Type 0
-  Grows old new plan = Holds new plan × ((n : ℕ) → HasRoomFor old (suc n) → HasRoomFor new n)
+  -- the nodes are this plan, with room for one less, and for so many bytes less
+  abbrev pub Grows : NodeArena V → NodeArena V → ℕ → Plan V → Type 0
+  Grows old new bytes plan =
+      Holds new plan
+      × ((n left : ℕ) → HasRoomFor old (suc n) (bytes + left) → HasRoomFor new n left)
+
+  -- there is room for two nodes, and for so many bytes of a key beside a label that is cut
+  abbrev pub HasRoomToPut : NodeArena V → List ℕ → Type 0
+  HasRoomToPut s rest = (n : ℕ) → HasRoomFor s 2 (label_room (length rest) + cut_room n)
 
   -- a new node stands in the place at the link, with what was there below or beside it
   abbrev pub AddsNode : NodeArena V → NodeArena V → LinkRef → Node V → ℕ → Type 0
@@ -48,7 +55,8 @@ module _ {V : Type 0} where
       (frames : List (Frame V)) (child sibling q : Plan V) → link_ref ≡ link_ref_of frames
       → IsBelowOrBeside child sibling q → n.child ≡ head child → n.sibling ≡ head sibling
       → Holds old (fill frames q)
-      → Grows old new (fill frames (Cell id n.label n.value child sibling))
+      → Grows old new (label_room (length n.label))
+      (fill frames (Cell id n.label n.value child sibling))
 
   -- a new leaf stands below the upper node: before the lower one where the order is less, and
   -- else behind it
@@ -64,14 +72,14 @@ module _ {V : Type 0} where
       (frames : List (Frame V)) × (label : List ℕ) × (value : Option V) × (child : Plan V)
       × (sibling : Plan V) × Holds s (fill frames (Cell id label value child sibling))
 
-  -- the node keeps n bytes and takes this value; its own value and children are in a new node below
-  -- it, with this label
-  abbrev pub SplitsNode : NodeArena V → NodeArena V → ℕ → ℕ → List ℕ → Option V → ℕ → Type 0
-  SplitsNode old new id n lower w k =
+  -- the node keeps n bytes and takes this value; the rest of its label, its own value and children
+  -- are in a new node below it
+  abbrev pub SplitsNode : NodeArena V → NodeArena V → ℕ → ℕ → Option V → ℕ → Type 0
+  SplitsNode old new id n w k =
       (frames : List (Frame V)) (label : List ℕ) (value : Option V) (child sibling : Plan V)
       → Holds old (fill frames (Cell id label value child sibling))
-      → Grows old new
-      (fill frames (Cell id (take n label) w (Cell k lower value child Nil) sibling))
+      → Grows old new (cut_room (length label))
+      (fill frames (Cell id (take n label) w (Cell k (drop n label) value child Nil) sibling))
 
 -- the value that is found at each key whose place this is
 abbrev pub FindsAt : (List ℕ → Type 0) → {V Q : Type 0} → (Q → List ℕ) → NodeArena V → SeekResult Q

@@ -1,6 +1,6 @@
 -- What is left of nodes in one vector where a key is removed.
 use Rattle.std.specs.Prelude.{◌≡◌, ◌≢◌, ℕ, List, Option, Some, None, slice_get}
-use Rattle.patricia_nodes.specs.declared.arena.Node.{Node}
+use Rattle.patricia_store.specs.Internal.Nodes.{Node}
 use Rattle.patricia_nodes.specs.declared.arena.NodeArena.{NodeArena}
 use Rattle.patricia_nodes.specs.declared.arena.seek.SeekResult.{SeekResult}
 use Rattle.patricia_model.specs.Siblings.{IsCanonical, keys_of}

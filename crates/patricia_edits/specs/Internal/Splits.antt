@@ -1,10 +1,11 @@
 -- What is left of nodes in one vector where those under a prefix are removed.
-use Rattle.std.specs.Prelude.{◌≡◌, ℕ, ◌≤◌, suc, List, ◌++◌, length, drop, Option, Some, slice_get}
-use Rattle.patricia_nodes.specs.declared.arena.Node.{Node}
+use Rattle.std.specs.Prelude.{◌≡◌, ℕ, ◌≤◌, ◌+◌, suc, List, ◌++◌, length, drop, Option}
+use Rattle.patricia_store.specs.Internal.Labels.{joined_room}
 use Rattle.patricia_nodes.specs.declared.arena.NodeArena.{NodeArena}
 use Rattle.patricia_nodes.specs.declared.arena.seek.LinkRef.{LinkRef}
 use Rattle.patricia_nodes.specs.Internal.Plans.{Plan, Cell, siblings_in, size, Holds, IsWellFormed}
 use Rattle.patricia_nodes.specs.Internal.Plans.{siblings_of, entries_of}
+use Rattle.patricia_nodes.specs.Internal.Growth.{bytes}
 use Rattle.patricia_nodes.specs.Internal.Places.{Frame, fill, link_ref_of}
 use Rattle.patricia_model.specs.Prefixes.{outside, under}
 use Rattle.patricia_model.specs.Siblings.{node, end, own, entries, IsCanonical}
@@ -36,20 +37,24 @@ module _ {V : Type 0} where
       → Holds s (fill frames (Cell id label value child sibling))
       → (suc (size child) ≤ nodes) × (count ≡ length (own value ++ entries (siblings_in child)))
 
-  -- that node and those below it are gone, and stand in the other nodes under this label
-  abbrev pub MovesOut : NodeArena V → NodeArena V → LinkRef → ℕ → List ℕ → NodeArena V → Type 0
-  MovesOut old new link_ref id top moved =
+  -- so many bytes are enough for the labels of that node and of those below it, where its own is
+  -- the prefix, and what it has past so many bytes
+  abbrev pub FitsTree : NodeArena V → ℕ → List ℕ → ℕ → ℕ → Type 0
+  FitsTree s id prefix passed room =
+      (frames : List (Frame V)) (label : List ℕ) (value : Option V) (child sibling : Plan V)
+      → Holds s (fill frames (Cell id label value child sibling))
+      → joined_room (length prefix) (length (drop passed label)) + bytes child ≤ room
+
+  -- that node and those below it are gone, and stand in the other nodes under this label: the
+  -- prefix, and what the node's own has past so many bytes
+  abbrev pub MovesOut : NodeArena V → NodeArena V → LinkRef → ℕ → List ℕ → ℕ → NodeArena V → Type 0
+  MovesOut old new link_ref id prefix passed moved =
       (frames : List (Frame V)) (label : List ℕ) (value : Option V) (child sibling : Plan V)
       → link_ref ≡ link_ref_of frames
       → Holds old (fill frames (Cell id label value child sibling))
       → Holds new (fill frames sibling)
       × ((plan : Plan V) × Holds moved plan
-      × (siblings_in plan ≡ node top value (siblings_in child) end))
-
-  -- the label is the prefix, and what the node's label has past so many bytes
-  abbrev pub IsTopLabel : NodeArena V → ℕ → List ℕ → ℕ → List ℕ → Type 0
-  IsTopLabel s id prefix passed top =
-      (n : Node V) → slice_get s.nodes.items id ≡ Some n → top ≡ prefix ++ drop passed n.label
+      × (siblings_in plan ≡ node (prefix ++ drop passed label) value (siblings_in child) end))
 
 -- what is under the prefix was removed to other nodes, of which so many have a value, and the rest
 -- is left

@@ -1,6 +1,6 @@
 -- A look-up on its way, and at its end.
 use Rattle.std.specs.Prelude.{◌≡◌, ℕ, ◌<◌, ◌≤◌, ◌++◌, Bool, true, List, [], drop, take, length}
-use Rattle.std.specs.Prelude.{Option, Some, None, IfSome, slice_get, vec_len}
+use Rattle.std.specs.Prelude.{Option, Some, None, IfSome, slice_get}
 use Rattle.std.specs.List.{last_or}
 use Rattle.std.specs.FinMap.{find}
 use Rattle.patricia_keys.specs.Keys.{key_cmp, IsValid}
@@ -40,7 +40,7 @@ module _ (item : List ℕ → Type 0) {V : Type 0} (s : NodeArena V) where
   abbrev pub EndsAt : List ℕ → Option ℕ → Type 0
   EndsAt key None = find key_cmp key (entries_of s) ≡ None
   EndsAt key (Some id) =
-      (id < vec_len s.nodes)
+      (id < length s.nodes.items)
       × ReadsNode s.nodes id (λ n. n.value ≡ find key_cmp key (entries_of s))
 
   -- a look-up of the key has come to the siblings that begin with this node, with this left of it,
@@ -52,7 +52,7 @@ module _ (item : List ℕ → Type 0) {V : Type 0} (s : NodeArena V) where
   -- the node that is kept is that of the longest prefix of the key so far: whatever the value at
   -- the empty key is, the longest prefix is the last of this one and of those that are ahead
   pub record HasBest (key : List ℕ) (l : Lookup) : Type 0 where
-    pub within : IfSome l.best (λ id. (id < vec_len s.nodes) × (l.best_len ≤ length key)
+    pub within : IfSome l.best (λ id. (id < length s.nodes.items) × (l.best_len ≤ length key)
         × IsValid item (take l.best_len key))
     pub last : (top : Option V)
         → last_or (entry_at s key top l.best l.best_len) (along_ahead s key l.passed l.at)

@@ -1,6 +1,7 @@
 -- How nodes are relocated to another vector, one list of siblings after the other.
 use Rattle.std.specs.Prelude.{◌≡◌, ℕ, ◌+◌, ◌≤◌, suc, List, [], ◌∷◌, length, Option, Some, slice_get}
-use Rattle.patricia_nodes.specs.declared.arena.Node.{Node}
+use Rattle.patricia_store.specs.Internal.Nodes.{Node}
+use Rattle.patricia_store.specs.Internal.Labels.{label_room}
 use Rattle.patricia_nodes.specs.declared.arena.NodeArena.{NodeArena}
 use Rattle.patricia_nodes.specs.Internal.Plans.{Plan, Nil, Cell, linked, head, size, count, times}
 use Rattle.patricia_nodes.specs.Internal.Plans.{LaidOut}
@@ -47,6 +48,20 @@ module _ {V : Type 0} where
   abbrev pub size_below : Plan V → ℕ
   size_below Nil = 0
   size_below (Cell id label value child sibling) = size child + size_below sibling
+
+  -- how many bytes the labels take of the top siblings, of all nodes, and of those below the top
+  abbrev pub top_bytes : Plan V → ℕ
+  top_bytes Nil = 0
+  top_bytes (Cell id label value child sibling) = label_room (length label) + top_bytes sibling
+
+  abbrev pub bytes : Plan V → ℕ
+  bytes Nil = 0
+  bytes (Cell id label value child sibling) =
+      label_room (length label) + (bytes child + bytes sibling)
+
+  abbrev pub bytes_below : Plan V → ℕ
+  bytes_below Nil = 0
+  bytes_below (Cell id label value child sibling) = bytes child + bytes_below sibling
 
   -- what is below the top siblings stands in the nodes
   abbrev pub BelowStands : List (Node V) → Plan V → Type 0

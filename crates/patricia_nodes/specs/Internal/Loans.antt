@@ -1,5 +1,5 @@
 -- Nodes that lend a value, and what a write through the loan leaves.
-use Rattle.std.specs.Prelude.{◌≡◌, ℕ, ◌<◌, List, Option, Some, slice_get, vec_len}
+use Rattle.std.specs.Prelude.{◌≡◌, ℕ, ◌<◌, List, Option, Some, slice_get, length}
 use Rattle.std.specs.Borrow.{LendsIf, Fml, RattleType, MutBor}
 use Rattle.std.specs.FinMap.{find}
 use Rattle.patricia_nodes.specs.declared.arena.NodeArena.{NodeArena}
@@ -27,7 +27,7 @@ lends_value V s id r = LendsIf (the_row V) V s r (with_value s.now id) s.now
 -- at the key
 pub record HasValueNode (item : List ℕ → Type 0) {V : Type 0} (s : NodeArena V) (key : List ℕ)
     (id : ℕ) : Type 0 where
-  pub within : id < vec_len s.nodes
+  pub within : id < length s.nodes.items
   pub value : V
   pub is_value : value_of s id ≡ Some value
   pub found : find key_cmp key (entries_of s) ≡ Some value

@@ -3,7 +3,7 @@ use Rattle.std.specs.Prelude.{◌≡◌, ◌⊎◌, ℕ, ◌≤◌, List, [], �
 use Rattle.std.specs.Prelude.{MatchOption, slice_get}
 use Rattle.patricia_model.specs.Siblings.{IsCanonical}
 use Rattle.patricia_model.specs.Internal.Removals.{width}
-use Rattle.patricia_nodes.specs.declared.arena.Node.{Node}
+use Rattle.patricia_store.specs.Internal.Nodes.{Node}
 use Rattle.patricia_nodes.specs.declared.arena.NodeArena.{NodeArena}
 use Rattle.patricia_nodes.specs.declared.arena.seek.LinkRef.{LinkRef}
 use Rattle.patricia_nodes.specs.Internal.Plans.{Plan, Nil, Cell, siblings_in, Holds}
@@ -31,21 +31,14 @@ module _ {V : Type 0} where
       × (own : Option V) × (below : Plan V) × (sibling : Plan V)
       × Holds s (fill frames (Cell upper label value (Cell lower inner own below Nil) sibling))
 
-  -- the lower node is gone: the upper one has this label, and its value and children; this was
-  -- the upper one's value
-  abbrev pub Absorbs : NodeArena V → NodeArena V → ℕ → ℕ → List ℕ → Option V → Type 0
-  Absorbs old new upper lower joined taken =
+  -- the lower node is gone: the upper one has its label behind its own, and its value and children;
+  -- this was the upper one's value
+  abbrev pub Absorbs : NodeArena V → NodeArena V → ℕ → ℕ → Option V → Type 0
+  Absorbs old new upper lower taken =
       (frames : List (Frame V)) (label : List ℕ) (value : Option V) (inner : List ℕ)
       (own : Option V) (below sibling : Plan V)
       → Holds old (fill frames (Cell upper label value (Cell lower inner own below Nil) sibling))
-      → Holds new (fill frames (Cell upper joined own below sibling)) × (taken ≡ value)
-
-  -- the label is those of these two nodes, one after the other
-  abbrev pub IsJoined : NodeArena V → ℕ → ℕ → List ℕ → Type 0
-  IsJoined s upper lower joined =
-      (n m : Node V) → slice_get s.nodes.items upper ≡ Some n
-      → slice_get s.nodes.items lower ≡ Some m
-      → joined ≡ n.label ++ m.label
+      → Holds new (fill frames (Cell upper (label ++ inner) own below sibling)) × (taken ≡ value)
 
   -- the siblings are two, and these are their numbers
   abbrev pub IsPair : Plan V → ℕ → ℕ → Type 0

@@ -1,7 +1,8 @@
 -- How nodes in one vector stand for siblings.
 use Rattle.std.specs.Prelude.{◌≡◌, ℕ, zero, suc, ◌+◌, ◌≤◌, List, [], ◌∷◌, length, Option, Some}
 use Rattle.std.specs.Prelude.{None, nat_lt, nat_eq, if◌then◌else◌, slice_get}
-use Rattle.patricia_nodes.specs.declared.arena.Node.{Node}
+use Rattle.patricia_store.specs.Internal.Nodes.{Node}
+pub use Rattle.patricia_store.specs.Internal.Nodes.{linked}
 use Rattle.patricia_nodes.specs.declared.arena.NodeArena.{NodeArena}
 use Rattle.patricia_model.specs.Siblings.{Siblings, end, node, entries}
 
@@ -29,11 +30,6 @@ first [] = None
 first (id ∷ ids) = Some id
 
 module _ {V : Type 0} where
-  -- a node with these fields
-  abbrev pub linked : List ℕ → Option V → Option ℕ → Option ℕ → Node V
-  linked label value child sibling =
-      record { label = label; value = value; child = child; sibling = sibling }
-
   -- the number of the first node
   abbrev pub head : Plan V → Option ℕ
   head Nil = None

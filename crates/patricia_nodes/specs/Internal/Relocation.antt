@@ -1,13 +1,14 @@
 -- How far nodes of one vector are relocated to another, in which order so ever.
 use Rattle.std.specs.Prelude.{◌≡◌, ℕ, ◌+◌, ◌≤◌, Bool, true, false, nat_lt, if◌then◌else◌, List}
 use Rattle.std.specs.Prelude.{length, Option, Some, None, slice_get}
-use Rattle.patricia_nodes.specs.declared.arena.Node.{Node}
+use Rattle.patricia_store.specs.Internal.Nodes.{Node, Nodes}
 use Rattle.patricia_nodes.specs.declared.arena.NodeArena.{NodeArena}
 use Rattle.patricia_nodes.specs.Internal.Plans.{Plan, Nil, Cell, linked, head, siblings_in, size}
 use Rattle.patricia_nodes.specs.Internal.Plans.{count}
 use Rattle.patricia_nodes.specs.Internal.Plans.{one}
 use Rattle.patricia_nodes.specs.Internal.Plans.{below, LaidOut}
-use Rattle.patricia_nodes.specs.Internal.Growth.{TakesNodes, count_below, size_below}
+use Rattle.patricia_nodes.specs.Internal.Growth.{TakesNodes, count_below, size_below, bytes}
+use Rattle.patricia_nodes.specs.Internal.Growth.{bytes_below}
 use Rattle.patricia_nodes.specs.Internal.Growth.{numbered_siblings}
 
 -- a plan in the new vector: the children of a node are there too, or they are a plan in the old one
@@ -67,6 +68,12 @@ module _ {V : Type 0} where
   waits (Done id l v c d) = waits c + waits d
   waits (Open id l v c d) = size c + waits d
 
+  -- how many bytes the labels take of the nodes in the old part
+  abbrev pub waiting_bytes : Mix V → ℕ
+  waiting_bytes Empty = 0
+  waiting_bytes (Done id l v c d) = waiting_bytes c + waiting_bytes d
+  waiting_bytes (Open id l v c d) = bytes c + waiting_bytes d
+
   -- the marked nodes have their children in the new vector, and all nodes together are the plan
   pub record Laying (p : Plan V) (from : List (Node V)) (marks : ℕ → Bool) (to : List (Node V))
       (root : Option ℕ) : Type 0 where
@@ -89,26 +96,28 @@ module _ {V : Type 0} where
     pub split : (at : ℕ) → counts at + olds mix at ≡ count_below w at
     pub sized : number + waits mix ≡ size_below w
 
-  -- nodes moved from a vector, one list of siblings after the other: what was moved, and what waits
+  -- nodes moved from a vector, one list of siblings after the other: what was moved, and what
+  -- waits. The labels of what was moved took their bytes of the room that there was at first
   pub record Filling (old : NodeArena V) (w : Plan V) (now : NodeArena V) (marks : ℕ → Bool)
-      (to : List (Node V)) : Type 0 where
-    pub laying : Laying w now.nodes.items marks to (head (numbered_siblings 0 w))
+      (room : ℕ) (to : Nodes V) : Type 0 where
+    pub laying : Laying w now.nodes.items marks to.items (head (numbered_siblings 0 w))
     pub emptied : Emptied old w laying.mix now
+    pub bytes_taken : room + waiting_bytes laying.mix ≤ to.room + bytes_below w
 
-  -- the nodes from a number on wait for their children, and there is room for all that waits
-  pub record WaitsFrom (now : NodeArena V) (start : ℕ) (to : List (Node V)) (capacity : ℕ)
-      : Type 0 where
+  -- the nodes from a number on wait for their children, for which there is room
+  pub record WaitsFrom (now : NodeArena V) (start : ℕ) (to : Nodes V) : Type 0 where
     pub old : NodeArena V
     pub plan : Plan V
     pub marks : ℕ → Bool
-    pub filling : Filling old plan now marks to
+    pub room : ℕ
+    pub filling : Filling old plan now marks room to
     pub unmarked : (at : ℕ) → start ≤ at → marks at ≡ false
-    pub room : size plan ≤ capacity
+    pub nodes_fit : size plan ≤ to.capacity
+    pub bytes_fit : bytes_below plan ≤ room
 
   -- what is below the nodes from a number on has come to the new nodes, whatever came before
-  abbrev pub MovesFrom : (before after : NodeArena V) (start : ℕ) (to longer : List (Node V))
-      → Type 0
+  abbrev pub MovesFrom : (before after : NodeArena V) (start : ℕ) (to longer : Nodes V) → Type 0
   MovesFrom before after start to longer =
-      (old : NodeArena V) (w : Plan V) (marks : ℕ → Bool) → Filling old w before marks to
-      → ((at : ℕ) → start ≤ at → marks at ≡ false)
-      → Filling old w after (marked_from start marks) longer
+      (old : NodeArena V) (w : Plan V) (marks : ℕ → Bool) (room : ℕ)
+      → Filling old w before marks room to → ((at : ℕ) → start ≤ at → marks at ≡ false)
+      → Filling old w after (marked_from start marks) room longer

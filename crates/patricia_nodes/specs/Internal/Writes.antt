@@ -1,9 +1,9 @@
 -- What writes leave of nodes in one vector.
 use Rattle.std.specs.Prelude.{◌≡◌, ℕ, ◌+◌, ◌<◌, ◌≤◌, List, [], length, Option, Some, None}
-use Rattle.std.specs.Prelude.{slice_get, slice_set, vec_len, vec_capacity}
+use Rattle.std.specs.Prelude.{slice_get, slice_set, IfSome}
 use Rattle.std.specs.FinMap.{put}
 use Rattle.patricia_keys.specs.Keys.{key_cmp}
-use Rattle.patricia_nodes.specs.declared.arena.Node.{Node}
+use Rattle.patricia_store.specs.Internal.Nodes.{Node}
 use Rattle.patricia_nodes.specs.declared.arena.NodeArena.{NodeArena}
 use Rattle.patricia_nodes.specs.declared.arena.seek.SeekResult.{SeekResult}
 use Rattle.patricia_nodes.specs.declared.arena.seek.LinkRef.{LinkRef}
@@ -12,6 +12,10 @@ use Rattle.patricia_model.specs.Siblings.{IsCanonical}
 use Rattle.patricia_nodes.specs.Internal.Plans.{Plan, linked, first, IsChain, Holds, IsWellFormed}
 use Rattle.patricia_nodes.specs.Internal.Plans.{siblings_of, entries_of}
 use Rattle.patricia_nodes.specs.Internal.Places.{Frame, fill, link_ref_of, IsSeekResult}
+
+-- the link is none, or leads to one of so many nodes
+abbrev pub IsWithin : Option ℕ → ℕ → Type 0
+IsWithin link n = IfSome link (λ id. id < n)
 
 -- the node of the link is in the vector
 abbrev pub LinkRefWithin : LinkRef → ℕ → Type 0
@@ -33,12 +37,20 @@ module _ {V : Type 0} where
   RoomFor nodes free capacity n =
       (spare : List ℕ) × IsFree nodes free spare × (n + length nodes ≤ length spare + capacity)
 
-  abbrev pub HasRoomFor : NodeArena V → ℕ → Type 0
-  HasRoomFor s n = RoomFor s.nodes.items s.free (vec_capacity s.nodes) n
+  -- there is room for so many nodes more, and so many bytes of labels
+  pub record HasRoomFor (s : NodeArena V) (n bytes : ℕ) : Type 0 where
+    pub nodes_fit : RoomFor s.nodes.items s.free s.nodes.capacity n
+    pub bytes_fit : bytes ≤ s.nodes.room
+
+  -- where there was room for so many nodes, there is, and the bytes have no less
+  pub record KeepsRoomFor (old new : NodeArena V) (n : ℕ) : Type 0 where
+    pub nodes_fit : RoomFor old.nodes.items old.free old.nodes.capacity n
+        → RoomFor new.nodes.items new.free new.nodes.capacity n
+    pub bytes_fit : old.nodes.room ≤ new.nodes.room
 
   -- the vector has grown only where no node was free, and none is free then
   pub record Reuses (old new : NodeArena V) : Type 0 where
-    pub grown : vec_len old.nodes < vec_len new.nodes → new.free ≡ None
+    pub grown : length old.nodes.items < length new.nodes.items → new.free ≡ None
     pub none : old.free ≡ None → new.free ≡ None
 
   -- nothing was changed
@@ -46,6 +58,8 @@ module _ {V : Type 0} where
     pub nodes_is : new.nodes.items ≡ old.nodes.items
     pub root_is : new.root ≡ old.root
     pub free_is : new.free ≡ old.free
+    pub capacity : old.nodes.capacity ≤ new.nodes.capacity
+    pub room : old.nodes.room ≤ new.nodes.room
 
   -- the node was removed, and its number is the first that is free
   pub record Frees (old new : NodeArena V) (id : ℕ) (n : Node V) : Type 0 where

@@ -1,5 +1,5 @@
 //! The node of a key, and a loan of its value.
-ghost use Rattle.std.specs.Prelude.{◌≡◌, ◌≢◌, ◌<◌, [], None, MatchOption, vec_len};
+ghost use Rattle.std.specs.Prelude.{◌≡◌, ◌≢◌, ◌<◌, [], None, MatchOption, length};
 ghost use Rattle.std.specs.Borrow.{sem};
 ghost use Rattle.std.specs.Option.{option_copied_mut};
 ghost use Rattle.std.specs.FinMap as map;
@@ -29,7 +29,7 @@ impl<V> NodeArena<V> {
 
     /// Lends the value of a node.
     pub fn value_mut(&mut self, id: NodeId) -> Option<&mut V>
-        requires { id < vec_len self.old.nodes }
+        requires { id < length self.old.nodes.items }
         ensures* writes { sem 𝓛 (lends_value V.row self.entry id result) }
         ensures value { option_copied_mut result ≡ value_of self.old id }
     {

@@ -1,49 +1,41 @@
 //! Nodes that are unlinked, and nodes that are merged with their only child.
-ghost use Rattle.std.specs.Prelude.{◌≡◌, ◌<◌, IfOk, MatchOption, vec_len};
+ghost use Rattle.std.specs.Prelude.{◌≡◌, ◌≤◌, MatchOption};
+ghost use Rattle.patricia_nodes.specs.Internal.NodeVecs.{HasJoinedRoom};
 ghost use Rattle.patricia_model.specs.Internal.Removals.{width};
 ghost use Rattle.patricia_nodes.specs.Internal.Plans.{Plan, IsPlan, siblings_in};
 ghost use Rattle.patricia_nodes.specs.Internal.Merges.{HasLeafAt, Unlinks, HasLone, Absorbs};
-ghost use Rattle.patricia_nodes.specs.Internal.Merges.{IsJoined, IsPair, HasNodeAt, LeftAlone};
+ghost use Rattle.patricia_nodes.specs.Internal.Merges.{IsPair, HasNodeAt, LeftAlone};
 
+use crate::arena::NodeArena;
 use crate::arena::seek::LinkRef;
-use crate::arena::{Node, NodeArena};
-use crate::label::Label;
 use crate::link::{Link, NodeId};
 use patricia_keys::Bytes;
-use std::alloc::{AllocError, Global};
 
 impl<V: Drop> NodeArena<V> {
     /// Takes a node without children out of its place, and returns its value.
     pub fn unlink(&mut self, link_ref: LinkRef, id: NodeId) -> Option<V>
         requires { HasLeafAt self.old link_ref id }
-        ensures { Unlinks self.old self.new link_ref id result }
+        ensures unlinks { Unlinks self.old self.new link_ref id result }
+        ensures room { self.old.nodes.room ≤ self.new.nodes.room }
     {
-        let node = self.release(id);
-        self.relink(link_ref, node.sibling);
-        node.value
+        let sibling = self.nodes.sibling(id);
+        let value = self.release(id);
+        self.relink(link_ref, sibling);
+        value
     }
 
-    /// Merges a node with its only child under the joined label, and returns its own value.
-    pub fn merge_only_child(&mut self, upper: NodeId, lower: NodeId, label: Label) -> Option<V>
-        requires { HasLone self.old upper lower }
-        ensures { Absorbs self.old self.new upper lower label result }
+    /// Merges a node with its only child under their joined label, and returns its own value. Does
+    /// not allocate.
+    pub fn merge_only_child(&mut self, upper: NodeId, lower: NodeId) -> Option<V>
+        requires lone { HasLone self.old upper lower }
+        requires room { HasJoinedRoom self.old.nodes self.old.nodes.room upper lower }
+        ensures { Absorbs self.old self.new upper lower result }
     {
-        let Node { value, child, .. } = self.release(lower);
-        self.nodes.replace_contents(upper, label, child, value)
-    }
-
-    /// The labels of two nodes as one.
-    pub fn concat_labels(
-        &self,
-        alloc: Global,
-        upper: NodeId,
-        lower: NodeId,
-    ) -> Result<Label, AllocError>
-        requires upper { upper < vec_len self.now.nodes }
-        requires lower { lower < vec_len self.now.nodes }
-        ensures { IfOk result (λ label. IsJoined self.now upper lower label) }
-    {
-        Label::joined(alloc, self.nodes.label(upper), self.nodes.label(lower))
+        let child = self.nodes.child(lower);
+        let value = self.nodes.replace_value(lower, None);
+        let old = self.nodes.join_labels(upper, lower, child, value);
+        let _none = self.release(lower);
+        old
     }
 
     // The numbers of two siblings, if they are just two.

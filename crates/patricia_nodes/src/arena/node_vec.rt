@@ -1,395 +1,487 @@
-//! Nodes in a vector, and beside them the head of each.
-ghost use Rattle.std.specs.Prelude.{◌≡◌, ◌+◌, ◌<◌, ◌≤◌, ◌++◌, [], ◌∷◌, IfOk, IsOk, OnOk};
-ghost use Rattle.std.specs.Prelude.{ℕ, take, length, slice_index_or, slice_get};
-ghost use Rattle.std.specs.Prelude.{vec_len, vec_capacity};
+//! The nodes of a tree by their numbers.
+ghost use Rattle.std.specs.Prelude.{◌≡◌, ◌+◌, ◌<◌, ◌≤◌, ◌≢◌, ◌++◌, [], ◌∷◌, IfOk, IsOk, OnOk};
+ghost use Rattle.std.specs.Prelude.{IfSome, Some, None, OnErr};
+ghost use Rattle.patricia_model.specs.Clones.{CloneIsSame};
+ghost use Rattle.std.specs.Prelude.{ℕ, take, length, slice_get};
 ghost use Rattle.std.specs.Borrow.{sem};
 ghost use Rattle.std.specs.Option.{option_copied, option_copied_mut};
-ghost use Rattle.std.specs.Vec.{with_item};
-ghost use Rattle.patricia_nodes.specs.Internal.Heads.{byte_of, short_len_of, heads_from};
-ghost use Rattle.patricia_nodes.specs.Internal.Permutations.{AreInverse, GathersFirst};
-ghost use Rattle.patricia_nodes.specs.Internal.Renumbering.{moved, Renumbers};
-ghost use Rattle.patricia_nodes.specs.Internal.Renumbering.{KeepsRearranged};
+ghost use Rattle.patricia_store.specs.Internal.Packing.{most};
+ghost use Rattle.patricia_store.specs.Internal.Heads.{byte_of, short_len_of};
+ghost use Rattle.patricia_store.specs.Internal.Labels.{label_room, joined_room, cut_room};
+ghost use Rattle.patricia_store.specs.Internal.Nodes.{Node, IsLink, KeepsRoom, linked};
+ghost use Rattle.patricia_store.specs.Internal.Permutations.{AreInverse};
+ghost use Rattle.patricia_store.specs.Internal.Renumbering.{moved, KeepsRearranged};
 ghost use Rattle.patricia_nodes.specs.Internal.NodeVecs.{ReadsNode, Changes, Trades, value_in};
-ghost use Rattle.patricia_nodes.specs.Internal.NodeVecs.{IsRun, lends_value_at};
+ghost use Rattle.patricia_nodes.specs.Internal.NodeVecs.{Splits, Joins, IsRun, HasJoinedRoom};
+ghost use Rattle.patricia_nodes.specs.Internal.NodeVecs.{lends_value_at, next_if};
 
-use crate::arena::Node;
-use crate::arena::head::{
-    APART, FAR_BELOW, FAR_BESIDE, FIRST, Head, LEAF, apart_bit, below_code, beside_code,
-    head_of_node, leaf_bit,
-};
-use crate::arena::interleave::{count_strays, interleave};
-use crate::arena::permute::permute;
-use crate::label::Label;
 use crate::link::{Link, NodeId};
+use patricia_store::{Store, label_room};
 use std::alloc::{AllocError, Global};
 use std::marker::Model;
-use std::mem;
 
-/// The nodes of a tree, which contracts see as a vector of nodes.
+/// The nodes of a tree, which contracts see as a list of nodes, with how many there is room for and
+/// how many more bytes of labels.
 #[derive(Drop)]
 pub struct NodeVec<V> {
-    nodes: Vec<Node<V>>,
-    heads: Vec<Head>,
+    store: Store<V>,
 }
 
 impl<V> Model for NodeVec<V> {
-    ghost use Rattle.std.specs.Global.{Vec};
-    ghost use Rattle.patricia_nodes.specs.declared.arena.Node.{Node};
+    ghost use Rattle.patricia_store.specs.Internal.Nodes.{Nodes};
 
-    ghost Value = { Vec (Node V) };
+    ghost Value = { Nodes V };
 
-    ghost use Rattle.patricia_nodes.specs.Internal.Heads.{HasHeads};
-
-    ghost view = { λ v. v.nodes };
-
-    ghost invariant = { λ v. HasHeads v.nodes v.heads };
+    ghost view = { λ v. v.store };
 }
 
-// Writes the heads of nodes, in the room of those that were there.
-fn write_heads<V>(nodes: &[Node<V>], heads: &mut Vec<Head>)
-    requires { length nodes.now ≤ vec_capacity heads.old }
-    ensures items { heads.new.items ≡ heads_from 0 nodes.now }
-    ensures capacity { vec_capacity heads.new ≡ vec_capacity heads.old }
+// The number in a link.
+fn number(link: Link) -> Option<usize>
+    ensures { result ≡ link }
 {
-    heads.clear();
-    let mut id = 0;
-    while id < nodes.len() {
-        heads.push_reserved(head_of_node(id, &nodes[id]));
-        id += 1;
+    match link.get() {
+        None => None,
+        Some(id) => Some(id.index()),
+    }
+}
+
+// The link with a number.
+fn link(number: Option<usize>) -> Link
+    requires { IsLink number }
+    ensures { result ≡ number }
+{
+    match number {
+        None => Link::none(),
+        Some(id) => Link::some(NodeId::new(id)),
     }
 }
 
 /// The link to the same node, where each number has the place that is listed for it.
-pub fn moved_link(places: &[u32], link: Link) -> Link
-    ensures { result ≡ moved places.now link }
+pub fn moved_link(places: &[u32], at: Link) -> Link
+    ensures { result ≡ moved places.now at }
 {
-    let Some(id) = link.get() else {
+    let Some(id) = at.get() else {
         return Link::none();
     };
     match places.get(id.index()) {
         Some(&place) => Link::some(NodeId::new(place as usize)),
-        None => link,
+        None => at,
     }
-}
-
-// Links nodes by the new numbers of their children and siblings.
-fn renumber<V>(nodes: &mut [Node<V>], places: &[u32])
-    ensures { Renumbers places.now nodes.old nodes.new }
-{
-    let mut id = 0;
-    while id < nodes.len() {
-        let node = &mut nodes[id];
-        node.child = moved_link(places, node.child);
-        node.sibling = moved_link(places, node.sibling);
-        id += 1;
-    }
-}
-
-// Lays nodes in an order, where they are, at least the first `used` of them. Those below `settled`
-// are quickest where they are in that order already. Does not allocate.
-fn lay<V>(
-    nodes: &mut Vec<Node<V>>,
-    mut order: Vec<u32>,
-    places: Vec<u32>,
-    used: usize,
-    settled: usize,
-)
-    requires inverse { AreInverse order.items places.items }
-    requires long { length order.items ≡ vec_len nodes.old }
-    requires used { used ≤ vec_len nodes.old }
-    ensures items { GathersFirst used order.items nodes.old.items nodes.new.items }
-    ensures capacity { vec_capacity nodes.new ≡ vec_capacity nodes.old }
-{
-    let len = nodes.len();
-    let strays = count_strays(&order[..used], settled);
-    if nodes.capacity() > u32::MAX as usize || strays > nodes.capacity() - len {
-        permute(nodes.as_mut_slice(), order, places);
-        return;
-    }
-    order.truncate(used);
-    while nodes.len() < len + strays {
-        nodes.push_reserved(Node::hollow(Link::none()));
-    }
-    interleave(nodes.as_mut_slice(), order, len, settled);
 }
 
 impl<V> NodeVec<V> {
     /// No node. Does not allocate.
     pub fn new(alloc: Global) -> NodeVec<V>
-        ensures items { result.items ≡ [] }
+        ensures { result.items ≡ [] }
     {
         NodeVec {
-            nodes: Vec::new(alloc),
-            heads: Vec::new(alloc),
+            store: Store::new(alloc),
         }
     }
 
     /// How many nodes there are.
     pub fn len(&self) -> usize
-        ensures { result ≡ vec_len self.now }
+        ensures value { result ≡ length self.now.items }
+        ensures few { result < most }
     {
-        self.nodes.len()
+        self.store.len()
     }
 
     /// How many nodes there is room for.
     pub fn capacity(&self) -> usize
-        ensures { result ≡ vec_capacity self.now }
+        ensures value { result ≡ self.now.capacity }
+        ensures enough { length self.now.items ≤ result }
+        ensures few { result < most }
     {
-        self.nodes.capacity()
+        self.store.capacity()
+    }
+
+    /// How many more bytes of labels there is room for.
+    pub fn room(&self) -> usize
+        ensures { result ≡ self.now.room }
+    {
+        self.store.room()
     }
 
     /// The label of a node.
     pub fn label(&self, id: NodeId) -> &[u8]
-        requires { id < vec_len self.now }
+        requires { id < length self.now.items }
         ensures { ReadsNode self.now id (λ n. result.now ≡ n.label) }
     {
-        self.nodes[id.index()].label.as_slice()
+        self.store.label(id.index())
+    }
+
+    /// How many bytes the label of a node takes.
+    pub fn label_room(&self, id: NodeId) -> usize
+        requires { id < length self.now.items }
+        ensures { ReadsNode self.now id (λ n. result ≡ label_room (length n.label)) }
+    {
+        self.store.label_room(id.index())
+    }
+
+    /// How many bytes the labels of all nodes take, or `None` where that is more than are used.
+    /// Takes time in proportion to the nodes.
+    pub fn label_bytes(&self) -> Option<usize> {
+        self.store.label_bytes()
     }
 
     /// The value of a node, where there is one.
     pub fn value(&self, id: NodeId) -> Option<&V>
-        requires { id < vec_len self.now }
+        requires { id < length self.now.items }
         ensures { ReadsNode self.now id (λ n. option_copied result ≡ n.value) }
     {
-        self.nodes[id.index()].value.as_ref()
+        self.store.value(id.index())
     }
 
-    /// The first byte of a node's label, 0 where there is none. Does not read the node.
+    /// The first byte of a node's label, 0 where there is none. Reads its head alone.
     pub fn first_byte(&self, id: NodeId) -> u8
-        requires { id < vec_len self.now }
+        requires { id < length self.now.items }
         ensures { ReadsNode self.now id (λ n. result ≡ byte_of n.label) }
     {
-        (self.heads[id.index()].word / FIRST % 256) as u8
+        self.store.first_byte(id.index())
     }
 
-    /// The length of a node's label, in bytes, or 63 where it is no less. Does not read the node.
+    /// The length of a node's label, in bytes, or 63 where it is no less. Reads its head alone.
     pub fn short_len(&self, id: NodeId) -> usize
-        requires { id < vec_len self.now }
+        requires { id < length self.now.items }
         ensures { ReadsNode self.now id (λ n. result ≡ short_len_of n.label) }
     {
-        (self.heads[id.index()].word % LEAF) as usize
+        self.store.short_len(id.index())
     }
 
-    /// The first child of a node. Does not read the node, but where the child stands before it, or
-    /// 65,535 nodes or more behind it.
+    /// The first child of a node. Reads its head alone.
     pub fn child(&self, id: NodeId) -> Link
-        requires { id < vec_len self.now }
-        ensures { ReadsNode self.now id (λ n. result ≡ n.child) }
+        requires { id < length self.now.items }
+        ensures node { ReadsNode self.now id (λ n. result ≡ n.child) }
+        ensures link { IsLink result }
     {
-        match self.heads[id.index()].below {
-            0 => Link::none(),
-            FAR_BELOW => self.nodes[id.index()].child,
-            distance => Link::some(NodeId::new(id.index() + distance as usize)),
-        }
+        link(self.store.child(id.index()))
     }
 
-    /// The sibling of a node. Does not read the node, but where its sibling is one of the nodes
-    /// past the first four billion and does not come next.
+    /// The sibling of a node. Reads its head alone.
     pub fn sibling(&self, id: NodeId) -> Link
-        requires { id < vec_len self.now }
-        ensures { ReadsNode self.now id (λ n. result ≡ n.sibling) }
+        requires { id < length self.now.items }
+        ensures node { ReadsNode self.now id (λ n. result ≡ n.sibling) }
+        ensures link { IsLink result }
     {
-        match self.heads[id.index()].beside {
-            0 => Link::none(),
-            1 => Link::some(NodeId::new(id.index() + 1)),
-            FAR_BESIDE => self.nodes[id.index()].sibling,
-            code => Link::some(NodeId::new(code as usize - 2)),
-        }
+        link(self.store.sibling(id.index()))
     }
 
     /// The first node from this one on, along siblings of which each is the next node of the
-    /// vector, whose first byte is not less than `b`, or the last of them. Reads no node.
+    /// vector, whose first byte is not less than `b`, or the last of them. Reads heads alone, with
+    /// one comparison for each.
     pub fn run(&self, id: NodeId, b: u8) -> NodeId
-        requires within { (to : ℕ) → IsRun self.now b id to → to < vec_len self.now }
-        ensures { IsRun self.now b id result }
+        requires within { (to : ℕ) → IsRun self.now b id to → to < length self.now.items }
+        ensures run { IsRun self.now b id result }
+        ensures few { result < most }
     {
-        let mut at = id.index();
-        while self.heads[at].word < FIRST * b as u16 {
-            at += 1;
-        }
-        NodeId::new(at)
-    }
-
-    /// Adds a node behind the last. Does not allocate.
-    pub fn push_reserved(&mut self, node: Node<V>)
-        requires { vec_len self.old < vec_capacity self.old }
-        ensures items { self.new.items ≡ self.old.items ++ node ∷ [] }
-        ensures capacity { vec_capacity self.new ≡ vec_capacity self.old }
-    {
-        self.heads
-            .push_reserved(head_of_node(self.nodes.len(), &node));
-        self.nodes.push_reserved(node);
+        // for the proof alone: there are no more nodes than links can say
+        let _few = self.store.len();
+        NodeId::new(self.store.run(id.index(), b))
     }
 
     /// Puts another number for the first child of a node.
     pub fn set_child(&mut self, id: NodeId, to: Link)
-        requires { id < vec_len self.old }
-        ensures { Changes self.old self.new id (λ n. record n { child = to }) }
+        requires there { id < length self.old.items }
+        requires link { IfSome to (λ n. n < length self.old.items) }
+        ensures node { Changes self.old self.new id (λ n. record n { child = to }) }
+        ensures room { KeepsRoom self.old self.new }
     {
-        let head = &mut self.heads[id.index()];
-        head.word = head.word / FIRST * FIRST + (leaf_bit(to) + head.word % LEAF);
-        head.below = below_code(id.index(), to);
-        self.nodes[id.index()].child = to;
+        // for the proof alone: there are no more nodes than links can say
+        let _few = self.store.len();
+        self.store.set_child(id.index(), number(to));
     }
 
-    /// Puts another number for the sibling of a node.
+    /// Puts another number for the sibling of a node. Touches its head alone.
     pub fn set_sibling(&mut self, id: NodeId, to: Link)
-        requires { id < vec_len self.old }
-        ensures { Changes self.old self.new id (λ n. record n { sibling = to }) }
+        requires there { id < length self.old.items }
+        requires link { IfSome to (λ n. n < length self.old.items) }
+        ensures node { Changes self.old self.new id (λ n. record n { sibling = to }) }
+        ensures room { KeepsRoom self.old self.new }
     {
-        let head = &mut self.heads[id.index()];
-        head.word = apart_bit(id.index() + 1, to) + head.word % APART;
-        head.beside = beside_code(id.index() + 1, to);
-        self.nodes[id.index()].sibling = to;
-    }
-
-    /// Puts another node at a number, and returns the one that was there.
-    pub fn replace(&mut self, id: NodeId, node: Node<V>) -> Node<V>
-        requires { id < vec_len self.old }
-        ensures nodes { self.new ≡ with_item self.old id node }
-        ensures old { result ≡ slice_index_or self.old.items id result }
-    {
-        self.heads[id.index()] = head_of_node(id.index(), &node);
-        mem::replace(&mut self.nodes[id.index()], node)
-    }
-
-    /// Puts another label, first child and value to a node, and returns the value that was there.
-    pub fn replace_contents(
-        &mut self,
-        id: NodeId,
-        label: Label,
-        child: Link,
-        value: Option<V>,
-    ) -> Option<V>
-        requires { id < vec_len self.old }
-        ensures { Trades self.old self.new id
-            (λ n. record n { label = label; child = child; value = value }) result }
-    {
-        let node = &mut self.nodes[id.index()];
-        node.label = label;
-        node.child = child;
-        let old = mem::replace(&mut node.value, value);
-        self.heads[id.index()] = head_of_node(id.index(), node);
-        old
-    }
-
-    /// Keeps the first `n` bytes of a node's label, or all where there are fewer, puts another
-    /// value to it, or none, and returns the one that was there. Does not allocate.
-    pub fn cut_label(&mut self, id: NodeId, n: usize, value: Option<V>) -> Option<V>
-        requires { id < vec_len self.old }
-        ensures { Trades self.old self.new id
-            (λ m. record m { label = take n m.label; value = value }) result }
-    {
-        let node = &mut self.nodes[id.index()];
-        node.label.truncate(n);
-        let old = mem::replace(&mut node.value, value);
-        self.heads[id.index()] = head_of_node(id.index(), node);
-        old
-    }
-
-    /// Takes the value out of a node, and leaves it without children.
-    pub fn take_contents(&mut self, id: NodeId) -> Option<V>
-        requires { id < vec_len self.old }
-        ensures { Trades self.old self.new id
-            (λ n. record n { child = None; value = None }) result }
-    {
-        let node = &mut self.nodes[id.index()];
-        node.child = Link::none();
-        let old = node.value.take();
-        self.heads[id.index()] = head_of_node(id.index(), node);
-        old
+        // for the proof alone: there are no more nodes than links can say
+        let _few = self.store.len();
+        self.store.set_sibling(id.index(), number(to));
     }
 
     /// Puts another value to a node, or none, and returns the one that was there.
     pub fn replace_value(&mut self, id: NodeId, value: Option<V>) -> Option<V>
-        requires { id < vec_len self.old }
-        ensures { Trades self.old self.new id (λ n. record n { value = value }) result }
+        requires there { id < length self.old.items }
+        ensures node { Trades self.old self.new id (λ n. record n { value = value }) result }
+        ensures room { KeepsRoom self.old self.new }
     {
-        mem::replace(&mut self.nodes[id.index()].value, value)
+        self.store.replace_value(id.index(), value)
+    }
+
+    /// Takes the value out of a node, and leaves it without children.
+    pub fn take_contents(&mut self, id: NodeId) -> Option<V>
+        requires there { id < length self.old.items }
+        ensures node { Trades self.old self.new id
+            (λ n. record n { child = None; value = None }) result }
+        ensures room { KeepsRoom self.old self.new }
+    {
+        self.store.take_contents(id.index())
+    }
+
+    /// Puts another label, first child and value to a node, and returns the value that was there.
+    /// Does not allocate.
+    pub fn replace_contents(
+        &mut self,
+        id: NodeId,
+        label: &[u8],
+        child: Link,
+        value: Option<V>,
+    ) -> Option<V>
+        requires there { id < length self.old.items }
+        requires link { IfSome child (λ n. n < length self.old.items) }
+        requires room { label_room (length label.now) ≤ self.old.room }
+        ensures node { Trades self.old self.new id
+            (λ n. record n { label = label.now; child = child; value = value }) result }
+        ensures capacity { self.new.capacity ≡ self.old.capacity }
+        ensures room { self.old.room ≤ self.new.room + label_room (length label.now) }
+    {
+        // for the proof alone: there are no more nodes than links can say
+        let _few = self.store.len();
+        self.store
+            .replace_contents(id.index(), label, number(child), value)
     }
 
     /// Lends the value of a node.
     pub fn value_mut(&mut self, id: NodeId) -> Option<&mut V>
-        requires { id < vec_len self.old }
+        requires { id < length self.old.items }
         ensures* writes { sem 𝓛 (lends_value_at V.row self.entry id result) }
         ensures value { option_copied_mut result ≡ value_in (slice_get self.old.items id) }
     {
-        self.nodes[id.index()].value.as_mut()
+        self.store.value_mut(id.index())
+    }
+
+    /// Adds a node behind the last. Does not allocate.
+    pub fn push_reserved(&mut self, label: &[u8], value: Option<V>, child: Link, sibling: Link)
+        requires nodes { length self.old.items < self.old.capacity }
+        requires bytes { label_room (length label.now) ≤ self.old.room }
+        requires child { IsLink child }
+        requires sibling { IsLink sibling }
+        ensures items { self.new.items
+            ≡ self.old.items ++ linked label.now value child sibling ∷ [] }
+        ensures capacity { self.new.capacity ≡ self.old.capacity }
+        ensures room { self.old.room ≤ self.new.room + label_room (length label.now) }
+    {
+        self.store
+            .push_reserved(label, value, number(child), number(sibling));
+    }
+
+    /// Adds a node behind the last, whose label begins with `upper` and ends with `lower`. Does not
+    /// allocate.
+    pub fn push_joined(
+        &mut self,
+        upper: &[u8],
+        lower: &[u8],
+        value: Option<V>,
+        child: Link,
+        sibling: Link,
+    )
+        requires nodes { length self.old.items < self.old.capacity }
+        requires bytes { joined_room (length upper.now) (length lower.now) ≤ self.old.room }
+        requires child { IsLink child }
+        requires sibling { IsLink sibling }
+        ensures items { self.new.items
+            ≡ self.old.items ++ linked (upper.now ++ lower.now) value child sibling ∷ [] }
+        ensures capacity { self.new.capacity ≡ self.old.capacity }
+        ensures room { self.old.room
+            ≤ self.new.room + joined_room (length upper.now) (length lower.now) }
+    {
+        self.store
+            .push_joined(upper, lower, value, number(child), number(sibling));
+    }
+
+    /// Links a node to the one that is added next, as its sibling.
+    pub fn link_next(&mut self, id: NodeId)
+        requires { id < length self.old.items }
+        ensures node { Changes self.old self.new id
+            (λ n. record n { sibling = Some (length self.old.items) }) }
+        ensures room { KeepsRoom self.old self.new }
+    {
+        self.store.set_sibling(id.index(), Some(self.store.len()));
+    }
+
+    /// Keeps the first `n` bytes of a node's label, or all where there are fewer, and puts another
+    /// value to it. The rest of the label, the value and the children that the node had go to the
+    /// node `tail`, which becomes its first child and keeps its own sibling; returns the value that
+    /// `tail` had. Does not allocate, and copies no byte of the label.
+    pub fn split_label(&mut self, id: NodeId, n: usize, tail: NodeId, value: Option<V>) -> Option<V>
+        requires there { id < length self.old.items }
+        requires tail { tail < length self.old.items }
+        requires apart { tail ≢ id }
+        requires room { ReadsNode self.old id (λ a. cut_room (length a.label) ≤ self.old.room) }
+        ensures nodes { Splits self.old self.new id n tail value result }
+        ensures capacity { self.new.capacity ≡ self.old.capacity }
+        ensures room { ReadsNode self.old id
+            (λ a. self.old.room ≤ self.new.room + cut_room (length a.label)) }
+    {
+        self.store.split_label(id.index(), n, tail.index(), value)
+    }
+
+    /// Puts the label of another node behind that of a node, another first child and another
+    /// value, and returns the value that was there. Does not allocate.
+    pub fn join_labels(
+        &mut self,
+        upper: NodeId,
+        lower: NodeId,
+        child: Link,
+        value: Option<V>,
+    ) -> Option<V>
+        requires upper { upper < length self.old.items }
+        requires lower { lower < length self.old.items }
+        requires link { IfSome child (λ n. n < length self.old.items) }
+        requires room { HasJoinedRoom self.old self.old.room upper lower }
+        ensures nodes { Joins self.old self.new upper lower child value result }
+        ensures capacity { self.new.capacity ≡ self.old.capacity }
+    {
+        // for the proof alone: there are no more nodes than links can say
+        let _few = self.store.len();
+        self.store
+            .join_labels(upper.index(), lower.index(), number(child), value)
     }
 }
 
 impl<V: Drop> NodeVec<V> {
-    /// No node, with room for some.
-    pub fn with_capacity(alloc: Global, capacity: usize) -> Result<NodeVec<V>, AllocError>
+    /// No node, with room for some, and for some bytes of labels.
+    pub fn with_capacity(
+        alloc: Global,
+        nodes: usize,
+        bytes: usize,
+    ) -> Result<NodeVec<V>, AllocError>
         ensures items { IfOk result (λ v. v.items ≡ []) }
-        ensures len { IfOk result (λ v. vec_len v ≡ 0) }
-        ensures capacity { IfOk result (λ v. capacity ≤ vec_capacity v) }
-        ensures succeeds { capacity ≡ 0 → IsOk result }
+        ensures capacity { IfOk result (λ v. nodes ≤ v.capacity) }
+        ensures room { IfOk result (λ v. bytes ≤ v.room) }
+        ensures succeeds { nodes ≡ 0 → bytes ≡ 0 → IsOk result }
     {
-        let nodes = Vec::with_capacity(alloc, capacity)?;
-        let heads = Vec::with_capacity(alloc, capacity)?;
-        Ok(NodeVec { nodes, heads })
+        let store = Store::with_capacity(alloc, nodes, bytes)?;
+        Ok(NodeVec { store })
     }
 
-    /// Makes room for so many nodes more.
+    /// Makes room for so many nodes more, and for so many more bytes of labels. A label takes its
+    /// bytes, and 12 more where it has 255 or more; a split of a label of 255 bytes or more takes
+    /// 24; a joined label takes what both parts take as one. 281,474,976,710,654 nodes are the
+    /// most, and so many bytes: room for more is refused.
     #[cold]
-    pub fn reserve_exact(&mut self, more: usize) -> Result<(), AllocError>
+    pub fn reserve(&mut self, nodes: usize, bytes: usize) -> Result<(), AllocError>
         ensures items { self.new.items ≡ self.old.items }
-        ensures room { OnOk result (vec_len self.new + more ≤ vec_capacity self.new) }
+        ensures nodes { OnOk result (length self.new.items + nodes ≤ self.new.capacity) }
+        ensures bytes { OnOk result (bytes ≤ self.new.room) }
+        ensures capacity { self.old.capacity ≤ self.new.capacity }
+        ensures room { self.old.room ≤ self.new.room }
+        ensures succeeds { length self.old.items + nodes ≤ self.old.capacity
+            → bytes ≤ self.old.room → IsOk result }
     {
-        self.heads.reserve_exact(more)?;
-        self.nodes.reserve_exact(more)?;
+        self.store.reserve(nodes, bytes)
+    }
+
+    /// Adds a node behind the last, and makes room where there is none: for as many nodes again as
+    /// there are, and for a quarter more bytes. Where room is refused, the value is dropped.
+    pub fn push(
+        &mut self,
+        label: &[u8],
+        value: Option<V>,
+        child: Link,
+        sibling: Link,
+    ) -> Result<(), AllocError>
+        requires child { IsLink child }
+        requires sibling { IsLink sibling }
+        ensures items { OnOk result (self.new.items
+            ≡ self.old.items ++ linked label.now value child sibling ∷ []) }
+        ensures capacity { self.old.capacity ≤ self.new.capacity }
+    {
+        self.store
+            .push(label, value, number(child), number(sibling))
+    }
+
+    /// Adds a node behind the last, whose first child is the node that is added next, if it has
+    /// one. Makes room as `push` does.
+    pub fn push_in_order(
+        &mut self,
+        label: &[u8],
+        value: Option<V>,
+        child: bool,
+    ) -> Result<(), AllocError>
+        ensures items { OnOk result (self.new.items ≡ self.old.items
+            ++ linked label.now value (next_if child (length self.old.items)) None ∷ []) }
+        ensures kept { OnErr result (self.new.items ≡ self.old.items) }
+    {
+        self.store.reserve_node(label_room(label.len()))?;
+        // for the proof alone: the number behind that of the new node can be a link
+        let _few = self.store.capacity();
+        let next = self.store.len() + 1;
+        let below = if child { Some(next) } else { None };
+        self.store.push_reserved(label, value, below, None);
         Ok(())
     }
 
-    /// Adds a node behind the last.
-    pub fn push(&mut self, node: Node<V>) -> Result<(), AllocError>
-        ensures items { OnOk result (self.new.items ≡ self.old.items ++ node ∷ []) }
+    /// Makes room for the labels of two nodes as one.
+    pub fn reserve_joined(&mut self, upper: NodeId, lower: NodeId) -> Result<(), AllocError>
+        requires upper { upper < length self.old.items }
+        requires lower { lower < length self.old.items }
+        ensures items { self.new.items ≡ self.old.items }
+        ensures room { OnOk result (HasJoinedRoom self.old self.new.room upper lower) }
+        ensures kept { self.old.room ≤ self.new.room }
+        ensures capacity { self.old.capacity ≤ self.new.capacity }
     {
-        if self.nodes.len() == self.nodes.capacity() {
-            let more = self.nodes.len().max(4);
-            self.reserve_exact(more)?;
-        }
-        self.push_reserved(node);
-        Ok(())
+        let bytes = self.store.joined_room(upper.index(), lower.index());
+        self.store.reserve(0, bytes)
     }
 
     /// Lays the nodes in this order, where they are, links them by their new numbers, and keeps the
-    /// first `used` of them. Those with numbers below `settled` are quickest where they are in that
-    /// order already. Does not allocate.
-    pub fn rearrange(&mut self, order: Vec<u32>, places: Vec<u32>, used: usize, settled: usize)
+    /// first `used` of them. Their labels stay where they are. Does not allocate.
+    pub fn rearrange(&mut self, order: Vec<u32>, places: Vec<u32>, used: usize)
         requires inverse { AreInverse order.items places.items }
-        requires long { length order.items ≡ vec_len self.old }
-        requires used { used ≤ vec_len self.old }
+        requires long { length order.items ≡ length self.old.items }
         ensures items { KeepsRearranged used order.items places.items
             self.old.items self.new.items }
-        ensures capacity { vec_capacity self.new ≡ vec_capacity self.old }
+        ensures room { KeepsRoom self.old self.new }
     {
-        renumber(self.nodes.as_mut_slice(), places.as_slice());
-        lay(&mut self.nodes, order, places, used, settled);
-        self.nodes.truncate(used);
-        write_heads(self.nodes.as_slice(), &mut self.heads);
+        self.store.rearrange(order, places, used);
+    }
+
+    /// Lays the labels one behind another, in the order of the nodes, so that there is room again
+    /// where bytes belong to no node. Takes time in proportion to nodes and bytes. Where memory is
+    /// refused, labels stay and an error is returned.
+    pub fn lay_labels(&mut self) -> Result<(), AllocError>
+        ensures items { self.new.items ≡ self.old.items }
+        ensures capacity { self.new.capacity ≡ self.old.capacity }
+        ensures room { self.old.room ≤ self.new.room }
+    {
+        self.store.lay_labels(0)
     }
 
     /// Keeps the first `n` nodes, with room for half as many more, and drops the others. Room that
     /// is more than that is given back, where the allocator takes it.
     pub fn keep_first(&mut self, n: usize)
         ensures items { self.new.items ≡ take n self.old.items }
-        ensures room { vec_len self.new + 2 ≤ vec_capacity self.old
-            → vec_len self.new + 2 ≤ vec_capacity self.new }
+        ensures capacity { length self.new.items + 2 ≤ self.old.capacity
+            → length self.new.items + 2 ≤ self.new.capacity }
+        ensures room { self.new.room ≡ self.old.room }
     {
-        self.nodes.truncate(n);
-        self.heads.truncate(n);
-        let len = self.nodes.len();
-        self.nodes.shrink_to(len.saturating_add(len / 2 + 4));
-        self.heads.shrink_to(self.nodes.capacity());
+        self.store.keep_first(n);
     }
 
     /// Drops all nodes.
     pub fn clear(&mut self)
-        ensures items { self.new.items ≡ [] }
+        ensures { self.new.items ≡ [] }
     {
-        self.nodes.clear();
-        self.heads.clear();
+        self.store.clear();
+    }
+}
+
+impl<V: Clone> NodeVec<V> {
+    /// The same nodes in vectors of their own, each of which is reserved once. Asks for nothing
+    /// where there is no node.
+    pub fn try_clone(&self, alloc: Global) -> Result<NodeVec<V>, AllocError>
+        requires { (i : ℕ) (n : Node V) → slice_get self.now.items i ≡ Some n
+            → IfSome n.value (CloneIsSame V.is_clone) }
+        ensures same { IfOk result (λ v. v.items ≡ self.now.items) }
+        ensures nonempty { OnErr result (self.now.items ≢ []) }
+    {
+        let store = self.store.try_clone(alloc)?;
+        Ok(NodeVec { store })
     }
 }

@@ -2,14 +2,16 @@
 //!
 //! The nodes stay in their vector, which the allocator extends where it can. Beside it a relocation
 //! asks for eight bytes a node: the order, and the place of each node.
-ghost use Rattle.std.specs.Prelude.{◌≡◌, ◌≤◌, None, IsTrue, OnOk, OnErr, vec_len};
+ghost use Rattle.std.specs.Prelude.{◌≡◌, ◌<◌, ◌≤◌, None, IsTrue, OnOk, OnErr, length};
+ghost use Rattle.patricia_nodes.specs.Internal.NodeVecs.{HasJoinedRoom};
 ghost use Rattle.patricia_nodes.specs.Internal.Plans.{IsWellFormed, siblings_of};
-ghost use Rattle.patricia_nodes.specs.Internal.Writes.{FreeAtLeast, HasRoomFor, Reuses, Stays};
+ghost use Rattle.patricia_nodes.specs.Internal.Writes.{FreeAtLeast, HasRoomFor, KeepsRoomFor};
+ghost use Rattle.patricia_nodes.specs.Internal.Writes.{Reuses, Stays};
 
 use crate::arena::NodeArena;
 use crate::arena::node_vec::moved_link;
-use crate::arena::permute::inverse;
-use crate::link::Link;
+use crate::arena::order::inverse;
+use crate::link::{Link, NodeId};
 use std::alloc::{AllocError, Global};
 
 // The fewest nodes that are relocated for their order alone.
@@ -31,12 +33,13 @@ impl<V: Drop> NodeArena<V> {
         }
     }
 
-    /// Whether there is room for two more nodes.
-    pub fn has_room(&self) -> bool
+    /// Whether there is room for two more nodes and so many bytes of labels.
+    pub fn has_room(&self, bytes: usize) -> bool
         requires { IsWellFormed self.now }
-        ensures { IsTrue result → HasRoomFor self.now 2 }
+        ensures { IsTrue result → HasRoomFor self.now 2 bytes }
     {
         self.nodes.capacity() - self.nodes.len() + self.free_nodes() >= 2
+            && self.nodes.room() >= bytes
     }
 
     // Whether so many nodes were made or freed since all were relocated that look-ups gain by
@@ -46,31 +49,34 @@ impl<V: Drop> NodeArena<V> {
         len >= FEWEST_TO_RELOCATE && self.edits >= len
     }
 
-    /// Whether there is room for two more nodes, and no gain in relocating those that are there.
-    pub fn is_ready(&self) -> bool
+    /// Whether there is room for two more nodes and so many bytes of labels, and no gain in
+    /// relocating the nodes that are there.
+    pub fn is_ready(&self, bytes: usize) -> bool
         requires { IsWellFormed self.now }
-        ensures { IsTrue result → HasRoomFor self.now 2 }
+        ensures { IsTrue result → HasRoomFor self.now 2 bytes }
     {
-        self.has_room() && !self.is_worn()
+        self.has_room(bytes) && !self.is_worn()
     }
 
-    // Lays the nodes depth first, where they are, and drops those that are free.
+    // Lays the nodes depth first, where they are, and drops those that are free. Their labels are
+    // laid in the same order, where memory for that is there.
     fn relocate(&mut self, alloc: Global) -> Result<(), AllocError>
         requires { IsWellFormed self.old }
         ensures whole { IsWellFormed self.new }
         ensures siblings { siblings_of self.new ≡ siblings_of self.old }
         ensures none_free { OnOk result (self.new.free ≡ None) }
-        ensures fewer { vec_len self.new.nodes ≤ vec_len self.old.nodes }
-        ensures room { HasRoomFor self.old 2 → HasRoomFor self.new 2 }
+        ensures fewer { length self.new.nodes.items ≤ length self.old.nodes.items }
+        ensures room { KeepsRoomFor self.old self.new 2 }
         ensures unchanged { OnErr result (self.new ≡ self.old) }
     {
         let (order, used) = self.depth_first_order(alloc)?;
         let places = inverse(alloc, order.as_slice())?;
         self.root = moved_link(places.as_slice(), self.root);
-        let settled = self.nodes.len().saturating_sub(self.edits);
-        self.nodes.rearrange(order, places, used, settled);
+        self.nodes.rearrange(order, places, used);
         self.nodes.keep_first(used);
         self.free = Link::none();
+        // a refusal leaves the labels where they are
+        let _laid = self.nodes.lay_labels();
         Ok(())
     }
 
@@ -81,8 +87,8 @@ impl<V: Drop> NodeArena<V> {
         ensures whole { IsWellFormed self.new }
         ensures siblings { siblings_of self.new ≡ siblings_of self.old }
         ensures none_free { self.old.free ≡ None → self.new.free ≡ None }
-        ensures fewer { vec_len self.new.nodes ≤ vec_len self.old.nodes }
-        ensures room { HasRoomFor self.old 2 → HasRoomFor self.new 2 }
+        ensures fewer { length self.new.nodes.items ≤ length self.old.nodes.items }
+        ensures room { KeepsRoomFor self.old self.new 2 }
     {
         if self.nodes.len() >= FEWEST_TO_RELOCATE {
             // a refusal changes nothing
@@ -91,31 +97,47 @@ impl<V: Drop> NodeArena<V> {
         self.edits = 0;
     }
 
-    /// Makes room for two more nodes, and leaves each node at its number.
-    pub fn extend(&mut self) -> Result<(), AllocError>
+    /// Makes room for two more nodes and so many bytes of labels, and leaves each node at its
+    /// number.
+    pub fn extend(&mut self, bytes: usize) -> Result<(), AllocError>
         requires { IsWellFormed self.old }
         ensures stays { Stays self.old self.new }
-        ensures room { OnOk result (HasRoomFor self.new 2) }
+        ensures room { OnOk result (HasRoomFor self.new 2 bytes) }
     {
-        let more = self.nodes.len() / 2 + 4;
-        self.nodes.reserve_exact(more)
+        let more = if self.has_room(0) {
+            0
+        } else {
+            self.nodes.len() / 2 + 4
+        };
+        self.nodes.reserve(more, bytes)
     }
 
-    /// Makes room for two more nodes, and relocates the nodes as `settle` does. They may have other
-    /// numbers then.
-    pub fn reserve_two(&mut self, alloc: Global) -> Result<(), AllocError>
+    /// Makes room for two more nodes and so many bytes of labels, and relocates the nodes as
+    /// `settle` does. They may have other numbers then.
+    pub fn reserve_two(&mut self, alloc: Global, bytes: usize) -> Result<(), AllocError>
         requires whole { IsWellFormed self.old }
         ensures whole { IsWellFormed self.new }
         ensures siblings { siblings_of self.new ≡ siblings_of self.old }
-        ensures room { OnOk result (HasRoomFor self.new 2) }
+        ensures room { OnOk result (HasRoomFor self.new 2 bytes) }
         ensures reuses { Reuses self.old self.new }
         ensures unchanged { OnErr result (Stays self.old self.new) }
     {
-        if !self.has_room() {
-            self.extend()?;
+        if !self.has_room(bytes) {
+            self.extend(bytes)?;
         }
         self.settle(alloc);
         Ok(())
+    }
+
+    /// Makes room for the labels of two nodes as one, and leaves each node as it is.
+    pub fn reserve_joined(&mut self, upper: NodeId, lower: NodeId) -> Result<(), AllocError>
+        requires upper { upper < length self.old.nodes.items }
+        requires lower { lower < length self.old.nodes.items }
+        ensures stays { Stays self.old self.new }
+        ensures room { OnOk result
+            (HasJoinedRoom self.new.nodes self.new.nodes.room upper lower) }
+    {
+        self.nodes.reserve_joined(upper, lower)
     }
 
     /// Relocates the nodes for their order, where an eighth of them or more were made or freed
@@ -126,8 +148,8 @@ impl<V: Drop> NodeArena<V> {
         ensures whole { IsWellFormed self.new }
         ensures siblings { siblings_of self.new ≡ siblings_of self.old }
         ensures none_free { self.old.free ≡ None → self.new.free ≡ None }
-        ensures fewer { vec_len self.new.nodes ≤ vec_len self.old.nodes }
-        ensures room { HasRoomFor self.old 2 → HasRoomFor self.new 2 }
+        ensures fewer { length self.new.nodes.items ≤ length self.old.nodes.items }
+        ensures room { KeepsRoomFor self.old self.new 2 }
     {
         if self.edits >= self.nodes.len() / 8 {
             self.try_relocate(alloc);

@@ -1,5 +1,5 @@
 //! The place of a key among the nodes.
-ghost use Rattle.std.specs.Prelude.{◌≡◌, ◌≢◌, ◌<◌, ◌≤◌, [], vec_len, length, take, IfSome};
+ghost use Rattle.std.specs.Prelude.{◌≡◌, ◌≢◌, ◌<◌, ◌≤◌, [], length, take, IfSome};
 ghost use Rattle.std.specs.Prelude.{slice_index_or};
 ghost use Rattle.std.specs.Option.{option_copied};
 ghost use Rattle.std.specs.FinMap.{find};
@@ -7,7 +7,7 @@ ghost use Rattle.patricia_keys.specs.Keys.{key_cmp, IsValid};
 ghost use Rattle.patricia_model.specs.Siblings.{IsCanonical};
 ghost use Rattle.patricia_model.specs.Internal.Counts.{IsCounted};
 ghost use Rattle.patricia_model.specs.Internal.LabelCmp.{ComparesLabel};
-ghost use Rattle.patricia_nodes.specs.Internal.Heads.{byte_of};
+ghost use Rattle.patricia_store.specs.Internal.Heads.{byte_of};
 ghost use Rattle.patricia_nodes.specs.Internal.NodeVecs.{ReadsNode};
 ghost use Rattle.patricia_nodes.specs.Internal.Plans.{IsWellFormed, siblings_of, entries_of};
 ghost use Rattle.patricia_nodes.specs.Internal.Places.{IsSeekResult, node_of, node_under};
@@ -122,7 +122,7 @@ impl<V> NodeArena<V> {
     // first byte. Where it has one byte, the node is not read.
     #[inline(always)]
     fn passed_len(&self, id: NodeId, key: &[u8]) -> Option<usize>
-        requires within { id < vec_len self.now.nodes }
+        requires within { id < length self.now.nodes.items }
         requires nonempty { key.now ≢ [] }
         requires first { ReadsNode self.now.nodes id
             (λ n. byte_of n.label ≡ slice_index_or key.now 0 0) }
@@ -144,7 +144,7 @@ impl<V> NodeArena<V> {
     // How a key meets the label of a node. Where their first bytes differ, the node is not read.
     #[inline(always)]
     fn compare<Q: BorrowedBytes>(&self, id: NodeId, key: Q) -> LabelCmp<Q>
-        requires within { id < vec_len self.now.nodes }
+        requires within { id < length self.now.nodes.items }
         requires valid { ReadsNode self.now.nodes id (λ n. IsValid Q.Owned.item n.label) }
         requires nonempty { ReadsNode self.now.nodes id (λ n. n.label ≢ []) }
         requires key_filled { Q.key key ≢ [] }

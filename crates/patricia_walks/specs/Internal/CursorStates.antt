@@ -4,7 +4,7 @@ use Rattle.patricia_keys.specs.Keys.{IsValid}
 use Rattle.patricia_model.specs.Prefixes.{under}
 use Rattle.patricia_model.specs.Siblings.{IsCanonical}
 use Rattle.patricia_model.specs.Internal.WalkStates.{entries_left}
-use Rattle.patricia_nodes.specs.declared.arena.Node.{Node}
+use Rattle.patricia_store.specs.Internal.Nodes.{Node}
 use Rattle.patricia_nodes.specs.declared.arena.NodeArena.{NodeArena}
 use Rattle.patricia_nodes.specs.Internal.Plans.{IsPlan, plan_at, count}
 use Rattle.patricia_walks.specs.Internal.HeldTrees.{AreEntriesLeft, IsHeld, Refuses, Takes}

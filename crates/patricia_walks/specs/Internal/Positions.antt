@@ -7,7 +7,7 @@ use Rattle.patricia_model.specs.Siblings.{Siblings, end, node, prefixed, own, en
 use Rattle.patricia_model.specs.Siblings.{IsBeforeSiblings}
 use Rattle.patricia_model.specs.Prefixes.{under, outside}
 use Rattle.patricia_model.specs.Internal.WalkStates.{WalkState, IsWalkState, IsStep, IsWithinAll}
-use Rattle.patricia_nodes.specs.declared.arena.Node.{Node}
+use Rattle.patricia_store.specs.Internal.Nodes.{Node}
 use Rattle.patricia_nodes.specs.declared.arena.NodeArena.{NodeArena}
 use Rattle.patricia_walks.specs.declared.walk.Traversal.{Traversal}
 use Rattle.patricia_walks.specs.declared.into_walk.OwnedTraversal.{OwnedTraversal}

@@ -4,7 +4,7 @@ use Rattle.std.specs.Option.{option_copied}
 use Rattle.patricia_model.specs.Siblings.{Siblings, end, node, own, entries}
 use Rattle.patricia_model.specs.Walks.{values_of}
 use Rattle.patricia_model.specs.Internal.WalkStates.{steps_in}
-use Rattle.patricia_nodes.specs.declared.arena.Node.{Node}
+use Rattle.patricia_store.specs.Internal.Nodes.{Node}
 use Rattle.patricia_nodes.specs.Internal.Plans.{plan_at, IsPlan}
 use Rattle.patricia_walks.specs.Internal.Positions.{siblings_at}
 use Rattle.patricia_walks.specs.declared.value_walk.ValueTraversal.{ValueTraversal}

@@ -1,6 +1,5 @@
 //! How many values there are under a prefix, without memory for the way.
 ghost use Rattle.std.specs.Prelude.{◌≡◌, ◌≢◌, ◌+◌, ◌<◌, [], length, Any, IfSome, IfNone};
-ghost use Rattle.std.specs.Prelude.{vec_len};
 ghost use Rattle.patricia_model.specs.Prefixes.{under};
 ghost use Rattle.patricia_model.specs.Siblings.{own, entries, IsCanonical};
 ghost use Rattle.patricia_nodes.specs.Internal.NodeVecs.{ReadsNode};
@@ -20,7 +19,7 @@ const COUNTED_DEPTH: u32 = 64;
 
 // How many values a node has.
 fn count_value<V>(nodes: &NodeVec<V>, id: NodeId) -> usize
-    requires { id < vec_len nodes.now }
+    requires { id < length nodes.now.items }
     ensures { ReadsNode nodes.now id (λ n. result ≡ length (own n.value)) }
 {
     if nodes.value(id).is_some() { 1 } else { 0 }
@@ -34,6 +33,8 @@ fn count_siblings<V>(arena: &NodeArena<V>, first: Link, depth: u32) -> Option<us
         n ≡ length (entries (siblings_at arena.now.nodes.items first))) }
     ensures none { IfNone result (IsDeeper depth (siblings_at arena.now.nodes.items first)) }
 {
+    // for the proof alone: there are no more nodes than links can say
+    let _few = arena.nodes.len();
     let mut count = 0;
     let mut at = first;
     while let Some(id) = at.get() {
@@ -61,6 +62,8 @@ pub fn count_under<Q: BorrowedBytes, V>(arena: &NodeArena<V>, prefix: Q) -> Opti
         return Some(0);
     };
     let nodes = &start.arena.nodes;
+    // for the proof alone: there are no more nodes than links can say
+    let _few = nodes.len();
     let below = count_siblings(start.arena, nodes.child(start.top), COUNTED_DEPTH)?;
     Some(count_value(nodes, start.top) + below)
 }

@@ -1,5 +1,5 @@
-use Rattle.std.proofs.Common.{◌≡◌, ◌≤◌, ◌-◌, ℕ, Bool, false, [], vec_len}
-use Rattle.std.specs.Vec.{vec_capacity}
+use Rattle.std.proofs.Common.{◌≡◌, ◌≤◌, ◌-◌, ℕ, Bool, false, length}
+use Rattle.patricia_store.specs.Internal.Packing.{most}
 use Rattle.patricia_nodes.specs.Internal.Plans.{Plan, head}
 use Rattle.patricia_nodes.specs.Internal.Growth.{numbered_siblings}
 use Rattle.patricia_nodes.specs.Internal.Relocation.{Laying}
@@ -12,12 +12,11 @@ decreases-copy_siblings_below g l = l.depth
 -- of the nodes from the first on, those before this one have their children, with all below them
 abbrev pub invariant-loop-i : goal.invariant-loop-i
 invariant-loop-i g l = record {
-  capacity : vec_capacity l.to ≡ vec_capacity l.fn.to;
-  longer : vec_len l.fn.to ≤ vec_len l.to;
-  within : l.end ≤ vec_len l.to;
+  capacity : l.fn.to.capacity ≤ l.to.capacity;
+  longer : length l.fn.to.items ≤ length l.to.items;
+  within : l.end ≤ length l.to.items;
   on : l.start ≤ l.i;
-  level : l.depth ≡ 0 → l.end ≡ vec_len l.to;
-  nonempty : l.fn.to.items ≡ [] → l.to.items ≡ [];
+  level : l.depth ≡ 0 → l.end ≡ length l.to.items;
   laying : (w : Plan g.row.V.Denot) (marks : ℕ → Bool)
       → Laying w l.from.items marks l.fn.to.items (head (numbered_siblings 0 w))
       → ((at : ℕ) → l.start ≤ at → marks at ≡ false)
@@ -25,4 +24,4 @@ invariant-loop-i g l = record {
 }
 
 abbrev pub decreases-loop-i : goal.decreases-loop-i
-decreases-loop-i g l = vec_capacity l.to - l.i
+decreases-loop-i g l = most - l.i

@@ -13,8 +13,8 @@ copy_siblings_below-requires g c = record {
   room = c.requires.3;
 }
 
-pub returns-clause-laid : goal.returns-clause-laid
-returns-clause-laid g c = on_ok_weaker c.copy_siblings_below.result
+pub returns : goal.returns
+returns g c = on_ok_weaker c.copy_siblings_below.result
     (λ copied w l.
     let d = laying_done w c.args.from.now.items _ _ _
     (copied w unmarked (laying_start w c.args.from.now.items c.args.to.now.items l) (λ at h. refl))

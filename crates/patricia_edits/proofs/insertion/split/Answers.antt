@@ -1,37 +1,36 @@
-use Rattle.std.proofs.Common.{refl, ap, arith, take}
-use Rattle.patricia_nodes.specs.declared.arena.Node.{Node}
-use Rattle.patricia_nodes.specs.Internal.Plans.{linked}
-use Rattle.patricia_edits.proofs.AddLemmas.{splits, cell_within, spot_below, room_write, written_node}
+use Rattle.std.proofs.Common.{refl, ◌∙◌, arith}
+use Rattle.patricia_nodes.proofs.NodeVecLemmas.{node_there}
+use Rattle.patricia_edits.proofs.CutLemmas.{splits, tail_apart, read_made, needs_cut}
+use Rattle.patricia_edits.proofs.AddLemmas.{cell_within}
 use Rattle.patricia_edits.proofs.insertion.split.Goals as goal
 
-pub cut_label-value-requires : goal.cut_label-value-requires
-cut_label-value-requires g c =
-    let within = cell_within c.args.arena.now c.args.id c.requires.cell in
-    omega (arith, c.args.arena.now.nodes.ok.0)
+pub make-tail-requires-clause-room : goal.make-tail-requires-clause-room
+make-tail-requires-clause-room g c =
+    let there = node_there c.args.arena.now.nodes.items c.args.id (cell_within c.args.arena.now c.args.id c.requires.cell) in
+    record {
+      nodes_fit = (c.requires.room there.0 there.1).nodes_fit;
+      bytes_fit = omega arith;
+    }
 
-pub add-requires-clause-link_ref : goal.add-requires-clause-link_ref
-add-requires-clause-link_ref g c =
-    let put = c.cut_label-value.ensures in
-    rw put.2 (spot_below c.args.arena.now c.args.id put.0 put.1 (take c.args.n put.0.label) c.args.value c.requires.cell)
+pub split_label-none-requires-clause-there : goal.split_label-none-requires-clause-there
+split_label-none-requires-clause-there g c =
+    omega (arith, cell_within c.args.arena.now c.args.id c.requires.cell, c.make-tail.ensures.keeps)
 
-pub add-requires-clause-room : goal.add-requires-clause-room
-add-requires-clause-room g c =
-    let put = c.cut_label-value.ensures in
-    let h = c.requires.cell in
-    rw put.2 (room_write c.args.arena.now c.args.id put.0 put.1 h.0 h.1 (take c.args.n put.0.label) h.2 c.args.value h.3 h.4 h.5 1 c.requires.room)
+pub split_label-none-requires-clause-apart : goal.split_label-none-requires-clause-apart
+split_label-none-requires-clause-apart g c =
+    tail_apart c.args.arena.now c.make-tail.new.arena c.args.id c.make-tail.result c.args.n c.args.value
+    (rw (c.none.ensures, c.none-2.ensures) at c.make-tail.ensures.makes) c.requires.cell
+
+pub split_label-none-requires-clause-room : goal.split_label-none-requires-clause-room
+split_label-none-requires-clause-room g c = λ a reads.
+    let there = node_there c.args.arena.now.nodes.items c.args.id (cell_within c.args.arena.now c.args.id c.requires.cell) in
+    let same = read_made c.args.arena.now c.make-tail.new.arena c.args.id c.make-tail.result c.args.n c.args.value
+    (rw (c.none.ensures, c.none-2.ensures) at c.make-tail.ensures.makes) c.requires.cell a there.0 reads there.1 in
+    needs_cut a there.0 same (c.requires.room there.0 there.1).bytes_fit (omega (arith, c.make-tail.ensures.bytes))
 
 pub returns-clause-splits : goal.returns-clause-splits
 returns-clause-splits g c =
-    let put = c.cut_label-value.ensures in
-    let cut = take c.args.n put.0.label in
-    let within = cell_within c.args.arena.now c.args.id c.requires.cell in
-    let child = rw put.2 at c.child.ensures _
-    (written_node c.args.arena.now c.args.id put.0 put.1 (rw c.args.arena.now.nodes.ok.0 within) cut c.args.value) in
-    let lower : Node g.row.V.Denot = linked c.args.lower c.cut_label-value.result c.child.result c.none.result in
-    splits c.args.arena.now c.args.id put.0 put.1 c.add.new.arena c.args.n c.add.result lower cut c.args.value c.args.value refl
-    refl put.3 child c.none.ensures (rw put.2 at c.add.ensures.adds)
-
-pub child-requires : goal.child-requires
-child-requires g c =
-    let within = cell_within c.args.arena.now c.args.id c.requires.cell in
-    omega (arith, within, ap (λ v. v.len) c.cut_label-value.ensures.2, c.args.arena.now.nodes.ok.0)
+    splits c.args.arena.now c.make-tail.new.arena c.args.id c.make-tail.result c.args.n c.args.value
+    (rw (c.none.ensures, c.none-2.ensures) at c.make-tail.ensures.makes) _ c.split_label-none.result
+    c.split_label-none.ensures.nodes refl refl (c.split_label-none.ensures.capacity ∙ c.make-tail.ensures.capacity)
+    (λ a reads. omega (arith, c.split_label-none.ensures.room a reads, c.make-tail.ensures.bytes))

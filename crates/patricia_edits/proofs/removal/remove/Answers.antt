@@ -1,8 +1,9 @@
 use Rattle.std.proofs.Common.{sym, ◌∙◌}
-use Rattle.std.proofs.lemmas.Result.{IfOk-weaker, on_ok_weaker}
+use Rattle.std.proofs.lemmas.Result.{IfOk-weaker, on_ok_weaker, on_err_weaker}
 use Rattle.patricia_nodes.proofs.SeekLemmas.{sought_at, find_none, find_some}
 use Rattle.patricia_edits.proofs.RemoveLemmas.{node_here, here_is, others_none, removed_or_same}
 use Rattle.patricia_edits.proofs.RemoveLemmas.{here_stop}
+use Rattle.patricia_edits.proofs.StayLemmas.{siblings_stay}
 use Rattle.patricia_edits.proofs.removal.remove.Goals as goal
 
 pub returns-in-Some-clause-whole : goal.returns-in-Some-clause-whole
@@ -34,3 +35,6 @@ returns-in-None-clause-old g c =
 pub returns-in-None-clause-ok : goal.returns-in-None-clause-ok
 returns-in-None-clause-ok g c =
     others_none (sought_at g.met.Q.Owned.Bytes.lawful c.requires.whole c.requires.siblings c.seek-place.ensures) (sym c.here.ensures ∙ c.in-None.is)
+
+pub returns-in-Some-clause-unchanged : goal.returns-in-Some-clause-unchanged
+returns-in-Some-clause-unchanged g c = on_err_weaker c.remove_at.result (λ stays. siblings_stay stays) c.remove_at.ensures.unchanged

@@ -1,8 +1,9 @@
-use Rattle.std.proofs.Common.{arith}
 use Rattle.patricia_nodes.proofs.SeekLemmas.{ready_at, ready_here}
-use Rattle.patricia_edits.proofs.RemoveLemmas.{leaf_stands, leaf_at, leaf_value, leaf_spared}
-use Rattle.patricia_edits.proofs.RemoveLemmas.{both_within, leaf_joins, leaf_lone, leaf_left}
+use Rattle.patricia_edits.proofs.LeafLemmas.{leaf_stands, leaf_at, leaf_value, leaf_spared}
+use Rattle.patricia_edits.proofs.LeafLemmas.{both_within, leaf_joins, leaf_lone, leaf_left}
+use Rattle.patricia_edits.proofs.LeafLemmas.{leaf_room}
 use Rattle.patricia_edits.proofs.RemoveLemmas.{on_err_from}
+use Rattle.patricia_edits.proofs.StayLemmas.{leaf_stays, unlinks_stay}
 use Rattle.patricia_edits.proofs.removal.remove_leaf.Goals as goal
 
 pub would_merge-requires : goal.would_merge-requires
@@ -15,50 +16,54 @@ pub returns-in_default-clause-ok : goal.returns-in_default-clause-ok
 returns-in_default-clause-ok g c key p =
     let here = ready_at g.met.Q.Owned.Bytes.lawful c.requires.ready key p in
     leaf_spared here c.requires.here c.requires.leaf c.requires.valued c.unlink.new.self
-    c.unlink.result (rw c.in_default.is at c.would_merge.ensures) c.unlink.ensures
+    c.unlink.result (rw c.in_default.is at c.would_merge.ensures) c.unlink.ensures.unlinks
 
 pub returns-in_default-clause-value : goal.returns-in_default-clause-value
 returns-in_default-clause-value g c =
     let here = ready_here g.met.Q.Owned.Bytes.lawful c.requires.ready in
-    leaf_value here c.requires.here c.requires.leaf c.requires.valued c.unlink.new.self c.unlink.result c.unlink.ensures
+    leaf_value here c.requires.here c.requires.leaf c.requires.valued c.unlink.new.self c.unlink.result c.unlink.ensures.unlinks
 
-pub concat_labels-requires-clause-upper : goal.concat_labels-requires-clause-upper
-concat_labels-requires-clause-upper g c =
+pub reserve_joined-requires : goal.reserve_joined-requires
+reserve_joined-requires g c =
     let here = ready_here g.met.Q.Owned.Bytes.lawful c.requires.ready in
     let both = both_within here c.requires.here c.requires.leaf c.requires.valued c.in-Some.alone.0
     c.in-Some.alone.1 (rw c.in-Some.is at c.would_merge.ensures) in
-    omega (arith, both.0)
+    record { upper = both.0; lower = both.1 }
 
-pub concat_labels-requires-clause-lower : goal.concat_labels-requires-clause-lower
-concat_labels-requires-clause-lower g c =
-    let here = ready_here g.met.Q.Owned.Bytes.lawful c.requires.ready in
-    let both = both_within here c.requires.here c.requires.leaf c.requires.valued c.in-Some.alone.0
-    c.in-Some.alone.1 (rw c.in-Some.is at c.would_merge.ensures) in
-    omega (arith, both.1)
-
-pub returns-in_err-label-clause-joins : goal.returns-in_err-label-clause-joins
-returns-in_err-label-clause-joins g c =
+pub returns-in_err-reserve_joined-clause-joins : goal.returns-in_err-reserve_joined-clause-joins
+returns-in_err-reserve_joined-clause-joins g c =
     on_err_from c.from_residual.result (λ key p.
     let here = ready_at g.met.Q.Owned.Bytes.lawful c.requires.ready key p in
     leaf_joins here c.requires.here c.requires.leaf c.requires.valued c.in-Some.alone.0 c.in-Some.alone.1 (rw c.in-Some.is at c.would_merge.ensures))
 
 pub unlink-taken-requires : goal.unlink-taken-requires
-unlink-taken-requires g c = leaf_at (ready_here g.met.Q.Owned.Bytes.lawful c.requires.ready) c.requires.here c.requires.leaf c.requires.valued
+unlink-taken-requires g c =
+    leaf_stays c.reserve_joined.ensures.stays
+    (leaf_at (ready_here g.met.Q.Owned.Bytes.lawful c.requires.ready) c.requires.here c.requires.leaf c.requires.valued)
 
 pub merge_only_child-none-requires : goal.merge_only_child-none-requires
 merge_only_child-none-requires g c =
     let here = ready_here g.met.Q.Owned.Bytes.lawful c.requires.ready in
-    leaf_lone here c.requires.here c.requires.leaf c.requires.valued c.in-Some.alone.0 c.in-Some.alone.1
-    (rw c.in-Some.is at c.would_merge.ensures) c.unlink-taken.new.self c.unlink-taken.result c.unlink-taken.ensures
+    let alone = rw c.in-Some.is at c.would_merge.ensures in
+    let unlinks = unlinks_stay c.reserve_joined.ensures.stays c.unlink-taken.new.self c.args.place.now.link_ref c.args.id c.unlink-taken.result c.unlink-taken.ensures.unlinks in
+    record {
+      lone = leaf_lone here c.requires.here c.requires.leaf c.requires.valued c.in-Some.alone.0 c.in-Some.alone.1
+          alone c.unlink-taken.new.self c.unlink-taken.result unlinks;
+      room = leaf_room here c.requires.here c.requires.leaf c.requires.valued c.in-Some.alone.0 c.in-Some.alone.1
+          alone c.unlink-taken.new.self c.unlink-taken.result unlinks c.reserve_joined.new.self.nodes
+          c.reserve_joined.ensures.stays.nodes_is c.in_ok-reserve_joined.ensures.room c.unlink-taken.ensures.room;
+    }
 
 pub returns-clause-ok : goal.returns-clause-ok
 returns-clause-ok g c key p =
     let here = ready_at g.met.Q.Owned.Bytes.lawful c.requires.ready key p in
     leaf_left here c.requires.here c.requires.leaf c.requires.valued c.in-Some.alone.0 c.in-Some.alone.1
-    (rw c.in-Some.is at c.would_merge.ensures) c.unlink-taken.new.self c.unlink-taken.result c.unlink-taken.ensures
-    c.merge_only_child-none.new.self c.in_ok-label.label c.merge_only_child-none.result c.in_ok-label.ensures c.merge_only_child-none.ensures
+    (rw c.in-Some.is at c.would_merge.ensures) c.unlink-taken.new.self c.unlink-taken.result
+    (unlinks_stay c.reserve_joined.ensures.stays c.unlink-taken.new.self c.args.place.now.link_ref c.args.id c.unlink-taken.result c.unlink-taken.ensures.unlinks)
+    c.merge_only_child-none.new.self c.merge_only_child-none.result c.merge_only_child-none.ensures
 
 pub returns-clause-value : goal.returns-clause-value
 returns-clause-value g c =
     let here = ready_here g.met.Q.Owned.Bytes.lawful c.requires.ready in
-    leaf_value here c.requires.here c.requires.leaf c.requires.valued c.unlink-taken.new.self c.unlink-taken.result c.unlink-taken.ensures
+    leaf_value here c.requires.here c.requires.leaf c.requires.valued c.unlink-taken.new.self c.unlink-taken.result
+    (unlinks_stay c.reserve_joined.ensures.stays c.unlink-taken.new.self c.args.place.now.link_ref c.args.id c.unlink-taken.result c.unlink-taken.ensures.unlinks)

@@ -1,8 +1,7 @@
 use Rattle.std.proofs.Common.{subst, sym, ◌∙◌, arith}
 use Rattle.patricia_keys.specs.Keys.{IsValid}
 use Rattle.patricia_model.proofs.MeetingLemmas.{before_by_first_byte, passes_taken}
-use Rattle.patricia_nodes.proofs.HeadLemmas.{short_exact}
-use Rattle.patricia_nodes.proofs.NodeVecLemmas.{node_there}
+use Rattle.patricia_nodes.proofs.NodeVecLemmas.{short_exact, node_there}
 use Rattle.patricia_nodes.proofs.SeekLemmas.{byte_is}
 use Rattle.patricia_many.proofs.LookupLemmas.{one_byte}
 use Rattle.patricia_many.proofs.lookup.compare.Goals as goal
@@ -23,7 +22,7 @@ returns-then-other-first g c n reads =
 
 pub strip_n_prefix-requires-clause-valid : goal.strip_n_prefix-requires-clause-valid
 strip_n_prefix-requires-clause-valid g c =
-    let there = node_there c.args.arena.now.nodes.items c.args.id (omega (arith, c.requires.within, c.args.arena.now.nodes.ok.0)) in
+    let there = node_there c.args.arena.now.nodes.items c.args.id c.requires.within in
     let n = there.0 in
     let valid = c.requires.valid n there.1 in
     let byte = byte_is _ g.met.Q.Owned.Bytes.lawful n.label valid (c.requires.nonempty n there.1) in
@@ -45,10 +44,10 @@ returns-then-short_len-eq1 g c n reads =
 
 pub compare_label-requires-clause-valid : goal.compare_label-requires-clause-valid
 compare_label-requires-clause-valid g c =
-    let there = node_there c.args.arena.now.nodes.items c.args.id (omega (arith, c.requires.within, c.args.arena.now.nodes.ok.0)) in
+    let there = node_there c.args.arena.now.nodes.items c.args.id c.requires.within in
     rw (c.label.ensures there.0 there.1) (c.requires.valid there.0 there.1)
 
 pub compare_label-requires-clause-nonempty : goal.compare_label-requires-clause-nonempty
 compare_label-requires-clause-nonempty g c =
-    let there = node_there c.args.arena.now.nodes.items c.args.id (omega (arith, c.requires.within, c.args.arena.now.nodes.ok.0)) in
+    let there = node_there c.args.arena.now.nodes.items c.args.id c.requires.within in
     rw (c.label.ensures there.0 there.1) (c.requires.nonempty there.0 there.1)

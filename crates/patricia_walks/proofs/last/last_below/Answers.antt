@@ -26,13 +26,13 @@ last_sibling-id-requires g c =
     let there = node_there _ _ (siblings_within g.K.Bytes.item _ c.loop-child.id c.loop-child.invariant.siblings) in
     let nodes = c.args.arena.now.nodes.items in
     let opens = siblings_open g.K.Bytes.item nodes (Some c.loop-child.id) c.loop-child.id there.0 c.loop-child.invariant.siblings refl there.1 in
-    subst (AreSiblingsAt g.K.Bytes.item nodes) (sym (c.child.ensures _ there.1) ∙ sym c.get.ensures ∙ c.in-Some.is) opens.child_at
+    subst (AreSiblingsAt g.K.Bytes.item nodes) (sym (c.child.ensures.node _ there.1) ∙ sym c.get.ensures ∙ c.in-Some.is) opens.child_at
 
 pub loop-child-smaller : goal.loop-child-smaller
 loop-child-smaller g c =
     let there = node_there _ _ (siblings_within g.K.Bytes.item _ c.loop-child.id c.loop-child.invariant.siblings) in
     let less = child_less g.K.Bytes.item g.met.K.Bytes.lawful c.args.arena.now.nodes.items c.loop-child.id
-    there.0 c.loop-child.invariant.siblings there.1 c.in-Some.child (sym (c.child.ensures _ there.1) ∙ sym c.get.ensures ∙ c.in-Some.is) in
+    there.0 c.loop-child.invariant.siblings there.1 c.in-Some.child (sym (c.child.ensures.node _ there.1) ∙ sym c.get.ensures ∙ c.in-Some.is) in
     omega (arith, less, c.last_sibling-id.ensures.fewer)
 
 pub loop-child-preserved : goal.loop-child-preserved
@@ -48,7 +48,7 @@ loop-child-preserved g c =
       valid = subst (IsValid g.K.Bytes.item) (sym path) (IsValid-append g.K.Bytes.item c.loop-child.path.items n.label c.loop-child.invariant.valid opens.canonical.valid);
       same = sym (c.last_sibling-id.ensures.last c.extend_from_slice.new.self.items)
           ∙ ap (λ k. last_or None (prefixed k (entries (siblings_at nodes (Some c.in-Some.child))))) path
-          ∙ sym (last_child g.K.Bytes.item g.met.K.Bytes.lawful nodes c.loop-child.id n siblings there.1 c.loop-child.path.items c.in-Some.child (sym (c.child.ensures _ there.1) ∙ sym c.get.ensures ∙ c.in-Some.is))
+          ∙ sym (last_child g.K.Bytes.item g.met.K.Bytes.lawful nodes c.loop-child.id n siblings there.1 c.loop-child.path.items c.in-Some.child (sym (c.child.ensures.node _ there.1) ∙ sym c.get.ensures ∙ c.in-Some.is))
           ∙ c.loop-child.invariant.same;
     }
 
@@ -59,7 +59,7 @@ returns-in-Some-value-clause-last g c =
     sym c.loop-child.invariant.same
     ∙ last_value g.K.Bytes.item g.met.K.Bytes.lawful c.args.arena.now.nodes.items c.loop-child.id
     there.0 c.loop-child.invariant.siblings there.1 c.loop-child.path.items _
-    (sym (c.child.ensures _ there.1) ∙ sym c.get.ensures ∙ c.in-None.is)
+    (sym (c.child.ensures.node _ there.1) ∙ sym c.get.ensures ∙ c.in-None.is)
     (sym (c.value.ensures _ there.1) ∙ ap option_copied c.in-Some-value.is)
     ∙ ap (λ k. Some (k, c.in-Some-value.value.now)) (sym path)
 
@@ -74,5 +74,5 @@ pub unreachable-requires : goal.unreachable-requires
 unreachable-requires g c =
     let there = node_there _ _ (siblings_within g.K.Bytes.item _ c.loop-child.id c.loop-child.invariant.siblings) in
     has_value g.K.Bytes.item g.met.K.Bytes.lawful c.args.arena.now.nodes.items c.loop-child.id
-    there.0 c.loop-child.invariant.siblings there.1 (sym (c.child.ensures _ there.1) ∙ sym c.get.ensures ∙ c.in-None.is)
+    there.0 c.loop-child.invariant.siblings there.1 (sym (c.child.ensures.node _ there.1) ∙ sym c.get.ensures ∙ c.in-None.is)
     (sym (c.value.ensures _ there.1) ∙ ap option_copied c.in-None-value.is)

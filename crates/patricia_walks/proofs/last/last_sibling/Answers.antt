@@ -15,7 +15,7 @@ loop-next-smaller g c =
     let there = node_there _ _ (siblings_within g.K.Bytes.item _ c.loop-next.id c.loop-next.invariant.siblings) in
     sibling_less g.K.Bytes.item g.met.K.Bytes.lawful c.args.arena.now.nodes.items c.loop-next.id
     there.0 c.loop-next.invariant.siblings there.1 c.in-Some.next
-    (sym (c.sibling.ensures _ there.1) ∙ sym c.get.ensures ∙ c.in-Some.is)
+    (sym (c.sibling.ensures.node _ there.1) ∙ sym c.get.ensures ∙ c.in-Some.is)
 
 pub loop-next-preserved : goal.loop-next-preserved
 loop-next-preserved g c =
@@ -23,7 +23,7 @@ loop-next-preserved g c =
     let nodes = c.args.arena.now.nodes.items in
     let n = there.0 in
     let siblings = c.loop-next.invariant.siblings in
-    let next = sym (c.sibling.ensures _ there.1) ∙ sym c.get.ensures ∙ c.in-Some.is in
+    let next = sym (c.sibling.ensures.node _ there.1) ∙ sym c.get.ensures ∙ c.in-Some.is in
     let opens = siblings_open g.K.Bytes.item nodes (Some c.loop-next.id) c.loop-next.id n siblings refl there.1 in
     let less = sibling_less g.K.Bytes.item g.met.K.Bytes.lawful nodes c.loop-next.id n siblings there.1 c.in-Some.next next in
     record {
@@ -39,4 +39,4 @@ returns-clause-last g c front =
     sym (c.loop-next.invariant.same front)
     ∙ last_own g.K.Bytes.item g.met.K.Bytes.lawful c.args.arena.now.nodes.items c.loop-next.id
     there.0 c.loop-next.invariant.siblings there.1 front
-    (sym (c.sibling.ensures _ there.1) ∙ sym c.get.ensures ∙ c.in_default.is)
+    (sym (c.sibling.ensures.node _ there.1) ∙ sym c.get.ensures ∙ c.in_default.is)

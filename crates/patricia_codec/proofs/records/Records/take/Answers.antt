@@ -16,24 +16,16 @@ use Rattle.patricia_codec.proofs.records.Records.take.Goals.{then-self-eq0, else
 use Rattle.patricia_codec.proofs.records.Records.take.Goals.{then-n-left, else-n-left}
 
 pub label-requires : goal.label-requires
-label-requires g c =
-    let within = head_within _ _ _ c.args.id c.requires.left.1.plan c.requires.next in
-    omega (arith, within)
+label-requires g c = head_within _ _ _ c.args.id c.requires.left.1.plan c.requires.next
 
 pub sibling-beside-requires : goal.sibling-beside-requires
-sibling-beside-requires g c =
-    let within = head_within _ _ _ c.args.id c.requires.left.1.plan c.requires.next in
-    omega (arith, within)
+sibling-beside-requires g c = head_within _ _ _ c.args.id c.requires.left.1.plan c.requires.next
 
 pub child-self-requires : goal.child-self-requires
-child-self-requires g c =
-    let within = head_within _ _ _ c.args.id c.requires.left.1.plan c.requires.next in
-    omega (arith, within)
+child-self-requires g c = head_within _ _ _ c.args.id c.requires.left.1.plan c.requires.next
 
 pub value-requires : goal.value-requires
-value-requires g c =
-    let within = head_within _ _ _ c.args.id c.requires.left.1.plan c.requires.next in
-    omega (arith, within)
+value-requires g c = head_within _ _ _ c.args.id c.requires.left.1.plan c.requires.next
 
 pub returns-in_default-clause-too_deep : goal.returns-in_default-clause-too_deep
 returns-in_default-clause-too_deep g c _ =
@@ -99,7 +91,7 @@ returns-clause-ok g c =
     let label = (rw (c.label.ensures _ there.1) at c.label_behind-left.ensures.rest) in
     let piece = subst (λ l. IsPiece item l k) label c.room-n.ensures in
     let beside : Beside item kind p c.args.id n left.plan c.requires.next reads at = elim c.if-self-eq0.branch [
-      | then-self-eq0 w ↦ beside_first item kind p c.args.id n left.plan c.requires.next reads at w.if-self-eq0.true (w.beside-is ∙ w.sibling-beside.ensures _ reads)
+      | then-self-eq0 w ↦ beside_first item kind p c.args.id n left.plan c.requires.next reads at w.if-self-eq0.true (w.beside-is ∙ w.sibling-beside.ensures.node _ reads)
       | else-self-eq0 w ↦ beside_later item kind p c.args.id n left.plan c.requires.next reads at w.if-self-eq0.false (w.beside-is ∙ w.none-beside.ensures)
     ] in
     let r : Record = record {
@@ -120,10 +112,10 @@ returns-clause-ok g c =
           let kept = ap nodes_of w.self-is in
           let level = ap (λ s. s.level) w.self-is in
           let value = ap (λ v. v.0) w.value-is ∙ w.is_some.ensures ∙ lent_some w.value.result n.value (w.value.ensures _ reads) in
-          let child = ap (λ v. v.1) w.value-is ∙ w.is_some-then-n-left.ensures ∙ ap is_some (w.get.ensures ∙ w.child-self.ensures _ reads) in
+          let child = ap (λ v. v.1) w.value-is ∙ w.is_some-then-n-left.ensures ∙ ap is_some (w.get.ensures ∙ w.child-self.ensures.node _ reads) in
           let under = siblings_at (nodes_of p) n.child in
           let below = below_whole item kind p c.args.id n left.plan c.requires.next reads q k piece
-          kept level (w.if-n-left.true ∙ ap length label) (ap (λ s. s.next) w.self-is ∙ w.child-self.ensures _ reads)
+          kept level (w.if-n-left.true ∙ ap length label) (ap (λ s. s.next) w.self-is ∙ w.child-self.ensures.node _ reads)
           (ap (λ s. s.skipped) w.self-is) in
           taken item kind p c.args.id n left.plan c.requires.next reads q k piece kept level g.W.Width.width r
           at under beside (ap (λ s. s.stack.items) w.self-is ∙ stack) (rw (value, child) below)

@@ -64,14 +64,14 @@ pub some-requires : goal.some-requires
 some-requires g c =
     let here = stands g.Q.Owned.Bytes.item g.met.Q.Owned.Bytes.lawful c.args.arena.now c.requires.whole c.requires.siblings
     (g.Q.BorrowedBytes.key c.args.key) _ _ _ _ (sym c.get.ensures ∙ c.in-Some.is) c.requires.key.0 in
-    omega (arith, at_within here, c.args.arena.now.nodes.small)
+    omega (arith, at_within here, c.len-few.ensures.value, c.len-few.ensures.few)
 
 pub go_to-requires : goal.go_to-requires
 go_to-requires g c =
     let here = stands g.Q.Owned.Bytes.item g.met.Q.Owned.Bytes.lawful c.args.arena.now c.requires.whole c.requires.siblings
     (g.Q.BorrowedBytes.key c.args.key) _ _ _ _ (sym c.get.ensures ∙ c.in-Some.is) c.requires.key.0 in
     let there = at_node here in
-    rw (c.sibling.ensures _ there.1) (within_at g.Q.Owned.Bytes.item g.met.Q.Owned.Bytes.lawful c.args.arena.now c.requires.whole c.requires.siblings
+    rw (c.sibling.ensures.node _ there.1) (within_at g.Q.Owned.Bytes.item g.met.Q.Owned.Bytes.lawful c.args.arena.now c.requires.whole c.requires.siblings
     (g.Q.BorrowedBytes.key c.args.key) _ _ _ (goes_next here there.1 (rw c.rest.ensures at c.in-After.ensures _ there.1)))
 
 pub go_to-requires-else-is_empty : goal.go_to-requires-else-is_empty
@@ -80,7 +80,7 @@ go_to-requires-else-is_empty g c =
     (g.Q.BorrowedBytes.key c.args.key) _ _ _ _ (sym c.get.ensures ∙ c.in-Some.is) c.requires.key.0 in
     let there = at_node here in
     let passes = rw c.rest.ensures at c.in-Full.ensures _ there.1 in
-    rw (c.child.ensures _ there.1) (within_at g.Q.Owned.Bytes.item g.met.Q.Owned.Bytes.lawful c.args.arena.now c.requires.whole c.requires.siblings
+    rw (c.child.ensures.node _ there.1) (within_at g.Q.Owned.Bytes.item g.met.Q.Owned.Bytes.lawful c.args.arena.now c.requires.whole c.requires.siblings
     (g.Q.BorrowedBytes.key c.args.key) _ _ _ (goes_down here there.1 _ passes (λ none. absurd (false≢true (c.if-is_empty.ensures.1 none)))))
 
 pub returns-in-Before-clause-key : goal.returns-in-Before-clause-key
@@ -126,7 +126,7 @@ returns-in-After-clause-key g c =
     let here = stands g.Q.Owned.Bytes.item g.met.Q.Owned.Bytes.lawful c.args.arena.now c.requires.whole c.requires.siblings
     (g.Q.BorrowedBytes.key c.args.key) _ _ _ _ (sym c.get.ensures ∙ c.in-Some.is) c.requires.key.0 in
     let there = at_node here in
-    rw (c.go_to.ensures, c.sibling.ensures _ there.1) (
+    rw (c.go_to.ensures, c.sibling.ensures.node _ there.1) (
       goes_next here there.1 (rw c.rest.ensures at c.in-After.ensures _ there.1),
       λ wants. best_stays g.Q.Owned.Bytes.item c.args.arena.now (g.Q.BorrowedBytes.key c.args.key) _ _ refl refl
           (ahead_next here there.1 _ refl (rw c.rest.ensures at c.in-After.ensures _ there.1))
@@ -138,7 +138,7 @@ returns-in-After-clause-ahead g c going =
     let here = stands g.Q.Owned.Bytes.item g.met.Q.Owned.Bytes.lawful c.args.arena.now c.requires.whole c.requires.siblings
     (g.Q.BorrowedBytes.key c.args.key) _ _ _ _ (sym c.get.ensures ∙ c.in-Some.is) c.requires.key.0 in
     let there = at_node here in
-    rw (c.go_to.ensures, c.sibling.ensures _ there.1) (next_fewer here there.1)
+    rw (c.go_to.ensures, c.sibling.ensures.node _ there.1) (next_fewer here there.1)
 
 pub returns-then-is_empty-clause-key : goal.returns-then-is_empty-clause-key
 returns-then-is_empty-clause-key g c =
@@ -151,12 +151,12 @@ returns-then-is_empty-clause-key g c =
     c.as_bytes.ensures.value c.as_bytes-in-Full.ensures.value in
     let fits = left_fits g.Q.Owned.Bytes.item (g.Q.BorrowedBytes.key c.args.key) _ _ _ _ _ passes c.as_bytes.ensures.value c.as_bytes-in-Full.ensures.value in
     let valid = subst (IsValid g.Q.Owned.Bytes.item) (sym front) (IsValid-append g.Q.Owned.Bytes.item _ _ (at_front here _ refl) (at_valid here there.1)) in
-    let is = slice_get-get_or c.args.arena.now.nodes.items c.in-Some.id there.0 (omega (arith, at_within here, c.args.arena.now.nodes.ok.0)) ∙ ap Some (sym there.1) in
+    let is = slice_get-get_or c.args.arena.now.nodes.items c.in-Some.id there.0 (at_within here) ∙ ap Some (sym there.1) in
     let short : length c.as_bytes.result.now - length c.as_bytes-in-Full.result.now ≤ length (g.Q.BorrowedBytes.key c.args.key) = omega (arith, ap length c.as_bytes.ensures.value) in
     rw (c.end_at-then-is_empty.ensures, c.some.ensures) (
       stops_here here there.1 (rw (c.rest.ensures, c.if-is_empty.ensures.0 refl) at c.in-Full.ensures _ there.1),
       λ wants. best_grows g.Q.Owned.Bytes.item c.args.arena.now (g.Q.BorrowedBytes.key c.args.key) c.args.self.now c.keep.new.self (record c.keep.new.self { at = None; end = Some c.in-Some.id }) refl refl c.in-Some.id _ there.0 is
-          (omega (arith, at_within here, c.args.arena.now.nodes.ok.0)) short valid (c.keep.ensures.best wants _ there.1) _
+          (at_within here) short valid (c.keep.ensures.best wants _ there.1) _
           (ahead_down here there.1 _ refl _ passes _ front)
           (ahead_none c.args.arena.now (g.Q.BorrowedBytes.key c.args.key) _ ∙ sym (ap (prefixed (take _ (g.Q.BorrowedBytes.key c.args.key))) (below_none here there.1 _ refl _ passes _ front (c.if-is_empty.ensures.0 refl))))
           (c.requires.key.1 wants),
@@ -180,15 +180,15 @@ returns-else-is_empty-clause-key g c =
     c.as_bytes.ensures.value c.as_bytes-in-Full.ensures.value in
     let fits = left_fits g.Q.Owned.Bytes.item (g.Q.BorrowedBytes.key c.args.key) _ _ _ _ _ passes c.as_bytes.ensures.value c.as_bytes-in-Full.ensures.value in
     let valid = subst (IsValid g.Q.Owned.Bytes.item) (sym front) (IsValid-append g.Q.Owned.Bytes.item _ _ (at_front here _ refl) (at_valid here there.1)) in
-    let is = slice_get-get_or c.args.arena.now.nodes.items c.in-Some.id there.0 (omega (arith, at_within here, c.args.arena.now.nodes.ok.0)) ∙ ap Some (sym there.1) in
+    let is = slice_get-get_or c.args.arena.now.nodes.items c.in-Some.id there.0 (at_within here) ∙ ap Some (sym there.1) in
     let short : length c.as_bytes.result.now - length c.as_bytes-in-Full.result.now ≤ length (g.Q.BorrowedBytes.key c.args.key) = omega (arith, ap length c.as_bytes.ensures.value) in
     let left = left_is g.Q.Owned.Bytes.item (g.Q.BorrowedBytes.key c.args.key) _ _ _ _ _ passes inside
     c.as_bytes.ensures.value c.as_bytes-in-Full.ensures.value in
-    rw (c.go_to-else-is_empty.ensures, c.child.ensures _ there.1) (
+    rw (c.go_to-else-is_empty.ensures, c.child.ensures.node _ there.1) (
       rw left (goes_down here there.1 _ passes (λ none. absurd (false≢true (c.if-is_empty.ensures.1 none)))),
       λ wants. best_grows g.Q.Owned.Bytes.item c.args.arena.now (g.Q.BorrowedBytes.key c.args.key) c.args.self.now c.keep.new.self
           (record c.keep.new.self { at = there.0.child; passed = length c.as_bytes.result.now - length c.as_bytes-in-Full.result.now; head = c.go_to-else-is_empty.new.self.head; is_read = false; end = None }) refl refl c.in-Some.id _ there.0 is
-          (omega (arith, at_within here, c.args.arena.now.nodes.ok.0)) short valid (c.keep.ensures.best wants _ there.1) _
+          (at_within here) short valid (c.keep.ensures.best wants _ there.1) _
           (ahead_down here there.1 _ refl _ passes _ front)
           (rw left refl)
           (c.requires.key.1 wants),
@@ -199,7 +199,7 @@ returns-else-is_empty-clause-ahead g c going =
     let here = stands g.Q.Owned.Bytes.item g.met.Q.Owned.Bytes.lawful c.args.arena.now c.requires.whole c.requires.siblings
     (g.Q.BorrowedBytes.key c.args.key) _ _ _ _ (sym c.get.ensures ∙ c.in-Some.is) c.requires.key.0 in
     let there = at_node here in
-    rw (c.go_to-else-is_empty.ensures, c.child.ensures _ there.1) (down_fewer here there.1)
+    rw (c.go_to-else-is_empty.ensures, c.child.ensures.node _ there.1) (down_fewer here there.1)
 
 pub overflow_sub-passed : goal.overflow_sub-passed
 overflow_sub-passed g c =

@@ -1,4 +1,4 @@
-use Rattle.std.proofs.Common.{refl, sym, ◌∙◌, drop, subst, arith}
+use Rattle.std.proofs.Common.{refl, sym, ◌∙◌, drop, subst}
 use mathlib.Core.Bool.{false≢true}
 use Rattle.patricia_model.proofs.GetLemmas.{find_own, find_child}
 use Rattle.patricia_nodes.proofs.NodeVecLemmas.{node_there}
@@ -24,7 +24,7 @@ returns-in-Some g c =
     let key = g.Q.BorrowedBytes.key c.args.key in
     let ended = subst (λ a. IsAt g.Q.Owned.Bytes.item s key a (drop c.args.self.now.passed key) c.args.self.now.end) c.requires.ended c.requires.key in
     let here = subst (EndsAt g.Q.Owned.Bytes.item s key) (sym c.get.ensures ∙ c.in-Some.is) ended in
-    let there = node_there s.nodes.items c.in-Some.id (omega (arith, here.0, s.nodes.ok.0)) in
+    let there = node_there s.nodes.items c.in-Some.id here.0 in
     c.value.ensures there.0 there.1 ∙ here.1 there.0 there.1
     ∙ sym (find_child g.Q.Owned.Bytes.item g.met.Q.Owned.Bytes.lawful key _ (siblings_of s) (λ none. absurd (false≢true (c.if-is_empty.ensures.1 none))))
 

@@ -22,7 +22,7 @@ child-child-requires g t c =
     let short : l.end ≤ length l.order.items = omega (arith, l.invariant.within) in
     let next = listing_next _ c.requires.waits.0 _ _ l.i l.end c.index.result.now
     (l.invariant.listing c.requires.waits.0 c.requires.waits.1) c.loop-i-test.true short c.index.ensures in
-    omega (arith, next_within _ _ _ _ _ _ next, c.new.ensures, c.args.self.now.nodes.ok.0)
+    omega (arith, next_within _ _ _ _ _ _ next, c.new.ensures)
 
 pub list_siblings-requires-clause-siblings : goal.list_siblings-requires-clause-siblings
 list_siblings-requires-clause-siblings g t c =
@@ -32,7 +32,7 @@ list_siblings-requires-clause-siblings g t c =
     (l.invariant.listing c.requires.waits.0 c.requires.waits.1) c.loop-i-test.true short c.index.ensures in
     let room = next_room _ _ _ _ _ _ next (vec_capacity c.args.order.now) (omega (arith, c.requires.waits.2)) in (
       tops next.child,
-      child_siblings _ _ _ _ _ _ next c.child-child.result (rw c.new.ensures at c.child-child.ensures),
+      child_siblings _ _ _ _ _ _ next c.child-child.result (rw c.new.ensures at c.child-child.ensures.node),
       omega (arith, room, l.invariant.capacity),
     )
 
@@ -49,7 +49,7 @@ loop-i-preserved-then-depth-eq0 g t c =
           let next = listing_next _ cs _ _ l.i l.end c.index.result.now
           (l.invariant.listing cs w) c.loop-i-test.true short c.index.ensures in
           let listed = c.list_siblings.ensures.listed (tops next.child)
-          (child_siblings _ _ _ _ _ _ next c.child-child.result (rw c.new.ensures at c.child-child.ensures)) in
+          (child_siblings _ _ _ _ _ _ next c.child-child.result (rw c.new.ensures at c.child-child.ensures.node)) in
           listing_level _ _ _ _ _ _ _ next _ listed _ (omega (arith, c.loop-i-test.true)) level
           (omega (arith, c.len-end-then-depth-eq0.ensures));
     }
@@ -61,7 +61,7 @@ list_below-requires g t c κs within =
     let next = listing_next _ c.requires.waits.0 _ _ l.i l.end c.index.result.now
     (l.invariant.listing c.requires.waits.0 c.requires.waits.1) c.loop-i-test.true short c.index.ensures in
     let listed = c.list_siblings.ensures.listed (tops next.child)
-    (child_siblings _ _ _ _ _ _ next c.child-child.result (rw c.new.ensures at c.child-child.ensures)) in
+    (child_siblings _ _ _ _ _ _ next c.child-child.result (rw c.new.ensures at c.child-child.ensures.node)) in
     let room = next_room _ _ _ _ _ _ next (vec_capacity c.args.order.now) (omega (arith, c.requires.waits.2)) in (
       omega (arith, c.if-depth-eq0.false),
       (
@@ -97,7 +97,7 @@ loop-i-preserved g t c =
     let next = listing_next _ cs _ _ l.i l.end c.index.result.now
     (l.invariant.listing cs w) c.loop-i-test.true short c.index.ensures in
     let listed = c.list_siblings.ensures.listed (tops next.child)
-    (child_siblings _ _ _ _ _ _ next c.child-child.result (rw c.new.ensures at c.child-child.ensures)) in
+    (child_siblings _ _ _ _ _ _ next c.child-child.result (rw c.new.ensures at c.child-child.ensures.node)) in
     listing_deep _ _ _ _ _ _ _ next _ listed _ short
     (c.list_below.ensures.listed (children next.child)
     (siblings_wait _ _ _ _ _ _ next _ _ listed (omega (arith, c.len-below.ensures)))) in

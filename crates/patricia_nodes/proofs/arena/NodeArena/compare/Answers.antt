@@ -25,18 +25,18 @@ passed_len-requires-clause-bytes g c n reads =
 
 pub strip_n_prefix-requires-clause-valid : goal.strip_n_prefix-requires-clause-valid
 strip_n_prefix-requires-clause-valid g c =
-    let there = node_there c.args.self.now.nodes.items c.args.id (omega (arith, c.requires.within, c.args.self.now.nodes.ok.0)) in
+    let there = node_there c.args.self.now.nodes.items c.args.id c.requires.within in
     let is = c.in-Some.ensures.1 there.0 there.1 in
     subst (IsValid g.Q.Owned.Bytes.item) (rw c.as_bytes-bytes.ensures.value at is) (c.requires.valid there.0 there.1)
 
 pub compare_label-requires-clause-valid : goal.compare_label-requires-clause-valid
 compare_label-requires-clause-valid g c =
-    let there = node_there c.args.self.now.nodes.items c.args.id (omega (arith, c.requires.within, c.args.self.now.nodes.ok.0)) in
+    let there = node_there c.args.self.now.nodes.items c.args.id c.requires.within in
     rw (c.label.ensures there.0 there.1) (c.requires.valid there.0 there.1)
 
 pub compare_label-requires-clause-nonempty : goal.compare_label-requires-clause-nonempty
 compare_label-requires-clause-nonempty g c =
-    let there = node_there c.args.self.now.nodes.items c.args.id (omega (arith, c.requires.within, c.args.self.now.nodes.ok.0)) in
+    let there = node_there c.args.self.now.nodes.items c.args.id c.requires.within in
     rw (c.label.ensures there.0 there.1) (c.requires.nonempty there.0 there.1)
 
 pub returns-in-Some : goal.returns-in-Some

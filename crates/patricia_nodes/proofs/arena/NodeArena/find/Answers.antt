@@ -11,7 +11,7 @@ value-requires g c =
     let within = here_within
     (sought_at g.met.Q.Owned.Bytes.lawful c.requires.whole c.requires.siblings c.seek.ensures)
     c.in-Some.id (sym c.here.ensures ∙ c.in-Some.is) in
-    omega (arith, within, c.args.self.now.nodes.ok.0)
+    within
 
 pub returns-in-Some : goal.returns-in-Some
 returns-in-Some g c =

@@ -27,7 +27,7 @@ loop-id-preserved g c = record {
   left = λ ids siblings.
       let left = rw (sym c.get.ensures ∙ c.in-Some.is) at c.loop-id.invariant.left ids siblings in
       siblings_next _ _ ids _ _ left _ c.index.result c.index.ensures c.push_reserved.ensures.items
-      c.sibling-at.result c.sibling-at.ensures;
+      c.sibling-at.result c.sibling-at.ensures.node;
 }
 
 pub returns-clause-listed : goal.returns-clause-listed

@@ -2,13 +2,13 @@ use Rattle.std.proofs.Common.{length, take, sym, ap, ◌∙◌, arith}
 use Rattle.std.proofs.lemmas.Bool.Decides.{Decides-eqb}
 use Rattle.std.proofs.lemmas.List.{take_all, length-take-le}
 use Rattle.std.proofs.lemmas.Slice.Eq.{slice_eq-Decides}
-use Rattle.patricia_nodes.proofs.HeadLemmas.{short_exact}
+use Rattle.patricia_nodes.proofs.NodeVecLemmas.{short_exact}
 use Rattle.patricia_nodes.proofs.NodeVecLemmas.{node_there}
 use Rattle.patricia_nodes.proofs.arena.NodeArena.passed_len.Goals as goal
 
 pub slice_bounds-eq-end-then-len-key : goal.slice_bounds-eq-end-then-len-key
 slice_bounds-eq-end-then-len-key g c =
-    let there = node_there c.args.self.now.nodes.items c.args.id (omega (arith, c.requires.within, c.args.self.now.nodes.ok.0)) in
+    let there = node_there c.args.self.now.nodes.items c.args.id c.requires.within in
     let long = short_exact there.0.label _ (c.short_len-len.ensures _ there.1) c.if-len-lt63.true in
     sym (length-take-le _ c.label.result.now (omega (arith, long, ap length (c.label.ensures _ there.1))))
 

@@ -17,26 +17,19 @@ pub inverse-requires-clause-short : goal.inverse-requires-clause-short
 inverse-requires-clause-short g c =
     let sound = c.requires.1.1 in
     let lists = c.in_ok-order.ensures.lists _ _ sound in
-    omega (arith, ap length c.as_slice.ensures.value, lists_long _ _ _ _ _ _ _ sound lists, c.in_ok-order.ensures.few, c.args.self.now.nodes.ok.0)
+    omega (arith, ap length c.as_slice.ensures.value, lists_long _ _ _ _ _ _ _ sound lists, c.in_ok-order.ensures.few)
 
 pub rearrange-requires-clause-long : goal.rearrange-requires-clause-long
 rearrange-requires-clause-long g c =
     let sound = c.requires.1.1 in
     let lists = c.in_ok-order.ensures.lists _ _ sound in
-    omega (arith, lists_long _ _ _ _ _ _ _ sound lists, c.args.self.now.nodes.ok.0)
-
-pub rearrange-requires-clause-used : goal.rearrange-requires-clause-used
-rearrange-requires-clause-used g c =
-    let sound = c.requires.1.1 in
-    let lists = c.in_ok-order.ensures.lists _ _ sound in
-    let parts = ap length lists.order_is ∙ length-append lists.first c.requires.1.0 in
-    omega (arith, parts, lists.used_is, lists_long _ _ _ _ _ _ _ sound lists, c.args.self.now.nodes.ok.0)
+    omega (arith, lists_long _ _ _ _ _ _ _ sound lists)
 
 pub returns-clause-whole : goal.returns-clause-whole
 returns-clause-whole g c =
     let used = c.in_ok-order.used in
     let all = c.rearrange.ensures.items in
-    let kept = c.keep_first.ensures.items ∙ ap (take used) all.2 ∙ take-take used used all.0 (omega arith) in
+    let kept = c.lay_labels-laid.ensures.items ∙ c.keep_first.ensures.items ∙ ap (take used) all.2 ∙ take-take used used all.0 (omega arith) in
     let sound = c.requires.1.1 in
     let lists = c.in_ok-order.ensures.lists _ _ sound in
     let inv = rw c.as_slice.ensures.value at c.in_ok-places.ensures in (
@@ -54,7 +47,7 @@ pub returns-clause-siblings : goal.returns-clause-siblings
 returns-clause-siblings g c =
     let used = c.in_ok-order.used in
     let all = c.rearrange.ensures.items in
-    let kept = c.keep_first.ensures.items ∙ ap (take used) all.2 ∙ take-take used used all.0 (omega arith) in
+    let kept = c.lay_labels-laid.ensures.items ∙ c.keep_first.ensures.items ∙ ap (take used) all.2 ∙ take-take used used all.0 (omega arith) in
     let sound = c.requires.1.1 in
     let lists = c.in_ok-order.ensures.lists _ _ sound in
     let inv = rw c.as_slice.ensures.value at c.in_ok-places.ensures in
@@ -67,16 +60,20 @@ returns-clause-siblings g c =
     ∙ sym (ap (λ p. siblings_in p) (plan_is _ _ c.requires.0 sound.plan_ok))
 
 pub returns-clause-room : goal.returns-clause-room
-returns-clause-room g c room =
-    let sound = c.requires.1.1 in
-    let lists = c.in_ok-order.ensures.lists _ _ sound in
-    let same = one_chain c.args.self.now.nodes.items room.0 c.requires.1.0 room.1.0 sound.chain (sym room.1.1 ∙ sound.free_is) in
-    let used = c.in_ok-order.used in
-    let all = c.rearrange.ensures.items in
-    let left = ap length all.2 ∙ length-take used all.0 in
-    let kept = ap length c.keep_first.ensures.items ∙ length-take used c.rearrange.new.self.items in
-    let long = lists_long _ _ _ _ _ _ _ sound lists in
-    let parts = ap length lists.order_is ∙ length-append lists.first c.requires.1.0 in
-    let after = c.keep_first.ensures.room
-    (omega (arith, room.2, ap length same, kept, long, parts, lists.used_is, left, all.1.long, c.rearrange.ensures.capacity, c.keep_first.new.self.ok.0)) in
-    ([], (tt, c.none-self.ensures), omega (arith, after, c.keep_first.new.self.ok.0))
+returns-clause-room g c = record {
+  nodes_fit = λ room.
+      let sound = c.requires.1.1 in
+      let lists = c.in_ok-order.ensures.lists _ _ sound in
+      let same = one_chain c.args.self.now.nodes.items room.0 c.requires.1.0 room.1.0 sound.chain (sym room.1.1 ∙ sound.free_is) in
+      let used = c.in_ok-order.used in
+      let all = c.rearrange.ensures.items in
+      let left = ap length all.2 ∙ length-take used all.0 in
+      let kept = ap length c.keep_first.ensures.items ∙ length-take used c.rearrange.new.self.items in
+      let laid = ap length c.lay_labels-laid.ensures.items in
+      let long = lists_long _ _ _ _ _ _ _ sound lists in
+      let parts = ap length lists.order_is ∙ length-append lists.first c.requires.1.0 in
+      let after = c.keep_first.ensures.capacity
+      (omega (arith, room.2, ap length same, kept, long, parts, lists.used_is, left, all.1.long, c.rearrange.ensures.room.capacity_is)) in
+      ([], (tt, c.none-self.ensures), omega (arith, after, laid, c.lay_labels-laid.ensures.capacity));
+  bytes_fit = omega (arith, c.rearrange.ensures.room.room_is, c.keep_first.ensures.room, c.lay_labels-laid.ensures.room);
+}

@@ -21,7 +21,7 @@ pub child-requires : goal.child-requires
 child-requires g c =
     let back = last_back c.args.trail.now c.in-Some.field-0.now (sym c.last.ensures.value ∙ ap option_copied c.in-Some.is) in
     let within = trail_within c.requires.whole c.requires.siblings c.requires.trail back in
-    omega (arith, within, c.args.self.now.nodes.ok.0)
+    within
 
 pub returns-in-None : goal.returns-in-None
 returns-in-None g c =
@@ -33,5 +33,5 @@ pub returns-in-Some : goal.returns-in-Some
 returns-in-Some g c =
     let back = last_back c.args.trail.now c.in-Some.field-0.now (sym c.last.ensures.value ∙ ap option_copied c.in-Some.is) in
     let there = node_there _ _ (trail_within c.requires.whole c.requires.siblings c.requires.trail back) in
-    rw (c.child.ensures _ there.1)
+    rw (c.child.ensures.node _ there.1)
     (comes_below c.requires.whole c.requires.siblings c.requires.trail back _ there.1 _ c.strip_n_prefix-rest.ensures)

@@ -28,36 +28,36 @@ run-id-requires g c = record {
 pub some-at-requires : goal.some-at-requires
 some-at-requires g c =
     let is = sym c.get.ensures ∙ c.in-Some.is in
-    let run = rw c.as_bytes.ensures.value at c.run-id.ensures in
+    let run = rw c.as_bytes.ensures.value at c.run-id.ensures.run in
     let valid = c.as_bytes.ensures.valid in
     let within = run_within g.met.Q.Owned.Bytes.lawful c.requires.whole c.requires.siblings valid c.loop-first.invariant.1 is c.run-id.result run in
-    omega (arith, within, c.args.self.now.nodes.small)
+    omega (arith, within, c.run-id.ensures.few)
 
 pub compare-requires-clause-within : goal.compare-requires-clause-within
 compare-requires-clause-within g c =
     let is = sym c.get.ensures ∙ c.in-Some.is in
-    let run = rw c.as_bytes.ensures.value at c.run-id.ensures in
+    let run = rw c.as_bytes.ensures.value at c.run-id.ensures.run in
     let valid = c.as_bytes.ensures.valid in
     run_within g.met.Q.Owned.Bytes.lawful c.requires.whole c.requires.siblings valid c.loop-first.invariant.1 is c.run-id.result run
 
 pub sibling-at-requires : goal.sibling-at-requires
 sibling-at-requires g c =
     let is = sym c.get.ensures ∙ c.in-Some.is in
-    let run = rw c.as_bytes.ensures.value at c.run-id.ensures in
+    let run = rw c.as_bytes.ensures.value at c.run-id.ensures.run in
     let valid = c.as_bytes.ensures.valid in
     run_within g.met.Q.Owned.Bytes.lawful c.requires.whole c.requires.siblings valid c.loop-first.invariant.1 is c.run-id.result run
 
 pub child-at-requires : goal.child-at-requires
 child-at-requires g c =
     let is = sym c.get.ensures ∙ c.in-Some.is in
-    let run = rw c.as_bytes.ensures.value at c.run-id.ensures in
+    let run = rw c.as_bytes.ensures.value at c.run-id.ensures.run in
     let valid = c.as_bytes.ensures.valid in
     run_within g.met.Q.Owned.Bytes.lawful c.requires.whole c.requires.siblings valid c.loop-first.invariant.1 is c.run-id.result run
 
 pub compare-requires-clause-valid : goal.compare-requires-clause-valid
 compare-requires-clause-valid g c n reads =
     let is = sym c.get.ensures ∙ c.in-Some.is in
-    let run = rw c.as_bytes.ensures.value at c.run-id.ensures in
+    let run = rw c.as_bytes.ensures.value at c.run-id.ensures.run in
     let valid = c.as_bytes.ensures.valid in
     let w = walks_past g.met.Q.Owned.Bytes.lawful c.requires.whole c.requires.siblings valid c.loop-first.invariant.1 is c.run-id.result run in
     (opens_siblings g.met.Q.Owned.Bytes.lawful c.requires.whole c.requires.siblings w refl reads).valid
@@ -65,7 +65,7 @@ compare-requires-clause-valid g c n reads =
 pub compare-requires-clause-nonempty : goal.compare-requires-clause-nonempty
 compare-requires-clause-nonempty g c n reads =
     let is = sym c.get.ensures ∙ c.in-Some.is in
-    let run = rw c.as_bytes.ensures.value at c.run-id.ensures in
+    let run = rw c.as_bytes.ensures.value at c.run-id.ensures.run in
     let valid = c.as_bytes.ensures.valid in
     let w = walks_past g.met.Q.Owned.Bytes.lawful c.requires.whole c.requires.siblings valid c.loop-first.invariant.1 is c.run-id.result run in
     (opens_siblings g.met.Q.Owned.Bytes.lawful c.requires.whole c.requires.siblings w refl reads).nonempty
@@ -73,38 +73,38 @@ compare-requires-clause-nonempty g c n reads =
 pub loop-first-smaller-in-After : goal.loop-first-smaller-in-After
 loop-first-smaller-in-After g c =
     let is = sym c.get.ensures ∙ c.in-Some.is in
-    let run = rw c.as_bytes.ensures.value at c.run-id.ensures in
+    let run = rw c.as_bytes.ensures.value at c.run-id.ensures.run in
     let valid = c.as_bytes.ensures.valid in
     let w = walks_past g.met.Q.Owned.Bytes.lawful c.requires.whole c.requires.siblings valid c.loop-first.invariant.1 is c.run-id.result run in
     let reads = (node_there _ _ (in_nodes g.met.Q.Owned.Bytes.lawful c.requires.whole c.requires.siblings w refl)).1 in
     let fewer = fewer_past g.met.Q.Owned.Bytes.lawful c.requires.whole c.requires.siblings valid c.loop-first.invariant.1 is c.run-id.result run in
     let less = less_next g.met.Q.Owned.Bytes.lawful c.requires.whole c.requires.siblings w refl reads in
-    rw (c.sibling-at.ensures _ reads) (omega (arith, fewer, less))
+    rw (c.sibling-at.ensures.node _ reads) (omega (arith, fewer, less))
 
 pub loop-first-smaller : goal.loop-first-smaller
 loop-first-smaller g c =
     let is = sym c.get.ensures ∙ c.in-Some.is in
-    let run = rw c.as_bytes.ensures.value at c.run-id.ensures in
+    let run = rw c.as_bytes.ensures.value at c.run-id.ensures.run in
     let valid = c.as_bytes.ensures.valid in
     let w = walks_past g.met.Q.Owned.Bytes.lawful c.requires.whole c.requires.siblings valid c.loop-first.invariant.1 is c.run-id.result run in
     let reads = (node_there _ _ (in_nodes g.met.Q.Owned.Bytes.lawful c.requires.whole c.requires.siblings w refl)).1 in
     let fewer = fewer_past g.met.Q.Owned.Bytes.lawful c.requires.whole c.requires.siblings valid c.loop-first.invariant.1 is c.run-id.result run in
     let less = less_down g.met.Q.Owned.Bytes.lawful c.requires.whole c.requires.siblings w refl reads in
-    rw (c.child-at.ensures _ reads) (omega (arith, fewer, less))
+    rw (c.child-at.ensures.node _ reads) (omega (arith, fewer, less))
 
 pub loop-first-preserved-in-After : goal.loop-first-preserved-in-After
 loop-first-preserved-in-After g c =
     let is = sym c.get.ensures ∙ c.in-Some.is in
-    let run = rw c.as_bytes.ensures.value at c.run-id.ensures in
+    let run = rw c.as_bytes.ensures.value at c.run-id.ensures.run in
     let valid = c.as_bytes.ensures.valid in
     let w = walks_past g.met.Q.Owned.Bytes.lawful c.requires.whole c.requires.siblings valid c.loop-first.invariant.1 is c.run-id.result run in
     let reads = (node_there _ _ (in_nodes g.met.Q.Owned.Bytes.lawful c.requires.whole c.requires.siblings w refl)).1 in
-    (c.loop-first.invariant.0 + (c.run-id.result - c.in-Some.first) + 1, rw (c.sibling-at.ensures _ reads) (walks_next g.met.Q.Owned.Bytes.lawful c.requires.whole c.requires.siblings w refl reads _ refl _ (c.above.ensures ∙ ap node_above c.behind-link_ref.ensures) (c.in-After.ensures _ reads)))
+    (c.loop-first.invariant.0 + (c.run-id.result - c.in-Some.first) + 1, rw (c.sibling-at.ensures.node _ reads) (walks_next g.met.Q.Owned.Bytes.lawful c.requires.whole c.requires.siblings w refl reads _ refl _ (c.above.ensures ∙ ap node_above c.behind-link_ref.ensures) (c.in-After.ensures _ reads)))
 
 pub overflow_sub-as_bytes : goal.overflow_sub-as_bytes
 overflow_sub-as_bytes g c =
     let is = sym c.get.ensures ∙ c.in-Some.is in
-    let run = rw c.as_bytes.ensures.value at c.run-id.ensures in
+    let run = rw c.as_bytes.ensures.value at c.run-id.ensures.run in
     let valid = c.as_bytes.ensures.valid in
     let w = walks_past g.met.Q.Owned.Bytes.lawful c.requires.whole c.requires.siblings valid c.loop-first.invariant.1 is c.run-id.result run in
     let reads = (node_there _ _ (in_nodes g.met.Q.Owned.Bytes.lawful c.requires.whole c.requires.siblings w refl)).1 in
@@ -117,7 +117,7 @@ overflow_sub-as_bytes g c =
 pub loop-first-preserved : goal.loop-first-preserved
 loop-first-preserved g c =
     let is = sym c.get.ensures ∙ c.in-Some.is in
-    let run = rw c.as_bytes.ensures.value at c.run-id.ensures in
+    let run = rw c.as_bytes.ensures.value at c.run-id.ensures.run in
     let valid = c.as_bytes.ensures.valid in
     let w = walks_past g.met.Q.Owned.Bytes.lawful c.requires.whole c.requires.siblings valid c.loop-first.invariant.1 is c.run-id.result run in
     let reads = (node_there _ _ (in_nodes g.met.Q.Owned.Bytes.lawful c.requires.whole c.requires.siblings w refl)).1 in
@@ -128,7 +128,7 @@ loop-first-preserved g c =
     (g.Q.BorrowedBytes.key c.loop-first.rest) _ (g.Q.BorrowedBytes.key c.in-Full.left) w.leads met in
     let all = ap length c.as_bytes-in-Full.ensures.value in
     let some = ap length c.as_bytes-in-Full-2.ensures.value in
-    (c.loop-first.invariant.0 + (c.run-id.result - c.in-Some.first) + 1, rw (c.child-at.ensures _ reads) (walks_maybe down _ _ c.keep.ensures (omega (arith, left, all, some))))
+    (c.loop-first.invariant.0 + (c.run-id.result - c.in-Some.first) + 1, rw (c.child-at.ensures.node _ reads) (walks_maybe down _ _ c.keep.ensures (omega (arith, left, all, some))))
 
 pub returns : goal.returns
 returns g c =
@@ -138,14 +138,14 @@ returns g c =
           c.loop-first.invariant.1 (sym c.get.ensures ∙ w.in_default.is))
       | in-Some+in-Before w ↦
           let is = sym c.get.ensures ∙ w.in-Some.is in
-          let run = rw w.as_bytes.ensures.value at w.run-id.ensures in
+          let run = rw w.as_bytes.ensures.value at w.run-id.ensures.run in
           let p = walks_past g.met.Q.Owned.Bytes.lawful c.requires.whole c.requires.siblings w.as_bytes.ensures.valid c.loop-first.invariant.1 is w.run-id.result run in
           let reads = (node_there _ _ (in_nodes g.met.Q.Owned.Bytes.lawful c.requires.whole c.requires.siblings p refl)).1 in
           rw (w.matched-is, w.link_ref-is, w.at-is, w.some-at.ensures, w.behind-link_ref.ensures)
           (stops_behind g.met.Q.Owned.Bytes.lawful c.requires.whole c.requires.siblings p refl reads Absent (w.in-Before.ensures _ reads))
       | in-Some+in-Partial w ↦
           let is = sym c.get.ensures ∙ w.in-Some.is in
-          let run = rw w.as_bytes.ensures.value at w.run-id.ensures in
+          let run = rw w.as_bytes.ensures.value at w.run-id.ensures.run in
           let p = walks_past g.met.Q.Owned.Bytes.lawful c.requires.whole c.requires.siblings w.as_bytes.ensures.valid c.loop-first.invariant.1 is w.run-id.result run in
           let reads = (node_there _ _ (in_nodes g.met.Q.Owned.Bytes.lawful c.requires.whole c.requires.siblings p refl)).1 in
           rw (w.matched-is, w.link_ref-is, w.at-is, w.some-at.ensures, w.behind-link_ref.ensures)
@@ -153,7 +153,7 @@ returns g c =
           (InsideLabel w.run-id.result w.in-Partial.n) (refl, w.in-Partial.ensures _ reads))
       | in-Some+in-Full+then-is_empty w ↦
           let is = sym c.get.ensures ∙ w.in-Some.is in
-          let run = rw w.as_bytes.ensures.value at w.run-id.ensures in
+          let run = rw w.as_bytes.ensures.value at w.run-id.ensures.run in
           let p = walks_past g.met.Q.Owned.Bytes.lawful c.requires.whole c.requires.siblings w.as_bytes.ensures.valid c.loop-first.invariant.1 is w.run-id.result run in
           let reads = (node_there _ _ (in_nodes g.met.Q.Owned.Bytes.lawful c.requires.whole c.requires.siblings p refl)).1 in
           rw (w.matched-is, w.link_ref-is, w.at-is, w.some-at.ensures, w.behind-link_ref.ensures)

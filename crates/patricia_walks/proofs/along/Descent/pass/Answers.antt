@@ -13,32 +13,32 @@ run-id-requires g c = record {
 
 pub first_byte-first-requires : goal.first_byte-first-requires
 first_byte-first-requires g c =
-    let within = run_ends g.K.Bytes.item g.met.K.Bytes.lawful c.args.key.now c.args.self.now c.args.id c.run-id.result c.requires.descent c.requires.taken c.requires.next (rw rest_is at c.run-id.ensures) in
+    let within = run_ends g.K.Bytes.item g.met.K.Bytes.lawful c.args.key.now c.args.self.now c.args.id c.run-id.result c.requires.descent c.requires.taken c.requires.next (rw rest_is at c.run-id.ensures.run) in
     omega (arith, within)
 
 pub label-label-requires : goal.label-label-requires
 label-label-requires g c =
-    let within = run_ends g.K.Bytes.item g.met.K.Bytes.lawful c.args.key.now c.args.self.now c.args.id c.run-id.result c.requires.descent c.requires.taken c.requires.next (rw rest_is at c.run-id.ensures) in
+    let within = run_ends g.K.Bytes.item g.met.K.Bytes.lawful c.args.key.now c.args.self.now c.args.id c.run-id.result c.requires.descent c.requires.taken c.requires.next (rw rest_is at c.run-id.ensures.run) in
     omega (arith, within)
 
 pub sibling-self-requires : goal.sibling-self-requires
 sibling-self-requires g c =
-    let within = run_ends g.K.Bytes.item g.met.K.Bytes.lawful c.args.key.now c.args.self.now c.args.id c.run-id.result c.requires.descent c.requires.taken c.requires.next (rw rest_is at c.run-id.ensures) in
+    let within = run_ends g.K.Bytes.item g.met.K.Bytes.lawful c.args.key.now c.args.self.now c.args.id c.run-id.result c.requires.descent c.requires.taken c.requires.next (rw rest_is at c.run-id.ensures.run) in
     omega (arith, within)
 
 pub value-self-requires : goal.value-self-requires
 value-self-requires g c =
-    let within = run_ends g.K.Bytes.item g.met.K.Bytes.lawful c.args.key.now c.args.self.now c.args.id c.run-id.result c.requires.descent c.requires.taken c.requires.next (rw rest_is at c.run-id.ensures) in
+    let within = run_ends g.K.Bytes.item g.met.K.Bytes.lawful c.args.key.now c.args.self.now c.args.id c.run-id.result c.requires.descent c.requires.taken c.requires.next (rw rest_is at c.run-id.ensures.run) in
     omega (arith, within)
 
 pub child-self-requires : goal.child-self-requires
 child-self-requires g c =
-    let within = run_ends g.K.Bytes.item g.met.K.Bytes.lawful c.args.key.now c.args.self.now c.args.id c.run-id.result c.requires.descent c.requires.taken c.requires.next (rw rest_is at c.run-id.ensures) in
+    let within = run_ends g.K.Bytes.item g.met.K.Bytes.lawful c.args.key.now c.args.self.now c.args.id c.run-id.result c.requires.descent c.requires.taken c.requires.next (rw rest_is at c.run-id.ensures.run) in
     omega (arith, within)
 
 pub sibling-self-requires-else-eq : goal.sibling-self-requires-else-eq
 sibling-self-requires-else-eq g c =
-    let within = run_ends g.K.Bytes.item g.met.K.Bytes.lawful c.args.key.now c.args.self.now c.args.id c.run-id.result c.requires.descent c.requires.taken c.requires.next (rw rest_is at c.run-id.ensures) in
+    let within = run_ends g.K.Bytes.item g.met.K.Bytes.lawful c.args.key.now c.args.self.now c.args.id c.run-id.result c.requires.descent c.requires.taken c.requires.next (rw rest_is at c.run-id.ensures.run) in
     omega (arith, within)
 
 pub returns-then-is_empty : goal.returns-then-is_empty
@@ -51,17 +51,17 @@ returns-then-is_empty g c =
 
 pub returns-then-first-rest : goal.returns-then-first-rest
 returns-then-first-rest g c =
-    let run = rw rest_is at c.run-id.ensures in
+    let run = rw rest_is at c.run-id.ensures.run in
     let on = moves_past_run g.K.Bytes.item g.met.K.Bytes.lawful c.args.key.now c.args.self.now c.args.id c.run-id.result c.requires.descent c.requires.taken c.requires.next run in
     let n = node_there _ _ (descent_within g.K.Bytes.item c.args.key.now (moved_to c.args.self.now (Some c.run-id.result)) c.run-id.result on.descent refl) in
     moves_after g.K.Bytes.item g.met.K.Bytes.lawful c.args.key.now c.args.self.now _ _ on
     (passes_by g.K.Bytes.item g.met.K.Bytes.lawful c.args.key.now (moved_to c.args.self.now (Some c.run-id.result)) _ c.run-id.result
     n.0 on.descent c.requires.taken refl n.1 refl
-    (rw (rest_is, c.first_byte-first.ensures _ n.1) at c.if-first-rest.true) refl refl (c.sibling-self.ensures _ n.1))
+    (rw (rest_is, c.first_byte-first.ensures _ n.1) at c.if-first-rest.true) refl refl (c.sibling-self.ensures.node _ n.1))
 
 pub returns-then-rest-first : goal.returns-then-rest-first
 returns-then-rest-first g c =
-    let run = rw rest_is at c.run-id.ensures in
+    let run = rw rest_is at c.run-id.ensures.run in
     let on = moves_past_run g.K.Bytes.item g.met.K.Bytes.lawful c.args.key.now c.args.self.now c.args.id c.run-id.result c.requires.descent c.requires.taken c.requires.next run in
     let n = node_there _ _ (descent_within g.K.Bytes.item c.args.key.now (moved_to c.args.self.now (Some c.run-id.result)) c.run-id.result on.descent refl) in
     moves_after g.K.Bytes.item g.met.K.Bytes.lawful c.args.key.now c.args.self.now _ _ on
@@ -71,7 +71,7 @@ returns-then-rest-first g c =
 
 pub returns-then-starts_with : goal.returns-then-starts_with
 returns-then-starts_with g c =
-    let run = rw rest_is at c.run-id.ensures in
+    let run = rw rest_is at c.run-id.ensures.run in
     let on = moves_past_run g.K.Bytes.item g.met.K.Bytes.lawful c.args.key.now c.args.self.now c.args.id c.run-id.result c.requires.descent c.requires.taken c.requires.next run in
     let n = node_there _ _ (descent_within g.K.Bytes.item c.args.key.now (moved_to c.args.self.now (Some c.run-id.result)) c.run-id.result on.descent refl) in
     let yes = rw (c.label-label.ensures _ n.1, rest_is) at c.starts_with.ensures.value in
@@ -79,11 +79,11 @@ returns-then-starts_with g c =
     (moves_down g.K.Bytes.item g.met.K.Bytes.lawful c.args.key.now (moved_to c.args.self.now (Some c.run-id.result)) _ c.run-id.result
     n.0 on.descent c.requires.taken refl n.1 refl
     (sym yes ∙ c.if-starts_with.true) (rw (c.label-label.ensures _ n.1) refl)
-    (c.value-self.ensures _ n.1) (c.child-self.ensures _ n.1))
+    (c.value-self.ensures _ n.1) (c.child-self.ensures.node _ n.1))
 
 pub returns-then-eq : goal.returns-then-eq
 returns-then-eq g c =
-    let run = rw rest_is at c.run-id.ensures in
+    let run = rw rest_is at c.run-id.ensures.run in
     let on = moves_past_run g.K.Bytes.item g.met.K.Bytes.lawful c.args.key.now c.args.self.now c.args.id c.run-id.result c.requires.descent c.requires.taken c.requires.next run in
     let n = node_there _ _ (descent_within g.K.Bytes.item c.args.key.now (moved_to c.args.self.now (Some c.run-id.result)) c.run-id.result on.descent refl) in
     let other = rw (c.label-label.ensures _ n.1, rest_is) at c.starts_with.ensures.value in
@@ -97,11 +97,11 @@ returns-then-eq g c =
 
 pub returns-else-eq : goal.returns-else-eq
 returns-else-eq g c =
-    let run = rw rest_is at c.run-id.ensures in
+    let run = rw rest_is at c.run-id.ensures.run in
     let on = moves_past_run g.K.Bytes.item g.met.K.Bytes.lawful c.args.key.now c.args.self.now c.args.id c.run-id.result c.requires.descent c.requires.taken c.requires.next run in
     let n = node_there _ _ (descent_within g.K.Bytes.item c.args.key.now (moved_to c.args.self.now (Some c.run-id.result)) c.run-id.result on.descent refl) in
     let other = rw (c.label-label.ensures _ n.1, rest_is) at c.starts_with.ensures.value in
     moves_after g.K.Bytes.item g.met.K.Bytes.lawful c.args.key.now c.args.self.now _ _ on
     (moves_past g.K.Bytes.item g.met.K.Bytes.lawful c.args.key.now (moved_to c.args.self.now (Some c.run-id.result)) _ c.run-id.result
     n.0 on.descent c.requires.taken refl n.1 refl
-    (sym other ∙ c.if-starts_with.false) refl refl (c.sibling-self-else-eq.ensures _ n.1))
+    (sym other ∙ c.if-starts_with.false) refl refl (c.sibling-self-else-eq.ensures.node _ n.1))

@@ -36,4 +36,4 @@ returns-clause-goes g c =
     (numbered_slots-read nodes c.args.id there.0 within there.1) refl (λ i k. refl)
     (c.label.ensures _ there.1) (c.len-front.ensures ∙ c.args.self.now.path.ok.0)
     c.in_ok-extend_from_slice.ensures.items (c.held_by-self.ensures _ there.1)
-    (c.child-self.ensures _ there.1) (rw (c.sibling.ensures _ there.1) at c.in-Ok.ensures.items)
+    (c.child-self.ensures.node _ there.1) (rw (c.sibling.ensures.node _ there.1) at c.in-Ok.ensures.items)

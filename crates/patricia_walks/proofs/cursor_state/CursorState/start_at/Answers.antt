@@ -38,7 +38,7 @@ returns-clause-position g c =
     c.in_ok-path.ensures.items) ∙ ap (λ l. c.args.front.now ++ l) (c.label-label.ensures _ there.1)
     in
     start_position g.K.Bytes.item c.args.self.now.tree.parts.arena _ (marked _ c.requires.whole).1
-    c.args.front.now c.args.top there.0 c.requires.start there.1 _ refl path (c.child-self.ensures _ there.1)
+    c.args.front.now c.args.top there.0 c.requires.start there.1 _ refl path (c.child-self.ensures.node _ there.1)
     c.requires.stack
 
 pub returns-clause-left : goal.returns-clause-left
@@ -56,5 +56,5 @@ returns-clause-left g c =
       pending = c.held_by-self.result;
       next = c.child-self.result;
       stack = c.args.self.now.stack;
-    })) refl path (c.child-self.ensures _ there.1) c.requires.stack
+    })) refl path (c.child-self.ensures.node _ there.1) c.requires.stack
     (c.held_by-self.ensures _ there.1)

@@ -33,7 +33,7 @@ returns-else-starts_with g c =
     (sym other ∙ c.if-starts_with.false)
     (before_it (drop c.args.self.now.len c.args.key.now) there.0.label
     (sym order ∙ greater_is c.cmp.result (sym c.ne.ensures ∙ c.if-ne.false)))
-    refl refl (c.sibling-self.ensures _ there.1)
+    refl refl (c.sibling-self.ensures.node _ there.1)
 
 pub returns-then-starts_with : goal.returns-then-starts_with
 returns-then-starts_with g c =
@@ -46,7 +46,7 @@ returns-then-starts_with g c =
     there.0 c.requires.descent c.requires.next there.1 refl
     (sym yes ∙ c.if-starts_with.true)
     (sym order ∙ greater_is c.cmp.result (sym c.ne.ensures ∙ c.if-ne.false))
-    (ap (λ l. c.args.self.now.len + length l) (c.label-label.ensures _ there.1)) (c.child-self.ensures _ there.1)
+    (ap (λ l. c.args.self.now.len + length l) (c.label-label.ensures _ there.1)) (c.child-self.ensures.node _ there.1)
     (λ front. c.put_value.ensures.found key nodes front c.requires.descent.found)
     (c.put_value.ensures.entry key nodes
     ∙ ap (λ v. last_or (lower_entry key nodes c.args.self.now.lower) (prefixed (take (c.args.self.now.len + length c.label-label.result.now) key) (own v))) (c.value.ensures _ there.1))

@@ -39,7 +39,7 @@ returns-then-is_none-clause-goes g c =
     let none = sym c.get.ensures ∙ not_some c.get.result (sym c.if-is_none.ensures) in
     goes_beside _ _ c.args.id (marked_node c.args.id there.0) c.requires.position
     c.requires.taken c.requires.next reads refl (c.held_by-self.ensures _ there.1)
-    (sym (c.child-child.ensures _ there.1) ∙ none) (c.sibling-sibling.ensures _ there.1) refl
+    (sym (c.child-child.ensures.node _ there.1) ∙ none) (c.sibling-sibling.ensures.node _ there.1) refl
 
 pub returns-clause-goes : goal.returns-clause-goes
 returns-clause-goes g c =
@@ -51,10 +51,10 @@ returns-clause-goes g c =
     elim c.if-is_some.branch [
       | then-is_some+in_ok-push w ↦ goes_down _ _ c.args.id (marked_node c.args.id there.0)
           c.requires.position c.requires.taken c.requires.next reads refl (c.held_by-self-2.ensures _ there.1)
-          (c.child-child.ensures _ there.1)
-          (rw w.self-is (rw (c.sibling-sibling.ensures _ there.1) at w.in_ok-push.ensures.items))
+          (c.child-child.ensures.node _ there.1)
+          (rw w.self-is (rw (c.sibling-sibling.ensures.node _ there.1) at w.in_ok-push.ensures.items))
       | else-is_some w ↦ goes_below _ _ c.args.id (marked_node c.args.id there.0)
           c.requires.position c.requires.taken c.requires.next reads refl (c.held_by-self-2.ensures _ there.1)
-          (sym (c.sibling-sibling.ensures _ there.1) ∙ sym c.get-2.ensures ∙ not_some c.get-2.result w.if-is_some.ensures)
-          (c.child-child.ensures _ there.1) (rw w.self-is refl)
+          (sym (c.sibling-sibling.ensures.node _ there.1) ∙ sym c.get-2.ensures ∙ not_some c.get-2.result w.if-is_some.ensures)
+          (c.child-child.ensures.node _ there.1) (rw w.self-is refl)
     ]

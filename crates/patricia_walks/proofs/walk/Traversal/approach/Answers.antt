@@ -16,8 +16,8 @@ returns-then-starts_with-clause-step g c =
     there.0 c.requires.towards (ap option_copied c.requires.taken) c.requires.next
     there.1 refl (sym yes ∙ c.if-starts_with.true) c.label-label.result.now (c.label-label.ensures _ there.1) _ (c.len-front.ensures ∙ c.args.self.now.path.ok.0)
     c.in_ok-extend_from_slice.ensures.items (c.value-self.ensures _ there.1)
-    (c.child-self.ensures _ there.1)
-    (rw (c.sibling.ensures _ there.1) at c.in_ok-push_siblings.ensures.items)
+    (c.child-self.ensures.node _ there.1)
+    (rw (c.sibling.ensures.node _ there.1) at c.in_ok-push_siblings.ensures.items)
 
 pub returns-then-eq-clause-over : goal.returns-then-eq-clause-over
 returns-then-eq-clause-over g c =
@@ -44,4 +44,4 @@ returns-clause-step g c =
     there.1 refl begun
     (turned_less (drop (length c.args.self.now.path.items) c.args.key.now) there.0.label
     (begun_itself there.0.label (drop (length c.args.self.now.path.items) c.args.key.now) begun) (λ less. not_less _ (sym c.eq.ensures ∙ c.if-eq.false) (order ∙ less)))
-    refl refl (c.sibling-self.ensures _ there.1) refl
+    refl refl (c.sibling-self.ensures.node _ there.1) refl

@@ -31,5 +31,5 @@ returns g c =
     (ap option_copied c.requires.taken) c.requires.next there.1 refl (λ i n. refl)
     (c.label.ensures _ there.1) (c.len-front.ensures ∙ c.args.self.now.path.ok.0)
     c.in_ok-extend_from_slice.ensures.items (c.value-self.ensures _ there.1)
-    (c.child-self.ensures _ there.1)
-    (rw (c.sibling.ensures _ there.1) at c.in_ok-push_siblings.ensures.items)
+    (c.child-self.ensures.node _ there.1)
+    (rw (c.sibling.ensures.node _ there.1) at c.in_ok-push_siblings.ensures.items)

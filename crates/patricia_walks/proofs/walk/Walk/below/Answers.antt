@@ -14,7 +14,7 @@ invariant_of-result g c =
     c.in_ok-path.ensures.items) ∙ ap (λ l. c.args.front.now ++ l) (c.label-label.ensures _ there.1)
     in
     position_top g.K.Bytes.item c.args.arena.now c.args.front.now c.args.top there.0 c.requires there.1 _ refl path
-    (c.child.ensures _ there.1) c.new.ensures.items
+    (c.child.ensures.node _ there.1) c.new.ensures.items
 
 pub returns : goal.returns
 returns g c =
@@ -33,4 +33,4 @@ returns g c =
           c.value.result;
       next = c.child.result;
       stack = c.new.result;
-    })) refl path (c.value.ensures _ there.1) (c.child.ensures _ there.1) c.new.ensures.items
+    })) refl path (c.value.ensures _ there.1) (c.child.ensures.node _ there.1) c.new.ensures.items

@@ -1,5 +1,0 @@
-use Rattle.std.proofs.Common.{rules}
-use Rattle.patricia_nodes.proofs.label.Label.joined.Goals as goal
-
-pub returns : goal.returns
-returns c = search rules
