@@ -66,8 +66,8 @@ fn len_of_one<Q: BorrowedBytes>(alloc: Global, key: Q) -> Result<usize, AllocErr
     Ok(map_of_one(alloc, key)?.len())
 }
 
-// More than 30 bytes: a shorter label stands in the node, and there is room for a few nodes from
-// the first insert on, so a shorter key would ask for nothing.
+// There is room for a few nodes, and for 64 bytes of labels, from the first insert on. An insert
+// wants room for its key and 36 bytes more, so a shorter key would ask for nothing.
 const BARS: &[u8] = b"bar bar bar bar bar bar bar bar bar";
 
 #[test]
