@@ -215,6 +215,21 @@ module _ {V W : Type 0} where
       ∙ sym (get-retain_keys m (λ k. not (map.contains_key n k)) q
       (λ x tie. ap (λ k. not (map.contains_key n k)) (sym (key_cmp-equal q x tie)))))
 
+-- where a cursor over a set advances, the element at which it stands then is inserted
+pub inserted_on : (made mid : FinMap key_cmp (Unit {0})) (c d : ReadCursorView (Unit {0}))
+    → d ≡ advanced c → c.left ≢ []
+    → ((e : List ℕ × Unit {0}) → d.at ≡ Some e → mid ≡ map.insert made e.0 tt)
+    → insert_all mid d.left ≡ insert_all made c.left
+inserted_on made mid c d is some put =
+    subst (λ left. insert_all mid left ≡ insert_all made c.left) (sym (ap (λ (v : ReadCursorView (Unit {0})). v.left) is))
+    (by c.left some (λ e at. put e (ap (λ (v : ReadCursorView (Unit {0})). v.at) is ∙ at)))
+  where
+    by : (left : List (List ℕ × Unit {0})) → left ≢ []
+        → ((e : List ℕ × Unit {0}) → slice_get left 0 ≡ Some e → mid ≡ map.insert made e.0 tt)
+        → insert_all mid (drop 1 left) ≡ insert_all made left
+    by [] some put = absurd (some refl)
+    by (e ∷ left) some put = ap (λ m. insert_all m left) (put e refl)
+
 module _ {B : Type 0} where
   -- one of a list passes one of two tests where one passes the first, or one the second
   any_or : (f g : B → Bool) (ys : List B) → list_any (λ y. f y || g y) ys ≡ (list_any f ys || list_any g ys)
