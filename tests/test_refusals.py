@@ -98,11 +98,10 @@ class Single(Counted):
         self.assertIn(b'the insert was refused', ran.stdout + ran.stderr)
 
     def test_an_insert_is_done_without_a_relocation(self):
-        """The first request of the changes is for the order in which the nodes would lie."""
-        made, called = 'refusals::worn::made', 'refusals::worn::called'
-        self.assertGreater(self.requests('test_requests', called), self.requests('test_requests', made))
-        ran = self.after('test_requests', made, called)
-        self.assertEqual((ran.returncode, ran.is_refused), (0, True), ran)
+        """One request of the changes is for the order in which the nodes would lie, the others are for labels."""
+        made, called = (self.requests('test_requests', 'refusals::worn::' + kind) for kind in ('made', 'called'))
+        ran = [self.ran('test_requests', 'refusals::worn::called', at) for at in range(made + 1, called + 1)]
+        self.assertIn((0, True), [(each.returncode, each.is_refused) for each in ran])
 
     def test_a_reload_is_refused(self):
         """The test wants the reload to be done, and fails there."""

@@ -1,6 +1,6 @@
 //! An insert that relocates the nodes for their order alone, which is done without memory for that,
-//! too. `tests/test_refusals.py` counts the memory requests of `made`, and refuses the next one of
-//! `called`.
+//! too. `tests/test_refusals.py` counts the memory requests of `made`, and refuses each that
+//! `called` makes besides, in a run of its own.
 use crate::tests::asserts::{done, holds};
 use patricia_tree::PatriciaMap;
 use std::alloc::{AllocError, Global};
