@@ -133,7 +133,7 @@ impl<V: Drop> Store<V> {
     /// 24, a joined label what both parts take as one. 281,474,976,710,654 nodes are the most, and
     /// one byte more: room for more is refused. Asks for nodes only where there is no room for
     /// them, and likewise for bytes. Where there is none and more than a third of the bytes belong
-    /// to no label, labels are laid anew first. An error may leave more room.
+    /// to no label, labels are relocated first. An error may leave more room.
     #[cold]
     pub fn reserve(&mut self, nodes: usize, bytes: usize) -> Result<(), AllocError>
         ensures items { self.new.items ≡ self.old.items }
