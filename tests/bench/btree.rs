@@ -1,9 +1,9 @@
-//! btree [counts|times] [LINE..]: what `bench_tree` does, over std's ordered map. Its walk lends the
-//! keys.
+//! btree [counts|times|fill] [LINE..]: what `bench_tree` does, over std's ordered map. Its walk lends
+//! the keys. `fill` takes a word `hash`, too, for std's hash set.
 
-use std::collections::{BTreeMap, BTreeSet};
+use std::collections::{BTreeMap, BTreeSet, HashSet};
 use std::ops::Bound;
-use std::io::Read;
+use std::io::{BufRead, BufReader, Read};
 use std::time::Instant;
 
 type Map = BTreeMap<Vec<u8>, u64>;
@@ -421,8 +421,56 @@ fn measure(times: bool, names: &[String], lists: &mut Lists) {
     }
 }
 
+// Calls a function at each line of the input that is not empty, as it is read, and says what a call
+// takes in time and memory.
+fn fill(mut put: impl FnMut(Vec<u8>)) {
+    let before = memory("VmRSS:");
+    let start = Instant::now();
+    let mut lines = 0;
+    let mut line = Vec::new();
+    let mut reader = BufReader::new(std::io::stdin());
+    while reader.read_until(b'\n', &mut line).unwrap() > 0 {
+        let key = line.strip_suffix(b"\n").unwrap_or(&line);
+        if !key.is_empty() {
+            put(key.to_vec());
+            lines += 1;
+        }
+        line.clear();
+    }
+    report(true, "fill", start, lines, 0);
+    println!("keys {lines}");
+    println!("memory {}", memory("VmRSS:").saturating_sub(before) / lines.max(1) as u64);
+    println!("peak {}", memory("VmHWM:").saturating_sub(before) / lines.max(1) as u64);
+}
+
+// Fills a set, or a map with values of the type that a word names.
+fn fill_by(word: &str) {
+    let (mut set, mut hash_set) = (BTreeSet::new(), HashSet::new());
+    let (mut small, mut large, mut bytes) = (BTreeMap::new(), BTreeMap::new(), BTreeMap::new());
+    match word {
+        "unit" => fill(|key| {
+            set.insert(key);
+        }),
+        "u32" => fill(|key| {
+            small.insert(key, 0u32);
+        }),
+        "bytes" => fill(|key| {
+            bytes.insert(key, Vec::<u8>::new());
+        }),
+        "hash" => fill(|key| {
+            hash_set.insert(key);
+        }),
+        _ => fill(|key| {
+            large.insert(key, 0u64);
+        }),
+    }
+}
+
 fn main() {
     let words: Vec<String> = std::env::args().collect();
+    if words.get(1).is_some_and(|word| word == "fill") {
+        return fill_by(words.get(2).map_or("u64", String::as_str));
+    }
     let times = words.get(1).is_some_and(|word| word == "times");
     let mut input = Vec::new();
     std::io::stdin().read_to_end(&mut input).unwrap();

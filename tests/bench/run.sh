@@ -13,12 +13,16 @@
 # branches and lines of the cache, over so many titles, 200,000 without a number. Other work on the machine changes
 # nothing of that.
 #
+# run.sh fill [KEYS] [WORD ..] fills a map of the map's and one of std's from so many titles, 1,000,000 without a number,
+# each inserted as it is read, with the values that the words name, `unit`, `u32`, `u64` and `bytes` without one; `hash`
+# stands for std's hash set. A process each, whose memory and time it prints.
+#
 # run.sh calls [KEYS] times the map and the map as C calls it alone, forty processes each, over so few titles that all
 # lies in the cache, 2,000 without a number, and prints how many nanoseconds a call from C takes more.
 set -euo pipefail
 cd "$(dirname "$0")/../.."
 case ${1-} in
-growth | cache | calls) mode=$1 && shift ;;
+growth | cache | fill | calls) mode=$1 && shift ;;
 *) mode=lines ;;
 esac
 if [ $# -eq 0 ]; then
@@ -26,6 +30,7 @@ if [ $# -eq 0 ]; then
     lines) set -- 820000 1000000 ;;
     growth) set -- 10000 100000 1000000 ;;
     cache) set -- 200000 ;;
+    fill) set -- 1000000 ;;
     calls) set -- 2000 ;;
     esac
 fi
@@ -112,6 +117,23 @@ all_events() { # number of keys, kind
     cat "$room"/*.events
     "$room/map" age < "$room/keys" | sed "s/^/$1 $2 map /"
 }
+
+# Fills maps with values that a word names: each line with the number of keys, the word and the program.
+fills() { # number of keys, word
+    local program
+    for program in map btree; do
+        [ "$program $2" = 'map hash' ] || "$room/$program" fill "$2" < "$room/keys" | sed "s/^/$1 $2 $program /"
+    done
+}
+
+if [ $mode = fill ]; then
+    python3 tests/bench/keys.py titles "$1" 1 > "$room/keys"
+    words=("${@:2}")
+    [ ${#words[@]} -ne 0 ] || words=(unit u32 u64 bytes)
+    for word in "${words[@]}"; do fills "$1" "$word"; done > "$room/figures"
+    python3 tests/bench/tables.py fill < "$room/figures"
+    exit
+fi
 
 for count in "$@"; do
     case $mode in

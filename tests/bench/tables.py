@@ -1,4 +1,4 @@
-"""Prints a table of figures: tables.py lines|ratios|growth|cache|calls < FIGURES.
+"""Prints a table of figures: tables.py lines|ratios|growth|cache|fill|calls < FIGURES.
 
 A figure is a line of its own: the number of keys, their kind, the program, the name of its line, and the number. Where
 there are several of one line, the least of them counts.
@@ -7,6 +7,7 @@ there are several of one line, the least of them counts.
     ratios    the ratios of a few lines to std's ordered map, of all kinds of keys
     growth    a few lines by the number of keys
     cache     what a look-up costs, by events of cachegrind
+    fill      what an insert from a line takes, by the type of values
     calls     the map, and the map from C
 """
 import sys
@@ -133,6 +134,17 @@ def print_cache(found):
         print()
 
 
+def print_fill(found):
+    """What memory and time an insert takes, for each type of values."""
+    head = ['%d titles' % min(count for count, _ in found)]
+    names = {'memory': 'bytes', 'peak': 'peak', 'fill': 'ns'}
+    table(head + [it for unit in names.values() for it in (unit, "std's", 'ratio')],
+          [[kind, *(it for name in names for it in (cell(figures, 'map', name), cell(figures, 'btree', name),
+                                                    over(figures, 'map', 'btree', name)))]
+           for (_, kind), figures in found.items()])
+    print()
+
+
 def print_calls(found):
     """By how much the figure from C is greater."""
     for (count, kind), figures in found.items():
@@ -144,7 +156,7 @@ def print_calls(found):
 
 
 PRINTED = {'lines': print_lines, 'ratios': print_ratios, 'growth': print_growth, 'cache': print_cache,
-           'calls': print_calls}
+           'fill': print_fill, 'calls': print_calls}
 
 if __name__ == '__main__':
     PRINTED[sys.argv[1]](read(sys.stdin))

@@ -1,6 +1,9 @@
-//! bench_tree [counts|times|age] [LINE..]: counts the answers of a map for the keys of its input,
-//! or times its calls, or says how many of the keys are inserted when the nodes are last
-//! relocated.
+//! bench_tree [counts|times|age|fill] [LINE..]: counts the answers of a map for the keys of its
+//! input, or times its calls, or says how many of the keys are inserted when the nodes are last
+//! relocated, or what memory a map takes.
+//!
+//! `fill` has a word `unit`, `u32`, `u64` or `bytes` for the values, and inserts each line as it is
+//! read, so that the process holds nothing else.
 //!
 //! The input has a key a line. The keys of every other line are inserted, the rest are only asked
 //! for. With the word `times` each line of the output has nanoseconds a call or an entry, or bytes
@@ -11,6 +14,7 @@
 
 mod age;
 mod calls;
+mod fills;
 mod keys;
 mod lines;
 mod loads;
@@ -19,11 +23,12 @@ mod steps;
 
 use age::report_age;
 use calls::{Each, Maps, no_maps};
+use fills::report_fill;
 use keys::{Lists, few, read_lists, shuffle};
 use lines::{Sheet, line};
 use loads::{time_load, time_union};
 use memory::{memory, memory_since};
-use patricia_tree::{BorrowedBytes, GenericPatriciaMap};
+use patricia_tree::{BorrowedBytes, GenericPatriciaMap, PatriciaMap};
 use std::env;
 use std::io::{self, Read as _};
 use std::rt::{Clock, Env, Files};
@@ -142,18 +147,47 @@ fn read_input(rt: &(impl AllocGlobal + Input)) -> io::Result<Vec<u8>> {
     Ok(input)
 }
 
+// Fills a map with values of the type that a word names from the lines of the input.
+fn fill_on<R: AllocGlobal + Clock + Files + Input + Print>(
+    sheet: &Sheet<'_, R>,
+    word: &str,
+) -> io::Result<()> {
+    let alloc = sheet.rt.alloc();
+    match word {
+        "unit" => report_fill(sheet, PatriciaMap::<()>::new(alloc)),
+        "u32" => report_fill(sheet, PatriciaMap::<u32>::new(alloc)),
+        "bytes" => report_fill(sheet, PatriciaMap::<Vec<u8>>::new(alloc)),
+        _ => report_fill(sheet, PatriciaMap::<u64>::new(alloc)),
+    }
+}
+
+// Measures the calls, or says how old the order of the nodes is, with the keys of the input.
+fn run_or_age<R: AllocGlobal + Clock + Files + Input + Print>(
+    sheet: &Sheet<'_, R>,
+    words: &[String],
+) -> io::Result<()> {
+    let input = read_input(sheet.rt)?;
+    if has_word(words, "age") {
+        age_on(sheet, &input)
+    } else {
+        run_on(sheet, &input)
+    }
+}
+
 fn run<R: AllocGlobal + Clock + Env + Files + Input + Print>(rt: &R) -> io::Result<()> {
-    let input = read_input(rt)?;
     let words: Vec<String> = env::args(&(rt, rt.alloc()))?.collect(rt.alloc())?;
+    let fills = has_word(&words, "fill");
     let sheet = Sheet {
         rt,
-        times: has_word(&words, "times"),
+        times: fills || has_word(&words, "times"),
         names: words.get(2..).unwrap_or(&[]),
     };
-    if has_word(&words, "age") {
-        age_on(&sheet, &input)
-    } else {
-        run_on(&sheet, &input)
+    if !fills {
+        return run_or_age(&sheet, &words);
+    }
+    match sheet.names.first() {
+        Some(word) => fill_on(&sheet, word.as_str()),
+        None => fill_on(&sheet, "u64"),
     }
 }
 

@@ -112,8 +112,8 @@ impl<V: Drop> NodeArena<V> {
         self.nodes.reserve(more, bytes)
     }
 
-    /// Makes room for two more nodes and so many bytes of labels, and relocates the nodes as
-    /// `settle` does. They may have other numbers then.
+    /// Makes room for two more nodes and so many bytes of labels. Where there were too few nodes, or
+    /// there is a gain, it relocates them as `settle` does, and they may have other numbers then.
     pub fn reserve_two(&mut self, alloc: Global, bytes: usize) -> Result<(), AllocError>
         requires whole { IsWellFormed self.old }
         ensures whole { IsWellFormed self.new }
@@ -122,10 +122,11 @@ impl<V: Drop> NodeArena<V> {
         ensures reuses { Reuses self.old self.new }
         ensures unchanged { OnErr result (Stays self.old self.new) }
     {
-        if !self.has_room(bytes) {
-            self.extend(bytes)?;
+        let grows = !self.has_room(0);
+        self.extend(bytes)?;
+        if grows || self.is_worn() {
+            self.settle(alloc);
         }
-        self.settle(alloc);
         Ok(())
     }
 

@@ -61,10 +61,10 @@ impl<V> Store<V> {
 
 impl<V: Drop> Store<V> {
     /// Lays the labels one behind another, in the order of the nodes, in a vector of their own, so
-    /// that bytes that belong to no node are given back. It has room for as many more bytes as
-    /// there was room for, and for `more`. Takes time in proportion to nodes and bytes. Where the
-    /// vector is refused, or labels would take more bytes than are used, nothing changes and an
-    /// error is returned.
+    /// that bytes that belong to no node are given back. It has room for half as many bytes more as
+    /// the labels take, for as many as there was room for, and for `more`. Takes time in proportion
+    /// to nodes and bytes. Where the vector is refused, or labels would take more bytes than are
+    /// used, nothing changes and an error is returned.
     pub fn lay_labels(&mut self, more: usize) -> Result<(), AllocError>
         ensures laid { OnOk result (self.new.used ≡ labels_room self.new.items) }
         ensures items { self.new.items ≡ self.old.items }
@@ -75,7 +75,7 @@ impl<V: Drop> Store<V> {
         let Some(needed) = self.label_bytes() else {
             return Err(AllocError);
         };
-        let room = self.labels.room().max(more.min(MOST));
+        let room = self.labels.room().max(more.min(MOST)).max(needed / 2);
         let mut laid = Labels::with_capacity(self.alloc, needed + room)?;
         lay(&mut self.heads, &mut self.bodies, &self.labels, &mut laid);
         self.labels = laid;
