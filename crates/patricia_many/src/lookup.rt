@@ -6,13 +6,12 @@ ghost use Rattle.std.specs.FinMap.{find};
 ghost use Rattle.patricia_keys.specs.Keys.{key_cmp, IsValid};
 ghost use Rattle.patricia_model.specs.Prefixes.{longest};
 ghost use Rattle.patricia_model.specs.Siblings.{own, IsCanonical};
-ghost use Rattle.patricia_model.specs.Internal.LabelCmp.{ComparesLabel};
 ghost use Rattle.patricia_nodes.specs.Internal.NodeVecs.{ReadsNode};
 ghost use Rattle.patricia_nodes.specs.Internal.Plans.{IsWellFormed, siblings_of, entries_of};
 ghost use Rattle.patricia_many.specs.Internal.Lookups.{IsFind, IsLookup, KeepsBest, nodes_ahead};
 
 use patricia_keys::{BorrowedBytes, Bytes};
-use patricia_model::label_cmp::{LabelCmp, compare_label};
+use patricia_model::label_cmp::LabelCmp;
 use patricia_nodes::arena::NodeArena;
 use patricia_nodes::link::{Link, NodeId};
 
@@ -34,31 +33,6 @@ pub struct Lookup {
     // the empty key, and how many bytes it has
     best: Link,
     best_len: usize,
-}
-
-// How a key meets the label of a node. Where their first bytes differ, or the label has one byte,
-// the node is not read.
-#[inline(always)]
-fn compare<Q: BorrowedBytes, V>(arena: &NodeArena<V>, id: NodeId, key: Q) -> LabelCmp<Q>
-    requires within { id < length arena.now.nodes.items }
-    requires valid { ReadsNode arena.now.nodes id (λ n. IsValid Q.Owned.item n.label) }
-    requires nonempty { ReadsNode arena.now.nodes id (λ n. n.label ≢ []) }
-    requires key_filled { Q.key key ≢ [] }
-    ensures { ReadsNode arena.now.nodes id
-        (λ n. ComparesLabel Q.Owned.item Q.key (Q.key key) n.label result) }
-{
-    let first = key.as_bytes()[0];
-    let other = arena.nodes.first_byte(id);
-    if first < other {
-        return LabelCmp::Before;
-    }
-    if other < first {
-        return LabelCmp::After;
-    }
-    if arena.nodes.short_len(id) == 1 {
-        return LabelCmp::Full(key.strip_n_prefix(1));
-    }
-    compare_label(key, arena.nodes.label(id))
 }
 
 impl Lookup {
@@ -205,7 +179,7 @@ impl Lookup {
         let Some(id) = self.at.get() else {
             return;
         };
-        match compare(arena, id, self.rest(key)) {
+        match arena.compare(id, self.rest(key)) {
             LabelCmp::Before => self.end_at(Link::none()),
             LabelCmp::After => self.go_to(arena, arena.nodes.sibling(id)),
             LabelCmp::Partial(_) => self.end_at(Link::none()),
@@ -279,6 +253,7 @@ impl Lookup {
             None => None,
         }
     }
+
     /// The longest prefix of the key and the value there, where this was looked for and the look-up
     /// is at its end. The value at the empty key is given.
     pub fn prefix<'b, Q: BorrowedBytes, V>(

@@ -141,9 +141,9 @@ impl<V> NodeArena<V> {
         None
     }
 
-    // How a key meets the label of a node. Where their first bytes differ, the node is not read.
+    /// How a key meets the label of a node. Where their first bytes differ, the node is not read.
     #[inline(always)]
-    fn compare<Q: BorrowedBytes>(&self, id: NodeId, key: Q) -> LabelCmp<Q>
+    pub fn compare<Q: BorrowedBytes>(&self, id: NodeId, key: Q) -> LabelCmp<Q>
         requires within { id < length self.now.nodes.items }
         requires valid { ReadsNode self.now.nodes id (λ n. IsValid Q.Owned.item n.label) }
         requires nonempty { ReadsNode self.now.nodes id (λ n. n.label ≢ []) }
