@@ -112,8 +112,9 @@ impl<V: Drop> NodeArena<V> {
         self.nodes.reserve(more, bytes)
     }
 
-    /// Makes room for two more nodes and so many bytes of labels. Where there were too few nodes, or
-    /// there is a gain, it relocates them as `settle` does, and they may have other numbers then.
+    /// Makes room for two more nodes and so many bytes of labels. Where there was none for the
+    /// nodes, or there is a gain, it relocates them as `settle` does, and they may have other
+    /// numbers then.
     pub fn reserve_two(&mut self, alloc: Global, bytes: usize) -> Result<(), AllocError>
         requires whole { IsWellFormed self.old }
         ensures whole { IsWellFormed self.new }
