@@ -17,6 +17,7 @@ ghost use Rattle.patricia_wire.specs.Writings.{Means, TooDeep};
 ghost use Rattle.patricia_wire.specs.Faults.{IsRefusal};
 
 mod cursors;
+mod ends;
 mod loading;
 mod many;
 mod near;

@@ -1,8 +1,10 @@
 pub mod AddLemmas
 pub mod AlongLemmas
+pub mod ComeLemmas
 pub mod CopyLemmas
 pub mod CountLemmas
 pub mod CutLemmas
+pub mod EndLemmas
 pub mod KeptLemmas
 pub mod LeafLemmas
 pub mod MakeLemmas
@@ -15,4 +17,5 @@ pub mod RemoveLemmas
 pub mod SplitLemmas
 pub mod StayLemmas
 pub mod TakeLemmas
+pub mod TakenLemmas
 pub mod WholeLemmas

@@ -18,18 +18,18 @@ use Rattle.patricia_nodes.specs.Internal.Plans.{Plan, Nil, Cell, linked, head, s
 use Rattle.patricia_nodes.specs.Internal.Plans.{IsPlan}
 use Rattle.patricia_nodes.specs.Internal.Plans.{Holds, IsWellFormed, plan_at, siblings_of}
 use Rattle.patricia_nodes.specs.Internal.Plans.{entries_of}
-use Rattle.patricia_nodes.specs.Internal.Places.{fill, node_of, Matches}
+use Rattle.patricia_nodes.specs.Internal.Places.{fill, node_of, Matches, Placed}
 use Rattle.patricia_nodes.specs.Internal.Merges.{Unlinks, Absorbs, HasLeafAt, HasLone, Spares}
 use Rattle.patricia_nodes.specs.Internal.Merges.{LeavesOther, StandsAt}
 use Rattle.patricia_nodes.specs.Internal.NodeVecs.{HasJoinedRoom}
 use Rattle.patricia_nodes.specs.Internal.Writes.{Stays}
-use Rattle.patricia_edits.specs.Internal.Removes.{HasValue, Removes}
+use Rattle.patricia_edits.specs.Internal.Removes.{HasValue, IsPlaceOf, ReadyAt, Removes}
 use Rattle.patricia_nodes.proofs.AloneLemmas.{plan_end, plan_more}
 use Rattle.patricia_nodes.proofs.PlanLemmas.{plan_is, node_is}
 use Rattle.patricia_nodes.proofs.FillLemmas.{siblings-within, stands-within}
 use Rattle.patricia_nodes.proofs.WriteLemmas.{holds_write}
 use Rattle.patricia_nodes.proofs.SeekLemmas.{Sought, Opened, opened, head_within, place_siblings}
-use Rattle.patricia_nodes.proofs.SeekLemmas.{focus_plan_at, stop_at, here_passes}
+use Rattle.patricia_nodes.proofs.SeekLemmas.{focus_plan_at, stop_at, here_passes, sought_at}
 use Rattle.patricia_edits.proofs.TakeLemmas.{Gone, gone-fill, spared-fill, joins-fill}
 use Rattle.patricia_edits.proofs.OtherLemmas.{Inside, inside, whole_ok, upper_ok, left_plan}
 use Rattle.patricia_edits.proofs.OtherLemmas.{labels_are, other_gone}
@@ -421,3 +421,31 @@ pub here_stop : (matched : Match) (id : ℕ) → node_of matched ≡ Some id →
 here_stop Absent id e = absurd (cc)
 here_stop (InsideLabel i n) id e = absurd (cc)
 here_stop (Exact i) id e = let same : i ≡ id = cc in ap (λ k. Exact k) same
+
+-- where a look-up of a key ends at a node, the node is that of the key
+pub place_of : {item : List ℕ → Type 0} {V : Type 0} {s : NodeArena V} {key : List ℕ}
+    {link_ref : LinkRef} {at : Option ℕ} {rest : List ℕ} {matched : Match}
+    → Placed item s key link_ref at rest matched → {id : ℕ} → matched ≡ Exact id
+    → IsPlaceOf item s key link_ref id
+place_of {item} {V} {s} {key} {link_ref} {at} {rest} {matched} p {id} is =
+    (rest, record {
+      frames = p.frames;
+      focus = p.focus;
+      fills = p.fills;
+      link_ref_is = p.link_ref_is;
+      at_is = sym (stop_at item rest p.focus id matched p.is_match (ap node_of is));
+      leads = p.leads;
+      rest_nonempty = p.rest_nonempty;
+      is_match = subst (λ m. Matches item p.focus rest m) is p.is_match;
+    })
+
+module _ {item : List ℕ → Type 0} (kind : IsKeyKind item) {V : Type 0} {s : NodeArena V}
+    {link_ref : LinkRef} {id : ℕ} (ready : ReadyAt item s link_ref id) where
+  -- the node of a key, as a look-up finds it
+  abbrev pub place_at : (key : List ℕ) → (p : IsPlaceOf item s key link_ref id)
+      → Sought item s key link_ref (Some id) p.0 (Exact id)
+  place_at key p = sought_at kind ready.whole ready.canonical p.1
+
+  -- the node of the key whose node it is
+  abbrev pub place_here : Sought item s ready.key link_ref (Some id) ready.is_place.0 (Exact id)
+  place_here = place_at ready.key ready.is_place

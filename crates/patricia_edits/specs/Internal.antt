@@ -1,5 +1,6 @@
 -- Words of contracts that no user of the library meets: a reader need not believe them.
 pub mod Copies
+pub mod Ends
 pub mod Inserts
 pub mod Removes
 pub mod Splits

@@ -4,11 +4,13 @@
 #![tactic(auto)]
 
 mod copying;
+mod ends;
 mod insertion;
 mod removal;
 mod splitting;
 
 pub use copying::{copy, copy_value};
+pub use ends::{remove_first, remove_last};
 pub use insertion::{insert, insert_along};
 pub use removal::remove;
 pub use splitting::split;

@@ -5,67 +5,69 @@ ghost use Rattle.patricia_keys.specs.Keys.{key_cmp};
 ghost use Rattle.patricia_model.specs.Points.{Joins};
 ghost use Rattle.patricia_model.specs.Internal.Removals.{others};
 ghost use Rattle.patricia_model.specs.Siblings.{IsCanonical, keys_of};
-ghost use Rattle.patricia_nodes.specs.declared.arena.seek.Match.TheVariants.{Exact};
 ghost use Rattle.patricia_nodes.specs.Internal.Plans.{IsWellFormed, siblings_of, entries_of};
-ghost use Rattle.patricia_nodes.specs.Internal.Writes.{Ready, Stays};
-ghost use Rattle.patricia_edits.specs.Internal.Removes.{IsLeaf, IsValued, HasValue, RemovesAt};
-ghost use Rattle.patricia_edits.specs.Internal.Removes.{JoinsAt};
+ghost use Rattle.patricia_nodes.specs.Internal.Writes.{Stays};
+ghost use Rattle.patricia_edits.specs.Internal.Removes.{IsLeaf, IsValued, HasValue, ReadyAt};
+ghost use Rattle.patricia_edits.specs.Internal.Removes.{RemovesAt, JoinsAt};
 
 use patricia_keys::{BorrowedBytes, Bytes};
 use patricia_nodes::arena::NodeArena;
-use patricia_nodes::arena::seek::SeekResult;
+use patricia_nodes::arena::seek::LinkRef;
 use patricia_nodes::link::NodeId;
 use std::alloc::AllocError;
 
+// A node, and where its number stands.
+#[derive(Clone, Copy)]
+pub struct Linked {
+    pub link_ref: LinkRef,
+    pub id: NodeId,
+}
+
 // Takes a leaf out. The node above takes in its other child, where that would be alone.
-fn remove_leaf<V: Drop, Q: BorrowedBytes>(
+fn remove_leaf<K: Bytes, V: Drop>(
     arena: &mut NodeArena<V>,
-    place: &SeekResult<Q>,
-    id: NodeId,
+    at: &Linked,
 ) -> Result<Option<V>, AllocError>
-    requires ready { Ready Q.Owned.item Q.key arena.old place.now }
-    requires here { place.now.matched ≡ Exact id }
-    requires leaf { IsLeaf arena.old id }
-    requires valued { IsValued arena.old id }
-    ensures ok { OnOk result (RemovesAt Q.Owned.item Q.key arena.old arena.new place.now) }
-    ensures value { IfOk result (λ taken. HasValue arena.old id taken) }
+    requires ready { ReadyAt K.item arena.old at.now.link_ref at.now.id }
+    requires leaf { IsLeaf arena.old at.now.id }
+    requires valued { IsValued arena.old at.now.id }
+    ensures ok { OnOk result (RemovesAt K.item arena.old arena.new at.now.link_ref at.now.id) }
+    ensures value { IfOk result (λ taken. HasValue arena.old at.now.id taken) }
     ensures unchanged { OnErr result (Stays arena.old arena.new) }
-    ensures joins { OnErr result (JoinsAt Q.Owned.item Q.key arena.old place.now) }
+    ensures joins { OnErr result (JoinsAt K.item arena.old at.now.link_ref at.now.id) }
 {
-    let Some(alone) = arena.would_merge::<Q::Owned>(place.link_ref, id) else {
-        return Ok(arena.unlink(place.link_ref, id));
+    let Some(alone) = arena.would_merge::<K>(at.link_ref, at.id) else {
+        return Ok(arena.unlink(at.link_ref, at.id));
     };
     arena.reserve_joined(alone.0, alone.1)?;
-    let taken = arena.unlink(place.link_ref, id);
+    let taken = arena.unlink(at.link_ref, at.id);
     let _none = arena.merge_only_child(alone.0, alone.1);
     Ok(taken)
 }
 
-// Takes the value out at the place of a key. There is room for the joined label before anything is
-// changed.
-fn remove_at<V: Drop, Q: BorrowedBytes>(
+// Takes the value out of the node of a key, which is linked so. There is room for the joined label
+// before anything is changed.
+pub fn remove_at<K: Bytes, V: Drop>(
     arena: &mut NodeArena<V>,
-    place: &SeekResult<Q>,
-    id: NodeId,
+    at: &Linked,
 ) -> Result<Option<V>, AllocError>
-    requires ready { Ready Q.Owned.item Q.key arena.old place.now }
-    requires here { place.now.matched ≡ Exact id }
-    ensures ok { OnOk result (RemovesAt Q.Owned.item Q.key arena.old arena.new place.now) }
-    ensures value { IfOk result (λ taken. HasValue arena.old id taken) }
+    requires ready { ReadyAt K.item arena.old at.now.link_ref at.now.id }
+    ensures ok { OnOk result (RemovesAt K.item arena.old arena.new at.now.link_ref at.now.id) }
+    ensures value { IfOk result (λ taken. HasValue arena.old at.now.id taken) }
     ensures unchanged { OnErr result (Stays arena.old arena.new) }
-    ensures joins { OnErr result (JoinsAt Q.Owned.item Q.key arena.old place.now) }
+    ensures joins { OnErr result (JoinsAt K.item arena.old at.now.link_ref at.now.id) }
 {
-    if arena.nodes.value(id).is_none() {
+    if arena.nodes.value(at.id).is_none() {
         return Ok(None);
     }
-    let Some(child) = arena.nodes.child(id).get() else {
-        return remove_leaf(arena, place, id);
+    let Some(child) = arena.nodes.child(at.id).get() else {
+        return remove_leaf::<K, V>(arena, at);
     };
     if arena.nodes.sibling(child).get().is_some() {
-        return Ok(arena.nodes.replace_value(id, None));
+        return Ok(arena.nodes.replace_value(at.id, None));
     }
-    arena.reserve_joined(id, child)?;
-    Ok(arena.merge_only_child(id, child))
+    arena.reserve_joined(at.id, child)?;
+    Ok(arena.merge_only_child(at.id, child))
 }
 
 /// Takes the value out at a nonempty key, or returns `None`.
@@ -86,7 +88,13 @@ pub fn remove<V: Drop, Q: BorrowedBytes>(
 {
     let place = arena.seek(key);
     match place.here() {
-        Some(id) => remove_at(arena, &place, id),
+        Some(id) => {
+            let at = Linked {
+                link_ref: place.link_ref,
+                id,
+            };
+            remove_at::<Q::Owned, V>(arena, &at)
+        }
         None => Ok(None),
     }
 }

@@ -2,12 +2,13 @@
 use Rattle.std.specs.Prelude.{◌≡◌, ◌≢◌, ℕ, List, Option, Some, None, slice_get}
 use Rattle.patricia_store.specs.Internal.Nodes.{Node}
 use Rattle.patricia_nodes.specs.declared.arena.NodeArena.{NodeArena}
-use Rattle.patricia_nodes.specs.declared.arena.seek.SeekResult.{SeekResult}
+use Rattle.patricia_nodes.specs.declared.arena.seek.LinkRef.{LinkRef}
+use Rattle.patricia_nodes.specs.declared.arena.seek.Match.TheVariants.{Exact}
 use Rattle.patricia_model.specs.Siblings.{IsCanonical, keys_of}
 use Rattle.patricia_model.specs.Points.{Joins}
 use Rattle.patricia_model.specs.Internal.Removals.{others}
 use Rattle.patricia_nodes.specs.Internal.Plans.{IsWellFormed, siblings_of, entries_of}
-use Rattle.patricia_nodes.specs.Internal.Places.{IsSeekResult}
+use Rattle.patricia_nodes.specs.Internal.Places.{Placed}
 
 module _ {V : Type 0} where
   -- the node has no children
@@ -29,14 +30,27 @@ pub record Removes (item : List ℕ → Type 0) {V : Type 0} (old new : NodeAren
   pub canonical : IsCanonical item (siblings_of new)
   pub left_is : entries_of new ≡ others key (entries_of old)
 
--- so it is at each key whose place this is
-abbrev pub RemovesAt : (List ℕ → Type 0) → {V Q : Type 0} → (Q → List ℕ) → NodeArena V → NodeArena V
-    → SeekResult Q → Type 0
-RemovesAt item key_of old new place =
-    (key : List ℕ) → IsSeekResult item key_of old key place → Removes item old new key
+-- the node is that of the key, and is linked so
+abbrev pub IsPlaceOf : (List ℕ → Type 0) → {V : Type 0} → NodeArena V → List ℕ → LinkRef → ℕ
+    → Type 0
+IsPlaceOf item s key link_ref id =
+    (rest : List ℕ) × Placed item s key link_ref (Some id) rest (Exact id)
+
+-- nodes of a key kind, and the node of some key among them
+pub record ReadyAt (item : List ℕ → Type 0) {V : Type 0} (s : NodeArena V) (link_ref : LinkRef)
+    (id : ℕ) : Type 0 where
+  pub whole : IsWellFormed s
+  pub canonical : IsCanonical item (siblings_of s)
+  pub key : List ℕ
+  pub is_place : IsPlaceOf item s key link_ref id
+
+-- so it is at each key whose node this is
+abbrev pub RemovesAt : (List ℕ → Type 0) → {V : Type 0} → NodeArena V → NodeArena V → LinkRef → ℕ
+    → Type 0
+RemovesAt item old new link_ref id =
+    (key : List ℕ) → IsPlaceOf item old key link_ref id → Removes item old new key
 
 -- without such a key labels are joined
-abbrev pub JoinsAt : (List ℕ → Type 0) → {V Q : Type 0} → (Q → List ℕ) → NodeArena V → SeekResult Q
-    → Type 0
-JoinsAt item key_of s place =
-    (key : List ℕ) → IsSeekResult item key_of s key place → Joins item (keys_of (entries_of s)) key
+abbrev pub JoinsAt : (List ℕ → Type 0) → {V : Type 0} → NodeArena V → LinkRef → ℕ → Type 0
+JoinsAt item s link_ref id =
+    (key : List ℕ) → IsPlaceOf item s key link_ref id → Joins item (keys_of (entries_of s)) key

@@ -3,16 +3,15 @@ use Rattle.std.specs.Borrow.{Bor}
 use Rattle.std.specs.Option.{option_copied}
 use Rattle.std.specs.Prelude.{is_some}
 use Rattle.patricia_store.specs.Internal.Nodes.{Node}
-use Rattle.patricia_nodes.specs.Internal.Places.{node_of}
 use Rattle.patricia_nodes.proofs.NodeVecLemmas.{node_there, lent_some}
-use Rattle.patricia_nodes.proofs.SeekLemmas.{ready_at, ready_here, here_within}
+use Rattle.patricia_nodes.proofs.SeekLemmas.{here_within}
 use Rattle.patricia_nodes.proofs.PlanLemmas.{not_some}
 use Rattle.patricia_nodes.proofs.AloneLemmas.{some_not_none}
 use Rattle.patricia_nodes.proofs.LoanLemmas.{some_of}
 use Rattle.patricia_edits.proofs.RemoveLemmas.{lone_value, read_is}
 use Rattle.patricia_edits.proofs.RemoveLemmas.{child_within, two_children, lone_child, removes_none}
 use Rattle.patricia_edits.proofs.RemoveLemmas.{removes_value, has_lone, removes_lone, joins_here}
-use Rattle.patricia_edits.proofs.RemoveLemmas.{on_err_from}
+use Rattle.patricia_edits.proofs.RemoveLemmas.{on_err_from, place_at, place_here}
 use Rattle.patricia_edits.proofs.StayLemmas.{lone_stays, absorbs_stay}
 use Rattle.patricia_edits.proofs.removal.remove_at.Goals as goal
 
@@ -35,126 +34,126 @@ module _ {A : Type 0} {link read : Option A} {test : Bool} (read_of : read ≡ l
 
 pub value-requires : goal.value-requires
 value-requires g c =
-    let ready = ready_here g.met.Q.Owned.Bytes.lawful c.requires.ready in
-    here_within ready c.args.id (ap node_of c.requires.here)
+    let ready = place_here g.met.K.Bytes.lawful c.requires.ready in
+    here_within ready c.args.at.now.id refl
 
 pub child-requires : goal.child-requires
 child-requires g c =
-    let ready = ready_here g.met.Q.Owned.Bytes.lawful c.requires.ready in
-    here_within ready c.args.id (ap node_of c.requires.here)
+    let ready = place_here g.met.K.Bytes.lawful c.requires.ready in
+    here_within ready c.args.at.now.id refl
 
 pub returns-then-is_none-clause-ok : goal.returns-then-is_none-clause-ok
 returns-then-is_none-clause-ok g c key p =
-    let ready = ready_here g.met.Q.Owned.Bytes.lawful c.requires.ready in
-    let there = node_there c.args.arena.now.nodes.items c.args.id (here_within ready c.args.id (ap node_of c.requires.here)) in
-    let here = ready_at g.met.Q.Owned.Bytes.lawful c.requires.ready key p in
-    removes_none here c.requires.here there.1 (no_value c.value.result (c.value.ensures _ there.1) c.if-is_none.ensures)
+    let ready = place_here g.met.K.Bytes.lawful c.requires.ready in
+    let there = node_there c.args.arena.now.nodes.items c.args.at.now.id (here_within ready c.args.at.now.id refl) in
+    let here = place_at g.met.K.Bytes.lawful c.requires.ready key p in
+    removes_none here refl there.1 (no_value c.value.result (c.value.ensures _ there.1) c.if-is_none.ensures)
 
 pub returns-then-is_none-clause-value : goal.returns-then-is_none-clause-value
 returns-then-is_none-clause-value g c n at_n =
-    let ready = ready_here g.met.Q.Owned.Bytes.lawful c.requires.ready in
-    let there = node_there c.args.arena.now.nodes.items c.args.id (here_within ready c.args.id (ap node_of c.requires.here)) in
-    let same = read_is ready c.requires.here there.1 n at_n in
+    let ready = place_here g.met.K.Bytes.lawful c.requires.ready in
+    let there = node_there c.args.arena.now.nodes.items c.args.at.now.id (here_within ready c.args.at.now.id refl) in
+    let same = read_is ready refl there.1 n at_n in
     sym (no_value c.value.result (c.value.ensures _ there.1) c.if-is_none.ensures) ∙ ap (λ (m : Node g.row.V.Denot). m.value) same
 
 pub remove_leaf-requires-clause-leaf : goal.remove_leaf-requires-clause-leaf
 remove_leaf-requires-clause-leaf g c n at_n =
-    let ready = ready_here g.met.Q.Owned.Bytes.lawful c.requires.ready in
-    let there = node_there c.args.arena.now.nodes.items c.args.id (here_within ready c.args.id (ap node_of c.requires.here)) in
-    let same = read_is ready c.requires.here there.1 n at_n in
+    let ready = place_here g.met.K.Bytes.lawful c.requires.ready in
+    let there = node_there c.args.arena.now.nodes.items c.args.at.now.id (here_within ready c.args.at.now.id refl) in
+    let same = read_is ready refl there.1 n at_n in
     ap (λ (m : Node g.row.V.Denot). m.child) (sym same) ∙ sym (c.child.ensures.node _ there.1) ∙ sym c.get.ensures ∙ c.in_default.is
 
 pub remove_leaf-requires-clause-valued : goal.remove_leaf-requires-clause-valued
 remove_leaf-requires-clause-valued g c n at_n =
-    let ready = ready_here g.met.Q.Owned.Bytes.lawful c.requires.ready in
-    let there = node_there c.args.arena.now.nodes.items c.args.id (here_within ready c.args.id (ap node_of c.requires.here)) in
-    let same = read_is ready c.requires.here there.1 n at_n in
+    let ready = place_here g.met.K.Bytes.lawful c.requires.ready in
+    let there = node_there c.args.arena.now.nodes.items c.args.at.now.id (here_within ready c.args.at.now.id refl) in
+    let same = read_is ready refl there.1 n at_n in
     let valued = a_value c.value.result (c.value.ensures _ there.1) c.if-is_none.ensures in
     λ none. valued (ap (λ (m : Node g.row.V.Denot). m.value) same ∙ none)
 
 pub sibling-requires : goal.sibling-requires
 sibling-requires g c =
-    let ready = ready_here g.met.Q.Owned.Bytes.lawful c.requires.ready in
-    let there = node_there c.args.arena.now.nodes.items c.args.id (here_within ready c.args.id (ap node_of c.requires.here)) in
+    let ready = place_here g.met.K.Bytes.lawful c.requires.ready in
+    let there = node_there c.args.arena.now.nodes.items c.args.at.now.id (here_within ready c.args.at.now.id refl) in
     let child_is = sym (c.child.ensures.node _ there.1) ∙ sym c.get.ensures ∙ c.in-Some.is in
-    child_within ready c.requires.here there.1 child_is
+    child_within ready refl there.1 child_is
 
 pub replace_value-requires : goal.replace_value-requires
 replace_value-requires g c =
-    let ready = ready_here g.met.Q.Owned.Bytes.lawful c.requires.ready in
-    record { there = here_within ready c.args.id (ap node_of c.requires.here) }
+    let ready = place_here g.met.K.Bytes.lawful c.requires.ready in
+    record { there = here_within ready c.args.at.now.id refl }
 
 pub returns-then-is_some-clause-ok : goal.returns-then-is_some-clause-ok
 returns-then-is_some-clause-ok g c key p =
-    let ready = ready_here g.met.Q.Owned.Bytes.lawful c.requires.ready in
-    let there = node_there c.args.arena.now.nodes.items c.args.id (here_within ready c.args.id (ap node_of c.requires.here)) in
+    let ready = place_here g.met.K.Bytes.lawful c.requires.ready in
+    let there = node_there c.args.arena.now.nodes.items c.args.at.now.id (here_within ready c.args.at.now.id refl) in
     let child_is = sym (c.child.ensures.node _ there.1) ∙ sym c.get.ensures ∙ c.in-Some.is in
-    let second = node_there c.args.arena.now.nodes.items c.in-Some.child (child_within ready c.requires.here there.1 child_is) in
+    let second = node_there c.args.arena.now.nodes.items c.in-Some.child (child_within ready refl there.1 child_is) in
     let more = next c.get-2.ensures c.is_some.ensures c.if-is_some.true in
-    let here = ready_at g.met.Q.Owned.Bytes.lawful c.requires.ready key p in
-    let two = two_children here c.requires.here there.1 child_is second.1 (sym (c.sibling.ensures.node _ second.1) ∙ more.1) in
+    let here = place_at g.met.K.Bytes.lawful c.requires.ready key p in
+    let two = two_children here refl there.1 child_is second.1 (sym (c.sibling.ensures.node _ second.1) ∙ more.1) in
     let put = c.replace_value.ensures.node in
-    removes_value here c.requires.here there.1 _ None refl two put.0 put.1 put.2 refl refl
+    removes_value here refl there.1 _ None refl two put.0 put.1 put.2 refl refl
 
 pub returns-then-is_some-clause-value : goal.returns-then-is_some-clause-value
 returns-then-is_some-clause-value g c n at_n =
-    let ready = ready_here g.met.Q.Owned.Bytes.lawful c.requires.ready in
+    let ready = place_here g.met.K.Bytes.lawful c.requires.ready in
     let put = c.replace_value.ensures.node in
-    let same = read_is ready c.requires.here put.1 n at_n in
+    let same = read_is ready refl put.1 n at_n in
     put.3 ∙ ap (λ (m : Node g.row.V.Denot). m.value) same
 
 pub reserve_joined-requires : goal.reserve_joined-requires
 reserve_joined-requires g c =
-    let ready = ready_here g.met.Q.Owned.Bytes.lawful c.requires.ready in
-    let within = here_within ready c.args.id (ap node_of c.requires.here) in
-    let there = node_there c.args.arena.now.nodes.items c.args.id within in
+    let ready = place_here g.met.K.Bytes.lawful c.requires.ready in
+    let within = here_within ready c.args.at.now.id refl in
+    let there = node_there c.args.arena.now.nodes.items c.args.at.now.id within in
     let child_is = sym (c.child.ensures.node _ there.1) ∙ sym c.get.ensures ∙ c.in-Some.is in
-    record { upper = within; lower = child_within ready c.requires.here there.1 child_is }
+    record { upper = within; lower = child_within ready refl there.1 child_is }
 
 pub returns-in_err-reserve_joined-clause-joins : goal.returns-in_err-reserve_joined-clause-joins
 returns-in_err-reserve_joined-clause-joins g c = on_err_from c.from_residual.result (λ key p.
-    let ready = ready_here g.met.Q.Owned.Bytes.lawful c.requires.ready in
-    let there = node_there c.args.arena.now.nodes.items c.args.id (here_within ready c.args.id (ap node_of c.requires.here)) in
+    let ready = place_here g.met.K.Bytes.lawful c.requires.ready in
+    let there = node_there c.args.arena.now.nodes.items c.args.at.now.id (here_within ready c.args.at.now.id refl) in
     let child_is = sym (c.child.ensures.node _ there.1) ∙ sym c.get.ensures ∙ c.in-Some.is in
-    let second = node_there c.args.arena.now.nodes.items c.in-Some.child (child_within ready c.requires.here there.1 child_is) in
-    let here = ready_at g.met.Q.Owned.Bytes.lawful c.requires.ready key p in
+    let second = node_there c.args.arena.now.nodes.items c.in-Some.child (child_within ready refl there.1 child_is) in
+    let here = place_at g.met.K.Bytes.lawful c.requires.ready key p in
     let alone = sym (c.sibling.ensures.node _ second.1) ∙ last c.get-2.ensures c.is_some.ensures c.if-is_some.false in
-    let lone = lone_child here c.requires.here there.1 child_is second.1 alone in
-    joins_here here c.requires.here there.1 (a_value c.value.result (c.value.ensures _ there.1) c.if-is_none.ensures) lone)
+    let lone = lone_child here refl there.1 child_is second.1 alone in
+    joins_here here refl there.1 (a_value c.value.result (c.value.ensures _ there.1) c.if-is_none.ensures) lone)
 
 pub merge_only_child-requires : goal.merge_only_child-requires
 merge_only_child-requires g c =
-    let ready = ready_here g.met.Q.Owned.Bytes.lawful c.requires.ready in
-    let there = node_there c.args.arena.now.nodes.items c.args.id (here_within ready c.args.id (ap node_of c.requires.here)) in
+    let ready = place_here g.met.K.Bytes.lawful c.requires.ready in
+    let there = node_there c.args.arena.now.nodes.items c.args.at.now.id (here_within ready c.args.at.now.id refl) in
     let child_is = sym (c.child.ensures.node _ there.1) ∙ sym c.get.ensures ∙ c.in-Some.is in
-    let second = node_there c.args.arena.now.nodes.items c.in-Some.child (child_within ready c.requires.here there.1 child_is) in
+    let second = node_there c.args.arena.now.nodes.items c.in-Some.child (child_within ready refl there.1 child_is) in
     let alone = sym (c.sibling.ensures.node _ second.1) ∙ last c.get-2.ensures c.is_some.ensures c.if-is_some.false in
-    let lone = lone_child ready c.requires.here there.1 child_is second.1 alone in
+    let lone = lone_child ready refl there.1 child_is second.1 alone in
     record {
       lone = lone_stays c.reserve_joined.ensures.stays
-          (has_lone ready c.requires.here there.1 (a_value c.value.result (c.value.ensures _ there.1) c.if-is_none.ensures) lone);
+          (has_lone ready refl there.1 (a_value c.value.result (c.value.ensures _ there.1) c.if-is_none.ensures) lone);
       room = c.in_ok-reserve_joined.ensures.room;
     }
 
 pub returns-clause-ok : goal.returns-clause-ok
 returns-clause-ok g c key p =
-    let ready = ready_here g.met.Q.Owned.Bytes.lawful c.requires.ready in
-    let there = node_there c.args.arena.now.nodes.items c.args.id (here_within ready c.args.id (ap node_of c.requires.here)) in
+    let ready = place_here g.met.K.Bytes.lawful c.requires.ready in
+    let there = node_there c.args.arena.now.nodes.items c.args.at.now.id (here_within ready c.args.at.now.id refl) in
     let child_is = sym (c.child.ensures.node _ there.1) ∙ sym c.get.ensures ∙ c.in-Some.is in
-    let second = node_there c.args.arena.now.nodes.items c.in-Some.child (child_within ready c.requires.here there.1 child_is) in
-    let here = ready_at g.met.Q.Owned.Bytes.lawful c.requires.ready key p in
+    let second = node_there c.args.arena.now.nodes.items c.in-Some.child (child_within ready refl there.1 child_is) in
+    let here = place_at g.met.K.Bytes.lawful c.requires.ready key p in
     let alone = sym (c.sibling.ensures.node _ second.1) ∙ last c.get-2.ensures c.is_some.ensures c.if-is_some.false in
-    let lone = lone_child here c.requires.here there.1 child_is second.1 alone in
-    removes_lone here c.requires.here there.1 (a_value c.value.result (c.value.ensures _ there.1) c.if-is_none.ensures) lone
-    c.merge_only_child.new.self c.merge_only_child.result (absorbs_stay c.reserve_joined.ensures.stays c.merge_only_child.new.self c.args.id c.in-Some.child c.merge_only_child.result c.merge_only_child.ensures)
+    let lone = lone_child here refl there.1 child_is second.1 alone in
+    removes_lone here refl there.1 (a_value c.value.result (c.value.ensures _ there.1) c.if-is_none.ensures) lone
+    c.merge_only_child.new.self c.merge_only_child.result (absorbs_stay c.reserve_joined.ensures.stays c.merge_only_child.new.self c.args.at.now.id c.in-Some.child c.merge_only_child.result c.merge_only_child.ensures)
 
 pub returns-clause-value : goal.returns-clause-value
 returns-clause-value g c n at_n =
-    let ready = ready_here g.met.Q.Owned.Bytes.lawful c.requires.ready in
-    let there = node_there c.args.arena.now.nodes.items c.args.id (here_within ready c.args.id (ap node_of c.requires.here)) in
+    let ready = place_here g.met.K.Bytes.lawful c.requires.ready in
+    let there = node_there c.args.arena.now.nodes.items c.args.at.now.id (here_within ready c.args.at.now.id refl) in
     let child_is = sym (c.child.ensures.node _ there.1) ∙ sym c.get.ensures ∙ c.in-Some.is in
-    let second = node_there c.args.arena.now.nodes.items c.in-Some.child (child_within ready c.requires.here there.1 child_is) in
+    let second = node_there c.args.arena.now.nodes.items c.in-Some.child (child_within ready refl there.1 child_is) in
     let alone = sym (c.sibling.ensures.node _ second.1) ∙ last c.get-2.ensures c.is_some.ensures c.if-is_some.false in
-    let lone = lone_child ready c.requires.here there.1 child_is second.1 alone in
-    lone_value ready c.requires.here there.1 (a_value c.value.result (c.value.ensures _ there.1) c.if-is_none.ensures) lone
-    c.merge_only_child.new.self c.merge_only_child.result (absorbs_stay c.reserve_joined.ensures.stays c.merge_only_child.new.self c.args.id c.in-Some.child c.merge_only_child.result c.merge_only_child.ensures) n at_n
+    let lone = lone_child ready refl there.1 child_is second.1 alone in
+    lone_value ready refl there.1 (a_value c.value.result (c.value.ensures _ there.1) c.if-is_none.ensures) lone
+    c.merge_only_child.new.self c.merge_only_child.result (absorbs_stay c.reserve_joined.ensures.stays c.merge_only_child.new.self c.args.at.now.id c.in-Some.child c.merge_only_child.result c.merge_only_child.ensures) n at_n

@@ -1,0 +1,169 @@
+//! Taking the first or the last entry out.
+ghost use Rattle.std.specs.Prelude.{◌≡◌, ◌≢◌, ℕ, List, [], Some, IfOk, OnOk, OnErr};
+ghost use Rattle.std.specs.FinMap.{find};
+ghost use Rattle.std.specs.Map.Iter.{TakesFirst, TakesLast};
+ghost use Rattle.std.specs.Option.{option_map};
+ghost use Rattle.patricia_keys.specs.Keys.{key_cmp, IsValid};
+ghost use Rattle.patricia_model.specs.Siblings.{IsCanonical};
+ghost use Rattle.patricia_nodes.specs.Internal.Plans.{IsWellFormed, siblings_of, entries_of};
+ghost use Rattle.patricia_nodes.specs.Internal.Writes.{Stays};
+ghost use Rattle.patricia_edits.specs.Internal.Ends.{IsFirstKey, IsLastKey};
+ghost use Rattle.patricia_edits.specs.Internal.Removes.{IsPlaceOf, Removes};
+
+use crate::removal::{Linked, remove_at};
+use patricia_keys::Bytes;
+use patricia_nodes::arena::NodeArena;
+use patricia_nodes::arena::seek::LinkRef;
+use patricia_nodes::link::NodeId;
+use std::alloc::{AllocError, Global};
+
+// The node of the first entry, whose key is then the path: the first node with a value, along first
+// children.
+fn find_first<K: Bytes, V>(
+    arena: &NodeArena<V>,
+    path: &mut Vec<u8>,
+    first: NodeId,
+) -> Result<Linked, AllocError>
+    requires whole { IsWellFormed arena.now }
+    requires siblings { IsCanonical K.item (siblings_of arena.now) }
+    requires root { arena.now.root ≡ Some first }
+    requires empty { path.old.items ≡ [] }
+    ensures place { IfOk result (λ to.
+        IsPlaceOf K.item arena.now path.new.items to.link_ref to.id) }
+    ensures valid { OnOk result (IsValid K.item path.new.items) }
+    ensures first { OnOk result (IsFirstKey (entries_of arena.now) path.new.items) }
+{
+    let mut to = Linked {
+        link_ref: LinkRef::Root,
+        id: first,
+    };
+    loop {
+        path.extend_from_slice(arena.nodes.label(to.id))?;
+        if arena.nodes.value(to.id).is_some() {
+            return Ok(to);
+        }
+        match arena.nodes.child(to.id).get() {
+            Some(child) => {
+                to = Linked {
+                    link_ref: LinkRef::Child(to.id),
+                    id: child,
+                };
+            }
+            None => unreachable!(),
+        }
+    }
+}
+
+// The node of the last entry, whose key is then the path: a node without children, along last
+// siblings.
+fn find_last<K: Bytes, V>(
+    arena: &NodeArena<V>,
+    path: &mut Vec<u8>,
+    first: NodeId,
+) -> Result<Linked, AllocError>
+    requires whole { IsWellFormed arena.now }
+    requires siblings { IsCanonical K.item (siblings_of arena.now) }
+    requires root { arena.now.root ≡ Some first }
+    requires empty { path.old.items ≡ [] }
+    ensures place { IfOk result (λ to.
+        IsPlaceOf K.item arena.now path.new.items to.link_ref to.id) }
+    ensures valid { OnOk result (IsValid K.item path.new.items) }
+    ensures last { OnOk result (IsLastKey (entries_of arena.now) path.new.items) }
+{
+    let mut to = Linked {
+        link_ref: LinkRef::Root,
+        id: first,
+    };
+    loop {
+        if let Some(next) = arena.nodes.sibling(to.id).get() {
+            to = Linked {
+                link_ref: LinkRef::Sibling(to.id, to.link_ref.above()),
+                id: next,
+            };
+            continue;
+        }
+        path.extend_from_slice(arena.nodes.label(to.id))?;
+        match arena.nodes.child(to.id).get() {
+            Some(child) => {
+                to = Linked {
+                    link_ref: LinkRef::Child(to.id),
+                    id: child,
+                };
+            }
+            None => return Ok(to),
+        }
+    }
+}
+
+// Takes the entry of a key out, whose node is linked so.
+fn take_at<K: Bytes, V: Drop>(
+    arena: &mut NodeArena<V>,
+    key: K,
+    to: &Linked,
+) -> Result<Option<(K, V)>, AllocError>
+    requires whole { IsWellFormed arena.old }
+    requires siblings { IsCanonical K.item (siblings_of arena.old) }
+    requires place { IsPlaceOf K.item arena.old (K.key key) to.now.link_ref to.now.id }
+    ensures entry { IfOk result (λ entry. option_map (λ e. (K.key e.0, e.1)) entry
+        ≡ option_map {U = List ℕ × V} (λ v. (K.key key, v))
+        (find key_cmp (K.key key) (entries_of arena.old))) }
+    ensures left { OnOk result (Removes K.item arena.old arena.new (K.key key)) }
+    ensures unchanged { OnErr result (Stays arena.old arena.new) }
+{
+    match remove_at::<K, V>(arena, to)? {
+        Some(value) => Ok(Some((key, value))),
+        None => Ok(None),
+    }
+}
+
+/// Takes the first entry out, or returns `None` where there is none. The error is out of memory for
+/// the key, or for a joined label.
+///
+/// One descent.
+pub fn remove_first<K: Bytes, V: Drop>(
+    arena: &mut NodeArena<V>,
+    alloc: Global,
+) -> Result<Option<(K, V)>, AllocError>
+    requires whole { IsWellFormed arena.old }
+    requires siblings { IsCanonical K.item (siblings_of arena.old) }
+    ensures whole { IsWellFormed arena.new }
+    ensures siblings { IsCanonical K.item (siblings_of arena.new) }
+    ensures taken { IfOk result (λ entry. TakesFirst (λ e. (K.key e.0, e.1))
+        (entries_of arena.old) entry (entries_of arena.new)) }
+    ensures unchanged { OnErr result (siblings_of arena.new ≡ siblings_of arena.old) }
+    ensures err_only_nonempty { OnErr result (entries_of arena.old ≢ []) }
+{
+    let Some(first) = arena.root.get() else {
+        return Ok(None);
+    };
+    let mut path = Vec::new(alloc);
+    let to = find_first::<K, V>(arena, &mut path, first)?;
+    let key = K::from_bytes(alloc, &path)?;
+    take_at(arena, key, &to)
+}
+
+/// Takes the last entry out, or returns `None` where there is none. The error is out of memory for
+/// the key, or for a joined label.
+///
+/// One descent, along last siblings.
+pub fn remove_last<K: Bytes, V: Drop>(
+    arena: &mut NodeArena<V>,
+    alloc: Global,
+) -> Result<Option<(K, V)>, AllocError>
+    requires whole { IsWellFormed arena.old }
+    requires siblings { IsCanonical K.item (siblings_of arena.old) }
+    ensures whole { IsWellFormed arena.new }
+    ensures siblings { IsCanonical K.item (siblings_of arena.new) }
+    ensures taken { IfOk result (λ entry. TakesLast (λ e. (K.key e.0, e.1))
+        (entries_of arena.old) entry (entries_of arena.new)) }
+    ensures unchanged { OnErr result (siblings_of arena.new ≡ siblings_of arena.old) }
+    ensures err_only_nonempty { OnErr result (entries_of arena.old ≢ []) }
+{
+    let Some(first) = arena.root.get() else {
+        return Ok(None);
+    };
+    let mut path = Vec::new(alloc);
+    let to = find_last::<K, V>(arena, &mut path, first)?;
+    let key = K::from_bytes(alloc, &path)?;
+    take_at(arena, key, &to)
+}
