@@ -1,3 +1,4 @@
+pub mod EndLemmas
 pub mod PointNodes
 pub mod StoreLemmas
 pub mod ManyLemmas
