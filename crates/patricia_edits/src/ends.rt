@@ -4,7 +4,8 @@ ghost use Rattle.std.specs.FinMap.{find};
 ghost use Rattle.std.specs.Map.Iter.{TakesFirst, TakesLast};
 ghost use Rattle.std.specs.Option.{option_map};
 ghost use Rattle.patricia_keys.specs.Keys.{key_cmp, IsValid};
-ghost use Rattle.patricia_model.specs.Siblings.{IsCanonical};
+ghost use Rattle.patricia_model.specs.Points.{Joins};
+ghost use Rattle.patricia_model.specs.Siblings.{IsCanonical, keys_of};
 ghost use Rattle.patricia_nodes.specs.Internal.Plans.{IsWellFormed, siblings_of, entries_of};
 ghost use Rattle.patricia_nodes.specs.Internal.Writes.{Stays};
 ghost use Rattle.patricia_edits.specs.Internal.Ends.{IsFirstKey, IsLastKey};
@@ -28,24 +29,24 @@ fn find_first<K: Bytes, V>(
     requires siblings { IsCanonical K.item (siblings_of arena.now) }
     requires root { arena.now.root ≡ Some first }
     requires empty { path.old.items ≡ [] }
-    ensures place { IfOk result (λ to.
-        IsPlaceOf K.item arena.now path.new.items to.link_ref to.id) }
+    ensures place { IfOk result (λ at.
+        IsPlaceOf K.item arena.now path.new.items at.link_ref at.id) }
     ensures valid { OnOk result (IsValid K.item path.new.items) }
     ensures first { OnOk result (IsFirstKey (entries_of arena.now) path.new.items) }
 {
-    let mut to = Linked {
+    let mut at = Linked {
         link_ref: LinkRef::Root,
         id: first,
     };
     loop {
-        path.extend_from_slice(arena.nodes.label(to.id))?;
-        if arena.nodes.value(to.id).is_some() {
-            return Ok(to);
+        path.extend_from_slice(arena.nodes.label(at.id))?;
+        if arena.nodes.value(at.id).is_some() {
+            return Ok(at);
         }
-        match arena.nodes.child(to.id).get() {
+        match arena.nodes.child(at.id).get() {
             Some(child) => {
-                to = Linked {
-                    link_ref: LinkRef::Child(to.id),
+                at = Linked {
+                    link_ref: LinkRef::Child(at.id),
                     id: child,
                 };
             }
@@ -65,52 +66,54 @@ fn find_last<K: Bytes, V>(
     requires siblings { IsCanonical K.item (siblings_of arena.now) }
     requires root { arena.now.root ≡ Some first }
     requires empty { path.old.items ≡ [] }
-    ensures place { IfOk result (λ to.
-        IsPlaceOf K.item arena.now path.new.items to.link_ref to.id) }
+    ensures place { IfOk result (λ last.
+        IsPlaceOf K.item arena.now path.new.items last.link_ref last.id) }
     ensures valid { OnOk result (IsValid K.item path.new.items) }
     ensures last { OnOk result (IsLastKey (entries_of arena.now) path.new.items) }
 {
-    let mut to = Linked {
+    let mut last = Linked {
         link_ref: LinkRef::Root,
         id: first,
     };
     loop {
-        if let Some(next) = arena.nodes.sibling(to.id).get() {
-            to = Linked {
-                link_ref: LinkRef::Sibling(to.id, to.link_ref.above()),
+        if let Some(next) = arena.nodes.sibling(last.id).get() {
+            last = Linked {
+                link_ref: LinkRef::Sibling(last.id, last.link_ref.above()),
                 id: next,
             };
             continue;
         }
-        path.extend_from_slice(arena.nodes.label(to.id))?;
-        match arena.nodes.child(to.id).get() {
+        path.extend_from_slice(arena.nodes.label(last.id))?;
+        match arena.nodes.child(last.id).get() {
             Some(child) => {
-                to = Linked {
-                    link_ref: LinkRef::Child(to.id),
+                last = Linked {
+                    link_ref: LinkRef::Child(last.id),
                     id: child,
                 };
             }
-            None => return Ok(to),
+            None => return Ok(last),
         }
     }
 }
 
-// Takes the entry of a key out, whose node is linked so.
+// Takes the entry of a key out, whose node is linked so. The error is out of memory for a joined
+// label.
 fn take_at<K: Bytes, V: Drop>(
     arena: &mut NodeArena<V>,
     key: K,
-    to: &Linked,
+    at: &Linked,
 ) -> Result<Option<(K, V)>, AllocError>
     requires whole { IsWellFormed arena.old }
     requires siblings { IsCanonical K.item (siblings_of arena.old) }
-    requires place { IsPlaceOf K.item arena.old (K.key key) to.now.link_ref to.now.id }
+    requires place { IsPlaceOf K.item arena.old (K.key key) at.now.link_ref at.now.id }
     ensures entry { IfOk result (λ entry. option_map (λ e. (K.key e.0, e.1)) entry
         ≡ option_map {U = List ℕ × V} (λ v. (K.key key, v))
         (find key_cmp (K.key key) (entries_of arena.old))) }
     ensures left { OnOk result (Removes K.item arena.old arena.new (K.key key)) }
     ensures unchanged { OnErr result (Stays arena.old arena.new) }
+    ensures joins { OnErr result (Joins K.item (keys_of (entries_of arena.old)) (K.key key)) }
 {
-    match remove_at::<K, V>(arena, to)? {
+    match remove_at::<K, V>(arena, at)? {
         Some(value) => Ok(Some((key, value))),
         None => Ok(None),
     }
@@ -137,9 +140,9 @@ pub fn remove_first<K: Bytes, V: Drop>(
         return Ok(None);
     };
     let mut path = Vec::new(alloc);
-    let to = find_first::<K, V>(arena, &mut path, first)?;
+    let at = find_first::<K, V>(arena, &mut path, first)?;
     let key = K::from_bytes(alloc, &path)?;
-    take_at(arena, key, &to)
+    take_at(arena, key, &at)
 }
 
 /// Takes the last entry out, or returns `None` where there is none. The error is out of memory for
@@ -163,7 +166,7 @@ pub fn remove_last<K: Bytes, V: Drop>(
         return Ok(None);
     };
     let mut path = Vec::new(alloc);
-    let to = find_last::<K, V>(arena, &mut path, first)?;
+    let at = find_last::<K, V>(arena, &mut path, first)?;
     let key = K::from_bytes(alloc, &path)?;
-    take_at(arena, key, &to)
+    take_at(arena, key, &at)
 }

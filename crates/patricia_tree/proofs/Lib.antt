@@ -5,7 +5,6 @@ pub mod FoundLemmas
 pub mod LeftLemmas
 mod LoadLemmas
 mod LoanLemmas
-mod PopLemmas
 mod SetLemmas
 mod WholeLemmas
 mod RetainLemmas

@@ -1,16 +1,15 @@
 //! The first and the last entry, and those next to a key.
-ghost use Rattle.std.specs.Prelude.{◌≡◌, ◌≢◌, [], Some, None, OnOk, true, false, IfOk, OnErr};
-ghost use Rattle.std.specs.Prelude.{ℕ, List, slice_get};
+ghost use Rattle.std.specs.Prelude.{◌≡◌, ◌≢◌, [], Some, None, true, false, IfOk, OnErr};
+ghost use Rattle.std.specs.Prelude.{slice_get};
 ghost use Rattle.std.specs.List.{last_or};
 ghost use Rattle.std.specs.Map.Iter.{TakesFirst, TakesLast};
 ghost use Rattle.std.specs.Option.{option_map};
 ghost use Rattle.std.specs.FinMap as map;
 ghost use Rattle.patricia_core.specs.Cursors.{after};
 ghost use Rattle.patricia_core.specs.Ranges.{before};
-ghost use Rattle.patricia_core.specs.Points.{Joins};
 
 use super::GenericPatriciaMap;
-use patricia_core::keys::{BorrowedBytes, Bytes, KeyBytes};
+use patricia_core::keys::{BorrowedBytes, Bytes};
 use std::alloc::AllocError;
 
 // Whether there is an entry and it is that of the key.
@@ -153,48 +152,10 @@ impl<K: Bytes, V: Drop> GenericPatriciaMap<K, V> {
         self.tree.last_before(key)
     }
 
-    // The first key.
-    fn first_key(&self) -> Result<Option<K>, AllocError>
-        ensures key { IfOk result (λ key. option_map K.key key
-            ≡ option_map (λ e. e.0) (slice_get (map.entries self.now) 0)) }
-        ensures err_only_nonempty { OnErr result (map.entries self.now ≢ []) }
-    {
-        match self.first_key_value()? {
-            Some((key, _)) => Ok(Some(key)),
-            None => Ok(None),
-        }
-    }
-
-    // The last key.
-    fn last_key(&self) -> Result<Option<K>, AllocError>
-        ensures key { IfOk result (λ key. option_map K.key key
-            ≡ option_map (λ e. e.0) (last_or None (map.entries self.now))) }
-        ensures err_only_nonempty { OnErr result (map.entries self.now ≢ []) }
-    {
-        match self.last_key_value()? {
-            Some((key, _)) => Ok(Some(key)),
-            None => Ok(None),
-        }
-    }
-
-    // Removes the entry of a key, and returns it with that key.
-    fn take_entry(&mut self, key: K) -> Result<Option<(K, V)>, AllocError>
-        ensures entry { IfOk result (λ entry. option_map (λ e. (K.key e.0, e.1)) entry
-            ≡ option_map {U = List ℕ × V} (λ v. (K.key key, v)) (map.get self.old (K.key key))) }
-        ensures left { OnOk result (self.new ≡ map.remove self.old (K.key key)) }
-        ensures unchanged { OnErr result (self.new ≡ self.old) }
-        ensures joins { OnErr result (Joins K.item (map.keys self.old) (K.key key)) }
-    {
-        match self.remove(KeyBytes::of(&key))? {
-            Some(value) => Ok(Some((key, value))),
-            None => Ok(None),
-        }
-    }
-
     /// Removes the first entry in key order, and returns it, or `None` where there is none.
     ///
-    /// Takes the time of `first_key_value` and of a look-up, in which the kind of keys checks at
-    /// each node that what is left of the key is valid.
+    /// Takes one descent, with time in proportion to the nodes on the way and to the bytes of the
+    /// key.
     ///
     /// # Errors
     ///
@@ -216,15 +177,13 @@ impl<K: Bytes, V: Drop> GenericPatriciaMap<K, V> {
         ensures unchanged { OnErr result (self.new ≡ self.old) }
         ensures err_only_nonempty { OnErr result (map.entries self.old ≢ []) }
     {
-        match self.first_key()? {
-            Some(key) => self.take_entry(key),
-            None => Ok(None),
-        }
+        self.tree.pop_first()
     }
 
     /// Removes the last entry in key order, and returns it, or `None` where there is none.
     ///
-    /// Takes the time of `last_key_value` and of a look-up, as `pop_first` does.
+    /// Takes one descent, with time in proportion to the nodes on the way, siblings among them, and
+    /// to the bytes of the key.
     ///
     /// # Errors
     ///
@@ -246,9 +205,6 @@ impl<K: Bytes, V: Drop> GenericPatriciaMap<K, V> {
         ensures unchanged { OnErr result (self.new ≡ self.old) }
         ensures err_only_nonempty { OnErr result (map.entries self.old ≢ []) }
     {
-        match self.last_key()? {
-            Some(key) => self.take_entry(key),
-            None => Ok(None),
-        }
+        self.tree.pop_last()
     }
 }

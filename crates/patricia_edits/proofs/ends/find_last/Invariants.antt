@@ -6,7 +6,7 @@ use Rattle.patricia_edits.proofs.ends.find_last.Given as goal
 
 abbrev pub invariant-loop-next : goal.invariant-loop-next
 invariant-loop-next g l =
-    Comes g.K.Bytes.item AreLast l.arena l.to.link_ref l.to.id l.path.items
+    Comes g.K.Bytes.item AreLast l.arena l.last.link_ref l.last.id l.path.items
 
 abbrev pub decreases-loop-next : goal.decreases-loop-next
-decreases-loop-next g l = size (plan_at l.arena.nodes.items (Some l.to.id))
+decreases-loop-next g l = size (plan_at l.arena.nodes.items (Some l.last.id))
