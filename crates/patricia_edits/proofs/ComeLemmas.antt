@@ -169,18 +169,20 @@ module _ {item : List ℕ → Type 0} (kind : IsKeyKind item) {V : Type 0} {s : 
           let below = entries (siblings_in come_open.child) in
           let beside = entries (siblings_in come_open.sibling) in
           let has = subst (λ v. Has (keys_of (prefixed n.label (own v ++ below) ++ beside)) n.label) (sym value) (inl (append-nil n.label)) in
-          let leads = leads-fill item kind w.frames cell filled n.label has come_siblings.nonempty in
-          (n.label, record {
-            frames = w.frames;
-            focus = w.focus;
-            fills = w.fills;
-            link_ref_is = w.link_ref_is;
-            at_is = w.at_is;
-            leads = rw w.path_is leads;
-            rest_nonempty = come_siblings.nonempty;
-            is_match = subst (λ (q : Plan V). Matches item q n.label (Exact id)) (sym come_open.is)
-                (refl, rw append-nil at (passes_label item kind n.label [] come_siblings.valid come_siblings.nonempty));
-          })
+          let leads = leads-fill item kind w.frames cell filled n.label has come_siblings.nonempty in (
+            n.label,
+            record {
+              frames = w.frames;
+              focus = w.focus;
+              fills = w.fills;
+              link_ref_is = w.link_ref_is;
+              at_is = w.at_is;
+              leads = rw w.path_is leads;
+              rest_nonempty = come_siblings.nonempty;
+              is_match = subst (λ (q : Plan V). Matches item q n.label (Exact id)) (sym come_open.is)
+                  (refl, rw append-nil at (passes_label item kind n.label [] come_siblings.valid come_siblings.nonempty));
+            },
+          )
 
       -- the plan of all nodes, with this one in the place
       entries_are : entries_of s ≡ entries (siblings_in (fill w.frames cell))
@@ -192,12 +194,14 @@ module _ {item : List ℕ → Type 0} (kind : IsKeyKind item) {V : Type 0} {s : 
           let below = entries (siblings_in come_open.child) in
           let beside = entries (siblings_in come_open.sibling) in
           let around = first-fill w.frames first cell in
-          let front = path_of w.frames in
-          (x, prefixed front (prefixed n.label below ++ beside) ++ around.0,
-          entries_are ∙ around.1
-          ∙ ap (λ v. prefixed front (prefixed n.label (own v ++ below) ++ beside) ++ around.0) value
-          ∙ ap (λ k. (front ++ k, x) ∷ (prefixed front (prefixed n.label below ++ beside) ++ around.0)) (append-nil n.label)
-          ∙ ap (λ p. (p ++ n.label, x) ∷ (prefixed front (prefixed n.label below ++ beside) ++ around.0)) (sym w.path_is))
+          let front = path_of w.frames in (
+            x,
+            prefixed front (prefixed n.label below ++ beside) ++ around.0,
+            entries_are ∙ around.1
+                ∙ ap (λ v. prefixed front (prefixed n.label (own v ++ below) ++ beside) ++ around.0) value
+                ∙ ap (λ k. (front ++ k, x) ∷ (prefixed front (prefixed n.label below ++ beside) ++ around.0)) (append-nil n.label)
+                ∙ ap (λ p. (p ++ n.label, x) ∷ (prefixed front (prefixed n.label below ++ beside) ++ around.0)) (sym w.path_is),
+          )
 
       -- or the last where none comes after them, and the node has neither children nor siblings
       pub last_come : AreLast w.frames → n.child ≡ None → n.sibling ≡ None → (x : V) → n.value ≡ Some x
@@ -206,11 +210,13 @@ module _ {item : List ℕ → Type 0} (kind : IsKeyKind item) {V : Type 0} {s : 
           let around = last-fill w.frames last cell in
           let front = path_of w.frames in
           let below : come_open.child ≡ Nil = plan_end s.nodes.items n.child come_open.child come_open.child_plan leaf in
-          let beside = no_sibling alone in
-          (x, around.0,
-          entries_are ∙ around.1
-          ∙ ap (λ (q : Plan V). around.0 ++ prefixed front (prefixed n.label (own n.value ++ entries (siblings_in q)) ++ entries (siblings_in come_open.sibling))) below
-          ∙ ap (λ (q : Plan V). around.0 ++ prefixed front (prefixed n.label (own n.value ++ []) ++ entries (siblings_in q))) beside
-          ∙ ap (λ v. around.0 ++ prefixed front (prefixed n.label (own v ++ []) ++ [])) value
-          ∙ ap (λ k. around.0 ++ (front ++ k, x) ∷ []) (append-nil n.label)
-          ∙ ap (λ p. around.0 ++ (p ++ n.label, x) ∷ []) (sym w.path_is))
+          let beside = no_sibling alone in (
+            x,
+            around.0,
+            entries_are ∙ around.1
+                ∙ ap (λ (q : Plan V). around.0 ++ prefixed front (prefixed n.label (own n.value ++ entries (siblings_in q)) ++ entries (siblings_in come_open.sibling))) below
+                ∙ ap (λ (q : Plan V). around.0 ++ prefixed front (prefixed n.label (own n.value ++ []) ++ entries (siblings_in q))) beside
+                ∙ ap (λ v. around.0 ++ prefixed front (prefixed n.label (own v ++ []) ++ [])) value
+                ∙ ap (λ k. around.0 ++ (front ++ k, x) ∷ []) (append-nil n.label)
+                ∙ ap (λ p. around.0 ++ (p ++ n.label, x) ∷ []) (sym w.path_is),
+          )

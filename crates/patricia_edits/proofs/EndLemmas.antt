@@ -44,12 +44,13 @@ module _ {V : Type 0} where
       let es = entries (siblings_in q) in
       let rs = entries (siblings_in d) in
       let path = path_of fs in
-      let further = first-fill fs first (Cell id l v q d) in
-      (prefixed path rs ++ further.0,
-      further.1
-      ∙ ap (λ w. prefixed path (prefixed l (own w ++ es) ++ rs) ++ further.0) none
-      ∙ ap (λ xs. xs ++ further.0) (prefixed-append path (prefixed l es) rs ∙ ap (λ xs. xs ++ prefixed path rs) (prefixed-prefixed path l es))
-      ∙ append_assoc (prefixed (path ++ l) es) (prefixed path rs) further.0)
+      let further = first-fill fs first (Cell id l v q d) in (
+        prefixed path rs ++ further.0,
+        further.1
+            ∙ ap (λ w. prefixed path (prefixed l (own w ++ es) ++ rs) ++ further.0) none
+            ∙ ap (λ xs. xs ++ further.0) (prefixed-append path (prefixed l es) rs ∙ ap (λ xs. xs ++ prefixed path rs) (prefixed-prefixed path l es))
+            ∙ append_assoc (prefixed (path ++ l) es) (prefixed path rs) further.0,
+      )
   first-fill (InSibling id l v c ∷ fs) first q = absurd first
 
   -- the entries end with those in the place
@@ -59,22 +60,24 @@ module _ {V : Type 0} where
   last-fill (InChild id l v d ∷ fs) (none, last) q =
       let es = entries (siblings_in q) in
       let path = path_of fs in
-      let further = last-fill fs last (Cell id l v q d) in
-      (further.0 ++ prefixed (path ++ l) (own v),
-      further.1
-      ∙ ap (λ (p : Plan V). further.0 ++ prefixed path (prefixed l (own v ++ es) ++ entries (siblings_in p))) none
-      ∙ ap (λ xs. further.0 ++ xs)
-      (ap (prefixed path) (append-nil (prefixed l (own v ++ es))) ∙ prefixed-prefixed path l (own v ++ es) ∙ prefixed-append (path ++ l) (own v) es)
-      ∙ sym (append_assoc further.0 (prefixed (path ++ l) (own v)) (prefixed (path ++ l) es)))
+      let further = last-fill fs last (Cell id l v q d) in (
+        further.0 ++ prefixed (path ++ l) (own v),
+        further.1
+            ∙ ap (λ (p : Plan V). further.0 ++ prefixed path (prefixed l (own v ++ es) ++ entries (siblings_in p))) none
+            ∙ ap (λ xs. further.0 ++ xs)
+            (ap (prefixed path) (append-nil (prefixed l (own v ++ es))) ∙ prefixed-prefixed path l (own v ++ es) ∙ prefixed-append (path ++ l) (own v) es)
+            ∙ sym (append_assoc further.0 (prefixed (path ++ l) (own v)) (prefixed (path ++ l) es)),
+      )
   last-fill (InSibling id l v c ∷ fs) last q =
       let es = entries (siblings_in q) in
       let path = path_of fs in
       let before = prefixed l (own v ++ entries (siblings_in c)) in
-      let further = last-fill fs last (Cell id l v c q) in
-      (further.0 ++ prefixed path before,
-      further.1
-      ∙ ap (λ xs. further.0 ++ xs) (prefixed-append path before es)
-      ∙ sym (append_assoc further.0 (prefixed path before) (prefixed path es)))
+      let further = last-fill fs last (Cell id l v c q) in (
+        further.0 ++ prefixed path before,
+        further.1
+            ∙ ap (λ xs. further.0 ++ xs) (prefixed-append path before es)
+            ∙ sym (append_assoc further.0 (prefixed path before) (prefixed path es)),
+      )
 
 module _ (item : List ℕ → Type 0) (kind : IsKeyKind item) where
   -- a key behind a label passes it
@@ -105,9 +108,12 @@ module _ (item : List ℕ → Type 0) (kind : IsKeyKind item) where
     leads-fill (InChild id l v d ∷ fs) q ok t has some =
         let inner = siblings-within item fs (Cell id l v q d) ok in
         let there = has_prefixed l (own v ++ entries (siblings_in q)) (entries (siblings_in d)) t (has_after (own v) (entries (siblings_in q)) t has) in
-        let further = leads-fill fs (Cell id l v q d) ok (l ++ t) there (λ none. some (nil_second l t none)) in
-        (l ++ t, passes_label l t inner.valid inner.nonempty, some,
-        subst (λ k. Leads item fs k (l ++ t)) (sym (append_assoc (path_of fs) l t)) further)
+        let further = leads-fill fs (Cell id l v q d) ok (l ++ t) there (λ none. some (nil_second l t none)) in (
+          l ++ t,
+          passes_label l t inner.valid inner.nonempty,
+          some,
+          subst (λ k. Leads item fs k (l ++ t)) (sym (append_assoc (path_of fs) l t)) further,
+        )
     leads-fill (InSibling id l v c ∷ fs) q ok t has some =
         let inner = siblings-within item fs (Cell id l v c q) ok in
         let there = has_after (prefixed l (own v ++ entries (siblings_in c))) (entries (siblings_in q)) t has in

@@ -427,17 +427,19 @@ pub place_of : {item : List ℕ → Type 0} {V : Type 0} {s : NodeArena V} {key 
     {link_ref : LinkRef} {at : Option ℕ} {rest : List ℕ} {matched : Match}
     → Placed item s key link_ref at rest matched → {id : ℕ} → matched ≡ Exact id
     → IsPlaceOf item s key link_ref id
-place_of {item} {V} {s} {key} {link_ref} {at} {rest} {matched} p {id} is =
-    (rest, record {
-      frames = p.frames;
-      focus = p.focus;
-      fills = p.fills;
-      link_ref_is = p.link_ref_is;
-      at_is = sym (stop_at item rest p.focus id matched p.is_match (ap node_of is));
-      leads = p.leads;
-      rest_nonempty = p.rest_nonempty;
-      is_match = subst (λ m. Matches item p.focus rest m) is p.is_match;
-    })
+place_of {item} {V} {s} {key} {link_ref} {at} {rest} {matched} p {id} is = (
+  rest,
+  record {
+    frames = p.frames;
+    focus = p.focus;
+    fills = p.fills;
+    link_ref_is = p.link_ref_is;
+    at_is = sym (stop_at item rest p.focus id matched p.is_match (ap node_of is));
+    leads = p.leads;
+    rest_nonempty = p.rest_nonempty;
+    is_match = subst (λ m. Matches item p.focus rest m) is p.is_match;
+  },
+)
 
 module _ {item : List ℕ → Type 0} (kind : IsKeyKind item) {V : Type 0} {s : NodeArena V}
     {link_ref : LinkRef} {id : ℕ} (ready : ReadyAt item s link_ref id) where

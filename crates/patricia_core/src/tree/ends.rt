@@ -9,7 +9,7 @@ use patricia_edits::{remove_first, remove_last};
 use patricia_keys::Bytes;
 use std::alloc::{AllocError, Global};
 
-// Takes the value of the empty key out, and returns it with that key, or `None` where there is none.
+// Takes the empty key's value out, and returns it with that key, or `None` where there is none.
 fn take_empty<K: Bytes, V>(
     value: &mut Option<V>,
     alloc: Global,
