@@ -22,6 +22,7 @@ mod loading;
 mod many;
 mod near;
 mod ranges;
+mod whole;
 
 pub use loading::Loader;
 pub use patricia_codec::{DecodeError, EncodeError, Narrow, Wide, Width, WireError};

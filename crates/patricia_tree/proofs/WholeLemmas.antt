@@ -21,7 +21,7 @@ use Rattle.patricia_model.proofs.ListLemmas.{key_cmp-equal}
 use Rattle.patricia_model.proofs.TestLemmas.{first_part, second_part, less_so}
 use Rattle.patricia_tree.proofs.AfterLemmas.{nothing_left}
 use Rattle.patricia_tree.specs.Bulk.{insert_all}
-use Rattle.patricia_tree.specs.Whole.{is_same_entry, are_same_entries}
+use Rattle.patricia_walks.specs.Equality.{is_same_entry, are_same_entries}
 
 module _ {V : Type 0} (eq : V → V → Bool) where
   -- lists of other lengths are not the same
@@ -277,11 +277,6 @@ all_pass p (x ∷ xs) = by (p x) (all_pass p xs)
         → not (not b || list_any (λ x. not (p x)) xs) ≡ (b && list_all p xs)
     by true rest = rest
     by false rest = refl
-
--- what comes of a fact at an error holds there
-pub then_at_error : {A E : Type 0} (P Q : Type 0) (r : Result A E) → (P → Q) → OnErr r P → OnErr r Q
-then_at_error P Q (Ok x) h holds = tt
-then_at_error P Q (Err e) h holds = h holds
 
 -- what is returned is also what that is
 pub ok_along : {A E : Type 0} (r : Result A E) (x y : A) → x ≡ y → IfOk r (λ a. a ≡ x) → IfOk r (λ a. a ≡ y)

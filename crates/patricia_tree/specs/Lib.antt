@@ -11,7 +11,6 @@ pub mod Retains
 pub mod Sets
 pub mod Steps
 pub mod Visits
-pub mod Whole
 pub use Rattle.patricia_core.specs.ByteKind
 pub use Rattle.patricia_core.specs.Clones
 pub use Rattle.patricia_core.specs.Cursors

@@ -44,7 +44,7 @@ module _ {A : Type 0} (P : A → Type 0) where
 
 module _ {V : Type 0} where
   -- bytes before the keys leave the number of entries
-  length-prefixed : (l : List ℕ) (es : List (List ℕ × V)) → length (prefixed l es) ≡ length es
+  pub length-prefixed : (l : List ℕ) (es : List (List ℕ × V)) → length (prefixed l es) ≡ length es
   length-prefixed l [] = refl
   length-prefixed l (e ∷ es) = ap suc (length-prefixed l es)
 

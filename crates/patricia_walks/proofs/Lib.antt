@@ -1,6 +1,7 @@
 pub mod AfterLemmas
 pub mod AlongLemmas
 pub mod DepthLemmas
+pub mod EqualityLemmas
 pub mod HeldTreeLemmas
 pub mod HolderLemmas
 pub mod HolderWriteLemmas
@@ -16,6 +17,7 @@ pub mod ReadLemmas
 pub mod SearchLemmas
 pub mod SkipLemmas
 pub mod StartLemmas
+pub mod ComparisonLemmas
 pub mod CursorStateLemmas
 pub mod UnderLemmas
 pub mod ValuePositionLemmas

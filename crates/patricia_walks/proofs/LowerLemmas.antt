@@ -285,6 +285,11 @@ pub at_error : {A E : Type 0} (P : Type 0) (r : Result A E) → P → OnErr r P
 at_error P (Ok x) holds = tt
 at_error P (Err e) holds = holds
 
+-- what comes of a fact at an error holds there
+pub then_at_error : {A E : Type 0} (P Q : Type 0) (r : Result A E) → (P → Q) → OnErr r P → OnErr r Q
+then_at_error P Q (Ok x) h holds = tt
+then_at_error P Q (Err e) h holds = h holds
+
 -- where an error comes where an entry is there, and the entry is the last of some, it comes where
 -- they are
 pub filled_error : {A B E : Type 0} (xs : List A) (o : Option A) (r : Result B E) → o ≡ last_or None xs

@@ -1,5 +1,6 @@
 -- Words of contracts that no user of the library meets: a reader need not believe them.
 pub mod Bounds
+pub mod Comparisons
 pub mod Depths
 pub mod Descents
 pub mod HeldTrees

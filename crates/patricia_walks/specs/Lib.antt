@@ -1,2 +1,3 @@
+pub mod Equality
 pub mod Internal
 pub mod Searches

@@ -7,6 +7,7 @@
 pub mod along;
 pub mod cursor;
 mod cursor_state;
+pub mod equality;
 mod held_tree;
 pub mod into_walk;
 pub mod last;

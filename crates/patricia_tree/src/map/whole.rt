@@ -1,42 +1,25 @@
 //! Two maps compared, and one merged into the other.
-ghost use Rattle.std.specs.Prelude.{◌≡◌, ◌≢◌, ℕ, List, [], Some, IfOk, OnOk, OnErr, None};
+ghost use Rattle.std.specs.Prelude.{◌≡◌, ◌≢◌, [], IfOk, OnOk, OnErr, None};
 ghost use Rattle.std.specs.FinMap as map;
 ghost use Rattle.patricia_tree.specs.Merges.{IsMergeStopped, MergesAll, MergesEntry};
-ghost use Rattle.patricia_tree.specs.Whole.{is_same_entry, are_same_entries};
+ghost use Rattle.patricia_walks.specs.Equality.{are_same_entries};
 
 use super::GenericPatriciaMap;
 use patricia_core::keys::{Bytes, KeyBytes};
-use patricia_core::walk::ReadCursor;
 use std::alloc::AllocError;
 use std::cmp::PartialEq;
 use std::iter::{IntoIterator, Iterator};
-
-// Whether two cursors stand at the same key, with values that are equal.
-fn stand_at_same<K: Bytes, V: PartialEq>(
-    one: &ReadCursor<'_, K, V>,
-    two: &ReadCursor<'_, K, V>,
-) -> bool
-    ensures { (e f : List ℕ × V) → one.now.at ≡ Some e → two.now.at ≡ Some f
-        → result ≡ is_same_entry V.eq e f }
-{
-    match (one.key(), one.value(), two.key(), two.value()) {
-        (Some(key), Some(value), Some(other_key), Some(other_value)) => {
-            key == other_key && *value == *other_value
-        }
-        _ => false,
-    }
-}
 
 impl<K: Bytes, V: Drop> GenericPatriciaMap<K, V> {
     /// Returns whether the two maps have the same keys, with equal values. It is a call that may
     /// run out of memory, which `==` could not say.
     ///
     /// Takes constant time where the maps differ in length, and else a walk over both, up to the
-    /// first entry that differs.
+    /// first node that differs. It makes no key: labels are compared with labels.
     ///
     /// # Errors
     ///
-    /// Out of memory for the paths of the walks, never for empty maps, nor where the maps differ in
+    /// Out of memory for the siblings that wait, never for empty maps, nor where the maps differ in
     /// length.
     ///
     /// # Examples
@@ -59,15 +42,7 @@ impl<K: Bytes, V: Drop> GenericPatriciaMap<K, V> {
         if self.len() != other.len() {
             return Ok(false);
         }
-        let mut one = self.cursor();
-        let mut two = other.cursor();
-        while one.advance()? {
-            two.advance()?;
-            if !stand_at_same(&one, &two) {
-                return Ok(false);
-            }
-        }
-        Ok(true)
+        self.tree.equals(&other.tree)
     }
 
     // Puts an entry in: where its key is there, the closure makes one value of the two.

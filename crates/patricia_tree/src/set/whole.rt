@@ -136,11 +136,11 @@ impl<T: Bytes> GenericPatriciaSet<T> {
     /// memory, which `==` could not say.
     ///
     /// Takes constant time where the sets differ in length, and else a walk over both, up to the
-    /// first element that differs.
+    /// first node that differs. It makes no key: labels are compared with labels.
     ///
     /// # Errors
     ///
-    /// Out of memory for the paths of the walks, never for empty sets, nor where the sets differ in
+    /// Out of memory for the siblings that wait, never for empty sets, nor where the sets differ in
     /// length.
     ///
     /// # Examples

@@ -1,5 +1,6 @@
 use Rattle.std.proofs.Common.{arith}
-use Rattle.patricia_tree.proofs.WholeLemmas.{filled_longer, then_at_error}
+use Rattle.patricia_tree.proofs.WholeLemmas.{filled_longer}
+use Rattle.patricia_walks.proofs.LowerLemmas.{then_at_error}
 use Rattle.patricia_tree.proofs.set.GenericPatriciaSet.difference.Goals as goal
 
 pub returns-then-len-clause-err_only_nonempty : goal.returns-then-len-clause-err_only_nonempty

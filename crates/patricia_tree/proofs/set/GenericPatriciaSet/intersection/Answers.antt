@@ -1,5 +1,6 @@
 use Rattle.std.proofs.Common.{arith}
-use Rattle.patricia_tree.proofs.WholeLemmas.{both_turned, filled_too, ok_along, then_at_error}
+use Rattle.patricia_tree.proofs.WholeLemmas.{both_turned, filled_too, ok_along}
+use Rattle.patricia_walks.proofs.LowerLemmas.{then_at_error}
 use Rattle.patricia_tree.proofs.set.GenericPatriciaSet.intersection.Goals as goal
 
 pub returns-then-len-clause-err_only_other_nonempty :

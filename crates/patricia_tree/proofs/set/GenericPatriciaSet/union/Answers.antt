@@ -1,5 +1,6 @@
 use Rattle.std.specs.FinMap as map
-use Rattle.patricia_tree.proofs.WholeLemmas.{all_turned, filled_turned, ok_along, then_at_error}
+use Rattle.patricia_tree.proofs.WholeLemmas.{all_turned, filled_turned, ok_along}
+use Rattle.patricia_walks.proofs.LowerLemmas.{then_at_error}
 use Rattle.patricia_tree.proofs.set.GenericPatriciaSet.union.Goals as goal
 
 pub returns-else-len-clause-all : goal.returns-else-len-clause-all

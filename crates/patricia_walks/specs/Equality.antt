@@ -1,4 +1,4 @@
--- Two maps compared entry by entry.
+-- Lists of entries compared.
 use Rattle.std.specs.Prelude.{◌&&◌, Bool, ℕ, List, nat_eq}
 use Rattle.std.specs.Cmp.Lexicographic.{pointwise}
 

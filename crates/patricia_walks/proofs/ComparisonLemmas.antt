@@ -1,0 +1,277 @@
+-- How the steps of a comparison of two trees change what it has left of both.
+use Rattle.std.proofs.Common.{◌≡◌, ◌≢◌, ℕ, ◌+◌, ◌<◌, Bool, true, false, List, [], ◌∷◌, ◌++◌, length, get_or}
+use Rattle.std.proofs.Common.{Option, Some, None, refl, sym, ap, subst, ◌∙◌, arith}
+use Rattle.std.proofs.Math.Bool.{and_assoc, and-true}
+use Rattle.std.specs.Prelude.{◌&&◌, OnErr, Result, Ok, Err}
+use Rattle.patricia_keys.specs.Keys.{IsKeyKind}
+use Rattle.patricia_model.proofs.UniqueLemmas.{has_entry}
+use Rattle.patricia_model.specs.Siblings.{Siblings, end, node, prefixed, entries, IsCanonical}
+use Rattle.patricia_model.specs.Internal.WalkStates.{steps_in}
+use Rattle.patricia_store.specs.Internal.Nodes.{Node}
+use Rattle.patricia_nodes.specs.Internal.Plans.{Plan, Nil, Cell, head, siblings_in, plan_at}
+use Rattle.patricia_nodes.specs.Internal.Plans.{IsWellFormed, siblings_of}
+use Rattle.patricia_nodes.specs.declared.arena.NodeArena.{NodeArena}
+use Rattle.patricia_nodes.proofs.SeekLemmas.{head_within, whole_plan}
+use Rattle.patricia_walks.specs.Internal.Comparisons.{StandInBoth, AllStandInBoth, IsComparison}
+use Rattle.patricia_walks.specs.Internal.Comparisons.{steps_waiting, steps_left, is_same_node}
+use Rattle.patricia_walks.specs.Internal.Comparisons.{are_same_nodes, are_same_at, are_same_waiting}
+use Rattle.patricia_walks.specs.Internal.Comparisons.{is_same_left, ComparesOn}
+use Rattle.patricia_walks.specs.Internal.Positions.{siblings_at}
+use Rattle.patricia_walks.specs.declared.equality.Comparison.{Comparison}
+use Rattle.patricia_walks.proofs.AlongLemmas.{plan_none}
+use Rattle.patricia_walks.proofs.DepthLemmas.{FirstNode, first_node}
+use Rattle.patricia_walks.proofs.PositionLemmas.{siblings_none}
+
+-- of three tests the first may come second
+and_turned : (a b c : Bool) → (a && (b && c)) ≡ (b && (a && c))
+and_turned true b c = refl
+and_turned false true c = refl
+and_turned false false c = refl
+
+module _ {V : Type 0} (one two : List (Node V)) where
+  -- where there are no numbers, there are no siblings
+  none_stand : StandInBoth one two (None, None)
+  none_stand = record { one_plan = plan_none one; two_plan = plan_none two }
+
+  -- siblings may wait behind others
+  stand-snoc : (ats : List (Option ℕ × Option ℕ)) (at : Option ℕ × Option ℕ)
+      → AllStandInBoth one two ats → StandInBoth one two at → AllStandInBoth one two (ats ++ at ∷ [])
+  stand-snoc [] at all this = (this, tt)
+  stand-snoc (a ∷ ats) at all this = (all.0, stand-snoc ats at all.1 this)
+
+  -- where all siblings that wait stand in both trees, the last do, and those before them
+  stand-last : (ats : List (Option ℕ × Option ℕ)) (at : Option ℕ × Option ℕ)
+      → AllStandInBoth one two (ats ++ at ∷ []) → StandInBoth one two at × AllStandInBoth one two ats
+  stand-last [] at all = (all.0, tt)
+  stand-last (a ∷ ats) at all = let later = stand-last ats at all.1 in (later.0, (all.0, later.1))
+
+  -- siblings that wait behind others add their steps
+  steps_waiting-snoc : (ats : List (Option ℕ × Option ℕ)) (at : Option ℕ × Option ℕ)
+      → steps_waiting one (ats ++ at ∷ []) ≡ steps_in (siblings_at one at.0) + steps_waiting one ats
+  steps_waiting-snoc [] at = omega arith
+  steps_waiting-snoc (a ∷ ats) at = omega (arith, steps_waiting-snoc ats at)
+
+  -- it is all the same where the siblings that are compared next wait
+  same_waiting-snoc : (eq : V → V → Bool) (ats : List (Option ℕ × Option ℕ)) (at : Option ℕ × Option ℕ)
+      → are_same_waiting eq one two (ats ++ at ∷ [])
+      ≡ (are_same_at eq one two at && are_same_waiting eq one two ats)
+  same_waiting-snoc eq [] at = refl
+  same_waiting-snoc eq (a ∷ ats) at =
+      ap (λ b. are_same_at eq one two a && b) (same_waiting-snoc eq ats at)
+      ∙ and_turned (are_same_at eq one two a) (are_same_at eq one two at) (are_same_waiting eq one two ats)
+
+  -- where no numbers are left in both trees, their siblings are the same
+  none_same : (eq : V → V → Bool) → are_same_at eq one two (None, None) ≡ true
+  none_same eq = λ i. are_same_nodes eq (siblings_none one i) (siblings_none two i)
+
+module _ {V : Type 0} (c : Comparison V) (id other : ℕ) (w : IsComparison c)
+    (next : c.next.0 ≡ Some id) (other_next : c.next.1 ≡ Some other) where
+  -- numbers that are next are those of nodes
+  pub one_within : id < length c.one.now.nodes.items
+  one_within = head_within c.one.now.nodes.items c.next.0 (plan_at c.one.now.nodes.items c.next.0) id w.next.one_plan next
+
+  pub two_within : other < length c.two.now.nodes.items
+  two_within = head_within c.two.now.nodes.items c.next.1 (plan_at c.two.now.nodes.items c.next.1) other w.next.two_plan other_next
+
+module _ {V : Type 0} (eq : V → V → Bool) (c : Comparison V) (id other : ℕ) (n m : Node V)
+    (w : IsComparison c) (next : c.next.0 ≡ Some id) (other_next : c.next.1 ≡ Some other)
+    (reads : n ≡ get_or c.one.now.nodes.items id n) (reads' : m ≡ get_or c.two.now.nodes.items other m) where
+  -- the siblings that are next, by the first of them
+  one_first : FirstNode c.one.now.nodes.items c.next.0 n
+  one_first = first_node c.one.now.nodes.items c.next.0 id n w.next.one_plan next reads
+
+  two_first : FirstNode c.two.now.nodes.items c.next.1 m
+  two_first = first_node c.two.now.nodes.items c.next.1 other m w.next.two_plan other_next reads'
+
+  -- what is left is the two nodes, what is below them, what is beside them, and what waits
+  left_first : is_same_left eq c
+      ≡ ((is_same_node eq n m
+      && (are_same_at eq c.one.now.nodes.items c.two.now.nodes.items (n.child, m.child)
+      && are_same_at eq c.one.now.nodes.items c.two.now.nodes.items (n.sibling, m.sibling)))
+      && are_same_waiting eq c.one.now.nodes.items c.two.now.nodes.items c.stack.items)
+  left_first = λ i. are_same_nodes eq (one_first.siblings_are i) (two_first.siblings_are i)
+      && are_same_waiting eq c.one.now.nodes.items c.two.now.nodes.items c.stack.items
+
+  -- where the nodes differ, what is left does
+  pub left_differs : is_same_node eq n m ≡ false → is_same_left eq c ≡ false
+  left_differs differ = left_first
+      ∙ ap (λ b. (b && (are_same_at eq c.one.now.nodes.items c.two.now.nodes.items (n.child, m.child)
+      && are_same_at eq c.one.now.nodes.items c.two.now.nodes.items (n.sibling, m.sibling)))
+      && are_same_waiting eq c.one.now.nodes.items c.two.now.nodes.items c.stack.items) differ
+
+  -- where nodes are next, more than one step is left
+  pub more_left : 1 < steps_left c
+  more_left = omega (
+    arith,
+    ap steps_in one_first.siblings_are,
+    some_step (siblings_at c.one.now.nodes.items n.child),
+    some_step (siblings_at c.one.now.nodes.items n.sibling),
+  )
+    where
+      some_step : (r : Siblings V) → 0 < steps_in r
+      some_step end = omega arith
+      some_step (node l v b s) = omega arith
+
+  module _ (d : Comparison V) (children siblings : Option ℕ × Option ℕ)
+      (same : is_same_node eq n m ≡ true) (children_are : children ≡ (n.child, m.child))
+      (siblings_are : siblings ≡ (n.sibling, m.sibling)) (one : d.one ≡ c.one) (two : d.two ≡ c.two) where
+    children_stand : StandInBoth c.one.now.nodes.items c.two.now.nodes.items children
+    children_stand = rw children_are (record { one_plan = one_first.child; two_plan = two_first.child })
+
+    siblings_stand : StandInBoth c.one.now.nodes.items c.two.now.nodes.items siblings
+    siblings_stand = rw siblings_are (record { one_plan = one_first.sibling; two_plan = two_first.sibling })
+
+    -- where the nodes are the same, the rest is left
+    left_rest : is_same_left eq c
+        ≡ (are_same_at eq c.one.now.nodes.items c.two.now.nodes.items children
+        && (are_same_at eq c.one.now.nodes.items c.two.now.nodes.items siblings
+        && are_same_waiting eq c.one.now.nodes.items c.two.now.nodes.items c.stack.items))
+    left_rest =
+        left_first
+        ∙ ap (λ b. (b && (are_same_at eq c.one.now.nodes.items c.two.now.nodes.items (n.child, m.child)
+        && are_same_at eq c.one.now.nodes.items c.two.now.nodes.items (n.sibling, m.sibling)))
+        && are_same_waiting eq c.one.now.nodes.items c.two.now.nodes.items c.stack.items) same
+        ∙ (λ i. (are_same_at eq c.one.now.nodes.items c.two.now.nodes.items (sym children_are i)
+        && are_same_at eq c.one.now.nodes.items c.two.now.nodes.items (sym siblings_are i))
+        && are_same_waiting eq c.one.now.nodes.items c.two.now.nodes.items c.stack.items)
+        ∙ and_assoc (are_same_at eq c.one.now.nodes.items c.two.now.nodes.items children)
+        (are_same_at eq c.one.now.nodes.items c.two.now.nodes.items siblings)
+        (are_same_waiting eq c.one.now.nodes.items c.two.now.nodes.items c.stack.items)
+
+    steps_are : steps_in (siblings_at c.one.now.nodes.items c.next.0)
+        ≡ 1 + (steps_in (siblings_at c.one.now.nodes.items children.0) + steps_in (siblings_at c.one.now.nodes.items siblings.0))
+    steps_are = rw (children_are, siblings_are) (ap steps_in one_first.siblings_are)
+
+    -- the step to the siblings of nodes without children
+    pub compares_beside : children ≡ (None, None) → d.next ≡ siblings → d.stack.items ≡ c.stack.items
+        → ComparesOn eq c d
+    compares_beside alone next' stack = record {
+      comparison = record { next = rw (one, two, next') siblings_stand; waiting = rw (one, two, stack) w.waiting };
+      same = rw (one, two, next', stack)
+          (sym (left_rest
+          ∙ ap (λ at. are_same_at eq c.one.now.nodes.items c.two.now.nodes.items at
+          && (are_same_at eq c.one.now.nodes.items c.two.now.nodes.items siblings
+          && are_same_waiting eq c.one.now.nodes.items c.two.now.nodes.items c.stack.items)) alone
+          ∙ ap (λ b. b && (are_same_at eq c.one.now.nodes.items c.two.now.nodes.items siblings
+          && are_same_waiting eq c.one.now.nodes.items c.two.now.nodes.items c.stack.items))
+          (none_same c.one.now.nodes.items c.two.now.nodes.items eq)));
+      less = rw (one, next', stack) (omega (arith, steps_are));
+    }
+
+    -- the step to the children of nodes without siblings
+    pub compares_below : siblings ≡ (None, None) → d.next ≡ children → d.stack.items ≡ c.stack.items
+        → ComparesOn eq c d
+    compares_below alone next' stack = record {
+      comparison = record { next = rw (one, two, next') children_stand; waiting = rw (one, two, stack) w.waiting };
+      same = rw (one, two, next', stack)
+          (sym (left_rest
+          ∙ ap (λ at. are_same_at eq c.one.now.nodes.items c.two.now.nodes.items children
+          && (are_same_at eq c.one.now.nodes.items c.two.now.nodes.items at
+          && are_same_waiting eq c.one.now.nodes.items c.two.now.nodes.items c.stack.items)) alone
+          ∙ ap (λ b. are_same_at eq c.one.now.nodes.items c.two.now.nodes.items children
+          && (b && are_same_waiting eq c.one.now.nodes.items c.two.now.nodes.items c.stack.items))
+          (none_same c.one.now.nodes.items c.two.now.nodes.items eq)));
+      less = rw (one, next', stack) (omega (arith, steps_are));
+    }
+
+    -- the step to the children of nodes whose siblings wait
+    pub compares_down : d.next ≡ children → d.stack.items ≡ c.stack.items ++ siblings ∷ []
+        → ComparesOn eq c d
+    compares_down next' stack = record {
+      comparison = record {
+        next = rw (one, two, next') children_stand;
+        waiting = rw (one, two, stack) (stand-snoc c.one.now.nodes.items c.two.now.nodes.items c.stack.items siblings w.waiting siblings_stand);
+      };
+      same = rw (one, two, next', stack)
+          (ap (λ b. are_same_at eq c.one.now.nodes.items c.two.now.nodes.items children && b)
+          (same_waiting-snoc c.one.now.nodes.items c.two.now.nodes.items eq c.stack.items siblings)
+          ∙ sym left_rest);
+      less = rw (one, next', stack)
+          (omega (arith, steps_are, steps_waiting-snoc c.one.now.nodes.items c.two.now.nodes.items c.stack.items siblings));
+    }
+
+module _ {V : Type 0} (eq : V → V → Bool) (c : Comparison V) (w : IsComparison c) where
+  -- the step back to the siblings that wait last
+  pub compares_back : (d : Comparison V) (at : Option ℕ × Option ℕ) → c.next ≡ (None, None)
+      → c.stack.items ≡ d.stack.items ++ at ∷ [] → d.one ≡ c.one → d.two ≡ c.two → d.next ≡ at
+      → ComparesOn eq c d
+  compares_back d at over stack one two next' =
+      let N = c.one.now.nodes.items in
+      let M = c.two.now.nodes.items in
+      let last = stand-last N M d.stack.items at (subst (AllStandInBoth N M) stack w.waiting) in
+      record {
+        comparison = record { next = rw (one, two, next') last.0; waiting = rw (one, two) last.1 };
+        same = rw (one, two, next')
+            (sym (ap (λ p. are_same_at eq N M p && are_same_waiting eq N M c.stack.items) over
+            ∙ ap (λ b. b && are_same_waiting eq N M c.stack.items) (none_same N M eq)
+            ∙ ap (are_same_waiting eq N M) stack ∙ same_waiting-snoc N M eq d.stack.items at));
+        less = rw (one, next')
+            (omega (
+              arith,
+              ap (λ p. steps_in (siblings_at N p.0)) over,
+              ap steps_in (siblings_none N),
+              ap (steps_waiting N) stack,
+              steps_waiting-snoc N M d.stack.items at,
+            ));
+      }
+
+  -- where nothing is left, what is left is the same
+  pub over_same : c.next ≡ (None, None) → c.stack.items ≡ [] → is_same_left eq c ≡ true
+  over_same over none =
+      let N = c.one.now.nodes.items in
+      let M = c.two.now.nodes.items in
+      (λ i. are_same_at eq N M (over i) && are_same_waiting eq N M (none i))
+      ∙ ap (λ b. b && true) (none_same N M eq)
+
+  -- where siblings are next in one tree alone, what is left differs
+  first_alone : (id : ℕ) → c.next.0 ≡ Some id → c.next.1 ≡ None → is_same_left eq c ≡ false
+  first_alone id some none =
+      let N = c.one.now.nodes.items in
+      let M = c.two.now.nodes.items in
+      ap (λ b. b && are_same_waiting eq N M c.stack.items)
+      (ap (λ at. are_same_nodes eq (siblings_at N c.next.0) (siblings_at M at)) none
+      ∙ ap (are_same_nodes eq (siblings_at N c.next.0)) (siblings_none M)
+      ∙ by (plan_at N c.next.0) w.next.one_plan.at_is)
+    where
+      by : (p : Plan V) → c.next.0 ≡ head p → are_same_nodes eq (siblings_in p) end ≡ false
+      by Nil e = absurd (cc)
+      by (Cell i l v b s) e = refl
+
+  second_alone : (id : ℕ) → c.next.0 ≡ None → c.next.1 ≡ Some id → is_same_left eq c ≡ false
+  second_alone id none some =
+      let N = c.one.now.nodes.items in
+      let M = c.two.now.nodes.items in
+      ap (λ b. b && are_same_waiting eq N M c.stack.items)
+      (ap (λ at. are_same_nodes eq (siblings_at N at) (siblings_at M c.next.1)) none
+      ∙ ap (λ r. are_same_nodes eq r (siblings_at M c.next.1)) (siblings_none N)
+      ∙ by (plan_at M c.next.1) w.next.two_plan.at_is)
+    where
+      by : (p : Plan V) → c.next.1 ≡ head p → are_same_nodes eq end (siblings_in p) ≡ false
+      by Nil e = absurd (cc)
+      by (Cell i l v b s) e = refl
+
+-- at its start a comparison is before the top siblings of both trees
+module _ {V : Type 0} (s t : NodeArena V) (c : Comparison V) (one : c.one.now.nodes.items ≡ s.nodes.items)
+    (two : c.two.now.nodes.items ≡ t.nodes.items) (next : c.next ≡ (s.root, t.root)) (stack : c.stack.items ≡ []) where
+  pub comparison_starts : IsWellFormed s → IsWellFormed t → IsComparison c
+  comparison_starts whole whole' = record {
+    next = rw (one, two, next) (record { one_plan = whole_plan s whole; two_plan = whole_plan t whole' });
+    waiting = rw stack tt;
+  }
+
+  -- and all nodes are left
+  pub same_at_start : (eq : V → V → Bool)
+      → is_same_left eq c ≡ are_same_nodes eq (siblings_of s) (siblings_of t)
+  same_at_start eq = rw (one, two, next, stack) (and-true (are_same_nodes eq (siblings_of s) (siblings_of t)))
+
+  pub steps_at_start : steps_left c ≡ steps_in (siblings_of s)
+  steps_at_start = rw (one, next, stack) (omega arith)
+
+-- where a walk over siblings takes more than one step, there is an entry
+pub filled_walk : (item : List ℕ → Type 0) → IsKeyKind item → {V : Type 0} (r : Siblings V)
+    → IsCanonical item r → 1 < steps_in r → entries r ≢ []
+filled_walk item kind end ok more = absurd (omega (arith, more))
+filled_walk item kind (node l v b t) ok more = λ none.
+    let some = has_entry item kind None l v b t ok in
+    let filled : prefixed l (some.0 ∷ some.1) ++ entries t ≡ [] = rw some.2 at none in
+    absurd (cc)
