@@ -18,7 +18,6 @@ use Rattle.patricia_walks.specs.Internal.Comparisons.{are_same_nodes, are_same_a
 use Rattle.patricia_walks.specs.Internal.Comparisons.{is_same_left, ComparesOn}
 use Rattle.patricia_walks.specs.Internal.Positions.{siblings_at}
 use Rattle.patricia_walks.specs.declared.equality.Comparison.{Comparison}
-use Rattle.patricia_walks.proofs.AlongLemmas.{plan_none}
 use Rattle.patricia_walks.proofs.DepthLemmas.{FirstNode, first_node}
 use Rattle.patricia_walks.proofs.PositionLemmas.{siblings_none}
 
@@ -29,10 +28,6 @@ and_turned false true c = refl
 and_turned false false c = refl
 
 module _ {V : Type 0} (one two : List (Node V)) where
-  -- where there are no numbers, there are no siblings
-  none_stand : StandInBoth one two (None, None)
-  none_stand = record { one_plan = plan_none one; two_plan = plan_none two }
-
   -- siblings may wait behind others
   stand-snoc : (ats : List (Option ℕ × Option ℕ)) (at : Option ℕ × Option ℕ)
       → AllStandInBoth one two ats → StandInBoth one two at → AllStandInBoth one two (ats ++ at ∷ [])
@@ -73,182 +68,126 @@ module _ {V : Type 0} (c : Comparison V) (id other : ℕ) (w : IsComparison c)
   pub two_within : other < length c.two.now.nodes.items
   two_within = head_within c.two.now.nodes.items c.next.1 (plan_at c.two.now.nodes.items c.next.1) other w.next.two_plan other_next
 
-module _ {V : Type 0} (eq : V → V → Bool) (c : Comparison V) (id other : ℕ) (n m : Node V)
-    (w : IsComparison c) (next : c.next.0 ≡ Some id) (other_next : c.next.1 ≡ Some other)
-    (reads : n ≡ get_or c.one.now.nodes.items id n) (reads' : m ≡ get_or c.two.now.nodes.items other m) where
-  -- the siblings that are next, by the first of them
-  one_first : FirstNode c.one.now.nodes.items c.next.0 n
-  one_first = first_node c.one.now.nodes.items c.next.0 id n w.next.one_plan next reads
+module _ {V : Type 0} (eq : V → V → Bool) (c : Comparison V) where
+  -- the nodes of both trees
+  abbrev nodes : List (Node V)
+  nodes = c.one.now.nodes.items
 
-  two_first : FirstNode c.two.now.nodes.items c.next.1 m
-  two_first = first_node c.two.now.nodes.items c.next.1 other m w.next.two_plan other_next reads'
+  abbrev others : List (Node V)
+  others = c.two.now.nodes.items
 
-  -- what is left is the two nodes, what is below them, what is beside them, and what waits
-  left_first : is_same_left eq c
-      ≡ ((is_same_node eq n m
-      && (are_same_at eq c.one.now.nodes.items c.two.now.nodes.items (n.child, m.child)
-      && are_same_at eq c.one.now.nodes.items c.two.now.nodes.items (n.sibling, m.sibling)))
-      && are_same_waiting eq c.one.now.nodes.items c.two.now.nodes.items c.stack.items)
-  left_first = λ i. are_same_nodes eq (one_first.siblings_are i) (two_first.siblings_are i)
-      && are_same_waiting eq c.one.now.nodes.items c.two.now.nodes.items c.stack.items
+  -- whether the siblings from both numbers on are the same
+  abbrev same_at : Option ℕ × Option ℕ → Bool
+  same_at at = are_same_at eq nodes others at
 
-  -- where the nodes differ, what is left does
-  pub left_differs : is_same_node eq n m ≡ false → is_same_left eq c ≡ false
-  left_differs differ = left_first
-      ∙ ap (λ b. (b && (are_same_at eq c.one.now.nodes.items c.two.now.nodes.items (n.child, m.child)
-      && are_same_at eq c.one.now.nodes.items c.two.now.nodes.items (n.sibling, m.sibling)))
-      && are_same_waiting eq c.one.now.nodes.items c.two.now.nodes.items c.stack.items) differ
+  -- and those that wait
+  abbrev same_waiting : Bool
+  same_waiting = are_same_waiting eq nodes others c.stack.items
 
-  -- where nodes are next, more than one step is left
-  pub more_left : 1 < steps_left c
-  more_left = omega (
-    arith,
-    ap steps_in one_first.siblings_are,
-    some_step (siblings_at c.one.now.nodes.items n.child),
-    some_step (siblings_at c.one.now.nodes.items n.sibling),
-  )
-    where
-      some_step : (r : Siblings V) → 0 < steps_in r
-      some_step end = omega arith
-      some_step (node l v b s) = omega arith
+  module _ (id other : ℕ) (n m : Node V) (w : IsComparison c) (next : c.next.0 ≡ Some id)
+      (other_next : c.next.1 ≡ Some other) (reads : n ≡ get_or nodes id n) (reads' : m ≡ get_or others other m) where
+    -- the siblings that are next, by the first of them
+    one_first : FirstNode nodes c.next.0 n
+    one_first = first_node nodes c.next.0 id n w.next.one_plan next reads
 
-  module _ (d : Comparison V) (children siblings : Option ℕ × Option ℕ)
-      (same : is_same_node eq n m ≡ true) (children_are : children ≡ (n.child, m.child))
-      (siblings_are : siblings ≡ (n.sibling, m.sibling)) (one : d.one ≡ c.one) (two : d.two ≡ c.two) where
-    children_stand : StandInBoth c.one.now.nodes.items c.two.now.nodes.items children
-    children_stand = rw children_are (record { one_plan = one_first.child; two_plan = two_first.child })
+    two_first : FirstNode others c.next.1 m
+    two_first = first_node others c.next.1 other m w.next.two_plan other_next reads'
 
-    siblings_stand : StandInBoth c.one.now.nodes.items c.two.now.nodes.items siblings
-    siblings_stand = rw siblings_are (record { one_plan = one_first.sibling; two_plan = two_first.sibling })
+    -- what is left is the two nodes, what is below them, what is beside them, and what waits
+    left_first : is_same_left eq c
+        ≡ ((is_same_node eq n m && (same_at (n.child, m.child) && same_at (n.sibling, m.sibling)))
+        && same_waiting)
+    left_first = λ i. are_same_nodes eq (one_first.siblings_are i) (two_first.siblings_are i) && same_waiting
 
-    -- where the nodes are the same, the rest is left
-    left_rest : is_same_left eq c
-        ≡ (are_same_at eq c.one.now.nodes.items c.two.now.nodes.items children
-        && (are_same_at eq c.one.now.nodes.items c.two.now.nodes.items siblings
-        && are_same_waiting eq c.one.now.nodes.items c.two.now.nodes.items c.stack.items))
-    left_rest =
+    -- where the nodes differ, what is left does
+    pub left_differs : is_same_node eq n m ≡ false → is_same_left eq c ≡ false
+    left_differs differ =
         left_first
-        ∙ ap (λ b. (b && (are_same_at eq c.one.now.nodes.items c.two.now.nodes.items (n.child, m.child)
-        && are_same_at eq c.one.now.nodes.items c.two.now.nodes.items (n.sibling, m.sibling)))
-        && are_same_waiting eq c.one.now.nodes.items c.two.now.nodes.items c.stack.items) same
-        ∙ (λ i. (are_same_at eq c.one.now.nodes.items c.two.now.nodes.items (sym children_are i)
-        && are_same_at eq c.one.now.nodes.items c.two.now.nodes.items (sym siblings_are i))
-        && are_same_waiting eq c.one.now.nodes.items c.two.now.nodes.items c.stack.items)
-        ∙ and_assoc (are_same_at eq c.one.now.nodes.items c.two.now.nodes.items children)
-        (are_same_at eq c.one.now.nodes.items c.two.now.nodes.items siblings)
-        (are_same_waiting eq c.one.now.nodes.items c.two.now.nodes.items c.stack.items)
+        ∙ ap (λ b. (b && (same_at (n.child, m.child) && same_at (n.sibling, m.sibling))) && same_waiting) differ
 
-    steps_are : steps_in (siblings_at c.one.now.nodes.items c.next.0)
-        ≡ 1 + (steps_in (siblings_at c.one.now.nodes.items children.0) + steps_in (siblings_at c.one.now.nodes.items siblings.0))
-    steps_are = rw (children_are, siblings_are) (ap steps_in one_first.siblings_are)
+    module _ (d : Comparison V) (children siblings : Option ℕ × Option ℕ)
+        (same : is_same_node eq n m ≡ true) (children_are : children ≡ (n.child, m.child))
+        (siblings_are : siblings ≡ (n.sibling, m.sibling)) (one : d.one ≡ c.one) (two : d.two ≡ c.two) where
+      children_stand : StandInBoth nodes others children
+      children_stand = rw children_are (record { one_plan = one_first.child; two_plan = two_first.child })
 
-    -- the step to the siblings of nodes without children
-    pub compares_beside : children ≡ (None, None) → d.next ≡ siblings → d.stack.items ≡ c.stack.items
-        → ComparesOn eq c d
-    compares_beside alone next' stack = record {
-      comparison = record { next = rw (one, two, next') siblings_stand; waiting = rw (one, two, stack) w.waiting };
-      same = rw (one, two, next', stack)
-          (sym (left_rest
-          ∙ ap (λ at. are_same_at eq c.one.now.nodes.items c.two.now.nodes.items at
-          && (are_same_at eq c.one.now.nodes.items c.two.now.nodes.items siblings
-          && are_same_waiting eq c.one.now.nodes.items c.two.now.nodes.items c.stack.items)) alone
-          ∙ ap (λ b. b && (are_same_at eq c.one.now.nodes.items c.two.now.nodes.items siblings
-          && are_same_waiting eq c.one.now.nodes.items c.two.now.nodes.items c.stack.items))
-          (none_same c.one.now.nodes.items c.two.now.nodes.items eq)));
-      less = rw (one, next', stack) (omega (arith, steps_are));
-    }
+      siblings_stand : StandInBoth nodes others siblings
+      siblings_stand = rw siblings_are (record { one_plan = one_first.sibling; two_plan = two_first.sibling })
 
-    -- the step to the children of nodes without siblings
-    pub compares_below : siblings ≡ (None, None) → d.next ≡ children → d.stack.items ≡ c.stack.items
-        → ComparesOn eq c d
-    compares_below alone next' stack = record {
-      comparison = record { next = rw (one, two, next') children_stand; waiting = rw (one, two, stack) w.waiting };
-      same = rw (one, two, next', stack)
-          (sym (left_rest
-          ∙ ap (λ at. are_same_at eq c.one.now.nodes.items c.two.now.nodes.items children
-          && (are_same_at eq c.one.now.nodes.items c.two.now.nodes.items at
-          && are_same_waiting eq c.one.now.nodes.items c.two.now.nodes.items c.stack.items)) alone
-          ∙ ap (λ b. are_same_at eq c.one.now.nodes.items c.two.now.nodes.items children
-          && (b && are_same_waiting eq c.one.now.nodes.items c.two.now.nodes.items c.stack.items))
-          (none_same c.one.now.nodes.items c.two.now.nodes.items eq)));
-      less = rw (one, next', stack) (omega (arith, steps_are));
-    }
+      -- where the nodes are the same, the rest is left
+      left_rest : is_same_left eq c ≡ (same_at children && (same_at siblings && same_waiting))
+      left_rest =
+          left_first
+          ∙ ap (λ b. (b && (same_at (n.child, m.child) && same_at (n.sibling, m.sibling))) && same_waiting) same
+          ∙ (λ i. (same_at (sym children_are i) && same_at (sym siblings_are i)) && same_waiting)
+          ∙ and_assoc (same_at children) (same_at siblings) same_waiting
 
-    -- the step to the children of nodes whose siblings wait
-    pub compares_down : d.next ≡ children → d.stack.items ≡ c.stack.items ++ siblings ∷ []
-        → ComparesOn eq c d
-    compares_down next' stack = record {
-      comparison = record {
-        next = rw (one, two, next') children_stand;
-        waiting = rw (one, two, stack) (stand-snoc c.one.now.nodes.items c.two.now.nodes.items c.stack.items siblings w.waiting siblings_stand);
-      };
-      same = rw (one, two, next', stack)
-          (ap (λ b. are_same_at eq c.one.now.nodes.items c.two.now.nodes.items children && b)
-          (same_waiting-snoc c.one.now.nodes.items c.two.now.nodes.items eq c.stack.items siblings)
-          ∙ sym left_rest);
-      less = rw (one, next', stack)
-          (omega (arith, steps_are, steps_waiting-snoc c.one.now.nodes.items c.two.now.nodes.items c.stack.items siblings));
-    }
+      steps_are : steps_in (siblings_at nodes c.next.0)
+          ≡ 1 + (steps_in (siblings_at nodes children.0) + steps_in (siblings_at nodes siblings.0))
+      steps_are = rw (children_are, siblings_are) (ap steps_in one_first.siblings_are)
 
-module _ {V : Type 0} (eq : V → V → Bool) (c : Comparison V) (w : IsComparison c) where
-  -- the step back to the siblings that wait last
-  pub compares_back : (d : Comparison V) (at : Option ℕ × Option ℕ) → c.next ≡ (None, None)
-      → c.stack.items ≡ d.stack.items ++ at ∷ [] → d.one ≡ c.one → d.two ≡ c.two → d.next ≡ at
-      → ComparesOn eq c d
-  compares_back d at over stack one two next' =
-      let N = c.one.now.nodes.items in
-      let M = c.two.now.nodes.items in
-      let last = stand-last N M d.stack.items at (subst (AllStandInBoth N M) stack w.waiting) in
-      record {
-        comparison = record { next = rw (one, two, next') last.0; waiting = rw (one, two) last.1 };
-        same = rw (one, two, next')
-            (sym (ap (λ p. are_same_at eq N M p && are_same_waiting eq N M c.stack.items) over
-            ∙ ap (λ b. b && are_same_waiting eq N M c.stack.items) (none_same N M eq)
-            ∙ ap (are_same_waiting eq N M) stack ∙ same_waiting-snoc N M eq d.stack.items at));
-        less = rw (one, next')
-            (omega (
-              arith,
-              ap (λ p. steps_in (siblings_at N p.0)) over,
-              ap steps_in (siblings_none N),
-              ap (steps_waiting N) stack,
-              steps_waiting-snoc N M d.stack.items at,
-            ));
+      -- the step to the siblings of nodes without children
+      pub compares_beside : children ≡ (None, None) → d.next ≡ siblings → d.stack.items ≡ c.stack.items
+          → ComparesOn eq c d
+      compares_beside alone next' stack = record {
+        comparison = record { next = rw (one, two, next') siblings_stand; waiting = rw (one, two, stack) w.waiting };
+        same = rw (one, two, next', stack)
+            (sym (left_rest
+            ∙ ap (λ at. same_at at && (same_at siblings && same_waiting)) alone
+            ∙ ap (λ b. b && (same_at siblings && same_waiting)) (none_same nodes others eq)));
+        less = rw (one, next', stack) (omega (arith, steps_are));
       }
 
-  -- where nothing is left, what is left is the same
-  pub over_same : c.next ≡ (None, None) → c.stack.items ≡ [] → is_same_left eq c ≡ true
-  over_same over none =
-      let N = c.one.now.nodes.items in
-      let M = c.two.now.nodes.items in
-      (λ i. are_same_at eq N M (over i) && are_same_waiting eq N M (none i))
-      ∙ ap (λ b. b && true) (none_same N M eq)
+      -- the step to the children of nodes without siblings
+      pub compares_below : siblings ≡ (None, None) → d.next ≡ children → d.stack.items ≡ c.stack.items
+          → ComparesOn eq c d
+      compares_below alone next' stack = record {
+        comparison = record { next = rw (one, two, next') children_stand; waiting = rw (one, two, stack) w.waiting };
+        same = rw (one, two, next', stack)
+            (sym (left_rest
+            ∙ ap (λ at. same_at children && (same_at at && same_waiting)) alone
+            ∙ ap (λ b. same_at children && (b && same_waiting)) (none_same nodes others eq)));
+        less = rw (one, next', stack) (omega (arith, steps_are));
+      }
 
-  -- where siblings are next in one tree alone, what is left differs
-  first_alone : (id : ℕ) → c.next.0 ≡ Some id → c.next.1 ≡ None → is_same_left eq c ≡ false
-  first_alone id some none =
-      let N = c.one.now.nodes.items in
-      let M = c.two.now.nodes.items in
-      ap (λ b. b && are_same_waiting eq N M c.stack.items)
-      (ap (λ at. are_same_nodes eq (siblings_at N c.next.0) (siblings_at M at)) none
-      ∙ ap (are_same_nodes eq (siblings_at N c.next.0)) (siblings_none M)
-      ∙ by (plan_at N c.next.0) w.next.one_plan.at_is)
-    where
-      by : (p : Plan V) → c.next.0 ≡ head p → are_same_nodes eq (siblings_in p) end ≡ false
-      by Nil e = absurd (cc)
-      by (Cell i l v b s) e = refl
+      -- the step to the children of nodes whose siblings wait
+      pub compares_down : d.next ≡ children → d.stack.items ≡ c.stack.items ++ siblings ∷ []
+          → ComparesOn eq c d
+      compares_down next' stack = record {
+        comparison = record {
+          next = rw (one, two, next') children_stand;
+          waiting = rw (one, two, stack) (stand-snoc nodes others c.stack.items siblings w.waiting siblings_stand);
+        };
+        same = rw (one, two, next', stack)
+            (ap (λ b. same_at children && b)
+            (same_waiting-snoc nodes others eq c.stack.items siblings)
+            ∙ sym left_rest);
+        less = rw (one, next', stack)
+            (omega (arith, steps_are, steps_waiting-snoc nodes others c.stack.items siblings));
+      }
 
-  second_alone : (id : ℕ) → c.next.0 ≡ None → c.next.1 ≡ Some id → is_same_left eq c ≡ false
-  second_alone id none some =
-      let N = c.one.now.nodes.items in
-      let M = c.two.now.nodes.items in
-      ap (λ b. b && are_same_waiting eq N M c.stack.items)
-      (ap (λ at. are_same_nodes eq (siblings_at N at) (siblings_at M c.next.1)) none
-      ∙ ap (λ r. are_same_nodes eq r (siblings_at M c.next.1)) (siblings_none N)
-      ∙ by (plan_at M c.next.1) w.next.two_plan.at_is)
-    where
-      by : (p : Plan V) → c.next.1 ≡ head p → are_same_nodes eq end (siblings_in p) ≡ false
-      by Nil e = absurd (cc)
-      by (Cell i l v b s) e = refl
+  module _ (w : IsComparison c) where
+    -- the step back to the siblings that wait last
+    pub compares_back : (d : Comparison V) (at : Option ℕ × Option ℕ) → c.next ≡ (None, None)
+        → c.stack.items ≡ d.stack.items ++ at ∷ [] → d.one ≡ c.one → d.two ≡ c.two → d.next ≡ at
+        → ComparesOn eq c d
+    compares_back d at over stack one two next' =
+        let last = stand-last nodes others d.stack.items at (subst (AllStandInBoth nodes others) stack w.waiting) in
+        record {
+          comparison = record { next = rw (one, two, next') last.0; waiting = rw (one, two) last.1 };
+          same = rw (one, two, next')
+              (sym (ap (λ p. same_at p && same_waiting) over
+              ∙ ap (λ b. b && same_waiting) (none_same nodes others eq)
+              ∙ ap (are_same_waiting eq nodes others) stack ∙ same_waiting-snoc nodes others eq d.stack.items at));
+          less = rw (one, next')
+              (omega (
+                arith,
+                ap (λ p. steps_in (siblings_at nodes p.0)) over,
+                ap steps_in (siblings_none nodes),
+                ap (steps_waiting nodes) stack,
+                steps_waiting-snoc nodes others d.stack.items at,
+              ));
+        }
 
 -- at its start a comparison is before the top siblings of both trees
 module _ {V : Type 0} (s t : NodeArena V) (c : Comparison V) (one : c.one.now.nodes.items ≡ s.nodes.items)

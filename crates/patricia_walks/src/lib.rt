@@ -1,5 +1,6 @@
 //! Walks over the nodes of a tree, in key order: whole ones, those over the common prefixes of a
-//! key and under a prefix, and cursors, which own a tree and lend its values one at a time.
+//! key and under a prefix, and cursors, which own a tree and lend its values one at a time. Two
+//! trees are compared by a walk over both.
 //!
 //! `patricia_tree` is the library to use. It depends on this crate.
 #![tactic(auto)]
