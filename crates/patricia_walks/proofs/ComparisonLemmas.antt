@@ -2,13 +2,13 @@
 use Rattle.std.proofs.Common.{◌≡◌, ◌≢◌, ℕ, ◌+◌, ◌<◌, Bool, true, false, List, [], ◌∷◌, ◌++◌, length, get_or}
 use Rattle.std.proofs.Common.{Option, Some, None, refl, sym, ap, subst, ◌∙◌, arith}
 use Rattle.std.proofs.Math.Bool.{and_assoc, and-true}
-use Rattle.std.specs.Prelude.{◌&&◌, OnErr, Result, Ok, Err}
+use Rattle.std.specs.Prelude.{◌&&◌}
 use Rattle.patricia_keys.specs.Keys.{IsKeyKind}
 use Rattle.patricia_model.proofs.UniqueLemmas.{has_entry}
 use Rattle.patricia_model.specs.Siblings.{Siblings, end, node, prefixed, entries, IsCanonical}
 use Rattle.patricia_model.specs.Internal.WalkStates.{steps_in}
 use Rattle.patricia_store.specs.Internal.Nodes.{Node}
-use Rattle.patricia_nodes.specs.Internal.Plans.{Plan, Nil, Cell, head, siblings_in, plan_at}
+use Rattle.patricia_nodes.specs.Internal.Plans.{plan_at}
 use Rattle.patricia_nodes.specs.Internal.Plans.{IsWellFormed, siblings_of}
 use Rattle.patricia_nodes.specs.declared.arena.NodeArena.{NodeArena}
 use Rattle.patricia_nodes.proofs.SeekLemmas.{head_within, whole_plan}
