@@ -1,36 +1,25 @@
 //! What is asked of a list, and the lines or the JSON that answer it.
 
-ghost use Rattle.std.specs.Prelude.{◌≡◌, ◌≢◌, ◌↔◌, ◌++◌, ◌∷◌, ℕ, List, [], drop, length};
-ghost use Rattle.std.specs.Prelude.{IfOk, OnOk, IfErr, IsTrue, IfSome, IfNone, string_bytes};
-ghost use Rattle.std.specs.Prelude.{map as list_map};
+ghost use Rattle.std.specs.Prelude.{◌≡◌, ℕ, IfOk, OnOk, IfErr};
 ghost use Rattle.std.specs.FinMap as map;
-ghost use Rattle.std.specs.Fmt.{decimal};
-ghost use Rattle.std.specs.List.{flat_map, join_by};
-ghost use Rattle.std.specs.Option.{option_map};
 ghost use Rattle.std.specs.Str.{IsUtf8, IsValidUpTo};
-ghost use Rattle.prefixes_core.specs.Answers.{fields_line, route_line, count_line, block_line};
-ghost use Rattle.prefixes_core.specs.Answers.{indent, value_line, entry_line, tree_lines};
 ghost use Rattle.prefixes_core.specs.Answers.{Writes, IsFound, Leaves, IsRightLine, IsAnswerFault};
-ghost use Rattle.prefixes_core.specs.Internal.Styles.{IsWritten};
 ghost use Rattle.prefixes_core.specs.Subtrees.{elsewhere};
 
+mod writing;
+
 use crate::blocking::{BlockList, folded};
-use crate::completing::{Completions, complete};
+use crate::completing::complete;
 use crate::cutting::segment;
 use crate::dotted::{drop_subtree, subtree};
 use crate::listing::{Listing, Names};
-use crate::nearing::{NearName, NearNames, near};
-use crate::objects::{
-    BlockObject, CompleteObject, EntryObject, NearObject, RouteObject, SegmentObject, Text,
-    TreeObject, push_object,
-};
+use crate::nearing::near;
 use crate::value::Payload;
-use itoa::Buffer;
-use patricia_tree::BorrowedBytes;
 use patricia_tree::router::Router;
 use std::alloc::{AllocError, Global};
 use std::str;
 use thiserror::Error;
+use writing::{push_blocked, push_completed, push_near, push_pieces, push_route, push_tree};
 
 /// Why a line is not answered.
 #[derive(Clone, Copy, Debug, Drop, PartialEq, Eq, Error)]
@@ -81,69 +70,6 @@ pub enum Question {
     Segment(Names),
 }
 
-// Writes fields, each behind a tab.
-fn push_others<Q: BorrowedBytes>(fields: &[Q], out: &mut Vec<u8>) -> Result<(), AllocError>
-    ensures { OnOk result (out.new.items
-        ≡ out.old.items ++ flat_map (λ field. 9 ∷ Q.key field) fields.now) }
-{
-    for field in fields {
-        out.push(b'\t')?;
-        out.extend_from_slice(BorrowedBytes::as_bytes(field))?;
-    }
-    Ok(())
-}
-
-// Writes fields with a tab between any two.
-fn push_joined<Q: BorrowedBytes>(fields: &[Q], out: &mut Vec<u8>) -> Result<(), AllocError>
-    ensures { OnOk result (out.new.items
-        ≡ out.old.items ++ join_by Q.key (9 ∷ []) fields.now) }
-{
-    let Some((first, others)) = fields.split_first() else {
-        return Ok(());
-    };
-    out.extend_from_slice(BorrowedBytes::as_bytes(first))?;
-    push_others(others, out)
-}
-
-// Writes fields with a tab between any two, up to the end of their line.
-fn push_fields<Q: BorrowedBytes>(fields: &[Q], end: u8, out: &mut Vec<u8>) -> Result<(), AllocError>
-    ensures { OnOk result (out.new.items
-        ≡ out.old.items ++ fields_line end (list_map Q.key fields.now)) }
-{
-    push_joined(fields, out)?;
-    out.push(end)?;
-    Ok(())
-}
-
-// Writes a line that was read, and how many names were found.
-fn push_count(line: &str, count: usize, end: u8, out: &mut Vec<u8>) -> Result<(), AllocError>
-    ensures { OnOk result (out.new.items ≡ out.old.items ++ count_line end line.now count) }
-{
-    let mut buffer = Buffer::new();
-    push_fields(&[line, buffer.format(count)], end, out)
-}
-
-// Writes which prefix a line is routed by, and its target, if it is.
-fn push_route(
-    alloc: Global,
-    line: &str,
-    found: Option<(&str, &Payload)>,
-    style: Style,
-    out: &mut Vec<u8>,
-) -> Result<(), AllocError>
-    ensures { OnOk result (IsWritten style
-        (λ end. route_line end (option_map (λ route. (route.0.now, route.1.now)) found.entry))
-        out.old.items out.new.items) }
-{
-    match (style, found) {
-        (Style::Lines(end), Some((prefix, target))) => {
-            push_fields(&[prefix.as_bytes(), target.as_bytes()], end, out)
-        }
-        (Style::Lines(end), None) => push_fields(&["-"], end, out),
-        (Style::Json, _) => push_object(alloc, &RouteObject::new(line, found), out),
-    }
-}
-
 fn route(
     alloc: Global,
     routes: &Router<String, Payload>,
@@ -158,56 +84,6 @@ fn route(
     let found = routes.route(line);
     push_route(alloc, line, found, style, out)?;
     Ok(found.is_some())
-}
-
-// Writes names that were found, each on a line behind a tab.
-fn push_names(found: &[(String, &())], end: u8, out: &mut Vec<u8>) -> Result<(), AllocError>
-    ensures { OnOk result (out.new.items ≡ out.old.items
-        ++ flat_map (λ name. fields_line end ([] ∷ string_bytes name.0 ∷ [])) found.now) }
-{
-    for (name, _) in found {
-        push_fields(&["", name.as_str()], end, out)?;
-    }
-    Ok(())
-}
-
-type Completed<'a> = Completions<'a, String, ()>;
-
-fn push_complete_object(
-    alloc: Global,
-    found: &Completed<'_>,
-    line: &str,
-    out: &mut Vec<u8>,
-) -> Result<(), AllocError>
-    ensures { OnOk result
-        ((written : List ℕ) × (out.new.items ≡ out.old.items ++ written)) }
-{
-    let count = found.count;
-    let mut names = Vec::new(alloc);
-    for (name, _) in &found.first {
-        names.push(name.as_str())?;
-    }
-    push_object(alloc, &CompleteObject { line, count, names }, out)
-}
-
-fn push_completed(
-    alloc: Global,
-    found: &Completed<'_>,
-    line: &str,
-    style: Style,
-    out: &mut Vec<u8>,
-) -> Result<(), AllocError>
-    ensures { OnOk result (IsWritten style (λ end. count_line end line.now found.now.count
-        ++ flat_map (λ name. fields_line end ([] ∷ string_bytes name.0 ∷ []))
-        found.now.first.items) out.old.items out.new.items) }
-{
-    match style {
-        Style::Lines(end) => {
-            push_count(line, found.count, end, out)?;
-            push_names(&found.first, end, out)
-        }
-        Style::Json => push_complete_object(alloc, found, line, out),
-    }
 }
 
 fn complete_all(
@@ -226,54 +102,6 @@ fn complete_all(
     let found = complete(alloc, names, line, most)?;
     push_completed(alloc, &found, line, style, out)?;
     Ok(found.count != 0)
-}
-
-// Writes a name that is near, and how many edits away it is.
-fn push_near_name(near: &NearName, end: u8, out: &mut Vec<u8>) -> Result<(), AllocError>
-    ensures { OnOk result (out.new.items ≡ out.old.items
-        ++ fields_line end ([] ∷ string_bytes near.now.name ∷ decimal near.now.edits ∷ [])) }
-{
-    let mut buffer = Buffer::new();
-    push_fields(
-        &["", near.name.as_str(), buffer.format(near.edits)],
-        end,
-        out,
-    )
-}
-
-fn push_near_names(found: &[NearName], end: u8, out: &mut Vec<u8>) -> Result<(), AllocError>
-    ensures { OnOk result (out.new.items ≡ out.old.items ++ flat_map
-        (λ near. fields_line end ([] ∷ string_bytes near.name ∷ decimal near.edits ∷ []))
-        found.now) }
-{
-    for near in found {
-        push_near_name(near, end, out)?;
-    }
-    Ok(())
-}
-
-fn push_near(
-    alloc: Global,
-    found: &NearNames,
-    line: &str,
-    style: Style,
-    out: &mut Vec<u8>,
-) -> Result<(), AllocError>
-    ensures { OnOk result (IsWritten style (λ end. count_line end line.now found.now.count
-        ++ flat_map
-        (λ near. fields_line end ([] ∷ string_bytes near.name ∷ decimal near.edits ∷ []))
-        found.now.first.items) out.old.items out.new.items) }
-{
-    match style {
-        Style::Lines(end) => {
-            push_count(line, found.count, end, out)?;
-            push_near_names(&found.first, end, out)
-        }
-        Style::Json => {
-            let (count, names) = (found.count, found.first.as_slice());
-            push_object(alloc, &NearObject { line, count, names }, out)
-        }
-    }
 }
 
 fn near_all(
@@ -295,25 +123,6 @@ fn near_all(
     Ok(found.count != 0)
 }
 
-// Writes by which name a line is blocked, if it is.
-fn push_blocked(
-    alloc: Global,
-    line: &[u8],
-    found: Option<&[u8]>,
-    style: Style,
-    out: &mut Vec<u8>,
-) -> Result<(), AllocError>
-    ensures { OnOk result (IsWritten style
-        (λ end. block_line end (option_map (λ name. name.now) found.entry))
-        out.old.items out.new.items) }
-{
-    match (style, found) {
-        (Style::Lines(end), Some(name)) => push_fields(&[b"blocked".as_slice(), name], end, out),
-        (Style::Lines(end), None) => push_fields(&["passes"], end, out),
-        (Style::Json, _) => push_object(alloc, &BlockObject::new(line, found), out),
-    }
-}
-
 fn block(
     alloc: Global,
     list: &BlockList,
@@ -330,95 +139,6 @@ fn block(
     let is_blocked = found.is_some();
     push_blocked(alloc, line, found, style, out)?;
     Ok(is_blocked)
-}
-
-// Writes two spaces for each dot.
-fn push_indent(name: &[u8], out: &mut Vec<u8>) -> Result<(), AllocError>
-    ensures { OnOk result (out.new.items ≡ out.old.items ++ indent name.now) }
-{
-    for b in name {
-        if *b == b'.' {
-            out.extend_from_slice(b"  ")?;
-        }
-    }
-    Ok(())
-}
-
-// Writes a name, and its value where that is not empty.
-fn push_value(name: &[u8], value: &[u8], end: u8, out: &mut Vec<u8>) -> Result<(), AllocError>
-    ensures { OnOk result (out.new.items ≡ out.old.items ++ value_line end name.now value.now) }
-{
-    if value.is_empty() {
-        push_fields(&[name], end, out)
-    } else {
-        push_fields(&[name, value], end, out)
-    }
-}
-
-// An entry of a tree: two spaces for each dot that its name has behind that of the tree.
-fn push_entry(
-    name: &[u8],
-    value: &[u8],
-    root: &[u8],
-    end: u8,
-    out: &mut Vec<u8>,
-) -> Result<(), AllocError>
-    ensures { OnOk result (out.new.items
-        ≡ out.old.items ++ entry_line end root.now (name.now, value.now)) }
-{
-    push_indent(&name[root.len().min(name.len())..], out)?;
-    push_value(name, value, end, out)
-}
-
-fn push_entries(
-    found: &[(String, &Payload)],
-    root: &[u8],
-    end: u8,
-    out: &mut Vec<u8>,
-) -> Result<(), AllocError>
-    ensures { OnOk result (out.new.items ≡ out.old.items ++ flat_map
-        (λ entry. entry_line end root.now (string_bytes entry.0, entry.1.now)) found.now) }
-{
-    for (name, value) in found {
-        push_entry(name.as_bytes(), value.as_bytes(), root, end, out)?;
-    }
-    Ok(())
-}
-
-fn push_tree_object(
-    alloc: Global,
-    found: &[(String, &Payload)],
-    line: &str,
-    out: &mut Vec<u8>,
-) -> Result<(), AllocError>
-    ensures { OnOk result
-        ((written : List ℕ) × (out.new.items ≡ out.old.items ++ written)) }
-{
-    let mut entries = Vec::new(alloc);
-    for (name, value) in found {
-        let (name, value) = (name.as_str(), Text::new(value.as_bytes()));
-        entries.push(EntryObject { name, value })?;
-    }
-    push_object(alloc, &TreeObject { line, entries }, out)
-}
-
-// Writes the entries of a tree, if there are any.
-fn push_tree(
-    alloc: Global,
-    found: &[(String, &Payload)],
-    line: &str,
-    style: Style,
-    out: &mut Vec<u8>,
-) -> Result<(), AllocError>
-    ensures { OnOk result (IsWritten style (λ end. tree_lines end line.now
-        (list_map (λ entry. (string_bytes entry.0, entry.1.now)) found.now))
-        out.old.items out.new.items) }
-{
-    match style {
-        Style::Lines(end) if found.is_empty() => push_fields(&["-"], end, out),
-        Style::Lines(end) => push_entries(found, line.as_bytes(), end, out),
-        Style::Json => push_tree_object(alloc, found, line, out),
-    }
 }
 
 fn tree(
@@ -453,24 +173,6 @@ fn drop_tree(
     let is_found = tree(alloc, list, line, style, out)?;
     drop_subtree(alloc, list, line)?;
     Ok(is_found)
-}
-
-// Writes the pieces that a line is cut into.
-fn push_pieces(
-    alloc: Global,
-    pieces: &[&str],
-    line: &str,
-    style: Style,
-    out: &mut Vec<u8>,
-) -> Result<(), AllocError>
-    ensures { OnOk result (IsWritten style
-        (λ end. fields_line end (list_map (λ piece. piece.now) pieces.now))
-        out.old.items out.new.items) }
-{
-    match style {
-        Style::Lines(end) => push_fields(pieces, end, out),
-        Style::Json => push_object(alloc, &SegmentObject { line, pieces }, out),
-    }
 }
 
 fn cut(

@@ -1,7 +1,7 @@
 use Rattle.std.proofs.Common.{◌≡◌, [], ◌∷◌, ◌++◌, drop, string_bytes}
 use Rattle.std.specs.List.{flat_map}
 use Rattle.prefixes_core.specs.Answers.{fields_line}
-use Rattle.prefixes_core.proofs.answering.push_names.Given as goal
+use Rattle.prefixes_core.proofs.answering.writing.push_names.Given as goal
 
 -- what is written, and then the lines of the names that are left
 abbrev pub invariant-loop-name : goal.invariant-loop-name

@@ -4,7 +4,7 @@ use Rattle.std.proofs.lemmas.Bool.{eqb-false}
 use Rattle.std.proofs.lemmas.Result.{on_ok_weaker}
 use Rattle.prefixes_core.specs.Answers.{entry_line}
 use Rattle.prefixes_core.proofs.AnswerLemmas.{in_lines, some_lines}
-use Rattle.prefixes_core.proofs.answering.push_tree.Goals as goal
+use Rattle.prefixes_core.proofs.answering.writing.push_tree.Goals as goal
 
 pub returns-in-Lines-2 : goal.returns-in-Lines-2
 returns-in-Lines-2 c =

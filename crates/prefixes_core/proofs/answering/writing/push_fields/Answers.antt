@@ -1,5 +1,5 @@
 use Rattle.prefixes_core.proofs.AnswerLemmas.{line_ended}
-use Rattle.prefixes_core.proofs.answering.push_fields.Goals as goal
+use Rattle.prefixes_core.proofs.answering.writing.push_fields.Goals as goal
 
 pub returns : goal.returns
 returns g c =

@@ -3,7 +3,7 @@ use Rattle.std.specs.List.{flat_map}
 use Rattle.std.proofs.lemmas.Result.{on_ok_weaker}
 use Rattle.prefixes_core.specs.Answers.{count_line, fields_line}
 use Rattle.prefixes_core.proofs.AnswerLemmas.{in_lines}
-use Rattle.prefixes_core.proofs.answering.push_completed.Goals as goal
+use Rattle.prefixes_core.proofs.answering.writing.push_completed.Goals as goal
 
 pub returns-in_ok-push_count-in-Lines : goal.returns-in_ok-push_count-in-Lines
 returns-in_ok-push_count-in-Lines c =

@@ -1,6 +1,6 @@
 use Rattle.std.proofs.Common.{◌≡◌, ◌∷◌, ◌++◌, drop}
 use Rattle.std.specs.List.{flat_map}
-use Rattle.prefixes_core.proofs.answering.push_others.Given as goal
+use Rattle.prefixes_core.proofs.answering.writing.push_others.Given as goal
 
 -- what is written, and then the fields that are left, each behind a byte 9
 abbrev pub invariant-loop-field : goal.invariant-loop-field

@@ -2,7 +2,7 @@ use Rattle.std.proofs.Common.{◌≡◌, [], ◌∷◌, ◌++◌, drop, string_b
 use Rattle.std.specs.Fmt.{decimal}
 use Rattle.std.specs.List.{flat_map}
 use Rattle.prefixes_core.specs.Answers.{fields_line}
-use Rattle.prefixes_core.proofs.answering.push_near_names.Given as goal
+use Rattle.prefixes_core.proofs.answering.writing.push_near_names.Given as goal
 
 -- what is written, and then the lines of the names that are left
 abbrev pub invariant-loop-near : goal.invariant-loop-near
