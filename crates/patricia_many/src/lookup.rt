@@ -278,4 +278,22 @@ impl Lookup {
             },
         }
     }
+
+    /// The longest prefix of the key as `prefix` has it, without the value there.
+    pub fn prefix_key<Q: BorrowedBytes, V>(
+        &self,
+        arena: &NodeArena<V>,
+        top: Option<&V>,
+        key: Q,
+    ) -> Option<Q>
+        requires key { IsLookup Q.Owned.item arena.now true (Q.key key) self.now }
+        requires ended { self.now.at ≡ None }
+        ensures { option_map Q.key result ≡ option_map (λ e. e.0)
+            (longest (Q.key key) (own (option_copied top.entry) ++ entries_of arena.now)) }
+    {
+        match self.prefix(arena, top, key) {
+            Some(entry) => Some(entry.0),
+            None => None,
+        }
+    }
 }

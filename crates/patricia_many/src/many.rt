@@ -314,3 +314,70 @@ pub fn longest_many<'a, Q: BorrowedBytes, V>(
         at = end;
     }
 }
+
+// Writes the longest prefixes of a block of keys without their values, by their look-ups.
+fn write_prefix_keys<Q: BorrowedBytes, V>(
+    arena: &NodeArena<V>,
+    keys: &[Q],
+    lookups: &[Lookup],
+    top: Option<&V>,
+    found: &mut [Option<Q>],
+)
+    requires as_many { length keys.now ≡ length lookups.now }
+    requires found_as_many { length keys.now ≡ length found.old }
+    requires keys { AreLookups Q.Owned.item arena.now true (list_map Q.key keys.now) lookups.now }
+    requires ended { AreEndedTo (length keys.now) lookups.now }
+    ensures { list_map (option_map Q.key) found.new
+        ≡ list_map (λ key. option_map (λ e. e.0) (longest (Q.key key)
+        (own (option_copied top.entry) ++ entries_of arena.now))) keys.now }
+{
+    let mut k = 0;
+    while k < keys.len() {
+        found[k] = lookups[k].prefix_key(arena, top, keys[k]);
+        k += 1;
+    }
+}
+
+// Looks up the longest prefixes of the keys of a block, without their values.
+fn prefix_keys_block<Q: BorrowedBytes, V>(
+    arena: &NodeArena<V>,
+    keys: &[Q],
+    top: Option<&V>,
+    found: &mut [Option<Q>],
+)
+    requires whole { IsWellFormed arena.now }
+    requires siblings { IsCanonical Q.Owned.item (siblings_of arena.now) }
+    requires few { length keys.now ≤ 32 }
+    requires as_many { length keys.now ≡ length found.old }
+    ensures { list_map (option_map Q.key) found.new
+        ≡ list_map (λ key. option_map (λ e. e.0) (longest (Q.key key)
+        (own (option_copied top.entry) ++ entries_of arena.now))) keys.now }
+{
+    let mut lookups = [Lookup::new(); SIDE_BY_SIDE];
+    let lookups = &mut lookups[..keys.len()];
+    look_up(arena, keys, true, lookups);
+    write_prefix_keys(arena, keys, lookups, top, found);
+}
+
+/// Looks up the longest prefixes of keys side by side, and writes each, without the value there, to
+/// the place of the key. The value at the empty key is given. Does not allocate.
+pub fn longest_keys<Q: BorrowedBytes, V>(
+    arena: &NodeArena<V>,
+    keys: &[Q],
+    top: Option<&V>,
+    found: &mut [Option<Q>],
+)
+    requires whole { IsWellFormed arena.now }
+    requires siblings { IsCanonical Q.Owned.item (siblings_of arena.now) }
+    requires as_many { length keys.now ≡ length found.old }
+    ensures { list_map (option_map Q.key) found.new
+        ≡ list_map (λ key. option_map (λ e. e.0) (longest (Q.key key)
+        (own (option_copied top.entry) ++ entries_of arena.now))) keys.now }
+{
+    let mut at = 0;
+    while at < keys.len() {
+        let end = at + (keys.len() - at).min(SIDE_BY_SIDE);
+        prefix_keys_block(arena, &keys[at..end], top, &mut found[at..end]);
+        at = end;
+    }
+}
