@@ -6,7 +6,7 @@ ghost use Rattle.patricia_model.specs.Prefixes.{longest};
 
 use super::Tree;
 use patricia_keys::{BorrowedBytes, Bytes};
-use patricia_many::many::{contains_many, get_many, longest_many};
+use patricia_many::many::{contains_many, get_many, longest_keys, longest_many};
 
 impl<K: Bytes, V> Tree<K, V> {
     /// Writes the value at each key to the place of the key. Does not allocate.
@@ -43,5 +43,15 @@ impl<K: Bytes, V> Tree<K, V> {
             ≡ list_map (λ key. longest (Q.key key) (map.entries self.now)) keys.now }
     {
         longest_many(&self.parts.arena, keys, self.parts.value.as_ref(), found);
+    }
+
+    /// Writes the longest prefix of each key, without its value, to the place of the key. Does not
+    /// allocate.
+    pub fn longest_keys<Q: BorrowedBytes<Owned = K>>(&self, keys: &[Q], found: &mut [Option<Q>])
+        requires { length keys.now ≡ length found.old }
+        ensures { list_map (option_map Q.key) found.new ≡ list_map
+            (λ key. option_map (λ e. e.0) (longest (Q.key key) (map.entries self.now))) keys.now }
+    {
+        longest_keys(&self.parts.arena, keys, self.parts.value.as_ref(), found);
     }
 }

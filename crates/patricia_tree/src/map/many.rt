@@ -187,4 +187,38 @@ impl<K: Bytes, V: Drop> GenericPatriciaMap<K, V> {
         self.longest_many_into(keys, entries.as_mut_slice());
         Ok(entries)
     }
+
+    // Looks up the longest prefix of many keys as `longest_many_into` does, without the values.
+    pub(crate) fn longest_keys_into<Q: BorrowedBytes<Owned = K>>(
+        &self,
+        keys: &[Q],
+        found: &mut [Option<Q>],
+    ) -> usize
+        ensures count { result ≡ min (length keys.now) (length found.old) }
+        ensures keys { list_map (option_map Q.key) (take result found.new) ≡ list_map
+            (λ key. option_map (λ e. e.0) (longest (Q.key key) (map.entries self.now)))
+            (take result keys.now) }
+        ensures behind { drop result found.new ≡ drop result found.old }
+        ensures as_many { length found.new ≡ length found.old }
+    {
+        let n = keys.len().min(found.len());
+        self.tree.longest_keys(&keys[..n], &mut found[..n]);
+        n
+    }
+
+    // Returns the longest prefix of each key, without the value there.
+    pub(crate) fn longest_keys<Q: BorrowedBytes<Owned = K>>(
+        &self,
+        keys: &[Q],
+    ) -> Result<Vec<Option<Q>>, AllocError>
+        ensures keys { IfOk result (λ prefixes. list_map (option_map Q.key) prefixes.items
+            ≡ list_map (λ key. option_map (λ e. e.0) (longest (Q.key key) (map.entries self.now)))
+            keys.now) }
+        ensures err_only_nonempty { OnErr result (keys.now ≢ []) }
+    {
+        let mut prefixes = Vec::new(self.tree.alloc());
+        prefixes.resize(keys.len(), None)?;
+        self.longest_keys_into(keys, prefixes.as_mut_slice());
+        Ok(prefixes)
+    }
 }

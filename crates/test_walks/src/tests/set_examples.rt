@@ -73,6 +73,25 @@ fn contains_many(rt: HostRuntime) {
 }
 
 #[test]
+fn longest_many_into(rt: HostRuntime) {
+    // example: set longest_many_into
+    let set = set_of(&rt, rt.alloc(), &["foo", "bar"]);
+    let mut found = [None; 2];
+    same!(rt; set.longest_many_into(&["foot", "fo", "bar"], &mut found), 2);
+    same!(rt; found.as_slice(), [Some("foo"), None].as_slice());
+    // end
+}
+
+#[test]
+fn longest_many(rt: HostRuntime) {
+    // example: set longest_many
+    let set = set_of(&rt, rt.alloc(), &["", "foo"]);
+    let found = done(&rt, set.longest_many(&["foot", "bar"]));
+    same!(rt; found.as_slice(), [Some("foo"), Some("")].as_slice());
+    // end
+}
+
+#[test]
 fn get_longest_common_prefix(rt: HostRuntime) {
     // example: set get_longest_common_prefix
     let mut set = StringPatriciaSet::new(rt.alloc());
