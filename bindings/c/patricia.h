@@ -249,8 +249,9 @@ uint32_t patricia_get_many(const patricia_map *map, const uint8_t *keys, size_t 
                            const size_t *lens, size_t count, uint64_t *values, size_t values_size,
                            uint8_t *found, size_t found_size);
 
-/* Asks for each key as patricia_longest_prefix does: writes 1 to `found` and the length and the
- * value of the longest prefix to the others where there is one, and else 0 to `found`. */
+/* Asks for each key as patricia_longest_prefix does, up to 32 keys side by side: writes 1 to
+ * `found` and the length and the value of the longest prefix to the others where there is one, and
+ * else 0 to `found`. */
 uint32_t patricia_longest_prefix_many(const patricia_map *map, const uint8_t *keys,
                                       size_t keys_size, const size_t *lens, size_t count,
                                       size_t *prefix_lens, size_t prefix_lens_size,

@@ -121,6 +121,7 @@ static void is_whole(patricia_map *copy)
         CHECK(calls##longest_prefix_many(from, bytes, len, lens, COUNT, fronts, COUNT, values,     \
                                          COUNT, found, COUNT) == PATRICIA_DONE);                   \
         CHECK(found[17] == 1 && fronts[17] == KEY && values[17] == 17);                            \
+        CHECK(found[COUNT - 1] == 1 && fronts[COUNT - 1] == KEY);                                  \
         write_key(17, key);                                                                        \
         write_key(20, array);                                                                      \
         CHECK(patricia_cursor_seek_range(&cursor, key, KEY, array, KEY));                          \

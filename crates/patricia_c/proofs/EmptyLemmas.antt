@@ -8,8 +8,9 @@ use Rattle.std.specs.FinMap.{get-empty, len-empty, len-entries, len-remove, empt
 use mathlib.Core.Bool.{cond}
 use Rattle.patricia_tree.specs.ByteKind.{IsByteItem}
 use Rattle.patricia_tree.specs.Keys.{key_cmp}
-use Rattle.patricia_tree.specs.Prefixes.{IsReach}
+use Rattle.patricia_tree.specs.Prefixes.{IsReach, longest}
 use Rattle.patricia_c.specs.declared.map_pointer.StoredMap.{StoredMap}
+use Rattle.patricia_c.specs.Many.{measured}
 use Rattle.patricia_c.specs.Maps.{map_of}
 
 abbrev Map : Type 0
@@ -34,6 +35,10 @@ module _ (o : Option StoredMap) (none : None ≡ o) where
 
   pub none_entries : map.entries (map_of o) ≡ []
   none_entries = subst (λ (o : Option StoredMap). map.entries (map_of o) ≡ []) none empty_entries
+
+  -- no key is a prefix of another
+  pub none_longest : (k : List ℕ) → measured (longest k (map.entries (map_of o))) ≡ None
+  none_longest k = ap (λ es. measured (longest k es)) none_entries
 
   pub none_remove : (k : List ℕ) → map.empty ≡ map.remove (map_of o) k
   none_remove k = subst (λ (o : Option StoredMap). map.empty ≡ map.remove (map_of o) k) none (sym (empty_remove k))

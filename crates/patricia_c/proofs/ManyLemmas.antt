@@ -80,6 +80,11 @@ answers_of bytes_of g answer qs xs bytes lens n m count as_many room got are =
     ∙ ap (list_map (λ q. answer (bytes_of q))) (take_all n qs (omega (arith, count, as_many, room, long)))
     ∙ sym (map-map answer bytes_of qs) ∙ ap (list_map answer) are
 
+-- what is told of each answer
+pub told_of : {X K Y Z : Type 0} (h : Y → Z) (g : X → Y) (answer : K → Y) (xs : List X) (keys : List K)
+    → list_map g xs ≡ list_map answer keys → list_map (λ x. h (g x)) xs ≡ list_map (λ key. h (answer key)) keys
+told_of h g answer xs keys same = sym (map-map h g xs) ∙ ap (list_map h) same ∙ map-map h answer keys
+
 module _ {A : Type 0} (becomes : Option A → ℕ → ℕ) where
   -- no place is added or lost
   pub length-written : (answers : List (Option A)) (held : List ℕ) → length (written becomes answers held) ≡ length held
@@ -107,25 +112,6 @@ module _ {A : Type 0} (becomes : Option A → ℕ → ℕ) where
   written_next (b ∷ answers) a (n ∷ held) zero long within = absurd (omega (arith, long))
   written_next (b ∷ answers) a (n ∷ held) (suc i) long within =
       ap (λ l. becomes b n ∷ l) (written_next answers a held i (omega (arith, long)) (omega (arith, within)))
-
-  -- so many keys were looked up, and one more
-  pub written_more : (answer : List ℕ → Option A) (bytes lens held now : List ℕ) (i used : ℕ)
-      → i < length lens → length lens ≤ length held → used ≡ sum (take i lens)
-      → now ≡ written becomes (list_map answer (keys_in bytes (take i lens))) held
-      → (a : Option A) → a ≡ answer (take (used + get_or lens i 0 - used) (drop used bytes))
-      → set now i (becomes a (get_or now i 0))
-      ≡ written becomes (list_map answer (keys_in bytes (take (i + 1) lens))) held
-  written_more answer bytes lens held now i used within fits at is a found =
-      let long : length (list_map answer (keys_in bytes (take i lens))) ≡ i =
-      length-map (keys_in bytes (take i lens)) answer ∙ length-keys_in bytes (take i lens) ∙ length-take-le i lens (omega (arith, within)) in
-      let one : used + get_or lens i 0 - used ≡ get_or lens i 0 = omega arith in
-      let here : a ≡ answer (take (get_or lens i 0) (drop (sum (take i lens)) bytes)) =
-      found ∙ ap (λ n. answer (take n (drop used bytes))) one ∙ ap (λ n. answer (take (get_or lens i 0) (drop n bytes))) at in
-      ap (λ l. set l i (becomes a (get_or l i 0))) is
-      ∙ written_next (list_map answer (keys_in bytes (take i lens))) a held i long (omega (arith, within, fits))
-      ∙ ap (λ b. written becomes (list_map answer (keys_in bytes (take i lens)) ++ b ∷ []) held) here
-      ∙ ap (λ l. written becomes l held) (sym (map-append answer (keys_in bytes (take i lens)) _))
-      ∙ ap (λ l. written becomes (list_map answer l) held) (sym (keys_in_more bytes lens i within))
 
   -- so many answers were written, and one more
   pub written_one : {X : Type 0} (g : X → Option A) (xs : List X) (d : X) (held now : List ℕ) (i : ℕ)

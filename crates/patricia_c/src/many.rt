@@ -2,7 +2,7 @@
 ghost use Rattle.std.specs.Prelude.{◌≡◌, ◌≤◌, ◌<◌, length, true, false};
 ghost use Rattle.std.specs.Prelude.{Some, None, map as list_map, get_or, set};
 ghost use Rattle.std.specs.List.{sum};
-ghost use Rattle.std.specs.Option.{option_copied};
+ghost use Rattle.std.specs.Option.{option_copied, option_map};
 ghost use Rattle.std.specs.FinMap as map;
 ghost use Rattle.patricia_tree.specs.Prefixes.{longest};
 ghost use Rattle.patricia_c.specs.Many.{AnswersLongest, AnswersMany, flag, keys_in, measured};
@@ -197,15 +197,11 @@ pub extern "C" fn patricia_get_many(
     }
 }
 
-// The length and the value of the longest key that is a prefix of this one.
-fn longest_at(stored: Option<&StoredMap>, key: &[u8]) -> Option<(usize, u64)>
-    ensures { result ≡ measured (longest key.now
-        (map.entries (map_of (option_copied stored.entry)))) }
+// The length of a prefix that was found, and its value.
+fn measure(answer: Option<(&[u8], &u64)>) -> Option<(usize, u64)>
+    ensures { result ≡ measured (option_map (λ e. (e.0.now, e.1.now)) answer.entry) }
 {
-    let Some(stored) = stored else {
-        return None;
-    };
-    match stored.map.get_longest_common_prefix(key) {
+    match answer {
         Some((front, value)) => Some((front.len(), *value)),
         None => None,
     }
@@ -238,6 +234,103 @@ fn write_longest(
     }
 }
 
+// Writes the answers of a block, one behind the other.
+fn write_prefixes(
+    answers: &[Option<(&[u8], &u64)>],
+    prefix_lens: &mut [usize],
+    values: &mut [u64],
+    found: &mut [u8],
+)
+    requires lens_fit { length answers.now ≤ length prefix_lens.old }
+    requires values_fit { length answers.now ≤ length values.old }
+    requires found_fit { length answers.now ≤ length found.old }
+    ensures lens { prefix_lens.new ≡ written (number (λ e. e.0)) (list_map
+        (λ answer. measured (option_map (λ e. (e.0.now, e.1.now)) answer)) answers.now)
+        prefix_lens.old }
+    ensures values { values.new ≡ written (number (λ e. e.1)) (list_map
+        (λ answer. measured (option_map (λ e. (e.0.now, e.1.now)) answer)) answers.now)
+        values.old }
+    ensures found { found.new ≡ written flag (list_map
+        (λ answer. measured (option_map (λ e. (e.0.now, e.1.now)) answer)) answers.now)
+        found.old }
+{
+    let mut i = 0;
+    while i < answers.len() {
+        write_longest(measure(answers[i]), i, prefix_lens, values, found);
+        i += 1;
+    }
+}
+
+// Looks up the longest prefixes of a block of keys side by side, and writes their answers. Returns
+// how many bytes the keys have.
+fn longest_block(
+    stored: &StoredMap,
+    keys: &[u8],
+    lens: &[usize],
+    prefix_lens: &mut [usize],
+    values: &mut [u64],
+    found: &mut [u8],
+) -> usize
+    requires few { length lens.now ≤ 32 }
+    requires keys_fit { sum lens.now ≤ length keys.now }
+    requires lens_fit { length lens.now ≤ length prefix_lens.old }
+    requires values_fit { length lens.now ≤ length values.old }
+    requires found_fit { length lens.now ≤ length found.old }
+    ensures used { result ≡ sum lens.now }
+    ensures lens { prefix_lens.new ≡ written (number (λ e. e.0)) (list_map
+        (λ key. measured (longest key (map.entries stored.now.map)))
+        (keys_in keys.now lens.now)) prefix_lens.old }
+    ensures values { values.new ≡ written (number (λ e. e.1)) (list_map
+        (λ key. measured (longest key (map.entries stored.now.map)))
+        (keys_in keys.now lens.now)) values.old }
+    ensures found { found.new ≡ written flag (list_map
+        (λ key. measured (longest key (map.entries stored.now.map)))
+        (keys_in keys.now lens.now)) found.old }
+{
+    let mut block: [&[u8]; SIDE_BY_SIDE] = array::from_fn(|_| keys);
+    let block = &mut block[..lens.len()];
+    let used = cut_keys(keys, lens, block);
+    let mut answers: [Option<(&[u8], &u64)>; SIDE_BY_SIDE] = [None; SIDE_BY_SIDE];
+    let answers = &mut answers[..lens.len()];
+    stored.map.longest_many_into(block, answers);
+    write_prefixes(answers, prefix_lens, values, found);
+    used
+}
+
+// Looks up the longest prefixes of keys, a block of them after the other.
+fn longest_blocks(
+    stored: &StoredMap,
+    keys: &[u8],
+    lens: &[usize],
+    prefix_lens: &mut [usize],
+    values: &mut [u64],
+    found: &mut [u8],
+)
+    requires keys_fit { sum lens.now ≤ length keys.now }
+    requires lens_fit { length lens.now ≤ length prefix_lens.old }
+    requires values_fit { length lens.now ≤ length values.old }
+    requires found_fit { length lens.now ≤ length found.old }
+    ensures lens { prefix_lens.new ≡ written (number (λ e. e.0)) (list_map
+        (λ key. measured (longest key (map.entries stored.now.map)))
+        (keys_in keys.now lens.now)) prefix_lens.old }
+    ensures values { values.new ≡ written (number (λ e. e.1)) (list_map
+        (λ key. measured (longest key (map.entries stored.now.map)))
+        (keys_in keys.now lens.now)) values.old }
+    ensures found { found.new ≡ written flag (list_map
+        (λ key. measured (longest key (map.entries stored.now.map)))
+        (keys_in keys.now lens.now)) found.old }
+{
+    let mut used = 0;
+    let mut i = 0;
+    while i < lens.len() {
+        let end = i + (lens.len() - i).min(SIDE_BY_SIDE);
+        let (rest, block) = (&keys[used..], &lens[i..end]);
+        let (sizes, numbers) = (&mut prefix_lens[i..end], &mut values[i..end]);
+        used += longest_block(stored, rest, block, sizes, numbers, &mut found[i..end]);
+        i = end;
+    }
+}
+
 // Looks up the longest prefix of each key, and writes its answer.
 fn longest_each(
     stored: Option<&StoredMap>,
@@ -261,15 +354,11 @@ fn longest_each(
         (λ key. measured (longest key (map.entries (map_of (option_copied stored.entry)))))
         (keys_in keys.now lens.now)) found.old }
 {
-    let mut used = 0;
-    let mut i = 0;
-    while i < lens.len() {
-        let end = used + lens[i];
-        let answer = longest_at(stored, &keys[used..end]);
-        write_longest(answer, i, prefix_lens, values, found);
-        used = end;
-        i += 1;
-    }
+    let Some(stored) = stored else {
+        found[..lens.len()].fill(0);
+        return;
+    };
+    longest_blocks(stored, keys, lens, prefix_lens, values, found);
 }
 
 // Looks up the longest prefix of each key, where there is room for the answers.
@@ -296,10 +385,10 @@ pub(crate) fn longest_prefix_many(
 }
 
 /// Looks up the longest key that is a prefix, for many keys: those of these lengths that lie one
-/// behind the other in `keys`. Writes to `found`, for each in turn, 1 where there is one, and then
-/// its length to `prefix_lens` and its value to `values`, and else 0. Returns `DONE`; or `NO_ROOM`
-/// where one of the three has fewer places than there are lengths, or the lengths reach behind
-/// `keys`: nothing is written then. Does not allocate.
+/// behind the other in `keys`, up to 32 of them side by side. Writes to `found`, for each in turn,
+/// 1 where there is one, and then its length to `prefix_lens` and its value to `values`, and else
+/// 0. Returns `DONE`; or `NO_ROOM` where one of the three has fewer places than there are lengths,
+/// or the lengths reach behind `keys`: nothing is written then. Does not allocate.
 #[unsafe(no_mangle)]
 pub extern "C" fn patricia_longest_prefix_many(
     at: &mut MapPlace,

@@ -1,19 +1,35 @@
-use Rattle.std.proofs.Common.{arith, ◌∙◌}
-use Rattle.std.proofs.lemmas.List.Sums.{sum_by_more}
-use Rattle.patricia_c.specs.Many.{flag, number}
-use Rattle.patricia_c.proofs.ManyLemmas.{written_more}
+use Rattle.std.proofs.Common.{◌≡◌, List, ℕ, None, refl, sym, ap, ◌∙◌, ◌++◌, length, drop, replicate}
+use Rattle.std.proofs.lemmas.List.{length-take-le}
+use Rattle.std.specs.Option.{option_copied}
+use Rattle.std.specs.FinMap as map
+use Rattle.patricia_tree.specs.Prefixes.{longest}
+use Rattle.patricia_c.specs.Many.{measured}
+use Rattle.patricia_c.specs.Maps.{map_of}
+use Rattle.patricia_c.proofs.EmptyLemmas.{none_longest}
+use Rattle.patricia_c.proofs.ManyLemmas.{flags_fall, numbers_stay}
 use Rattle.patricia_c.proofs.many.longest_each.Goals as goal
 
-pub loop-i-preserved : goal.loop-i-preserved
-loop-i-preserved c =
-    let inv = c.loop-i.invariant in
-    let more = sum_by_more (λ x. x) c.args.lens.now c.loop-i.i 0 c.loop-i-test.true in (
-      omega (arith, c.loop-i-test.true),
-      omega (arith, inv.1, more),
-      c.write_longest.ensures.lens ∙ written_more (number (λ e. e.0)) _ c.args.keys.now c.args.lens.now c.args.prefix_lens.now c.loop-i.prefix_lens c.loop-i.i c.loop-i.used
-          c.loop-i-test.true c.requires.lens_fit inv.1 inv.2 _ c.longest_at-answer.ensures,
-      c.write_longest.ensures.values ∙ written_more (number (λ e. e.1)) _ c.args.keys.now c.args.lens.now c.args.values.now c.loop-i.values c.loop-i.i c.loop-i.used
-          c.loop-i-test.true c.requires.values_fit inv.1 inv.3 _ c.longest_at-answer.ensures,
-      c.write_longest.ensures.found ∙ written_more flag _ c.args.keys.now c.args.lens.now c.args.found.now c.loop-i.found c.loop-i.i c.loop-i.used
-          c.loop-i-test.true c.requires.found_fit inv.1 inv.4 _ c.longest_at-answer.ensures,
-    )
+pub returns-in_default-clause-lens : goal.returns-in_default-clause-lens
+returns-in_default-clause-lens c =
+    numbers_stay
+    (λ key. measured (longest key (map.entries (map_of (option_copied c.args.stored)))))
+    (none_longest _ (sym (ap option_copied c.in_default.is))) (λ e. e.0) c.args.keys.now
+    c.args.lens.now c.args.prefix_lens.now
+
+pub returns-in_default-clause-values : goal.returns-in_default-clause-values
+returns-in_default-clause-values c =
+    numbers_stay
+    (λ key. measured (longest key (map.entries (map_of (option_copied c.args.stored)))))
+    (none_longest _ (sym (ap option_copied c.in_default.is))) (λ e. e.1) c.args.keys.now
+    c.args.lens.now c.args.values.now
+
+pub returns-in_default-clause-found : goal.returns-in_default-clause-found
+returns-in_default-clause-found c =
+    ap (λ l. l ++ drop (length c.args.lens.now) c.args.found.now)
+    (c.fill.ensures.after (λ y same. same))
+    ∙ ap (λ n. replicate n 0 ++ drop (length c.args.lens.now) c.args.found.now)
+    (length-take-le (length c.args.lens.now) c.args.found.now c.requires.found_fit)
+    ∙ flags_fall
+    (λ key. measured (longest key (map.entries (map_of (option_copied c.args.stored)))))
+    (none_longest _ (sym (ap option_copied c.in_default.is))) c.args.keys.now c.args.lens.now
+    c.args.found.now (length c.args.lens.now) refl c.requires.found_fit
