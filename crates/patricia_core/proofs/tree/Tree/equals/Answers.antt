@@ -1,8 +1,7 @@
-use Rattle.std.proofs.Common.{◌≡◌, ◌++◌, refl, sym, subst, ◌∙◌}
+use Rattle.std.proofs.Common.{◌≡◌, refl, subst, ◌∙◌}
 use Rattle.std.specs.Prelude.{IfOk}
-use Rattle.std.specs.FinMap as map
 use Rattle.patricia_model.specs.Siblings.{own}
-use Rattle.patricia_nodes.specs.Internal.Plans.{siblings_of, entries_of}
+use Rattle.patricia_nodes.specs.Internal.Plans.{entries_of}
 use Rattle.patricia_walks.specs.Equality.{are_same_entries}
 use Rattle.patricia_walks.proofs.LowerLemmas.{then_at_error}
 use Rattle.patricia_walks.proofs.SearchLemmas.{some_left}
