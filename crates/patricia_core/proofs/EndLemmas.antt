@@ -32,19 +32,23 @@ module _ (item : List ℕ → Type 0) (kind : IsKeyKind item) {V : Type 0} where
   entries_none v r ok none = entries_map item kind v r ok ∙ ap (λ w. own w ++ entries r) none
 
   -- where its nodes have entries, it has
-  pub nodes_filled : (v : Option V) (r : Siblings V) (m : FinMap key_cmp V) → IsCanonical item r → map_of v r ≡ m
+  pub nodes_filled : (v : Option V) (r : Siblings V) (m : FinMap key_cmp V) → IsCanonical item r
+      → map_of v r ≡ m
       → entries r ≢ [] → map.entries m ≢ []
-  nodes_filled v r m ok is some none = by v (sym (entries_map item kind v r ok) ∙ ap map.entries is ∙ none)
+  nodes_filled v r m ok is some none = by v (sym (entries_map item kind v r ok) ∙ ap map.entries is
+      ∙ none)
     where
       by : (v : Option V) → own v ++ entries r ≡ [] → ⊥
       by None e = some e
       by (Some x) e = absurd (cc)
 
   -- and so it has with the empty key
-  pub value_filled : {A E : Type 0} (v : Option V) (s : Siblings V) (m : FinMap key_cmp V) → IsCanonical item s
+  pub value_filled : {A E : Type 0} (v : Option V) (s : Siblings V) (m : FinMap key_cmp V)
+      → IsCanonical item s
       → map_of v s ≡ m → (r : Result A E) → OnErr r (v ≢ None) → OnErr r (map.entries m ≢ [])
   value_filled v s m ok is (Ok x) h = tt
-  value_filled v s m ok is (Err e) h = λ none. by v h (sym (entries_map item kind v s ok) ∙ ap map.entries is ∙ none)
+  value_filled v s m ok is (Err e) h = λ none. by v h
+      (sym (entries_map item kind v s ok) ∙ ap map.entries is ∙ none)
     where
       by : (v : Option V) → v ≢ None → own v ++ entries s ≡ [] → ⊥
       by None some e = some refl
@@ -54,7 +58,8 @@ module _ (item : List ℕ → Type 0) (kind : IsKeyKind item) {V : Type 0} where
     -- the first entry of the nodes is that of a tree without the empty key
     pub pops_first : (v : Option V) (r s : Siblings V) (m : FinMap key_cmp V) → IsCanonical item r
         → IsCanonical item s → map_of v r ≡ m → v ≡ None → (o p : Option A) → o ≡ p
-        → TakesFirst shows (entries r) o (entries s) → TakesFirst shows (map.entries m) p (map.entries (map_of v s))
+        → TakesFirst shows (entries r) o (entries s)
+        → TakesFirst shows (map.entries m) p (map.entries (map_of v s))
     pops_first v r s m ok ok' is none o p same taken =
         let old : map.entries m ≡ entries r = ap map.entries (sym is) ∙ entries_none v r ok none in
         let new : map.entries (map_of v s) ≡ entries s = entries_none v s ok' none in
@@ -75,7 +80,8 @@ module _ (item : List ℕ → Type 0) (kind : IsKeyKind item) {V : Type 0} where
       -- the empty key is the first
       pub empty_first : is_some v ≡ true → (r : Result (Option A) E)
           → IfOk r (λ o. option_map shows o ≡ option_map {U = List ℕ × V} (λ v. ([], v)) v)
-          → OnOk r (w ≡ None) → IfOk r (λ o. TakesFirst shows (map.entries m) o (map.entries (map_of w s)))
+          → OnOk r (w ≡ None) → IfOk r (λ o. TakesFirst shows (map.entries m) o
+          (map.entries (map_of w s)))
       empty_first some (Err e) got left = tt
       empty_first some (Ok o) got left = by v refl some got
         where
@@ -85,7 +91,8 @@ module _ (item : List ℕ → Type 0) (kind : IsKeyKind item) {V : Type 0} where
           by None same none got = absurd (cc)
           by (Some x) same some got =
               let a = shown shows x o got in
-              let old : map.entries m ≡ ([], x) ∷ entries s = ap map.entries (sym is) ∙ entries_map item kind v s ok ∙ ap (λ u. own u ++ entries s) same in
+              let old : map.entries m ≡ ([], x) ∷ entries s = ap map.entries (sym is)
+              ∙ entries_map item kind v s ok ∙ ap (λ u. own u ++ entries s) same in
               let new : map.entries (map_of w s) ≡ entries s = entries_none w s ok left in
               rw a.1 (rw (a.2, new) old)
 
@@ -93,7 +100,8 @@ module _ (item : List ℕ → Type 0) (kind : IsKeyKind item) {V : Type 0} where
       pub empty_last : (t : Siblings V) → IsCanonical item t → entries s ≡ [] → entries t ≡ []
           → (r : Result (Option A) E)
           → IfOk r (λ o. option_map shows o ≡ option_map {U = List ℕ × V} (λ v. ([], v)) v)
-          → OnOk r (w ≡ None) → IfOk r (λ o. TakesLast shows (map.entries m) o (map.entries (map_of w t)))
+          → OnOk r (w ≡ None) → IfOk r (λ o. TakesLast shows (map.entries m) o
+          (map.entries (map_of w t)))
       empty_last t ok' none none' (Err e) got left = tt
       empty_last t ok' none none' (Ok o) got left = by v refl got
         where
@@ -104,9 +112,12 @@ module _ (item : List ℕ → Type 0) (kind : IsKeyKind item) {V : Type 0} where
               → option_map shows o ≡ option_map {U = List ℕ × V} (λ v. ([], v)) u
               → TakesLast shows (map.entries m) o (map.entries (map_of w t))
           by None same got =
-              let old : map.entries m ≡ [] = ap map.entries (sym is) ∙ entries_none v s ok same ∙ none in
+              let old : map.entries m ≡ [] = ap map.entries (sym is) ∙ entries_none v s ok same
+              ∙ none in
               rw (shown_none shows o got) (old, new)
           by (Some x) same got =
               let a = shown shows x o got in
-              let old : map.entries m ≡ ([], x) ∷ [] = ap map.entries (sym is) ∙ entries_map item kind v s ok ∙ ap (λ u. own u ++ entries s) same ∙ ap (λ es. ([], x) ∷ es) none in
+              let old : map.entries m ≡ ([], x) ∷ [] = ap map.entries (sym is)
+              ∙ entries_map item kind v s ok ∙ ap (λ u. own u ++ entries s) same
+              ∙ ap (λ es. ([], x) ∷ es) none in
               rw a.1 (rw (a.2, new) old)

@@ -45,7 +45,8 @@ module _ (item : List ℕ → Type 0) (kind : IsKeyKind item) {V : Type 0} (s : 
   pub root_filled : (id : ℕ) → s.root ≡ Some id → entries_of s ≢ []
   root_filled id root = by (plan_at s.nodes.items s.root) (sym root ∙ (whole_plan s whole).at_is) ok
     where
-      by : (q : Plan V) → Some id ≡ head q → IsCanonical item (siblings_in q) → entries (siblings_in q) ≢ []
+      by : (q : Plan V) → Some id ≡ head q → IsCanonical item (siblings_in q)
+          → entries (siblings_in q) ≢ []
       by Nil e ok none = absurd (cc)
       by (Cell i l v c d) e ok none =
           let some = has_entry item kind None l v (siblings_in c) (siblings_in d) ok in
@@ -54,7 +55,8 @@ module _ (item : List ℕ → Type 0) (kind : IsKeyKind item) {V : Type 0} (s : 
 
   -- and where there is none there are none
   pub root_none : s.root ≡ None → entries_of s ≡ []
-  root_none root = ap (λ (q : Plan V). entries (siblings_in q)) (plan_end s.nodes.items s.root (plan_at s.nodes.items s.root) (whole_plan s whole) root)
+  root_none root = ap (λ (q : Plan V). entries (siblings_in q))
+      (plan_end s.nodes.items s.root (plan_at s.nodes.items s.root) (whole_plan s whole) root)
 
 module _ {item : List ℕ → Type 0} (kind : IsKeyKind item) {V : Type 0} {s : NodeArena V}
     (whole : IsWellFormed s) (ok : IsCanonical item (siblings_of s)) where
@@ -80,7 +82,8 @@ module _ {item : List ℕ → Type 0} (kind : IsKeyKind item) {V : Type 0} {s : 
 
     -- what is read from the node on is the plan in the place
     focus_plan : IsPlan s.nodes.items (Some id) w.focus
-    focus_plan = plan_within s.nodes.items s.root (Some id) w.frames w.focus (rw w.fills (whole_plan s whole)) w.at_is
+    focus_plan = plan_within s.nodes.items s.root (Some id) w.frames w.focus
+        (rw w.fills (whole_plan s whole)) w.at_is
 
     -- the node is in the vector
     pub come_within : id < length s.nodes.items
@@ -97,15 +100,18 @@ module _ {item : List ℕ → Type 0} (kind : IsKeyKind item) {V : Type 0} {s : 
 
       -- the node is the first of siblings
       come_siblings : IsCanonical item (siblings_in cell)
-      come_siblings = subst (λ (p : Plan V). IsCanonical item (siblings_in p)) come_open.is (siblings-within item w.frames w.focus filled_siblings)
+      come_siblings = subst (λ (p : Plan V). IsCanonical item (siblings_in p)) come_open.is
+          (siblings-within item w.frames w.focus filled_siblings)
 
       -- the path with the node's label is valid
       pub come_valid : IsValid item (path ++ n.label)
       come_valid = IsValid-append item path n.label w.valid come_siblings.valid
 
       -- from the node the descent goes on at its first child
-      pub comes_down : (child : ℕ) → n.child ≡ Some child → (longer : List ℕ) → longer ≡ path ++ n.label
-          → past (InChild id n.label n.value come_open.sibling ∷ w.frames) → Comes item past s (Child id) child longer
+      pub comes_down : (child : ℕ) → n.child ≡ Some child → (longer : List ℕ)
+          → longer ≡ path ++ n.label
+          → past (InChild id n.label n.value come_open.sibling ∷ w.frames)
+          → Comes item past s (Child id) child longer
       comes_down child is longer joined more = record {
         frames = InChild id n.label n.value come_open.sibling ∷ w.frames;
         focus = come_open.child;
@@ -118,13 +124,16 @@ module _ {item : List ℕ → Type 0} (kind : IsKeyKind item) {V : Type 0} {s : 
       }
 
       -- or at its sibling
-      pub comes_next : (next : ℕ) → n.sibling ≡ Some next → (above : Option ℕ) → above ≡ node_above link_ref
-          → past (InSibling id n.label n.value come_open.child ∷ w.frames) → Comes item past s (Sibling id above) next path
+      pub comes_next : (next : ℕ) → n.sibling ≡ Some next → (above : Option ℕ)
+          → above ≡ node_above link_ref
+          → past (InSibling id n.label n.value come_open.child ∷ w.frames)
+          → Comes item past s (Sibling id above) next path
       comes_next next is above a more = record {
         frames = InSibling id n.label n.value come_open.child ∷ w.frames;
         focus = come_open.sibling;
         fills = ap (fill w.frames) (sym come_open.is) ∙ w.fills;
-        link_ref_is = ap (Sibling id) (a ∙ ap node_above w.link_ref_is ∙ node_above-link_ref_of w.frames);
+        link_ref_is = ap (Sibling id) (a ∙ ap node_above w.link_ref_is
+            ∙ node_above-link_ref_of w.frames);
         at_is = sym is ∙ come_open.sibling_plan.at_is;
         path_is = w.path_is;
         valid = w.valid;
@@ -132,44 +141,54 @@ module _ {item : List ℕ → Type 0} (kind : IsKeyKind item) {V : Type 0} {s : 
       }
 
       -- from the node on there are itself, the nodes below it and those beside it
-      measure : size (plan_at s.nodes.items (Some id)) ≡ suc (size come_open.child + size come_open.sibling)
+      measure : size (plan_at s.nodes.items (Some id)) ≡ suc
+          (size come_open.child + size come_open.sibling)
       measure = ap size (plan_is s.nodes.items (Some id) w.focus focus_plan ∙ come_open.is)
 
       -- from its child on there are fewer
       pub less_child : (child : ℕ) → n.child ≡ Some child
           → size (plan_at s.nodes.items (Some child)) < size (plan_at s.nodes.items (Some id))
       less_child child is =
-          let below = ap size (plan_is s.nodes.items n.child come_open.child come_open.child_plan) in
+          let below = ap size (plan_is s.nodes.items n.child come_open.child
+          come_open.child_plan) in
           omega (arith, measure, ap (λ at. size (plan_at s.nodes.items at)) (sym is) ∙ below)
 
       -- and from its sibling on
       pub less_sibling : (next : ℕ) → n.sibling ≡ Some next
           → size (plan_at s.nodes.items (Some next)) < size (plan_at s.nodes.items (Some id))
       less_sibling next is =
-          let beside = ap size (plan_is s.nodes.items n.sibling come_open.sibling come_open.sibling_plan) in
+          let beside = ap size (plan_is s.nodes.items n.sibling come_open.sibling
+          come_open.sibling_plan) in
           omega (arith, measure, ap (λ at. size (plan_at s.nodes.items at)) (sym is) ∙ beside)
 
       -- a node without children has a value
       pub leaf_valued : n.child ≡ None → (x : V) × (n.value ≡ Some x)
       leaf_valued none =
-          by n.value (siblings_in come_open.child) (siblings_in come_open.sibling) (ap siblings_in (plan_end s.nodes.items n.child come_open.child come_open.child_plan none)) come_siblings
+          by n.value (siblings_in come_open.child) (siblings_in come_open.sibling)
+          (ap siblings_in (plan_end s.nodes.items n.child come_open.child come_open.child_plan
+          none)) come_siblings
         where
-          by : (v : Option V) (c d : Siblings V) → c ≡ end → IsCanonical item (node n.label v c d) → (x : V) × (v ≡ Some x)
+          by : (v : Option V) (c d : Siblings V) → c ≡ end → IsCanonical item (node n.label v c d)
+              → (x : V) × (v ≡ Some x)
           by (Some x) c d is ok = (x, refl)
           by None c d is ok = let earns = rw is at ok.earns in absurd earns
 
       -- one without a sibling is the last of its siblings
       pub no_sibling : n.sibling ≡ None → come_open.sibling ≡ Nil
-      no_sibling none = plan_end s.nodes.items n.sibling come_open.sibling come_open.sibling_plan none
+      no_sibling none = plan_end s.nodes.items n.sibling come_open.sibling come_open.sibling_plan
+          none
 
       -- a node with a value is that of the key that the path with its label is
       pub place_come : (x : V) → n.value ≡ Some x → IsPlaceOf item s (path ++ n.label) link_ref id
       place_come x value =
-          let filled = subst (λ (q : Plan V). IsCanonical item (siblings_in (fill w.frames q))) come_open.is filled_siblings in
+          let filled = subst (λ (q : Plan V). IsCanonical item (siblings_in (fill w.frames q)))
+          come_open.is filled_siblings in
           let below = entries (siblings_in come_open.child) in
           let beside = entries (siblings_in come_open.sibling) in
-          let has = subst (λ v. Has (keys_of (prefixed n.label (own v ++ below) ++ beside)) n.label) (sym value) (inl (append-nil n.label)) in
-          let leads = leads-fill item kind w.frames cell filled n.label has come_siblings.nonempty in (
+          let has = subst (λ v. Has (keys_of (prefixed n.label (own v ++ below) ++ beside)) n.label)
+          (sym value) (inl (append-nil n.label)) in
+          let leads = leads-fill item kind w.frames cell filled n.label has
+          come_siblings.nonempty in (
             n.label,
             record {
               frames = w.frames;
@@ -179,17 +198,23 @@ module _ {item : List ℕ → Type 0} (kind : IsKeyKind item) {V : Type 0} {s : 
               at_is = w.at_is;
               leads = rw w.path_is leads;
               rest_nonempty = come_siblings.nonempty;
-              is_match = subst (λ (q : Plan V). Matches item q n.label (Exact id)) (sym come_open.is)
-                  (refl, rw append-nil at (passes_label item kind n.label [] come_siblings.valid come_siblings.nonempty));
+              is_match = subst (λ (q : Plan V). Matches item q n.label (Exact id))
+                  (sym come_open.is) (
+                    refl,
+                    rw append-nil at (passes_label item kind n.label [] come_siblings.valid
+                        come_siblings.nonempty),
+                  );
             },
           )
 
       -- the plan of all nodes, with this one in the place
       entries_are : entries_of s ≡ entries (siblings_in (fill w.frames cell))
-      entries_are = ap (λ (q : Plan V). entries (siblings_in q)) (sym w.fills ∙ ap (fill w.frames) come_open.is)
+      entries_are = ap (λ (q : Plan V). entries (siblings_in q))
+          (sym w.fills ∙ ap (fill w.frames) come_open.is)
 
       -- and its key is the first where no entry comes before those in the place
-      pub first_come : AreFirst w.frames → (x : V) → n.value ≡ Some x → IsFirstKey (entries_of s) (path ++ n.label)
+      pub first_come : AreFirst w.frames → (x : V) → n.value ≡ Some x
+          → IsFirstKey (entries_of s) (path ++ n.label)
       first_come first x value =
           let below = entries (siblings_in come_open.child) in
           let beside = entries (siblings_in come_open.sibling) in
@@ -198,24 +223,32 @@ module _ {item : List ℕ → Type 0} (kind : IsKeyKind item) {V : Type 0} {s : 
             x,
             prefixed front (prefixed n.label below ++ beside) ++ around.0,
             entries_are ∙ around.1
-                ∙ ap (λ v. prefixed front (prefixed n.label (own v ++ below) ++ beside) ++ around.0) value
-                ∙ ap (λ k. (front ++ k, x) ∷ (prefixed front (prefixed n.label below ++ beside) ++ around.0)) (append-nil n.label)
-                ∙ ap (λ p. (p ++ n.label, x) ∷ (prefixed front (prefixed n.label below ++ beside) ++ around.0)) (sym w.path_is),
+                ∙ ap (λ v. prefixed front (prefixed n.label (own v ++ below) ++ beside) ++ around.0)
+                value
+                ∙ ap (λ k. (front ++ k, x) ∷ (prefixed front
+                (prefixed n.label below ++ beside) ++ around.0)) (append-nil n.label)
+                ∙ ap (λ p. (p ++ n.label, x) ∷ (prefixed front
+                (prefixed n.label below ++ beside) ++ around.0)) (sym w.path_is),
           )
 
       -- or the last where none comes after them, and the node has neither children nor siblings
-      pub last_come : AreLast w.frames → n.child ≡ None → n.sibling ≡ None → (x : V) → n.value ≡ Some x
+      pub last_come : AreLast w.frames → n.child ≡ None → n.sibling ≡ None → (x : V)
+          → n.value ≡ Some x
           → IsLastKey (entries_of s) (path ++ n.label)
       last_come last leaf alone x value =
           let around = last-fill w.frames last cell in
           let front = path_of w.frames in
-          let below : come_open.child ≡ Nil = plan_end s.nodes.items n.child come_open.child come_open.child_plan leaf in
+          let below : come_open.child ≡ Nil = plan_end s.nodes.items n.child come_open.child
+          come_open.child_plan leaf in
           let beside = no_sibling alone in (
             x,
             around.0,
             entries_are ∙ around.1
-                ∙ ap (λ (q : Plan V). around.0 ++ prefixed front (prefixed n.label (own n.value ++ entries (siblings_in q)) ++ entries (siblings_in come_open.sibling))) below
-                ∙ ap (λ (q : Plan V). around.0 ++ prefixed front (prefixed n.label (own n.value ++ []) ++ entries (siblings_in q))) beside
+                ∙ ap (λ (q : Plan V). around.0 ++ prefixed front
+                (prefixed n.label (own n.value ++ entries (siblings_in q)) ++ entries
+                (siblings_in come_open.sibling))) below
+                ∙ ap (λ (q : Plan V). around.0 ++ prefixed front
+                (prefixed n.label (own n.value ++ []) ++ entries (siblings_in q))) beside
                 ∙ ap (λ v. around.0 ++ prefixed front (prefixed n.label (own v ++ []) ++ [])) value
                 ∙ ap (λ k. around.0 ++ (front ++ k, x) ∷ []) (append-nil n.label)
                 ∙ ap (λ p. around.0 ++ (p ++ n.label, x) ∷ []) (sym w.path_is),

@@ -38,7 +38,8 @@ module _ {V : Type 0} where
 
   -- the entries begin with those in the place
   pub first-fill : (fs : List (Frame V)) → AreFirst fs → (q : Plan V)
-      → (ys : List (List ℕ × V)) × (entries (siblings_in (fill fs q)) ≡ prefixed (path_of fs) (entries (siblings_in q)) ++ ys)
+      → (ys : List (List ℕ × V)) × (entries (siblings_in (fill fs q)) ≡ prefixed (path_of fs)
+      (entries (siblings_in q)) ++ ys)
   first-fill [] first q = ([], sym (append-nil _ ∙ prefixed-nil (entries (siblings_in q))))
   first-fill (InChild id l v d ∷ fs) (none, first) q =
       let es = entries (siblings_in q) in
@@ -48,14 +49,16 @@ module _ {V : Type 0} where
         prefixed path rs ++ further.0,
         further.1
             ∙ ap (λ w. prefixed path (prefixed l (own w ++ es) ++ rs) ++ further.0) none
-            ∙ ap (λ xs. xs ++ further.0) (prefixed-append path (prefixed l es) rs ∙ ap (λ xs. xs ++ prefixed path rs) (prefixed-prefixed path l es))
+            ∙ ap (λ xs. xs ++ further.0) (prefixed-append path (prefixed l es) rs
+            ∙ ap (λ xs. xs ++ prefixed path rs) (prefixed-prefixed path l es))
             ∙ append_assoc (prefixed (path ++ l) es) (prefixed path rs) further.0,
       )
   first-fill (InSibling id l v c ∷ fs) first q = absurd first
 
   -- the entries end with those in the place
   pub last-fill : (fs : List (Frame V)) → AreLast fs → (q : Plan V)
-      → (xs : List (List ℕ × V)) × (entries (siblings_in (fill fs q)) ≡ xs ++ prefixed (path_of fs) (entries (siblings_in q)))
+      → (xs : List (List ℕ × V)) × (entries (siblings_in (fill fs q)) ≡ xs ++ prefixed (path_of fs)
+      (entries (siblings_in q)))
   last-fill [] last q = ([], sym (prefixed-nil (entries (siblings_in q))))
   last-fill (InChild id l v d ∷ fs) (none, last) q =
       let es = entries (siblings_in q) in
@@ -63,9 +66,11 @@ module _ {V : Type 0} where
       let further = last-fill fs last (Cell id l v q d) in (
         further.0 ++ prefixed (path ++ l) (own v),
         further.1
-            ∙ ap (λ (p : Plan V). further.0 ++ prefixed path (prefixed l (own v ++ es) ++ entries (siblings_in p))) none
+            ∙ ap (λ (p : Plan V). further.0 ++ prefixed path
+            (prefixed l (own v ++ es) ++ entries (siblings_in p))) none
             ∙ ap (λ xs. further.0 ++ xs)
-            (ap (prefixed path) (append-nil (prefixed l (own v ++ es))) ∙ prefixed-prefixed path l (own v ++ es) ∙ prefixed-append (path ++ l) (own v) es)
+            (ap (prefixed path) (append-nil (prefixed l (own v ++ es)))
+            ∙ prefixed-prefixed path l (own v ++ es) ∙ prefixed-append (path ++ l) (own v) es)
             ∙ sym (append_assoc further.0 (prefixed (path ++ l) (own v)) (prefixed (path ++ l) es)),
       )
   last-fill (InSibling id l v c ∷ fs) last q =
@@ -98,7 +103,8 @@ module _ (item : List ℕ → Type 0) (kind : IsKeyKind item) where
     -- a key of the siblings behind a node comes after its label
     behind_label : (l : List ℕ) (v : Option V) (c s : Siblings V) → IsCanonical item (node l v c s)
         → (t : List ℕ) → Has (keys_of (entries s)) t → IsBefore item l t
-    behind_label l v c s ok t has = AllKeys-at (λ k. IsBefore item l k) (entries s) t (keys_rise item kind l s ok.sibling ok.rises) has
+    behind_label l v c s ok t has = AllKeys-at (λ k. IsBefore item l k) (entries s) t
+        (keys_rise item kind l s ok.sibling ok.rises) has
 
     -- a look-up of a key that is in the place passes the frames
     pub leads-fill : (fs : List (Frame V)) (q : Plan V) → IsCanonical item (siblings_in (fill fs q))
@@ -107,8 +113,10 @@ module _ (item : List ℕ → Type 0) (kind : IsKeyKind item) where
     leads-fill [] q ok t has some = refl
     leads-fill (InChild id l v d ∷ fs) q ok t has some =
         let inner = siblings-within item fs (Cell id l v q d) ok in
-        let there = has_prefixed l (own v ++ entries (siblings_in q)) (entries (siblings_in d)) t (has_after (own v) (entries (siblings_in q)) t has) in
-        let further = leads-fill fs (Cell id l v q d) ok (l ++ t) there (λ none. some (nil_second l t none)) in (
+        let there = has_prefixed l (own v ++ entries (siblings_in q)) (entries (siblings_in d)) t
+        (has_after (own v) (entries (siblings_in q)) t has) in
+        let further = leads-fill fs (Cell id l v q d) ok (l ++ t) there
+        (λ none. some (nil_second l t none)) in (
           l ++ t,
           passes_label l t inner.valid inner.nonempty,
           some,
@@ -116,5 +124,9 @@ module _ (item : List ℕ → Type 0) (kind : IsKeyKind item) where
         )
     leads-fill (InSibling id l v c ∷ fs) q ok t has some =
         let inner = siblings-within item fs (Cell id l v c q) ok in
-        let there = has_after (prefixed l (own v ++ entries (siblings_in c))) (entries (siblings_in q)) t has in
-        (behind_label l v (siblings_in c) (siblings_in q) inner t has, leads-fill fs (Cell id l v c q) ok t there some)
+        let there = has_after (prefixed l (own v ++ entries (siblings_in c)))
+        (entries (siblings_in q)) t has in (
+          behind_label l v (siblings_in c) (siblings_in q) inner t has,
+          leads-fill fs
+              (Cell id l v c q) ok t there some,
+        )

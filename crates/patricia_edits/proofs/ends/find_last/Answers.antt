@@ -14,70 +14,94 @@ loop-next-init g c = comes_root g.met.K.Bytes.lawful c.requires.whole c.requires
     tt c.args.first c.requires.root c.args.path.now.items c.requires.empty
 
 pub sibling-requires : goal.sibling-requires
-sibling-requires g c = come_within g.met.K.Bytes.lawful c.requires.whole c.requires.siblings c.loop-next.invariant
+sibling-requires g c = come_within g.met.K.Bytes.lawful c.requires.whole c.requires.siblings
+    c.loop-next.invariant
 
 pub label-requires : goal.label-requires
-label-requires g c = come_within g.met.K.Bytes.lawful c.requires.whole c.requires.siblings c.loop-next.invariant
+label-requires g c = come_within g.met.K.Bytes.lawful c.requires.whole c.requires.siblings
+    c.loop-next.invariant
 
 pub child-requires : goal.child-requires
-child-requires g c = come_within g.met.K.Bytes.lawful c.requires.whole c.requires.siblings c.loop-next.invariant
+child-requires g c = come_within g.met.K.Bytes.lawful c.requires.whole c.requires.siblings
+    c.loop-next.invariant
 
 pub loop-next-smaller-in-Some : goal.loop-next-smaller-in-Some
 loop-next-smaller-in-Some g c =
     let w = c.loop-next.invariant in
-    let there = node_there c.args.arena.now.nodes.items c.loop-next.last.id (come_within g.met.K.Bytes.lawful c.requires.whole c.requires.siblings w) in
+    let there = node_there c.args.arena.now.nodes.items c.loop-next.last.id
+    (come_within g.met.K.Bytes.lawful c.requires.whole c.requires.siblings w) in
     less_sibling g.met.K.Bytes.lawful c.requires.whole c.requires.siblings w there.1 c.in-Some.next
     (sym (c.sibling.ensures.node _ there.1) ∙ sym c.get.ensures ∙ c.in-Some.is)
 
 pub loop-next-preserved-in-Some : goal.loop-next-preserved-in-Some
 loop-next-preserved-in-Some g c =
     let w = c.loop-next.invariant in
-    let there = node_there c.args.arena.now.nodes.items c.loop-next.last.id (come_within g.met.K.Bytes.lawful c.requires.whole c.requires.siblings w) in
+    let there = node_there c.args.arena.now.nodes.items c.loop-next.last.id
+    (come_within g.met.K.Bytes.lawful c.requires.whole c.requires.siblings w) in
     comes_next g.met.K.Bytes.lawful c.requires.whole c.requires.siblings w there.1 c.in-Some.next
-    (sym (c.sibling.ensures.node _ there.1) ∙ sym c.get.ensures ∙ c.in-Some.is) c.above.result c.above.ensures w.past_is
+    (sym (c.sibling.ensures.node _ there.1) ∙ sym c.get.ensures ∙ c.in-Some.is) c.above.result
+    c.above.ensures w.past_is
 
 pub loop-next-smaller : goal.loop-next-smaller
 loop-next-smaller g c =
     let w = c.loop-next.invariant in
-    let there = node_there c.args.arena.now.nodes.items c.loop-next.last.id (come_within g.met.K.Bytes.lawful c.requires.whole c.requires.siblings w) in
-    less_child g.met.K.Bytes.lawful c.requires.whole c.requires.siblings w there.1 c.in-Some-get.child
+    let there = node_there c.args.arena.now.nodes.items c.loop-next.last.id
+    (come_within g.met.K.Bytes.lawful c.requires.whole c.requires.siblings w) in
+    less_child g.met.K.Bytes.lawful c.requires.whole c.requires.siblings w there.1
+    c.in-Some-get.child
     (sym (c.child.ensures.node _ there.1) ∙ sym c.get-in-loop-next.ensures ∙ c.in-Some-get.is)
 
 pub loop-next-preserved : goal.loop-next-preserved
 loop-next-preserved g c =
     let w = c.loop-next.invariant in
-    let there = node_there c.args.arena.now.nodes.items c.loop-next.last.id (come_within g.met.K.Bytes.lawful c.requires.whole c.requires.siblings w) in
-    let path = c.in_ok-extend_from_slice.ensures.items ∙ ap (λ l. c.loop-next.path.items ++ l) (c.label.ensures _ there.1) in
+    let there = node_there c.args.arena.now.nodes.items c.loop-next.last.id
+    (come_within g.met.K.Bytes.lawful c.requires.whole c.requires.siblings w) in
+    let path = c.in_ok-extend_from_slice.ensures.items
+    ∙ ap (λ l. c.loop-next.path.items ++ l) (c.label.ensures _ there.1) in
     let alone = sym (c.sibling.ensures.node _ there.1) ∙ sym c.get.ensures ∙ c.in_default.is in
-    comes_down g.met.K.Bytes.lawful c.requires.whole c.requires.siblings w there.1 c.in-Some-get.child
+    comes_down g.met.K.Bytes.lawful c.requires.whole c.requires.siblings w there.1
+    c.in-Some-get.child
     (sym (c.child.ensures.node _ there.1) ∙ sym c.get-in-loop-next.ensures ∙ c.in-Some-get.is)
-    c.extend_from_slice.new.self.items path
-    (no_sibling g.met.K.Bytes.lawful c.requires.whole c.requires.siblings w there.1 alone, w.past_is)
+    c.extend_from_slice.new.self.items path (
+      no_sibling g.met.K.Bytes.lawful c.requires.whole c.requires.siblings w there.1 alone,
+      w.past_is,
+    )
 
 pub returns-in-None-clause-place : goal.returns-in-None-clause-place
 returns-in-None-clause-place g c =
     let w = c.loop-next.invariant in
-    let there = node_there c.args.arena.now.nodes.items c.loop-next.last.id (come_within g.met.K.Bytes.lawful c.requires.whole c.requires.siblings w) in
-    let path = c.in_ok-extend_from_slice.ensures.items ∙ ap (λ l. c.loop-next.path.items ++ l) (c.label.ensures _ there.1) in
+    let there = node_there c.args.arena.now.nodes.items c.loop-next.last.id
+    (come_within g.met.K.Bytes.lawful c.requires.whole c.requires.siblings w) in
+    let path = c.in_ok-extend_from_slice.ensures.items
+    ∙ ap (λ l. c.loop-next.path.items ++ l) (c.label.ensures _ there.1) in
     let some = leaf_valued g.met.K.Bytes.lawful c.requires.whole c.requires.siblings w there.1
     (sym (c.child.ensures.node _ there.1) ∙ sym c.get-in-loop-next.ensures ∙ c.in-None.is) in
-    subst (λ p. IsPlaceOf g.K.Bytes.item c.args.arena.now p c.loop-next.last.link_ref c.loop-next.last.id) (sym path)
+    subst (λ p. IsPlaceOf g.K.Bytes.item c.args.arena.now p c.loop-next.last.link_ref
+    c.loop-next.last.id) (sym path)
     (place_come g.met.K.Bytes.lawful c.requires.whole c.requires.siblings w there.1 some.0 some.1)
 
 pub returns-in-None-clause-valid : goal.returns-in-None-clause-valid
 returns-in-None-clause-valid g c =
     let w = c.loop-next.invariant in
-    let there = node_there c.args.arena.now.nodes.items c.loop-next.last.id (come_within g.met.K.Bytes.lawful c.requires.whole c.requires.siblings w) in
-    let path = c.in_ok-extend_from_slice.ensures.items ∙ ap (λ l. c.loop-next.path.items ++ l) (c.label.ensures _ there.1) in
-    subst (IsValid g.K.Bytes.item) (sym path) (come_valid g.met.K.Bytes.lawful c.requires.whole c.requires.siblings w there.1)
+    let there = node_there c.args.arena.now.nodes.items c.loop-next.last.id
+    (come_within g.met.K.Bytes.lawful c.requires.whole c.requires.siblings w) in
+    let path = c.in_ok-extend_from_slice.ensures.items
+    ∙ ap (λ l. c.loop-next.path.items ++ l) (c.label.ensures _ there.1) in
+    subst (IsValid g.K.Bytes.item) (sym path)
+    (come_valid g.met.K.Bytes.lawful c.requires.whole c.requires.siblings w there.1)
 
 pub returns-in-None-clause-last : goal.returns-in-None-clause-last
 returns-in-None-clause-last g c =
     let w = c.loop-next.invariant in
-    let there = node_there c.args.arena.now.nodes.items c.loop-next.last.id (come_within g.met.K.Bytes.lawful c.requires.whole c.requires.siblings w) in
-    let path = c.in_ok-extend_from_slice.ensures.items ∙ ap (λ l. c.loop-next.path.items ++ l) (c.label.ensures _ there.1) in
+    let there = node_there c.args.arena.now.nodes.items c.loop-next.last.id
+    (come_within g.met.K.Bytes.lawful c.requires.whole c.requires.siblings w) in
+    let path = c.in_ok-extend_from_slice.ensures.items
+    ∙ ap (λ l. c.loop-next.path.items ++ l) (c.label.ensures _ there.1) in
     let alone = sym (c.sibling.ensures.node _ there.1) ∙ sym c.get.ensures ∙ c.in_default.is in
-    let leaf = sym (c.child.ensures.node _ there.1) ∙ sym c.get-in-loop-next.ensures ∙ c.in-None.is in
-    let some = leaf_valued g.met.K.Bytes.lawful c.requires.whole c.requires.siblings w there.1 leaf in
+    let leaf = sym (c.child.ensures.node _ there.1) ∙ sym c.get-in-loop-next.ensures
+    ∙ c.in-None.is in
+    let some = leaf_valued g.met.K.Bytes.lawful c.requires.whole c.requires.siblings w there.1
+    leaf in
     subst (IsLastKey (entries_of c.args.arena.now)) (sym path)
-    (last_come g.met.K.Bytes.lawful c.requires.whole c.requires.siblings w there.1 w.past_is leaf alone some.0 some.1)
+    (last_come g.met.K.Bytes.lawful c.requires.whole c.requires.siblings w there.1 w.past_is leaf
+    alone some.0 some.1)
