@@ -308,6 +308,13 @@ impl Labels {
         self.bytes.reserve_exact(growth)
     }
 
+    /// Gives the bytes back, in a block that was made small before. Once glibc's allocator frees a
+    /// large block, it takes others of that size from its heap, whose end it keeps.
+    pub fn give_back(mut self) {
+        self.bytes.truncate(1);
+        self.bytes.shrink_to(1);
+    }
+
     /// Drops all bytes.
     pub fn clear(&mut self)
         ensures items { self.new.items ≡ [] }

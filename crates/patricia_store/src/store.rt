@@ -162,6 +162,7 @@ impl<V> Store<V> {
     /// The first node from this one on, along siblings of which each is the next node of the
     /// vector, whose first byte is not less than `b`, or the last of them. Reads heads alone, with
     /// one comparison for each.
+    #[inline(never)]
     pub fn run(&self, id: usize, b: u8) -> usize
         requires within { (to : ℕ) → IsRun self.now b id to → to < length self.now.items }
         ensures passes { IsRun self.now b id result }

@@ -8,6 +8,7 @@ use crate::labels::{Labels, cut_room, label_room};
 use crate::laying::{lay, needed_bytes};
 use crate::packed::MOST;
 use std::alloc::AllocError;
+use std::mem;
 
 impl<V> Store<V> {
     /// How many bytes the label of a node takes.
@@ -78,7 +79,7 @@ impl<V: Drop> Store<V> {
         let room = self.labels.room().max(more.min(MOST)).max(needed / 2);
         let mut laid = Labels::with_capacity(self.alloc, needed + room)?;
         lay(&mut self.heads, &mut self.bodies, &self.labels, &mut laid);
-        self.labels = laid;
+        mem::replace(&mut self.labels, laid).give_back();
         self.dead = 0;
         Ok(())
     }

@@ -14,13 +14,14 @@ returns-clause-laid g c =
     let was = c.self.inside.labels.items in
     let room = spans_room was c.self.inside.bodies.items in
     let alone : 0 + room ≡ room = omega arith in
-    c.lay.ensures.length
-    ∙ ap (λ n. n + room) (ap length c.in_ok-laid.ensures.items)
-    ∙ alone
-    ∙ sym (room-nodes c.self.inside.heads.items c.self.inside.bodies.items was c.self.invariant.long)
-    ∙ ap labels_room (sym c.lay.ensures.nodes)
+    rw c.replace.ensures.after (
+      c.lay.ensures.length
+      ∙ ap (λ n. n + room) (ap length c.in_ok-laid.ensures.items)
+      ∙ alone
+      ∙ sym (room-nodes c.self.inside.heads.items c.self.inside.bodies.items was c.self.invariant.long)
+      ∙ ap labels_room (sym c.lay.ensures.nodes))
 
 pub returns-clause-room : goal.returns-clause-room
 returns-clause-room g c =
     let room = room-nodes c.self.inside.heads.items c.self.inside.bodies.items c.self.inside.labels.items c.self.invariant.long in
-    omega (arith, room, ap (λ s. labels_room s.items) c.self.view_is, ap (λ s. s.room) c.self.view_is, c.in-Some.ensures.value, c.room.ensures.value, c.in_ok-laid.ensures.room, c.lay.ensures.room)
+    omega (arith, room, ap (λ s. labels_room s.items) c.self.view_is, ap (λ s. s.room) c.self.view_is, c.in-Some.ensures.value, c.room.ensures.value, c.in_ok-laid.ensures.room, c.lay.ensures.room, ap (λ l. l.room) c.replace.ensures.after)
