@@ -3,7 +3,7 @@ use Rattle.std.proofs.Common.{◌≡◌, ◌⊎◌, ℕ, zero, suc, ◌+◌, ◌
 use Rattle.std.proofs.Common.{Option, Some, slice_get, refl, ap, ◌∙◌, inl, inr, arith, length-append}
 use Rattle.std.proofs.lemmas.List.{length-take}
 use Rattle.std.proofs.lemmas.Option.{slice_get_within}
-use Rattle.patricia_store.specs.Internal.Packing.{most, most_nodes}
+use Rattle.patricia_store.specs.Internal.Packing.{most_nodes}
 use Rattle.patricia_store.specs.declared.head.Head.{Head}
 use Rattle.patricia_store.specs.declared.body.Body.{Body}
 use Rattle.patricia_store.specs.declared.labels.Span.{Span}
@@ -26,7 +26,7 @@ get-more (z ∷ xs) x y (suc i) e = elim (get-more xs x y i e) [
 ]
 
 -- an item of the first is one of the list
-get-front : {X : Type 0} (n : ℕ) (xs : List X) (i : ℕ) (x : X) → slice_get (take n xs) i ≡ Some x
+pub get-front : {X : Type 0} (n : ℕ) (xs : List X) (i : ℕ) (x : X) → slice_get (take n xs) i ≡ Some x
     → slice_get xs i ≡ Some x
 get-front zero xs i x e = absurd (cc)
 get-front (suc n) [] i x e = absurd (cc)

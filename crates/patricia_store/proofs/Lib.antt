@@ -1,6 +1,7 @@
 pub mod ChangeLemmas
 pub mod EndLemmas
 pub mod HeadLemmas
+pub mod InterleaveLemmas
 pub mod LabelLemmas
 pub mod LayLemmas
 pub mod LoanLemmas

@@ -9,7 +9,7 @@ use Rattle.patricia_store.specs.Internal.Permutations.{AreInverse, Gathers}
 use Rattle.patricia_store.proofs.WriteLemmas.{get-set_same, get-set_other}
 
 -- two items at one place are the same
-same_item : {X : Type 0} (o : Option X) (x y : X) → o ≡ Some x → o ≡ Some y → x ≡ y
+pub same_item : {X : Type 0} (o : Option X) (x y : X) → o ≡ Some x → o ≡ Some y → x ≡ y
 same_item o x y e f = cc
 
 module _ {X : Type 0} where

@@ -8,6 +8,7 @@ mod body;
 mod draft;
 pub mod examples;
 mod head;
+mod interleave;
 mod labels;
 mod laying;
 mod order;

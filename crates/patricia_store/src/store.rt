@@ -21,7 +21,7 @@ use crate::body::Body;
 use crate::draft::{Draft, label_len, offset_of, span_of, write};
 use crate::head::Head;
 use crate::labels::Labels;
-use crate::order::{permute, renumber};
+use crate::order::{arrange, renumber};
 use crate::packed::MOST_NODES;
 use std::alloc::Global;
 use std::marker::Model;
@@ -334,8 +334,9 @@ impl<V> Store<V> {
 
 impl<V: Drop> Store<V> {
     /// Lays the nodes in this order, where they are, links them by their new numbers, and keeps the
-    /// first `used` of them. Their labels stay where they are. Does not allocate.
-    pub fn rearrange(&mut self, order: Vec<u32>, places: Vec<u32>, used: usize)
+    /// first `used` of them. Those with numbers below `settled` are quickest where they are in that
+    /// order already. Labels stay where they are. Does not allocate.
+    pub fn rearrange(&mut self, order: Vec<u32>, places: Vec<u32>, used: usize, settled: usize)
         requires inverse { AreInverse order.items places.items }
         requires long { length order.items ≡ length self.old.items }
         ensures items { KeepsRearranged used order.items places.items
@@ -344,9 +345,14 @@ impl<V: Drop> Store<V> {
         ensures room { self.new.room ≡ self.old.room }
     {
         renumber(&mut self.heads, places.as_slice());
-        permute(&mut self.heads, &mut self.bodies, order, places);
-        self.heads.truncate(used);
-        self.bodies.truncate(used);
+        arrange(
+            &mut self.heads,
+            &mut self.bodies,
+            order,
+            places,
+            used,
+            settled,
+        );
     }
 
     /// Keeps the first `n` nodes, with room for half as many more, and drops the others. More room

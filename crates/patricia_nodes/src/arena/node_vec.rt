@@ -431,15 +431,16 @@ impl<V: Drop> NodeVec<V> {
     }
 
     /// Lays the nodes in this order, where they are, links them by their new numbers, and keeps the
-    /// first `used` of them. Their labels stay where they are. Does not allocate.
-    pub fn rearrange(&mut self, order: Vec<u32>, places: Vec<u32>, used: usize)
+    /// first `used` of them. Those with numbers below `settled` are quickest where they are in that
+    /// order already. Labels stay where they are. Does not allocate.
+    pub fn rearrange(&mut self, order: Vec<u32>, places: Vec<u32>, used: usize, settled: usize)
         requires inverse { AreInverse order.items places.items }
         requires long { length order.items ≡ length self.old.items }
         ensures items { KeepsRearranged used order.items places.items
             self.old.items self.new.items }
         ensures room { KeepsRoom self.old self.new }
     {
-        self.store.rearrange(order, places, used);
+        self.store.rearrange(order, places, used, settled);
     }
 
     /// Lays the labels one behind another, in the order of the nodes, so that there is room again

@@ -72,7 +72,8 @@ impl<V: Drop> NodeArena<V> {
         let (order, used) = self.depth_first_order(alloc)?;
         let places = inverse(alloc, order.as_slice())?;
         self.root = moved_link(places.as_slice(), self.root);
-        self.nodes.rearrange(order, places, used);
+        let settled = self.nodes.len().saturating_sub(self.edits);
+        self.nodes.rearrange(order, places, used, settled);
         self.nodes.keep_first(used);
         self.free = Link::none();
         // a refusal leaves the labels where they are

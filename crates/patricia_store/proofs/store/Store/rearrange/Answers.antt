@@ -8,26 +8,26 @@ renumber-requires g c =
     let many = as_many c.self.inside.heads c.self.inside.bodies c.self.inside.labels.items c.self.invariant c.args.self.now.items (ap (λ s. s.items) c.self.view_is) in
     ap length c.as_slice.ensures.value ∙ c.requires.inverse.long ∙ c.requires.long ∙ sym many
 
-pub permute-requires-clause-heads : goal.permute-requires-clause-heads
-permute-requires-clause-heads g c =
+pub arrange-requires-clause-heads : goal.arrange-requires-clause-heads
+arrange-requires-clause-heads g c =
     let many = as_many c.self.inside.heads c.self.inside.bodies c.self.inside.labels.items c.self.invariant c.args.self.now.items (ap (λ s. s.items) c.self.view_is) in
     omega (arith, c.requires.long, many, c.renumber.ensures.items.long, c.renumber.new.heads.ok.0, c.self.inside.heads.ok.0)
 
-pub permute-requires-clause-bodies : goal.permute-requires-clause-bodies
-permute-requires-clause-bodies g c =
+pub arrange-requires-clause-bodies : goal.arrange-requires-clause-bodies
+arrange-requires-clause-bodies g c =
     let many = as_many_bodies c.self.inside.heads c.self.inside.bodies c.self.inside.labels.items c.self.invariant c.args.self.now.items (ap (λ s. s.items) c.self.view_is) in
     omega (arith, c.requires.long, many)
 
 pub invariant_of-self : goal.invariant_of-self
 invariant_of-self g c =
     (rearranged c.self.inside.heads.items c.self.inside.bodies.items c.self.inside.labels.items c.self.invariant c.args.self.now.items (ap (λ s. s.items) c.self.view_is)
-    c.args.order.items c.args.places.items c.requires.inverse c.requires.long c.renumber.new.heads.items c.permute.new.heads.items c.permute.new.bodies.items
-    (rw c.as_slice.ensures.value at c.renumber.ensures.items) c.permute.ensures.heads c.permute.ensures.bodies c.args.used
-    c.truncate.new.self.items c.truncate.ensures.items c.truncate-2.new.self.items c.truncate-2.ensures.items).0
+    c.args.order.items c.args.places.items c.requires.inverse c.requires.long c.renumber.new.heads.items c.arrange.ensures.heads.0 c.arrange.ensures.bodies.0
+    (rw c.as_slice.ensures.value at c.renumber.ensures.items) c.arrange.ensures.heads.1 c.arrange.ensures.bodies.1 c.args.used
+    c.arrange.new.heads.items c.arrange.ensures.heads.2 c.arrange.new.bodies.items c.arrange.ensures.bodies.2).0
 
 pub returns-clause-items : goal.returns-clause-items
 returns-clause-items g c =
     (rearranged c.self.inside.heads.items c.self.inside.bodies.items c.self.inside.labels.items c.self.invariant c.args.self.now.items (ap (λ s. s.items) c.self.view_is)
-    c.args.order.items c.args.places.items c.requires.inverse c.requires.long c.renumber.new.heads.items c.permute.new.heads.items c.permute.new.bodies.items
-    (rw c.as_slice.ensures.value at c.renumber.ensures.items) c.permute.ensures.heads c.permute.ensures.bodies c.args.used
-    c.truncate.new.self.items c.truncate.ensures.items c.truncate-2.new.self.items c.truncate-2.ensures.items).1
+    c.args.order.items c.args.places.items c.requires.inverse c.requires.long c.renumber.new.heads.items c.arrange.ensures.heads.0 c.arrange.ensures.bodies.0
+    (rw c.as_slice.ensures.value at c.renumber.ensures.items) c.arrange.ensures.heads.1 c.arrange.ensures.bodies.1 c.args.used
+    c.arrange.new.heads.items c.arrange.ensures.heads.2 c.arrange.new.bodies.items c.arrange.ensures.bodies.2).1
