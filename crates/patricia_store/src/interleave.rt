@@ -26,6 +26,12 @@ pub fn count_strays(order: &[u32], settled: usize) -> usize
     count
 }
 
+/// Gives a list back, in a block that was made small before, as `Labels::give_back` does.
+pub fn give_back(mut list: Vec<u32>) {
+    list.truncate(1);
+    list.shrink_to(1);
+}
+
 // Puts strays behind the first `n` items, and notes in the order where they are.
 fn put_out<T>(items: &mut [T], order: &mut Vec<u32>, n: usize, settled: usize)
     requires numbers { AreNumbers n order.old.items }
@@ -85,4 +91,5 @@ pub fn interleave<T>(items: &mut [T], mut order: Vec<u32>, n: usize, settled: us
         i -= 1;
         items.swap(order[i] as usize, i);
     }
+    give_back(order);
 }

@@ -11,7 +11,7 @@ ghost use Rattle.patricia_store.specs.Internal.Renumbering.{RenumbersHeads};
 
 use crate::body::Body;
 use crate::head::Head;
-use crate::interleave::{count_strays, interleave};
+use crate::interleave::{count_strays, give_back, interleave};
 use crate::packed::Packed;
 
 // The number that a node gets.
@@ -80,6 +80,8 @@ fn permute<V>(
         places[from as usize] = to;
         i += 1;
     }
+    give_back(order);
+    give_back(places);
 }
 
 // Adds heads and bodies of nodes without label, value and links, until there are `n` of them. Does
