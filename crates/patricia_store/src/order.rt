@@ -105,9 +105,9 @@ fn fill<V>(heads: &mut Vec<Head>, bodies: &mut Vec<Body<V>>, n: usize)
     }
 }
 
-/// Puts heads and bodies in this order, and keeps the first `used` of them. Those with numbers below
-/// `settled` are quickest where they are in that order already: without room behind the nodes for
-/// the others, all change places one by one. Does not allocate.
+/// Puts heads and bodies in this order, and keeps the first `used` of them. Those with numbers
+/// below `settled` are quickest where they are in that order already: without room behind the nodes
+/// for the others, all change places one by one. Does not allocate.
 pub fn arrange<V: Drop>(
     heads: &mut Vec<Head>,
     bodies: &mut Vec<Body<V>>,
