@@ -452,8 +452,8 @@ module _ {X : Type 0} where
       (record { item = λ i id e. gathered_item old order within i id e; long = long })
       (is
       ∙ same_front first mid all (omega (arith, least, fits, g.long)) (omega (arith, least, long))
-          (λ i short.
-          let id = get_or order i i in
-          let here = slice_get-get_or order i i (omega (arith, short, least, many)) in
-          g.item i id (get-take first order i short ∙ here) ∙ starts id (within i id here)
-          ∙ sym (gathered_item old order within i id here)))
+      (λ i short.
+      let id = get_or order i i in
+      let here = slice_get-get_or order i i (omega (arith, short, least, many)) in
+      g.item i id (get-take first order i short ∙ here) ∙ starts id (within i id here)
+      ∙ sym (gathered_item old order within i id here)))

@@ -127,7 +127,10 @@ pub fn arrange<V: Drop>(
     let len = heads.len();
     let first = used.min(len);
     let strays = count_strays(&order[..first], settled);
-    let room = heads.capacity().min(bodies.capacity()).min(u32::MAX as usize);
+    let room = heads
+        .capacity()
+        .min(bodies.capacity())
+        .min(u32::MAX as usize);
     if room < len || room - len < strays {
         permute(heads, bodies, order, places);
     } else {

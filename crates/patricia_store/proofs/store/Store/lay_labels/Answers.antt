@@ -15,11 +15,11 @@ returns-clause-laid g c =
     let room = spans_room was c.self.inside.bodies.items in
     let alone : 0 + room ≡ room = omega arith in
     rw c.replace.ensures.after (
-      c.lay.ensures.length
-      ∙ ap (λ n. n + room) (ap length c.in_ok-laid.ensures.items)
-      ∙ alone
-      ∙ sym (room-nodes c.self.inside.heads.items c.self.inside.bodies.items was c.self.invariant.long)
-      ∙ ap labels_room (sym c.lay.ensures.nodes))
+    c.lay.ensures.length
+    ∙ ap (λ n. n + room) (ap length c.in_ok-laid.ensures.items)
+    ∙ alone
+    ∙ sym (room-nodes c.self.inside.heads.items c.self.inside.bodies.items was c.self.invariant.long)
+    ∙ ap labels_room (sym c.lay.ensures.nodes))
 
 pub returns-clause-room : goal.returns-clause-room
 returns-clause-room g c =
