@@ -1,16 +1,18 @@
 -- A tree as it is stored, and the map that it stands for.
-use Rattle.std.proofs.Common.{◌≡◌, ℕ, ◌+◌, ◌<◌, ◌^◌, ◌-◌, List, ◌++◌, Option, Some, None, is_some, true, false, sym, ap, ◌∙◌}
-use Rattle.std.specs.Prelude.{MatchOption}
+use Rattle.std.proofs.Common.{◌≡◌, ℕ, ◌+◌, ◌<◌, ◌^◌, ◌-◌, List, [], ◌++◌, Option, Some, None, is_some, true, false, sym, ap, subst, ◌∙◌, inl, inr}
+use Rattle.std.specs.Prelude.{◌⊎◌, MatchOption}
 use Rattle.std.specs.FinMap as map
 use Rattle.std.specs.FinMap.{FinMap, find}
-use Rattle.patricia_keys.specs.Keys.{IsKeyKind, key_cmp}
+use Rattle.patricia_keys.specs.Keys.{IsKeyKind, IsValid, key_cmp}
+use Rattle.patricia_keys.proofs.KeyLemmas.{IsValid-nil}
 use Rattle.patricia_model.specs.Siblings.{Siblings, own, entries, IsCanonical}
 use Rattle.patricia_model.specs.Trees.{map_of}
 use Rattle.patricia_model.proofs.TreeLemmas.{entries_map, length_new, length_old}
 use Rattle.patricia_nodes.specs.declared.arena.NodeArena.{NodeArena}
 use Rattle.patricia_nodes.specs.Internal.Plans.{IsWellFormed, siblings_of, entries_of}
+use Rattle.patricia_nodes.specs.Internal.Trails.{IsTrail}
 use Rattle.patricia_nodes.specs.Internal.Writes.{IsPut}
-use Rattle.patricia_core.specs.Internal.Stores.{IsStored}
+use Rattle.patricia_core.specs.Internal.Stores.{IsStored, IsMerged}
 
 module _ (item : List ℕ → Type 0) (kind : IsKeyKind item) {V : Type 0} where
   -- the entries of a map are those of its tree's value and nodes
@@ -46,6 +48,24 @@ module _ (item : List ℕ → Type 0) (kind : IsKeyKind item) {V : Type 0} where
         fits = stored.tree.fits;
       };
     }
+
+-- a trail is that of the last key, where the bytes of that were kept
+pub merged_kept : (item : List ℕ → Type 0) {V : Type 0} (s : NodeArena V) (count : ℕ)
+    (key bytes last : List ℕ) (trail : List (ℕ × ℕ)) → IsStored item s count → IsValid item key
+    → IsTrail item s key trail → bytes ≡ key → (last ≡ bytes) ⊎ (last ≡ [])
+    → IsMerged item s count last trail
+merged_kept item s count key bytes last trail stored valid passed is (inl kept) =
+    let same : key ≡ last = sym (kept ∙ is) in
+    record {
+      stored = stored;
+      valid = subst (IsValid item) same valid;
+      passed = λ _. subst (λ k. IsTrail item s k trail) same passed;
+    }
+merged_kept item s count key bytes last trail stored valid passed is (inr none) = record {
+  stored = stored;
+  valid = subst (IsValid item) (sym none) (IsValid-nil item);
+  passed = λ some. absurd (some none);
+}
 
 -- where a look-up finds nothing, what it says of nothing holds
 pub none_found : {A P : Type 0} (Q : A → Type 0) (o : Option A) → is_some o ≡ false

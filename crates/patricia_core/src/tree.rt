@@ -20,11 +20,13 @@ mod cursors;
 mod ends;
 mod loading;
 mod many;
+mod merging;
 mod near;
 mod ranges;
 mod whole;
 
 pub use loading::Loader;
+pub use merging::Merger;
 pub use patricia_codec::{DecodeError, EncodeError, Narrow, Wide, Width, WireError};
 use patricia_codec::{decode, encode};
 use patricia_edits::{copy, copy_value, insert, remove, split};

@@ -1,5 +1,6 @@
 -- A tree as it is stored.
-use Rattle.std.specs.Prelude.{ℕ, List, Option, IfSome}
+use Rattle.std.specs.Prelude.{ℕ, List, [], Option, IfSome, ◌≢◌}
+use Rattle.patricia_keys.specs.Keys.{IsValid}
 use Rattle.patricia_model.specs.Trees.{IsTree}
 use Rattle.patricia_nodes.specs.declared.arena.NodeArena.{NodeArena}
 use Rattle.patricia_nodes.specs.Internal.Plans.{IsWellFormed, siblings_of}
@@ -16,3 +17,10 @@ pub record IsFilled {Q V : Type 0} (item : List ℕ → Type 0) (key : Q → Lis
     (count : ℕ) (last : Option Q) (trail : List (ℕ × ℕ)) : Type 0 where
   pub stored : IsStored item arena count
   pub passed : IfSome last (λ last. IsTrail item arena (key last) trail)
+
+-- the same, for the bytes of the last key, which are empty where there is no trail
+pub record IsMerged {V : Type 0} (item : List ℕ → Type 0) (arena : NodeArena V) (count : ℕ)
+    (last : List ℕ) (trail : List (ℕ × ℕ)) : Type 0 where
+  pub stored : IsStored item arena count
+  pub valid : IsValid item last
+  pub passed : last ≢ [] → IsTrail item arena last trail

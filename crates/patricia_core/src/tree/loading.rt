@@ -1,8 +1,11 @@
 //! A tree that is filled with keys that are near one another.
-ghost use Rattle.std.specs.Prelude.{◌≡◌, ◌≢◌, [], None, IfOk, OnOk, IfErr, OnErr};
+ghost use Rattle.std.specs.Prelude.{◌≡◌, ◌≢◌, [], None, Some, IfOk, OnOk, IfErr, OnErr};
 ghost use Rattle.std.specs.FinMap as map;
 ghost use Rattle.std.specs.List.{last_or};
 ghost use Rattle.std.specs.Option.{option_map};
+ghost use Rattle.patricia_model.specs.Trees.{map_of};
+ghost use Rattle.patricia_nodes.specs.Internal.Plans.{siblings_of};
+ghost use Rattle.patricia_core.specs.Internal.Stores.{IsFilled};
 
 use super::{Refused, Tree};
 use patricia_edits::insert_along;
@@ -13,6 +16,44 @@ use patricia_walks::last::last;
 use std::alloc::AllocError;
 use std::marker::{Model, PhantomData};
 use std::mem;
+
+// Inserts a value at a nonempty key and returns the old one. The look-up goes on from the trail of
+// the last key, and the trail is that of this key then.
+pub(super) fn insert_behind<V: Drop, Q: BorrowedBytes>(
+    tree: &mut TreeParts<V>,
+    trail: &mut Vec<(NodeId, usize)>,
+    last: Option<Q>,
+    key: Q,
+    value: V,
+) -> Result<Option<V>, Refused<V>>
+    requires filled { IsFilled Q.Owned.item Q.key tree.old.arena tree.old.count last
+        trail.old.items }
+    requires nonempty { Q.key key ≢ [] }
+    ensures filled { IsFilled Q.Owned.item Q.key tree.new.arena tree.new.count (Some key)
+        trail.new.items }
+    ensures old { IfOk result (λ old.
+        old ≡ map.get (map_of tree.old.value (siblings_of tree.old.arena)) (Q.key key)) }
+    ensures ok { OnOk result (map_of tree.new.value (siblings_of tree.new.arena)
+        ≡ map.insert (map_of tree.old.value (siblings_of tree.old.arena)) (Q.key key) value) }
+    ensures refused { IfErr result (λ r. r.value ≡ value) }
+    ensures unchanged { OnErr result (map_of tree.new.value (siblings_of tree.new.arena)
+        ≡ map_of tree.old.value (siblings_of tree.old.arena)) }
+    ensures only_new { OnErr result
+        (map.get (map_of tree.old.value (siblings_of tree.old.arena)) (Q.key key) ≡ None) }
+{
+    if tree.count == usize::MAX - 1 && tree.arena.find(key).is_none() {
+        trail.clear();
+        return Err(Refused { value });
+    }
+    match insert_along(&mut tree.arena, trail, last, key, value) {
+        Ok(None) => {
+            tree.count += 1;
+            Ok(None)
+        }
+        Ok(Some(old)) => Ok(Some(old)),
+        Err(refused) => Err(refused),
+    }
+}
 
 /// A tree that is filled with keys that are near one another: the look-up of each goes on from
 /// the nodes that the key before it has passed.
@@ -92,17 +133,7 @@ impl<Q: BorrowedBytes, V: Drop> Loader<Q, V> {
         if key.is_empty() {
             return Ok(self.tree.value.replace(value));
         }
-        if self.tree.count == usize::MAX - 1 && self.tree.arena.find(key).is_none() {
-            return Err(Refused { value });
-        }
         let last = mem::replace(&mut self.last, Some(key));
-        match insert_along(&mut self.tree.arena, &mut self.trail, last, key, value) {
-            Ok(None) => {
-                self.tree.count += 1;
-                Ok(None)
-            }
-            Ok(Some(old)) => Ok(Some(old)),
-            Err(refused) => Err(refused),
-        }
+        insert_behind(&mut self.tree, &mut self.trail, last, key, value)
     }
 }
