@@ -6,9 +6,56 @@ ghost use Rattle.patricia_walks.specs.Equality.{are_same_entries};
 
 use super::GenericPatriciaMap;
 use patricia_core::keys::{Bytes, KeyBytes};
+use patricia_core::tree::Merger;
 use std::alloc::AllocError;
 use std::cmp::PartialEq;
 use std::iter::{IntoIterator, Iterator};
+
+// Puts an entry in: where its key is there, the closure makes one value of the two.
+fn merge_entry<K: Bytes, V: Drop, F: FnMut(&mut V, V)>(
+    merger: &mut Merger<K, V>,
+    key: &K,
+    value: V,
+    f: &mut F,
+) -> Result<(), AllocError>
+    requires { F.IsAlwaysCallable f.old }
+    ensures callable { F.IsAlwaysCallable f.new }
+    ensures merged { OnOk result
+        (MergesEntry F.FnMut (f.old, merger.old) (K.key key.now, value) (f.new, merger.new)) }
+    ensures unchanged { OnErr result (merger.new ≡ merger.old) }
+    ensures err_only_nonempty { OnErr result (K.key key.now ≢ []) }
+    ensures only_new { OnErr result (map.get merger.old (K.key key.now) ≡ None) }
+{
+    let key = KeyBytes::of(key);
+    if let Some(there) = merger.get_mut(key) {
+        f(there, value);
+        return Ok(());
+    }
+    match merger.insert(key, value) {
+        Ok(_) => Ok(()),
+        Err(_) => Err(AllocError),
+    }
+}
+
+// Puts the entries of a map in, in key order. It stops at the first that is refused.
+fn merge_all<K: Bytes, V: Drop, F: FnMut(&mut V, V)>(
+    merger: &mut Merger<K, V>,
+    other: GenericPatriciaMap<K, V>,
+    mut f: F,
+) -> Result<(), AllocError>
+    requires { F.IsAlwaysCallable f }
+    ensures merged { OnOk result
+        (MergesAll F.FnMut f merger.old (map.entries other) merger.new) }
+    ensures stopped { OnErr result
+        (IsMergeStopped F.FnMut f merger.old (map.entries other) merger.new) }
+{
+    let mut rest = other.into_iter();
+    while let Some(entry) = rest.next() {
+        let (key, value) = entry?;
+        merge_entry(merger, &key, value, &mut f)?;
+    }
+    Ok(())
+}
 
 impl<K: Bytes, V: Drop> GenericPatriciaMap<K, V> {
     /// Returns whether the two maps have the same keys, with equal values. It is a call that may
@@ -45,39 +92,13 @@ impl<K: Bytes, V: Drop> GenericPatriciaMap<K, V> {
         self.tree.equals(&other.tree)
     }
 
-    // Puts an entry in: where its key is there, the closure makes one value of the two.
-    fn merge_entry<F: FnMut(&mut V, V)>(
-        &mut self,
-        key: &K,
-        value: V,
-        f: &mut F,
-    ) -> Result<(), AllocError>
-        requires { F.IsAlwaysCallable f.old }
-        ensures callable { F.IsAlwaysCallable f.new }
-        ensures merged { OnOk result
-            (MergesEntry F.FnMut (f.old, self.old) (K.key key.now, value) (f.new, self.new)) }
-        ensures unchanged { OnErr result (self.new ≡ self.old) }
-        ensures err_only_nonempty { OnErr result (K.key key.now ≢ []) }
-        ensures only_new { OnErr result (map.get self.old (K.key key.now) ≡ None) }
-    {
-        let key = KeyBytes::of(key);
-        if self.contains_key(key) {
-            if let Some(there) = self.get_mut(key) {
-                f(there, value);
-            }
-            return Ok(());
-        }
-        match self.insert(key, value) {
-            Ok(_) => Ok(()),
-            Err(_) => Err(AllocError),
-        }
-    }
-
     /// Inserts the entries of another map. Where both have a key, the closure is called at the
     /// value here and the one from there, and what it leaves here stays. It is called in key
     /// order.
     ///
-    /// Takes a walk over the other map, and an `insert` for each of its entries.
+    /// Takes a walk over the other map. The look-up of each of its keys goes on from the nodes that
+    /// the key before it has passed. Nodes are relocated at the end alone, where the map has more
+    /// than doubled, if memory is there for it.
     ///
     /// # Errors
     ///
@@ -96,7 +117,7 @@ impl<K: Bytes, V: Drop> GenericPatriciaMap<K, V> {
     pub fn merge_with<F: FnMut(&mut V, V)>(
         &mut self,
         other: Self,
-        mut f: F,
+        f: F,
     ) -> Result<(), AllocError>
         requires { F.IsAlwaysCallable f }
         ensures merged { OnOk result
@@ -104,12 +125,12 @@ impl<K: Bytes, V: Drop> GenericPatriciaMap<K, V> {
         ensures stopped { OnErr result
             (IsMergeStopped F.FnMut f self.old (map.entries other) self.new) }
     {
-        let mut rest = other.into_iter();
-        while let Some(entry) = rest.next() {
-            let (key, value) = entry?;
-            self.merge_entry(&key, value, &mut f)?;
-        }
-        Ok(())
+        let before = self.len();
+        let mut merger = Merger::new(self.tree.take());
+        let result = merge_all(&mut merger, other, f);
+        self.tree = merger.into_tree();
+        self.settle_since(before);
+        result
     }
 
     /// An empty map with the same allocator.

@@ -1,28 +1,22 @@
+use Rattle.std.proofs.Common.{OnOk, OnErr, sym, subst, ◌∙◌}
 use Rattle.std.specs.FinMap as map
-use Rattle.patricia_tree.specs.Merges.{MergesEntry}
-use Rattle.patricia_tree.proofs.AfterLemmas.{at_error}
-use Rattle.patricia_tree.proofs.FoldLemmas.{folding_on, folding_ends}
-use Rattle.patricia_tree.proofs.MergeLemmas.{merging_stops}
+use Rattle.patricia_tree.specs.Merges.{IsMergeStopped, MergesAll}
 use Rattle.patricia_tree.proofs.map.GenericPatriciaMap.merge_with.Goals as goal
 
-pub returns-in_err-merge_entry-clause-stopped : goal.returns-in_err-merge_entry-clause-stopped
-returns-in_err-merge_entry-clause-stopped g c = at_error _ _
-    (merging_stops g.F.FnMut c.args.f c.loop-entry.f c.args.self.now c.loop-entry.self c.merge_entry.new.self
-    (map.entries c.args.other) c.loop-entry.rest c.next.new.self (g.K.Bytes.key c.in_ok-key.key, c.in_ok-key.value)
-    (rw c.in_ok-key.was at c.in-Some.ensures.steps) c.in_err-merge_entry.ensures.unchanged c.loop-entry.invariant.put)
-
-pub loop-entry-preserved : goal.loop-entry-preserved
-loop-entry-preserved g c = record {
-  callable = c.in_ok-merge_entry.ensures.callable;
-  put = folding_on (MergesEntry g.F.FnMut) (c.args.f, c.args.self.now) (map.entries c.args.other)
-      (c.loop-entry.f, c.loop-entry.self) (c.merge_entry.new.f, c.merge_entry.new.self) c.loop-entry.rest c.next.new.self
-      (g.K.Bytes.key c.in_ok-key.key, c.in_ok-key.value) (rw c.in_ok-key.was at c.in-Some.ensures.steps)
-      c.in_ok-merge_entry.ensures.merged c.loop-entry.invariant.put;
-}
-
 pub returns-clause-merged : goal.returns-clause-merged
-returns-clause-merged g c = (
-  c.loop-entry.f,
-  folding_ends (MergesEntry g.F.FnMut) (c.args.f, c.args.self.now) (map.entries c.args.other)
-      (c.loop-entry.f, c.loop-entry.self) c.loop-entry.rest c.in_default.ensures.steps.0 c.loop-entry.invariant.put,
-)
+returns-clause-merged g c =
+    let r = c.merge_all-result.result in
+    let entries = map.entries c.args.other in
+    subst (λ new. OnOk r (MergesAll g.F.FnMut c.args.f c.args.self.now entries new))
+    (sym (c.settle_since.ensures ∙ c.into_tree.ensures))
+    (subst (λ old. OnOk r (MergesAll g.F.FnMut c.args.f old entries c.merge_all-result.new.merger))
+    (c.new-merger.ensures ∙ c.take.ensures.taken ∙ c.self.view_is) c.merge_all-result.ensures.merged)
+
+pub returns-clause-stopped : goal.returns-clause-stopped
+returns-clause-stopped g c =
+    let r = c.merge_all-result.result in
+    let entries = map.entries c.args.other in
+    subst (λ new. OnErr r (IsMergeStopped g.F.FnMut c.args.f c.args.self.now entries new))
+    (sym (c.settle_since.ensures ∙ c.into_tree.ensures))
+    (subst (λ old. OnErr r (IsMergeStopped g.F.FnMut c.args.f old entries c.merge_all-result.new.merger))
+    (c.new-merger.ensures ∙ c.take.ensures.taken ∙ c.self.view_is) c.merge_all-result.ensures.stopped)
