@@ -114,11 +114,7 @@ impl<K: Bytes, V: Drop> GenericPatriciaMap<K, V> {
     /// assert_eq!(rt; map.get("foo"), Some(&5));
     /// assert_eq!(rt; map.len(), 3);
     /// ```
-    pub fn merge_with<F: FnMut(&mut V, V)>(
-        &mut self,
-        other: Self,
-        f: F,
-    ) -> Result<(), AllocError>
+    pub fn merge_with<F: FnMut(&mut V, V)>(&mut self, other: Self, f: F) -> Result<(), AllocError>
         requires { F.IsAlwaysCallable f }
         ensures merged { OnOk result
             (MergesAll F.FnMut f self.old (map.entries other) self.new) }

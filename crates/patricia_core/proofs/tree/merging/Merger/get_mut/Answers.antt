@@ -47,7 +47,7 @@ returns-in-Some g c =
     let s = c.self.inside.tree.arena in
     let id = c.in-Some.id in
     let found : HasValueNode g.K.Bytes.item s key id =
-        subst (λ k. HasValueNode g.K.Bytes.item s k id) (c.new-key.ensures ∙ c.as_bytes.ensures.value) c.in-Some.ensures.found in
+    subst (λ k. HasValueNode g.K.Bytes.item s k id) (c.new-key.ensures ∙ c.as_bytes.ensures.value) c.in-Some.ensures.found in
     let nonempty : key ≢ [] = λ none. absurd (false≢true (c.if-is_empty.ensures.1 none)) in
     let lent : option_copied_mut c.value_mut.result ≡ value_of s id = c.value_mut.ensures.value in
     let ok = c.self.invariant.stored.tree.canonical in
@@ -70,8 +70,8 @@ returns-in-None g c =
     let key = g.Q.BorrowedBytes.key c.args.key in
     let nonempty : key ≢ [] = λ none. absurd (false≢true (c.if-is_empty.ensures.1 none)) in
     let absent : map.find key_cmp key (entries_of c.self.inside.tree.arena) ≡ None =
-        subst (λ k. map.find key_cmp k (entries_of c.self.inside.tree.arena) ≡ None)
-        (c.new-key.ensures ∙ c.as_bytes.ensures.value) c.in-None.ensures.found in (
+    subst (λ k. map.find key_cmp k (entries_of c.self.inside.tree.arena) ≡ None)
+    (c.new-key.ensures ∙ c.as_bytes.ensures.value) c.in-None.ensures.found in (
       ap inr c.self.view_is,
       record {
         writes = tt;
