@@ -17,6 +17,7 @@ use Rattle.prefixes_core.specs.Answers.{IsAnswer, Writes}
 use Rattle.prefixes_core.specs.Blocks.{Blocks, Passes, folded}
 use Rattle.prefixes_core.specs.Completions.{Completes}
 use Rattle.prefixes_core.specs.Internal.Styles.{IsWritten}
+use Rattle.prefixes_core.proofs.ObjectLemmas.{flat_map-map, joined_map}
 use Rattle.prefixes_core.specs.declared.answering.Question.{Question}
 use Rattle.prefixes_core.specs.declared.answering.Question.TheVariants as Questions
 use Rattle.prefixes_core.specs.declared.answering.Style.{Style}
@@ -39,25 +40,12 @@ pub in_json : (style : Style) (text : ℕ → List ℕ) (old new : List ℕ) →
     → (written : List ℕ) × (new ≡ old ++ written) → IsWritten style text old new
 in_json style text old new json is = subst (λ s. IsWritten s text old new) (sym json) is
 
--- a list of lists is joined in one go
-pub flat_map-map : {X Y A : Type 0} (f : Y → List A) (g : X → Y) (xs : List X)
-    → flat_map f (map g xs) ≡ flat_map (λ x. f (g x)) xs
-flat_map-map f g [] = refl
-flat_map-map f g (x ∷ xs) = ap (λ l. f (g x) ++ l) (flat_map-map f g xs)
-
--- fields are joined by what they show
-joined_map : {X : Type 0} (shows : X → List ℕ) (fields : List X)
-    → join_by shows (9 ∷ []) fields ≡ join_by (λ field. field) (9 ∷ []) (map shows fields)
-joined_map shows [] = refl
-joined_map shows (x ∷ fields) =
-    ap (λ l. shows x ++ l) (sym (flat_map-map (λ field. (9 ∷ []) ++ field) shows fields))
-
 -- fields are joined and their line is ended
 pub line_ended : {X : Type 0} (shows : X → List ℕ) (fields : List X) (end : ℕ)
     (old joined new : List ℕ) → joined ≡ old ++ join_by shows (9 ∷ []) fields
     → new ≡ joined ++ end ∷ [] → new ≡ old ++ fields_line end (map shows fields)
 line_ended shows fields end old joined new joins ends =
-    ends ∙ ap (λ l. l ++ end ∷ []) (joins ∙ ap (λ l. old ++ l) (joined_map shows fields))
+    ends ∙ ap (λ l. l ++ end ∷ []) (joins ∙ ap (λ l. old ++ l) (joined_map shows (9 ∷ []) fields))
     ∙ append_assoc old (join_by (λ field. field) (9 ∷ []) (map shows fields)) (end ∷ [])
 
 -- whether there is something, is so of what it is mapped to

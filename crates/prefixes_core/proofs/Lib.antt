@@ -1,12 +1,15 @@
 pub mod AnswerLemmas
 pub mod CompletionLemmas
 pub mod CountLemmas
+pub mod DrawingLemmas
 pub mod FaultLemmas
 pub mod LineLemmas
 pub mod ListLemmas
 pub mod LongestLemmas
+pub mod MeasureLemmas
 pub mod NameLemmas
 pub mod NearLemmas
+pub mod ObjectLemmas
 pub mod PackLemmas
 pub mod ReachLemmas
 pub mod ReadLemmas

@@ -2,10 +2,13 @@ pub mod Answers
 pub mod Blocks
 pub mod Combinations
 pub mod Completions
+pub mod Drawings
 pub mod Internal
 pub mod Lines
 pub mod Lists
+pub mod Measures
 pub mod Nearest
+pub mod Objects
 pub mod Packings
 pub mod Segments
 pub mod Subtrees

@@ -1,19 +1,23 @@
 //! The tree of the names that begin with a prefix, node by node.
 
-ghost use Rattle.std.specs.Prelude.{◌≡◌, Err, IfOk, map as list_map};
+ghost use Rattle.std.specs.Prelude.{◌≡◌, ◌++◌, Err, IfOk, OnOk, map as list_map};
 ghost use Rattle.std.specs.FinMap as map;
 ghost use Rattle.patricia_tree.specs.Prefixes.{under};
 ghost use Rattle.patricia_tree.specs.Siblings.{keys_of};
 ghost use Rattle.patricia_tree.specs.TextKind.{IsTextItem};
 ghost use Rattle.patricia_tree.specs.Writings.{TooDeep};
+ghost use Rattle.prefixes_core.specs.Drawings.{drawing};
 ghost use Rattle.prefixes_core.specs.Internal.Splits.{AreRead};
 ghost use Rattle.prefixes_core.specs.Trees.{AreNodes};
+
+mod writing;
 
 use crate::packing::PackError;
 use crate::records::split_record;
 use crate::value::Payload;
 use patricia_tree::{StringPatriciaMap, WireError};
 use std::alloc::{AllocError, Global};
+use writing::{push_graph, push_lines};
 
 /// A node of a tree: how many levels it lies below the root, its label, and whether a name ends
 /// there.
@@ -22,6 +26,17 @@ pub struct Node {
     pub level: u16,
     pub label: Payload,
     pub is_name: bool,
+}
+
+/// How a tree is drawn.
+#[derive(Clone, Copy)]
+pub enum Form {
+    /// As lines, each indented by the level of its node.
+    Lines,
+    /// As a graph for Graphviz.
+    Graph,
+    /// As an object of JSON for each node, on a line.
+    Json,
 }
 
 // The nodes that tree bytes spell.
@@ -91,4 +106,25 @@ pub fn draw<V: Drop>(
 {
     let names = names.split_by_prefix(prefix)?;
     nodes_for(alloc, &names)
+}
+
+/// Writes the nodes of a tree at the end of a text.
+///
+/// # Errors
+///
+/// Out of memory.
+pub fn push_drawing(
+    alloc: Global,
+    nodes: &[Node],
+    form: Form,
+    out: &mut Vec<u8>,
+) -> Result<(), AllocError>
+    ensures { OnOk result (out.new.items ≡ out.old.items ++ drawing form
+        (list_map (λ node. (node.level, (node.label, node.is_name))) nodes.now)) }
+{
+    match form {
+        Form::Lines => push_lines(alloc, nodes, false, out),
+        Form::Graph => push_graph(alloc, nodes, out),
+        Form::Json => push_lines(alloc, nodes, true, out),
+    }
 }

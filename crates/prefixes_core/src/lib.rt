@@ -13,6 +13,7 @@ pub mod drawing;
 mod failure;
 mod files;
 mod inputs;
+mod json;
 mod lines;
 pub mod listing;
 pub mod measuring;

@@ -7,11 +7,15 @@ ghost use Rattle.patricia_tree.specs.Writings.{TooDeep};
 ghost use Rattle.prefixes_core.specs.Internal.Splits.{AreMeasured};
 ghost use Rattle.prefixes_core.specs.Trees.{AreTreeCounts};
 
+mod writing;
+
 use crate::packing::PackError;
 use crate::records::split_record;
 use patricia_tree::map::ReadCursor;
 use patricia_tree::{StringPatriciaMap, WireError};
 use std::alloc::AllocError;
+
+pub use writing::{push_measure_lines, push_measure_object, saved};
 
 /// What a list of names takes, alone and as a tree. A label has at most 255 bytes, so a longer
 /// part of a name counts as several nodes.

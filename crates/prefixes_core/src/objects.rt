@@ -2,7 +2,6 @@
 
 ghost use Rattle.std.specs.Prelude.{◌≡◌, ◌++◌, ℕ, List, OnOk};
 
-use crate::measuring::Measures;
 use crate::nearing::NearName;
 use crate::value::Payload;
 use serde::Serialize;
@@ -99,38 +98,6 @@ pub struct TreeObject<'a> {
 pub struct SegmentObject<'a> {
     pub line: &'a str,
     pub pieces: &'a [&'a str],
-}
-
-#[derive(Drop, Serialize)]
-pub struct MeasuresObject {
-    pub names: usize,
-    pub name_bytes: u128,
-    pub nodes: usize,
-    pub label_bytes: usize,
-    pub tree_bytes: usize,
-    pub depth: u16,
-    pub saved_percent: u128,
-}
-
-impl MeasuresObject {
-    pub fn new(measures: &Measures, saved_percent: u128) -> MeasuresObject {
-        MeasuresObject {
-            names: measures.names,
-            name_bytes: measures.name_bytes,
-            nodes: measures.nodes,
-            label_bytes: measures.label_bytes,
-            tree_bytes: measures.tree_bytes,
-            depth: measures.depth,
-            saved_percent,
-        }
-    }
-}
-
-#[derive(Drop, Serialize)]
-pub struct NodeObject<'a> {
-    pub level: u16,
-    pub label: Text<'a>,
-    pub name: Option<Text<'a>>,
 }
 
 /// Writes an object on a line.

@@ -4,7 +4,8 @@ use Rattle.std.specs.Fmt.{decimal}
 use Rattle.std.specs.List.{flat_map}
 use Rattle.prefixes_core.specs.Answers.{count_line, fields_line}
 use Rattle.prefixes_core.specs.declared.answering.Question.TheVariants as Questions
-use Rattle.prefixes_core.proofs.AnswerLemmas.{flat_map-map, writes}
+use Rattle.prefixes_core.proofs.AnswerLemmas.{writes}
+use Rattle.prefixes_core.proofs.ObjectLemmas.{flat_map-map}
 use Rattle.prefixes_core.proofs.answering.near_all.Goals as goal
 
 pub returns-clause-written : goal.returns-clause-written
