@@ -39,6 +39,9 @@ saved_is n l some = by (cases_lt n l)
         (mod_below ((n - l) * 100) n some) some (omega (arith, down, more)) in
         omega (arith, none.0, le-div 100 (l * 100) n some (omega (arith, more)))
     by (inr less) =
-        omega (arith, rounded n ((n - l) * 100 / n) ((n - l) * 100 % n) (l * 100 / n)
-        (l * 100 % n) some (mod_below ((n - l) * 100) n some) (mod_below (l * 100) n some)
-        (omega (arith, down, up, less)))
+        omega (
+          arith,
+          rounded n ((n - l) * 100 / n) ((n - l) * 100 % n) (l * 100 / n)
+              (l * 100 % n) some (mod_below ((n - l) * 100) n some) (mod_below (l * 100) n some)
+              (omega (arith, down, up, less)),
+        )

@@ -1,6 +1,7 @@
 -- The texts that a tree of names is drawn as. A node is its level, its label and whether a name
 -- ends there.
-use Rattle.std.specs.Prelude.{◌≡◌, ◌+◌, ◌*◌, ◌-◌, ◌++◌, ◌==◌, ◌||◌, if◌then◌else◌, ℕ, Bool, true, false}
+use Rattle.std.specs.Prelude.{◌≡◌, ◌+◌, ◌*◌, ◌-◌, ◌++◌, ◌==◌, ◌||◌, if◌then◌else◌, ℕ}
+use Rattle.std.specs.Prelude.{Bool, true, false}
 use Rattle.std.specs.Prelude.{List, [], ◌∷◌, length, take, replicate, codes, slice_get, slice_range}
 use Rattle.std.specs.Prelude.{Option, None, Some}
 use Rattle.std.specs.Bool.{then_some}

@@ -67,11 +67,7 @@ impl<T: ToJson> ToJson for Option<T> {
 }
 
 // Writes values, each behind a comma.
-fn push_others<T: ToJson>(
-    alloc: Global,
-    values: &[T],
-    out: &mut Vec<u8>,
-) -> Result<(), AllocError>
+fn push_others<T: ToJson>(alloc: Global, values: &[T], out: &mut Vec<u8>) -> Result<(), AllocError>
     ensures { OnOk result (out.new.items
         ≡ out.old.items ++ flat_map (λ value. 44 ∷ T.text value) values.now) }
 {
@@ -83,11 +79,7 @@ fn push_others<T: ToJson>(
 }
 
 // Writes values with a comma between any two.
-fn push_joined<T: ToJson>(
-    alloc: Global,
-    values: &[T],
-    out: &mut Vec<u8>,
-) -> Result<(), AllocError>
+fn push_joined<T: ToJson>(alloc: Global, values: &[T], out: &mut Vec<u8>) -> Result<(), AllocError>
     ensures { OnOk result (out.new.items
         ≡ out.old.items ++ join_by T.text (44 ∷ []) values.now) }
 {

@@ -14,7 +14,6 @@ use crate::records::split_record;
 use patricia_tree::map::ReadCursor;
 use patricia_tree::{StringPatriciaMap, WireError};
 use std::alloc::AllocError;
-
 pub use writing::{push_measure_lines, push_measure_object, saved};
 
 /// What a list of names takes, alone and as a tree. A label has at most 255 bytes, so a longer

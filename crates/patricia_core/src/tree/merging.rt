@@ -68,7 +68,7 @@ fn find_behind<V, Q: BorrowedBytes>(
 }
 
 /// A tree that entries are merged into, with keys that are near one another: the look-up of each
-/// goes on from the nodes that the key before it has passed. The keys are borrowed for one call each.
+/// goes on from the nodes that the key before it has passed. Keys are borrowed for one call each.
 ///
 /// Its nodes stay where they are, in the order in which they were made: `settle` relocates them
 /// once it is a tree again.

@@ -65,12 +65,7 @@ fn push_name(
 
 // Writes a node on a line: two spaces for each level, the label, and behind a tab the whole name
 // where one ends.
-fn push_line(
-    alloc: Global,
-    node: &Node,
-    way: &[&[u8]],
-    out: &mut Vec<u8>,
-) -> Result<(), AllocError>
+fn push_line(alloc: Global, node: &Node, way: &[&[u8]], out: &mut Vec<u8>) -> Result<(), AllocError>
     ensures { OnOk result (out.new.items ≡ out.old.items ++ node_line
         (list_map (λ label. label.now) way.now)
         (node.now.level, (node.now.label, node.now.is_name))) }
@@ -89,9 +84,11 @@ fn push_name_member(
     way: &[&[u8]],
     out: &mut Vec<u8>,
 ) -> Result<(), AllocError>
-    ensures { OnOk result (out.new.items ≡ out.old.items ++ 44 ∷ member_text (codes "name",
-        option_text (then_some is_name
-        (bytes_text (concat (list_map (λ label. label.now) way.now)))))) }
+    ensures { OnOk result (out.new.items ≡ out.old.items ++ 44 ∷ member_text (
+      codes "name",
+      option_text (then_some is_name
+          (bytes_text (concat (list_map (λ label. label.now) way.now)))),
+    )) }
 {
     if is_name {
         let name = joined(alloc, way)?;
@@ -258,11 +255,7 @@ fn push_graph_line(
     Ok(())
 }
 
-fn push_graph_lines(
-    alloc: Global,
-    nodes: &[Node],
-    out: &mut Vec<u8>,
-) -> Result<(), AllocError>
+fn push_graph_lines(alloc: Global, nodes: &[Node], out: &mut Vec<u8>) -> Result<(), AllocError>
     ensures { OnOk result (out.new.items ≡ out.old.items ++ graph_lines [] 0
         (list_map (λ node. (node.level, (node.label, node.is_name))) nodes.now)) }
 {
@@ -276,11 +269,7 @@ fn push_graph_lines(
 }
 
 // Writes the nodes of a tree as a graph of Graphviz.
-pub(super) fn push_graph(
-    alloc: Global,
-    nodes: &[Node],
-    out: &mut Vec<u8>,
-) -> Result<(), AllocError>
+pub(super) fn push_graph(alloc: Global, nodes: &[Node], out: &mut Vec<u8>) -> Result<(), AllocError>
     ensures { OnOk result (out.new.items ≡ out.old.items ++ graph_text
         (list_map (λ node. (node.level, (node.label, node.is_name))) nodes.now)) }
 {

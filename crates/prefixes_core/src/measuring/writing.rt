@@ -22,12 +22,7 @@ pub fn saved(measures: &Measures) -> u128
 }
 
 // Writes the line of a number.
-fn push_number(
-    name: &str,
-    number: u128,
-    unit: &str,
-    out: &mut Vec<u8>,
-) -> Result<(), AllocError>
+fn push_number(name: &str, number: u128, unit: &str, out: &mut Vec<u8>) -> Result<(), AllocError>
     ensures { OnOk result (out.new.items ≡ out.old.items ++ number_line name.now number unit.now) }
 {
     out.extend_from_slice(name.as_bytes())?;
@@ -70,8 +65,20 @@ pub fn push_measure_object(
     push_member(alloc, b'{', "names", &(measures.names as u128), out)?;
     push_member(alloc, b',', "name_bytes", &measures.name_bytes, out)?;
     push_member(alloc, b',', "nodes", &(measures.nodes as u128), out)?;
-    push_member(alloc, b',', "label_bytes", &(measures.label_bytes as u128), out)?;
-    push_member(alloc, b',', "tree_bytes", &(measures.tree_bytes as u128), out)?;
+    push_member(
+        alloc,
+        b',',
+        "label_bytes",
+        &(measures.label_bytes as u128),
+        out,
+    )?;
+    push_member(
+        alloc,
+        b',',
+        "tree_bytes",
+        &(measures.tree_bytes as u128),
+        out,
+    )?;
     push_member(alloc, b',', "depth", &(measures.depth as u128), out)?;
     push_member(alloc, b',', "saved_percent", &saved(measures), out)?;
     out.extend_from_slice(b"}\n")?;

@@ -11,8 +11,9 @@ loop-place-preserved c =
     c.loop-place.out.items c.push_graph_line.new.out.items c.from.ensures c.truncate.ensures.items
     c.in_ok-push.ensures.items
     (c.in_ok-push_graph_line.ensures
-    ∙ ap (λ parents. c.loop-place.out.items ++ graph_line parents c.loop-place.place
-    (c.index-nodes-place.result.level,
-    (c.index-nodes-place.result.label, c.index-nodes-place.result.is_name)))
+    ∙ ap (λ parents. c.loop-place.out.items ++ graph_line parents c.loop-place.place (
+      c.index-nodes-place.result.level,
+      (c.index-nodes-place.result.label, c.index-nodes-place.result.is_name),
+    ))
     c.deref.ensures.value)
     c.loop-place.invariant
