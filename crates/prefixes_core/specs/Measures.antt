@@ -1,5 +1,5 @@
 -- What a list takes, and the lines that say so.
-use Rattle.std.specs.Prelude.{◌≡◌, ◌*◌, ◌-◌, ◌/◌, ◌++◌, if◌then◌else◌, ℕ, Bool, List, [], ◌∷◌}
+use Rattle.std.specs.Prelude.{◌≡◌, ◌*◌, ◌-◌, ◌/◌, ◌++◌, ℕ, Bool, true, false, List, [], ◌∷◌}
 use Rattle.std.specs.Prelude.{length, sum_by, codes}
 use Rattle.std.specs.Fmt.{decimal}
 use Rattle.prefixes_core.specs.Objects.{object_text}
@@ -37,8 +37,12 @@ measure_object m =
     ∷ (codes "tree_bytes", decimal m.tree_bytes) ∷ (codes "depth", decimal m.depth)
     ∷ (codes "saved_percent", decimal (saved_percent m.name_bytes m.label_bytes)) ∷ []) ++ 10 ∷ []
 
--- what is written of the entries, as JSON or in lines
+-- all numbers, as JSON or in lines
+abbrev pub measures_text : Bool → Measures → List ℕ
+measures_text true m = measure_object m
+measures_text false m = measure_lines m
+
+-- what is written of the entries
 abbrev pub TellsMeasures : {V : Type 0} → Bool → List (List ℕ × V) → List ℕ → Type 0
 TellsMeasures as_json entries text =
-    (m : Measures) × AreMeasures entries m
-    × (text ≡ (if as_json then measure_object m else measure_lines m))
+    (m : Measures) × AreMeasures entries m × (text ≡ measures_text as_json m)

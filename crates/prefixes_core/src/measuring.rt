@@ -14,7 +14,7 @@ use crate::records::split_record;
 use patricia_tree::map::ReadCursor;
 use patricia_tree::{StringPatriciaMap, WireError};
 use std::alloc::AllocError;
-pub use writing::{push_measure_lines, push_measure_object, saved};
+pub use writing::push_measures;
 
 /// What a list of names takes, alone and as a tree. A label has at most 255 bytes, so a longer
 /// part of a name counts as several nodes.

@@ -12,7 +12,7 @@ use crate::drawing::{Form, draw, push_drawing};
 use crate::failure::{Failure, pack_failure, put};
 use crate::inputs::{Inputs, shown};
 use crate::listing::Names;
-use crate::measuring::{measure, push_measure_lines, push_measure_object};
+use crate::measuring::{measure, push_measures};
 use crate::options::path;
 use clap::ArgMatches;
 use std::alloc::Global;
@@ -37,11 +37,7 @@ fn put_measures<W: Write>(
         Err(error) => return Err(pack_failure(alloc, shown(list), error)),
     };
     let mut out = Vec::new(alloc);
-    if as_json {
-        push_measure_object(alloc, &measures, &mut out)?;
-    } else {
-        push_measure_lines(&measures, &mut out)?;
-    }
+    push_measures(alloc, &measures, as_json, &mut out)?;
     put(output, &mut out)?;
     Ok(measures.names != 0)
 }

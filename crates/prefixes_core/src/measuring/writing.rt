@@ -2,15 +2,15 @@
 
 ghost use Rattle.std.specs.Prelude.{◌≡◌, ◌++◌, OnOk};
 ghost use Rattle.prefixes_core.specs.Measures.{saved_percent, number_line, measure_lines};
-ghost use Rattle.prefixes_core.specs.Measures.{measure_object};
+ghost use Rattle.prefixes_core.specs.Measures.{measure_object, measures_text};
 
 use super::Measures;
 use crate::json::push_member;
 use itoa::Buffer;
 use std::alloc::{AllocError, Global};
 
-/// How many hundredths of the bytes of names their labels save, rounded down.
-pub fn saved(measures: &Measures) -> u128
+// How many hundredths of the bytes of names their labels save, rounded down.
+fn saved(measures: &Measures) -> u128
     ensures { result ≡ saved_percent measures.now.name_bytes measures.now.label_bytes }
 {
     if measures.name_bytes == 0 {
@@ -33,12 +33,8 @@ fn push_number(name: &str, number: u128, unit: &str, out: &mut Vec<u8>) -> Resul
     Ok(())
 }
 
-/// Writes what a list takes at the end of a text, a line for each number.
-///
-/// # Errors
-///
-/// Out of memory.
-pub fn push_measure_lines(measures: &Measures, out: &mut Vec<u8>) -> Result<(), AllocError>
+// Writes what a list takes, a line for each number.
+fn push_measure_lines(measures: &Measures, out: &mut Vec<u8>) -> Result<(), AllocError>
     ensures { OnOk result (out.new.items ≡ out.old.items ++ measure_lines measures.now) }
 {
     push_number("names", measures.names as u128, "", out)?;
@@ -50,12 +46,8 @@ pub fn push_measure_lines(measures: &Measures, out: &mut Vec<u8>) -> Result<(), 
     push_number("saved", saved(measures), "%", out)
 }
 
-/// Writes what a list takes at the end of a text, as an object of JSON on a line.
-///
-/// # Errors
-///
-/// Out of memory.
-pub fn push_measure_object(
+// Writes what a list takes as an object of JSON on a line.
+fn push_measure_object(
     alloc: Global,
     measures: &Measures,
     out: &mut Vec<u8>,
@@ -83,4 +75,24 @@ pub fn push_measure_object(
     push_member(alloc, b',', "saved_percent", &saved(measures), out)?;
     out.extend_from_slice(b"}\n")?;
     Ok(())
+}
+
+/// Writes what a list takes at the end of a text, as JSON or in lines.
+///
+/// # Errors
+///
+/// Out of memory.
+pub fn push_measures(
+    alloc: Global,
+    measures: &Measures,
+    as_json: bool,
+    out: &mut Vec<u8>,
+) -> Result<(), AllocError>
+    ensures { OnOk result (out.new.items ≡ out.old.items ++ measures_text as_json measures.now) }
+{
+    if as_json {
+        push_measure_object(alloc, measures, out)
+    } else {
+        push_measure_lines(measures, out)
+    }
 }
