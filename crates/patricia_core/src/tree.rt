@@ -26,11 +26,10 @@ mod ranges;
 mod whole;
 
 pub use loading::Loader;
-use loading::insert_from_root;
 pub use merging::Merger;
 pub use patricia_codec::{DecodeError, EncodeError, Narrow, Wide, Width, WireError};
 use patricia_codec::{decode, encode};
-use patricia_edits::{copy, copy_value, remove, split};
+use patricia_edits::{copy, copy_value, insert, remove, split};
 use patricia_keys::{BorrowedBytes, Bytes};
 use patricia_nodes::Steps;
 use patricia_nodes::arena::NodeArena;
@@ -197,7 +196,17 @@ impl<K: Bytes, V: Drop> Tree<K, V> {
         if key.is_empty() {
             return Ok(self.parts.value.replace(value));
         }
-        insert_from_root(&mut self.parts, key, value)
+        if self.parts.count == usize::MAX - 1 && self.get(key).is_none() {
+            return Err(Refused { value });
+        }
+        match insert(&mut self.parts.arena, self.parts.alloc, key, value) {
+            Ok(None) => {
+                self.parts.count += 1;
+                Ok(None)
+            }
+            Ok(Some(old)) => Ok(Some(old)),
+            Err(refused) => Err(refused),
+        }
     }
 
     /// Lends the value at a key, or returns `None` where there is none.

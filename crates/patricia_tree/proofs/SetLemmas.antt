@@ -1,6 +1,7 @@
 -- Words of sets, tied to those of maps.
 use Rattle.std.proofs.Common.{◌≡◌, ◌≢◌, ℕ, List, [], ◌∷◌, ◌++◌, Option, Some, None}
-use Rattle.std.proofs.Common.{map, refl, sym, ap, ◌∙◌}
+use Rattle.std.proofs.Common.{false, map, refl, sym, ap, ◌∙◌}
+use Rattle.std.specs.Prelude.{is_some}
 use Rattle.std.specs.Iterator.{Yields}
 use Rattle.patricia_tree.specs.Bulk.{insert_all, by_bytes}
 use Rattle.std.specs.FinMap as finmap
@@ -30,6 +31,11 @@ puts_one_more_key bytes old given key so_far put = puts_one_more bytes old (in_p
     (key, tt) so_far put ∙ ap (λ pairs. insert_all old (by_bytes bytes pairs))
     (sym (in_pairs_more given key))
 
+-- what is not contained has no value
+no_value : (o : Option (Unit {0})) → is_some o ≡ false → o ≡ None
+no_value None absent = refl
+no_value (Some u) absent = absurd (cc)
+
 module _ {I S Q : Type 0} (becomes : I → S → Type 0) (steps : S → Option Q → S → Type 0)
     (bytes : Q → List ℕ) where
   -- the keys that were given, as pairs
@@ -53,10 +59,10 @@ module _ {I S Q : Type 0} (becomes : I → S → Type 0) (steps : S → Option Q
 
     -- the last turn, at which the key is refused
     pub refuses_at : {new : KeySet} (key : Q) → steps at (Some key) rest → new ≡ here
-        → bytes key ≢ [] → finmap.get here (bytes key) ≡ None
+        → bytes key ≢ [] → finmap.contains_key here (bytes key) ≡ false
         → IsStoppedAt becomes steps bytes keys old new
     refuses_at key next same nonempty absent = stops_at start at rest (in_pairs given) (key, tt)
-        is_start (gave_pairs start given at gave) next so_far same nonempty absent
+        is_start (gave_pairs start given at gave) next so_far same nonempty (no_value _ absent)
 
   module _ (keys : I) (old here : KeySet) (start at rest : S) (given : List Q)
       (is_start : becomes keys start) (gave : Yields steps start given at)

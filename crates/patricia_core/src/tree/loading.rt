@@ -5,50 +5,17 @@ ghost use Rattle.std.specs.List.{last_or};
 ghost use Rattle.std.specs.Option.{option_map};
 ghost use Rattle.patricia_model.specs.Trees.{map_of};
 ghost use Rattle.patricia_nodes.specs.Internal.Plans.{siblings_of};
-ghost use Rattle.patricia_core.specs.Internal.Stores.{IsFilled, IsStored};
+ghost use Rattle.patricia_core.specs.Internal.Stores.{IsFilled};
 
 use super::{Refused, Tree};
-use patricia_edits::{insert, insert_along};
+use patricia_edits::insert_along;
 use patricia_keys::BorrowedBytes;
 use patricia_nodes::link::NodeId;
 use patricia_walks::TreeParts;
 use patricia_walks::last::last;
 use std::alloc::AllocError;
-use std::cmp::{Ord, Ordering};
 use std::marker::{Model, PhantomData};
 use std::mem;
-
-// Inserts a value at a nonempty key and returns the old one.
-pub(super) fn insert_from_root<V: Drop, Q: BorrowedBytes>(
-    tree: &mut TreeParts<V>,
-    key: Q,
-    value: V,
-) -> Result<Option<V>, Refused<V>>
-    requires stored { IsStored Q.Owned.item tree.old.arena tree.old.count }
-    requires nonempty { Q.key key ≢ [] }
-    ensures stored { IsStored Q.Owned.item tree.new.arena tree.new.count }
-    ensures old { IfOk result (λ old.
-        old ≡ map.get (map_of tree.old.value (siblings_of tree.old.arena)) (Q.key key)) }
-    ensures ok { OnOk result (map_of tree.new.value (siblings_of tree.new.arena)
-        ≡ map.insert (map_of tree.old.value (siblings_of tree.old.arena)) (Q.key key) value) }
-    ensures refused { IfErr result (λ r. r.value ≡ value) }
-    ensures unchanged { OnErr result (map_of tree.new.value (siblings_of tree.new.arena)
-        ≡ map_of tree.old.value (siblings_of tree.old.arena)) }
-    ensures only_new { OnErr result
-        (map.get (map_of tree.old.value (siblings_of tree.old.arena)) (Q.key key) ≡ None) }
-{
-    if tree.count == usize::MAX - 1 && tree.arena.find(key).is_none() {
-        return Err(Refused { value });
-    }
-    match insert(&mut tree.arena, tree.alloc, key, value) {
-        Ok(None) => {
-            tree.count += 1;
-            Ok(None)
-        }
-        Ok(Some(old)) => Ok(Some(old)),
-        Err(refused) => Err(refused),
-    }
-}
 
 // Inserts a value at a nonempty key and returns the old one. The look-up goes on from the trail of
 // the last key, and the trail is that of this key then.
@@ -100,8 +67,6 @@ pub struct Loader<Q: BorrowedBytes, V> {
     last: Option<Q>,
     // a finger: the nodes that it has passed, each with how many of its bytes are passed there
     trail: Vec<(NodeId, usize)>,
-    // whether a key has come before the one before it
-    unsorted: bool,
 }
 
 impl<Q: BorrowedBytes, V> Model for Loader<Q, V> {
@@ -134,7 +99,6 @@ impl<Q: BorrowedBytes, V: Drop> Loader<Q, V> {
             tree,
             last: None,
             trail,
-            unsorted: false,
         }
     }
 
@@ -171,36 +135,5 @@ impl<Q: BorrowedBytes, V: Drop> Loader<Q, V> {
         }
         let last = mem::replace(&mut self.last, Some(key));
         insert_behind(&mut self.tree, &mut self.trail, last, key, value)
-    }
-
-    // Whether a key comes before the one that was looked up last, where there is one.
-    fn comes_late(&self, key: Q) -> bool {
-        match self.last {
-            Some(last) => key.as_bytes().cmp(last.as_bytes()) == Ordering::Less,
-            None => false,
-        }
-    }
-
-    /// The same, for pairs in any order. As long as no key comes before the one before it, this is
-    /// `insert`. From the first key that does, each is looked up from the root, and nodes are
-    /// relocated as they grow in number, as by `insert` of a tree: so look-ups of keys that are far
-    /// from one another stay quick.
-    pub fn insert_any(&mut self, key: Q, value: V) -> Result<Option<V>, Refused<V>>
-        ensures old { IfOk result (λ old. old ≡ map.get self.old (Q.key key)) }
-        ensures ok { OnOk result (self.new ≡ map.insert self.old (Q.key key) value) }
-        ensures refused { IfErr result (λ r. r.value ≡ value) }
-        ensures unchanged { OnErr result (self.new ≡ self.old) }
-        ensures err_only_nonempty { OnErr result (Q.key key ≢ []) }
-        ensures only_new { OnErr result (map.get self.old (Q.key key) ≡ None) }
-    {
-        if key.is_empty() {
-            return self.insert(key, value);
-        }
-        if !self.unsorted && !self.comes_late(key) {
-            return self.insert(key, value);
-        }
-        self.unsorted = true;
-        self.last = None;
-        insert_from_root(&mut self.tree, key, value)
     }
 }

@@ -7,7 +7,6 @@ ghost use Rattle.patricia_tree.specs.Bulk.{Extends, IsStoppedAt};
 
 use super::GenericPatriciaMap;
 use patricia_core::keys::{BorrowedBytes, Bytes};
-use patricia_core::tree::Loader;
 use std::alloc::{AllocError, Global};
 use std::iter::{IntoIterator, Iterator};
 
@@ -15,10 +14,8 @@ impl<K: Bytes, V: Drop> GenericPatriciaMap<K, V> {
     /// Inserts pairs, one after the other: of two values for one key the later stays. The iterator
     /// must end.
     ///
-    /// As long as no key comes before the one before it, the look-up of each goes on from the nodes
-    /// that the one before it has passed. From the first key that does, this takes the time of an
-    /// `insert` for each pair. Where the map has more than doubled, its nodes are relocated at the
-    /// end, if memory is there for it.
+    /// Takes the time of an `insert` for each pair. Where the map has more than doubled, its nodes
+    /// are relocated at the end, if memory is there for it.
     ///
     /// # Errors
     ///
@@ -46,33 +43,14 @@ impl<K: Bytes, V: Drop> GenericPatriciaMap<K, V> {
     {
         let before = self.len();
         let mut rest = pairs.into_iter();
-        let mut loader = self.take_loader();
         while let Some((key, value)) = rest.next() {
-            match loader.insert_any(key, value) {
+            match self.insert(key, value) {
                 Ok(old) => drop(old),
-                Err(_) => {
-                    self.give_back(loader);
-                    return Err(AllocError);
-                }
+                Err(_) => return Err(AllocError),
             }
         }
-        self.give_back(loader);
         self.settle_since(before);
         Ok(())
-    }
-
-    // Takes the entries out, to insert others along a trail. The map is left empty.
-    pub(crate) fn take_loader<Q: BorrowedBytes<Owned = K>>(&mut self) -> Loader<Q, V>
-        ensures { result ≡ self.old }
-    {
-        Loader::new(self.tree.take())
-    }
-
-    // Gives the entries back to the map.
-    pub(crate) fn give_back<Q: BorrowedBytes<Owned = K>>(&mut self, loader: Loader<Q, V>)
-        ensures { self.new ≡ loader }
-    {
-        self.tree = loader.into_tree();
     }
 
     // Relocates the nodes at the end of a load, where the map has more than doubled.
@@ -87,7 +65,7 @@ impl<K: Bytes, V: Drop> GenericPatriciaMap<K, V> {
     /// Makes a map of pairs, inserted one after the other: of two values for one key the later
     /// stays. The iterator must end.
     ///
-    /// Takes the time of `extend`.
+    /// Takes the time of an `insert` for each pair.
     ///
     /// # Errors
     ///

@@ -12,10 +12,8 @@ use std::iter::{IntoIterator, Iterator};
 impl<T: Bytes> GenericPatriciaSet<T> {
     /// Inserts elements, one after the other. The iterator must end.
     ///
-    /// As long as no element comes before the one before it, the look-up of each goes on from the
-    /// nodes that the one before it has passed. From the first that does, this takes the time of an
-    /// `insert` for each element. Where the set has more than doubled, its nodes are relocated at
-    /// the end, if memory is there for it.
+    /// Takes the time of an `insert` for each element. Where the set has more than doubled, its
+    /// nodes are relocated at the end, if memory is there for it.
     ///
     /// # Errors
     ///
@@ -42,17 +40,9 @@ impl<T: Bytes> GenericPatriciaSet<T> {
     {
         let before = self.len();
         let mut rest = elements.into_iter();
-        let mut loader = self.map.take_loader();
         while let Some(element) = rest.next() {
-            match loader.insert_any(element, ()) {
-                Ok(_) => {}
-                Err(_) => {
-                    self.map.give_back(loader);
-                    return Err(AllocError);
-                }
-            }
+            self.insert(element)?;
         }
-        self.map.give_back(loader);
         self.settle_since(before);
         Ok(())
     }
@@ -66,7 +56,7 @@ impl<T: Bytes> GenericPatriciaSet<T> {
 
     /// Makes a set of elements, inserted one after the other. The iterator must end.
     ///
-    /// Takes the time of `extend`.
+    /// Takes the time of an `insert` for each element.
     ///
     /// # Errors
     ///

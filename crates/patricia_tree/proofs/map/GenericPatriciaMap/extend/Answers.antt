@@ -1,4 +1,3 @@
-use Rattle.std.proofs.Common.{◌∙◌}
 use Rattle.patricia_tree.proofs.BulkLemmas.{puts_one_more, stops_at}
 use Rattle.patricia_tree.proofs.map.GenericPatriciaMap.extend.Goals as goal
 
@@ -8,14 +7,5 @@ loop-key-preserved g c = puts_one_more g.Q.BorrowedBytes.key c.args.self.now c.l
 pub returns-in-Err-clause-err : goal.returns-in-Err-clause-err
 returns-in-Err-clause-err g c = stops_at _ _ _ c.loop-key.yielded _
     c.into_iter-rest.ensures.into_iter_gives c.loop-key.yielded_by c.in-Some.ensures.steps
-    c.loop-key.invariant (c.give_back.ensures ∙ c.in-Err.ensures.unchanged)
-    c.in-Err.ensures.err_only_nonempty c.in-Err.ensures.only_new
-
-pub returns-clause-ok : goal.returns-clause-ok
-returns-clause-ok g c = record {
-  start = _;
-  given = c.loop-key.yielded;
-  is_start = c.into_iter-rest.ensures.into_iter_gives;
-  gave_all = (_, (_, c.loop-key.yielded_by, c.in_default.ensures.steps));
-  put_in = c.settle_since.ensures ∙ c.give_back-2.ensures ∙ c.loop-key.invariant;
-}
+    c.loop-key.invariant c.in-Err.ensures.unchanged c.in-Err.ensures.err_only_nonempty
+    c.in-Err.ensures.only_new

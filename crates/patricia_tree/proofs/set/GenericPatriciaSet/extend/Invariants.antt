@@ -4,4 +4,4 @@ use Rattle.patricia_tree.proofs.SetLemmas.{in_pairs}
 use Rattle.patricia_tree.proofs.set.GenericPatriciaSet.extend.Given as goal
 
 abbrev pub invariant-loop-element : goal.invariant-loop-element
-invariant-loop-element g l = l.loader ≡ insert_all l.fn.self (by_bytes g.Q.BorrowedBytes.key (in_pairs l.yielded))
+invariant-loop-element g l = l.self ≡ insert_all l.initial.self (by_bytes g.Q.BorrowedBytes.key (in_pairs l.yielded))
