@@ -6,6 +6,8 @@ ghost use Rattle.std.specs.Prelude.{◌≡◌, ℕ, ◌+◌, ◌^◌, ◌≤◌,
 ghost use Rattle.patricia_store.specs.Internal.Permutations.{AreNumbers, Gathers, strays};
 ghost use Rattle.patricia_store.specs.Internal.Permutations.{ArePutOut, AreTogether};
 
+use crate::memory::give_back;
+
 /// How many numbers of an order are strays: those that do not rise above the ones before that are
 /// none, or are no less than `settled`.
 pub fn count_strays(order: &[u32], settled: usize) -> usize
@@ -24,12 +26,6 @@ pub fn count_strays(order: &[u32], settled: usize) -> usize
         i += 1;
     }
     count
-}
-
-/// Gives a list back, in a block that was made small before, as `Labels::give_back` does.
-pub fn give_back(mut list: Vec<u32>) {
-    list.truncate(1);
-    list.shrink_to(1);
 }
 
 // Puts strays behind the first `n` items, and notes in the order where they are.

@@ -9,6 +9,7 @@ ghost use Rattle.patricia_store.specs.Internal.Labels.{number_at, start_in, len_
 ghost use Rattle.patricia_store.specs.Internal.Labels.{IsSpan, Extends, note_room, six_bytes};
 ghost use Rattle.patricia_store.specs.Internal.Labels.{label_room, joined_room, cut_room};
 
+use crate::memory::give_back;
 use crate::packed::{MOST, Packed};
 use std::alloc::{AllocError, Global};
 use std::marker::Model;
@@ -308,11 +309,9 @@ impl Labels {
         self.bytes.reserve_exact(growth)
     }
 
-    /// Gives the bytes back, in a block that was made small before. Once glibc's allocator frees a
-    /// large block, it takes others of that size from its heap, whose end it keeps.
-    pub fn give_back(mut self) {
-        self.bytes.truncate(1);
-        self.bytes.shrink_to(1);
+    /// Gives the bytes back.
+    pub fn give_back(self) {
+        give_back(self.bytes);
     }
 
     /// Drops all bytes.

@@ -11,6 +11,7 @@ mod head;
 mod interleave;
 mod labels;
 mod laying;
+mod memory;
 mod order;
 mod packed;
 pub mod store;

@@ -11,7 +11,8 @@ ghost use Rattle.patricia_store.specs.Internal.Renumbering.{RenumbersHeads};
 
 use crate::body::Body;
 use crate::head::Head;
-use crate::interleave::{count_strays, give_back, interleave};
+use crate::interleave::{count_strays, interleave};
+use crate::memory::give_back;
 use crate::packed::Packed;
 
 // The number that a node gets.

@@ -21,6 +21,7 @@ use crate::body::Body;
 use crate::draft::{Draft, label_len, offset_of, span_of, write};
 use crate::head::Head;
 use crate::labels::Labels;
+use crate::memory::renew_room;
 use crate::order::{arrange, renumber};
 use crate::packed::MOST_NODES;
 use std::alloc::Global;
@@ -356,8 +357,8 @@ impl<V: Drop> Store<V> {
     }
 
     /// Keeps the first `n` nodes, with room for half as many more, and drops the others. More room
-    /// for nodes than that is given back, where the allocator takes it. The bytes of all labels
-    /// stay.
+    /// for nodes than that, and what was written behind them, is given back, where the allocator
+    /// takes it. The bytes of all labels stay.
     pub fn keep_first(&mut self, n: usize)
         ensures items { self.new.items ≡ take n self.old.items }
         ensures capacity { length self.new.items + 2 ≤ self.old.capacity
@@ -366,10 +367,8 @@ impl<V: Drop> Store<V> {
     {
         self.heads.truncate(n);
         self.bodies.truncate(n);
-        let len = self.heads.len();
-        let wanted = len + len / 2 + 4;
-        self.heads.shrink_to(wanted);
-        self.bodies.shrink_to(wanted);
+        renew_room(&mut self.heads);
+        renew_room(&mut self.bodies);
     }
 
     /// Drops all nodes.
