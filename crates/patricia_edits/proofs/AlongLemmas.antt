@@ -1,10 +1,90 @@
--- A value that is inserted at a place behind a trail.
-use Rattle.std.proofs.Common.{List, ℕ, Option}
+-- A value that is inserted at a place behind a trail, or removed there.
+use Rattle.std.proofs.Common.{◌≡◌, ◌≢◌, inl, inr, ℕ, ◌+◌, ◌<◌, List, [], ◌∷◌, ◌++◌, length, Option, None, refl, sym, ap, subst, ◌∙◌, arith}
+use Rattle.std.specs.Prelude.{reverse}
+use Rattle.patricia_keys.specs.Keys.{IsKeyKind}
 use Rattle.patricia_nodes.specs.declared.arena.NodeArena.{NodeArena}
 use Rattle.patricia_nodes.specs.declared.arena.seek.LinkRef.{LinkRef}
+use Rattle.patricia_nodes.specs.declared.arena.seek.LinkRef.TheVariants.{Child, Sibling}
 use Rattle.patricia_nodes.specs.declared.arena.seek.Match.{Match}
-use Rattle.patricia_nodes.specs.Internal.Trails.{IsTrail, KeepsAround, PlacedBehind}
+use Rattle.patricia_nodes.specs.Internal.Merges.{LeavesOther}
+use Rattle.patricia_nodes.specs.Internal.Plans.{Plan}
+use Rattle.patricia_nodes.specs.Internal.Places.{Frame, InChild, InSibling, above_of, link_ref_of, Leads}
+use Rattle.patricia_nodes.specs.Internal.Trails.{path_of, AreAbove, IsTrail, KeepsAround, PlacedBehind}
 use Rattle.patricia_nodes.specs.Internal.Writes.{Stays}
+use Rattle.patricia_nodes.proofs.TrailLemmas.{IsCutFrom, cut_within, above_deeper, filled_length}
+use Rattle.patricia_nodes.proofs.TrailLemmas.{leads_to, path_length, trail_cut}
+use Rattle.patricia_edits.specs.Internal.Removes.{IsLeaf, KeepsAbove, IsCutBefore}
+
+-- a trail is cut far enough where its last node ends before n bytes
+pub cut_short : (old now left : List (ℕ × ℕ)) (x : ℕ × ℕ) (n : ℕ) → IsCutFrom old now
+    → now ≡ left ++ x ∷ [] → x.1 < n → IsCutBefore n old now
+cut_short old now left x n cut last short =
+    let c = cut_within old now left x x.1 cut last (omega arith) in
+    record { cut = c.cut; is = c.is; before = λ e es back. let within = c.within e es back in omega (arith, within, short) }
+
+-- or where no node is left
+pub cut_none : (old now : List (ℕ × ℕ)) (n : ℕ) → IsCutFrom old now → now ≡ [] → IsCutBefore n old now
+cut_none old now n cut none = record {
+  cut = cut.0;
+  is = cut.1;
+  before = λ e es back. absurd (let z = sym (ap reverse none) ∙ back in cc);
+}
+
+module _ {V : Type 0} where
+  -- a node of a trail whose label ends before that of the node above a place is above that node
+  above_child : (id : ℕ) (l : List ℕ) (v : Option V) (d : Plan V) (outer : List (Frame V)) (e : ℕ × ℕ)
+      (es : List (ℕ × ℕ)) (inner mid : List (Frame V)) → InChild id l v d ∷ outer ≡ inner ++ mid
+      → link_ref_of mid ≡ Child e.0 → e.1 ≡ length (path_of mid) → AreAbove es mid
+      → e.1 < length (path_of outer ++ l) → AreAbove (e ∷ es) outer
+  above_child id l v d outer e es [] mid is at len rest short =
+      let same : length (path_of outer ++ l) ≡ length (path_of mid) = ap (λ fs. length (path_of fs)) is in
+      absurd (omega (arith, same, len, short))
+  above_child id l v d outer e es (f ∷ inner) mid is at len rest short =
+      let both : InChild id l v d ∷ outer ≡ f ∷ (inner ++ mid) = is in
+      let left : outer ≡ inner ++ mid = cc in
+      (inner, mid, left, at, len, rest)
+
+  -- and a node of a trail is not beside a place
+  above_sibling : (id : ℕ) (l : List ℕ) (v : Option V) (c : Plan V) (outer : List (Frame V)) (e : ℕ × ℕ)
+      (es : List (ℕ × ℕ)) (inner mid : List (Frame V)) → InSibling id l v c ∷ outer ≡ inner ++ mid
+      → link_ref_of mid ≡ Child e.0 → e.1 ≡ length (path_of mid) → AreAbove es mid
+      → AreAbove (e ∷ es) outer
+  above_sibling id l v c outer e es [] mid is at len rest =
+      absurd (let no : Sibling id (above_of outer) ≡ Child e.0 = ap link_ref_of is ∙ at in cc)
+  above_sibling id l v c outer e es (f ∷ inner) mid is at len rest =
+      let both : InSibling id l v c ∷ outer ≡ f ∷ (inner ++ mid) = is in
+      let left : outer ≡ inner ++ mid = cc in
+      (inner, mid, left, at, len, rest)
+
+  module _ (frames : List (Frame V)) (beside : Plan V) (u o : ℕ) (left : LeavesOther frames beside u o) where
+    -- the nodes of a trail that end before a place, whose node above takes in its other child, are
+    -- above both
+    above_outer : (cut es : List (ℕ × ℕ)) → AreAbove (cut ++ es) frames
+        → ((e : ℕ × ℕ) (rest : List (ℕ × ℕ)) → es ≡ e ∷ rest → e.1 < length (path_of frames))
+        → AreAbove es left.outer
+    above_outer (c ∷ cut) es (inner, mid, is, at, len, rest) short =
+        above_outer cut es (subst (AreAbove (cut ++ es)) (sym is) (above_deeper (cut ++ es) inner mid rest)) short
+    above_outer [] [] above short = tt
+    above_outer [] (e ∷ es) (inner, mid, is, at, len, rest) short = elim left.stands [
+      | inl s ↦
+          let near : e.1 < length (path_of left.outer ++ left.label) = subst (λ fs. e.1 < length (path_of fs)) s.0 (short e es refl) in
+          above_child u left.label None left.beside left.outer e es inner mid (sym s.0 ∙ is) at len rest near
+      | inr s ↦
+          let near : e.1 < length (path_of left.outer ++ left.label) = subst (λ fs. e.1 < length (path_of fs)) s.0 (short e es refl) in
+          let above = above_sibling o left.inner left.own left.below (InChild u left.label None left.beside ∷ left.outer) e es inner mid
+          (sym s.0 ∙ is) at len rest in
+          above_child u left.label None left.beside left.outer e es above.0 above.1 above.2 above.3 above.4 above.5 near
+    ]
+
+    -- a key that leads to the place leads to the node above
+    leads_outer : (item : List ℕ → Type 0) (key rest : List ℕ) → rest ≢ [] → Leads item frames key rest
+        → (before : List ℕ) × (before ≢ []) × Leads item left.outer key before
+    leads_outer item key rest some leads = elim left.stands [
+      | inl s ↦ leads_to item (InChild u left.label None left.beside ∷ []) left.outer key rest some
+          (subst (λ fs. Leads item fs key rest) s.0 leads)
+      | inr s ↦ leads_to item (InSibling o left.inner left.own left.below ∷ InChild u left.label None left.beside ∷ [])
+          left.outer key rest some (subst (λ fs. Leads item fs key rest) s.0 leads)
+    ]
 
 module _ {item : List ℕ → Type 0} {V : Type 0} {s : NodeArena V} {key : List ℕ}
     {link_ref : LinkRef} {at : Option ℕ} {rest : List ℕ} {matched : Match} {trail : List (ℕ × ℕ)}
@@ -37,3 +117,50 @@ module _ {item : List ℕ → Type 0} {V : Type 0} {s : NodeArena V} {key : List
     rest_nonempty = p.come.rest_nonempty;
     above = p.come.above;
   }
+
+  -- or where nothing was changed
+  pub trail_stays : (new : NodeArena V) → Stays s new → IsTrail item new key trail
+  trail_stays new stays = trail_to new (p.come.focus, rw (stays.nodes_is, stays.root_is) p.come.fills)
+
+  -- or where a value was removed at a node with children
+  pub trail_above : (new : NodeArena V) (id : ℕ) → KeepsAbove s new id p.come.frames → (IsLeaf s id → ⊥)
+      → IsTrail item new key trail
+  trail_above new id kept inner = elim kept [
+    | inl around ↦ trail_to new around
+    | inr joined ↦ absurd (inner joined.0)
+  ]
+
+  -- the length of the path to the place
+  pub passed_length : length (path_of p.come.frames) + length rest ≡ length key
+  passed_length = path_length item p.come.frames key rest p.come.leads
+
+  -- where a leaf was removed, the nodes that end before the place are a trail
+  pub trail_before : IsKeyKind item → (new : NodeArena V) (id n : ℕ) (left : List (ℕ × ℕ))
+      → n + length rest ≡ length key → KeepsAbove s new id p.come.frames → IsCutBefore n trail left
+      → IsTrail item new key left
+  trail_before kind new id n left total kept c = elim kept [
+    | inl around ↦
+        let more = filled_length rest p.come.rest_nonempty in
+        trail_cut item kind new key key n trail left (trail_to new around)
+        (record {
+          cut = c.cut;
+          is = c.is;
+          within = λ e es back. let before = c.before e es back in omega (arith, before);
+        })
+        (omega (arith, total, more)) refl
+    | inr joined ↦
+        let other = joined.1 in
+        let led = leads_outer p.come.frames other.beside other.upper other.other other.left item key rest
+        p.come.rest_nonempty p.come.leads in
+        record {
+          frames = other.left.outer;
+          focus = other.around.0;
+          rest = led.0;
+          fills = other.around.1;
+          leads = led.2;
+          rest_nonempty = led.1;
+          above = above_outer p.come.frames other.beside other.upper other.other other.left c.cut (reverse left)
+              (rw (← c.is) p.come.above)
+              (λ e es back. let before = c.before e es back in omega (arith, before, total, passed_length));
+        }
+  ]

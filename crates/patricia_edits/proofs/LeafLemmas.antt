@@ -14,13 +14,14 @@ use Rattle.patricia_nodes.specs.Internal.Plans.{entries_of}
 use Rattle.patricia_nodes.specs.Internal.Merges.{Unlinks, Absorbs, HasLeafAt, HasLone}
 use Rattle.patricia_nodes.specs.Internal.Merges.{LeavesOther, LeftAlone, HasNodeAt}
 use Rattle.patricia_nodes.specs.Internal.NodeVecs.{HasJoinedRoom}
-use Rattle.patricia_edits.specs.Internal.Removes.{IsLeaf, IsValued, HasValue, Removes}
+use Rattle.patricia_nodes.specs.Internal.Trails.{KeepsAround}
+use Rattle.patricia_edits.specs.Internal.Removes.{IsLeaf, IsValued, HasValue, JoinsAbove, Removes}
 use Rattle.patricia_nodes.proofs.AloneLemmas.{plan_end}
 use Rattle.patricia_nodes.proofs.FillLemmas.{stands-within}
 use Rattle.patricia_nodes.proofs.SeekLemmas.{Sought, Opened}
 use Rattle.patricia_edits.proofs.RemoveLemmas.{there, stands_at, here_is, has_leaf, removes_leaf}
 use Rattle.patricia_edits.proofs.RemoveLemmas.{labels_left, joins_left, mid_lone, room_kept}
-use Rattle.patricia_edits.proofs.RemoveLemmas.{removes_left, node_here}
+use Rattle.patricia_edits.proofs.RemoveLemmas.{removes_left, node_here, keeps_leaf, keeps_left}
 
 -- a node that is there has the value that the plan says
 value_is : {V : Type 0} (nodes : List (Node V)) (id : ℕ) (n : Node V) (l : List ℕ) (v : Option V)
@@ -75,6 +76,11 @@ module _ {item : List ℕ → Type 0} {V : Type 0} {s : NodeArena V} {key : List
       (stands-within s.nodes.items leaf_at.0 (Cell id leaf_at.1 leaf_at.2 Nil leaf_at.3)
       leaf_at.5.1.plan_ok.stands).0
 
+  -- what is around it stays
+  pub leaf_kept : (new : NodeArena V) (taken : Option V) → Unlinks s new link_ref id taken
+      → KeepsAround p.frames new
+  leaf_kept = keeps_leaf sought is reads has_value no_child
+
   -- the node above keeps its place
   pub leaf_spared : (new : NodeArena V) (taken : Option V) → LeftAlone item s link_ref id None
       → Unlinks s new link_ref id taken → Removes item s new key
@@ -111,6 +117,11 @@ module _ {item : List ℕ → Type 0} {V : Type 0} {s : NodeArena V} {key : List
           → HasJoinedRoom nodes nodes.room u o → nodes.room ≤ mid.nodes.room
           → HasJoinedRoom mid.nodes mid.nodes.room u o
       leaf_room = room_kept sought is reads has_value no_child u o left mid taken unlinks
+
+      -- once the two are merged, what stands above them is as it was
+      pub left_kept : (new : NodeArena V) (none : Option V) → Absorbs mid new u o none
+          → JoinsAbove p.frames new
+      left_kept = keeps_left sought is reads has_value no_child u o left mid taken unlinks
 
       -- merging the two removes the key
       pub leaf_left : (new : NodeArena V) (none : Option V) → Absorbs mid new u o none

@@ -18,12 +18,13 @@ use Rattle.patricia_nodes.specs.Internal.Plans.{Plan, Nil, Cell, linked, head, s
 use Rattle.patricia_nodes.specs.Internal.Plans.{IsPlan}
 use Rattle.patricia_nodes.specs.Internal.Plans.{Holds, IsWellFormed, plan_at, siblings_of}
 use Rattle.patricia_nodes.specs.Internal.Plans.{entries_of}
-use Rattle.patricia_nodes.specs.Internal.Places.{fill, node_of, Matches, Placed}
+use Rattle.patricia_nodes.specs.Internal.Places.{Frame, fill, node_of, Matches, Placed}
 use Rattle.patricia_nodes.specs.Internal.Merges.{Unlinks, Absorbs, HasLeafAt, HasLone, Spares}
 use Rattle.patricia_nodes.specs.Internal.Merges.{LeavesOther, StandsAt}
 use Rattle.patricia_nodes.specs.Internal.NodeVecs.{HasJoinedRoom}
+use Rattle.patricia_nodes.specs.Internal.Trails.{KeepsAround}
 use Rattle.patricia_nodes.specs.Internal.Writes.{Stays}
-use Rattle.patricia_edits.specs.Internal.Removes.{HasValue, IsPlaceOf, ReadyAt, Removes}
+use Rattle.patricia_edits.specs.Internal.Removes.{HasValue, IsPlaceOf, JoinsAbove, ReadyAt, Removes}
 use Rattle.patricia_nodes.proofs.AloneLemmas.{plan_end, plan_more}
 use Rattle.patricia_nodes.proofs.PlanLemmas.{plan_is, node_is}
 use Rattle.patricia_nodes.proofs.FillLemmas.{siblings-within, stands-within}
@@ -75,6 +76,11 @@ module _ {V : Type 0} where
       → (v ≡ None → ⊥) → IsLoneParent (node l v (node m w d end) s)
   lone_parent l None m w d s e = absurd (e refl)
   lone_parent l (Some x) m w d s e = tt
+
+  -- where the nodes are a plan around a place, what is around it is as it was
+  keeps : (fs : List (Frame V)) (new : NodeArena V) (q : Plan V) → Holds new (fill fs q)
+      → KeepsAround fs new
+  keeps fs new q h = (q, sym (plan_is new.nodes.items new.root (fill fs q) h.1.plan_ok))
 
 module _ (item : List ℕ → Type 0) (kind : IsKeyKind item) {V : Type 0} where
   -- without the value of their first node, siblings are without that node's key
@@ -193,16 +199,30 @@ module _ {item : List ℕ → Type 0} {V : Type 0} {s : NodeArena V} {key : List
   pub removes_none : r.value ≡ None → Removes item s s key
   removes_none none = removes_in s cell holds (first_none r.label r.value (siblings_in there.child) (siblings_in there.sibling) none) (omega arith)
 
-  -- one with two children loses its value
+  -- one that loses its value alone
+  module _ (new : NodeArena V) (v : Option V) (none : v ≡ None) (n : Node V)
+      (reads_n : n ≡ get_or s.nodes.items id n)
+      (written : new.nodes.items ≡ set s.nodes.items id (linked n.label v n.child n.sibling))
+      (root_is : new.root ≡ s.root) (free_is : new.free ≡ s.free) where
+    value_gone : Holds new (fill p.frames (Cell id r.label None there.child there.sibling))
+    value_gone =
+        let nodes_is : new.nodes.items ≡ set s.nodes.items id (linked r.label v r.child r.sibling) =
+        rw (← node_is s.nodes.items id n r here_is reads_n) written in
+        let held = holds_write s id r reads p.frames r.label r.label r.value v there.child there.sibling holds in
+        rw (nodes_is, root_is, free_is, ← none) held
+
+    -- keeps what is around it
+    pub keeps_value : KeepsAround p.frames new
+    keeps_value = keeps p.frames new (Cell id r.label None there.child there.sibling) value_gone
+
+  -- and one with two children loses it so
   pub removes_value : (new : NodeArena V) (v : Option V) → v ≡ None → 2 ≤ width (siblings_in there.child)
       → (n : Node V) → n ≡ get_or s.nodes.items id n
       → new.nodes.items ≡ set s.nodes.items id (linked n.label v n.child n.sibling)
       → new.root ≡ s.root → new.free ≡ s.free → Removes item s new key
   removes_value new v none two n reads_n written root_is free_is =
-      let nodes_is : new.nodes.items ≡ set s.nodes.items id (linked r.label v r.child r.sibling) =
-      rw (← node_is s.nodes.items id n r here_is reads_n) written in
-      let held = holds_write s id r reads p.frames r.label r.label r.value v there.child there.sibling holds in
-      removes_in new (Cell id r.label None there.child there.sibling) (rw (nodes_is, root_is, free_is, ← none) held) (more (siblings_in there.child) two) (omega arith)
+      removes_in new (Cell id r.label None there.child there.sibling)
+      (value_gone new v none n reads_n written root_is free_is) (more (siblings_in there.child) two) (omega arith)
     where
       more : (c : Siblings V) → 2 ≤ width c
           → without_first (node r.label r.value c (siblings_in there.sibling)) ≡ node r.label None c (siblings_in there.sibling)
@@ -224,12 +244,21 @@ module _ {item : List ℕ → Type 0} {V : Type 0} {s : NodeArena V} {key : List
       pub has_lone : HasLone s id k
       has_lone = (p.frames, r.label, r.value, m, w, e, there.sibling, subst (λ (q : Plan V). Holds s (fill p.frames q)) cell_is holds)
 
-      -- merging them removes the key
+      -- merged with it, it stands in the place with both labels
+      lone_joined : (new : NodeArena V) (taken : Option V) → Absorbs s new id k taken
+          → Holds new (fill p.frames (Cell id (r.label ++ m) w e there.sibling))
+      lone_joined new taken absorbs = (absorbs p.frames r.label r.value m w e there.sibling (subst (λ (q : Plan V). Holds s (fill p.frames q)) cell_is holds)).0
+
+      -- merging them keeps what is around it
+      pub keeps_lone : (new : NodeArena V) (taken : Option V) → Absorbs s new id k taken
+          → KeepsAround p.frames new
+      keeps_lone new taken absorbs = keeps p.frames new (Cell id (r.label ++ m) w e there.sibling) (lone_joined new taken absorbs)
+
+      -- and removes the key
       pub removes_lone : (new : NodeArena V) (taken : Option V) → Absorbs s new id k taken
           → Removes item s new key
       removes_lone new taken absorbs =
-          removes_in new (Cell id (r.label ++ m) w e there.sibling)
-          (absorbs p.frames r.label r.value m w e there.sibling (subst (λ (q : Plan V). Holds s (fill p.frames q)) cell_is holds)).0
+          removes_in new (Cell id (r.label ++ m) w e there.sibling) (lone_joined new taken absorbs)
           (ap (λ (q : Plan V). without_first (siblings_in q)) cell_is ∙ first_lone r.label r.value m w (siblings_in e) (siblings_in there.sibling) valued)
           (omega arith)
 
@@ -280,7 +309,12 @@ module _ {item : List ℕ → Type 0} {V : Type 0} {s : NodeArena V} {key : List
       pub has_leaf : HasLeafAt s link_ref id
       has_leaf = (p.frames, r.label, r.value, there.sibling, p.link_ref_is, leaf_holds)
 
-      -- unlinking it removes the key, where the node above keeps its place
+      -- unlinking it keeps what is around it
+      pub keeps_leaf : (new : NodeArena V) (taken : Option V) → Unlinks s new link_ref id taken
+          → KeepsAround p.frames new
+      keeps_leaf new taken unlinks = keeps p.frames new there.sibling (unlinks p.frames r.label r.value there.sibling p.link_ref_is leaf_holds).0
+
+      -- and removes the key, where the node above keeps its place
       pub removes_leaf : (new : NodeArena V) (taken : Option V) → Unlinks s new link_ref id taken
           → Spares p.frames there.sibling → Removes item s new key
       removes_leaf new taken unlinks spares =
@@ -343,12 +377,28 @@ module _ {item : List ℕ → Type 0} {V : Type 0} {s : NodeArena V} {key : List
               (ap (λ xs. slice_get xs u) same ∙ labels_left.0.1) (ap (λ xs. slice_get xs o) same ∙ labels_left.1.1)
               at.0 at.1.0 labels_left.0.2 labels_left.1.2 room kept
 
-          -- merging the two then removes the key
+          -- merging the two then leaves one with both labels
+          left_joined : (new : NodeArena V) (none : Option V) → Absorbs mid new u o none
+              → Holds new (fill left.outer (Cell u (left.label ++ left.inner) left.own left.below left.beside))
+          left_joined new _ absorbs = (absorbs left.outer left.label None left.inner left.own left.below left.beside mid_holds).0
+
+          -- with what stands above it
+          pub keeps_left : (new : NodeArena V) (none : Option V) → Absorbs mid new u o none
+              → JoinsAbove p.frames new
+          keeps_left new taken' absorbs = record {
+            beside = there.sibling;
+            upper = u;
+            other = o;
+            left = left;
+            around = keeps left.outer new (Cell u (left.label ++ left.inner) left.own left.below left.beside) (left_joined new taken' absorbs);
+          }
+
+          -- and removes the key
           pub removes_left : (new : NodeArena V) (none : Option V) → Absorbs mid new u o none
               → Removes item s new key
-          removes_left new _ absorbs =
+          removes_left new taken' absorbs =
               removes new (fill left.outer (Cell u (left.label ++ left.inner) left.own left.below left.beside))
-              (absorbs left.outer left.label None left.inner left.own left.below left.beside mid_holds).0
+              (left_joined new taken' absorbs)
               (subst (λ (q : Plan V). Gone item others (siblings_in (fill p.frames q))
               (siblings_in (fill left.outer
               (Cell u (left.label ++ left.inner) left.own left.below left.beside))) key)
@@ -423,7 +473,7 @@ here_stop (InsideLabel i n) id e = absurd (cc)
 here_stop (Exact i) id e = let same : i ≡ id = cc in ap (λ k. Exact k) same
 
 -- where a look-up of a key ends at a node, the node is that of the key
-pub place_of : {item : List ℕ → Type 0} {V : Type 0} {s : NodeArena V} {key : List ℕ}
+abbrev pub place_of : {item : List ℕ → Type 0} {V : Type 0} {s : NodeArena V} {key : List ℕ}
     {link_ref : LinkRef} {at : Option ℕ} {rest : List ℕ} {matched : Match}
     → Placed item s key link_ref at rest matched → {id : ℕ} → matched ≡ Exact id
     → IsPlaceOf item s key link_ref id

@@ -12,5 +12,5 @@ mod splitting;
 pub use copying::{copy, copy_value};
 pub use ends::{remove_first, remove_last};
 pub use insertion::{insert, insert_along};
-pub use removal::remove;
+pub use removal::{remove, remove_along};
 pub use splitting::split;

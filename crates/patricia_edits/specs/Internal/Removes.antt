@@ -1,5 +1,6 @@
 -- What is left of nodes in one vector where a key is removed.
-use Rattle.std.specs.Prelude.{◌≡◌, ◌≢◌, ℕ, List, Option, Some, None, slice_get}
+use Rattle.std.specs.Prelude.{◌≡◌, ◌≢◌, ◌⊎◌, ◌<◌, ℕ, List, ◌∷◌, ◌++◌, reverse, Option, Some, None}
+use Rattle.std.specs.Prelude.{slice_get}
 use Rattle.patricia_store.specs.Internal.Nodes.{Node}
 use Rattle.patricia_nodes.specs.declared.arena.NodeArena.{NodeArena}
 use Rattle.patricia_nodes.specs.declared.arena.seek.LinkRef.{LinkRef}
@@ -7,8 +8,10 @@ use Rattle.patricia_nodes.specs.declared.arena.seek.Match.TheVariants.{Exact}
 use Rattle.patricia_model.specs.Siblings.{IsCanonical, keys_of}
 use Rattle.patricia_model.specs.Points.{Joins}
 use Rattle.patricia_model.specs.Internal.Removals.{others}
-use Rattle.patricia_nodes.specs.Internal.Plans.{IsWellFormed, siblings_of, entries_of}
-use Rattle.patricia_nodes.specs.Internal.Places.{Placed}
+use Rattle.patricia_nodes.specs.Internal.Merges.{LeavesOther}
+use Rattle.patricia_nodes.specs.Internal.Plans.{Plan, IsWellFormed, siblings_of, entries_of}
+use Rattle.patricia_nodes.specs.Internal.Places.{Frame, Placed}
+use Rattle.patricia_nodes.specs.Internal.Trails.{KeepsAround}
 
 module _ {V : Type 0} where
   -- the node has no children
@@ -54,3 +57,30 @@ RemovesAt item old new link_ref id =
 abbrev pub JoinsAt : (List ℕ → Type 0) → {V : Type 0} → NodeArena V → LinkRef → ℕ → Type 0
 JoinsAt item s link_ref id =
     (key : List ℕ) → IsPlaceOf item s key link_ref id → Joins item (keys_of (entries_of s)) key
+
+-- the node above a place has taken in its other child, and what stands above that node and beside
+-- the way to it is as it was
+pub record JoinsAbove {V : Type 0} (frames : List (Frame V)) (new : NodeArena V) : Type 0 where
+  pub beside : Plan V
+  pub upper : ℕ
+  pub other : ℕ
+  pub left : LeavesOther frames beside upper other
+  pub around : KeepsAround left.outer new
+
+-- what stands above the place and beside the way to it is as it was, or its node was a leaf without
+-- which the node above has taken in its other child
+abbrev pub KeepsAbove : {V : Type 0} → NodeArena V → NodeArena V → ℕ → List (Frame V) → Type 0
+KeepsAbove old new id frames =
+    KeepsAround frames new ⊎ (IsLeaf old id × JoinsAbove frames new)
+
+-- so it is at each key whose node this is
+abbrev pub KeepsAboveAt : (List ℕ → Type 0) → {V : Type 0} → NodeArena V → NodeArena V → LinkRef → ℕ
+    → Type 0
+KeepsAboveAt item old new link_ref id =
+    (key : List ℕ) → (p : IsPlaceOf item old key link_ref id) → KeepsAbove old new id p.1.frames
+
+-- the trail was cut, and its last node ends before n bytes
+pub record IsCutBefore (n : ℕ) (old new : List (ℕ × ℕ)) : Type 0 where
+  pub cut : List (ℕ × ℕ)
+  pub is : reverse old ≡ cut ++ reverse new
+  pub before : (e : ℕ × ℕ) (es : List (ℕ × ℕ)) → reverse new ≡ e ∷ es → e.1 < n

@@ -1,4 +1,4 @@
-use Rattle.std.proofs.Common.{◌≡◌, Bool, true, false, Option, Some, None, refl, sym, ap, ◌∙◌}
+use Rattle.std.proofs.Common.{◌≡◌, inl, Bool, true, false, Option, Some, None, refl, sym, ap, ◌∙◌}
 use Rattle.std.specs.Borrow.{Bor}
 use Rattle.std.specs.Option.{option_copied}
 use Rattle.std.specs.Prelude.{is_some}
@@ -12,6 +12,7 @@ use Rattle.patricia_edits.proofs.RemoveLemmas.{lone_value, read_is}
 use Rattle.patricia_edits.proofs.RemoveLemmas.{child_within, two_children, lone_child, removes_none}
 use Rattle.patricia_edits.proofs.RemoveLemmas.{removes_value, has_lone, removes_lone, joins_here}
 use Rattle.patricia_edits.proofs.RemoveLemmas.{on_err_from, place_at, place_here}
+use Rattle.patricia_edits.proofs.RemoveLemmas.{keeps_value, keeps_lone}
 use Rattle.patricia_edits.proofs.StayLemmas.{lone_stays, absorbs_stay}
 use Rattle.patricia_edits.proofs.removal.remove_at.Goals as goal
 
@@ -56,6 +57,9 @@ returns-then-is_none-clause-value g c n at_n =
     let same = read_is ready refl there.1 n at_n in
     sym (no_value c.value.result (c.value.ensures _ there.1) c.if-is_none.ensures) ∙ ap (λ (m : Node g.row.V.Denot). m.value) same
 
+pub returns-then-is_none-clause-around : goal.returns-then-is_none-clause-around
+returns-then-is_none-clause-around g c key p = inl (p.1.focus, p.1.fills)
+
 pub remove_leaf-requires-clause-leaf : goal.remove_leaf-requires-clause-leaf
 remove_leaf-requires-clause-leaf g c n at_n =
     let ready = place_here g.met.K.Bytes.lawful c.requires.ready in
@@ -94,6 +98,14 @@ returns-then-is_some-clause-ok g c key p =
     let two = two_children here refl there.1 child_is second.1 (sym (c.sibling.ensures.node _ second.1) ∙ more.1) in
     let put = c.replace_value.ensures.node in
     removes_value here refl there.1 _ None refl two put.0 put.1 put.2 refl refl
+
+pub returns-then-is_some-clause-around : goal.returns-then-is_some-clause-around
+returns-then-is_some-clause-around g c key p =
+    let ready = place_here g.met.K.Bytes.lawful c.requires.ready in
+    let there = node_there c.args.arena.now.nodes.items c.args.at.now.id (here_within ready c.args.at.now.id refl) in
+    let here = place_at g.met.K.Bytes.lawful c.requires.ready key p in
+    let put = c.replace_value.ensures.node in
+    inl (keeps_value here refl there.1 (record c.args.arena.now { nodes = c.replace_value.new.self }) None refl put.0 put.1 put.2 refl refl)
 
 pub returns-then-is_some-clause-value : goal.returns-then-is_some-clause-value
 returns-then-is_some-clause-value g c n at_n =
@@ -157,3 +169,15 @@ returns-clause-value g c n at_n =
     let lone = lone_child ready refl there.1 child_is second.1 alone in
     lone_value ready refl there.1 (a_value c.value.result (c.value.ensures _ there.1) c.if-is_none.ensures) lone
     c.merge_only_child.new.self c.merge_only_child.result (absorbs_stay c.reserve_joined.ensures.stays c.merge_only_child.new.self c.args.at.now.id c.in-Some.child c.merge_only_child.result c.merge_only_child.ensures) n at_n
+
+pub returns-clause-around : goal.returns-clause-around
+returns-clause-around g c key p =
+    let ready = place_here g.met.K.Bytes.lawful c.requires.ready in
+    let there = node_there c.args.arena.now.nodes.items c.args.at.now.id (here_within ready c.args.at.now.id refl) in
+    let child_is = sym (c.child.ensures.node _ there.1) ∙ sym c.get.ensures ∙ c.in-Some.is in
+    let second = node_there c.args.arena.now.nodes.items c.in-Some.child (child_within ready refl there.1 child_is) in
+    let here = place_at g.met.K.Bytes.lawful c.requires.ready key p in
+    let alone = sym (c.sibling.ensures.node _ second.1) ∙ last c.get-2.ensures c.is_some.ensures c.if-is_some.false in
+    let lone = lone_child here refl there.1 child_is second.1 alone in
+    inl (keeps_lone here refl there.1 (a_value c.value.result (c.value.ensures _ there.1) c.if-is_none.ensures) lone
+    c.merge_only_child.new.self c.merge_only_child.result (absorbs_stay c.reserve_joined.ensures.stays c.merge_only_child.new.self c.args.at.now.id c.in-Some.child c.merge_only_child.result c.merge_only_child.ensures))

@@ -1,7 +1,7 @@
-use Rattle.std.proofs.Common.{refl}
+use Rattle.std.proofs.Common.{inl, inr, refl}
 use Rattle.patricia_edits.proofs.LeafLemmas.{leaf_stands, leaf_at, leaf_value, leaf_spared}
 use Rattle.patricia_edits.proofs.LeafLemmas.{both_within, leaf_joins, leaf_lone, leaf_left}
-use Rattle.patricia_edits.proofs.LeafLemmas.{leaf_room}
+use Rattle.patricia_edits.proofs.LeafLemmas.{leaf_room, leaf_kept, left_kept}
 use Rattle.patricia_edits.proofs.RemoveLemmas.{on_err_from, place_at, place_here}
 use Rattle.patricia_edits.proofs.StayLemmas.{leaf_stays, unlinks_stay}
 use Rattle.patricia_edits.proofs.removal.remove_leaf.Goals as goal
@@ -67,3 +67,19 @@ returns-clause-value g c =
     let here = place_here g.met.K.Bytes.lawful c.requires.ready in
     leaf_value here refl c.requires.leaf c.requires.valued c.unlink-taken.new.self c.unlink-taken.result
     (unlinks_stay c.reserve_joined.ensures.stays c.unlink-taken.new.self c.args.at.now.link_ref c.args.at.now.id c.unlink-taken.result c.unlink-taken.ensures.unlinks)
+
+pub returns-in_default-clause-around : goal.returns-in_default-clause-around
+returns-in_default-clause-around g c key p =
+    let here = place_at g.met.K.Bytes.lawful c.requires.ready key p in
+    inl (leaf_kept here refl c.requires.leaf c.requires.valued c.unlink.new.self c.unlink.result c.unlink.ensures.unlinks)
+
+pub returns-clause-around : goal.returns-clause-around
+returns-clause-around g c key p =
+    let here = place_at g.met.K.Bytes.lawful c.requires.ready key p in
+    inr (
+      c.requires.leaf,
+      left_kept here refl c.requires.leaf c.requires.valued c.in-Some.alone.0 c.in-Some.alone.1
+          (rw c.in-Some.is at c.would_merge.ensures) c.unlink-taken.new.self c.unlink-taken.result
+          (unlinks_stay c.reserve_joined.ensures.stays c.unlink-taken.new.self c.args.at.now.link_ref c.args.at.now.id c.unlink-taken.result c.unlink-taken.ensures.unlinks)
+          c.merge_only_child-none.new.self c.merge_only_child-none.result c.merge_only_child-none.ensures,
+    )
