@@ -1,22 +1,27 @@
-//! A tree that entries are merged into, with keys that are near one another.
-ghost use Rattle.std.specs.Prelude.{◌≡◌, ◌≢◌, ◌⊎◌, [], None, IfOk, OnOk, IfErr, OnErr};
+//! A tree that entries are merged into or removed from, with keys that are near one another.
+ghost use Rattle.std.specs.Prelude.{◌≡◌, ◌≢◌, ◌⊎◌, [], None, Some, IfOk, OnOk, IfErr, OnErr};
 ghost use Rattle.std.specs.Prelude.{IfSome, MatchOption};
 ghost use Rattle.std.specs.Borrow.{sem};
 ghost use Rattle.std.specs.FinMap as map;
 ghost use Rattle.std.specs.Option.{option_copied_mut};
 ghost use Rattle.patricia_keys.specs.Keys.{IsValid, key_cmp};
+ghost use Rattle.patricia_model.specs.Points.{Joins};
 ghost use Rattle.patricia_model.specs.Siblings.{IsCanonical};
+ghost use Rattle.patricia_model.specs.Trees.{map_of};
 ghost use Rattle.patricia_nodes.specs.Internal.Loans.{HasValueNode, with_value};
 ghost use Rattle.patricia_nodes.specs.Internal.Plans.{IsWellFormed, entries_of, siblings_of};
 ghost use Rattle.patricia_nodes.specs.Internal.Trails.{IsTrail};
+ghost use Rattle.patricia_core.specs.Internal.Stores.{IsFilled};
 
 use super::loading::insert_behind;
 use super::{Refused, Tree};
+use patricia_edits::remove_along;
 use patricia_keys::keys::KeyBytes;
 use patricia_keys::{BorrowedBytes, Bytes};
 use patricia_nodes::arena::NodeArena;
 use patricia_nodes::link::NodeId;
 use patricia_walks::TreeParts;
+use std::alloc::AllocError;
 use std::marker::{Model, PhantomData};
 
 // The key that was looked up last, where its bytes are kept.
@@ -67,8 +72,41 @@ fn find_behind<V, Q: BorrowedBytes>(
     }
 }
 
-/// A tree that entries are merged into, with keys that are near one another: the look-up of each
-/// goes on from the nodes that the key before it has passed. Keys are borrowed for one call each.
+// Removes a nonempty key and returns its value. The look-up goes on from the trail of the last
+// key, and the trail is that of this key then.
+fn remove_behind<V: Drop, Q: BorrowedBytes>(
+    tree: &mut TreeParts<V>,
+    trail: &mut Vec<(NodeId, usize)>,
+    last: Option<Q>,
+    key: Q,
+) -> Result<Option<V>, AllocError>
+    requires filled { IsFilled Q.Owned.item Q.key tree.old.arena tree.old.count last
+        trail.old.items }
+    requires nonempty { Q.key key ≢ [] }
+    ensures filled { IsFilled Q.Owned.item Q.key tree.new.arena tree.new.count (Some key)
+        trail.new.items }
+    ensures old { IfOk result (λ old.
+        old ≡ map.get (map_of tree.old.value (siblings_of tree.old.arena)) (Q.key key)) }
+    ensures ok { OnOk result (map_of tree.new.value (siblings_of tree.new.arena)
+        ≡ map.remove (map_of tree.old.value (siblings_of tree.old.arena)) (Q.key key)) }
+    ensures unchanged { OnErr result (map_of tree.new.value (siblings_of tree.new.arena)
+        ≡ map_of tree.old.value (siblings_of tree.old.arena)) }
+    ensures joins { OnErr result (Joins Q.Owned.item
+        (map.keys (map_of tree.old.value (siblings_of tree.old.arena))) (Q.key key)) }
+{
+    match remove_along(&mut tree.arena, trail, last, key) {
+        Ok(Some(old)) => {
+            tree.count -= 1;
+            Ok(Some(old))
+        }
+        Ok(None) => Ok(None),
+        Err(error) => Err(error),
+    }
+}
+
+/// A tree that entries are merged into or removed from, with keys that are near one another: the
+/// look-up of each goes on from the nodes that the key before it has passed. Keys are borrowed for
+/// one call each.
 ///
 /// Its nodes stay where they are, in the order in which they were made: `settle` relocates them
 /// once it is a tree again.
@@ -104,7 +142,7 @@ impl<K: Bytes, V> Model for Merger<K, V> {
 impl<K: Bytes, V: Drop> Merger<K, V> {
     ghost use Rattle.patricia_core.specs.Internal.Loans.{merger_lends_entry};
 
-    /// Takes a tree that is to be merged into. Does not allocate.
+    /// Takes a tree that is to be changed. Does not allocate.
     pub fn new(tree: Tree<K, V>) -> Self
         ensures { result ≡ tree }
     {
@@ -119,7 +157,7 @@ impl<K: Bytes, V: Drop> Merger<K, V> {
         }
     }
 
-    /// The tree with all that was merged into it.
+    /// The tree as it was changed.
     pub fn into_tree(self) -> Tree<K, V>
         ensures { result ≡ self }
     {
@@ -171,6 +209,24 @@ impl<K: Bytes, V: Drop> Merger<K, V> {
         let key = KeyBytes::<K>::new(key.as_bytes());
         let last = last_key::<K>(&self.last);
         let result = insert_behind(&mut self.tree, &mut self.trail, last, key, value);
+        remember(&mut self.last, key.as_bytes());
+        result
+    }
+
+    /// Removes a key and returns its value, or `None` where there is none. The error is out of
+    /// memory for a joined label.
+    pub fn remove<Q: BorrowedBytes<Owned = K>>(&mut self, key: Q) -> Result<Option<V>, AllocError>
+        ensures old { IfOk result (λ old. old ≡ map.get self.old (Q.key key)) }
+        ensures ok { OnOk result (self.new ≡ map.remove self.old (Q.key key)) }
+        ensures unchanged { OnErr result (self.new ≡ self.old) }
+        ensures joins { OnErr result (Joins K.item (map.keys self.old) (Q.key key)) }
+    {
+        if key.is_empty() {
+            return Ok(self.tree.value.take());
+        }
+        let key = KeyBytes::<K>::new(key.as_bytes());
+        let last = last_key::<K>(&self.last);
+        let result = remove_behind(&mut self.tree, &mut self.trail, last, key);
         remember(&mut self.last, key.as_bytes());
         result
     }
