@@ -230,6 +230,26 @@ inserted_on made mid c d is some put =
     by [] some put = absurd (some refl)
     by (e ∷ left) some put = ap (λ m. insert_all m left) (put e refl)
 
+-- the same where those elements alone are inserted that pass a test, and this one passes
+pub chosen_on : (p : List ℕ → Bool) (made mid : FinMap key_cmp (Unit {0})) (c d : ReadCursorView (Unit {0}))
+    → d ≡ advanced c → c.left ≢ []
+    → ((e : List ℕ × Unit {0}) → d.at ≡ Some e → p e.0 ≡ true)
+    → ((e : List ℕ × Unit {0}) → d.at ≡ Some e → mid ≡ map.insert made e.0 tt)
+    → insert_all mid (filter (λ e. p e.0) d.left) ≡ insert_all made (filter (λ e. p e.0) c.left)
+chosen_on p made mid c d is some passes put =
+    let at = ap (λ (v : ReadCursorView (Unit {0})). v.at) is in
+    subst (λ left. insert_all mid (filter (λ e. p e.0) left) ≡ insert_all made (filter (λ e. p e.0) c.left))
+    (sym (ap (λ (v : ReadCursorView (Unit {0})). v.left) is))
+    (by c.left some (λ e e_at. passes e (at ∙ e_at)) (λ e e_at. put e (at ∙ e_at)))
+  where
+    by : (left : List (List ℕ × Unit {0})) → left ≢ []
+        → ((e : List ℕ × Unit {0}) → slice_get left 0 ≡ Some e → p e.0 ≡ true)
+        → ((e : List ℕ × Unit {0}) → slice_get left 0 ≡ Some e → mid ≡ map.insert made e.0 tt)
+        → insert_all mid (filter (λ e. p e.0) (drop 1 left)) ≡ insert_all made (filter (λ e. p e.0) left)
+    by [] some passes put = absurd (some refl)
+    by (e ∷ left) some passes put =
+        rw (passes e refl) (ap (λ m. insert_all m (filter (λ e. p e.0) left)) (put e refl))
+
 module _ {B : Type 0} where
   -- one of a list passes one of two tests where one passes the first, or one the second
   any_or : (f g : B → Bool) (ys : List B) → list_any (λ y. f y || g y) ys ≡ (list_any f ys || list_any g ys)

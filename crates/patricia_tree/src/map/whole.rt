@@ -137,4 +137,20 @@ impl<K: Bytes, V: Drop> GenericPatriciaMap<K, V> {
             tree: self.tree.empty_alike(),
         }
     }
+
+    /// The map as one that entries are merged into. Does not allocate.
+    pub(crate) fn into_merger(self) -> Merger<K, V>
+        ensures { result ≡ self }
+    {
+        Merger::new(self.tree)
+    }
+
+    /// The map with all that was merged into it.
+    pub(crate) fn from_merger(merger: Merger<K, V>) -> Self
+        ensures { result ≡ merger }
+    {
+        GenericPatriciaMap {
+            tree: merger.into_tree(),
+        }
+    }
 }

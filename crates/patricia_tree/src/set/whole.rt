@@ -8,8 +8,9 @@ ghost use Rattle.std.specs.FinMap as map;
 ghost use Rattle.patricia_tree.specs.Bulk.{insert_all};
 
 use super::GenericPatriciaSet;
-use crate::map::ReadCursor;
+use crate::map::{GenericPatriciaMap, ReadCursor};
 use patricia_core::keys::{Bytes, KeyBytes};
+use patricia_core::tree::Merger;
 use std::alloc::AllocError;
 
 // Whether the set has the element at which a cursor stands; or where that is not wanted, whether it
@@ -31,16 +32,19 @@ fn has_as_wanted<T: Bytes>(
 
 // Inserts the element at which a cursor stands.
 fn insert_at<T: Bytes>(
-    set: &mut GenericPatriciaSet<T>,
+    merger: &mut Merger<T, ()>,
     cursor: &ReadCursor<'_, T, ()>,
 ) -> Result<(), AllocError>
     ensures { OnOk result ((e : List ℕ × Unit {0}) → cursor.now.at ≡ Some e
-        → set.new ≡ map.insert set.old e.0 tt) }
+        → merger.new ≡ map.insert merger.old e.0 tt) }
 {
-    if let Some(bytes) = cursor.key() {
-        set.insert(KeyBytes::<T>::new(bytes))?;
+    let Some(bytes) = cursor.key() else {
+        return Ok(());
+    };
+    match merger.insert(KeyBytes::<T>::new(bytes), ()) {
+        Ok(_) => Ok(()),
+        Err(_) => Err(AllocError),
     }
-    Ok(())
 }
 
 // Removes the element at which a cursor stands, where the set has it.
@@ -85,22 +89,32 @@ impl<T: Bytes> GenericPatriciaSet<T> {
         Ok(false)
     }
 
+    // The set of the elements that were inserted into an empty one, with its nodes relocated as at
+    // the end of a load.
+    fn settled(merger: Merger<T, ()>) -> Self
+        ensures { result ≡ merger }
+    {
+        let mut made = GenericPatriciaSet {
+            map: GenericPatriciaMap::from_merger(merger),
+        };
+        made.settle_since(0);
+        made
+    }
+
     // The elements that the other set has, or those that it has not.
     fn chosen(&self, other: &Self, wanted: bool) -> Result<Self, AllocError>
         ensures chosen { IfOk result (λ s. s ≡ map.retain_keys self.now (λ k. cond wanted
             (map.contains_key other.now k) (not (map.contains_key other.now k)))) }
         ensures err_only_nonempty { OnErr result (map.entries self.now ≢ []) }
     {
-        let mut made = GenericPatriciaSet {
-            map: self.map.empty_alike(),
-        };
+        let mut merger = self.map.empty_alike().into_merger();
         let mut cursor = self.cursor();
         while cursor.advance()? {
             if has_as_wanted(other, &cursor, wanted) {
-                insert_at(&mut made, &cursor)?;
+                insert_at(&mut merger, &cursor)?;
             }
         }
-        Ok(made)
+        Ok(Self::settled(merger))
     }
 
     // A copy with the elements of the other set inserted.
@@ -109,12 +123,15 @@ impl<T: Bytes> GenericPatriciaSet<T> {
         ensures err_only_nonempty { OnErr result
             (map.entries self.now ++ map.entries other.now ≢ []) }
     {
-        let mut made = self.clone()?;
+        let made = self.clone()?;
+        let mut merger = made.map.into_merger();
         let mut cursor = other.cursor();
         while cursor.advance()? {
-            insert_at(&mut made, &cursor)?;
+            insert_at(&mut merger, &cursor)?;
         }
-        Ok(made)
+        Ok(GenericPatriciaSet {
+            map: GenericPatriciaMap::from_merger(merger),
+        })
     }
 
     // A copy with the elements of the other set removed.
@@ -218,8 +235,9 @@ impl<T: Bytes> GenericPatriciaSet<T> {
 
     /// Returns the set of the elements that are in this set, in the other one, or in both.
     ///
-    /// Takes the time of a copy of the larger set, and of an `insert` for each element of the
-    /// smaller one.
+    /// Takes the time of a copy of the larger set, and a walk over the smaller one. The look-up of
+    /// each of its elements goes on from the nodes that the one before it has passed. Nodes are not
+    /// relocated.
     ///
     /// # Errors
     ///
@@ -248,8 +266,10 @@ impl<T: Bytes> GenericPatriciaSet<T> {
 
     /// Returns the set of the elements that are in both sets.
     ///
-    /// Takes a walk over the smaller set, with a look-up in the other one for each element, and an
-    /// `insert` for each element of the result.
+    /// Takes a walk over the smaller set, with a look-up in the other one for each element. The
+    /// elements of the result are inserted in order, and each look-up there goes on from the nodes
+    /// that the one before it has passed. Nodes are relocated at the end alone, if memory is there
+    /// for it.
     ///
     /// # Errors
     ///
@@ -281,8 +301,8 @@ impl<T: Bytes> GenericPatriciaSet<T> {
     ///
     /// Where the other set has at most half as many elements, this takes the time of a copy of this
     /// set, and of a `remove` for each element of the other one. Else it takes a walk over this
-    /// set, with a look-up in the other one for each element, and an `insert` for each element of
-    /// the result.
+    /// set, with a look-up in the other one for each element, and makes the result as
+    /// `intersection` does.
     ///
     /// # Errors
     ///
@@ -316,23 +336,22 @@ impl<T: Bytes> GenericPatriciaSet<T> {
             IsFiltered (CalledAt F.FnMut) f (map.keys self.now) (map.keys s)) }
         ensures err_only_nonempty { OnErr result (map.entries self.now ≢ []) }
     {
-        let mut made = GenericPatriciaSet {
-            map: self.map.empty_alike(),
-        };
+        let mut merger = self.map.empty_alike().into_merger();
         let mut cursor = self.cursor();
         while cursor.advance()? {
             if f(key_at(&cursor)) {
-                insert_at(&mut made, &cursor)?;
+                insert_at(&mut merger, &cursor)?;
             }
         }
-        Ok(made)
+        Ok(Self::settled(merger))
     }
 
     /// Keeps the elements at whose bytes the closure returns true, and drops the others. It is
     /// called at each element in order.
     ///
-    /// The set is made anew: this takes a walk over it, and an `insert` for each element that is
-    /// kept.
+    /// The set is made anew: this takes a walk over it. The elements that are kept are inserted in
+    /// order, and each look-up there goes on from the nodes that the one before it has passed.
+    /// Nodes are relocated at the end alone, if memory is there for it.
     ///
     /// # Errors
     ///

@@ -8,7 +8,7 @@ abbrev pub invariant-loop-cursor : goal.invariant-loop-cursor
 invariant-loop-cursor g l =
     let passes : List ℕ → Bool = λ k. cond l.fn.wanted (map.contains_key l.fn.other k) (not (map.contains_key l.fn.other k)) in
     record {
-      same : insert_all l.made (filter (λ e. passes e.0) l.cursor.left)
+      same : insert_all l.merger (filter (λ e. passes e.0) l.cursor.left)
           ≡ insert_all map.empty (filter (λ e. passes e.0) (map.entries l.fn.self));
       some : l.cursor.left ≢ [] → map.entries l.fn.self ≢ [];
     }

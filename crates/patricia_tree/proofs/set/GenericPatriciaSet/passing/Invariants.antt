@@ -7,7 +7,7 @@ use Rattle.patricia_tree.proofs.set.GenericPatriciaSet.passing.Given as goal
 abbrev pub invariant-loop-cursor : goal.invariant-loop-cursor
 invariant-loop-cursor g l = record {
   callable : goal.F-IsAlwaysCallable g l.f;
-  choosing : IsChoosing (CalledAt g.F.FnMut) l.fn.f (map.entries l.fn.self) l.f l.made l.cursor.left;
+  choosing : IsChoosing (CalledAt g.F.FnMut) l.fn.f (map.entries l.fn.self) l.f l.merger l.cursor.left;
   some : l.cursor.left ≢ [] → map.entries l.fn.self ≢ [];
 }
 

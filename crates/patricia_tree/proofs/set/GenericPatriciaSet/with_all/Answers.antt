@@ -24,7 +24,7 @@ returns-in_err-insert_at-clause-err_only_nonempty g c = at_error _ _
 
 pub loop-cursor-preserved : goal.loop-cursor-preserved
 loop-cursor-preserved g c = record {
-  same = inserted_on c.loop-cursor.made c.insert_at.new.set c.loop-cursor.cursor c.advance.new.self c.in_ok-advance.ensures.advanced
+  same = inserted_on c.loop-cursor.merger c.insert_at.new.merger c.loop-cursor.cursor c.advance.new.self c.in_ok-advance.ensures.advanced
       (c.in_ok-advance.ensures.found.0 c.if-branch.true) (λ e at. c.in_ok-insert_at.ensures e at)
       ∙ c.loop-cursor.invariant.same;
   some = λ left. c.loop-cursor.invariant.some (c.in_ok-advance.ensures.found.0 c.if-branch.true);

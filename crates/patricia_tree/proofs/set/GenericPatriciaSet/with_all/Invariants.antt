@@ -5,7 +5,7 @@ use Rattle.patricia_tree.proofs.set.GenericPatriciaSet.with_all.Given as goal
 
 abbrev pub invariant-loop-cursor : goal.invariant-loop-cursor
 invariant-loop-cursor g l = record {
-  same : insert_all l.made l.cursor.left ≡ insert_all l.fn.self (map.entries l.fn.other);
+  same : insert_all l.merger l.cursor.left ≡ insert_all l.fn.self (map.entries l.fn.other);
   some : l.cursor.left ≢ [] → map.entries l.fn.other ≢ [];
 }
 
