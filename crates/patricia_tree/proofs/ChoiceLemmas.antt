@@ -1,5 +1,5 @@
 -- The entries of a map, retained or removed one after the other.
-use Rattle.std.proofs.Common.{◌≡◌, ◌≢◌, ℕ, T, Bool, true, false, cond, List, [], ◌∷◌, ◌++◌, Option, Some, None}
+use Rattle.std.proofs.Common.{◌≡◌, ℕ, T, Bool, true, false, cond, List, [], ◌∷◌, ◌++◌, Option, Some, None}
 use Rattle.std.proofs.Common.{refl, sym, ap, subst, ◌∙◌}
 use Rattle.std.specs.Cmp.Lexicographic.{nat_list_cmp_total}
 use Rattle.std.specs.List.{FoldsTo}
@@ -18,7 +18,7 @@ use Rattle.patricia_model.proofs.TestLemmas.{first_part, second_part}
 use Rattle.patricia_tree.specs.Retains.{IsAskedAtEntry, RetainsEntry, IsRetainStopped}
 use Rattle.patricia_tree.proofs.FoldLemmas.{IsFolding, folding_starts, folding_on, folding_ends}
 use Rattle.patricia_tree.proofs.RetainLemmas.{keys_of_entries}
-use Rattle.patricia_tree.proofs.WholeLemmas.{below_none, filled_right}
+use Rattle.patricia_tree.proofs.WholeLemmas.{below_none}
 
 module _ {V : Type 0} where
   -- a value that was written and then removed
@@ -172,8 +172,3 @@ gone_at call f g m mid n k v stays w goes asked put gone = record {
   asked = subst (λ b. IsAskedAtEntry call f (k, v) b g w) goes asked;
   is_new = gone ∙ ap (λ x. map.remove x k) put ∙ removed_written m k w;
 }
-
--- a map of which a key is left has entries
-pub some_entries : {V : Type 0} (m : FinMap key_cmp V) (front left : List (List ℕ)) → left ≢ []
-    → front ++ left ≡ map.keys m → map.entries m ≢ []
-some_entries m front left some are none = filled_right front left some (are ∙ ap keys_of_entries none)

@@ -1,5 +1,5 @@
 use Rattle.std.proofs.Common.{◌≡◌, Some, refl, sym, ◌∙◌}
-use Rattle.patricia_tree.proofs.map.GenericPatriciaMap.ask.Goals as goal
+use Rattle.patricia_tree.proofs.map.retain.ask.Goals as goal
 
 pub returns-in-Some-clause-asked : goal.returns-in-Some-clause-asked
 returns-in-Some-clause-asked g c v is =
