@@ -138,14 +138,14 @@ impl<K: Bytes, V: Drop> GenericPatriciaMap<K, V> {
         }
     }
 
-    /// The map as one that entries are merged into. Does not allocate.
+    /// The map as one whose keys are looked up near one another. Does not allocate.
     pub(crate) fn into_merger(self) -> Merger<K, V>
         ensures { result ≡ self }
     {
         Merger::new(self.tree)
     }
 
-    /// The map with all that was merged into it.
+    /// The map that was changed so.
     pub(crate) fn from_merger(merger: Merger<K, V>) -> Self
         ensures { result ≡ merger }
     {

@@ -49,14 +49,14 @@ fn insert_at<T: Bytes>(
 
 // Removes the element at which a cursor stands, where the set has it.
 fn remove_at<T: Bytes>(
-    set: &mut GenericPatriciaSet<T>,
+    merger: &mut Merger<T, ()>,
     cursor: &ReadCursor<'_, T, ()>,
 ) -> Result<(), AllocError>
     ensures { OnOk result ((e : List ℕ × Unit {0}) → cursor.now.at ≡ Some e
-        → set.new ≡ map.remove set.old e.0) }
+        → merger.new ≡ map.remove merger.old e.0) }
 {
     if let Some(bytes) = cursor.key() {
-        set.remove(KeyBytes::<T>::new(bytes))?;
+        merger.remove(KeyBytes::<T>::new(bytes))?;
     }
     Ok(())
 }
@@ -141,12 +141,15 @@ impl<T: Bytes> GenericPatriciaSet<T> {
         ensures err_only_nonempty { OnErr result
             (map.entries self.now ++ map.entries other.now ≢ []) }
     {
-        let mut made = self.clone()?;
+        let copy = self.clone()?;
+        let mut made = copy.map.into_merger();
         let mut cursor = other.cursor();
         while cursor.advance()? {
             remove_at(&mut made, &cursor)?;
         }
-        Ok(made)
+        Ok(GenericPatriciaSet {
+            map: GenericPatriciaMap::from_merger(made),
+        })
     }
 
     /// Returns whether the two sets have the same elements. It is a call that may run out of
@@ -300,9 +303,9 @@ impl<T: Bytes> GenericPatriciaSet<T> {
     /// Returns the set of the elements that are in this set and not in the other one.
     ///
     /// Where the other set has at most half as many elements, this takes the time of a copy of this
-    /// set, and of a `remove` for each element of the other one. Else it takes a walk over this
-    /// set, with a look-up in the other one for each element, and makes the result as
-    /// `intersection` does.
+    /// set, and of a `remove` for each element of the other one, whose look-up goes on from the
+    /// nodes that the element before has passed. Else it takes a walk over this set, with a look-up
+    /// in the other one for each element, and makes the result as `intersection` does.
     ///
     /// # Errors
     ///
