@@ -11,34 +11,28 @@ use Rattle.std.proofs.lemmas.List.{append_assoc}
 use Rattle.patricia_tree.specs.Keys.{key_cmp}
 use Rattle.patricia_tree.specs.Prefixes.{under}
 use Rattle.patricia_tree.specs.Sets.{KeySet}
-use Rattle.prefixes_core.specs.Answers.{fields_line, dash_line, count_line, name_lines}
-use Rattle.prefixes_core.specs.Answers.{indent, value_line, entry_line, tree_lines}
-use Rattle.prefixes_core.specs.Answers.{IsAnswer, Writes}
+use Rattle.prefixes_core.specs.Answers.{fields_line, dash_line, indent, value_line, entry_line}
+use Rattle.prefixes_core.specs.Answers.{tree_lines, complete_text, IsAnswer}
 use Rattle.prefixes_core.specs.Blocks.{Blocks, Passes, folded}
 use Rattle.prefixes_core.specs.Completions.{Completes}
-use Rattle.prefixes_core.specs.Internal.Styles.{IsWritten}
 use Rattle.prefixes_core.proofs.ObjectLemmas.{flat_map-map, joined_map}
-use Rattle.prefixes_core.specs.declared.answering.Question.{Question}
 use Rattle.prefixes_core.specs.declared.answering.Question.TheVariants as Questions
 use Rattle.prefixes_core.specs.declared.answering.Style.{Style}
-use Rattle.prefixes_core.specs.declared.answering.Style.TheVariants as Styles
 
--- what is written in lines answers a line, where each such text does
-pub writes : (style : Style) (question : Question) (line old new : List ℕ) (text : ℕ → List ℕ)
-    → IsWritten style text old new → ((end : ℕ) → IsAnswer end question line (text end))
-    → Writes style question line old new
-writes (Styles.Lines end) question line old new text is answers = (text end, is, answers end)
-writes Styles.Json question line old new text is answers = is
+-- what is written in a style, where that is known
+pub styled : (text : Style → List ℕ) (style known : Style) (old new : List ℕ) → style ≡ known
+    → new ≡ old ++ text known → new ≡ old ++ text style
+styled text style known old new is writes = writes ∙ ap (λ s. old ++ text s) (sym is)
 
--- what is written where the style is known
-pub in_lines : (style : Style) (end : ℕ) (text : ℕ → List ℕ) (old new : List ℕ)
-    → style ≡ Styles.Lines end → new ≡ old ++ text end → IsWritten style text old new
-in_lines style end text old new lines is =
-    subst (λ s. IsWritten s text old new) (sym lines) is
-
-pub in_json : (style : Style) (text : ℕ → List ℕ) (old new : List ℕ) → style ≡ Styles.Json
-    → (written : List ℕ) × (new ≡ old ++ written) → IsWritten style text old new
-in_json style text old new json is = subst (λ s. IsWritten s text old new) (sym json) is
+-- lines come behind the one that counts them
+pub counted_lines : {A B : Type 0} (line : B → List ℕ) (shows : A → B) (found : List A)
+    (count old counted new : List ℕ) → counted ≡ old ++ count
+    → new ≡ counted ++ flat_map (λ f. line (shows f)) found
+    → new ≡ old ++ (count ++ flat_map line (map shows found))
+counted_lines line shows found count old counted new counts lines =
+    lines ∙ ap (λ l. l ++ flat_map (λ f. line (shows f)) found) counts
+    ∙ append_assoc old count (flat_map (λ f. line (shows f)) found)
+    ∙ ap (λ l. old ++ (count ++ l)) (sym (flat_map-map line shows found))
 
 -- fields are joined and their line is ended
 pub line_ended : {X : Type 0} (shows : X → List ℕ) (fields : List X) (end : ℕ)
@@ -69,17 +63,14 @@ not_zero n = (
 )
 
 -- the first entries of a prefix, as they are written
-pub completed_answer : {A : Type 0} (end : ℕ) (names : finite.FinMap key_cmp (Unit {0}))
+pub completed_answer : {A : Type 0} (style : Style) (names : finite.FinMap key_cmp (Unit {0}))
     (line : List ℕ) (most : ℕ) (shows : A → List ℕ × Unit {0}) (first : List A) (count : ℕ)
     → Completes (finite.entries names) line most (map shows first) count
-    → IsAnswer end (Questions.Complete names most) line
-    (count_line end line count ++ flat_map (λ f. fields_line end ([] ∷ (shows f).0 ∷ [])) first)
-completed_answer end names line most shows first count found =
-    ap (λ n. count_line end line n ++ flat_map (λ f. fields_line end ([] ∷ (shows f).0 ∷ [])) first)
-    found.count_is
-    ∙ ap (λ l. count_line end line (length (under line (finite.entries names))) ++ l)
-    (sym (flat_map-map (λ e. fields_line end ([] ∷ e.0 ∷ [])) shows first)
-    ∙ ap (name_lines end) found.first_is)
+    → IsAnswer style (Questions.Complete names most) line
+    (complete_text style line count (map shows first))
+completed_answer style names line most shows first count found =
+    ap (λ n. complete_text style line n (map shows first)) found.count_is
+    ∙ ap (complete_text style line (length (under line (finite.entries names)))) found.first_is
 
 module _ (names : KeySet) (line host : List ℕ) (is : host ≡ folded line) where
   -- the name that blocks a host, if there is one

@@ -1,8 +1,9 @@
 -- Objects and arrays of JSON, part by part.
 use Rattle.std.proofs.Common.{◌≡◌, ◌⊎◌, inl, inr, ℕ, true, false, List, [], ◌∷◌, ◌++◌, map, refl}
-use Rattle.std.proofs.Common.{sym, ap, ◌∙◌, append_assoc, append-nil}
+use Rattle.std.proofs.Common.{sym, ap, ◌∙◌, append_assoc, append-nil, Option, None, Some}
 use Rattle.std.specs.Fmt.{decimal}
 use Rattle.std.specs.List.{flat_map, join_by}
+use Rattle.std.specs.Option.{option_map}
 use Rattle.std.specs.Str.{IsUtf8, is_utf8}
 use Rattle.std.proofs.lemmas.Bool.{cases_Bool, cond-true, cond-false}
 use Rattle.std.proofs.lemmas.Grind.{flat_map-append}
@@ -68,6 +69,20 @@ object_ended members old out new is ends =
     ∙ append_assoc old (123 ∷ join_by member_text (44 ∷ []) members) (125 ∷ 10 ∷ [])
     ∙ ap (λ l. old ++ 123 ∷ l)
     (sym (append_assoc (join_by member_text (44 ∷ []) members) (125 ∷ []) (10 ∷ [])))
+
+-- an object inside another one is
+pub object_closed : (members : List (List ℕ × List ℕ)) (old out new : List ℕ)
+    → out ≡ old ++ opened members → new ≡ out ++ 125 ∷ [] → new ≡ old ++ object_text members
+unfolding opened object_text
+object_closed members old out new is ends =
+    ends ∙ ap (λ l. l ++ 125 ∷ []) is
+    ∙ append_assoc old (123 ∷ join_by member_text (44 ∷ []) members) (125 ∷ [])
+
+-- what may be missing is shown in one go
+pub option_map-map : {X Y Z : Type 0} (f : Y → Z) (g : X → Y) (o : Option X)
+    → option_map f (option_map g o) ≡ option_map (λ x. f (g x)) o
+option_map-map f g None = refl
+option_map-map f g (Some x) = refl
 
 -- bytes that are UTF-8 are a text, and others an array
 pub text_bytes : (bytes : List ℕ) → IsUtf8 bytes → string_text bytes ≡ bytes_text bytes

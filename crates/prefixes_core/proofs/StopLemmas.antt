@@ -6,7 +6,6 @@ use Rattle.prefixes_core.specs.Internal.Failures.{IsLineFailure, IsOutputFailure
 use Rattle.prefixes_core.specs.declared.answering.AnswerError.{AnswerError}
 use Rattle.prefixes_core.specs.declared.answering.Question.{Question}
 use Rattle.prefixes_core.specs.declared.answering.Style.{Style}
-use Rattle.prefixes_core.specs.declared.answering.Style.TheVariants as Styles
 use Rattle.prefixes_core.specs.declared.failure.Failure.{Failure}
 use Rattle.prefixes_core.specs.declared.failure.Failure.TheVariants as Failures
 
@@ -22,9 +21,8 @@ appended (Some xs) (Some ys) (Some zs) bytes more same = same ∙ more
 pub writes_behind : (style : Style) (question : Question) (line none next old new : List ℕ)
     → none ≡ [] → Writes style question line none next → new ≡ old ++ next
     → Writes style question line old new
-writes_behind (Styles.Lines end) question line none next old new empty writes is =
+writes_behind style question line none next old new empty writes is =
     (writes.0, is ∙ ap (λ l. old ++ l) (writes.1 ∙ ap (λ l. l ++ writes.0) empty), writes.2)
-writes_behind Styles.Json question line none next old new empty writes is = (next, is)
 
 module _ (question : Question) (line : List ℕ) (number : ℕ) (waiting : List ℕ)
     (old new : Option (List ℕ)) where

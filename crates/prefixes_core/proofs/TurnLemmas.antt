@@ -13,7 +13,6 @@ use Rattle.prefixes_core.specs.Internal.TakenLines.{TakesLine}
 use Rattle.prefixes_core.specs.Lists.{lines_of}
 use Rattle.prefixes_core.specs.declared.answering.Question.{Question}
 use Rattle.prefixes_core.specs.declared.answering.Style.{Style}
-use Rattle.prefixes_core.specs.declared.answering.Style.TheVariants as Styles
 use Rattle.prefixes_core.specs.declared.failure.Failure.{Failure}
 use Rattle.prefixes_core.specs.declared.failure.Failure.TheVariants as Failures
 use Rattle.prefixes_core.proofs.TakenLemmas.{few_lines}
@@ -23,10 +22,8 @@ behind_any : (style : Style) (question : Question) (line old new : List ℕ)
     → Writes style question line old new
     → (more : List ℕ) × (new ≡ old ++ more)
     × ((text : List ℕ) → Writes style question line text (text ++ more))
-behind_any (Styles.Lines end) question line old new writes =
+behind_any style question line old new writes =
     (writes.0, writes.1, λ text. (writes.0, refl, writes.2))
-behind_any Styles.Json question line old new writes =
-    (writes.0, writes.1, λ text. (writes.0, refl))
 
 -- where all that waits is written, nothing waits
 pub kept_all : (old new : Option (List ℕ)) (waiting left : List ℕ) → Appends old new waiting

@@ -1,16 +1,19 @@
 -- What is written for a line, and whether that counts as found.
 use Rattle.std.specs.Prelude.{◌≡◌, ◌≢◌, ◌==◌, ◌↔◌, ◌++◌, if◌then◌else◌, ℕ, Bool, List, [], ◌∷◌}
 use Rattle.std.specs.Prelude.{length, take, drop, codes, IsTrue, Option, None, Some, MatchOption}
+use Rattle.std.specs.Prelude.{map as list_map}
 use Rattle.std.specs.Bool.{MatchBool}
 use Rattle.std.specs.FinMap as map
 use Rattle.std.specs.Fmt.{decimal}
 use Rattle.std.specs.List.{flat_map, join_by}
-use Rattle.std.specs.Option.{is_some}
+use Rattle.std.specs.Option.{is_some, option_map}
 use Rattle.std.specs.Str.{IsUtf8, IsValidUpTo}
 use Rattle.patricia_tree.specs.Keys.{key_cmp}
 use Rattle.patricia_tree.specs.Prefixes.{longest, under}
 use Rattle.prefixes_core.specs.Blocks.{Blocks, Passes, folded}
 use Rattle.prefixes_core.specs.Nearest.{AreNearest}
+use Rattle.prefixes_core.specs.Objects.{object_line, object_text, array_text, option_text}
+use Rattle.prefixes_core.specs.Objects.{string_text, bytes_text}
 use Rattle.prefixes_core.specs.Segments.{AreSegments}
 use Rattle.prefixes_core.specs.Subtrees.{subtree, elsewhere}
 use Rattle.prefixes_core.specs.declared.answering.AnswerError.{AnswerError}
@@ -69,27 +72,95 @@ abbrev pub tree_lines : ℕ → List ℕ → List (List ℕ × List ℕ) → Lis
 tree_lines end root [] = dash_line end
 tree_lines end root (entry ∷ entries) = flat_map (entry_line end root) (entry ∷ entries)
 
+-- the object of a line and its route
+abbrev pub route_object : List ℕ → Option (List ℕ × List ℕ) → List ℕ
+route_object line route =
+    object_line ((codes "line", string_text line)
+    ∷ (codes "prefix", option_text (option_map (λ r. string_text r.0) route))
+    ∷ (codes "target", option_text (option_map (λ r. bytes_text r.1) route)) ∷ [])
+
+-- the object of a line, how many names are found, and some of them
+abbrev pub names_object : List ℕ → ℕ → List (List ℕ) → List ℕ
+names_object line count names =
+    object_line ((codes "line", string_text line) ∷ (codes "count", decimal count)
+    ∷ (codes "names", array_text names) ∷ [])
+
+-- the object of a name and how many edits away it is
+abbrev pub near_object : List ℕ × ℕ → List ℕ
+near_object e = object_text ((codes "name", string_text e.0) ∷ (codes "edits", decimal e.1) ∷ [])
+
+-- the object of a host and the name that blocks it
+abbrev pub block_object : List ℕ → Option (List ℕ) → List ℕ
+block_object host name =
+    object_line ((codes "line", bytes_text host)
+    ∷ (codes "blocked", option_text (option_map bytes_text name)) ∷ [])
+
+-- the object of an entry
+abbrev pub entry_object : List ℕ × List ℕ → List ℕ
+entry_object e =
+    object_text ((codes "name", string_text e.0) ∷ (codes "value", bytes_text e.1) ∷ [])
+
+-- the object of a name and the entries of its tree
+abbrev pub tree_object : List ℕ → List (List ℕ × List ℕ) → List ℕ
+tree_object root entries =
+    object_line ((codes "line", string_text root)
+    ∷ (codes "entries", array_text (list_map entry_object entries)) ∷ [])
+
+-- the object of a line and the pieces that it is cut into
+abbrev pub pieces_object : List ℕ → List (List ℕ) → List ℕ
+pieces_object line pieces =
+    object_line ((codes "line", string_text line)
+    ∷ (codes "pieces", array_text (list_map string_text pieces)) ∷ [])
+
+-- each answer, in lines or as an object
+abbrev pub route_text : Style → List ℕ → Option (List ℕ × List ℕ) → List ℕ
+route_text (Styles.Lines end) line route = route_line end route
+route_text Styles.Json line route = route_object line route
+
+abbrev pub complete_text : {V : Type 0} → Style → List ℕ → ℕ → List (List ℕ × V) → List ℕ
+complete_text (Styles.Lines end) line count first =
+    count_line end line count ++ name_lines end first
+complete_text Styles.Json line count first =
+    names_object line count (list_map (λ e. string_text e.0) first)
+
+abbrev pub near_text : Style → List ℕ → ℕ → List (List ℕ × ℕ) → List ℕ
+near_text (Styles.Lines end) line count first = count_line end line count ++ near_lines end first
+near_text Styles.Json line count first = names_object line count (list_map near_object first)
+
+abbrev pub block_text : Style → List ℕ → Option (List ℕ) → List ℕ
+block_text (Styles.Lines end) host name = block_line end name
+block_text Styles.Json host name = block_object host name
+
+abbrev pub tree_text : Style → List ℕ → List (List ℕ × List ℕ) → List ℕ
+tree_text (Styles.Lines end) root entries = tree_lines end root entries
+tree_text Styles.Json root entries = tree_object root entries
+
+abbrev pub pieces_text : Style → List ℕ → List (List ℕ) → List ℕ
+pieces_text (Styles.Lines end) line pieces = fields_line end pieces
+pieces_text Styles.Json line pieces = pieces_object line pieces
+
 -- what is written for a line
-abbrev pub IsAnswer : ℕ → Question → List ℕ → List ℕ → Type 0
-IsAnswer end (Questions.Route routes) line written =
-    written ≡ route_line end (longest line (map.entries routes))
-IsAnswer end (Questions.Complete names most) line written =
+abbrev pub IsAnswer : Style → Question → List ℕ → List ℕ → Type 0
+IsAnswer style (Questions.Route routes) line written =
+    written ≡ route_text style line (longest line (map.entries routes))
+IsAnswer style (Questions.Complete names most) line written =
     let found = under line (map.entries names) in
-    written ≡ count_line end line (length found) ++ name_lines end (take most found)
-IsAnswer end (Questions.Near names edits most) line written =
+    written ≡ complete_text style line (length found) (take most found)
+IsAnswer style (Questions.Near names edits most) line written =
     (first : List (List ℕ × ℕ)) × (count : ℕ)
     × AreNearest (map.entries names) line edits most first count
-    × (written ≡ count_line end line count ++ near_lines end first)
-IsAnswer end (Questions.Block names) line written =
+    × (written ≡ near_text style line count first)
+IsAnswer style (Questions.Block names) line written =
     (name : Option (List ℕ))
     × MatchOption name (Passes names (folded line)) (Blocks names (folded line))
-    × (written ≡ block_line end name)
-IsAnswer end (Questions.Tree list) line written =
-    written ≡ tree_lines end line (subtree line (map.entries list))
-IsAnswer end (Questions.DropTree list) line written =
-    written ≡ tree_lines end line (subtree line (map.entries list))
-IsAnswer end (Questions.Segment words) line written =
-    (pieces : List (List ℕ)) × AreSegments words line pieces × (written ≡ fields_line end pieces)
+    × (written ≡ block_text style line name)
+IsAnswer style (Questions.Tree list) line written =
+    written ≡ tree_text style line (subtree line (map.entries list))
+IsAnswer style (Questions.DropTree list) line written =
+    written ≡ tree_text style line (subtree line (map.entries list))
+IsAnswer style (Questions.Segment words) line written =
+    (pieces : List (List ℕ)) × AreSegments words line pieces
+    × (written ≡ pieces_text style line pieces)
 
 -- whether something is found for a line
 abbrev pub IsFound : Question → List ℕ → Bool → Type 0
@@ -115,11 +186,10 @@ Leaves (Questions.DropTree list) line left =
     × (map.entries rest ≡ elsewhere line (map.entries list))
 Leaves question line left = left ≡ question
 
--- an answer comes at the end of a text, where no clause says what it is as JSON
+-- an answer comes at the end of a text
 abbrev pub Writes : Style → Question → List ℕ → List ℕ → List ℕ → Type 0
-Writes (Styles.Lines end) question line old new =
-    (written : List ℕ) × (new ≡ old ++ written) × IsAnswer end question line written
-Writes Styles.Json question line old new = (written : List ℕ) × (new ≡ old ++ written)
+Writes style question line old new =
+    (written : List ℕ) × (new ≡ old ++ written) × IsAnswer style question line written
 
 -- a line is UTF-8, or a host, which may be any bytes
 abbrev pub IsRightLine : Question → List ℕ → Type 0

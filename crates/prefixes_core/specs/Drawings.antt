@@ -8,7 +8,7 @@ use Rattle.std.specs.Bool.{then_some}
 use Rattle.std.specs.Fmt.{decimal}
 use Rattle.std.specs.List.{concat, flat_map}
 use Rattle.std.specs.Str.Lossy.{utf8_lossy}
-use Rattle.prefixes_core.specs.Objects.{bytes_text, object_text, option_text, string_text}
+use Rattle.prefixes_core.specs.Objects.{bytes_text, object_line, option_text, string_text}
 use Rattle.prefixes_core.specs.Trees.{AreNodes}
 use Rattle.prefixes_core.specs.declared.drawing.Form.{Form}
 use Rattle.prefixes_core.specs.declared.drawing.Form.TheVariants as Forms
@@ -34,8 +34,8 @@ node_line way node =
 -- the object of a node, on its line
 abbrev pub node_object : List (List ℕ) → ℕ × (List ℕ × Bool) → List ℕ
 node_object way node =
-    object_text ((codes "level", decimal node.0) ∷ (codes "label", bytes_text node.1.0)
-    ∷ (codes "name", option_text (then_some node.1.1 (bytes_text (concat way)))) ∷ []) ++ 10 ∷ []
+    object_line ((codes "level", decimal node.0) ∷ (codes "label", bytes_text node.1.0)
+    ∷ (codes "name", option_text (then_some node.1.1 (bytes_text (concat way)))) ∷ [])
 
 -- what is written for a node, as JSON or as text
 abbrev pub node_text : Bool → List (List ℕ) → ℕ × (List ℕ × Bool) → List ℕ

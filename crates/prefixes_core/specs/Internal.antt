@@ -2,5 +2,4 @@
 pub mod Failures
 pub mod Reversed
 pub mod Splits
-pub mod Styles
 pub mod TakenLines

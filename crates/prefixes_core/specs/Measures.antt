@@ -2,7 +2,7 @@
 use Rattle.std.specs.Prelude.{◌≡◌, ◌*◌, ◌-◌, ◌/◌, ◌++◌, ℕ, Bool, true, false, List, [], ◌∷◌}
 use Rattle.std.specs.Prelude.{length, sum_by, codes}
 use Rattle.std.specs.Fmt.{decimal}
-use Rattle.prefixes_core.specs.Objects.{object_text}
+use Rattle.prefixes_core.specs.Objects.{object_line}
 use Rattle.prefixes_core.specs.Trees.{AreTreeCounts}
 use Rattle.prefixes_core.specs.declared.measuring.Measures.{Measures}
 
@@ -32,10 +32,10 @@ measure_lines m =
 -- the object of all numbers, on a line
 abbrev pub measure_object : Measures → List ℕ
 measure_object m =
-    object_text ((codes "names", decimal m.names) ∷ (codes "name_bytes", decimal m.name_bytes)
+    object_line ((codes "names", decimal m.names) ∷ (codes "name_bytes", decimal m.name_bytes)
     ∷ (codes "nodes", decimal m.nodes) ∷ (codes "label_bytes", decimal m.label_bytes)
     ∷ (codes "tree_bytes", decimal m.tree_bytes) ∷ (codes "depth", decimal m.depth)
-    ∷ (codes "saved_percent", decimal (saved_percent m.name_bytes m.label_bytes)) ∷ []) ++ 10 ∷ []
+    ∷ (codes "saved_percent", decimal (saved_percent m.name_bytes m.label_bytes)) ∷ [])
 
 -- all numbers, as JSON or in lines
 abbrev pub measures_text : Bool → Measures → List ℕ

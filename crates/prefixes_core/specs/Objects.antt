@@ -31,3 +31,7 @@ member_text member = 34 ∷ member.0 ++ 34 ∷ 58 ∷ member.1
 -- members in braces, with a comma between any two
 unfoldable pub object_text : List (List ℕ × List ℕ) → List ℕ
 object_text members = 123 ∷ join_by member_text (44 ∷ []) members ++ 125 ∷ []
+
+-- an object on its line
+abbrev pub object_line : List (List ℕ × List ℕ) → List ℕ
+object_line members = object_text members ++ 10 ∷ []

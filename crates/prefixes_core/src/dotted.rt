@@ -19,7 +19,7 @@ fn with_dot(alloc: Global, name: &str) -> Result<String, AllocError>
 }
 
 // Whether a name begins with this one.
-fn begins_some<V: Drop>(names: &StringPatriciaMap<V>, name: &str) -> bool
+pub(crate) fn begins_some<V: Drop>(names: &StringPatriciaMap<V>, name: &str) -> bool
     ensures some { result ≡ true → under name.now (map.entries names.now) ≢ [] }
     ensures none { result ≡ false → under name.now (map.entries names.now) ≡ [] }
 {

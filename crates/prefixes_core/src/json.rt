@@ -105,6 +105,14 @@ pub fn push_array<T: ToJson>(
     Ok(())
 }
 
+impl<'a, T: ToJson> ToJson for &'a [T] {
+    ghost text = { λ values. array_text (list_map T.text values.now) };
+
+    fn push_json(&self, alloc: Global, out: &mut Vec<u8>) -> Result<(), AllocError> {
+        push_array(alloc, self, out)
+    }
+}
+
 /// Bytes: a text where they are UTF-8, and else the array of their numbers.
 #[derive(Clone, Copy)]
 pub struct Bytes<'a>(pub &'a [u8]);

@@ -8,6 +8,7 @@ ghost use Rattle.patricia_tree.specs.Siblings.{keys_of};
 ghost use Rattle.prefixes_core.specs.Drawings.{Draws};
 ghost use Rattle.prefixes_core.specs.Measures.{TellsMeasures};
 
+use crate::dotted::begins_some;
 use crate::drawing::{Form, draw, push_drawing};
 use crate::failure::{Failure, pack_failure, put};
 use crate::inputs::{Inputs, shown};
@@ -76,10 +77,13 @@ fn put_tree<W: Write>(
     form: Form,
     output: &mut W,
 ) -> Result<bool, Failure>
-    ensures { OnOk result ((text : List ℕ)
+    ensures written { OnOk result ((text : List ℕ)
         × Draws form (keys_of (under prefix.now (map.entries names))) text
         × Appends (W.contents output.old) (W.contents output.new) text) }
+    ensures found { IfOk result (λ found.
+        IsTrue found ↔ (under prefix.now (map.entries names) ≢ [])) }
 {
+    let is_found = begins_some(&names, prefix);
     let nodes = match draw(alloc, names, prefix) {
         Ok(nodes) => nodes,
         Err(error) => return Err(pack_failure(alloc, shown(list), error)),
@@ -87,7 +91,7 @@ fn put_tree<W: Write>(
     let mut out = Vec::new(alloc);
     push_drawing(alloc, &nodes, form, &mut out)?;
     put(output, &mut out)?;
-    Ok(nodes.iter().any(|node| node.is_name))
+    Ok(is_found)
 }
 
 /// Shows the tree of the names that begin with a prefix, and returns whether there is one.

@@ -1,20 +1,19 @@
 //! The lines or the JSON that answer a question, written at the end of a text.
 
-ghost use Rattle.std.specs.Prelude.{◌≡◌, ◌++◌, ◌∷◌, ℕ, List, [], OnOk, string_bytes};
+ghost use Rattle.std.specs.Prelude.{◌≡◌, ◌++◌, ◌∷◌, [], OnOk, string_bytes};
 ghost use Rattle.std.specs.Prelude.{map as list_map};
 ghost use Rattle.std.specs.Fmt.{decimal};
 ghost use Rattle.std.specs.List.{flat_map, join_by};
 ghost use Rattle.std.specs.Option.{option_map};
-ghost use Rattle.prefixes_core.specs.Answers.{fields_line, route_line, count_line, block_line};
-ghost use Rattle.prefixes_core.specs.Answers.{indent, value_line, entry_line, tree_lines};
-ghost use Rattle.prefixes_core.specs.Internal.Styles.{IsWritten};
+ghost use Rattle.prefixes_core.specs.Answers.{fields_line, count_line, indent, value_line};
+ghost use Rattle.prefixes_core.specs.Answers.{entry_line, route_text, complete_text, near_text};
+ghost use Rattle.prefixes_core.specs.Answers.{block_text, tree_text, pieces_text};
 
 use super::Style;
 use crate::completing::Completions;
 use crate::nearing::{NearName, NearNames};
 use crate::objects::{
-    BlockObject, CompleteObject, EntryObject, NearObject, RouteObject, SegmentObject, Text,
-    TreeObject, push_object,
+    push_block_object, push_names_object, push_pieces_object, push_route_object, push_tree_object,
 };
 use crate::value::Payload;
 use itoa::Buffer;
@@ -71,16 +70,15 @@ pub(super) fn push_route(
     style: Style,
     out: &mut Vec<u8>,
 ) -> Result<(), AllocError>
-    ensures { OnOk result (IsWritten style
-        (λ end. route_line end (option_map (λ route. (route.0.now, route.1.now)) found.entry))
-        out.old.items out.new.items) }
+    ensures { OnOk result (out.new.items ≡ out.old.items ++ route_text style line.now
+        (option_map (λ route. (route.0.now, route.1.now)) found.entry)) }
 {
     match (style, found) {
         (Style::Lines(end), Some((prefix, target))) => {
             push_fields(&[prefix.as_bytes(), target.as_bytes()], end, out)
         }
         (Style::Lines(end), None) => push_fields(&["-"], end, out),
-        (Style::Json, _) => push_object(alloc, &RouteObject::new(line, found), out),
+        (Style::Json, _) => push_route_object(alloc, line, found, out),
     }
 }
 
@@ -97,23 +95,6 @@ fn push_names(found: &[(String, &())], end: u8, out: &mut Vec<u8>) -> Result<(),
 
 type Completed<'a> = Completions<'a, String, ()>;
 
-fn push_complete_object(
-    alloc: Global,
-    found: &Completed<'_>,
-    line: &str,
-    out: &mut Vec<u8>,
-) -> Result<(), AllocError>
-    ensures { OnOk result
-        ((written : List ℕ) × (out.new.items ≡ out.old.items ++ written)) }
-{
-    let count = found.count;
-    let mut names = Vec::new(alloc);
-    for (name, _) in &found.first {
-        names.push(name.as_str())?;
-    }
-    push_object(alloc, &CompleteObject { line, count, names }, out)
-}
-
 pub(super) fn push_completed(
     alloc: Global,
     found: &Completed<'_>,
@@ -121,16 +102,16 @@ pub(super) fn push_completed(
     style: Style,
     out: &mut Vec<u8>,
 ) -> Result<(), AllocError>
-    ensures { OnOk result (IsWritten style (λ end. count_line end line.now found.now.count
-        ++ flat_map (λ name. fields_line end ([] ∷ string_bytes name.0 ∷ []))
-        found.now.first.items) out.old.items out.new.items) }
+    ensures { OnOk result (out.new.items ≡ out.old.items
+        ++ complete_text style line.now found.now.count
+        (list_map (λ name. (string_bytes name.0, name.1.now)) found.now.first.items)) }
 {
     match style {
         Style::Lines(end) => {
             push_count(line, found.count, end, out)?;
             push_names(&found.first, end, out)
         }
-        Style::Json => push_complete_object(alloc, found, line, out),
+        Style::Json => push_names_object(alloc, line, found.count, &found.first, out),
     }
 }
 
@@ -165,20 +146,16 @@ pub(super) fn push_near(
     style: Style,
     out: &mut Vec<u8>,
 ) -> Result<(), AllocError>
-    ensures { OnOk result (IsWritten style (λ end. count_line end line.now found.now.count
-        ++ flat_map
-        (λ near. fields_line end ([] ∷ string_bytes near.name ∷ decimal near.edits ∷ []))
-        found.now.first.items) out.old.items out.new.items) }
+    ensures { OnOk result (out.new.items ≡ out.old.items
+        ++ near_text style line.now found.now.count
+        (list_map (λ near. (string_bytes near.name, near.edits)) found.now.first.items)) }
 {
     match style {
         Style::Lines(end) => {
             push_count(line, found.count, end, out)?;
             push_near_names(&found.first, end, out)
         }
-        Style::Json => {
-            let (count, names) = (found.count, found.first.as_slice());
-            push_object(alloc, &NearObject { line, count, names }, out)
-        }
+        Style::Json => push_names_object(alloc, line, found.count, &found.first, out),
     }
 }
 
@@ -190,14 +167,13 @@ pub(super) fn push_blocked(
     style: Style,
     out: &mut Vec<u8>,
 ) -> Result<(), AllocError>
-    ensures { OnOk result (IsWritten style
-        (λ end. block_line end (option_map (λ name. name.now) found.entry))
-        out.old.items out.new.items) }
+    ensures { OnOk result (out.new.items ≡ out.old.items
+        ++ block_text style line.now (option_map (λ name. name.now) found.entry)) }
 {
     match (style, found) {
         (Style::Lines(end), Some(name)) => push_fields(&[b"blocked".as_slice(), name], end, out),
         (Style::Lines(end), None) => push_fields(&["passes"], end, out),
-        (Style::Json, _) => push_object(alloc, &BlockObject::new(line, found), out),
+        (Style::Json, _) => push_block_object(alloc, line, found, out),
     }
 }
 
@@ -254,23 +230,6 @@ fn push_entries(
     Ok(())
 }
 
-fn push_tree_object(
-    alloc: Global,
-    found: &[(String, &Payload)],
-    line: &str,
-    out: &mut Vec<u8>,
-) -> Result<(), AllocError>
-    ensures { OnOk result
-        ((written : List ℕ) × (out.new.items ≡ out.old.items ++ written)) }
-{
-    let mut entries = Vec::new(alloc);
-    for (name, value) in found {
-        let (name, value) = (name.as_str(), Text::new(value.as_bytes()));
-        entries.push(EntryObject { name, value })?;
-    }
-    push_object(alloc, &TreeObject { line, entries }, out)
-}
-
 // Writes the entries of a tree, if there are any.
 pub(super) fn push_tree(
     alloc: Global,
@@ -279,14 +238,13 @@ pub(super) fn push_tree(
     style: Style,
     out: &mut Vec<u8>,
 ) -> Result<(), AllocError>
-    ensures { OnOk result (IsWritten style (λ end. tree_lines end line.now
-        (list_map (λ entry. (string_bytes entry.0, entry.1.now)) found.now))
-        out.old.items out.new.items) }
+    ensures { OnOk result (out.new.items ≡ out.old.items ++ tree_text style line.now
+        (list_map (λ entry. (string_bytes entry.0, entry.1.now)) found.now)) }
 {
     match style {
         Style::Lines(end) if found.is_empty() => push_fields(&["-"], end, out),
         Style::Lines(end) => push_entries(found, line.as_bytes(), end, out),
-        Style::Json => push_tree_object(alloc, found, line, out),
+        Style::Json => push_tree_object(alloc, line, found, out),
     }
 }
 
@@ -298,12 +256,11 @@ pub(super) fn push_pieces(
     style: Style,
     out: &mut Vec<u8>,
 ) -> Result<(), AllocError>
-    ensures { OnOk result (IsWritten style
-        (λ end. fields_line end (list_map (λ piece. piece.now) pieces.now))
-        out.old.items out.new.items) }
+    ensures { OnOk result (out.new.items ≡ out.old.items
+        ++ pieces_text style line.now (list_map (λ piece. piece.now) pieces.now)) }
 {
     match style {
         Style::Lines(end) => push_fields(pieces, end, out),
-        Style::Json => push_object(alloc, &SegmentObject { line, pieces }, out),
+        Style::Json => push_pieces_object(alloc, line, pieces, out),
     }
 }

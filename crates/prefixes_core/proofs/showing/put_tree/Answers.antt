@@ -3,8 +3,8 @@ use Rattle.std.specs.Io.KnownBytes.{Appends}
 use Rattle.prefixes_core.specs.Drawings.{drawing}
 use Rattle.prefixes_core.proofs.showing.put_tree.Goals as goal
 
-pub returns : goal.returns
-returns g c =
+pub returns-clause-written : goal.returns-clause-written
+returns-clause-written g c =
     let nodes =
     list_map (λ node. (node.level, (node.label, node.is_name))) c.in-Ok.nodes.items in
     let is : c.push_drawing.new.out.items ≡ drawing c.args.form nodes =

@@ -1,0 +1,14 @@
+use Rattle.std.proofs.Common.{[], ◌∷◌, ◌++◌, sym, ap, codes, ◌∙◌, string_bytes}
+use mathlib.Core.List.{map-map}
+use Rattle.std.proofs.lemmas.Result.{on_ok_weaker}
+use Rattle.prefixes_core.specs.Answers.{entry_object}
+use Rattle.prefixes_core.specs.Objects.{array_text, object_line, string_text}
+use Rattle.prefixes_core.proofs.objects.push_tree_object.Goals as goal
+
+pub returns : goal.returns
+returns c =
+    on_ok_weaker c.push_values_object.result (λ is. is
+    ∙ ap (λ l. c.args.out.now.items ++ object_line ((codes "line", string_text c.args.root.now)
+    ∷ (codes "entries", array_text l) ∷ []))
+    (sym (map-map entry_object (λ entry. (string_bytes entry.0, entry.1.now)) c.args.entries.now)))
+    c.push_values_object.ensures
