@@ -34,10 +34,11 @@
  *     - malloc, realloc and free are those of one allocator.
  *
  * ERRORS
- *     A function that cannot get memory says so by false or by PATRICIA_NO_MEMORY. It has then
- *     changed nothing but where it says otherwise, and may be called again. A function that returns
- *     void or size_t, patricia_get, patricia_longest_prefix, their forms for many keys and
- *     patricia_thaw do not allocate.
+ *     Whatever may fail returns a code of the enum below. A question that cannot fail returns bool.
+ *
+ *     A function that cannot get memory returns PATRICIA_NO_MEMORY. It has then changed nothing but
+ *     where it says otherwise, and may be called again. A function that returns void, size_t or
+ *     bool, patricia_thaw and the look-ups of many keys do not allocate.
  *
  * MEMORY
  *     Memory is asked for by rattle_alloc, rattle_realloc and rattle_dealloc. The library has these
@@ -103,6 +104,7 @@ enum {
     PATRICIA_NO_ROOM = 4,  /* the array is too small */
     PATRICIA_NOT_TEXT = 5, /* the key, or a key of the map, is not UTF-8 */
     PATRICIA_NOT_IN_ORDER = 6, /* the key does not come after the last one */
+    PATRICIA_SHARED = 7,       /* another handle is left */
 
     /* Faults of tree bytes, in the order in which the rules for a record are tried. The offset is
      * that of the first byte of the record, or for PATRICIA_TRAILING_BYTES of the first byte behind
@@ -133,6 +135,7 @@ static inline const char *patricia_fault_text(uint32_t code)
     case PATRICIA_NO_ROOM: return "array too small";
     case PATRICIA_NOT_TEXT: return "not UTF-8";
     case PATRICIA_NOT_IN_ORDER: return "keys not in order";
+    case PATRICIA_SHARED: return "another handle is left";
     case PATRICIA_TRUNCATED: return "record cut short";
     case PATRICIA_LEVEL: return "wrong level";
     case PATRICIA_ROOT_LABEL: return "root with a label";
@@ -181,8 +184,9 @@ size_t patricia_len(const patricia_map *map);
 void patricia_free(patricia_map *map);
 
 /* Frees what *copy holds and writes a copy of the map there, in time in proportion to the number of
- * entries. Returns false where memory runs out, never for an empty map: *copy is empty then. */
-bool patricia_clone(const patricia_map *map, patricia_map *copy);
+ * entries. Returns PATRICIA_DONE; or PATRICIA_NO_MEMORY, never for an empty map: *copy is empty
+ * then. */
+uint32_t patricia_clone(const patricia_map *map, patricia_map *copy);
 
 /* Puts entries behind those of the map, by one look-up and then a walk, in much less time than as
  * many inserts. Their keys lie one right behind the other in `keys`, and their lengths in `lens`;
@@ -219,23 +223,23 @@ size_t patricia_longest_common_prefix_len(const patricia_map *map, const uint8_t
                                           size_t key_len);
 
 /* Frees what *part holds, and moves the entries whose key begins with the prefix there. Returns
- * false where memory runs out: *part is empty then, and all entries stay in the map. This is never
- * so for the empty prefix, nor where there is no such entry. */
-bool patricia_split_by_prefix(patricia_map *map, const uint8_t *prefix, size_t prefix_len,
-                              patricia_map *part);
+ * PATRICIA_DONE; or PATRICIA_NO_MEMORY: *part is empty then, and all entries stay in the map. This
+ * is never so for the empty prefix, nor where there is no such entry. */
+uint32_t patricia_split_by_prefix(patricia_map *map, const uint8_t *prefix, size_t prefix_len,
+                                  patricia_map *part);
 
-/* Writes the number of entries whose key begins with the prefix to *count, and returns true, in
- * time in proportion to them and to the length of the prefix. Returns false where memory runs out,
+/* Writes the number of entries whose key begins with the prefix to *count, and returns
+ * PATRICIA_DONE, in time in proportion to them and to the length of the prefix. PATRICIA_NO_MEMORY,
  * which is only so where the key of some such entry has more than 64 bytes behind the prefix: else
- * no memory is asked for. *count is written with true alone. */
-bool patricia_count_prefix(const patricia_map *map, const uint8_t *prefix, size_t prefix_len,
-                           size_t *count);
+ * no memory is asked for. *count is written with PATRICIA_DONE alone. */
+uint32_t patricia_count_prefix(const patricia_map *map, const uint8_t *prefix, size_t prefix_len,
+                               size_t *count);
 
 /* Removes the entries whose key begins with the prefix, writes how many they were to *count, and
- * returns true. Returns false where memory runs out: all entries stay. This is never so for the
- * empty prefix, nor where there is no such entry. *count is written with true alone. */
-bool patricia_remove_prefix(patricia_map *map, const uint8_t *prefix, size_t prefix_len,
-                            size_t *count);
+ * returns PATRICIA_DONE. PATRICIA_NO_MEMORY: all entries stay. This is never so for the empty
+ * prefix, nor where there is no such entry. *count is written with PATRICIA_DONE alone. */
+uint32_t patricia_remove_prefix(patricia_map *map, const uint8_t *prefix, size_t prefix_len,
+                                size_t *count);
 
 /* Many look-ups at once. The keys lie one right behind the other in `keys`, and their lengths in
  * `lens`, whose number says how many they are. The answer of the first key goes to the first place
@@ -292,17 +296,17 @@ uint32_t patricia_last_before(const patricia_map *map, const uint8_t *key, size_
 /* Sets the cursor: ahead are the entries whose key is this key or comes after it, among those whose
  * key begins with the first `common` bytes of this key; with the whole key, where `common` is
  * key_len or more. So with 0 they are all entries from a key on, and with key_len those whose key
- * begins with a prefix. Returns false where memory runs out, never for the empty key: the cursor is
- * unchanged. */
-bool patricia_cursor_seek(patricia_cursor *cursor, const uint8_t *key, size_t key_len,
-                          size_t common);
+ * begins with a prefix. Returns PATRICIA_DONE; or PATRICIA_NO_MEMORY, never for the empty key: the
+ * cursor is unchanged. */
+uint32_t patricia_cursor_seek(patricia_cursor *cursor, const uint8_t *key, size_t key_len,
+                              size_t common);
 
 /* Sets the cursor to a range: ahead are the entries whose key is `start` or comes after it, and
  * which come before `end`; none, where `start` does not come before `end`. The end stays until the
  * cursor is set anew or freed. patricia_cursor_seek with 0 sets it to a range with no end. Returns
- * false where memory runs out: the cursor is unchanged. */
-bool patricia_cursor_seek_range(patricia_cursor *cursor, const uint8_t *start, size_t start_len,
-                                const uint8_t *end, size_t end_len);
+ * PATRICIA_DONE; or PATRICIA_NO_MEMORY: the cursor is unchanged. */
+uint32_t patricia_cursor_seek_range(patricia_cursor *cursor, const uint8_t *start,
+                                    size_t start_len, const uint8_t *end, size_t end_len);
 
 /* Passes the first entry of the map that the cursor has ahead. Returns PATRICIA_ENTRY, and writes
  * its key to the array, the length of the key to *key_len and the value to *value; or PATRICIA_END
@@ -335,16 +339,16 @@ void patricia_cursor_free(patricia_cursor *cursor);
 /* Frees what *iterator holds, and writes an iterator over the entries whose key begins with the
  * prefix, in the order of the keys; all entries begin with the empty prefix. The iterator has
  * copies of them, so the map may be changed or freed meanwhile, and the iterator gives the
- * entries as they were. Returns false where memory runs out, never where there is no such entry:
- * the iterator is at its end then. */
-bool patricia_iterate(const patricia_map *map, const uint8_t *prefix, size_t prefix_len,
-                      patricia_iterator *iterator);
+ * entries as they were. Returns PATRICIA_DONE; or PATRICIA_NO_MEMORY, never where there is no such
+ * entry: the iterator is at its end then. */
+uint32_t patricia_iterate(const patricia_map *map, const uint8_t *prefix, size_t prefix_len,
+                          patricia_iterator *iterator);
 
 /* The same over the entries whose key is at most `limit` edits from this key, where an edit
  * inserts, deletes or replaces a byte: Levenshtein distance. Skips what begins with bytes that no
- * such key begins with. Returns false where memory runs out, never for an empty map. */
-bool patricia_within(const patricia_map *map, const uint8_t *key, size_t key_len, uint32_t limit,
-                     patricia_iterator *iterator);
+ * such key begins with. Returns PATRICIA_DONE; or PATRICIA_NO_MEMORY, never for an empty map. */
+uint32_t patricia_within(const patricia_map *map, const uint8_t *key, size_t key_len,
+                         uint32_t limit, patricia_iterator *iterator);
 
 /* Takes the next entry from the iterator. Returns PATRICIA_ENTRY, and writes the key to the
  * array, its length to *key_len and the value to *value; or PATRICIA_END where none is left.
@@ -391,24 +395,24 @@ uint32_t patricia_from_wide_tree_bytes(patricia_map *map, const uint8_t *bytes, 
  * thread of its own, with no lock. The last one that is freed frees the map. */
 
 /* Frees what *shared holds, and moves the map there, as the first handle of it: *map is empty then.
- * Takes constant time. Returns false where memory runs out: the map is unchanged and *shared is a
- * handle of the empty map. */
-bool patricia_freeze(patricia_map *map, patricia_shared *shared);
+ * Takes constant time. Returns PATRICIA_DONE; or PATRICIA_NO_MEMORY: the map is unchanged and
+ * *shared is a handle of the empty map. */
+uint32_t patricia_freeze(patricia_map *map, patricia_shared *shared);
 
 /* Frees what *copy holds, and writes another handle of the same map there, in constant time. Give a
  * thread a handle of its own: make it before the thread begins, or in a thread that has one.
- * Returns false where memory runs out: *copy is a handle of the empty map. */
-bool patricia_shared_clone(const patricia_shared *shared, patricia_shared *copy);
+ * Returns PATRICIA_DONE; or PATRICIA_NO_MEMORY: *copy is a handle of the empty map. */
+uint32_t patricia_shared_clone(const patricia_shared *shared, patricia_shared *copy);
 
 /* Frees what *map holds, and moves the map of a handle there, where it can be changed, if this is
  * the last handle of it: *shared is a handle of the empty map then. Takes constant time. Returns
- * false where there is another handle: nothing has changed. Handles of a map that was all zero
- * bytes are not counted: each of them succeeds, with the empty map. */
-bool patricia_thaw(patricia_shared *shared, patricia_map *map);
+ * PATRICIA_DONE; or PATRICIA_SHARED where there is another handle: nothing has changed. Handles of
+ * a map that was all zero bytes are not counted: each of them succeeds, with the empty map. */
+uint32_t patricia_thaw(patricia_shared *shared, patricia_map *map);
 
 /* Frees what *copy holds and writes a copy of the shared map there, which can be changed, as
- * patricia_clone does. Returns false where memory runs out, never for an empty map. */
-bool patricia_shared_to_map(const patricia_shared *shared, patricia_map *copy);
+ * patricia_clone does. Returns PATRICIA_DONE; or PATRICIA_NO_MEMORY, never for an empty map. */
+uint32_t patricia_shared_to_map(const patricia_shared *shared, patricia_map *copy);
 
 /* Frees the handle, and the map with it if it was the last one. */
 void patricia_shared_free(patricia_shared *shared);
@@ -426,8 +430,8 @@ bool patricia_shared_longest_prefix(const patricia_shared *shared, const uint8_t
 size_t patricia_shared_longest_common_prefix_len(const patricia_shared *shared, const uint8_t *key,
                                                  size_t key_len);
 
-bool patricia_shared_count_prefix(const patricia_shared *shared, const uint8_t *prefix,
-                                  size_t prefix_len, size_t *count);
+uint32_t patricia_shared_count_prefix(const patricia_shared *shared, const uint8_t *prefix,
+                                      size_t prefix_len, size_t *count);
 
 uint32_t patricia_shared_get_many(const patricia_shared *shared, const uint8_t *keys,
                                   size_t keys_size, const size_t *lens, size_t count,
@@ -460,14 +464,14 @@ uint32_t patricia_shared_cursor_next_many(patricia_cursor *cursor, const patrici
                                           size_t lens_size, uint64_t *values, size_t values_size,
                                           size_t *count, size_t *key_len);
 
-bool patricia_shared_iterate(const patricia_shared *shared, const uint8_t *prefix,
-                             size_t prefix_len, patricia_iterator *iterator);
+uint32_t patricia_shared_iterate(const patricia_shared *shared, const uint8_t *prefix,
+                                 size_t prefix_len, patricia_iterator *iterator);
 
-bool patricia_shared_within(const patricia_shared *shared, const uint8_t *key, size_t key_len,
-                            uint32_t limit, patricia_iterator *iterator);
+uint32_t patricia_shared_within(const patricia_shared *shared, const uint8_t *key, size_t key_len,
+                                uint32_t limit, patricia_iterator *iterator);
 
-bool patricia_shared_text_within(const patricia_shared *shared, const uint8_t *text, size_t len,
-                                 uint16_t limit, patricia_iterator *iterator);
+uint32_t patricia_shared_text_within(const patricia_shared *shared, const uint8_t *text, size_t len,
+                                     uint16_t limit, patricia_iterator *iterator);
 
 uint32_t patricia_shared_tree_bytes(const patricia_shared *shared, uint8_t *array, size_t size,
                                     size_t *len);
@@ -496,8 +500,8 @@ size_t patricia_text_floor(const uint8_t *bytes, size_t len);
 /* As patricia_within, of characters: over the entries whose key is UTF-8 and at most `limit` edits
  * from this text, of which each inserts, deletes or replaces a character. There are none for what
  * is no text. */
-bool patricia_text_within(const patricia_map *map, const uint8_t *text, size_t len, uint16_t limit,
-                          patricia_iterator *iterator);
+uint32_t patricia_text_within(const patricia_map *map, const uint8_t *text, size_t len,
+                              uint16_t limit, patricia_iterator *iterator);
 
 /* As patricia_tree_bytes, for texts: no label is cut inside a character. PATRICIA_NOT_TEXT: some
  * key of the map is not UTF-8. Takes memory and time for a copy of the map. */
@@ -570,66 +574,60 @@ static inline uint32_t patricia_text_longest_common_prefix_len(const patricia_ma
     return PATRICIA_DONE;
 }
 
-/* As patricia_split_by_prefix: PATRICIA_DONE, or PATRICIA_NO_MEMORY. */
+/* As patricia_split_by_prefix. */
 static inline uint32_t patricia_text_split_by_prefix(patricia_map *map, const char *text,
                                                      size_t len, patricia_map *part)
 {
     const uint8_t *prefix = patricia_bytes(text);
-    if (!patricia_is_text(prefix, len))
-        return PATRICIA_NOT_TEXT;
-    return patricia_split_by_prefix(map, prefix, len, part) ? PATRICIA_DONE : PATRICIA_NO_MEMORY;
+    return patricia_is_text(prefix, len) ? patricia_split_by_prefix(map, prefix, len, part)
+                                         : (uint32_t)PATRICIA_NOT_TEXT;
 }
 
-/* As patricia_count_prefix: PATRICIA_DONE, or PATRICIA_NO_MEMORY. */
+/* As patricia_count_prefix. */
 static inline uint32_t patricia_text_count_prefix(const patricia_map *map, const char *text,
                                                   size_t len, size_t *count)
 {
     const uint8_t *prefix = patricia_bytes(text);
-    if (!patricia_is_text(prefix, len))
-        return PATRICIA_NOT_TEXT;
-    return patricia_count_prefix(map, prefix, len, count) ? PATRICIA_DONE : PATRICIA_NO_MEMORY;
+    return patricia_is_text(prefix, len) ? patricia_count_prefix(map, prefix, len, count)
+                                         : (uint32_t)PATRICIA_NOT_TEXT;
 }
 
-/* As patricia_remove_prefix: PATRICIA_DONE, or PATRICIA_NO_MEMORY. */
+/* As patricia_remove_prefix. */
 static inline uint32_t patricia_text_remove_prefix(patricia_map *map, const char *text, size_t len,
                                                    size_t *count)
 {
     const uint8_t *prefix = patricia_bytes(text);
-    if (!patricia_is_text(prefix, len))
-        return PATRICIA_NOT_TEXT;
-    return patricia_remove_prefix(map, prefix, len, count) ? PATRICIA_DONE : PATRICIA_NO_MEMORY;
+    return patricia_is_text(prefix, len) ? patricia_remove_prefix(map, prefix, len, count)
+                                         : (uint32_t)PATRICIA_NOT_TEXT;
 }
 
-/* As patricia_iterate: PATRICIA_DONE, or PATRICIA_NO_MEMORY. */
+/* As patricia_iterate. */
 static inline uint32_t patricia_text_iterate(const patricia_map *map, const char *text, size_t len,
                                              patricia_iterator *iterator)
 {
     const uint8_t *prefix = patricia_bytes(text);
-    if (!patricia_is_text(prefix, len))
-        return PATRICIA_NOT_TEXT;
-    return patricia_iterate(map, prefix, len, iterator) ? PATRICIA_DONE : PATRICIA_NO_MEMORY;
+    return patricia_is_text(prefix, len) ? patricia_iterate(map, prefix, len, iterator)
+                                         : (uint32_t)PATRICIA_NOT_TEXT;
 }
 
-/* As patricia_cursor_seek: PATRICIA_DONE, or PATRICIA_NO_MEMORY. */
+/* As patricia_cursor_seek. */
 static inline uint32_t patricia_text_cursor_seek(patricia_cursor *cursor, const char *text,
                                                  size_t len, size_t common)
 {
     const uint8_t *key = patricia_bytes(text);
-    if (!patricia_is_text(key, len))
-        return PATRICIA_NOT_TEXT;
-    return patricia_cursor_seek(cursor, key, len, common) ? PATRICIA_DONE : PATRICIA_NO_MEMORY;
+    return patricia_is_text(key, len) ? patricia_cursor_seek(cursor, key, len, common)
+                                      : (uint32_t)PATRICIA_NOT_TEXT;
 }
 
-/* As patricia_cursor_seek_range: PATRICIA_DONE, or PATRICIA_NO_MEMORY. */
+/* As patricia_cursor_seek_range. */
 static inline uint32_t patricia_text_cursor_seek_range(patricia_cursor *cursor, const char *start,
                                                        size_t start_len, const char *end,
                                                        size_t end_len)
 {
     const uint8_t *from = patricia_bytes(start), *to = patricia_bytes(end);
-    if (!patricia_is_text(from, start_len) || !patricia_is_text(to, end_len))
-        return PATRICIA_NOT_TEXT;
-    return patricia_cursor_seek_range(cursor, from, start_len, to, end_len) ? PATRICIA_DONE
-                                                                            : PATRICIA_NO_MEMORY;
+    return patricia_is_text(from, start_len) && patricia_is_text(to, end_len)
+               ? patricia_cursor_seek_range(cursor, from, start_len, to, end_len)
+               : (uint32_t)PATRICIA_NOT_TEXT;
 }
 
 /* As patricia_first_after. */

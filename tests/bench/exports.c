@@ -73,7 +73,7 @@ static uint64_t walked(patricia_map *map, size_t most) {
     uint8_t *key = malloc(most + 1);
     uint64_t sum = 0, value;
     size_t len;
-    need(key && patricia_iterate(map, key, 0, &iterator));
+    need(key && patricia_iterate(map, key, 0, &iterator) == PATRICIA_DONE);
     while (patricia_iterator_next(&iterator, key, most, &len, &value) == PATRICIA_ENTRY) sum += len;
     patricia_iterator_free(&iterator);
     free(key);
@@ -86,7 +86,7 @@ static uint64_t *values_of(patricia_map *map, size_t most) {
     uint8_t *key = malloc(most + 1);
     uint64_t *values = malloc((patricia_len(map) + 1) * sizeof *values);
     size_t len, count = 0;
-    need(key && values && patricia_iterate(map, key, 0, &iterator));
+    need(key && values && patricia_iterate(map, key, 0, &iterator) == PATRICIA_DONE);
     while (patricia_iterator_next(&iterator, key, most, &len, &values[count]) == PATRICIA_ENTRY) count++;
     patricia_iterator_free(&iterator);
     free(key);
@@ -118,10 +118,10 @@ static void time_tree(patricia_map *map, size_t most) {
 static void time_copies(patricia_map *map, Key prefix) {
     patricia_map copy = PATRICIA_MAP_INIT, part = PATRICIA_MAP_INIT;
     double start = nanos();
-    need(patricia_clone(map, &copy));
+    need(patricia_clone(map, &copy) == PATRICIA_DONE);
     report("clone", start, patricia_len(map), patricia_len(&copy));
     start = nanos();
-    need(patricia_split_by_prefix(&copy, prefix.bytes, prefix.len, &part));
+    need(patricia_split_by_prefix(&copy, prefix.bytes, prefix.len, &part) == PATRICIA_DONE);
     report("split_by_prefix", start, patricia_len(&part), patricia_len(&part));
     printf("share %zu\n", patricia_len(&part) * 1000 / (patricia_len(map) ? patricia_len(map) : 1));
     patricia_free(&copy);

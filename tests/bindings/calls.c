@@ -45,8 +45,9 @@ static void empty_map(void)
     CHECK(!patricia_longest_prefix(&map, bytes_of("foo"), 3, &len, &value));
     CHECK(len == 78 && value == 77);
     CHECK(patricia_longest_common_prefix_len(&map, bytes_of("foo"), 3) == 0);
-    CHECK(patricia_clone(&map, &other) && patricia_len(&other) == 0);
-    CHECK(patricia_split_by_prefix(&map, bytes_of(""), 0, &other) && patricia_len(&other) == 0);
+    CHECK(patricia_clone(&map, &other) == PATRICIA_DONE && patricia_len(&other) == 0);
+    CHECK(patricia_split_by_prefix(&map, bytes_of(""), 0, &other) == PATRICIA_DONE);
+    CHECK(patricia_len(&other) == 0);
     CHECK(patricia_first(&map, array, sizeof array, &len, &value) == PATRICIA_ABSENT);
     CHECK(patricia_last(&map, array, sizeof array, &len, &value) == PATRICIA_ABSENT);
     CHECK(patricia_first_after(&map, bytes_of(""), 0, array, sizeof array, &len, &value) ==
@@ -54,11 +55,11 @@ static void empty_map(void)
     CHECK(patricia_last_before(&map, bytes_of("foo"), 3, array, sizeof array, &len, &value) ==
           PATRICIA_ABSENT);
     CHECK(len == 78 && value == 77);
-    CHECK(patricia_count_prefix(&map, bytes_of(""), 0, &len) && len == 0);
+    CHECK(patricia_count_prefix(&map, bytes_of(""), 0, &len) == PATRICIA_DONE && len == 0);
     len = 78;
-    CHECK(patricia_remove_prefix(&map, bytes_of(""), 0, &len) && len == 0);
+    CHECK(patricia_remove_prefix(&map, bytes_of(""), 0, &len) == PATRICIA_DONE && len == 0);
     CHECK(patricia_iterator_len(&iterator) == 0);
-    CHECK(patricia_iterate(&map, bytes_of(""), 0, &iterator));
+    CHECK(patricia_iterate(&map, bytes_of(""), 0, &iterator) == PATRICIA_DONE);
     CHECK(patricia_iterator_next(&iterator, array, sizeof array, &len, &value) == PATRICIA_END);
     patricia_free(&map);
     patricia_free(&map);
@@ -96,9 +97,10 @@ static void two_maps(void)
     fill(&map);
     CHECK(insert(&copy, "dropped", 1, &value) == PATRICIA_ABSENT);
     CHECK(insert(&part, "dropped", 1, &value) == PATRICIA_ABSENT);
-    CHECK(patricia_clone(&map, &copy) && patricia_len(&copy) == 4 && patricia_len(&map) == 4);
+    CHECK(patricia_clone(&map, &copy) == PATRICIA_DONE && patricia_len(&copy) == 4);
+    CHECK(patricia_len(&map) == 4);
     CHECK(!get(&copy, "dropped", &value) && get(&copy, "bar", &value) && value == 2);
-    CHECK(patricia_split_by_prefix(&map, bytes_of("ba"), 2, &part));
+    CHECK(patricia_split_by_prefix(&map, bytes_of("ba"), 2, &part) == PATRICIA_DONE);
     CHECK(patricia_len(&part) == 2 && patricia_len(&map) == 2 && patricia_len(&copy) == 4);
     CHECK(get(&part, "bar", &value) && value == 2 && !get(&map, "bar", &value));
     CHECK(!get(&part, "dropped", &value) && get(&map, "foo", &value) && value == 4);
@@ -118,26 +120,29 @@ static void handles(void)
     patricia_map map = PATRICIA_MAP_INIT, other = PATRICIA_MAP_INIT;
     patricia_shared shared = PATRICIA_SHARED_INIT, another = PATRICIA_SHARED_INIT;
     uint64_t value = 77;
-    CHECK(patricia_shared_len(&shared) == 0 && patricia_freeze(&map, &shared));
+    CHECK(patricia_shared_len(&shared) == 0 && patricia_freeze(&map, &shared) == PATRICIA_DONE);
     CHECK(!patricia_shared_get(&shared, bytes_of("foo"), 3, &value) && value == 77);
-    CHECK(patricia_thaw(&shared, &map) && patricia_len(&map) == 0);
+    CHECK(patricia_thaw(&shared, &map) == PATRICIA_DONE && patricia_len(&map) == 0);
     fill(&map);
     CHECK(insert(&other, "dropped", 1, &value) == PATRICIA_ABSENT);
-    CHECK(patricia_freeze(&map, &shared) && patricia_len(&map) == 0);
+    CHECK(patricia_freeze(&map, &shared) == PATRICIA_DONE && patricia_len(&map) == 0);
     CHECK(patricia_shared_len(&shared) == 4 && !get(&map, "foo", &value));
     CHECK(patricia_shared_get(&shared, bytes_of("foo"), 3, &value) && value == 4);
-    CHECK(patricia_shared_clone(&shared, &another) && patricia_shared_len(&another) == 4);
-    CHECK(!patricia_thaw(&shared, &other) && patricia_shared_len(&shared) == 4);
+    CHECK(patricia_shared_clone(&shared, &another) == PATRICIA_DONE);
+    CHECK(patricia_shared_len(&another) == 4);
+    CHECK(patricia_thaw(&shared, &other) == PATRICIA_SHARED && patricia_shared_len(&shared) == 4);
     CHECK(patricia_len(&other) == 1 && get(&other, "dropped", &value) && value == 1);
     patricia_shared_free(&shared);
     CHECK(patricia_shared_len(&shared) == 0 && patricia_shared_len(&another) == 4);
-    CHECK(patricia_thaw(&another, &other) && patricia_shared_len(&another) == 0);
+    CHECK(patricia_thaw(&another, &other) == PATRICIA_DONE && patricia_shared_len(&another) == 0);
     CHECK(patricia_len(&other) == 4 && get(&other, "bar", &value) && value == 2);
     CHECK(insert(&other, "new", 5, &value) == PATRICIA_ABSENT);
-    CHECK(patricia_freeze(&other, &shared) && patricia_freeze(&map, &shared));
+    CHECK(patricia_freeze(&other, &shared) == PATRICIA_DONE);
+    CHECK(patricia_freeze(&map, &shared) == PATRICIA_DONE);
     CHECK(patricia_shared_len(&shared) == 0 && patricia_len(&other) == 0);
     fill(&map);
-    CHECK(patricia_freeze(&map, &shared) && patricia_shared_to_map(&shared, &map));
+    CHECK(patricia_freeze(&map, &shared) == PATRICIA_DONE);
+    CHECK(patricia_shared_to_map(&shared, &map) == PATRICIA_DONE);
     CHECK(insert(&map, "new", 5, &value) == PATRICIA_ABSENT);
     CHECK(patricia_len(&map) == 5 && patricia_shared_len(&shared) == 4);
     patricia_shared_free(&shared);
@@ -185,13 +190,13 @@ static void counts(void)
     uint64_t value = 77;
     size_t count = 78;
     fill(&map);
-    CHECK(patricia_count_prefix(&map, bytes_of("ba"), 2, &count) && count == 2);
-    CHECK(patricia_count_prefix(&map, bytes_of("bas"), 3, &count) && count == 0);
-    CHECK(patricia_count_prefix(&map, bytes_of(""), 0, &count) && count == 4);
-    CHECK(patricia_remove_prefix(&map, bytes_of("bas"), 3, &count) && count == 0);
-    CHECK(patricia_remove_prefix(&map, bytes_of("ba"), 2, &count) && count == 2);
+    CHECK(patricia_count_prefix(&map, bytes_of("ba"), 2, &count) == PATRICIA_DONE && count == 2);
+    CHECK(patricia_count_prefix(&map, bytes_of("bas"), 3, &count) == PATRICIA_DONE && count == 0);
+    CHECK(patricia_count_prefix(&map, bytes_of(""), 0, &count) == PATRICIA_DONE && count == 4);
+    CHECK(patricia_remove_prefix(&map, bytes_of("bas"), 3, &count) == PATRICIA_DONE && count == 0);
+    CHECK(patricia_remove_prefix(&map, bytes_of("ba"), 2, &count) == PATRICIA_DONE && count == 2);
     CHECK(patricia_len(&map) == 2 && !get(&map, "bar", &value) && get(&map, "foo", &value));
-    CHECK(patricia_remove_prefix(&map, bytes_of(""), 0, &count) && count == 2);
+    CHECK(patricia_remove_prefix(&map, bytes_of(""), 0, &count) == PATRICIA_DONE && count == 2);
     CHECK(patricia_len(&map) == 0);
     patricia_free(&map);
 }
@@ -204,7 +209,7 @@ static void iterators(void)
     uint64_t value;
     size_t len = 0;
     fill(&map);
-    CHECK(patricia_iterate(&map, bytes_of("ba"), 2, &iterator));
+    CHECK(patricia_iterate(&map, bytes_of("ba"), 2, &iterator) == PATRICIA_DONE);
     CHECK(removed(&map, "baz", &value) == PATRICIA_FOUND);
     CHECK(patricia_iterator_len(&iterator) == 2);
     CHECK(patricia_iterator_next(&iterator, array, 2, &len, &value) == PATRICIA_NO_ROOM);
@@ -216,7 +221,7 @@ static void iterators(void)
     CHECK(len == 3 && memcmp(array, "baz", 3) == 0 && value == 3);
     CHECK(patricia_iterator_next(&iterator, array, 8, &len, &value) == PATRICIA_END);
     CHECK(patricia_iterator_next(&iterator, array, 8, &len, &value) == PATRICIA_END);
-    CHECK(patricia_iterate(&map, bytes_of(""), 0, &iterator));
+    CHECK(patricia_iterate(&map, bytes_of(""), 0, &iterator) == PATRICIA_DONE);
     patricia_free(&map);
     CHECK(patricia_iterator_next(&iterator, array, 0, &len, &value) == PATRICIA_ENTRY);
     CHECK(len == 0 && value == 9 && patricia_iterator_len(&iterator) == 2);
@@ -256,17 +261,17 @@ static void near_keys(void)
     uint8_t array[8];
     uint64_t value;
     size_t len;
-    CHECK(patricia_within(&map, bytes_of("bat"), 3, 9, &iterator));
+    CHECK(patricia_within(&map, bytes_of("bat"), 3, 9, &iterator) == PATRICIA_DONE);
     CHECK(patricia_iterator_len(&iterator) == 0);
     fill(&map);
-    CHECK(patricia_within(&map, bytes_of("bat"), 3, 0, &iterator));
+    CHECK(patricia_within(&map, bytes_of("bat"), 3, 0, &iterator) == PATRICIA_DONE);
     CHECK(patricia_iterator_len(&iterator) == 0);
-    CHECK(patricia_within(&map, bytes_of("bat"), 3, 1, &iterator));
+    CHECK(patricia_within(&map, bytes_of("bat"), 3, 1, &iterator) == PATRICIA_DONE);
     CHECK(patricia_iterator_len(&iterator) == 2);
     CHECK(patricia_iterator_next(&iterator, array, sizeof array, &len, &value) == PATRICIA_ENTRY);
     CHECK(len == 3 && memcmp(array, "bar", 3) == 0 && value == 2);
     /* the old entries are dropped, and these are the empty key, bar and baz */
-    CHECK(patricia_within(&map, bytes_of("b"), 1, 2, &iterator));
+    CHECK(patricia_within(&map, bytes_of("b"), 1, 2, &iterator) == PATRICIA_DONE);
     CHECK(patricia_iterator_len(&iterator) == 3);
     CHECK(patricia_iterator_next(&iterator, array, sizeof array, &len, &value) == PATRICIA_ENTRY);
     CHECK(len == 0 && value == 9);
@@ -278,7 +283,8 @@ static void near_keys(void)
 static size_t near_texts(const patricia_map *map, const char *text, uint16_t limit)
 {
     patricia_iterator iterator = PATRICIA_ITERATOR_INIT;
-    CHECK(patricia_text_within(map, bytes_of(text), strlen(text), limit, &iterator));
+    CHECK(patricia_text_within(map, bytes_of(text), strlen(text), limit, &iterator) ==
+          PATRICIA_DONE);
     size_t count = patricia_iterator_len(&iterator);
     patricia_iterator_free(&iterator);
     return count;
@@ -322,7 +328,7 @@ static void cursors(void)
     ends(&cursor, &map);
     patricia_cursor_free(&cursor);
     passes(&cursor, &map, "", 9);
-    CHECK(patricia_cursor_seek(&cursor, bytes_of("ba"), 2, 2));
+    CHECK(patricia_cursor_seek(&cursor, bytes_of("ba"), 2, 2) == PATRICIA_DONE);
     passes(&cursor, &map, "bap", 6);
     patricia_cursor moved = cursor;
     memset(&cursor, 0, sizeof cursor);
@@ -330,15 +336,15 @@ static void cursors(void)
     passes(&cursor, &map, "", 9);
     passes(&moved, &map, "bas", 5);
     ends(&moved, &map);
-    CHECK(patricia_cursor_seek(&cursor, bytes_of("baq"), 3, 0));
+    CHECK(patricia_cursor_seek(&cursor, bytes_of("baq"), 3, 0) == PATRICIA_DONE);
     passes(&cursor, &map, "bar", 2);
     passes(&cursor, &map, "bas", 5);
     passes(&cursor, &map, "foo", 4);
-    CHECK(patricia_cursor_seek(&cursor, bytes_of("baq"), 3, 1));
+    CHECK(patricia_cursor_seek(&cursor, bytes_of("baq"), 3, 1) == PATRICIA_DONE);
     passes(&cursor, &map, "bar", 2);
     passes(&cursor, &map, "bas", 5);
     ends(&cursor, &map);
-    CHECK(patricia_cursor_seek(&cursor, bytes_of("foo"), 3, 99));
+    CHECK(patricia_cursor_seek(&cursor, bytes_of("foo"), 3, 99) == PATRICIA_DONE);
     passes(&cursor, &map, "foo", 4);
     ends(&cursor, &map);
     CHECK(patricia_len(&map) == 6);
@@ -406,7 +412,7 @@ static void blocks(void)
     CHECK(next_many(&cursor, &map, &to, 16, 4, 2) == PATRICIA_ENTRY && to.count == 2);
     CHECK(to.len == 6 && to.values[1] == 3);
     /* a prefix, and a map that changes meanwhile */
-    CHECK(patricia_cursor_seek(&cursor, bytes_of("ba"), 2, 2));
+    CHECK(patricia_cursor_seek(&cursor, bytes_of("ba"), 2, 2) == PATRICIA_DONE);
     CHECK(next_many(&cursor, &map, &to, 16, 1, 4) == PATRICIA_ENTRY && to.count == 1);
     CHECK(to.len == 3 && memcmp(to.keys, "barx", 4) == 0);
     CHECK(removed(&map, "baz", &old) == PATRICIA_FOUND);
@@ -419,7 +425,7 @@ static void blocks(void)
     patricia_free(&map);
 }
 
-static bool seek_range(patricia_cursor *cursor, const char *start, const char *end)
+static uint32_t seek_range(patricia_cursor *cursor, const char *start, const char *end)
 {
     return patricia_cursor_seek_range(cursor, bytes_of(start), strlen(start), bytes_of(end),
                                       strlen(end));
@@ -431,7 +437,7 @@ static void ranges(void)
     patricia_cursor cursor = PATRICIA_CURSOR_INIT;
     uint64_t old;
     block to;
-    CHECK(seek_range(&cursor, "", "baz"));
+    CHECK(seek_range(&cursor, "", "baz") == PATRICIA_DONE);
     ends(&cursor, &map);
     fill(&map);
     passes(&cursor, &map, "", 9);
@@ -441,7 +447,7 @@ static void ranges(void)
     passes(&cursor, &map, "bas", 5);
     ends(&cursor, &map);
     /* the start is passed, the end is not */
-    CHECK(seek_range(&cursor, "bar", "foo"));
+    CHECK(seek_range(&cursor, "bar", "foo") == PATRICIA_DONE);
     CHECK(next_many(&cursor, &map, &to, 16, 2, 4) == PATRICIA_ENTRY && to.count == 2);
     CHECK(to.len == 6 && memcmp(to.keys, "barbasx", 7) == 0 && to.values[1] == 5);
     CHECK(next_many(&cursor, &map, &to, 16, 4, 4) == PATRICIA_ENTRY && to.count == 1);
@@ -449,18 +455,18 @@ static void ranges(void)
     CHECK(next_many(&cursor, &map, &to, 16, 4, 4) == PATRICIA_END);
     is_unwritten(&to, 78);
     /* neither needs to be there, and the start may come behind the end */
-    CHECK(seek_range(&cursor, "bat", "fop"));
+    CHECK(seek_range(&cursor, "bat", "fop") == PATRICIA_DONE);
     passes(&cursor, &map, "baz", 3);
     passes(&cursor, &map, "foo", 4);
     ends(&cursor, &map);
-    CHECK(seek_range(&cursor, "foo", "foo"));
+    CHECK(seek_range(&cursor, "foo", "foo") == PATRICIA_DONE);
     ends(&cursor, &map);
-    CHECK(seek_range(&cursor, "foo", "bar"));
+    CHECK(seek_range(&cursor, "foo", "bar") == PATRICIA_DONE);
     ends(&cursor, &map);
-    CHECK(seek_range(&cursor, "", ""));
+    CHECK(seek_range(&cursor, "", "") == PATRICIA_DONE);
     ends(&cursor, &map);
     /* what is set anew has no end */
-    CHECK(patricia_cursor_seek(&cursor, bytes_of("baz"), 3, 0));
+    CHECK(patricia_cursor_seek(&cursor, bytes_of("baz"), 3, 0) == PATRICIA_DONE);
     passes(&cursor, &map, "baz", 3);
     passes(&cursor, &map, "foo", 4);
     patricia_cursor_free(&cursor);
@@ -635,6 +641,7 @@ static void fault_texts(void)
     CHECK(strcmp(patricia_fault_text(PATRICIA_NO_ROOM), "array too small") == 0);
     CHECK(strcmp(patricia_fault_text(PATRICIA_NOT_TEXT), "not UTF-8") == 0);
     CHECK(strcmp(patricia_fault_text(PATRICIA_NOT_IN_ORDER), "keys not in order") == 0);
+    CHECK(strcmp(patricia_fault_text(PATRICIA_SHARED), "another handle is left") == 0);
     CHECK(strcmp(patricia_fault_text(PATRICIA_DONE), "no fault") == 0);
 }
 
@@ -682,7 +689,7 @@ static void sets(void)
     CHECK(patricia_set_longest_prefix(&set, bytes_of("foolish"), 7, &len) && len == 3);
     CHECK(patricia_tree_bytes(&set, array, sizeof array, &len) == PATRICIA_DONE);
     CHECK(patricia_set_from_tree_bytes(&back, array, len, 2, &offset) == PATRICIA_DONE);
-    CHECK(patricia_iterate(&back, bytes_of(""), 0, &iterator));
+    CHECK(patricia_iterate(&back, bytes_of(""), 0, &iterator) == PATRICIA_DONE);
     CHECK(patricia_set_iterator_next(&iterator, key, sizeof key, &len) == PATRICIA_ENTRY);
     CHECK(len == 3 && memcmp(key, "foo", 3) == 0);
     CHECK(patricia_set_iterator_next(&iterator, key, sizeof key, &len) == PATRICIA_ENTRY);
@@ -847,7 +854,7 @@ static void units(void)
     CHECK(patricia_longest_prefix(&map, key, 6, &len, &value) && len == 4 && value == 1);
     CHECK(!patricia_longest_prefix(&map, other, 4, &len, &value));
     CHECK(patricia_longest_common_prefix_len(&map, other, 4) == 3);
-    CHECK(patricia_count_prefix(&map, key, 2, &len) && len == 2);
+    CHECK(patricia_count_prefix(&map, key, 2, &len) == PATRICIA_DONE && len == 2);
     CHECK(patricia_first(&map, array, 8, &len, &value) == PATRICIA_FOUND && value == 1);
     CHECK(patricia_first_after(&map, key, 6, array, 8, &len, &value) == PATRICIA_FOUND);
     CHECK(len == 4 && memcmp(array, second, 4) == 0 && value == 2);

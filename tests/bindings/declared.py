@@ -117,6 +117,8 @@ def faults():
     """What is declared in another way than it is exported."""
     known = exported()
     found = [] if len(known) == COUNT else ['%d functions are exported' % len(known)]
+    found += ['%s may be refused, and returns bool' % function for function, _, result, clauses in exports()
+              if result == 'bool' and 'ensures refused' in clauses]
     found += ['patricia.h: %s reads alone, and takes no const' % x for x in sorted(reads() - const_in_c())]
     found += ['patricia.h: %s takes a const, and may change it' % x for x in sorted(const_in_c() - reads())]
     other = (reads() & set(in_rust())) ^ const_in_rust()

@@ -24,6 +24,6 @@ void __wrap_patricia_iterator_free(patricia_iterator *iterator)
 void __wrap_patricia_shared_free(patricia_shared *shared)
 {
     patricia_map forgotten = PATRICIA_MAP_INIT;
-    if (!patricia_thaw(shared, &forgotten))
+    if (patricia_thaw(shared, &forgotten) != PATRICIA_DONE)
         __real_patricia_shared_free(shared);
 }

@@ -116,7 +116,7 @@ static void iterate(pair *p, const key_text *prefix)
     uint8_t array[LONGEST];
     uint64_t value;
     size_t len = 0;
-    CHECK(patricia_iterate(&p->map, prefix->bytes, prefix->len, &iterator));
+    CHECK(patricia_iterate(&p->map, prefix->bytes, prefix->len, &iterator) == PATRICIA_DONE);
     for (size_t i = 0; i < COUNT; i++) {
         if (!p->has[i] || !begins(prefix, &keys[i]))
             continue;
@@ -134,7 +134,8 @@ static void seek(pair *p, size_t i)
     p->ahead = p->like = i;
     p->common = below(keys[i].len + 3);
     p->behind = 0;
-    CHECK(patricia_cursor_seek(&p->cursor, keys[i].bytes, keys[i].len, p->common));
+    CHECK(patricia_cursor_seek(&p->cursor, keys[i].bytes, keys[i].len, p->common) ==
+          PATRICIA_DONE);
     if (p->common > keys[i].len)
         p->common = keys[i].len;
 }
@@ -146,7 +147,7 @@ static void seek_range(pair *p, size_t i, size_t end)
     p->common = 0;
     p->behind = COUNT - end;
     CHECK(patricia_cursor_seek_range(&p->cursor, keys[i].bytes, keys[i].len, keys[end].bytes,
-                                     keys[end].len));
+                                     keys[end].len) == PATRICIA_DONE);
 }
 
 /* The first key from this one on that the cursor has ahead, or COUNT. */
@@ -328,27 +329,30 @@ static size_t under(const pair *p, size_t i)
 static void count(pair *p, size_t i)
 {
     size_t n = 78;
-    CHECK(patricia_count_prefix(&p->map, keys[i].bytes, keys[i].len, &n) && n == under(p, i));
+    CHECK(patricia_count_prefix(&p->map, keys[i].bytes, keys[i].len, &n) == PATRICIA_DONE);
+    CHECK(n == under(p, i));
 }
 
 static void drop(pair *p, size_t i)
 {
     size_t n = 78;
-    CHECK(patricia_remove_prefix(&p->map, keys[i].bytes, keys[i].len, &n) && n == under(p, i));
+    CHECK(patricia_remove_prefix(&p->map, keys[i].bytes, keys[i].len, &n) == PATRICIA_DONE);
+    CHECK(n == under(p, i));
     for (size_t k = 0; k < COUNT; k++)
         p->has[k] = p->has[k] && !begins(&keys[i], &keys[k]);
 }
 
 static void copy(pair *from, pair *to)
 {
-    CHECK(patricia_clone(&from->map, &to->map));
+    CHECK(patricia_clone(&from->map, &to->map) == PATRICIA_DONE);
     memcpy(to->has, from->has, sizeof to->has);
     memcpy(to->value, from->value, sizeof to->value);
 }
 
 static void split(pair *from, pair *to, size_t i)
 {
-    CHECK(patricia_split_by_prefix(&from->map, keys[i].bytes, keys[i].len, &to->map));
+    CHECK(patricia_split_by_prefix(&from->map, keys[i].bytes, keys[i].len, &to->map) ==
+          PATRICIA_DONE);
     for (size_t k = 0; k < COUNT; k++) {
         to->has[k] = from->has[k] && begins(&keys[i], &keys[k]);
         to->value[k] = from->value[k];

@@ -124,7 +124,7 @@ static void is_whole(patricia_map *copy)
         CHECK(found[COUNT - 1] == 1 && fronts[COUNT - 1] == KEY);                                  \
         write_key(17, key);                                                                        \
         write_key(20, array);                                                                      \
-        CHECK(patricia_cursor_seek_range(&cursor, key, KEY, array, KEY));                          \
+        CHECK(patricia_cursor_seek_range(&cursor, key, KEY, array, KEY) == PATRICIA_DONE);         \
         CHECK(calls##cursor_next_many(&cursor, from, bytes, sizeof bytes, lens, COUNT, values,     \
                                       COUNT, &count, &len) == PATRICIA_ENTRY && count == 3);       \
         CHECK(is_entry(bytes + KEY * 2, lens[2], values[2], 19));                                  \
@@ -132,7 +132,8 @@ static void is_whole(patricia_map *copy)
         CHECK(calls##longest_prefix(from, bytes_of("key0017/"), 8, &len, &value));                 \
         CHECK(len == KEY && value == 17);                                                          \
         CHECK(calls##longest_common_prefix_len(from, bytes_of("key00x"), 6) == 5);                 \
-        CHECK(calls##count_prefix(from, bytes_of("key00"), 5, &count) && count == 100);            \
+        CHECK(calls##count_prefix(from, bytes_of("key00"), 5, &count) == PATRICIA_DONE);           \
+        CHECK(count == 100);                                                                       \
         CHECK(calls##first(from, array, KEY, &len, &value) == PATRICIA_FOUND);                     \
         CHECK(is_entry(array, len, value, 0));                                                     \
         CHECK(calls##last(from, array, KEY, &len, &value) == PATRICIA_FOUND);                      \
@@ -142,11 +143,12 @@ static void is_whole(patricia_map *copy)
         CHECK(is_entry(array, len, value, 101));                                                   \
         CHECK(calls##last_before(from, key, KEY, array, KEY, &len, &value) == PATRICIA_FOUND);     \
         CHECK(is_entry(array, len, value, 99));                                                    \
-        CHECK(calls##iterate(from, bytes_of("key001"), 6, &iterator));                             \
+        CHECK(calls##iterate(from, bytes_of("key001"), 6, &iterator) == PATRICIA_DONE);            \
         CHECK(patricia_iterator_len(&iterator) == 10);                                             \
-        CHECK(calls##within(from, bytes_of("key0017"), KEY, 1, &iterator));                        \
+        CHECK(calls##within(from, bytes_of("key0017"), KEY, 1, &iterator) == PATRICIA_DONE);       \
         CHECK(patricia_iterator_len(&iterator) == 22);                                             \
-        CHECK(calls##text_within(from, bytes_of("key0017"), KEY, 1, &iterator));                   \
+        CHECK(calls##text_within(from, bytes_of("key0017"), KEY, 1, &iterator) ==                  \
+              PATRICIA_DONE);                                                                      \
         CHECK(patricia_iterator_len(&iterator) == 22);                                             \
         CHECK(calls##tree_bytes(from, bytes, sizeof bytes, &len) == PATRICIA_DONE);                \
         CHECK(calls##text_tree_bytes(from, bytes, sizeof bytes, &count) == PATRICIA_DONE);         \
@@ -154,7 +156,7 @@ static void is_whole(patricia_map *copy)
         CHECK(calls##wide_tree_bytes(from, bytes, sizeof bytes, &len) == PATRICIA_DONE);           \
         CHECK(calls##text_wide_tree_bytes(from, bytes, sizeof bytes, &count) == PATRICIA_DONE);    \
         CHECK(len == count && len > 3 * COUNT);                                                    \
-        CHECK(clone(from, &copy));                                                                 \
+        CHECK(clone(from, &copy) == PATRICIA_DONE);                                                \
         is_whole(&copy);                                                                           \
         patricia_iterator_free(&iterator);                                                         \
         patricia_cursor_free(&cursor);                                                             \
@@ -182,7 +184,7 @@ static void in_memory_that_is_read_only(void)
     read_map(map);
     allow(PROT_READ | PROT_WRITE);
     is_open = true;
-    CHECK(patricia_freeze(map, shared) && patricia_len(map) == 0);
+    CHECK(patricia_freeze(map, shared) == PATRICIA_DONE && patricia_len(map) == 0);
     is_open = false;
     allow(PROT_READ);
     read_shared(shared);
@@ -204,7 +206,7 @@ static void *reads_shared(void *shared)
 {
     patricia_shared another = PATRICIA_SHARED_INIT;
     for (int i = 0; i < ROUNDS; i++) {
-        CHECK(patricia_shared_clone(shared, &another));
+        CHECK(patricia_shared_clone(shared, &another) == PATRICIA_DONE);
         read_shared(shared);
         read_shared(&another);
     }
@@ -218,7 +220,7 @@ static void *reads_one(void *shared)
 {
     patricia_shared another = PATRICIA_SHARED_INIT;
     for (int i = 0; i < ROUNDS; i++) {
-        CHECK(patricia_shared_clone(shared, &another));
+        CHECK(patricia_shared_clone(shared, &another) == PATRICIA_DONE);
         read_shared(shared);
     }
     patricia_shared_free(&another);
@@ -245,18 +247,18 @@ int main(void)
     for (int i = 0; i < THREADS; i++)
         with[i] = &map;
     in_threads(reads_map, with);
-    CHECK(patricia_freeze(&map, &first) && patricia_len(&map) == 0);
+    CHECK(patricia_freeze(&map, &first) == PATRICIA_DONE && patricia_len(&map) == 0);
     for (int i = 0; i < THREADS; i++)
         with[i] = &first;
     in_threads(reads_one, with);
     for (int i = 0; i < THREADS; i++) {
-        CHECK(patricia_shared_clone(&first, &handles[i]));
+        CHECK(patricia_shared_clone(&first, &handles[i]) == PATRICIA_DONE);
         with[i] = &handles[i];
     }
-    CHECK(!patricia_thaw(&first, &map) && patricia_len(&map) == 0);
+    CHECK(patricia_thaw(&first, &map) == PATRICIA_SHARED && patricia_len(&map) == 0);
     in_threads(reads_shared, with);
     read_shared(&first);
-    CHECK(patricia_thaw(&first, &map) && patricia_shared_len(&first) == 0);
+    CHECK(patricia_thaw(&first, &map) == PATRICIA_DONE && patricia_shared_len(&first) == 0);
     read_map(&map);
     patricia_free(&map);
     puts("ok");

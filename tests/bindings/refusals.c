@@ -87,12 +87,19 @@ static void is_as(patricia_map *map, const bool *has)
     CHECK(patricia_len(map) == len);
 }
 
+/* Whether a call says that memory ran out, and else that it is done. */
+static bool ran_out(uint32_t result)
+{
+    CHECK(result == PATRICIA_DONE || result == PATRICIA_NO_MEMORY);
+    return result == PATRICIA_NO_MEMORY;
+}
+
 static size_t iterated(patricia_map *map, patricia_iterator *iterator)
 {
     uint8_t array[128];
     uint64_t value;
     size_t len, entries = 0;
-    if (!patricia_iterate(map, array, 0, iterator)) {
+    if (ran_out(patricia_iterate(map, array, 0, iterator))) {
         CHECK(patricia_iterator_next(iterator, array, sizeof array, &len, &value) == PATRICIA_END);
         return 1;
     }
@@ -107,12 +114,12 @@ static size_t iterated(patricia_map *map, patricia_iterator *iterator)
 static size_t sought(patricia_map *map, patricia_iterator *iterator, const bool *has)
 {
     const uint8_t *near_two = (const uint8_t *)"a longer kez";
-    if (!patricia_within(map, near_two, 12, 1, iterator)) {
+    if (ran_out(patricia_within(map, near_two, 12, 1, iterator))) {
         CHECK(patricia_iterator_len(iterator) == 0);
         return 1;
     }
     CHECK(patricia_iterator_len(iterator) == (size_t)has[1] + has[5]);
-    if (!patricia_text_within(map, near_two, 12, 1, iterator)) {
+    if (ran_out(patricia_text_within(map, near_two, 12, 1, iterator))) {
         CHECK(patricia_iterator_len(iterator) == 0);
         return 1;
     }
@@ -144,12 +151,12 @@ static size_t encoded(patricia_map *map, patricia_map *back, writer *to, reader 
 
 static size_t cloned(patricia_map *map, patricia_map *copy, const bool *has)
 {
-    if (patricia_clone(map, copy)) {
-        is_as(copy, has);
-        return 0;
+    if (ran_out(patricia_clone(map, copy))) {
+        CHECK(patricia_len(copy) == 0);
+        return 1;
     }
-    CHECK(patricia_len(copy) == 0);
-    return 1;
+    is_as(copy, has);
+    return 0;
 }
 
 /* The map is shared, read by another handle, and taken back. After each refusal all is as it
@@ -158,34 +165,36 @@ static size_t shared(patricia_map *map, patricia_map *copy, const bool *has)
 {
     patricia_shared first = PATRICIA_SHARED_INIT, second = PATRICIA_SHARED_INIT;
     size_t refused = 0, len = patricia_len(map);
-    if (!patricia_freeze(map, &first)) {
+    if (ran_out(patricia_freeze(map, &first))) {
         refused++;
         is_as(map, has);
-        CHECK(patricia_shared_len(&first) == 0 && patricia_freeze(map, &first));
+        CHECK(patricia_shared_len(&first) == 0);
+        CHECK(patricia_freeze(map, &first) == PATRICIA_DONE);
     }
     CHECK(patricia_len(map) == 0 && patricia_shared_len(&first) == len);
-    if (!patricia_shared_clone(&first, &second)) {
+    if (ran_out(patricia_shared_clone(&first, &second))) {
         refused++;
         CHECK(patricia_shared_len(&second) == 0 && patricia_shared_len(&first) == len);
-        CHECK(patricia_shared_clone(&first, &second));
+        CHECK(patricia_shared_clone(&first, &second) == PATRICIA_DONE);
     }
-    if (patricia_shared_to_map(&second, copy)) {
-        is_as(copy, has);
-    } else {
+    if (ran_out(patricia_shared_to_map(&second, copy))) {
         refused++;
         CHECK(patricia_len(copy) == 0);
+    } else {
+        is_as(copy, has);
     }
     long requests = before_refusal;
-    CHECK(!patricia_thaw(&first, map) && patricia_len(map) == 0);
+    CHECK(patricia_thaw(&first, map) == PATRICIA_SHARED && patricia_len(map) == 0);
     patricia_shared_free(&second);
-    CHECK(patricia_thaw(&first, map) && patricia_shared_len(&first) == 0);
+    CHECK(patricia_thaw(&first, map) == PATRICIA_DONE && patricia_shared_len(&first) == 0);
     CHECK(requests == before_refusal);
     return refused;
 }
 
 static size_t split(patricia_map *map, patricia_map *part, bool *has)
 {
-    bool is_split = patricia_split_by_prefix(map, (const uint8_t *)"a longer", 8, part);
+    const uint8_t *prefix = (const uint8_t *)"a longer";
+    bool is_split = !ran_out(patricia_split_by_prefix(map, prefix, 8, part));
     bool in_part[COUNT];
     for (size_t i = 0; i < COUNT; i++) {
         in_part[i] = is_split && has[i] && strncmp(KEYS[i], "a longer", 8) == 0;
@@ -259,7 +268,7 @@ static bool is_ahead(const bool *has, size_t i, range of)
            (of.end == NULL || strcmp(KEYS[i], of.end) < 0);
 }
 
-static bool is_set(patricia_cursor *cursor, range of)
+static uint32_t set(patricia_cursor *cursor, range of)
 {
     const uint8_t *from = (const uint8_t *)of.from, *end = (const uint8_t *)of.end;
     return end == NULL
@@ -273,9 +282,9 @@ static size_t passed(patricia_map *map, patricia_cursor *cursor, const bool *has
     uint8_t array[64];
     size_t refused = 0, len = 78;
     uint64_t value = 77;
-    if (!is_set(cursor, of)) {
+    if (ran_out(set(cursor, of))) {
         refused++;
-        CHECK(is_set(cursor, of));
+        CHECK(set(cursor, of) == PATRICIA_DONE);
     }
     for (int at = 0; at < COUNT; at++) {
         if (!is_ahead(has, ORDER[at], of))
@@ -352,7 +361,8 @@ static size_t under(const bool *has, const char *prefix)
 static size_t counted(patricia_map *map, const bool *has, const char *prefix)
 {
     size_t count = 78;
-    bool is_done = patricia_count_prefix(map, (const uint8_t *)prefix, strlen(prefix), &count);
+    const uint8_t *bytes = (const uint8_t *)prefix;
+    bool is_done = !ran_out(patricia_count_prefix(map, bytes, strlen(prefix), &count));
     CHECK(is_done || under(has, prefix) > 0);
     CHECK(count == (is_done ? under(has, prefix) : 78));
     return !is_done;
@@ -361,7 +371,8 @@ static size_t counted(patricia_map *map, const bool *has, const char *prefix)
 static size_t dropped(patricia_map *map, bool *has, const char *prefix)
 {
     size_t count = 78;
-    bool is_done = patricia_remove_prefix(map, (const uint8_t *)prefix, strlen(prefix), &count);
+    const uint8_t *bytes = (const uint8_t *)prefix;
+    bool is_done = !ran_out(patricia_remove_prefix(map, bytes, strlen(prefix), &count));
     CHECK(is_done || (*prefix != 0 && under(has, prefix) > 0));
     CHECK(count == (is_done ? under(has, prefix) : 78));
     for (size_t i = 0; i < COUNT; i++)

@@ -34,7 +34,7 @@ static void *change(void *to)
 {
     shared *s = to;
     put(&s->map, 1, 2);
-    CHECK(patricia_iterate(&s->map, (const uint8_t *)"", 0, &s->iterator));
+    CHECK(patricia_iterate(&s->map, (const uint8_t *)"", 0, &s->iterator) == PATRICIA_DONE);
     return NULL;
 }
 

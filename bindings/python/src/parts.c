@@ -59,10 +59,11 @@ bool collect(tree_object *tree, const key_bytes *prefix, collected *entries)
     patricia_cursor cursor = PATRICIA_CURSOR_INIT;
     size_t total;
     memset(entries, 0, sizeof *entries);
-    bool done = patricia_count_prefix(&tree->map, prefix->at, prefix->len, &total) &&
-                has_arrays(entries, total) &&
-                patricia_cursor_seek(&cursor, prefix->at, prefix->len, prefix->len) &&
-                collect_from(&cursor, tree, total, entries);
+    bool done =
+        patricia_count_prefix(&tree->map, prefix->at, prefix->len, &total) == PATRICIA_DONE &&
+        has_arrays(entries, total) &&
+        patricia_cursor_seek(&cursor, prefix->at, prefix->len, prefix->len) == PATRICIA_DONE &&
+        collect_from(&cursor, tree, total, entries);
     patricia_cursor_free(&cursor);
     if (!done)
         collected_free(entries);
@@ -89,7 +90,7 @@ PyObject *tree_remove_prefix(PyObject *self, PyObject *argument)
     if (!key_read(tree, argument, &prefix))
         return NULL;
     bool done = (tree->is_set || collect(tree, &prefix, &entries)) &&
-                patricia_remove_prefix(&tree->map, prefix.at, prefix.len, &count);
+                patricia_remove_prefix(&tree->map, prefix.at, prefix.len, &count) == PATRICIA_DONE;
     key_release(&prefix);
     tree->changes += done && count != 0;
     if (done && !tree->is_set)
@@ -117,7 +118,8 @@ static bool split(tree_object *tree, const key_bytes *prefix, tree_object *part)
     collected entries = {0};
     bool done = tree->is_set || (collect(tree, prefix, &entries) &&
                                  objects_reserve(&part->objects, entries.count));
-    done = done && patricia_split_by_prefix(&tree->map, prefix->at, prefix->len, &part->map);
+    done = done && patricia_split_by_prefix(&tree->map, prefix->at, prefix->len, &part->map) ==
+                       PATRICIA_DONE;
     if (done) {
         tree->changes += patricia_len(&part->map) != 0;
         part->changes++;
@@ -161,7 +163,7 @@ PyObject *tree_clone_from(PyObject *self, PyObject *argument)
     object_table objects;
     if (!is_another(tree, argument))
         return NULL;
-    if (!patricia_clone(&source->map, &map))
+    if (patricia_clone(&source->map, &map) != PATRICIA_DONE)
         return PyErr_NoMemory();
     if (!objects_copy(&source->objects, &objects)) {
         patricia_free(&map);

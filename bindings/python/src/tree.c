@@ -97,9 +97,9 @@ static PyObject *count_prefix(PyObject *self, PyObject *argument)
     size_t count;
     if (!key_read(tree, argument, &prefix))
         return NULL;
-    bool done = patricia_count_prefix(&tree->map, prefix.at, prefix.len, &count);
+    uint32_t result = patricia_count_prefix(&tree->map, prefix.at, prefix.len, &count);
     key_release(&prefix);
-    return done ? PyLong_FromSize_t(count) : PyErr_NoMemory();
+    return result == PATRICIA_DONE ? PyLong_FromSize_t(count) : PyErr_NoMemory();
 }
 
 /* Longest prefixes */
@@ -307,12 +307,12 @@ static PyObject *within(PyObject *self, PyObject *args, PyObject *named)
     if (!key_read(tree, argument, &key))
         return NULL;
     patricia_iterator iterator = PATRICIA_ITERATOR_INIT;
-    bool is_done =
+    uint32_t result =
         tree->is_text
             ? patricia_text_within(&tree->map, key.at, key.len, (uint16_t)edits, &iterator)
             : patricia_within(&tree->map, key.at, key.len, (uint32_t)edits, &iterator);
     key_release(&key);
-    PyObject *list = is_done ? PyList_New(0) : PyErr_NoMemory();
+    PyObject *list = result == PATRICIA_DONE ? PyList_New(0) : PyErr_NoMemory();
     if (list != NULL && !append_entries(tree, &iterator, list))
         Py_CLEAR(list);
     patricia_iterator_free(&iterator);

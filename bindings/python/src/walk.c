@@ -64,8 +64,8 @@ static bool make_room(walk_object *walk, size_t room)
 
 /* Sets a cursor to the entries from a key on: those that come before a stop, where there is one,
  * and else those whose key begins with the first `common` bytes of this one. */
-static bool seek(patricia_cursor *cursor, const key_bytes *start, size_t common,
-                 const key_bytes *stop)
+static uint32_t seek(patricia_cursor *cursor, const key_bytes *start, size_t common,
+                     const key_bytes *stop)
 {
     return stop == NULL
                ? patricia_cursor_seek(cursor, start->at, start->len, common)
@@ -81,7 +81,7 @@ static PyObject *walk_new(tree_object *tree, int what, const key_bytes *start, s
     walk->changes = tree->changes;
     walk->what = what;
     walk->most = FIRST_BLOCK;
-    if (!seek(&walk->cursor, start, common, stop)) {
+    if (seek(&walk->cursor, start, common, stop) != PATRICIA_DONE) {
         Py_DECREF((PyObject *)walk);
         return PyErr_NoMemory();
     }

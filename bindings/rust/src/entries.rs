@@ -1,7 +1,7 @@
 //! What a cursor of the library has ahead.
 
 use crate::library::*;
-use crate::tree::out_of_memory;
+use crate::tree::{need, out_of_memory};
 
 /// `patricia_cursor_next_many`, or the same on a handle.
 pub(crate) type NextMany = unsafe extern "C" fn(
@@ -42,9 +42,7 @@ impl Ahead {
     pub(crate) fn new(key: &[u8], common: usize) -> Self {
         let mut ahead = Ahead::all();
         // SAFETY: the place is empty; the key is a slice.
-        if !unsafe { patricia_cursor_seek(&mut ahead.place, key.as_ptr(), key.len(), common) } {
-            out_of_memory()
-        }
+        need(unsafe { patricia_cursor_seek(&mut ahead.place, key.as_ptr(), key.len(), common) });
         ahead
     }
 
@@ -54,12 +52,9 @@ impl Ahead {
         let mut ahead = Ahead::all();
         let (at, len) = (start.as_ptr(), start.len());
         // SAFETY: the place is empty; both keys are slices.
-        let done = unsafe {
+        need(unsafe {
             patricia_cursor_seek_range(&mut ahead.place, at, len, end.as_ptr(), end.len())
-        };
-        if !done {
-            out_of_memory()
-        }
+        });
         ahead
     }
 

@@ -2,7 +2,7 @@
 
 use crate::library::*;
 use crate::source::{Source, OF_HANDLES};
-use crate::tree::{out_of_memory, Tree};
+use crate::tree::{need, Tree};
 
 /// A handle. The library counts the handles of a map, and the last one frees it.
 pub(crate) struct Handle {
@@ -14,9 +14,7 @@ impl Handle {
     pub(crate) fn new(mut tree: Tree) -> Self {
         let mut place = EMPTY;
         // SAFETY: both places are empty or as the last call left them.
-        if !unsafe { patricia_freeze(tree.place(), &mut place) } {
-            out_of_memory()
-        }
+        need(unsafe { patricia_freeze(tree.place(), &mut place) });
         Handle { place }
     }
 
@@ -30,17 +28,15 @@ impl Handle {
     pub(crate) fn thaw(&mut self) -> Option<Tree> {
         let mut tree = Tree::new();
         // SAFETY: as in `new`.
-        let done = unsafe { patricia_thaw(&mut self.place, tree.place()) };
-        done.then_some(tree)
+        let code = unsafe { patricia_thaw(&mut self.place, tree.place()) };
+        (code == DONE).then_some(tree)
     }
 
     /// A copy of the map.
     pub(crate) fn to_tree(&self) -> Tree {
         let mut tree = Tree::new();
         // SAFETY: as in `new`; no call writes to the handle meanwhile, since it is borrowed.
-        if !unsafe { patricia_shared_to_map(&self.place, tree.place()) } {
-            out_of_memory()
-        }
+        need(unsafe { patricia_shared_to_map(&self.place, tree.place()) });
         tree
     }
 }
@@ -49,9 +45,7 @@ impl Clone for Handle {
     fn clone(&self) -> Self {
         let mut place = EMPTY;
         // SAFETY: as in `to_tree`.
-        if !unsafe { patricia_shared_clone(&self.place, &mut place) } {
-            out_of_memory()
-        }
+        need(unsafe { patricia_shared_clone(&self.place, &mut place) });
         Handle { place }
     }
 }

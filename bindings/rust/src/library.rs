@@ -4,6 +4,7 @@
 use std::ffi::c_void;
 use std::ptr;
 
+pub(crate) const DONE: u32 = 0;
 pub(crate) const FOUND: u32 = 1;
 pub(crate) const NO_MEMORY: u32 = 2;
 pub(crate) const TOO_DEEP: u32 = 3;
@@ -57,7 +58,7 @@ extern "C" {
         len: usize,
         old: *mut u64,
     ) -> u32;
-    pub(crate) fn patricia_clone(map: *const MapPlace, copy: *mut MapPlace) -> bool;
+    pub(crate) fn patricia_clone(map: *const MapPlace, copy: *mut MapPlace) -> u32;
     pub(crate) fn patricia_longest_prefix(
         map: *const MapPlace,
         key: *const u8,
@@ -75,19 +76,19 @@ extern "C" {
         prefix: *const u8,
         len: usize,
         part: *mut MapPlace,
-    ) -> bool;
+    ) -> u32;
     pub(crate) fn patricia_count_prefix(
         map: *const MapPlace,
         prefix: *const u8,
         len: usize,
         count: *mut usize,
-    ) -> bool;
+    ) -> u32;
     pub(crate) fn patricia_remove_prefix(
         map: *mut MapPlace,
         prefix: *const u8,
         len: usize,
         count: *mut usize,
-    ) -> bool;
+    ) -> u32;
     pub(crate) fn patricia_first(
         map: *const MapPlace,
         array: *mut u8,
@@ -125,14 +126,14 @@ extern "C" {
         key: *const u8,
         len: usize,
         common: usize,
-    ) -> bool;
+    ) -> u32;
     pub(crate) fn patricia_cursor_seek_range(
         cursor: *mut CursorPlace,
         start: *const u8,
         start_len: usize,
         end: *const u8,
         end_len: usize,
-    ) -> bool;
+    ) -> u32;
     pub(crate) fn patricia_cursor_next_many(
         cursor: *mut CursorPlace,
         map: *const MapPlace,
@@ -202,11 +203,10 @@ extern "C" {
         count: usize,
         offset: *mut usize,
     ) -> u32;
-    pub(crate) fn patricia_freeze(map: *mut MapPlace, shared: *mut SharedPlace) -> bool;
-    pub(crate) fn patricia_thaw(shared: *mut SharedPlace, map: *mut MapPlace) -> bool;
-    pub(crate) fn patricia_shared_clone(shared: *const SharedPlace, copy: *mut SharedPlace)
-        -> bool;
-    pub(crate) fn patricia_shared_to_map(shared: *const SharedPlace, copy: *mut MapPlace) -> bool;
+    pub(crate) fn patricia_freeze(map: *mut MapPlace, shared: *mut SharedPlace) -> u32;
+    pub(crate) fn patricia_thaw(shared: *mut SharedPlace, map: *mut MapPlace) -> u32;
+    pub(crate) fn patricia_shared_clone(shared: *const SharedPlace, copy: *mut SharedPlace) -> u32;
+    pub(crate) fn patricia_shared_to_map(shared: *const SharedPlace, copy: *mut MapPlace) -> u32;
     pub(crate) fn patricia_shared_free(shared: *mut SharedPlace);
     pub(crate) fn patricia_shared_len(shared: *const SharedPlace) -> usize;
     pub(crate) fn patricia_shared_get(
@@ -232,7 +232,7 @@ extern "C" {
         prefix: *const u8,
         len: usize,
         count: *mut usize,
-    ) -> bool;
+    ) -> u32;
     pub(crate) fn patricia_shared_first(
         shared: *const SharedPlace,
         array: *mut u8,

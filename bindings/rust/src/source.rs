@@ -2,12 +2,12 @@
 
 use crate::entries::{Ahead, NextMany};
 use crate::library::*;
-use crate::tree::{out_of_memory, Form, TooDeep};
+use crate::tree::{need, out_of_memory, Form, TooDeep};
 
 type Get = unsafe extern "C" fn(*const Place, *const u8, usize, *mut u64) -> bool;
 type LongestPrefix =
     unsafe extern "C" fn(*const Place, *const u8, usize, *mut usize, *mut u64) -> bool;
-type Count = unsafe extern "C" fn(*const Place, *const u8, usize, *mut usize) -> bool;
+type Count = unsafe extern "C" fn(*const Place, *const u8, usize, *mut usize) -> u32;
 type End = unsafe extern "C" fn(*const Place, *mut u8, usize, *mut usize, *mut u64) -> u32;
 type Neighbour = unsafe extern "C" fn(
     *const Place,
@@ -193,12 +193,9 @@ impl<'a> Source<'a> {
     pub(crate) fn count(self, prefix: &[u8]) -> usize {
         let mut count = 0;
         // SAFETY: as in `get`.
-        let done = unsafe {
+        need(unsafe {
             (self.calls.count_prefix)(self.place, prefix.as_ptr(), prefix.len(), &mut count)
-        };
-        if !done {
-            out_of_memory()
-        }
+        });
         count
     }
 

@@ -78,6 +78,13 @@ pub(crate) fn out_of_memory() -> ! {
     handle_alloc_error(Layout::new::<u64>())
 }
 
+/// Takes what a call returned whose one failure is that memory ran out.
+pub(crate) fn need(code: u32) {
+    if code != DONE {
+        out_of_memory()
+    }
+}
+
 /// A map from byte strings to numbers.
 pub(crate) struct Tree {
     place: Place,
@@ -131,17 +138,14 @@ impl Tree {
     pub(crate) fn split(&mut self, prefix: &[u8]) -> Tree {
         let mut part = Tree::new();
         // SAFETY: as in `insert`; the place of the new tree is empty, and another than this one.
-        let done = unsafe {
+        need(unsafe {
             patricia_split_by_prefix(
                 &mut self.place,
                 prefix.as_ptr(),
                 prefix.len(),
                 &mut part.place,
             )
-        };
-        if !done {
-            out_of_memory()
-        }
+        });
         part
     }
 
@@ -149,12 +153,9 @@ impl Tree {
     pub(crate) fn remove_under(&mut self, prefix: &[u8]) -> usize {
         let mut count = 0;
         // SAFETY: as in `insert`.
-        let done = unsafe {
+        need(unsafe {
             patricia_remove_prefix(&mut self.place, prefix.as_ptr(), prefix.len(), &mut count)
-        };
-        if !done {
-            out_of_memory()
-        }
+        });
         count
     }
 
@@ -186,7 +187,7 @@ impl Tree {
             )
         };
         match code {
-            0 => Ok(tree),
+            DONE => Ok(tree),
             NO_MEMORY => out_of_memory(),
             _ => Err(DecodeError { code, offset }),
         }
@@ -197,9 +198,7 @@ impl Clone for Tree {
     fn clone(&self) -> Self {
         let mut copy = Tree::new();
         // SAFETY: as in `clear`; the place of the new tree is empty, and another than this one.
-        if !unsafe { patricia_clone(&self.place, &mut copy.place) } {
-            out_of_memory()
-        }
+        need(unsafe { patricia_clone(&self.place, &mut copy.place) });
         copy
     }
 }

@@ -21,3 +21,5 @@ pub(crate) const NO_ROOM: u32 = 4;
 pub(crate) const NOT_TEXT: u32 = 5;
 /// A key does not come after the last one.
 pub(crate) const NOT_IN_ORDER: u32 = 6;
+/// Another handle of the map is left.
+pub(crate) const SHARED: u32 = 7;

@@ -1,7 +1,7 @@
 //! Cursors. A cursor has the last key and maybe an end, and asks the map for the next entry at each
 //! step, so the map may change in between.
-ghost use Rattle.std.specs.Prelude.{◌≡◌, ◌≢◌, ◌≤◌, ◌<◌, ℕ, List, [], drop, length, take, slice_get};
-ghost use Rattle.std.specs.Prelude.{Some, None, true, false, IfOk};
+ghost use Rattle.std.specs.Prelude.{◌≡◌, ◌≢◌, ◌≤◌, ◌<◌, ◌⊎◌, ℕ, List, [], drop, length, take};
+ghost use Rattle.std.specs.Prelude.{slice_get, Some, None, true, false, IfOk};
 ghost use Rattle.std.specs.Option.{option_map, option_map_or};
 ghost use Rattle.std.specs.Ordering.{is_lt};
 ghost use Rattle.std.specs.FinMap as map;
@@ -13,7 +13,7 @@ ghost use Rattle.patricia_c.specs.Cursors.{ahead_of, beyond, end_of, prefix_of, 
 ghost use Rattle.patricia_c.specs.Ends.{WritesEntry};
 ghost use Rattle.patricia_c.specs.Maps.{map_of};
 
-use crate::codes::{END, ENTRY, NO_MEMORY, NO_ROOM};
+use crate::codes::{DONE, END, ENTRY, NO_MEMORY, NO_ROOM};
 use crate::cursor_place::CursorPlace;
 use crate::cursor_pointer::Position;
 use crate::ends::next_of;
@@ -120,30 +120,32 @@ fn first_ahead(
 
 /// Sets the cursor before the first entry whose key is this one or comes after it, among those
 /// whose key begins with the first `common` bytes of this key; where it is shorter, with the key.
-/// Returns false where memory ran out, never for the empty key: the cursor stands where it stood.
+/// Returns `DONE`; or `NO_MEMORY` where memory ran out, never for the empty key: the cursor stands
+/// where it stood.
 #[unsafe(no_mangle)]
 pub extern "C" fn patricia_cursor_seek(
     alloc: Global,
     cursor: &mut CursorPlace,
     key: &[u8],
     common: usize,
-) -> bool
-    ensures ahead { result ≡ true → (entries : List (List ℕ × ℕ)) →
+) -> u32
+    ensures ahead { result ≡ 0 → (entries : List (List ℕ × ℕ)) →
         ahead_of cursor.new.pointer.stored entries
         ≡ under (take common key.now) (from key.now entries) }
-    ensures all { result ≡ true → length key.now ≤ common → (entries : List (List ℕ × ℕ)) →
+    ensures all { result ≡ 0 → length key.now ≤ common → (entries : List (List ℕ × ℕ)) →
         ahead_of cursor.new.pointer.stored entries ≡ under key.now entries }
-    ensures prefix { result ≡ true → prefix_of cursor.new.pointer.stored ≡ take common key.now }
-    ensures end_key { result ≡ true → end_of cursor.new.pointer.stored ≡ None }
-    ensures refused { result ≡ false → cursor.new.pointer.stored ≡ cursor.old.pointer.stored }
-    ensures refused_nonempty { result ≡ false → key.now ≢ [] }
+    ensures prefix { result ≡ 0 → prefix_of cursor.new.pointer.stored ≡ take common key.now }
+    ensures end_key { result ≡ 0 → end_of cursor.new.pointer.stored ≡ None }
+    ensures refused { result ≡ 2 → cursor.new.pointer.stored ≡ cursor.old.pointer.stored }
+    ensures refused_nonempty { result ≡ 2 → key.now ≢ [] }
+    ensures codes { (result ≡ 0) ⊎ (result ≡ 2) }
 {
     if key.is_empty() {
         drop(cursor.take());
-        return true;
+        return DONE;
     }
     let Ok(key) = Vec::from_slice(alloc, key) else {
-        return false;
+        return NO_MEMORY;
     };
     let position = Position {
         key,
@@ -154,9 +156,9 @@ pub extern "C" fn patricia_cursor_seek(
     match Box::new(alloc, position) {
         Ok(stored) => {
             cursor.put(stored);
-            true
+            DONE
         }
-        Err(_) => false,
+        Err(_) => NO_MEMORY,
     }
 }
 

@@ -1,13 +1,13 @@
 //! Iterators over entries. An iterator has entries of its own, so the map may change or be freed.
-ghost use Rattle.std.specs.Prelude.{◌≡◌, ◌≢◌, ◌≤◌, ◌<◌, [], drop, take, length, true, false, IfOk};
-ghost use Rattle.std.specs.Prelude.{None, OnErr};
+ghost use Rattle.std.specs.Prelude.{◌≡◌, ◌≢◌, ◌≤◌, ◌<◌, ◌⊎◌, [], drop, take, length, None, IfOk};
+ghost use Rattle.std.specs.Prelude.{OnErr};
 ghost use Rattle.std.specs.FinMap as map;
 ghost use Rattle.std.specs.Option.{option_map};
 ghost use Rattle.patricia_tree.specs.Prefixes.{under};
 ghost use Rattle.patricia_c.specs.Maps.{map_of};
 ghost use Rattle.patricia_c.specs.EntriesLeft.{entries_of, TakesEntry, IsFirstLen, pairs_of};
 
-use crate::codes::{END, ENTRY, NO_ROOM};
+use crate::codes::{DONE, END, ENTRY, NO_MEMORY, NO_ROOM};
 use crate::entries_pointer::EntriesLeft;
 use crate::iterator_place::IteratorPlace;
 use crate::map_place::MapPlace;
@@ -39,49 +39,52 @@ fn entries_under(
 }
 
 // Writes an iterator over the entries whose key begins with the prefix to a place at its end.
+// Returns `DONE` or `NO_MEMORY`.
 pub(crate) fn write_iterator(
     alloc: Global,
     stored: &StoredMap,
     prefix: &[u8],
     iterator: &mut IteratorPlace,
-) -> bool
+) -> u32
     requires { iterator.old.pointer.stored ≡ None }
-    ensures entries { result ≡ true → entries_of iterator.new.pointer.stored
+    ensures entries { result ≡ 0 → entries_of iterator.new.pointer.stored
         ≡ under prefix.now (map.entries stored.now.map) }
-    ensures refused { result ≡ false → entries_of iterator.new.pointer.stored ≡ [] }
-    ensures refused_if_matched { result ≡ false →
+    ensures refused { result ≡ 2 → entries_of iterator.new.pointer.stored ≡ [] }
+    ensures refused_if_matched { result ≡ 2 →
         under prefix.now (map.entries stored.now.map) ≢ [] }
+    ensures codes { (result ≡ 0) ⊎ (result ≡ 2) }
 {
     match entries_under(alloc, stored, prefix) {
         Ok(Some(entries)) => {
             iterator.put(entries);
-            true
+            DONE
         }
-        Ok(None) => true,
-        Err(_) => false,
+        Ok(None) => DONE,
+        Err(_) => NO_MEMORY,
     }
 }
 
 /// Drops the entries that the iterator has left, and writes one over the entries whose key begins
-/// with the prefix, in key order. Returns false where memory ran out, never where there is no such
-/// entry: the iterator is at its end then.
+/// with the prefix, in key order. Returns `DONE`; or `NO_MEMORY` where memory ran out, never where
+/// there is no such entry: the iterator is at its end then.
 #[unsafe(no_mangle)]
 pub extern "C" fn patricia_iterate(
     alloc: Global,
     at: &mut MapPlace,
     prefix: &[u8],
     iterator: &mut IteratorPlace,
-) -> bool
+) -> u32
     ensures same { at.new ≡ at.old }
-    ensures entries { result ≡ true → entries_of iterator.new.pointer.stored
+    ensures entries { result ≡ 0 → entries_of iterator.new.pointer.stored
         ≡ under prefix.now (map.entries (map_of at.old.pointer.stored)) }
-    ensures refused { result ≡ false → entries_of iterator.new.pointer.stored ≡ [] }
-    ensures refused_if_matched { result ≡ false →
+    ensures refused { result ≡ 2 → entries_of iterator.new.pointer.stored ≡ [] }
+    ensures refused_if_matched { result ≡ 2 →
         under prefix.now (map.entries (map_of at.old.pointer.stored)) ≢ [] }
+    ensures codes { (result ≡ 0) ⊎ (result ≡ 2) }
 {
     drop(iterator.take());
     let Some(stored) = at.as_mut() else {
-        return true;
+        return DONE;
     };
     write_iterator(alloc, stored, prefix, iterator)
 }

@@ -1,11 +1,12 @@
 //! The calls on single entries, and those on the whole map.
-ghost use Rattle.std.specs.Prelude.{◌≡◌, ◌≢◌, ◌≤◌, [], Some, None, true, false, IfOk, OnErr};
+ghost use Rattle.std.specs.Prelude.{◌≡◌, ◌≢◌, ◌≤◌, ◌⊎◌, [], Some, None, true, false, IfOk};
+ghost use Rattle.std.specs.Prelude.{OnErr};
 ghost use Rattle.std.specs.FinMap as map;
 ghost use Rattle.patricia_tree.specs.ByteKind.{IsByteItem};
 ghost use Rattle.patricia_tree.specs.Points.{Joins};
 ghost use Rattle.patricia_c.specs.Maps.{map_of};
 
-use crate::codes::{ABSENT, FOUND, NO_MEMORY};
+use crate::codes::{ABSENT, DONE, FOUND, NO_MEMORY};
 use crate::map_place::MapPlace;
 use crate::map_pointer::StoredMap;
 use std::alloc::{AllocError, Global};
@@ -129,39 +130,41 @@ fn copied(alloc: Global, stored: &StoredMap) -> Result<Box<StoredMap>, AllocErro
     Ok(Box::new(alloc, StoredMap { map })?)
 }
 
-// Writes a copy of the map to a place that holds the empty map.
-pub(crate) fn copy_to_place(alloc: Global, stored: &StoredMap, copy: &mut MapPlace) -> bool
+// Writes a copy of the map to a place that holds the empty map. Returns `DONE` or `NO_MEMORY`.
+pub(crate) fn copy_to_place(alloc: Global, stored: &StoredMap, copy: &mut MapPlace) -> u32
     requires { copy.old.pointer.stored ≡ None }
-    ensures same { result ≡ true → map_of copy.new.pointer.stored ≡ stored.now.map }
-    ensures refused { result ≡ false → map_of copy.new.pointer.stored ≡ map.empty }
-    ensures refused_nonempty { result ≡ false → map.entries stored.now.map ≢ [] }
+    ensures same { result ≡ 0 → map_of copy.new.pointer.stored ≡ stored.now.map }
+    ensures refused { result ≡ 2 → map_of copy.new.pointer.stored ≡ map.empty }
+    ensures refused_nonempty { result ≡ 2 → map.entries stored.now.map ≢ [] }
+    ensures codes { (result ≡ 0) ⊎ (result ≡ 2) }
 {
     if stored.map.is_empty() {
-        return true;
+        return DONE;
     }
     match copied(alloc, stored) {
         Ok(same) => {
             copy.put(same);
-            true
+            DONE
         }
-        Err(_) => false,
+        Err(_) => NO_MEMORY,
     }
 }
 
-/// Drops the entries of `copy` and writes a copy of the map there. Returns false where memory ran
-/// out, never for an empty map: `copy` holds the empty map then.
+/// Drops the entries of `copy` and writes a copy of the map there. Returns `DONE`; or `NO_MEMORY`
+/// where memory ran out, never for an empty map: `copy` holds the empty map then.
 #[unsafe(no_mangle)]
-pub extern "C" fn patricia_clone(alloc: Global, at: &mut MapPlace, copy: &mut MapPlace) -> bool
+pub extern "C" fn patricia_clone(alloc: Global, at: &mut MapPlace, copy: &mut MapPlace) -> u32
     ensures same_place { at.new ≡ at.old }
-    ensures same { result ≡ true →
+    ensures same { result ≡ 0 →
         map_of copy.new.pointer.stored ≡ map_of at.old.pointer.stored }
-    ensures refused { result ≡ false → map_of copy.new.pointer.stored ≡ map.empty }
-    ensures refused_nonempty { result ≡ false →
+    ensures refused { result ≡ 2 → map_of copy.new.pointer.stored ≡ map.empty }
+    ensures refused_nonempty { result ≡ 2 →
         map.entries (map_of at.old.pointer.stored) ≢ [] }
+    ensures codes { (result ≡ 0) ⊎ (result ≡ 2) }
 {
     drop(copy.take());
     match at.as_mut() {
         Some(stored) => copy_to_place(alloc, stored, copy),
-        None => true,
+        None => DONE,
     }
 }

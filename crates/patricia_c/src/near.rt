@@ -1,5 +1,5 @@
 //! Fuzzy search: the entries whose key is few edits from another one.
-ghost use Rattle.std.specs.Prelude.{◌≡◌, ◌≢◌, ◌↔◌, ◌*◌, [], None, true, false, IfOk, IsTrue};
+ghost use Rattle.std.specs.Prelude.{◌≡◌, ◌≢◌, ◌↔◌, ◌*◌, ◌⊎◌, [], None, IfOk, IsTrue};
 ghost use Rattle.std.specs.FinMap as map;
 ghost use Rattle.std.specs.Option.{option_map};
 ghost use Rattle.patricia_tree.specs.ByteKind.{IsByteItem};
@@ -9,6 +9,7 @@ ghost use Rattle.patricia_c.specs.EntriesLeft.{entries_of, pairs_of};
 ghost use Rattle.patricia_c.specs.Maps.{map_of};
 ghost use Rattle.patricia_c.specs.Near.{Picks};
 
+use crate::codes::{DONE, NO_MEMORY};
 use crate::entries_pointer::EntriesLeft;
 use crate::iterator_place::IteratorPlace;
 use crate::map_place::MapPlace;
@@ -114,64 +115,67 @@ fn texts_near(
 }
 
 // Writes an iterator over the entries whose key is at most so many edits from a key to a place at
-// its end.
+// its end. Returns `DONE` or `NO_MEMORY`.
 pub(crate) fn write_near(
     alloc: Global,
     stored: &StoredMap,
     sought: &[u8],
     limit: u32,
     iterator: &mut IteratorPlace,
-) -> bool
+) -> u32
     requires { iterator.old.pointer.stored ≡ None }
-    ensures entries { result ≡ true → Picks (λ e. IsNear IsByteItem limit e.0 sought.now)
+    ensures entries { result ≡ 0 → Picks (λ e. IsNear IsByteItem limit e.0 sought.now)
         (map.entries stored.now.map) (entries_of iterator.new.pointer.stored) }
-    ensures refused { result ≡ false → entries_of iterator.new.pointer.stored ≡ [] }
-    ensures refused_nonempty { result ≡ false → map.entries stored.now.map ≢ [] }
+    ensures refused { result ≡ 2 → entries_of iterator.new.pointer.stored ≡ [] }
+    ensures refused_nonempty { result ≡ 2 → map.entries stored.now.map ≢ [] }
+    ensures codes { (result ≡ 0) ⊎ (result ≡ 2) }
 {
     if stored.map.is_empty() {
-        return true;
+        return DONE;
     }
     match entries_near(alloc, stored, sought, limit) {
         Ok(Some(entries)) => {
             iterator.put(entries);
-            true
+            DONE
         }
-        Ok(None) => true,
-        Err(_) => false,
+        Ok(None) => DONE,
+        Err(_) => NO_MEMORY,
     }
 }
 
 // Writes an iterator over the entries whose key is a text at most so many edits from a text to a
-// place at its end.
+// place at its end. Returns `DONE` or `NO_MEMORY`.
 pub(crate) fn write_near_texts(
     alloc: Global,
     stored: &StoredMap,
     sought: &[u8],
     limit: u16,
     iterator: &mut IteratorPlace,
-) -> bool
+) -> u32
     requires { iterator.old.pointer.stored ≡ None }
-    ensures entries { result ≡ true → Picks (λ e. IsNear IsTextItem limit e.0 sought.now)
+    ensures entries { result ≡ 0 → Picks (λ e. IsNear IsTextItem limit e.0 sought.now)
         (map.entries stored.now.map) (entries_of iterator.new.pointer.stored) }
-    ensures refused { result ≡ false → entries_of iterator.new.pointer.stored ≡ [] }
-    ensures refused_nonempty { result ≡ false → map.entries stored.now.map ≢ [] }
+    ensures refused { result ≡ 2 → entries_of iterator.new.pointer.stored ≡ [] }
+    ensures refused_nonempty { result ≡ 2 → map.entries stored.now.map ≢ [] }
+    ensures codes { (result ≡ 0) ⊎ (result ≡ 2) }
 {
     if stored.map.is_empty() {
-        return true;
+        return DONE;
     }
     match texts_near(alloc, stored, sought, limit) {
         Ok(Some(entries)) => {
             iterator.put(entries);
-            true
+            DONE
         }
-        Ok(None) => true,
-        Err(_) => false,
+        Ok(None) => DONE,
+        Err(_) => NO_MEMORY,
     }
 }
 
 /// Drops the entries that the iterator has left, and writes one over the entries whose key is at
 /// most `limit` edits from this key, in key order: an edit inserts, deletes or replaces a byte.
-/// Returns false where memory ran out, never for an empty map: the iterator is at its end then.
+/// Returns `DONE`; or `NO_MEMORY` where memory ran out, never for an empty map: the iterator is at
+/// its end then.
 #[unsafe(no_mangle)]
 pub extern "C" fn patricia_within(
     alloc: Global,
@@ -179,17 +183,18 @@ pub extern "C" fn patricia_within(
     sought: &[u8],
     limit: u32,
     iterator: &mut IteratorPlace,
-) -> bool
+) -> u32
     ensures same { at.new ≡ at.old }
-    ensures entries { result ≡ true → Picks (λ e. IsNear IsByteItem limit e.0 sought.now)
+    ensures entries { result ≡ 0 → Picks (λ e. IsNear IsByteItem limit e.0 sought.now)
         (map.entries (map_of at.old.pointer.stored)) (entries_of iterator.new.pointer.stored) }
-    ensures refused { result ≡ false → entries_of iterator.new.pointer.stored ≡ [] }
-    ensures refused_nonempty { result ≡ false →
+    ensures refused { result ≡ 2 → entries_of iterator.new.pointer.stored ≡ [] }
+    ensures refused_nonempty { result ≡ 2 →
         map.entries (map_of at.old.pointer.stored) ≢ [] }
+    ensures codes { (result ≡ 0) ⊎ (result ≡ 2) }
 {
     drop(iterator.take());
     let Some(stored) = at.as_mut() else {
-        return true;
+        return DONE;
     };
     write_near(alloc, stored, sought, limit, iterator)
 }
@@ -203,17 +208,18 @@ pub extern "C" fn patricia_text_within(
     sought: &[u8],
     limit: u16,
     iterator: &mut IteratorPlace,
-) -> bool
+) -> u32
     ensures same { at.new ≡ at.old }
-    ensures entries { result ≡ true → Picks (λ e. IsNear IsTextItem limit e.0 sought.now)
+    ensures entries { result ≡ 0 → Picks (λ e. IsNear IsTextItem limit e.0 sought.now)
         (map.entries (map_of at.old.pointer.stored)) (entries_of iterator.new.pointer.stored) }
-    ensures refused { result ≡ false → entries_of iterator.new.pointer.stored ≡ [] }
-    ensures refused_nonempty { result ≡ false →
+    ensures refused { result ≡ 2 → entries_of iterator.new.pointer.stored ≡ [] }
+    ensures refused_nonempty { result ≡ 2 →
         map.entries (map_of at.old.pointer.stored) ≢ [] }
+    ensures codes { (result ≡ 0) ⊎ (result ≡ 2) }
 {
     drop(iterator.take());
     let Some(stored) = at.as_mut() else {
-        return true;
+        return DONE;
     };
     write_near_texts(alloc, stored, sought, limit, iterator)
 }

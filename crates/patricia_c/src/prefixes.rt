@@ -1,10 +1,11 @@
 //! The calls that ask which keys and a key begin alike.
-ghost use Rattle.std.specs.Prelude.{◌≡◌, ◌≢◌, ◌+◌, ◌<◌, [], length, Any, None, true, false};
+ghost use Rattle.std.specs.Prelude.{◌≡◌, ◌≢◌, ◌+◌, ◌<◌, ◌⊎◌, [], length, Any, None, true, false};
 ghost use Rattle.std.specs.FinMap as map;
 ghost use Rattle.patricia_tree.specs.ByteKind.{IsByteItem};
 ghost use Rattle.patricia_tree.specs.Prefixes.{IsReach, longest, under, outside};
 ghost use Rattle.patricia_c.specs.Maps.{map_of, is_entry};
 
+use crate::codes::{DONE, NO_MEMORY};
 use crate::map_place::MapPlace;
 use crate::map_pointer::StoredMap;
 use std::alloc::Global;
@@ -76,122 +77,123 @@ fn begins_none(stored: &StoredMap, prefix: &[u8]) -> bool
 }
 
 /// Drops the entries of `part` and moves those whose key begins with the prefix there. Returns
-/// false where memory ran out: `part` holds the empty map then, and the entries stay. Never for the
-/// empty prefix, which moves the whole map, nor where no key begins with the prefix.
+/// `DONE`; or `NO_MEMORY` where memory ran out: `part` holds the empty map then, and the entries
+/// stay. Never for the empty prefix, which moves the whole map, nor where no key begins with the
+/// prefix.
 #[unsafe(no_mangle)]
 pub extern "C" fn patricia_split_by_prefix(
     alloc: Global,
     at: &mut MapPlace,
     prefix: &[u8],
     part: &mut MapPlace,
-) -> bool
-    ensures taken { result ≡ true → map.entries (map_of part.new.pointer.stored)
+) -> u32
+    ensures taken { result ≡ 0 → map.entries (map_of part.new.pointer.stored)
         ≡ under prefix.now (map.entries (map_of at.old.pointer.stored)) }
-    ensures left { result ≡ true → map.entries (map_of at.new.pointer.stored)
+    ensures left { result ≡ 0 → map.entries (map_of at.new.pointer.stored)
         ≡ outside prefix.now (map.entries (map_of at.old.pointer.stored)) }
-    ensures kept { result ≡ false → map_of at.new.pointer.stored ≡ map_of at.old.pointer.stored }
-    ensures refused { result ≡ false → map_of part.new.pointer.stored ≡ map.empty }
-    ensures refused_nonempty { result ≡ false → prefix.now ≢ [] }
-    ensures refused_if_matched { result ≡ false →
+    ensures kept { result ≡ 2 → map_of at.new.pointer.stored ≡ map_of at.old.pointer.stored }
+    ensures refused { result ≡ 2 → map_of part.new.pointer.stored ≡ map.empty }
+    ensures refused_nonempty { result ≡ 2 → prefix.now ≢ [] }
+    ensures refused_if_matched { result ≡ 2 →
         under prefix.now (map.entries (map_of at.old.pointer.stored)) ≢ [] }
+    ensures codes { (result ≡ 0) ⊎ (result ≡ 2) }
 {
     drop(part.take());
     let Some(mut stored) = at.take() else {
-        return true;
+        return DONE;
     };
     if prefix.is_empty() {
         part.put(stored);
-        return true;
+        return DONE;
     }
     if begins_none(&stored, prefix) {
         at.put(stored);
-        return true;
+        return DONE;
     }
     let Ok(mut room) = part.take_or_make(alloc) else {
         at.put(stored);
-        return false;
+        return NO_MEMORY;
     };
     match stored.map.split_by_prefix(prefix) {
         Ok(map) => {
             room.map = map;
             at.put(stored);
             part.put(room);
-            true
+            DONE
         }
         Err(_) => {
             at.put(stored);
-            false
+            NO_MEMORY
         }
     }
 }
 
-// Writes the number of entries whose key begins with the prefix. Returns false where memory ran
-// out.
-pub(crate) fn count_to(stored: &StoredMap, prefix: &[u8], count: &mut usize) -> bool
-    ensures count { result ≡ true →
+// Writes the number of entries whose key begins with the prefix, and returns `DONE`; or `NO_MEMORY`
+// where memory ran out.
+pub(crate) fn count_to(stored: &StoredMap, prefix: &[u8], count: &mut usize) -> u32
+    ensures count { result ≡ 0 →
         count.new ≡ length (under prefix.now (map.entries stored.now.map)) }
-    ensures refused { result ≡ false → under prefix.now (map.entries stored.now.map) ≢ [] }
-    ensures refused_only_long { result ≡ false → Any (λ e. length prefix.now + 64 < length e.0)
+    ensures refused { result ≡ 2 → under prefix.now (map.entries stored.now.map) ≢ [] }
+    ensures refused_only_long { result ≡ 2 → Any (λ e. length prefix.now + 64 < length e.0)
         (under prefix.now (map.entries stored.now.map)) }
-    ensures unwritten { result ≡ false → count.new ≡ count.old }
+    ensures unwritten { result ≡ 2 → count.new ≡ count.old }
+    ensures codes { (result ≡ 0) ⊎ (result ≡ 2) }
 {
     let counted = stored.map.count_prefix(prefix);
     match counted {
         Ok(n) => {
             *count = n;
-            true
+            DONE
         }
-        Err(_) => false,
+        Err(_) => NO_MEMORY,
     }
 }
 
-/// Returns true and writes the number of entries whose key begins with the prefix, or false where
-/// memory ran out.
+/// Writes the number of entries whose key begins with the prefix to `count`, and returns `DONE`; or
+/// `NO_MEMORY` where memory ran out.
 #[unsafe(no_mangle)]
-pub extern "C" fn patricia_count_prefix(at: &mut MapPlace, prefix: &[u8], count: &mut usize) -> bool
+pub extern "C" fn patricia_count_prefix(at: &mut MapPlace, prefix: &[u8], count: &mut usize) -> u32
     ensures same { at.new ≡ at.old }
-    ensures count { result ≡ true → count.new
+    ensures count { result ≡ 0 → count.new
         ≡ length (under prefix.now (map.entries (map_of at.old.pointer.stored))) }
-    ensures refused { result ≡ false →
+    ensures refused { result ≡ 2 →
         under prefix.now (map.entries (map_of at.old.pointer.stored)) ≢ [] }
-    ensures refused_only_long { result ≡ false → Any (λ e. length prefix.now + 64 < length e.0)
+    ensures refused_only_long { result ≡ 2 → Any (λ e. length prefix.now + 64 < length e.0)
         (under prefix.now (map.entries (map_of at.old.pointer.stored))) }
-    ensures unwritten { result ≡ false → count.new ≡ count.old }
+    ensures unwritten { result ≡ 2 → count.new ≡ count.old }
+    ensures codes { (result ≡ 0) ⊎ (result ≡ 2) }
 {
     let Some(stored) = at.as_mut() else {
         *count = 0;
-        return true;
+        return DONE;
     };
     count_to(stored, prefix, count)
 }
 
-/// Removes the entries whose key begins with the prefix. Returns true and writes how many they
-/// were, or false where memory ran out: the entries stay.
+/// Removes the entries whose key begins with the prefix, writes how many they were to `count`, and
+/// returns `DONE`; or `NO_MEMORY` where memory ran out: the entries stay.
 #[unsafe(no_mangle)]
-pub extern "C" fn patricia_remove_prefix(
-    at: &mut MapPlace,
-    prefix: &[u8],
-    count: &mut usize,
-) -> bool
-    ensures count { result ≡ true → count.new
+pub extern "C" fn patricia_remove_prefix(at: &mut MapPlace, prefix: &[u8], count: &mut usize) -> u32
+    ensures count { result ≡ 0 → count.new
         ≡ length (under prefix.now (map.entries (map_of at.old.pointer.stored))) }
-    ensures left { result ≡ true → map.entries (map_of at.new.pointer.stored)
+    ensures left { result ≡ 0 → map.entries (map_of at.new.pointer.stored)
         ≡ outside prefix.now (map.entries (map_of at.old.pointer.stored)) }
-    ensures kept { result ≡ false → map_of at.new.pointer.stored ≡ map_of at.old.pointer.stored }
-    ensures refused { result ≡ false →
+    ensures kept { result ≡ 2 → map_of at.new.pointer.stored ≡ map_of at.old.pointer.stored }
+    ensures refused { result ≡ 2 →
         under prefix.now (map.entries (map_of at.old.pointer.stored)) ≢ [] }
-    ensures refused_nonempty { result ≡ false → prefix.now ≢ [] }
-    ensures unwritten { result ≡ false → count.new ≡ count.old }
+    ensures refused_nonempty { result ≡ 2 → prefix.now ≢ [] }
+    ensures unwritten { result ≡ 2 → count.new ≡ count.old }
+    ensures codes { (result ≡ 0) ⊎ (result ≡ 2) }
 {
     let Some(stored) = at.as_mut() else {
         *count = 0;
-        return true;
+        return DONE;
     };
     match stored.map.remove_prefix(prefix) {
         Ok(n) => {
             *count = n;
-            true
+            DONE
         }
-        Err(_) => false,
+        Err(_) => NO_MEMORY,
     }
 }

@@ -1,8 +1,9 @@
 //! Cursors over the entries from a key on, up to another one.
-ghost use Rattle.std.specs.Prelude.{◌≡◌, ℕ, List, [], Some, true, false, IfOk};
+ghost use Rattle.std.specs.Prelude.{◌≡◌, ◌⊎◌, ℕ, List, [], Some, IfOk};
 ghost use Rattle.patricia_tree.specs.Ranges.{before, from};
 ghost use Rattle.patricia_c.specs.Cursors.{ahead_of, end_of, prefix_of};
 
+use crate::codes::{DONE, NO_MEMORY};
 use crate::cursor_place::CursorPlace;
 use crate::cursor_pointer::Position;
 use std::alloc::{AllocError, Global};
@@ -24,25 +25,27 @@ fn at_range(alloc: Global, start: &[u8], end: &[u8]) -> Result<Box<Position>, Al
 }
 
 /// Sets the cursor before the first entry whose key is `start` or comes after it, among those whose
-/// key comes before `end`. Returns false where memory ran out: the cursor stands where it stood.
+/// key comes before `end`. Returns `DONE`; or `NO_MEMORY` where memory ran out: the cursor stands
+/// where it stood.
 #[unsafe(no_mangle)]
 pub extern "C" fn patricia_cursor_seek_range(
     alloc: Global,
     cursor: &mut CursorPlace,
     start: &[u8],
     end: &[u8],
-) -> bool
-    ensures ahead { result ≡ true → (entries : List (List ℕ × ℕ)) →
+) -> u32
+    ensures ahead { result ≡ 0 → (entries : List (List ℕ × ℕ)) →
         ahead_of cursor.new.pointer.stored entries ≡ before end.now (from start.now entries) }
-    ensures prefix { result ≡ true → prefix_of cursor.new.pointer.stored ≡ [] }
-    ensures end_key { result ≡ true → end_of cursor.new.pointer.stored ≡ Some end.now }
-    ensures refused { result ≡ false → cursor.new.pointer.stored ≡ cursor.old.pointer.stored }
+    ensures prefix { result ≡ 0 → prefix_of cursor.new.pointer.stored ≡ [] }
+    ensures end_key { result ≡ 0 → end_of cursor.new.pointer.stored ≡ Some end.now }
+    ensures refused { result ≡ 2 → cursor.new.pointer.stored ≡ cursor.old.pointer.stored }
+    ensures codes { (result ≡ 0) ⊎ (result ≡ 2) }
 {
     match at_range(alloc, start, end) {
         Ok(stored) => {
             cursor.put(stored);
-            true
+            DONE
         }
-        Err(_) => false,
+        Err(_) => NO_MEMORY,
     }
 }

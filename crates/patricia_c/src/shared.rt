@@ -1,9 +1,10 @@
 //! Handles of a map that several of them share. A shared map can be read and not be changed.
-ghost use Rattle.std.specs.Prelude.{◌≡◌, ◌≢◌, [], Some, None, true, false, IfOk, MatchResult};
+ghost use Rattle.std.specs.Prelude.{◌≡◌, ◌≢◌, ◌⊎◌, [], Some, None, IfOk, MatchResult};
 ghost use Rattle.std.specs.FinMap as map;
 ghost use Rattle.patricia_c.specs.Maps.{map_of};
 ghost use Rattle.patricia_c.specs.Shared.{shared_of};
 
+use crate::codes::{DONE, NO_MEMORY, SHARED};
 use crate::map::copy_to_place;
 use crate::map_place::MapPlace;
 use crate::map_pointer::StoredMap;
@@ -35,34 +36,31 @@ fn first_handle(alloc: Global, stored: Box<StoredMap>) -> Result<Box<SharedMap>,
     }
 }
 
-/// Drops the handle that `shared` holds, and moves the map to a first handle there. Returns false
-/// where memory ran out, never for an empty place: the map stays where it was, and `shared` is a
-/// handle of the empty map.
+/// Drops the handle that `shared` holds, and moves the map to a first handle there. Returns `DONE`;
+/// or `NO_MEMORY` where memory ran out, never for an empty place: the map stays where it was, and
+/// `shared` is a handle of the empty map.
 #[unsafe(no_mangle)]
-pub extern "C" fn patricia_freeze(
-    alloc: Global,
-    at: &mut MapPlace,
-    shared: &mut SharedPlace,
-) -> bool
-    ensures frozen { result ≡ true →
+pub extern "C" fn patricia_freeze(alloc: Global, at: &mut MapPlace, shared: &mut SharedPlace) -> u32
+    ensures frozen { result ≡ 0 →
         shared_of shared.new.pointer.stored ≡ map_of at.old.pointer.stored }
-    ensures left { result ≡ true → map_of at.new.pointer.stored ≡ map.empty }
-    ensures kept { result ≡ false → map_of at.new.pointer.stored ≡ map_of at.old.pointer.stored }
-    ensures none { result ≡ false → shared_of shared.new.pointer.stored ≡ map.empty }
-    ensures refused { result ≡ false → at.old.pointer.stored ≢ None }
+    ensures left { result ≡ 0 → map_of at.new.pointer.stored ≡ map.empty }
+    ensures kept { result ≡ 2 → map_of at.new.pointer.stored ≡ map_of at.old.pointer.stored }
+    ensures none { result ≡ 2 → shared_of shared.new.pointer.stored ≡ map.empty }
+    ensures refused { result ≡ 2 → at.old.pointer.stored ≢ None }
+    ensures codes { (result ≡ 0) ⊎ (result ≡ 2) }
 {
     drop(shared.take());
     let Some(stored) = at.take() else {
-        return true;
+        return DONE;
     };
     match first_handle(alloc, stored) {
         Ok(first) => {
             shared.put(first);
-            true
+            DONE
         }
         Err(stored) => {
             at.put(stored);
-            false
+            NO_MEMORY
         }
     }
 }
@@ -78,89 +76,95 @@ fn another_handle(alloc: Global, shared: &SharedMap) -> Result<Box<SharedMap>, A
     Ok(Box::new(alloc, SharedMap { map })?)
 }
 
-/// Drops the handle that `copy` holds, and writes another handle of the map there. Returns false
-/// where memory ran out, never for an empty place: `copy` is a handle of the empty map.
+/// Drops the handle that `copy` holds, and writes another handle of the map there. Returns `DONE`;
+/// or `NO_MEMORY` where memory ran out, never for an empty place: `copy` is a handle of the empty
+/// map.
 #[unsafe(no_mangle)]
 pub extern "C" fn patricia_shared_clone(
     alloc: Global,
     shared: &mut SharedPlace,
     copy: &mut SharedPlace,
-) -> bool
+) -> u32
     ensures same_place { shared.new ≡ shared.old }
-    ensures same { result ≡ true →
+    ensures same { result ≡ 0 →
         shared_of copy.new.pointer.stored ≡ shared_of shared.old.pointer.stored }
-    ensures none { result ≡ false → shared_of copy.new.pointer.stored ≡ map.empty }
-    ensures refused { result ≡ false → shared.old.pointer.stored ≢ None }
+    ensures none { result ≡ 2 → shared_of copy.new.pointer.stored ≡ map.empty }
+    ensures refused { result ≡ 2 → shared.old.pointer.stored ≢ None }
+    ensures codes { (result ≡ 0) ⊎ (result ≡ 2) }
 {
     drop(copy.take());
     let Some(there) = shared.as_mut() else {
-        return true;
+        return DONE;
     };
     match another_handle(alloc, there) {
         Ok(handle) => {
             copy.put(handle);
-            true
+            DONE
         }
-        Err(_) => false,
+        Err(_) => NO_MEMORY,
     }
 }
 
 /// Drops the entries of `copy` and writes a copy of the shared map there, which can be changed.
-/// Returns false where memory ran out, never for an empty map: `copy` holds the empty map then.
+/// Returns `DONE`; or `NO_MEMORY` where memory ran out, never for an empty map: `copy` holds the
+/// empty map then.
 #[unsafe(no_mangle)]
 pub extern "C" fn patricia_shared_to_map(
     alloc: Global,
     shared: &mut SharedPlace,
     copy: &mut MapPlace,
-) -> bool
+) -> u32
     ensures same_place { shared.new ≡ shared.old }
-    ensures same { result ≡ true →
+    ensures same { result ≡ 0 →
         map_of copy.new.pointer.stored ≡ shared_of shared.old.pointer.stored }
-    ensures refused { result ≡ false → map_of copy.new.pointer.stored ≡ map.empty }
-    ensures refused_nonempty { result ≡ false →
+    ensures refused { result ≡ 2 → map_of copy.new.pointer.stored ≡ map.empty }
+    ensures refused_nonempty { result ≡ 2 →
         map.entries (shared_of shared.old.pointer.stored) ≢ [] }
+    ensures codes { (result ≡ 0) ⊎ (result ≡ 2) }
 {
     drop(copy.take());
     let Some(handle) = shared.as_mut() else {
-        return true;
+        return DONE;
     };
     let Some(stored) = handle.stored() else {
-        return true;
+        return DONE;
     };
     copy_to_place(alloc, stored, copy)
 }
 
 /// Drops the map that `at` holds, and moves the shared map there, where it can be changed, if no
-/// other handle of it is left. Returns false where one is: nothing has changed then. Handles of a
-/// map that was all zero bytes are not counted: each of them succeeds, with the empty map.
+/// other handle of it is left: returns `DONE` then. Returns `SHARED` where one is: nothing has
+/// changed then. Handles of a map that was all zero bytes are not counted: each of them succeeds,
+/// with the empty map.
 #[unsafe(no_mangle)]
-pub extern "C" fn patricia_thaw(shared: &mut SharedPlace, at: &mut MapPlace) -> bool
-    ensures thawed { result ≡ true →
+pub extern "C" fn patricia_thaw(shared: &mut SharedPlace, at: &mut MapPlace) -> u32
+    ensures thawed { result ≡ 0 →
         map_of at.new.pointer.stored ≡ shared_of shared.old.pointer.stored }
-    ensures left { result ≡ true → shared_of shared.new.pointer.stored ≡ map.empty }
-    ensures kept { result ≡ false →
+    ensures left { result ≡ 0 → shared_of shared.new.pointer.stored ≡ map.empty }
+    ensures kept { result ≡ 7 →
         shared_of shared.new.pointer.stored ≡ shared_of shared.old.pointer.stored }
-    ensures unwritten { result ≡ false →
+    ensures unwritten { result ≡ 7 →
         map_of at.new.pointer.stored ≡ map_of at.old.pointer.stored }
-    ensures refused { result ≡ false → shared.old.pointer.stored ≢ None }
+    ensures refused { result ≡ 7 → shared.old.pointer.stored ≢ None }
+    ensures codes { (result ≡ 0) ⊎ (result ≡ 7) }
 {
     let Some(mut handle) = shared.take() else {
         drop(at.take());
-        return true;
+        return DONE;
     };
     let Some(arc) = handle.map.take() else {
         drop(at.take());
-        return true;
+        return DONE;
     };
     match Arc::try_unwrap(arc) {
         Ok(last) => {
             at.put(last);
-            true
+            DONE
         }
         Err(counted) => {
             handle.map = Some(counted);
             shared.put(handle);
-            false
+            SHARED
         }
     }
 }

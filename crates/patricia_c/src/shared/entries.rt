@@ -17,7 +17,7 @@ ghost use Rattle.patricia_c.specs.Near.{Picks};
 ghost use Rattle.patricia_c.specs.Shared.{shared_of};
 
 use crate::blocks::block_ahead;
-use crate::codes::END;
+use crate::codes::{DONE, END};
 use crate::cursor_place::CursorPlace;
 use crate::cursors::next_ahead;
 use crate::iteration::write_iterator;
@@ -68,20 +68,21 @@ pub extern "C" fn patricia_shared_iterate(
     shared: &mut SharedPlace,
     prefix: &[u8],
     iterator: &mut IteratorPlace,
-) -> bool
+) -> u32
     ensures same { shared.new ≡ shared.old }
-    ensures entries { result ≡ true → entries_of iterator.new.pointer.stored
+    ensures entries { result ≡ 0 → entries_of iterator.new.pointer.stored
         ≡ under prefix.now (map.entries (shared_of shared.old.pointer.stored)) }
-    ensures refused { result ≡ false → entries_of iterator.new.pointer.stored ≡ [] }
-    ensures refused_if_matched { result ≡ false →
+    ensures refused { result ≡ 2 → entries_of iterator.new.pointer.stored ≡ [] }
+    ensures refused_if_matched { result ≡ 2 →
         under prefix.now (map.entries (shared_of shared.old.pointer.stored)) ≢ [] }
+    ensures codes { (result ≡ 0) ⊎ (result ≡ 2) }
 {
     drop(iterator.take());
     let Some(handle) = shared.as_mut() else {
-        return true;
+        return DONE;
     };
     let Some(stored) = handle.stored() else {
-        return true;
+        return DONE;
     };
     write_iterator(alloc, stored, prefix, iterator)
 }
@@ -94,21 +95,22 @@ pub extern "C" fn patricia_shared_within(
     sought: &[u8],
     limit: u32,
     iterator: &mut IteratorPlace,
-) -> bool
+) -> u32
     ensures same { shared.new ≡ shared.old }
-    ensures entries { result ≡ true → Picks (λ e. IsNear IsByteItem limit e.0 sought.now)
+    ensures entries { result ≡ 0 → Picks (λ e. IsNear IsByteItem limit e.0 sought.now)
         (map.entries (shared_of shared.old.pointer.stored))
         (entries_of iterator.new.pointer.stored) }
-    ensures refused { result ≡ false → entries_of iterator.new.pointer.stored ≡ [] }
-    ensures refused_nonempty { result ≡ false →
+    ensures refused { result ≡ 2 → entries_of iterator.new.pointer.stored ≡ [] }
+    ensures refused_nonempty { result ≡ 2 →
         map.entries (shared_of shared.old.pointer.stored) ≢ [] }
+    ensures codes { (result ≡ 0) ⊎ (result ≡ 2) }
 {
     drop(iterator.take());
     let Some(handle) = shared.as_mut() else {
-        return true;
+        return DONE;
     };
     let Some(stored) = handle.stored() else {
-        return true;
+        return DONE;
     };
     write_near(alloc, stored, sought, limit, iterator)
 }
@@ -121,21 +123,22 @@ pub extern "C" fn patricia_shared_text_within(
     sought: &[u8],
     limit: u16,
     iterator: &mut IteratorPlace,
-) -> bool
+) -> u32
     ensures same { shared.new ≡ shared.old }
-    ensures entries { result ≡ true → Picks (λ e. IsNear IsTextItem limit e.0 sought.now)
+    ensures entries { result ≡ 0 → Picks (λ e. IsNear IsTextItem limit e.0 sought.now)
         (map.entries (shared_of shared.old.pointer.stored))
         (entries_of iterator.new.pointer.stored) }
-    ensures refused { result ≡ false → entries_of iterator.new.pointer.stored ≡ [] }
-    ensures refused_nonempty { result ≡ false →
+    ensures refused { result ≡ 2 → entries_of iterator.new.pointer.stored ≡ [] }
+    ensures refused_nonempty { result ≡ 2 →
         map.entries (shared_of shared.old.pointer.stored) ≢ [] }
+    ensures codes { (result ≡ 0) ⊎ (result ≡ 2) }
 {
     drop(iterator.take());
     let Some(handle) = shared.as_mut() else {
-        return true;
+        return DONE;
     };
     let Some(stored) = handle.stored() else {
-        return true;
+        return DONE;
     };
     write_near_texts(alloc, stored, sought, limit, iterator)
 }

@@ -1,11 +1,12 @@
 //! The calls on maps that handles share which ask which keys and a key begin alike.
-ghost use Rattle.std.specs.Prelude.{◌≡◌, ◌≢◌, ◌+◌, ◌<◌, [], length, Any, None, true, false};
+ghost use Rattle.std.specs.Prelude.{◌≡◌, ◌≢◌, ◌+◌, ◌<◌, ◌⊎◌, [], length, Any, None, true, false};
 ghost use Rattle.std.specs.FinMap as map;
 ghost use Rattle.patricia_tree.specs.ByteKind.{IsByteItem};
 ghost use Rattle.patricia_tree.specs.Prefixes.{IsReach, longest, under};
 ghost use Rattle.patricia_c.specs.Maps.{is_entry};
 ghost use Rattle.patricia_c.specs.Shared.{shared_of};
 
+use crate::codes::DONE;
 use crate::prefixes::{count_to, longest_to};
 use crate::shared_place::SharedPlace;
 
@@ -60,23 +61,24 @@ pub extern "C" fn patricia_shared_count_prefix(
     shared: &mut SharedPlace,
     prefix: &[u8],
     count: &mut usize,
-) -> bool
+) -> u32
     ensures same { shared.new ≡ shared.old }
-    ensures count { result ≡ true → count.new
+    ensures count { result ≡ 0 → count.new
         ≡ length (under prefix.now (map.entries (shared_of shared.old.pointer.stored))) }
-    ensures refused { result ≡ false →
+    ensures refused { result ≡ 2 →
         under prefix.now (map.entries (shared_of shared.old.pointer.stored)) ≢ [] }
-    ensures refused_only_long { result ≡ false → Any (λ e. length prefix.now + 64 < length e.0)
+    ensures refused_only_long { result ≡ 2 → Any (λ e. length prefix.now + 64 < length e.0)
         (under prefix.now (map.entries (shared_of shared.old.pointer.stored))) }
-    ensures unwritten { result ≡ false → count.new ≡ count.old }
+    ensures unwritten { result ≡ 2 → count.new ≡ count.old }
+    ensures codes { (result ≡ 0) ⊎ (result ≡ 2) }
 {
     let Some(handle) = shared.as_mut() else {
         *count = 0;
-        return true;
+        return DONE;
     };
     let Some(stored) = handle.stored() else {
         *count = 0;
-        return true;
+        return DONE;
     };
     count_to(stored, prefix, count)
 }
