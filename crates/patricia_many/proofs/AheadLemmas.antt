@@ -1,6 +1,7 @@
 -- The common prefixes of a key that a look-up has still ahead.
 use Rattle.std.proofs.Common.{◌≡◌, ℕ, zero, suc, ◌+◌, ◌-◌, ◌<◌, ◌≤◌, List, [], ◌∷◌, ◌++◌, length, get_or, take}
-use Rattle.std.proofs.Common.{Bool, drop, Option, Some, None, slice_get, refl, sym, ap, subst, ◌∙◌, arith}
+use Rattle.std.proofs.Common.{Bool, false, drop, Option, Some, None, slice_get, refl, sym, ap, subst, ◌∙◌, arith}
+use mathlib.Core.Bool.{false≢true}
 use Rattle.std.proofs.lemmas.List.{append-nil}
 use Rattle.std.specs.List.{last_or}
 use Rattle.patricia_keys.specs.Keys.{Begins, IsKeyKind, IsValid, key_cmp}
@@ -254,6 +255,11 @@ pub best_ends : (item : List ℕ → Type 0) {V : Type 0} (s : NodeArena V) (key
 best_ends item s key a none h top =
     sym (ap (last_or (entry_at s key top a.best a.best_len)) (ap (along_ahead s key a.passed) none ∙ ahead_none s key a.passed))
     ∙ h.last top
+
+-- a look-up is one, whether its longest prefix is asked for or not
+pub finds_alone : (item : List ℕ → Type 0) {V : Type 0} (s : NodeArena V) (by_prefix : Bool) (key : List ℕ) (l : Lookup)
+    → IsLookup item s by_prefix key l → IsLookup item s false key l
+finds_alone item s by_prefix key l is = (is.0, λ wants. absurd (false≢true wants))
 
 -- a look-up is one of the same key where other fields than these are written
 pub other_fields : (item : List ℕ → Type 0) {V : Type 0} (s : NodeArena V) (by_prefix : Bool) (key : List ℕ) (a b : Lookup)

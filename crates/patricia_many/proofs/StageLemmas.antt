@@ -1,9 +1,10 @@
 -- Look-ups side by side, of which one goes on at a time.
-use Rattle.std.proofs.Common.{◌≡◌, Bool, ℕ, ◌+◌, ◌<◌, ◌≤◌, List, length, map, get_or, set, drop, None, Some, slice_get}
+use Rattle.std.proofs.Common.{◌≡◌, Bool, true, false, ℕ, ◌+◌, ◌<◌, ◌≤◌, List, [], length, map, get_or, set, drop, None, Some, slice_get}
 use Rattle.std.proofs.Common.{sym, ap, subst, ◌∙◌, inl, inr, arith}
 use Rattle.std.proofs.lemmas.List.{length-map, map-append}
 use Rattle.std.proofs.lemmas.Slice.{take-put_mid}
 use borrow.Rule.Slice.PartMut.{put_mid}
+use mir.Val.{bool_byte}
 use lib.Seq.{take-add}
 use Rattle.std.proofs.Common.{◌++◌, ap₂, length-drop, length-take-le, take}
 use Rattle.std.specs.Option.{option_map}
@@ -48,6 +49,22 @@ module _ (Is : List ℕ → Lookup → Type 0) {Q : Type 0} (key_of : Q → List
     -- and so is the one that is read there
     pub looks_up_read : l ≡ get_or ls i l → Is (key_of q) l
     looks_up_read is = subst (Is (key_of q)) (sym is) looks_up
+
+-- one changes, and is a look-up of whatever key it was one of
+module _ (Is : List ℕ → Lookup → Type 0) (keys : List (List ℕ)) (ls : List Lookup)
+    (are : AreAll Is keys ls) (i : ℕ) (l : Lookup) (within : i < length ls) where
+  pub some_looks_up : i < length keys → Is (get_or keys i []) (get_or ls i l)
+  some_looks_up keyed = are i _ _ (slice_get-get_or keys i [] keyed) (slice_get-get_or ls i l within)
+
+  pub one_changes : (b : Lookup) → ((key : List ℕ) → Is key (get_or ls i l) → Is key b) → AreAll Is keys (set ls i b)
+  one_changes b stays k key a keyed at = elim (cases_eq k i) [
+    | inl same ↦
+        let keys_here = subst (λ j. slice_get keys j ≡ Some key) same keyed in
+        let at_here = subst (λ j. slice_get (set ls i b) j ≡ Some a) same at in
+        let b_is = same_item (set ls i b) i b a (get-set_same ls i b within) at_here in
+        subst (Is key) b_is (stays key (are i key _ keys_here (slice_get-get_or ls i l within)))
+    | inr other ↦ are k key a keyed (sym (get-set_other ls i k b other) ∙ at)
+  ]
 
 -- a look-up is begun, whatever it is asked for
 abbrev pub IsStarted : (List ℕ → Type 0) → {V : Type 0} → NodeArena V → List ℕ → Lookup → Type 0
@@ -142,3 +159,8 @@ pub part_copied : {X Q : Type 0} (f : Q → X) (keys : List Q) (found new : List
     → take (at + n) (put_mid at k found new) ≡ map f (take (at + n) keys)
 part_copied f keys found new at n k before got same fits as_many =
     copied_as keys found new at n k same fits as_many f before got
+
+-- where one more is counted or not, no more are counted than were looked at
+pub few_more : (count i : ℕ) (b : Bool) → count ≤ i → count + bool_byte b ≤ i + 1
+few_more count i true few = omega (arith, few)
+few_more count i false few = omega (arith, few)

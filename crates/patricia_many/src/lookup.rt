@@ -22,11 +22,10 @@ pub struct Lookup {
     at: Link,
     // how many bytes of the key the nodes above them have
     passed: usize,
-    // the first byte of the node there, which is read long before it is asked for, so that look-ups
-    // wait for memory together
-    head: u8,
-    // whether the node itself was read, too
-    is_read: bool,
+    // what was last read of the node there: the first byte of its label
+    first: u8,
+    // whether the label of the node there is read before it is compared with the key
+    waits: bool,
     // at its end the node of the key, where there is one
     end: Link,
     // where the longest prefix is looked for, its node among those that were passed, if it is not
@@ -41,8 +40,8 @@ impl Lookup {
         Lookup {
             at: Link::none(),
             passed: 0,
-            head: 0,
-            is_read: false,
+            first: 0,
+            waits: false,
             end: Link::none(),
             best: Link::none(),
             best_len: 0,
@@ -61,7 +60,7 @@ impl Lookup {
         if key.is_empty() {
             self.end_at(Link::none());
         } else {
-            self.go_to(arena, arena.root);
+            self.go_to(arena.root);
         }
     }
 
@@ -72,31 +71,56 @@ impl Lookup {
         self.at.get().is_some()
     }
 
-    // Goes to these siblings, and reads the head of the first.
+    /// Whether it waits for a label.
     #[inline(always)]
-    fn go_to<V>(&mut self, arena: &NodeArena<V>, at: Link)
-        requires { IfSome at (λ id. id < length arena.now.nodes.items) }
-        ensures { self.new ≡ record self.old {
-          at = at;
-          head = self.new.head;
-          is_read = false;
-          end = None;
-        } }
+    pub fn waits(&self) -> bool {
+        self.waits
+    }
+
+    // Goes to these siblings.
+    #[inline(always)]
+    fn go_to(&mut self, at: Link)
+        ensures { self.new ≡ record self.old { at = at; waits = false; end = None } }
     {
         self.at = at;
-        self.is_read = false;
+        self.waits = false;
         self.end = Link::none();
-        if let Some(id) = at.get() {
-            self.head = arena.nodes.first_byte(id);
-        }
     }
 
     // Ends at this node.
     fn end_at(&mut self, end: Link)
-        ensures { self.new ≡ record self.old { at = None; end = end } }
+        ensures { self.new ≡ record self.old { at = None; waits = false; end = end } }
     {
         self.at = Link::none();
+        self.waits = false;
         self.end = end;
+    }
+
+    /// Reads the head of the node there.
+    #[inline(always)]
+    pub fn read_head<V>(&mut self, arena: &NodeArena<V>)
+        requires { IfSome self.old.at (λ id. id < length arena.now.nodes.items) }
+        ensures { self.new ≡ record self.old { first = self.new.first } }
+    {
+        if let Some(id) = self.at.get() {
+            self.first = arena.nodes.first_byte(id);
+        }
+    }
+
+    /// Reads the label of the node there, if the look-up waits for it.
+    #[inline(always)]
+    pub fn read_label<V>(&mut self, arena: &NodeArena<V>)
+        requires { IfSome self.old.at (λ id. id < length arena.now.nodes.items) }
+        ensures { self.new ≡ record self.old { first = self.new.first } }
+    {
+        if let Some(id) = self.at.get()
+            && self.waits
+        {
+            let label = arena.nodes.label(id);
+            if !label.is_empty() {
+                self.first = label[0];
+            }
+        }
     }
 
     // What is left of the key.
@@ -109,7 +133,8 @@ impl Lookup {
         key.strip_n_prefix(self.passed)
     }
 
-    // Passes the siblings that come before the key and lie behind one another.
+    // Passes the siblings that come before the key and lie behind one another. The head of the
+    // first was read.
     #[inline(always)]
     fn pass_siblings<Q: BorrowedBytes, V>(&mut self, arena: &NodeArena<V>, key: Q)
         requires whole { IsWellFormed arena.now }
@@ -125,27 +150,27 @@ impl Lookup {
             return;
         };
         let b = self.rest(key).as_bytes()[0];
-        if self.head < b {
-            self.go_to(arena, Link::some(arena.nodes.run(id, b)));
+        if self.first < b {
+            let to = arena.nodes.run(id, b);
+            self.go_to(Link::some(to));
+            self.first = arena.nodes.first_byte(to);
         }
     }
 
-    // Reads the node there, if its label is compared with the key.
+    // Waits for the label of the node there, if it is compared with the key and has more than a
+    // byte.
     #[inline(always)]
-    fn read_label<Q: BorrowedBytes, V>(&mut self, arena: &NodeArena<V>, key: Q)
+    fn wait<Q: BorrowedBytes, V>(&mut self, arena: &NodeArena<V>, key: Q)
         requires whole { IsWellFormed arena.now }
         requires siblings { IsCanonical Q.Owned.item (siblings_of arena.now) }
         requires key { IsFind Q.Owned.item arena.now (Q.key key) self.old }
-        ensures { self.new ≡ record self.old { head = self.new.head; is_read = self.new.is_read } }
+        ensures { self.new ≡ record self.old { waits = self.new.waits } }
     {
         let Some(id) = self.at.get() else {
             return;
         };
         let b = self.rest(key).as_bytes()[0];
-        if self.head == b && arena.nodes.short_len(id) != 1 {
-            self.head = arena.nodes.label(id)[0];
-            self.is_read = true;
-        }
+        self.waits = self.first == b && arena.nodes.short_len(id) != 1;
     }
 
     // Keeps a node that was passed as that of the longest prefix so far, where that is asked for
@@ -166,9 +191,9 @@ impl Lookup {
         }
     }
 
-    // Goes to the sibling of the node there, to its children, or to the end.
+    /// Goes to the sibling of the node there, to its children, or to the end.
     #[inline(always)]
-    fn step<Q: BorrowedBytes, V>(&mut self, arena: &NodeArena<V>, key: Q, by_prefix: bool)
+    pub fn step<Q: BorrowedBytes, V>(&mut self, arena: &NodeArena<V>, key: Q, by_prefix: bool)
         requires whole { IsWellFormed arena.now }
         requires siblings { IsCanonical Q.Owned.item (siblings_of arena.now) }
         requires key { IsLookup Q.Owned.item arena.now by_prefix (Q.key key) self.old }
@@ -181,7 +206,7 @@ impl Lookup {
         };
         match arena.compare(id, self.rest(key)) {
             LabelCmp::Before => self.end_at(Link::none()),
-            LabelCmp::After => self.go_to(arena, arena.nodes.sibling(id)),
+            LabelCmp::After => self.go_to(arena.nodes.sibling(id)),
             LabelCmp::Partial(_) => self.end_at(Link::none()),
             LabelCmp::Full(rest) => {
                 let passed = key.as_bytes().len() - rest.as_bytes().len();
@@ -192,14 +217,13 @@ impl Lookup {
                     self.end_at(Link::some(id));
                 } else {
                     self.passed = passed;
-                    self.go_to(arena, arena.nodes.child(id));
+                    self.go_to(arena.nodes.child(id));
                 }
             }
         }
     }
 
-    /// Goes on, but where the label of the node there is not yet read: reads it, and goes on the
-    /// next time.
+    /// Goes on, but where the look-up waits for a label then. The head of the node there was read.
     #[inline(always)]
     pub fn go<Q: BorrowedBytes, V>(&mut self, arena: &NodeArena<V>, key: Q, by_prefix: bool)
         requires whole { IsWellFormed arena.now }
@@ -207,13 +231,27 @@ impl Lookup {
         requires key { IsLookup Q.Owned.item arena.now by_prefix (Q.key key) self.old }
         ensures { IsLookup Q.Owned.item arena.now by_prefix (Q.key key) self.new }
     {
-        if self.is_read {
-            self.step(arena, key, by_prefix);
-            return;
-        }
         self.pass_siblings(arena, key);
-        self.read_label(arena, key);
-        if !self.is_read {
+        self.wait(arena, key);
+        if !self.waits {
+            self.step(arena, key, by_prefix);
+        }
+    }
+
+    /// Goes on where it waited for a label.
+    #[inline(always)]
+    pub fn go_past_label<Q: BorrowedBytes, V>(
+        &mut self,
+        arena: &NodeArena<V>,
+        key: Q,
+        by_prefix: bool,
+    )
+        requires whole { IsWellFormed arena.now }
+        requires siblings { IsCanonical Q.Owned.item (siblings_of arena.now) }
+        requires key { IsLookup Q.Owned.item arena.now by_prefix (Q.key key) self.old }
+        ensures { IsLookup Q.Owned.item arena.now by_prefix (Q.key key) self.new }
+    {
+        if self.waits {
             self.step(arena, key, by_prefix);
         }
     }
@@ -227,6 +265,7 @@ impl Lookup {
         ensures ended { self.new.at ≡ None }
     {
         while self.goes_on() {
+            self.read_head(arena);
             self.pass_siblings(arena, key);
             self.step(arena, key, by_prefix);
         }

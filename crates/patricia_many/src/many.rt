@@ -16,45 +16,117 @@ use patricia_nodes::arena::NodeArena;
 // so many look-ups go on side by side
 const SIDE_BY_SIDE: usize = 32;
 
+// the place of each of them
+const PLACES: [u8; SIDE_BY_SIDE] = [
+    0, 1, 2, 3, 4, 5, 6, 7, 8, 9, 10, 11, 12, 13, 14, 15, 16, 17, 18, 19, 20, 21, 22, 23, 24, 25,
+    26, 27, 28, 29, 30, 31,
+];
+
 // so many go on faster each by itself
 const FEW: usize = 3;
 
 // a look-up of more steps, which is rare, goes on by itself
 const MOST_ROUNDS: usize = 64;
 
-// All look-ups go on. Returns how many are not at their ends.
-fn go_all<Q: BorrowedBytes, V>(
+// Reads the heads of the nodes where the look-ups at these places are. Nothing here waits for what
+// was read, so that all wait for memory together.
+#[inline(never)]
+fn read_heads<Q: BorrowedBytes, V>(
+    arena: &NodeArena<V>,
+    keys: &[Q],
+    places: &[u8],
+    lookups: &mut [Lookup],
+)
+    requires whole { IsWellFormed arena.now }
+    requires siblings { IsCanonical Q.Owned.item (siblings_of arena.now) }
+    requires as_many { length keys.now ≡ length lookups.old }
+    requires keys { AreLookups Q.Owned.item arena.now false
+        (list_map Q.key keys.now) lookups.old }
+    ensures as_many { length lookups.new ≡ length lookups.old }
+    ensures keys { (by_prefix : Bool)
+        → AreLookups Q.Owned.item arena.now by_prefix (list_map Q.key keys.now) lookups.old
+        → AreLookups Q.Owned.item arena.now by_prefix (list_map Q.key keys.now) lookups.new }
+{
+    let mut i = 0;
+    while i < places.len() {
+        let k = places[i] as usize;
+        if k < keys.len() {
+            lookups[k].read_head(arena);
+        }
+        i += 1;
+    }
+}
+
+// Reads the labels for which the look-ups at these places wait, in the same way.
+#[inline(never)]
+fn read_labels<Q: BorrowedBytes, V>(
+    arena: &NodeArena<V>,
+    keys: &[Q],
+    places: &[u8],
+    lookups: &mut [Lookup],
+)
+    requires whole { IsWellFormed arena.now }
+    requires siblings { IsCanonical Q.Owned.item (siblings_of arena.now) }
+    requires as_many { length keys.now ≡ length lookups.old }
+    requires keys { AreLookups Q.Owned.item arena.now false
+        (list_map Q.key keys.now) lookups.old }
+    ensures as_many { length lookups.new ≡ length lookups.old }
+    ensures keys { (by_prefix : Bool)
+        → AreLookups Q.Owned.item arena.now by_prefix (list_map Q.key keys.now) lookups.old
+        → AreLookups Q.Owned.item arena.now by_prefix (list_map Q.key keys.now) lookups.new }
+{
+    let mut i = 0;
+    while i < places.len() {
+        let k = places[i] as usize;
+        if k < keys.len() {
+            lookups[k].read_label(arena);
+        }
+        i += 1;
+    }
+}
+
+// The look-ups at these places go on, up to a label for which they wait. Writes the places of those
+// that wait to the front of a list, and returns how many they are.
+fn go_to_labels<Q: BorrowedBytes, V>(
     arena: &NodeArena<V>,
     keys: &[Q],
     by_prefix: bool,
+    places: &[u8],
     lookups: &mut [Lookup],
+    waiting: &mut [u8],
 ) -> usize
     requires whole { IsWellFormed arena.now }
     requires siblings { IsCanonical Q.Owned.item (siblings_of arena.now) }
     requires as_many { length keys.now ≡ length lookups.old }
+    requires room { length places.now ≤ length waiting.old }
     requires keys { AreLookups Q.Owned.item arena.now by_prefix
         (list_map Q.key keys.now) lookups.old }
     ensures as_many { length lookups.new ≡ length lookups.old }
     ensures keys { AreLookups Q.Owned.item arena.now by_prefix
         (list_map Q.key keys.now) lookups.new }
+    ensures room { length waiting.new ≡ length waiting.old }
+    ensures few { result ≤ length places.now }
 {
-    let mut left = 0;
-    let mut k = 0;
-    while k < keys.len() {
-        lookups[k].go(arena, keys[k], by_prefix);
-        if lookups[k].goes_on() {
-            left += 1;
+    let mut count = 0;
+    let mut i = 0;
+    while i < places.len() {
+        let k = places[i] as usize;
+        if k < keys.len() {
+            lookups[k].go(arena, keys[k], by_prefix);
+            waiting[count] = places[i];
+            count += lookups[k].waits() as usize;
         }
-        k += 1;
+        i += 1;
     }
-    left
+    count
 }
 
-// All look-ups go on to their ends, side by side until few are left.
-fn finish_all<Q: BorrowedBytes, V>(
+// The look-ups at these places, which waited for a label, go on.
+fn go_past_labels<Q: BorrowedBytes, V>(
     arena: &NodeArena<V>,
     keys: &[Q],
     by_prefix: bool,
+    places: &[u8],
     lookups: &mut [Lookup],
 )
     requires whole { IsWellFormed arena.now }
@@ -65,12 +137,97 @@ fn finish_all<Q: BorrowedBytes, V>(
     ensures as_many { length lookups.new ≡ length lookups.old }
     ensures keys { AreLookups Q.Owned.item arena.now by_prefix
         (list_map Q.key keys.now) lookups.new }
+{
+    let mut i = 0;
+    while i < places.len() {
+        let k = places[i] as usize;
+        if k < keys.len() {
+            lookups[k].go_past_label(arena, keys[k], by_prefix);
+        }
+        i += 1;
+    }
+}
+
+// Leaves of some places at the front those whose look-ups are not at their ends, and returns how
+// many they are.
+fn keep_going(lookups: &[Lookup], places: &mut [u8]) -> usize
+    ensures as_many { length places.new ≡ length places.old }
+    ensures few { result ≤ length places.old }
+{
+    let mut count = 0;
+    let mut i = 0;
+    while i < places.len() {
+        let k = places[i] as usize;
+        if k < lookups.len() {
+            places[count] = places[i];
+            count += lookups[k].goes_on() as usize;
+        }
+        i += 1;
+    }
+    count
+}
+
+// The look-ups at these places go on, in stages. Leaves at the front the places of those that are
+// not at their ends, and returns how many they are. `waiting` has room for those that wait.
+fn go_all<Q: BorrowedBytes, V>(
+    arena: &NodeArena<V>,
+    keys: &[Q],
+    by_prefix: bool,
+    places: &mut [u8],
+    lookups: &mut [Lookup],
+    waiting: &mut [u8],
+) -> usize
+    requires whole { IsWellFormed arena.now }
+    requires siblings { IsCanonical Q.Owned.item (siblings_of arena.now) }
+    requires as_many { length keys.now ≡ length lookups.old }
+    requires room { length places.old ≤ length waiting.old }
+    requires keys { AreLookups Q.Owned.item arena.now by_prefix
+        (list_map Q.key keys.now) lookups.old }
+    ensures as_many { length lookups.new ≡ length lookups.old }
+    ensures keys { AreLookups Q.Owned.item arena.now by_prefix
+        (list_map Q.key keys.now) lookups.new }
+    ensures room { length waiting.new ≡ length waiting.old }
+    ensures few { result ≤ length places.old }
+    ensures as_many_places { length places.new ≡ length places.old }
+{
+    read_heads(arena, keys, places, lookups);
+    let count = go_to_labels(arena, keys, by_prefix, places, lookups, waiting);
+    read_labels(arena, keys, &waiting[..count], lookups);
+    go_past_labels(arena, keys, by_prefix, &waiting[..count], lookups);
+    keep_going(lookups, places)
+}
+
+// All look-ups go on to their ends, side by side until few are left.
+fn finish_all<Q: BorrowedBytes, V>(
+    arena: &NodeArena<V>,
+    keys: &[Q],
+    by_prefix: bool,
+    lookups: &mut [Lookup],
+)
+    requires few { length keys.now ≤ 32 }
+    requires whole { IsWellFormed arena.now }
+    requires siblings { IsCanonical Q.Owned.item (siblings_of arena.now) }
+    requires as_many { length keys.now ≡ length lookups.old }
+    requires keys { AreLookups Q.Owned.item arena.now by_prefix
+        (list_map Q.key keys.now) lookups.old }
+    ensures as_many { length lookups.new ≡ length lookups.old }
+    ensures keys { AreLookups Q.Owned.item arena.now by_prefix
+        (list_map Q.key keys.now) lookups.new }
     ensures ended { AreEndedTo (length keys.now) lookups.new }
 {
+    let mut places = PLACES;
+    let mut waiting = PLACES;
     let mut rounds = 0;
     let mut left = keys.len();
     while left > FEW && rounds < MOST_ROUNDS {
-        left = go_all(arena, keys, by_prefix, lookups);
+        left = go_all(
+            arena,
+            keys,
+            by_prefix,
+            &mut places[..left],
+            lookups,
+            &mut waiting,
+        );
         rounds += 1;
     }
     let mut k = 0;
@@ -103,6 +260,7 @@ fn look_up<Q: BorrowedBytes, V>(
     by_prefix: bool,
     lookups: &mut [Lookup],
 )
+    requires few { length keys.now ≤ 32 }
     requires whole { IsWellFormed arena.now }
     requires siblings { IsCanonical Q.Owned.item (siblings_of arena.now) }
     requires as_many { length keys.now ≡ length lookups.old }

@@ -15,8 +15,8 @@ rest-requires-clause-valid g c =
     (g.Q.BorrowedBytes.key c.args.key) _ _ _ _ (sym c.get.ensures ∙ c.in-Some.is) c.requires.key in
     at_front here _ refl
 
-pub run-requires : goal.run-requires
-run-requires g c = record {
+pub run-to-requires : goal.run-to-requires
+run-to-requires g c = record {
   within = λ to run.
       let here = stands g.Q.Owned.Bytes.item g.met.Q.Owned.Bytes.lawful c.args.arena.now c.requires.whole c.requires.siblings
       (g.Q.BorrowedBytes.key c.args.key) _ _ _ _ (sym c.get.ensures ∙ c.in-Some.is) c.requires.key in
@@ -27,23 +27,23 @@ pub some-requires : goal.some-requires
 some-requires g c =
     let here = stands g.Q.Owned.Bytes.item g.met.Q.Owned.Bytes.lawful c.args.arena.now c.requires.whole c.requires.siblings
     (g.Q.BorrowedBytes.key c.args.key) _ _ _ _ (sym c.get.ensures ∙ c.in-Some.is) c.requires.key in
-    let run = rw (c.as_bytes.ensures.value, c.rest.ensures) at c.run.ensures.run in
+    let run = rw (c.as_bytes.ensures.value, c.rest.ensures) at c.run-to.ensures.run in
     let valid = rw c.rest.ensures at c.as_bytes.ensures.valid in
-    omega (arith, run_ends here valid _ run, c.run.ensures.few)
+    omega (arith, run_ends here valid _ run, c.run-to.ensures.few)
 
-pub go_to-requires : goal.go_to-requires
-go_to-requires g c =
+pub first_byte-self-requires : goal.first_byte-self-requires
+first_byte-self-requires g c =
     let here = stands g.Q.Owned.Bytes.item g.met.Q.Owned.Bytes.lawful c.args.arena.now c.requires.whole c.requires.siblings
     (g.Q.BorrowedBytes.key c.args.key) _ _ _ _ (sym c.get.ensures ∙ c.in-Some.is) c.requires.key in
-    let run = rw (c.as_bytes.ensures.value, c.rest.ensures) at c.run.ensures.run in
+    let run = rw (c.as_bytes.ensures.value, c.rest.ensures) at c.run-to.ensures.run in
     let valid = rw c.rest.ensures at c.as_bytes.ensures.valid in
-    rw c.some.ensures (run_ends here valid _ run)
+    run_ends here valid _ run
 
 pub returns-then-self-b-clause-key : goal.returns-then-self-b-clause-key
 returns-then-self-b-clause-key g c by_prefix look_up =
     let here = stands g.Q.Owned.Bytes.item g.met.Q.Owned.Bytes.lawful c.args.arena.now c.requires.whole c.requires.siblings
     (g.Q.BorrowedBytes.key c.args.key) _ _ _ _ (sym c.get.ensures ∙ c.in-Some.is) c.requires.key in
-    let run = rw (c.as_bytes.ensures.value, c.rest.ensures) at c.run.ensures.run in
+    let run = rw (c.as_bytes.ensures.value, c.rest.ensures) at c.run-to.ensures.run in
     let valid = rw c.rest.ensures at c.as_bytes.ensures.valid in
     rw (c.go_to.ensures, c.some.ensures) (
       run_passes here valid _ run,
@@ -57,6 +57,6 @@ pub returns-then-self-b-clause-ahead : goal.returns-then-self-b-clause-ahead
 returns-then-self-b-clause-ahead g c =
     let here = stands g.Q.Owned.Bytes.item g.met.Q.Owned.Bytes.lawful c.args.arena.now c.requires.whole c.requires.siblings
     (g.Q.BorrowedBytes.key c.args.key) _ _ _ _ (sym c.get.ensures ∙ c.in-Some.is) c.requires.key in
-    let run = rw (c.as_bytes.ensures.value, c.rest.ensures) at c.run.ensures.run in
+    let run = rw (c.as_bytes.ensures.value, c.rest.ensures) at c.run-to.ensures.run in
     let valid = rw c.rest.ensures at c.as_bytes.ensures.valid in
     rw (c.go_to.ensures, c.some.ensures) (run_fewer here valid _ run)

@@ -1,15 +1,8 @@
 use Rattle.std.proofs.Common.{refl}
 use mathlib.Core.Bool.{false≢true}
-use Rattle.patricia_many.proofs.LookupLemmas.{starts, starts_empty, within_at}
+use Rattle.patricia_many.proofs.LookupLemmas.{starts, starts_empty}
 use Rattle.patricia_many.proofs.AheadLemmas.{ahead_top, ahead_top_empty, best_starts}
 use Rattle.patricia_many.proofs.lookup.Lookup.start.Goals as goal
-
-pub go_to-requires : goal.go_to-requires
-go_to-requires g c =
-    within_at g.Q.Owned.Bytes.item g.met.Q.Owned.Bytes.lawful c.args.arena.now c.requires.whole c.requires.siblings
-    (g.Q.BorrowedBytes.key c.args.key) _ _ _
-    (starts g.Q.Owned.Bytes.item g.met.Q.Owned.Bytes.lawful c.args.arena.now c.requires.whole c.requires.siblings _
-    (λ none. absurd (false≢true (c.if-is_empty.ensures.1 none))))
 
 pub returns-then-is_empty : goal.returns-then-is_empty
 returns-then-is_empty g c by_prefix =

@@ -7,7 +7,7 @@ use mathlib.Core.Bool.{false≢true}
 use Rattle.patricia_nodes.specs.declared.arena.seek.Match.TheVariants.{Absent, InsideLabel}
 use Rattle.patricia_many.proofs.LookupLemmas.{stands, at_node, at_within, at_valid, at_labelled, at_filled}
 use Rattle.patricia_many.proofs.LookupLemmas.{at_inside, at_front, stops, stops_here, none_fewer}
-use Rattle.patricia_many.proofs.LookupLemmas.{goes_next, next_fewer, goes_down, down_fewer, left_fits, left_is, within_at, front_is}
+use Rattle.patricia_many.proofs.LookupLemmas.{goes_next, next_fewer, goes_down, down_fewer, left_fits, left_is, front_is}
 use Rattle.patricia_many.proofs.AheadLemmas.{ahead_before, ahead_down, ahead_next, ahead_none, ahead_within}
 use Rattle.patricia_many.proofs.AheadLemmas.{below_none, best_grows, best_stays}
 use Rattle.patricia_many.proofs.lookup.Lookup.step.Goals as goal
@@ -65,23 +65,6 @@ some-requires g c =
     let here = stands g.Q.Owned.Bytes.item g.met.Q.Owned.Bytes.lawful c.args.arena.now c.requires.whole c.requires.siblings
     (g.Q.BorrowedBytes.key c.args.key) _ _ _ _ (sym c.get.ensures ∙ c.in-Some.is) c.requires.key.0 in
     omega (arith, at_within here, c.len-few.ensures.value, c.len-few.ensures.few)
-
-pub go_to-requires : goal.go_to-requires
-go_to-requires g c =
-    let here = stands g.Q.Owned.Bytes.item g.met.Q.Owned.Bytes.lawful c.args.arena.now c.requires.whole c.requires.siblings
-    (g.Q.BorrowedBytes.key c.args.key) _ _ _ _ (sym c.get.ensures ∙ c.in-Some.is) c.requires.key.0 in
-    let there = at_node here in
-    rw (c.sibling.ensures.node _ there.1) (within_at g.Q.Owned.Bytes.item g.met.Q.Owned.Bytes.lawful c.args.arena.now c.requires.whole c.requires.siblings
-    (g.Q.BorrowedBytes.key c.args.key) _ _ _ (goes_next here there.1 (rw c.rest.ensures at c.in-After.ensures _ there.1)))
-
-pub go_to-requires-else-is_empty : goal.go_to-requires-else-is_empty
-go_to-requires-else-is_empty g c =
-    let here = stands g.Q.Owned.Bytes.item g.met.Q.Owned.Bytes.lawful c.args.arena.now c.requires.whole c.requires.siblings
-    (g.Q.BorrowedBytes.key c.args.key) _ _ _ _ (sym c.get.ensures ∙ c.in-Some.is) c.requires.key.0 in
-    let there = at_node here in
-    let passes = rw c.rest.ensures at c.in-Full.ensures _ there.1 in
-    rw (c.child.ensures.node _ there.1) (within_at g.Q.Owned.Bytes.item g.met.Q.Owned.Bytes.lawful c.args.arena.now c.requires.whole c.requires.siblings
-    (g.Q.BorrowedBytes.key c.args.key) _ _ _ (goes_down here there.1 _ passes (λ none. absurd (false≢true (c.if-is_empty.ensures.1 none)))))
 
 pub returns-in-Before-clause-key : goal.returns-in-Before-clause-key
 returns-in-Before-clause-key g c =
@@ -155,7 +138,7 @@ returns-then-is_empty-clause-key g c =
     let short : length c.as_bytes.result.now - length c.as_bytes-in-Full.result.now ≤ length (g.Q.BorrowedBytes.key c.args.key) = omega (arith, ap length c.as_bytes.ensures.value) in
     rw (c.end_at-then-is_empty.ensures, c.some.ensures) (
       stops_here here there.1 (rw (c.rest.ensures, c.if-is_empty.ensures.0 refl) at c.in-Full.ensures _ there.1),
-      λ wants. best_grows g.Q.Owned.Bytes.item c.args.arena.now (g.Q.BorrowedBytes.key c.args.key) c.args.self.now c.keep.new.self (record c.keep.new.self { at = None; end = Some c.in-Some.id }) refl refl c.in-Some.id _ there.0 is
+      λ wants. best_grows g.Q.Owned.Bytes.item c.args.arena.now (g.Q.BorrowedBytes.key c.args.key) c.args.self.now c.keep.new.self (record c.keep.new.self { at = None; waits = false; end = Some c.in-Some.id }) refl refl c.in-Some.id _ there.0 is
           (at_within here) short valid (c.keep.ensures.best wants _ there.1) _
           (ahead_down here there.1 _ refl _ passes _ front)
           (ahead_none c.args.arena.now (g.Q.BorrowedBytes.key c.args.key) _ ∙ sym (ap (prefixed (take _ (g.Q.BorrowedBytes.key c.args.key))) (below_none here there.1 _ refl _ passes _ front (c.if-is_empty.ensures.0 refl))))
@@ -187,7 +170,7 @@ returns-else-is_empty-clause-key g c =
     rw (c.go_to-else-is_empty.ensures, c.child.ensures.node _ there.1) (
       rw left (goes_down here there.1 _ passes (λ none. absurd (false≢true (c.if-is_empty.ensures.1 none)))),
       λ wants. best_grows g.Q.Owned.Bytes.item c.args.arena.now (g.Q.BorrowedBytes.key c.args.key) c.args.self.now c.keep.new.self
-          (record c.keep.new.self { at = there.0.child; passed = length c.as_bytes.result.now - length c.as_bytes-in-Full.result.now; head = c.go_to-else-is_empty.new.self.head; is_read = false; end = None }) refl refl c.in-Some.id _ there.0 is
+          (record c.keep.new.self { at = there.0.child; passed = length c.as_bytes.result.now - length c.as_bytes-in-Full.result.now; waits = false; end = None }) refl refl c.in-Some.id _ there.0 is
           (at_within here) short valid (c.keep.ensures.best wants _ there.1) _
           (ahead_down here there.1 _ refl _ passes _ front)
           (rw left refl)

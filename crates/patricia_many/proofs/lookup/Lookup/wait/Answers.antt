@@ -1,7 +1,6 @@
 use Rattle.std.proofs.Common.{refl, sym, ◌∙◌, arith}
-use Rattle.patricia_many.proofs.LookupLemmas.{stands, at_within, at_inside, at_front, at_node, at_labelled}
-use Rattle.patricia_nodes.proofs.TrailLemmas.{filled_length}
-use Rattle.patricia_many.proofs.lookup.Lookup.read_label.Goals as goal
+use Rattle.patricia_many.proofs.LookupLemmas.{stands, at_within, at_inside, at_front}
+use Rattle.patricia_many.proofs.lookup.Lookup.wait.Goals as goal
 
 pub rest-requires-clause-within : goal.rest-requires-clause-within
 rest-requires-clause-within g c =
@@ -20,16 +19,3 @@ short_len-requires g c =
     let here = stands g.Q.Owned.Bytes.item g.met.Q.Owned.Bytes.lawful c.args.arena.now c.requires.whole c.requires.siblings
     (g.Q.BorrowedBytes.key c.args.key) _ _ _ _ (sym c.get.ensures ∙ c.in-Some.is) c.requires.key in
     at_within here
-
-pub label-requires : goal.label-requires
-label-requires g c =
-    let here = stands g.Q.Owned.Bytes.item g.met.Q.Owned.Bytes.lawful c.args.arena.now c.requires.whole c.requires.siblings
-    (g.Q.BorrowedBytes.key c.args.key) _ _ _ _ (sym c.get.ensures ∙ c.in-Some.is) c.requires.key in
-    at_within here
-
-pub bounds-label-0 : goal.bounds-label-0
-bounds-label-0 g c =
-    let here = stands g.Q.Owned.Bytes.item g.met.Q.Owned.Bytes.lawful c.args.arena.now c.requires.whole c.requires.siblings
-    (g.Q.BorrowedBytes.key c.args.key) _ _ _ _ (sym c.get.ensures ∙ c.in-Some.is) c.requires.key in
-    let there = at_node here in
-    filled_length _ (rw (c.label.ensures _ there.1) (at_labelled here there.1))
