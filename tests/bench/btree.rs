@@ -1,4 +1,4 @@
-//! btree [counts|times|fill] [LINE..]: what `bench_tree` does, over std's ordered map. Its walk lends
+//! btree [counts|times|churn|fill] [LINE..]: what `bench_tree` does, over std's ordered map. Its walk lends
 //! the keys. `fill` takes a word `hash`, too, for std's hash set.
 
 use std::collections::{BTreeMap, BTreeSet, HashSet};
@@ -421,6 +421,26 @@ fn measure(times: bool, names: &[String], lists: &mut Lists) {
     }
 }
 
+// Fills a map, removes each half of the keys and inserts it again, three times, and says what
+// memory each key takes.
+fn report_churn(keys: &[&[u8]]) {
+    let before = memory("VmRSS:");
+    let each = |name| memory(name).saturating_sub(before) / keys.len().max(1) as u64;
+    let mut map = Map::new();
+    put(&mut map, keys);
+    let filled = each("VmRSS:");
+    let (front, back) = keys.split_at(keys.len() / 2);
+    for _ in 0..3 {
+        for half in [front, back] {
+            taken(&mut map, half);
+            put(&mut map, half);
+        }
+    }
+    println!("memory {filled}");
+    println!("churned_memory {}", each("VmRSS:"));
+    println!("churned_peak {}", each("VmHWM:"));
+}
+
 // Calls a function at each line of the input that is not empty, as it is read, and says what a call
 // takes in time and memory.
 fn fill(mut put: impl FnMut(Vec<u8>)) {
@@ -479,6 +499,9 @@ fn main() {
     let prefix = tenth(&present);
     shuffle(&mut present, 1);
     shuffle(&mut absent, 2);
+    if words.get(1).is_some_and(|word| word == "churn") {
+        return report_churn(&present);
+    }
     println!("keys {}", present.len());
     let mut lists = Lists { present, absent, prefix };
     measure(times, words.get(2..).unwrap_or_default(), &mut lists);

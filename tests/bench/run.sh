@@ -17,12 +17,15 @@
 # each inserted as it is read, with the values that the words name, `unit`, `u32`, `u64` and `bytes` without one; `hash`
 # stands for std's hash set. A process each, whose memory and time it prints.
 #
+# run.sh churn [KEYS] fills both maps from so many keys of each kind, 1,000,000 without a number, removes each half of
+# them and inserts it again, three times, and prints the memory of each process before and after.
+#
 # run.sh calls [KEYS] times the map and the map as C calls it alone, forty processes each, over so few titles that all
 # lies in the cache, 2,000 without a number, and prints how many nanoseconds a call from C takes more.
 set -euo pipefail
 cd "$(dirname "$0")/../.."
 case ${1-} in
-growth | cache | fill | calls) mode=$1 && shift ;;
+growth | cache | fill | churn | calls) mode=$1 && shift ;;
 *) mode=lines ;;
 esac
 if [ $# -eq 0 ]; then
@@ -30,7 +33,7 @@ if [ $# -eq 0 ]; then
     lines) set -- 820000 1000000 ;;
     growth) set -- 10000 100000 1000000 ;;
     cache) set -- 200000 ;;
-    fill) set -- 1000000 ;;
+    fill | churn) set -- 1000000 ;;
     calls) set -- 2000 ;;
     esac
 fi
@@ -132,6 +135,17 @@ if [ $mode = fill ]; then
     [ ${#words[@]} -ne 0 ] || words=(unit u32 u64 bytes)
     for word in "${words[@]}"; do fills "$1" "$word"; done > "$room/figures"
     python3 tests/bench/tables.py fill < "$room/figures"
+    exit
+fi
+
+if [ $mode = churn ]; then
+    for kind in titles domains hex; do
+        python3 tests/bench/keys.py $kind $((2 * $1)) 1 > "$room/keys"
+        for program in map btree; do
+            "$room/$program" churn < "$room/keys" | sed "s/^/$1 $kind $program /"
+        done
+    done > "$room/figures"
+    python3 tests/bench/tables.py churn < "$room/figures"
     exit
 fi
 

@@ -1,4 +1,4 @@
-"""Prints a table of figures: tables.py lines|ratios|growth|cache|fill|calls < FIGURES.
+"""Prints a table of figures: tables.py lines|ratios|growth|cache|fill|churn|calls < FIGURES.
 
 A figure is a line of its own: the number of keys, their kind, the program, the name of its line, and the number. Where
 there are several of one line, the least of them counts.
@@ -8,6 +8,7 @@ there are several of one line, the least of them counts.
     growth    a few lines by the number of keys
     cache     what a look-up costs, by events of cachegrind
     fill      what an insert from a line takes, by the type of values
+    churn     what a key takes before and after keys were removed and inserted again, by their kind
     calls     the map, and the map from C
 """
 import sys
@@ -136,8 +137,17 @@ def print_cache(found):
 
 def print_fill(found):
     """What memory and time an insert takes, for each type of values."""
-    head = ['%d titles' % min(count for count, _ in found)]
-    names = {'memory': 'bytes', 'peak': 'peak', 'fill': 'ns'}
+    print_both(found, 'titles', {'memory': 'bytes', 'peak': 'peak', 'fill': 'ns'})
+
+
+def print_churn(found):
+    """What memory a key takes, by the kind of keys."""
+    print_both(found, 'keys', {'memory': 'bytes', 'churned_memory': 'later', 'churned_peak': 'peak'})
+
+
+def print_both(found, keys, names):
+    """A row for each kind, with these lines of the map and of std's, and their ratio."""
+    head = ['%d %s' % (min(count for count, _ in found), keys)]
     table(head + [it for unit in names.values() for it in (unit, "std's", 'ratio')],
           [[kind, *(it for name in names for it in (cell(figures, 'map', name), cell(figures, 'btree', name),
                                                     over(figures, 'map', 'btree', name)))]
@@ -156,7 +166,7 @@ def print_calls(found):
 
 
 PRINTED = {'lines': print_lines, 'ratios': print_ratios, 'growth': print_growth, 'cache': print_cache,
-           'fill': print_fill, 'calls': print_calls}
+           'fill': print_fill, 'churn': print_churn, 'calls': print_calls}
 
 if __name__ == '__main__':
     PRINTED[sys.argv[1]](read(sys.stdin))

@@ -1,6 +1,7 @@
-//! bench_tree [counts|times|age|fill] [LINE..]: counts the answers of a map for the keys of its
-//! input, or times its calls, or says how many of the keys are inserted when the nodes are last
-//! relocated, or what memory a map takes.
+//! bench_tree [counts|times|age|churn|fill] [LINE..]: counts the answers of a map for the keys of
+//! its input, or times its calls, or says how many of the keys are inserted when the nodes are last
+//! relocated, or what memory a map takes, as it is filled and after its keys were removed and
+//! inserted again.
 //!
 //! `fill` has a word `unit`, `u32`, `u64` or `bytes` for the values, and inserts each line as it is
 //! read, so that the process holds nothing else.
@@ -14,6 +15,7 @@
 
 mod age;
 mod calls;
+mod churns;
 mod fills;
 mod keys;
 mod lines;
@@ -23,6 +25,7 @@ mod steps;
 
 use age::report_age;
 use calls::{Each, Maps, no_maps};
+use churns::report_churn;
 use fills::report_fill;
 use keys::{Lists, few, read_lists, shuffle};
 use lines::{Sheet, line};
@@ -141,6 +144,12 @@ fn age_on<R: AllocGlobal + Files + Print>(sheet: &Sheet<'_, R>, input: &[u8]) ->
     report_age(sheet, &lists.present)
 }
 
+// Says what memory is taken after keys of an input were removed and inserted again.
+fn churn_on<R: AllocGlobal + Files + Print>(sheet: &Sheet<'_, R>, input: &[u8]) -> io::Result<()> {
+    let lists = read_lists(sheet.rt.alloc(), input)?;
+    report_churn(sheet, &lists.present)
+}
+
 fn read_input(rt: &(impl AllocGlobal + Input)) -> io::Result<Vec<u8>> {
     let mut input: Vec<u8> = Vec::new(rt.alloc());
     rt.reader().read_to_end(&mut input)?;
@@ -161,14 +170,16 @@ fn fill_on<R: AllocGlobal + Clock + Files + Input + Print>(
     }
 }
 
-// Measures the calls, or says how old the order of the nodes is, with the keys of the input.
-fn run_or_age<R: AllocGlobal + Clock + Files + Input + Print>(
+// Does what the first word says with the keys of the input.
+fn run_by_word<R: AllocGlobal + Clock + Files + Input + Print>(
     sheet: &Sheet<'_, R>,
     words: &[String],
 ) -> io::Result<()> {
     let input = read_input(sheet.rt)?;
     if has_word(words, "age") {
         age_on(sheet, &input)
+    } else if has_word(words, "churn") {
+        churn_on(sheet, &input)
     } else {
         run_on(sheet, &input)
     }
@@ -183,7 +194,7 @@ fn run<R: AllocGlobal + Clock + Env + Files + Input + Print>(rt: &R) -> io::Resu
         names: words.get(2..).unwrap_or(&[]),
     };
     if !fills {
-        return run_or_age(&sheet, &words);
+        return run_by_word(&sheet, &words);
     }
     match sheet.names.first() {
         Some(word) => fill_on(&sheet, word.as_str()),
