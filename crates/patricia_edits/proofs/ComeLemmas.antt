@@ -1,5 +1,5 @@
 -- The steps of a descent to the first or to the last entry.
-use Rattle.std.proofs.Common.{◌≡◌, ◌≢◌, ℕ, suc, ◌+◌, ◌<◌, List, [], ◌∷◌, ◌++◌, length, get_or, inl}
+use Rattle.std.proofs.Common.{◌≡◌, ◌≢◌, ℕ, zero, suc, ◌+◌, ◌-◌, ◌<◌, ◌≤◌, List, [], ◌∷◌, ◌++◌, length, get_or, inl}
 use Rattle.std.proofs.Common.{Option, Some, None, refl, sym, ap, subst, ◌∙◌, arith}
 use Rattle.std.proofs.lemmas.List.{append-nil}
 use Rattle.patricia_keys.specs.Keys.{IsKeyKind, IsValid}
@@ -16,12 +16,14 @@ use Rattle.patricia_nodes.specs.declared.arena.seek.Match.TheVariants.{Exact}
 use Rattle.patricia_nodes.specs.Internal.Plans.{Plan, Nil, Cell, head, siblings_in, size, IsPlan}
 use Rattle.patricia_nodes.specs.Internal.Plans.{IsWellFormed, plan_at, siblings_of, entries_of}
 use Rattle.patricia_nodes.specs.Internal.Places.{Frame, InChild, InSibling, fill, link_ref_of}
-use Rattle.patricia_nodes.specs.Internal.Places.{node_above, Matches}
+use Rattle.patricia_nodes.specs.Internal.Places.{node_above, ref_behind, Matches}
+use Rattle.patricia_nodes.specs.Internal.NodeVecs.{IsRun}
 use Rattle.patricia_nodes.proofs.AloneLemmas.{plan_end}
 use Rattle.patricia_nodes.proofs.FillLemmas.{plan_within, siblings-within}
 use Rattle.patricia_nodes.proofs.PlanLemmas.{plan_is}
 use Rattle.patricia_nodes.proofs.SeekLemmas.{Opened, opened, head_within, whole_plan}
-use Rattle.patricia_nodes.proofs.SeekLemmas.{node_above-link_ref_of}
+use Rattle.patricia_nodes.proofs.SeekLemmas.{node_above-link_ref_of, ref_here, behind_second}
+use Rattle.patricia_nodes.proofs.NodeVecLemmas.{node_there}
 use Rattle.patricia_edits.specs.Internal.Ends.{IsFirstKey, IsLastKey}
 use Rattle.patricia_edits.specs.Internal.Removes.{IsPlaceOf}
 use Rattle.patricia_edits.proofs.EndLemmas.{path_of, AreFirst, AreLast, first-fill, last-fill}
@@ -253,3 +255,50 @@ module _ {item : List ℕ → Type 0} (kind : IsKeyKind item) {V : Type 0} {s : 
                 ∙ ap (λ k. around.0 ++ (front ++ k, x) ∷ []) (append-nil n.label)
                 ∙ ap (λ p. around.0 ++ (p ++ n.label, x) ∷ []) (sym w.path_is),
           )
+
+-- a descent has passed siblings that lie behind one another, and is at a later one
+record ComesPast (item : List ℕ → Type 0) {V : Type 0} (s : NodeArena V) (link_ref : LinkRef)
+    (from to : ℕ) (path : List ℕ) : Type 0 where
+  pub comes : Comes item AreLast s (ref_behind link_ref from to) to path
+  pub fewer : size (plan_at s.nodes.items (Some to)) ≤ size (plan_at s.nodes.items (Some from))
+
+module _ {item : List ℕ → Type 0} (kind : IsKeyKind item) {V : Type 0} {s : NodeArena V}
+    (whole : IsWellFormed s) (ok : IsCanonical item (siblings_of s)) {path : List ℕ} where
+  -- past a run of nodes a descent to the last entry is at its end, whatever byte ends it
+  comes_run : (k from to b : ℕ) (link_ref : LinkRef) → to ≡ from + k
+      → Comes item AreLast s link_ref from path → IsRun s.nodes b from to
+      → ComesPast item s link_ref from to path
+  comes_run zero from to b link_ref e w run =
+      let same : from ≡ to = omega (arith, e) in
+      subst (λ t. ComesPast item s link_ref from t path) same
+      (record { comes = rw (ref_here link_ref from) w; fewer = omega arith })
+  comes_run (suc k) from to b link_ref e w run =
+      let there = node_there s.nodes.items from (come_within kind whole ok w) in
+      let passes = run.passes from (omega arith) (omega (arith, e)) there.0 there.1 in
+      let next = comes_next kind whole ok w there.1 (from + 1) passes.0 (node_above link_ref) refl w.past_is in
+      let further = comes_run k (from + 1) to b (Sibling from (node_above link_ref)) (omega (arith, e)) next
+      (record { forward = omega (arith, e); passes = λ i behind before. run.passes i (omega (arith, behind)) before }) in
+      let fewer = less_sibling kind whole ok w there.1 (from + 1) passes.0 in
+      let end : to ≡ from + k + 1 = omega (arith, e) in
+      record {
+        comes = subst (λ r. Comes item AreLast s r to path)
+            (rw end (behind_second link_ref from (from + k) (omega arith))) further.comes;
+        fewer = omega (arith, fewer, further.fewer);
+      }
+
+  module _ {link_ref : LinkRef} {from : ℕ} (w : Comes item AreLast s link_ref from path) (b to : ℕ)
+      (run : IsRun s.nodes b from to) where
+    past : ComesPast item s link_ref from to path
+    past = comes_run (to - from) from to b link_ref (omega (arith, run.forward)) w run
+
+    -- the descent at the end of the run
+    pub comes_past : Comes item AreLast s (ref_behind link_ref from to) to path
+    comes_past = past.comes
+
+    -- where no more nodes are left than before it
+    pub fewer_come : size (plan_at s.nodes.items (Some to)) ≤ size (plan_at s.nodes.items (Some from))
+    fewer_come = past.fewer
+
+    -- so it ends in the vector
+    pub run_within : to < length s.nodes.items
+    run_within = come_within kind whole ok comes_past

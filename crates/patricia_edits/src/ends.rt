@@ -16,6 +16,7 @@ use patricia_keys::Bytes;
 use patricia_nodes::arena::NodeArena;
 use patricia_nodes::arena::seek::LinkRef;
 use patricia_nodes::link::NodeId;
+use patricia_walks::path::new_path;
 use std::alloc::{AllocError, Global};
 
 // The node of the first entry, whose key is then the path: the first node with a value, along first
@@ -56,7 +57,7 @@ fn find_first<K: Bytes, V>(
 }
 
 // The node of the last entry, whose key is then the path: a node without children, along last
-// siblings.
+// siblings. Those that lie behind one another are passed by their heads alone.
 fn find_last<K: Bytes, V>(
     arena: &NodeArena<V>,
     path: &mut Vec<u8>,
@@ -76,22 +77,24 @@ fn find_last<K: Bytes, V>(
         id: first,
     };
     loop {
-        if let Some(next) = arena.nodes.sibling(last.id).get() {
+        let id = arena.nodes.run(last.id, u8::MAX);
+        let link_ref = last.link_ref.behind(last.id, id);
+        if let Some(next) = arena.nodes.sibling(id).get() {
             last = Linked {
-                link_ref: LinkRef::Sibling(last.id, last.link_ref.above()),
+                link_ref: LinkRef::Sibling(id, link_ref.above()),
                 id: next,
             };
             continue;
         }
-        path.extend_from_slice(arena.nodes.label(last.id))?;
-        match arena.nodes.child(last.id).get() {
+        path.extend_from_slice(arena.nodes.label(id))?;
+        match arena.nodes.child(id).get() {
             Some(child) => {
                 last = Linked {
-                    link_ref: LinkRef::Child(last.id),
+                    link_ref: LinkRef::Child(id),
                     id: child,
                 };
             }
-            None => return Ok(last),
+            None => return Ok(Linked { link_ref, id }),
         }
     }
 }
@@ -139,7 +142,7 @@ pub fn remove_first<K: Bytes, V: Drop>(
     let Some(first) = arena.root.get() else {
         return Ok(None);
     };
-    let mut path = Vec::new(alloc);
+    let mut path = new_path(alloc)?;
     let at = find_first::<K, V>(arena, &mut path, first)?;
     let key = K::from_bytes(alloc, &path)?;
     take_at(arena, key, &at)
@@ -165,7 +168,7 @@ pub fn remove_last<K: Bytes, V: Drop>(
     let Some(first) = arena.root.get() else {
         return Ok(None);
     };
-    let mut path = Vec::new(alloc);
+    let mut path = new_path(alloc)?;
     let at = find_last::<K, V>(arena, &mut path, first)?;
     let key = K::from_bytes(alloc, &path)?;
     take_at(arena, key, &at)

@@ -314,7 +314,7 @@ byte_is item kind l valid some =
     omega (arith, small)
 
 -- at the first of siblings the link is that to it, and further on it stands in the one before
-ref_here : (link_ref : LinkRef) (at : ℕ) → ref_behind link_ref at at ≡ link_ref
+pub ref_here : (link_ref : LinkRef) (at : ℕ) → ref_behind link_ref at at ≡ link_ref
 ref_here link_ref at = grind (arith, nat_tests)
 
 ref_past : (link_ref : LinkRef) (from last : ℕ) → from ≤ last
@@ -322,7 +322,7 @@ ref_past : (link_ref : LinkRef) (from last : ℕ) → from ≤ last
 ref_past link_ref from last less = grind (arith, nat_tests)
 
 -- the link to a sibling further on is that from the first, or from the second
-behind_second : (link_ref : LinkRef) (from last : ℕ) → from ≤ last
+pub behind_second : (link_ref : LinkRef) (from last : ℕ) → from ≤ last
     → ref_behind (Sibling from (node_above link_ref)) (from + 1) (last + 1)
     ≡ ref_behind link_ref from (last + 1)
 behind_second link_ref from last less = elim (cases_eq from last) [

@@ -1,6 +1,6 @@
 -- The last entry of a list that is made of others.
 use Rattle.std.proofs.Common.{◌≡◌, ◌≢◌, ℕ, List, [], ◌∷◌, ◌++◌, length, Option, Some, None, refl, sym, ap}
-use Rattle.std.proofs.Common.{◌∙◌, subst, ◌<◌, get_or, arith}
+use Rattle.std.proofs.Common.{◌∙◌, subst, ◌<◌, ◌≤◌, ◌+◌, ◌-◌, zero, suc, get_or, arith}
 use Rattle.std.proofs.lemmas.List.{append-nil}
 use Rattle.std.specs.List.{last_or}
 use Rattle.patricia_keys.specs.Keys.{IsKeyKind}
@@ -8,7 +8,9 @@ use Rattle.patricia_model.specs.Siblings.{Siblings, end, node, prefixed, own, en
 use Rattle.patricia_model.proofs.SiblingsLemmas.{prefixed-append, prefixed-prefixed}
 use Rattle.patricia_model.proofs.UniqueLemmas.{has_entry}
 use Rattle.patricia_model.specs.Internal.WalkStates.{steps_in}
-use Rattle.patricia_store.specs.Internal.Nodes.{Node}
+use Rattle.patricia_store.specs.Internal.Nodes.{Node, Nodes}
+use Rattle.patricia_nodes.specs.Internal.NodeVecs.{IsRun}
+use Rattle.patricia_nodes.proofs.NodeVecLemmas.{node_there}
 use Rattle.patricia_nodes.specs.Internal.Plans.{Plan, Nil, Cell, head, siblings_in, plan_at}
 use Rattle.patricia_nodes.proofs.PlanLemmas.{plan_is}
 use Rattle.patricia_nodes.proofs.SeekLemmas.{opened, head_within}
@@ -171,3 +173,58 @@ module _ (item : List ℕ → Type 0) (kind : IsKeyKind item) {V : Type 0} (node
       let siblings_end : siblings_at nodes n.child ≡ end = rw is (siblings_none nodes) in
       let earns = rw (none, siblings_end) at ok.earns in
       earns
+
+-- the last entry of siblings is that of later ones
+pub record LastPast (item : List ℕ → Type 0) {V : Type 0} (nodes : List (Node V)) (from to : ℕ)
+    : Type 0 where
+  pub siblings : AreSiblingsAt item nodes (Some to)
+  pub same : (front : List ℕ)
+      → last_or None (prefixed front (entries (siblings_at nodes (Some to))))
+      ≡ last_or None (prefixed front (entries (siblings_at nodes (Some from))))
+  pub fewer : steps_in (siblings_at nodes (Some to)) ≤ steps_in (siblings_at nodes (Some from))
+
+-- and so of those behind them
+pub past_further : (item : List ℕ → Type 0) {V : Type 0} (nodes : List (Node V)) (from at to : ℕ)
+    → LastPast item nodes from at → LastPast item nodes at to → LastPast item nodes from to
+past_further item nodes from at to first second = record {
+  siblings = second.siblings;
+  same = λ front. second.same front ∙ first.same front;
+  fewer = omega (arith, first.fewer, second.fewer);
+}
+
+module _ (item : List ℕ → Type 0) (kind : IsKeyKind item) {V : Type 0} where
+  -- a node's sibling is one
+  pub past_sibling : (nodes : List (Node V)) (id next : ℕ) (n : Node V)
+      → AreSiblingsAt item nodes (Some id) → n ≡ get_or nodes id n → n.sibling ≡ Some next
+      → LastPast item nodes id next
+  past_sibling nodes id next n w reads is =
+      let less = sibling_less item kind nodes id n w reads next is in
+      record {
+        siblings = subst (AreSiblingsAt item nodes) is (siblings_open item nodes (Some id) id n w refl reads).sibling_at;
+        same = λ front. last_on item kind nodes id n w reads front next is;
+        fewer = omega (arith, less);
+      }
+
+  -- and so is the last of a run of siblings, whatever byte ends it
+  past_run : (nodes : Nodes V) (k from to b : ℕ) → to ≡ from + k
+      → AreSiblingsAt item nodes.items (Some from) → IsRun nodes b from to
+      → LastPast item nodes.items from to
+  past_run nodes zero from to b e w run =
+      let same : from ≡ to = omega (arith, e) in
+      subst (LastPast item nodes.items from) same
+      (record { siblings = w; same = λ front. refl; fewer = omega arith })
+  past_run nodes (suc k) from to b e w run =
+      let there = node_there nodes.items from (siblings_within item nodes.items from w) in
+      let passes = run.passes from (omega arith) (omega (arith, e)) there.0 there.1 in
+      let step = past_sibling nodes.items from (from + 1) there.0 w there.1 passes.0 in
+      let further = past_run nodes k (from + 1) to b (omega (arith, e)) step.siblings
+      (record { forward = omega (arith, e); passes = λ i behind before. run.passes i (omega (arith, behind)) before }) in
+      past_further item nodes.items from (from + 1) to step further
+
+  module _ (nodes : Nodes V) (from to b : ℕ) (w : AreSiblingsAt item nodes.items (Some from)) (run : IsRun nodes b from to) where
+    pub past_end : LastPast item nodes.items from to
+    past_end = past_run nodes (to - from) from to b (omega (arith, run.forward)) w run
+
+    -- so it ends in the vector
+    pub past_within : to < length nodes.items
+    past_within = siblings_within item nodes.items to past_end.siblings

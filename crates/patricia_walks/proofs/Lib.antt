@@ -2,6 +2,7 @@ pub mod AfterLemmas
 pub mod AlongLemmas
 pub mod DepthLemmas
 pub mod EqualityLemmas
+pub mod FirstLemmas
 pub mod HeldTreeLemmas
 pub mod HolderLemmas
 pub mod HolderWriteLemmas

@@ -1,4 +1,6 @@
 -- The steps of a descent to the last entry before a key.
+use Rattle.std.proofs.Common.{zero, suc, ◌-◌, inl, inr}
+use Rattle.std.proofs.lemmas.Bool.{cases_eq}
 use Rattle.std.proofs.Common.{◌≡◌, ◌<◌, ◌≢◌, ℕ, ◌+◌, true, false, List, [], ◌∷◌, ◌++◌, length, get_or, take}
 use Rattle.std.proofs.Common.{drop, Option, Some, None, refl, sym, ap, subst, ◌∙◌, arith}
 use Rattle.std.specs.List.{last_or}
@@ -24,15 +26,19 @@ use Rattle.patricia_store.specs.Internal.Nodes.{Node}
 use Rattle.patricia_nodes.specs.declared.arena.NodeArena.{NodeArena}
 use Rattle.patricia_nodes.specs.Internal.Plans.{IsWellFormed}
 use Rattle.patricia_nodes.specs.Internal.Plans.{siblings_of}
-use Rattle.patricia_nodes.proofs.SeekLemmas.{whole_plan}
+use Rattle.patricia_nodes.proofs.SeekLemmas.{whole_plan, byte_is}
+use Rattle.patricia_nodes.proofs.NodeVecLemmas.{node_there}
+use Rattle.patricia_store.specs.Internal.Heads.{byte_of}
+use Rattle.patricia_nodes.specs.Internal.NodeVecs.{IsRun}
 use Rattle.patricia_walks.specs.Internal.Positions.{siblings_at, entries_below}
 use Rattle.patricia_walks.specs.Internal.Lowers.{AreSiblingsAt, IsFront, IsLower, IsLowerDescent}
-use Rattle.patricia_walks.specs.Internal.Lowers.{LowerMoves, last_lower, lower_entry}
+use Rattle.patricia_walks.specs.Internal.Lowers.{LowerMoves, LowerPasses, last_lower, lower_entry}
 use Rattle.patricia_walks.specs.Internal.Lowers.{siblings_ahead}
 use Rattle.patricia_walks.specs.declared.last.Lower.{Lower}
 use Rattle.patricia_walks.specs.declared.last.Lower.TheVariants.{Below}
 use Rattle.patricia_walks.specs.declared.last.LowerDescent.{LowerDescent}
 use Rattle.patricia_walks.proofs.AlongLemmas.{front_then, left_then, more_within, some_step, plan_none}
+use Rattle.patricia_walks.proofs.AlongLemmas.{begins_otherwise, less_first}
 use Rattle.patricia_walks.proofs.LastLemmas.{last-append, last_filled, last_there, filled_last, below_filled, top_filled, SiblingsOpen}
 use Rattle.patricia_walks.proofs.LastLemmas.{siblings_open, siblings_filled}
 use Rattle.patricia_walks.proofs.PositionLemmas.{siblings_none}
@@ -173,6 +179,15 @@ module _ (item : List ℕ → Type 0) (kind : IsKeyKind item) {V : Type 0} (key 
         arena = arena;
       }
 
+  -- and so where it begins with the lesser byte
+  pub lower_by : rest ≢ [] → byte_of n.label < get_or rest 0 0 → e.len ≡ d.len
+      → e.lower ≡ Below d.len id → e.next ≡ n.sibling → LowerMoves item key d e
+  lower_by some more =
+      let byte = byte_is item kind n.label opens.canonical.valid opens.canonical.nonempty in
+      lower_past
+      (begins_otherwise n.label rest opens.canonical.nonempty (λ filled same. omega (arith, more, same, byte)))
+      (less_first n.label rest some (λ filled. rw byte at more))
+
   -- where the label begins it and it goes on, the last entry is below the node, or its own value
   pub lower_down : begins n.label rest ≡ true → key_cmp rest n.label ≡ Greater
       → e.len ≡ d.len + length n.label → e.next ≡ n.child
@@ -204,6 +219,72 @@ module _ (item : List ℕ → Type 0) (kind : IsKeyKind item) {V : Type 0} (key 
     where
       no_greater : rest ≡ n.label → ⊥
       no_greater same = let less = nat_list_cmp_total.antisymm n.label rest ∙ ap ordering_reverse after in key_cmp-irreflexive n.label rest (sym same) less
+
+-- at another node, with the one before it found
+abbrev pub passed_to : {V : Type 0} → LowerDescent V → ℕ → LowerDescent V
+passed_to d to = record d { lower = Below d.len (to - 1); next = Some to }
+
+module _ (item : List ℕ → Type 0) {V : Type 0} (key : List ℕ) where
+  -- without a step nothing is passed
+  pub passes_none : (d : LowerDescent V) → IsLowerDescent item key d → LowerPasses item key d d
+  passes_none d w = record { descent = w; same = refl; few = omega arith; arena = refl }
+
+  -- a step from where siblings are passed is one
+  pub moves_behind : (d m e : LowerDescent V) → LowerPasses item key d m → LowerMoves item key m e
+      → LowerMoves item key d e
+  moves_behind d m e on step = record {
+    descent = step.descent;
+    same = step.same ∙ on.same;
+    less = omega (arith, on.few, step.less);
+    arena = step.arena ∙ on.arena;
+  }
+
+module _ (item : List ℕ → Type 0) (kind : IsKeyKind item) {V : Type 0} (key : List ℕ) where
+  -- past one of a run of siblings the descent is at the next one
+  passes_one : (from to : ℕ) (d : LowerDescent V) → from < to → IsLowerDescent item key d
+      → d.next ≡ Some from → drop d.len key ≢ []
+      → IsRun d.arena.now.nodes (get_or (drop d.len key) 0 0) from to
+      → LowerMoves item key d (passed_to d (from + 1))
+  passes_one from to d less w next some run =
+      let there = node_there _ _ (lower_within item key d from w next) in
+      let passes = run.passes from (omega arith) less there.0 there.1 in
+      lower_by item kind key d (passed_to d (from + 1)) from there.0 w next there.1 refl some passes.1
+      refl (ap (λ at. Below d.len at) (omega arith)) (sym passes.0)
+
+  -- past all of them it is at the last one, with the one before it found
+  passes_run : (k from to : ℕ) (d : LowerDescent V) → to ≡ from + k + 1 → IsLowerDescent item key d
+      → d.next ≡ Some from → drop d.len key ≢ []
+      → IsRun d.arena.now.nodes (get_or (drop d.len key) 0 0) from to
+      → LowerPasses item key d (passed_to d to)
+  passes_run zero from to d e w next some run =
+      let step = passes_one from to d (omega (arith, e)) w next some run in
+      let same : from + 1 ≡ to = omega (arith, e) in
+      subst (λ t. LowerPasses item key d (passed_to d t)) same
+      (record { descent = step.descent; same = step.same; few = omega (arith, step.less); arena = refl })
+  passes_run (suc k) from to d e w next some run =
+      let step = passes_one from to d (omega (arith, e)) w next some run in
+      let further = passes_run k (from + 1) to (passed_to d (from + 1)) (omega (arith, e)) step.descent refl some
+      (record { forward = omega (arith, e); passes = λ i behind before. run.passes i (omega (arith, behind)) before }) in
+      record {
+        descent = further.descent;
+        same = further.same ∙ step.same;
+        few = omega (arith, further.few, step.less);
+        arena = refl;
+      }
+
+  module _ (d : LowerDescent V) (from to : ℕ) (w : IsLowerDescent item key d) (next : d.next ≡ Some from)
+      (some : drop d.len key ≢ []) (run : IsRun d.arena.now.nodes (get_or (drop d.len key) 0 0) from to) where
+    -- the descent behind a run
+    pub passes_behind : from < to → LowerPasses item key d (passed_to d to)
+    passes_behind less = passes_run (to - from - 1) from to d (omega (arith, less)) w next some run
+
+    -- so the run ends in the vector
+    pub lower_run_within : to < length d.arena.now.nodes.items
+    lower_run_within = elim (cases_eq from to) [
+      | inl same ↦ subst (λ t. t < length d.arena.now.nodes.items) same (lower_within item key d from w next)
+      | inr other ↦ lower_within item key (passed_to d to) to
+          (passes_behind (omega (arith, run.forward, other))).descent refl
+    ]
 
 -- an ordering that is not greater, by its index
 pub not_greater : (r : Ordering) → not (nat_eq (ordering_index r) 2) ≡ true → r ≡ Greater → ⊥

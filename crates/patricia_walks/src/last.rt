@@ -9,11 +9,12 @@ ghost use Rattle.patricia_model.specs.Ranges.{before};
 ghost use Rattle.patricia_model.specs.Siblings.{own, prefixed, entries, IsCanonical};
 ghost use Rattle.patricia_nodes.specs.Internal.Plans.{IsWellFormed, siblings_of, entries_of};
 ghost use Rattle.patricia_walks.specs.Internal.Lowers.{AreSiblingsAt, IsLower, IsLowerDescent};
-ghost use Rattle.patricia_walks.specs.Internal.Lowers.{LowerMoves};
+ghost use Rattle.patricia_walks.specs.Internal.Lowers.{LowerMoves, LowerPasses};
 ghost use Rattle.patricia_walks.specs.Internal.Lowers.{IsFront, lower_entry};
 ghost use Rattle.patricia_store.specs.Internal.Nodes.{Node};
 ghost use Rattle.patricia_walks.specs.Internal.Positions.{siblings_at, entries_below};
 
+use crate::path::new_path;
 use patricia_keys::{BorrowedBytes, Bytes};
 use patricia_nodes::arena::NodeArena;
 use patricia_nodes::link::{Link, NodeId};
@@ -57,16 +58,38 @@ fn put_value<'a, K: Bytes, V>(lower: &mut Lower<'a, V>, len: usize, value: Optio
 }
 
 impl<'a, V> LowerDescent<'a, V> {
+    // Passes the siblings from a node on that lie behind one another and begin with a lesser byte
+    // than what is left of the key, by their heads alone.
+    fn pass_run<K: Bytes>(&mut self, first: NodeId, key: &[u8]) -> NodeId
+        requires descent { IsLowerDescent K.item key.now self.old }
+        requires next { self.old.next ≡ Some first }
+        ensures passes { LowerPasses K.item key.now self.old self.new }
+        ensures next { self.new.next ≡ Some result }
+    {
+        let rest = &key[self.len..];
+        if rest.is_empty() {
+            return first;
+        }
+        let id = self.arena.nodes.run(first, rest[0]);
+        if first.index() == id.index() {
+            return first;
+        }
+        self.lower = Lower::Below(self.len, NodeId::new(id.index() - 1));
+        self.next = Link::some(id);
+        id
+    }
+
     // Goes on at a node: to its children where its label begins what is left of the key, to its
     // sibling where the label comes before that, and else to the end.
-    fn pass<K: Bytes>(&mut self, id: NodeId, key: &[u8])
+    fn pass<K: Bytes>(&mut self, first: NodeId, key: &[u8])
         requires descent { IsLowerDescent K.item key.now self.old }
-        requires next { self.old.next ≡ Some id }
+        requires next { self.old.next ≡ Some first }
         ensures { LowerMoves K.item key.now self.old self.new }
     {
+        let id = self.pass_run::<K>(first, key);
+        let rest = &key[self.len..];
         let nodes = &self.arena.nodes;
         let label = nodes.label(id);
-        let rest = &key[self.len..];
         if rest.cmp(label) != Ordering::Greater {
             self.next = Link::none();
         } else if rest.starts_with(label) {
@@ -110,7 +133,7 @@ fn find_lower<'a, K: Bytes, V>(
     descent.lower
 }
 
-// The last of the siblings.
+// The last of the siblings. Those that lie behind one another are passed by their heads alone.
 fn last_sibling<K: Bytes, V>(arena: &NodeArena<V>, first: NodeId) -> NodeId
     requires { AreSiblingsAt K.item arena.now.nodes.items (Some first) }
     ensures siblings { AreSiblingsAt K.item arena.now.nodes.items (Some result) }
@@ -120,9 +143,9 @@ fn last_sibling<K: Bytes, V>(arena: &NodeArena<V>, first: NodeId) -> NodeId
     ensures fewer { steps_in (siblings_at arena.now.nodes.items (Some result))
         ≤ steps_in (siblings_at arena.now.nodes.items (Some first)) }
 {
-    let mut id = first;
+    let mut id = arena.nodes.run(first, u8::MAX);
     while let Some(next) = arena.nodes.sibling(id).get() {
-        id = next;
+        id = arena.nodes.run(next, u8::MAX);
     }
     id
 }
@@ -170,7 +193,7 @@ fn entry_at<'a, K: Bytes, V>(
         Lower::Nowhere => Ok(None),
         Lower::Value(len, value) => Ok(Some((K::from_bytes(alloc, &key[..len])?, value))),
         Lower::Below(len, top) => {
-            let mut path = Vec::new(alloc);
+            let mut path = new_path(alloc)?;
             path.extend_from_slice(&key[..len])?;
             let value = last_below::<K, V>(arena, &mut path, top)?;
             Ok(Some((K::from_bytes(alloc, &path)?, value)))

@@ -45,7 +45,7 @@ impl LinkRef {
     }
 
     // The link to one of the siblings that lie behind one another, where this is that to the first.
-    fn behind(self, first: NodeId, id: NodeId) -> LinkRef
+    pub fn behind(self, first: NodeId, id: NodeId) -> LinkRef
         requires { first ≤ id }
         ensures { result ≡ ref_behind self first id }
     {

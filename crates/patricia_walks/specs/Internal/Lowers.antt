@@ -59,3 +59,10 @@ module _ (item : List ℕ → Type 0) {V : Type 0} (key : List ℕ) where
     pub same : last_lower key e ≡ last_lower key d
     pub less : steps_in (siblings_ahead e) < steps_in (siblings_ahead d)
     pub arena : e.arena ≡ d.arena
+
+  -- siblings are passed: the last entry stays the same, and no more nodes are ahead
+  pub record LowerPasses (d e : LowerDescent V) : Type 0 where
+    pub descent : IsLowerDescent e
+    pub same : last_lower key e ≡ last_lower key d
+    pub few : steps_in (siblings_ahead e) ≤ steps_in (siblings_ahead d)
+    pub arena : e.arena ≡ d.arena

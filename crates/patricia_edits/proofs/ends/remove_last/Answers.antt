@@ -6,6 +6,11 @@ use Rattle.patricia_edits.proofs.RemoveLemmas.{on_err_from}
 use Rattle.patricia_edits.proofs.TakenLemmas.{took_last}
 use Rattle.patricia_edits.proofs.ends.remove_last.Goals as goal
 
+pub returns-in_err-path-clause-err_only_nonempty : goal.returns-in_err-path-clause-err_only_nonempty
+returns-in_err-path-clause-err_only_nonempty g c = on_err_from _
+    (root_filled g.K.Bytes.item g.met.K.Bytes.lawful c.args.arena.now c.requires.whole
+    c.requires.siblings c.in-Some.first (sym c.get.ensures ∙ c.in-Some.is))
+
 pub returns-in_err-at-clause-err_only_nonempty : goal.returns-in_err-at-clause-err_only_nonempty
 returns-in_err-at-clause-err_only_nonempty g c = on_err_from _
     (root_filled g.K.Bytes.item g.met.K.Bytes.lawful c.args.arena.now c.requires.whole
