@@ -1,5 +1,6 @@
 //! The entries of a tree from a key on.
 ghost use Rattle.std.specs.Prelude.{◌≡◌, ◌≢◌, [], None, Option, IfOk, OnErr};
+ghost use Rattle.std.specs.Prelude.{slice_get};
 ghost use Rattle.std.specs.List.{last_or};
 ghost use Rattle.std.specs.Option.{option_map};
 ghost use Rattle.std.specs.FinMap as map;
@@ -9,6 +10,7 @@ ghost use Rattle.patricia_walks.specs.Internal.Bounds.{within};
 
 use super::Tree;
 use patricia_keys::{BorrowedBytes, Bytes};
+use patricia_walks::first::first;
 use patricia_walks::last::{last, last_before};
 use patricia_walks::range::RangeReadCursor;
 use std::alloc::AllocError;
@@ -26,6 +28,16 @@ impl<K: Bytes, V: Drop> Tree<K, V> {
     {
         let parts = &self.parts;
         RangeReadCursor::new(parts.alloc, parts.value.as_ref(), &parts.arena, key, bound)
+    }
+
+    /// The first entry. The error is out of memory, and never comes where there is none.
+    pub fn first(&self) -> Result<Option<(K, &V)>, AllocError>
+        ensures entry { IfOk result (λ entry. option_map (λ e. (K.key e.0, e.1.now)) entry
+            ≡ slice_get (map.entries self.now) 0) }
+        ensures err_only_nonempty { OnErr result (map.entries self.now ≢ []) }
+    {
+        let parts = &self.parts;
+        first(parts.alloc, parts.value.as_ref(), &parts.arena)
     }
 
     /// The last entry. The error is out of memory, and never comes where there is none.

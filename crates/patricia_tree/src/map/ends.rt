@@ -45,11 +45,7 @@ impl<K: Bytes, V: Drop> GenericPatriciaMap<K, V> {
             ≡ slice_get (map.entries self.now) 0) }
         ensures err_only_nonempty { OnErr result (map.entries self.now ≢ []) }
     {
-        match self.iter().next() {
-            Some(Ok(entry)) => Ok(Some(entry)),
-            Some(Err(error)) => Err(error),
-            None => Ok(None),
-        }
+        self.tree.first()
     }
 
     /// Returns the first entry whose key comes after a key, with an owned key, or `None` where
