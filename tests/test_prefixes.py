@@ -176,17 +176,23 @@ def run_in_pieces(words, contents, data):
 class Waiting(Case):
     """What is answered is written before the next line is whole."""
 
-    @each('clang', 'rattle')
-    def part_of_a_line(self, build):
-        path = os.path.join(ROOT, 'tests', 'prefixes', 'lists', 'names')
-        words = [self.program('prefixes', build), 'complete', path, '-n', '1']
-        with subprocess.Popen(words, stdin=subprocess.PIPE, stdout=subprocess.PIPE) as process:
-            os.write(process.stdin.fileno(), b'foo\nba')
+    ASKED = {
+        'complete': (['names', '-n', '1'], b'foo\nba', b'foo\t3\n\tfoo\n', b'ba\t2\n\tbar\n'),
+        'route': (['routes'], b'/x\n/api/u\napi\n/', b'/\troot\n/api/\tapi\n-\n', b'/\troot\n'),
+    }
+
+    @each(*pairs(ASKED))
+    def part_of_a_line(self, command, build):
+        words, data, first, last = self.ASKED[command]
+        words = [self.program('prefixes', build), command, *words]
+        lists = os.path.join(ROOT, 'tests', 'prefixes', 'lists')
+        with subprocess.Popen(words, stdin=subprocess.PIPE, stdout=subprocess.PIPE, cwd=lists) as process:
+            os.write(process.stdin.fileno(), data)
             is_answered, _, _ = select.select([process.stdout], [], [], MOST_SECONDS)
             self.assertTrue(is_answered)
-            self.assertEqual(os.read(process.stdout.fileno(), 4096), b'foo\t3\n\tfoo\n')
+            self.assertEqual(os.read(process.stdout.fileno(), 4096), first)
             rest, _ = process.communicate(b'\n', timeout=MOST_SECONDS)
-        self.assertEqual(rest, b'ba\t2\n\tbar\n')
+        self.assertEqual(rest, last)
         self.assertEqual(process.returncode, 0)
 
 

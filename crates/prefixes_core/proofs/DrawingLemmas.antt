@@ -1,6 +1,6 @@
 -- The lines of drawn trees.
-use Rattle.std.proofs.Common.{◌≡◌, ◌+◌, ◌*◌, ◌<◌, ◌≤◌, ◌++◌, ℕ, zero, suc, List, [], ◌∷◌, Bool, Bor}
-use Rattle.std.proofs.Common.{length, map, take, drop, get_or, replicate, arith, refl, sym, ap, ◌∙◌}
+use Rattle.std.proofs.Common.{◌≡◌, ◌+◌, ◌*◌, ◌<◌, ◌≤◌, ◌++◌, ℕ, suc, List, [], ◌∷◌, Bool}
+use Rattle.std.proofs.Common.{length, map, take, drop, get_or, replicate, arith, sym, ap, ◌∙◌}
 use Rattle.std.proofs.Common.{append_assoc, drop-cons, add-one, length-append}
 use Rattle.std.proofs.lemmas.List.{replicate-append-replicate}
 use Rattle.prefixes_core.specs.Drawings.{way_to, shown, node_lines, graph_line}

@@ -19,4 +19,5 @@ pub mod SegmentLemmas
 pub mod StopLemmas
 pub mod SubtreeLemmas
 pub mod TakenLemmas
+pub mod TogetherLemmas
 pub mod TurnLemmas

@@ -1,5 +1,5 @@
 -- Lines that are answered in turn.
-use Rattle.std.proofs.Common.{◌≡◌, ℕ, ◌+◌, ◌<◌, ◌≤◌, ◌^◌, ◌||◌, Bool, true, false, List, [], ◌∷◌}
+use Rattle.std.proofs.Common.{◌≡◌, ℕ, ◌+◌, ◌<◌, ◌^◌, ◌||◌, Bool, true, false, List, [], ◌∷◌}
 use Rattle.std.proofs.Common.{◌++◌, length, Option, None, Some, IfSome, refl, sym, ap, subst, ◌∙◌}
 use Rattle.std.proofs.Common.{arith}
 use Rattle.std.specs.Io.BufRead.{strip_last}
@@ -10,12 +10,14 @@ use Rattle.prefixes_core.specs.Answers.{IsFound, IsRightLine, Leaves, Writes}
 use Rattle.prefixes_core.specs.Turns.{AnswersLine, AnswersAll, answered, IsStoppedAt}
 use Rattle.prefixes_core.specs.Internal.Failures.{IsStop, IsKept}
 use Rattle.prefixes_core.specs.Internal.TakenLines.{TakesLine}
+use Rattle.prefixes_core.specs.Internal.Together.{TakesTogether}
 use Rattle.prefixes_core.specs.Lists.{lines_of}
 use Rattle.prefixes_core.specs.declared.answering.Question.{Question}
 use Rattle.prefixes_core.specs.declared.answering.Style.{Style}
 use Rattle.prefixes_core.specs.declared.failure.Failure.{Failure}
 use Rattle.prefixes_core.specs.declared.failure.Failure.TheVariants as Failures
 use Rattle.prefixes_core.proofs.TakenLemmas.{few_lines}
+use Rattle.prefixes_core.proofs.TogetherLemmas.{all_more}
 
 -- what is written for a line stands behind any text
 behind_any : (style : Style) (question : Question) (line old new : List ℕ)
@@ -124,6 +126,47 @@ module _ (style : Style) (end : ℕ) (first : Question) where
                   (arith, length_push so_far.done (strip_last end read), so_far.counted);
             }
 
+    -- lines are answered together
+    pub together_answered : (new : Option (List ℕ)) (count : ℕ) (one : Bool) (more : List ℕ)
+        → IfSome left
+        (λ bytes. TakesTogether style end question bytes new count waiting more one)
+        → IsAnsweredTo known before left contents question found waiting number
+        → IsAnsweredTo known before new contents question (found || one) more (number + count)
+    together_answered new count one more takes so_far = by known before so_far
+      where
+        by : (known before : Option (List ℕ))
+            → IsAnsweredTo known before left contents question found waiting number
+            → IsAnsweredTo known before new contents question (found || one) more (number + count)
+        by None before so_far = tt
+        by (Some bytes) None so_far = tt
+        by (Some bytes) (Some start) so_far =
+            let taken = subst (λ l. IfSome l
+            (λ bytes. TakesTogether style end question bytes new count waiting more one))
+            so_far.left_is takes in
+            let own = taken.answers.written in
+            record {
+              done = so_far.done ++ taken.lines;
+              rest = taken.rest;
+              put = so_far.put;
+              written = so_far.written ++ own;
+              left_is = taken.left_is;
+              joined = append_assoc so_far.done taken.lines (lines_of end taken.rest)
+                  ∙ ap (λ l. so_far.done ++ l) (sym taken.first) ∙ so_far.joined;
+              contents_is = so_far.contents_is;
+              kept = ap (λ l. so_far.put ++ l) taken.answers.behind
+                  ∙ sym (append_assoc so_far.put waiting own)
+                  ∙ ap (λ l. l ++ own) so_far.kept
+                  ∙ append_assoc start so_far.written own;
+              answers = all_more style first question so_far.done taken.lines so_far.written own
+                  found one so_far.answers taken.answers.answers;
+              counted = omega (
+                arith,
+                length-append so_far.done taken.lines,
+                so_far.counted,
+                taken.counted,
+              );
+            }
+
     -- what waits is written
     pub answers_put : (new : Option (List ℕ)) (more : List ℕ) → IsKept contents new waiting more
         → IsAnsweredTo known before left contents question found waiting number
@@ -217,7 +260,7 @@ module _ (style : Style) (end : ℕ) (first : Question) where
         by (Some bytes) (Some start) so_far _ stop = tt
 
     -- there are not so many lines
-    pub too_long : (P : List ℕ → List ℕ → Type 0) → 2 ^ 64 ≤ number + 1
+    pub too_long : (P : List ℕ → List ℕ → Type 0) → 2 ^ 63 < number
         → IsAnsweredTo known before left contents question found waiting number
         → IfSome known (λ bytes. IfSome before (λ start. length bytes < 2 ^ 63 → P bytes start))
     too_long P many so_far = by known before so_far
@@ -232,3 +275,16 @@ module _ (style : Style) (end : ℕ) (first : Question) where
             let all = length-append so_far.done (lines_of end so_far.rest) in
             let same = ap length so_far.joined in
             absurd (omega (arith, many, short, few, all, same, so_far.counted))
+
+  -- lines are answered together, and what waits may be written
+  pub together_put : (known before left contents new put : Option (List ℕ)) (question : Question)
+      (found one : Bool) (waiting more kept : List ℕ) (number count : ℕ)
+      → IfSome left (λ bytes. TakesTogether style end question bytes new count waiting more one)
+      → IsKept contents put more kept
+      → IsAnsweredTo known before left contents question found waiting number
+      → IsAnsweredTo known before new put question (found || one) kept (number + count)
+  together_put known before left contents new put question found one waiting more kept number
+      count takes keeps so_far =
+      answers_put known before new contents question (found || one) more (number + count) put kept
+      keeps (together_answered known before left contents question found waiting number new count
+      one more takes so_far)

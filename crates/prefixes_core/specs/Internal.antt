@@ -3,3 +3,4 @@ pub mod Failures
 pub mod Reversed
 pub mod Splits
 pub mod TakenLines
+pub mod Together

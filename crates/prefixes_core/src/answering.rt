@@ -6,6 +6,7 @@ ghost use Rattle.std.specs.Str.{IsUtf8, IsValidUpTo};
 ghost use Rattle.prefixes_core.specs.Answers.{Writes, IsFound, Leaves, IsRightLine, IsAnswerFault};
 ghost use Rattle.prefixes_core.specs.Subtrees.{elsewhere};
 
+pub(crate) mod together;
 mod writing;
 
 use crate::blocking::{BlockList, folded};

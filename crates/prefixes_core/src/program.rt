@@ -1,19 +1,21 @@
 //! The program over its words, its files and its streams.
 
-ghost use Rattle.std.specs.Prelude.{◌≡◌, ◌<◌, ◌^◌, ◌++◌, if◌then◌else◌, ℕ, List};
+ghost use Rattle.std.specs.Prelude.{◌≡◌, ◌<◌, ◌≤◌, ◌^◌, ◌++◌, if◌then◌else◌, ℕ, List};
 ghost use Rattle.std.specs.Prelude.{length, IfOk, OnOk, IfErr, OnErr, IfSome, Some};
 ghost use Rattle.std.specs.Io.Buffered.{reader_remaining};
 ghost use Rattle.prefixes_core.specs.Answers.{Writes, IsFound, Leaves, IsRightLine, IsAnswerFault};
 ghost use Rattle.prefixes_core.specs.Internal.Failures.{IsStop, IsNoLine};
 ghost use Rattle.prefixes_core.specs.Internal.TakenLines.{TakesLine};
+ghost use Rattle.prefixes_core.specs.Internal.Together.{TakesTogether};
 ghost use Rattle.prefixes_core.specs.Lists.{lines_of};
 ghost use Rattle.prefixes_core.specs.Turns.{AnswersAll, answered, IsStoppedAt};
 
+use crate::answering::together::route_together;
 use crate::answering::{AnswerError, Question, Style};
 use crate::failure::{Failure, input_failure, line_failure, put, put_if};
 use crate::files::{combine_files, pack_file};
 use crate::inputs::{Inputs, shown};
-use crate::lines::next_line;
+use crate::lines::{MOST_TOGETHER, next_line};
 use crate::listing::without_end;
 use crate::options::{self, line_end, path};
 use crate::showing::{show_measures, show_tree};
@@ -24,8 +26,12 @@ use std::fs;
 use std::io::{BufRead, BufReader, Read, Write};
 use std::rt::Files;
 
-// How many bytes of answers wait for more lines at most, beside those of one line.
+// How many bytes of answers wait for more lines at most, beside those of lines that are answered
+// together.
 const MOST_WAITING: usize = 1 << 16;
+
+// Lines with lower numbers are answered: no input has so many.
+const MOST_LINES: u64 = u64::MAX - MOST_TOGETHER as u64;
 
 // How many entries a command shows for each line.
 fn most(matches: &ArgMatches<'_>) -> usize {
@@ -155,10 +161,35 @@ fn answer_line<W: Write>(
     }
 }
 
+// Answers lines that are at hand together, if that is done for what is asked, and returns how many
+// they are, and whether something was found. Where memory runs out it answers none: each may do
+// with less by itself.
+fn answer_together<F: Read + Drop>(
+    alloc: Global,
+    question: &Question,
+    reader: &mut BufReader<F>,
+    asked: &Asked<'_>,
+    next: &mut Vec<u8>,
+    out: &mut Vec<u8>,
+) -> (u64, bool)
+    ensures answered { IfSome (reader_remaining F.remaining reader.old) (λ bytes.
+        TakesTogether asked.now.style asked.now.end question.now bytes
+        (reader_remaining F.remaining reader.new) result.0 out.old.items out.new.items result.1) }
+    ensures few { result.0 ≤ 256 }
+{
+    let Question::Route(routes) = question else {
+        return (0, false);
+    };
+    let bytes = reader.buffer();
+    let together = route_together(alloc, routes, bytes, asked.end, asked.style, next, out);
+    reader.consume(together.len);
+    (together.count as u64, together.is_found)
+}
+
 // Whether it is time to write so many bytes of answers: they are many, or no whole line is at hand,
 // and the next one may be long in coming.
 fn is_time<F: Read + Drop>(reader: &BufReader<F>, end: u8, waiting: usize) -> bool {
-    waiting >= MOST_WAITING || memchr(end, reader.buffer()).is_none()
+    waiting >= MOST_WAITING || waiting != 0 && memchr(end, reader.buffer()).is_none()
 }
 
 // Answers each line of a reader, and writes the answers whenever no whole line is at hand, or many
@@ -185,7 +216,13 @@ fn answer_each<F: Read + Drop, W: Write>(
     let mut line = Vec::new(alloc);
     let mut next = Vec::new(alloc);
     let mut out = Vec::new(alloc);
-    for number in 1..u64::MAX {
+    let mut number = 1;
+    while number < MOST_LINES {
+        let (count, found) = answer_together(alloc, question, reader, asked, &mut next, &mut out);
+        number += count;
+        is_found |= found;
+        let is_time = is_time(reader, asked.end, out.len());
+        put_if(is_time, output, &mut out)?;
         if !read_line(alloc, reader, asked, &mut line)? {
             put(output, &mut out)?;
             return Ok(is_found);
@@ -197,8 +234,7 @@ fn answer_each<F: Read + Drop, W: Write>(
             Ok(found) => is_found |= found,
             Err(failure) => return Err(failure),
         }
-        let is_time = is_time(reader, asked.end, out.len());
-        put_if(is_time, output, &mut out)?;
+        number += 1;
     }
     put(output, &mut out)?;
     Ok(is_found)

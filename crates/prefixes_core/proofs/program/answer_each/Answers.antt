@@ -1,13 +1,15 @@
-use Rattle.std.proofs.Common.{◌≡◌, ◌≤◌, ◌+◌, ◌^◌, ◌++◌, ◌||◌, ℕ, List, Some, ap, subst, ◌∙◌, arith}
+use Rattle.std.proofs.Common.{◌≡◌, ◌<◌, ◌+◌, ◌^◌, ◌++◌, ◌||◌, ℕ, List, Some, sym, ap, subst}
+use Rattle.std.proofs.Common.{◌∙◌, arith}
 use Rattle.std.specs.Io.Buffered.{reader_remaining}
 use Rattle.std.specs.Io.BufRead.{strip_last}
 use Rattle.prefixes_core.specs.Answers.{IsFound, IsRightLine, Leaves, Writes}
-use Rattle.prefixes_core.specs.Internal.Failures.{IsKept, IsStop}
+use Rattle.prefixes_core.specs.Internal.Failures.{IsStop}
 use Rattle.prefixes_core.specs.Internal.TakenLines.{TakesLine}
 use Rattle.prefixes_core.specs.Lists.{lines_of}
 use Rattle.prefixes_core.specs.Turns.{AnswersAll, answered}
 use Rattle.prefixes_core.proofs.TurnLemmas.{none_answered, line_answered, answers_put}
 use Rattle.prefixes_core.proofs.TurnLemmas.{all_answered, line_stops, too_long, kept_all}
+use Rattle.prefixes_core.proofs.TurnLemmas.{IsAnsweredTo, together_put}
 use Rattle.prefixes_core.proofs.program.answer_each.Goals as goal
 
 pub loop-number-init : goal.loop-number-init
@@ -21,81 +23,99 @@ returns-then-not-branch-clause-answered g c =
     let asked = c.args.asked.now in
     let known = reader_remaining g.F.Read.remaining c.args.reader.now in
     let before = g.W.Write.contents c.args.output.now in
-    let left = reader_remaining g.F.Read.remaining c.loop-number.reader in
+    let left = reader_remaining g.F.Read.remaining c.answer_together-count.new.reader in
     let new = reader_remaining g.F.Read.remaining c.read_line.new.reader in
-    let contents = g.W.Write.contents c.loop-number.output in
+    let contents = g.W.Write.contents c.put_if.new.output in
     let put = g.W.Write.contents c.put.new.output in
-    let waiting = c.loop-number.out.items in
+    let question = c.loop-number.question in
+    let found = c.loop-number.is_found || c.answer_together-count.result.1 in
+    let number = c.loop-number.number + c.answer_together-count.result.0 in
+    let waiting = c.put_if.new.out.items in
     let read = c.read_line.new.line.items in
-    all_answered asked.style asked.end c.args.question.now known before left put
-    c.loop-number.question c.loop-number.is_found c.put.new.out.items c.loop-number.number read
-    new
+    all_answered asked.style asked.end c.args.question.now known before left put question found
+    c.put.new.out.items number read new
     (subst (λ b. TakesLine asked.end left new b read) c.if-not-branch.true
     c.in_ok-read_line.ensures.taken) c.in_ok-put.ensures.none_left
-    (answers_put asked.style asked.end c.args.question.now known before left contents
-    c.loop-number.question c.loop-number.is_found waiting c.loop-number.number put
-    c.put.new.out.items
+    (answers_put asked.style asked.end c.args.question.now known before left contents question
+    found waiting number put c.put.new.out.items
     (kept_all contents put waiting c.put.new.out.items c.in_ok-put.ensures.written
-    c.in_ok-put.ensures.none_left) c.loop-number.invariant)
+    c.in_ok-put.ensures.none_left)
+    (together_put asked.style asked.end c.args.question.now known before
+    (reader_remaining g.F.Read.remaining c.loop-number.reader)
+    (g.W.Write.contents c.loop-number.output) left contents question c.loop-number.is_found
+    c.answer_together-count.result.1 c.loop-number.out.items c.answer_together-count.new.out.items waiting
+    c.loop-number.number c.answer_together-count.result.0 c.answer_together-count.ensures.answered
+    c.in_ok-put_if.ensures.kept c.loop-number.invariant))
 
 pub returns-in-Err-clause-stopped : goal.returns-in-Err-clause-stopped
 returns-in-Err-clause-stopped g c =
     let asked = c.args.asked.now in
     let known = reader_remaining g.F.Read.remaining c.args.reader.now in
     let before = g.W.Write.contents c.args.output.now in
-    let left = reader_remaining g.F.Read.remaining c.loop-number.reader in
+    let left = reader_remaining g.F.Read.remaining c.answer_together-count.new.reader in
     let new = reader_remaining g.F.Read.remaining c.read_line.new.reader in
-    let contents = g.W.Write.contents c.loop-number.output in
+    let contents = g.W.Write.contents c.put_if.new.output in
     let written = g.W.Write.contents c.answer_line.new.output in
     let question = c.loop-number.question in
-    let number = c.loop-number.number in
-    let waiting = c.loop-number.out.items in
+    let found = c.loop-number.is_found || c.answer_together-count.result.1 in
+    let number = c.loop-number.number + c.answer_together-count.result.0 in
+    let waiting = c.put_if.new.out.items in
     let read = c.read_line.new.line.items in
     let line : c.without_end-line.result.now ≡ strip_last asked.end read =
     c.without_end-line.ensures ∙ ap (strip_last asked.end) c.deref.ensures.value in
-    line_stops asked.style asked.end c.args.question.now known before left contents question
-    c.loop-number.is_found waiting number new written read c.in-Err.failure
+    line_stops asked.style asked.end c.args.question.now known before left contents question found
+    waiting number new written read c.in-Err.failure
     (subst (λ b. TakesLine asked.end left new b read) c.if-not-branch.false
     c.in_ok-read_line.ensures.taken)
     (subst (λ l. IsStop question l number waiting contents written c.in-Err.failure) line
-    c.in-Err.ensures.named) c.loop-number.invariant
+    c.in-Err.ensures.named)
+    (together_put asked.style asked.end c.args.question.now known before
+    (reader_remaining g.F.Read.remaining c.loop-number.reader)
+    (g.W.Write.contents c.loop-number.output) left contents question c.loop-number.is_found
+    c.answer_together-count.result.1 c.loop-number.out.items c.answer_together-count.new.out.items waiting
+    c.loop-number.number c.answer_together-count.result.0 c.answer_together-count.ensures.answered
+    c.in_ok-put_if.ensures.kept c.loop-number.invariant)
 
 pub loop-number-preserved : goal.loop-number-preserved
 loop-number-preserved g c =
     let asked = c.args.asked.now in
     let known = reader_remaining g.F.Read.remaining c.args.reader.now in
     let before = g.W.Write.contents c.args.output.now in
-    let left = reader_remaining g.F.Read.remaining c.loop-number.reader in
+    let left = reader_remaining g.F.Read.remaining c.answer_together-count.new.reader in
     let new = reader_remaining g.F.Read.remaining c.read_line.new.reader in
-    let contents = g.W.Write.contents c.loop-number.output in
-    let put = g.W.Write.contents c.put_if.new.output in
+    let contents = g.W.Write.contents c.put_if.new.output in
     let question = c.loop-number.question in
     let next = c.answer_line.new.question in
-    let number = c.loop-number.number in
-    let waiting = c.loop-number.out.items in
+    let found = c.loop-number.is_found || c.answer_together-count.result.1 in
+    let number = c.loop-number.number + c.answer_together-count.result.0 in
+    let waiting = c.put_if.new.out.items in
     let more = c.answer_line.new.out.items in
     let read = c.read_line.new.line.items in
     let one = c.in-Ok.found in
     let line : c.without_end-line.result.now ≡ strip_last asked.end read =
     c.without_end-line.ensures ∙ ap (strip_last asked.end) c.deref.ensures.value in
-    answers_put asked.style asked.end c.args.question.now known before new contents next
-    (c.loop-number.is_found || one) more (number + 1) put c.put_if.new.out.items
-    (subst (λ o. IsKept (g.W.Write.contents o) put more c.put_if.new.out.items)
-    c.in-Ok.ensures.waits c.in_ok-put_if.ensures.kept)
+    subst (λ o. IsAnsweredTo asked.style asked.end c.args.question.now known before new
+    (g.W.Write.contents o) next (found || one) more (number + 1)) (sym c.in-Ok.ensures.waits)
     (line_answered asked.style asked.end c.args.question.now known before left contents question
-    c.loop-number.is_found waiting number new next one read more
+    found waiting number new next one read more
     (subst (λ b. TakesLine asked.end left new b read) c.if-not-branch.false
     c.in_ok-read_line.ensures.taken) (subst (IsRightLine question) line c.in-Ok.ensures.right)
     (subst (λ l. Writes asked.style question l waiting more) line c.in-Ok.ensures.written)
     (subst (λ l. IsFound question l one) line c.in-Ok.ensures.found)
-    (subst (λ l. Leaves question l next) line c.in-Ok.ensures.left) c.loop-number.invariant)
+    (subst (λ l. Leaves question l next) line c.in-Ok.ensures.left)
+    (together_put asked.style asked.end c.args.question.now known before
+    (reader_remaining g.F.Read.remaining c.loop-number.reader)
+    (g.W.Write.contents c.loop-number.output) left contents question c.loop-number.is_found
+    c.answer_together-count.result.1 c.loop-number.out.items c.answer_together-count.new.out.items waiting
+    c.loop-number.number c.answer_together-count.result.0 c.answer_together-count.ensures.answered
+    c.in_ok-put_if.ensures.kept c.loop-number.invariant))
 
 pub returns-clause-answered : goal.returns-clause-answered
 returns-clause-answered g c =
     let asked = c.args.asked.now in
     let question = c.loop-number.question in
     let written = g.W.Write.contents c.put-2.new.output in
-    let many : 2 ^ 64 ≤ c.loop-number.number + 1 = omega (arith, c.loop-number-test.false) in
+    let many : 2 ^ 63 < c.loop-number.number = omega (arith, c.loop-number-test.false) in
     too_long asked.style asked.end c.args.question.now
     (reader_remaining g.F.Read.remaining c.args.reader.now)
     (g.W.Write.contents c.args.output.now)

@@ -1,0 +1,370 @@
+-- Lines that are cut off the front of bytes, and answered together.
+use Rattle.std.proofs.Common.{◌≡◌, ◌==◌, ℕ, zero, suc, ◌+◌, ◌-◌, ◌<◌, ◌≤◌, Bool, true, false, ◌||◌}
+use Rattle.std.proofs.Common.{List, [], ◌∷◌, ◌++◌, length, get_or, take, drop, map as list_map}
+use Rattle.std.proofs.Common.{Bor, Option, None, Some, IfSome, refl, sym, ap, subst, ◌∙◌, arith}
+use Rattle.std.proofs.Common.{inl, inr}
+use Rattle.std.specs.FinMap as finite
+use Rattle.std.specs.Io.BufRead.{DropsConsumable}
+use Rattle.std.specs.Io.Buffered.{reader_buffer, reader_capacity, reader_remaining}
+use Rattle.std.specs.Io.KnownBytes.{prepend_known}
+use Rattle.std.specs.List.{All, FoldsTo, onto_first}
+use Rattle.std.specs.Option.{is_some, option_map}
+use Rattle.std.specs.Str.{IsUtf8}
+use Rattle.std.specs.declared.io.buffered.BufReader.{BufReader}
+use Rattle.std.proofs.Math.Bool.{or_assoc}
+use Rattle.std.proofs.Math.Seq.{take-suc, drop-append_seam}
+use Rattle.std.proofs.lemmas.Bool.{cases_Bool, cond-true, cond-false, false_from_ne_true}
+use Rattle.std.proofs.lemmas.Fn.{FoldsTo-push}
+use Rattle.std.proofs.lemmas.List.{append_assoc, append-nil, map-append, take-append-drop}
+use Rattle.std.proofs.lemmas.List.{get_or-map, length-map, length_push, length-append}
+use Rattle.std.proofs.lemmas.List.{drop-append-le}
+use Rattle.std.proofs.lemmas.List.Elements.{All-append, All-get_or, All-nil, All-push}
+use Rattle.memchr.specs.Find.{is_byte, Passes, NoneBefore}
+use Rattle.patricia_tree.specs.Keys.{key_cmp}
+use Rattle.patricia_tree.specs.Prefixes.{longest}
+use Rattle.prefixes_core.specs.Answers.{route_text}
+use Rattle.prefixes_core.specs.Internal.Together.{CutsLines, AnswersTogether}
+use Rattle.prefixes_core.specs.Internal.Together.{AnswersFront, TakesTogether}
+use Rattle.prefixes_core.specs.Lists.{lines_of}
+use Rattle.prefixes_core.specs.Turns.{Answered, AnswersLine, AnswersAll, answered}
+use Rattle.prefixes_core.specs.declared.answering.Question.{Question}
+use Rattle.prefixes_core.specs.declared.answering.Question.TheVariants as Questions
+use Rattle.prefixes_core.specs.declared.answering.Style.{Style}
+use Rattle.prefixes_core.specs.declared.answering.together.Together.{Together}
+use Rattle.prefixes_core.proofs.AnswerLemmas.{is_some-map}
+
+-- the first line of bytes ends at the first byte that ends lines
+first_at : (end : ℕ) (bytes more : List ℕ) (k : ℕ) → k < length bytes
+    → ((i : ℕ) → i < k → (get_or bytes i 0 == end) ≡ false) → (get_or bytes k 0 == end) ≡ true
+    → lines_of end (bytes ++ more) ≡ take k bytes ∷ lines_of end (drop (suc k) bytes ++ more)
+first_at end [] more k inside before at = absurd (omega (arith, inside))
+first_at end (b ∷ bytes) more zero inside before at = cond-true (b == end) _ _ at
+first_at end (b ∷ bytes) more (suc k) inside before at =
+    cond-false (b == end) _ _ (before 0 (omega arith))
+    ∙ ap (onto_first b) (first_at end bytes more k (omega (arith, inside))
+    (λ i less. before (suc i) (omega (arith, less))) at)
+
+-- a line is cut off where such a byte is found
+pub line_cut : (end : ℕ) (bytes line : List ℕ) (k : ℕ)
+    → NoneBefore (Passes (is_byte end) bytes) 0 (length bytes) k × Passes (is_byte end) bytes k
+    → line ≡ take k bytes → IsUtf8 (take k bytes)
+    → CutsLines end bytes (line ∷ []) (drop (k + 1) bytes)
+line_cut end bytes line k found is right =
+    let next : suc k ≡ k + 1 = omega arith in
+    let none : (i : ℕ) → i < k → (get_or bytes i 0 == end) ≡ false =
+    λ i less. false_from_ne_true _ (λ same. found.0.before i (omega arith) less same) in
+    record {
+      front = take (k + 1) bytes;
+      joined = sym (take-append-drop (k + 1) bytes);
+      first = λ more.
+          first_at end bytes more k found.0.high none found.1
+          ∙ ap (λ l. l ∷ lines_of end (drop (suc k) bytes ++ more)) (sym is)
+          ∙ ap (λ n. line ∷ lines_of end (drop n bytes ++ more)) next;
+      right = All-push IsUtf8 [] line (All-nil IsUtf8) (subst IsUtf8 (sym is) right);
+    }
+
+-- no line is cut off at first
+pub none_cut : (end : ℕ) (bytes : List ℕ) (lines : List (Bor (List ℕ))) → lines ≡ []
+    → CutsLines end bytes (list_map (λ line. line.now) lines) bytes
+none_cut end bytes lines none =
+    subst (λ l. CutsLines end bytes (list_map (λ line. line.now) l) bytes) (sym none) (record {
+      front = [];
+      joined = refl;
+      first = λ more. refl;
+      right = All-nil IsUtf8;
+    })
+
+-- one line more is
+pub cut_more : (end : ℕ) (bytes rest later : List ℕ) (lines more : List (Bor (List ℕ)))
+    (line : Bor (List ℕ)) → more ≡ lines ++ line ∷ []
+    → CutsLines end rest (line.now ∷ []) later
+    → CutsLines end bytes (list_map (λ l. l.now) lines) rest
+    → CutsLines end bytes (list_map (λ l. l.now) more) later
+cut_more end bytes rest later lines more line is one so_far =
+    let done = list_map (λ l. l.now) lines in
+    let all : list_map (λ l. l.now) more ≡ done ++ line.now ∷ [] =
+    ap (list_map (λ l. l.now)) is ∙ map-append (λ l. l.now) lines (line ∷ []) in
+    subst (λ l. CutsLines end bytes l later) (sym all) (record {
+      front = so_far.front ++ one.front;
+      joined = so_far.joined ∙ ap (λ l. so_far.front ++ l) one.joined
+          ∙ sym (append_assoc so_far.front one.front later);
+      first = λ behind.
+          so_far.first behind ∙ ap (λ l. done ++ l) (one.first behind)
+          ∙ sym (append_assoc done (line.now ∷ []) (lines_of end (later ++ behind)));
+      right = All-append IsUtf8 done (line.now ∷ []) so_far.right one.right;
+    })
+
+-- there are as many lines as their list has
+pub as_many : (lines more : List (Bor (List ℕ))) (line : Bor (List ℕ)) (n : ℕ)
+    → more ≡ lines ++ line ∷ [] → length lines ≤ n → length more ≤ n + 1
+as_many lines more line n is few = omega (arith, few, ap length is, length_push lines line)
+
+-- no line is answered at first
+pub none_together : (style : Style) (question : Question) (lines : List (List ℕ))
+    (old : List ℕ) → lines ≡ [] → AnswersTogether style question lines old old false
+none_together style question lines old none =
+    subst (λ l. AnswersTogether style question l old old false) (sym none)
+    (record { written = []; behind = sym (append-nil old); answers = refl })
+
+module _ (style : Style) (routes : finite.FinMap key_cmp (List ℕ)) where
+  -- one line more is routed
+  routed : (done : List (List ℕ)) (line old so_far new : List ℕ) (found one : Bool)
+      → IsUtf8 line
+      → new ≡ so_far ++ route_text style line (longest line (finite.entries routes))
+      → one ≡ is_some (longest line (finite.entries routes))
+      → AnswersTogether style (Questions.Route routes) done old so_far found
+      → AnswersTogether style (Questions.Route routes) (done ++ line ∷ []) old new (found || one)
+  routed done line old so_far new found one right writes finds before =
+      let text = route_text style line (longest line (finite.entries routes)) in
+      let question = Questions.Route routes in
+      record {
+        written = before.written ++ text;
+        behind = writes ∙ ap (λ l. l ++ text) before.behind
+            ∙ append_assoc old before.written text;
+        answers = FoldsTo-push (AnswersLine style) (answered question [] false) done
+            (answered question before.written found) line
+            (answered question (before.written ++ text) (found || one)) before.answers (record {
+              right = right;
+              writes = (text, refl, refl);
+              one = one;
+              finds = finds;
+              found = refl;
+              leaves = refl;
+            });
+      }
+
+  module _ (lines : List (Bor (List ℕ))) (found : List (Option (Bor (List ℕ) × Bor (List ℕ))))
+      (all : list_map (option_map (λ r. (r.0.now, r.1.now))) found
+      ≡ list_map (λ line. longest line.now (finite.entries routes)) lines) where
+    -- the route of a line stands where the line does
+    route_at : (i : ℕ) (line : Bor (List ℕ)) (route : Option (Bor (List ℕ) × Bor (List ℕ)))
+        → i < length lines → route ≡ get_or found i route
+        → option_map (λ r. (r.0.now, r.1.now)) route
+        ≡ longest (get_or lines i line).now (finite.entries routes)
+    route_at i line route inside is =
+        let sees : Option (Bor (List ℕ) × Bor (List ℕ)) → Option (List ℕ × List ℕ) =
+        option_map (λ r. (r.0.now, r.1.now)) in
+        let asks : Bor (List ℕ) → Option (List ℕ × List ℕ) =
+        λ l. longest l.now (finite.entries routes) in
+        let within : i < length found = omega (
+          arith,
+          inside,
+          length-map found sees,
+          length-map lines asks,
+          ap length all,
+        ) in
+        ap sees is ∙ sym (get_or-map sees found i route None within)
+        ∙ ap (λ l. get_or l i None) all ∙ get_or-map asks lines i line None inside
+
+    -- one line more is routed
+    pub line_routed : (i : ℕ) (line : Bor (List ℕ))
+        (route : Option (Bor (List ℕ) × Bor (List ℕ))) (old so_far new : List ℕ) (seen one : Bool)
+        → i < length lines → route ≡ get_or found i route
+        → All IsUtf8 (list_map (λ l. l.now) lines)
+        → new ≡ so_far ++ route_text style (get_or lines i line).now
+        (option_map (λ r. (r.0.now, r.1.now)) route)
+        → one ≡ is_some route
+        → AnswersTogether style (Questions.Route routes) (list_map (λ l. l.now) (take i lines)) old
+        so_far seen
+        → AnswersTogether style (Questions.Route routes)
+        (list_map (λ l. l.now) (take (i + 1) lines)) old new (seen || one)
+    line_routed i line route old so_far new seen one inside is utf8 writes finds before =
+        let next = get_or lines i line in
+        let known = route_at i line route inside is in
+        let done = list_map (λ l. l.now) (take i lines) in
+        let one_more : i + 1 ≡ suc i = omega arith in
+        let more : list_map (λ l. l.now) (take (i + 1) lines) ≡ done ++ next.now ∷ [] =
+        ap (λ n. list_map (λ l. l.now) (take n lines)) one_more
+        ∙ ap (list_map (λ l. l.now)) (take-suc lines i line inside)
+        ∙ map-append (λ l. l.now) (take i lines) (next ∷ []) in
+        let within : i < length (list_map (λ l. l.now) lines) =
+        omega (arith, inside, length-map lines (λ l. l.now)) in
+        subst (λ l. AnswersTogether style (Questions.Route routes) l old new (seen || one))
+        (sym more) (routed done next.now old so_far new seen one
+        (subst IsUtf8 (get_or-map (λ l. l.now) lines i line [] inside)
+        (All-get_or IsUtf8 (list_map (λ l. l.now) lines) i [] within utf8))
+        (writes ∙ ap (λ r. so_far ++ route_text style next.now r) known)
+        (finds ∙ is_some-map (λ r. (r.0.now, r.1.now)) route ∙ ap is_some known) before)
+
+-- answers come behind those that wait
+pub together_behind : (style : Style) (question : Question) (lines : List (List ℕ))
+    (none next old new : List ℕ) (found : Bool) → none ≡ []
+    → AnswersTogether style question lines none next found → new ≡ old ++ next
+    → AnswersTogether style question lines old new found
+together_behind style question lines none next old new found empty answers is = record {
+  written = answers.written;
+  behind = is ∙ ap (λ l. old ++ l) (answers.behind ∙ ap (λ l. l ++ answers.written) empty);
+  answers = answers.answers;
+}
+
+-- the first lines of bytes are cut off and answered
+pub front_answered : (style : Style) (end : ℕ) (question : Question)
+    (bytes rest none next old new : List ℕ) (lines : List (Bor (List ℕ))) (together : Together)
+    → CutsLines end bytes (list_map (λ line. line.now) lines) rest
+    → length lines ≡ together.count → together.len ≡ length bytes - length rest → none ≡ []
+    → AnswersTogether style question (list_map (λ line. line.now) lines) none next
+    together.is_found
+    → new ≡ old ++ next → AnswersFront style end question bytes together old new
+front_answered style end question bytes rest none next old new lines together cuts counted sized
+    empty answers is =
+    let all = list_map (λ line. line.now) lines in
+    let joined : length bytes ≡ length cuts.front + length rest =
+    ap length cuts.joined ∙ length-append cuts.front rest in
+    record {
+      lines = all;
+      rest = rest;
+      cuts = cuts;
+      counted = length-map lines (λ line. line.now) ∙ counted;
+      sized = omega (arith, sized, joined);
+      answers = together_behind style question all none next old new together.is_found empty
+          answers is;
+    }
+
+-- none of them is
+pub front_left : (style : Style) (end : ℕ) (question : Question) (bytes old new : List ℕ)
+    → new ≡ old
+    → AnswersFront style end question bytes (record { count = 0; len = 0; is_found = false }) old
+    new
+front_left style end question bytes old new same = record {
+  lines = [];
+  rest = bytes;
+  cuts = none_cut end bytes [] refl;
+  counted = refl;
+  sized = omega arith;
+  answers = record { written = []; behind = same ∙ sym (append-nil old); answers = refl };
+}
+
+-- a reader's buffer is the front of what it has left
+buffer_first : {T A : Type 0} (remaining : T → Option (List ℕ)) (reader : BufReader T A)
+    → IfSome (reader_remaining remaining reader)
+    (λ bytes. (more : List ℕ) × (bytes ≡ reader_buffer reader ++ more))
+buffer_first remaining reader =
+    elim (cases_Bool (reader_capacity reader == 0)) [
+      | inl none ↦ subst IsFront (sym (cond-true (reader_capacity reader == 0) _ _ none)) tt
+      | inr some ↦
+          subst IsFront (sym (cond-false (reader_capacity reader == 0) _ _ some))
+          (prepended (remaining reader.inner))
+    ]
+  where
+    IsFront : Option (List ℕ) → Type 0
+    IsFront known = IfSome known
+        (λ bytes. (more : List ℕ) × (bytes ≡ reader_buffer reader ++ more))
+
+    prepended : (known : Option (List ℕ)) → IsFront (prepend_known (reader_buffer reader) known)
+    prepended None = tt
+    prepended (Some more) = (more, refl)
+
+module _ (style : Style) (end : ℕ) (question : Question) where
+  -- no line is taken
+  pub none_taken : (known : Option (List ℕ)) (old new : List ℕ) → new ≡ old
+      → IfSome known (λ bytes. TakesTogether style end question bytes known 0 old new false)
+  none_taken None old new same = tt
+  none_taken (Some bytes) old new same = record {
+    lines = [];
+    rest = bytes;
+    left_is = refl;
+    first = refl;
+    counted = refl;
+    answers = record { written = []; behind = same ∙ sym (append-nil old); answers = refl };
+  }
+
+  module _ (buffer old out : List ℕ) (together : Together)
+      (front : AnswersFront style end question buffer together old out) where
+    -- lines at the front of a buffer are taken by dropping their bytes
+    dropped : (known new : Option (List ℕ))
+        → IfSome known (λ bytes. (more : List ℕ) × (bytes ≡ buffer ++ more))
+        → DropsConsumable known new (Some (length buffer)) together.len
+        → IfSome known (λ bytes. TakesTogether style end question bytes new together.count old out
+        together.is_found)
+    dropped None new is drops = tt
+    dropped (Some bytes) new is drops =
+        let more = is.0 in
+        let cuts = front.cuts in
+        let size = together.len in
+        let joined : length buffer ≡ length cuts.front + length front.rest =
+        ap length cuts.joined ∙ length-append cuts.front front.rest in
+        let sized : size ≡ length cuts.front = omega (arith, joined, front.sized) in
+        let left : drop size bytes ≡ front.rest ++ more =
+        ap (drop size) is.1
+        ∙ drop-append-le size buffer more (omega (arith, front.sized))
+        ∙ ap (λ l. l ++ more) (ap (λ n. drop n buffer) sized
+        ∙ ap (drop (length cuts.front)) cuts.joined ∙ drop-append_seam cuts.front front.rest) in
+        record {
+          lines = front.lines;
+          rest = front.rest ++ more;
+          left_is = drops (omega (arith, front.sized)) ∙ ap Some left;
+          first = ap (lines_of end) is.1 ∙ cuts.first more;
+          counted = front.counted;
+          answers = front.answers;
+        }
+
+    pub together_taken : {T A : Type 0} (remaining : T → Option (List ℕ)) (reader : BufReader T A)
+        (new : Option (List ℕ)) → buffer ≡ reader_buffer reader
+        → DropsConsumable (reader_remaining remaining reader) new
+        (Some (length (reader_buffer reader))) together.len
+        → IfSome (reader_remaining remaining reader)
+        (λ bytes. TakesTogether style end question bytes new together.count old out
+        together.is_found)
+    together_taken remaining reader new is drops =
+        let known = reader_remaining remaining reader in
+        dropped known new
+        (subst (λ b. IfSome known (λ bytes. (more : List ℕ) × (bytes ≡ b ++ more))) (sym is)
+        (buffer_first remaining reader))
+        (subst (λ b. DropsConsumable known new (Some (length b)) together.len) (sym is) drops)
+
+-- one walk after the other is a walk over both
+joined_walks : {P A : Type 0} (R : P → A → P → Type 0) (from mid to : P) (xs ys : List A)
+    → FoldsTo R from xs mid → FoldsTo R mid ys to → FoldsTo R from (xs ++ ys) to
+joined_walks R from mid to [] ys one other = subst (λ p. FoldsTo R p ys to) (sym one) other
+joined_walks R from mid to (x ∷ xs) ys one other =
+    (one.0, one.1, joined_walks R one.0 mid to xs ys one.2 other)
+
+-- what is found, is found behind nothing
+or_nothing : (b : Bool) → (b || false) ≡ b
+or_nothing true = refl
+or_nothing false = refl
+
+module _ (style : Style) where
+  -- answers stay what they are behind others
+  behind_others : (text : List ℕ) (seen : Bool) (lines : List (List ℕ)) (from to : Answered)
+      → FoldsTo (AnswersLine style) from lines to
+      → FoldsTo (AnswersLine style)
+      (answered from.question (text ++ from.written) (seen || from.found)) lines
+      (answered to.question (text ++ to.written) (seen || to.found))
+  behind_others text seen [] from to walk =
+      ap (λ a. answered a.question (text ++ a.written) (seen || a.found)) walk
+  behind_others text seen (line ∷ lines) from to walk =
+      let mid = walk.0 in
+      let step = walk.1 in (
+        answered mid.question (text ++ mid.written) (seen || mid.found),
+        record {
+          right = step.right;
+          writes = (
+            step.writes.0,
+            ap (λ l. text ++ l) step.writes.1
+                ∙ sym (append_assoc text from.written step.writes.0),
+            step.writes.2,
+          );
+          one = step.one;
+          finds = step.finds;
+          found = ap (λ b. seen || b) step.found ∙ sym (or_assoc seen from.found step.one);
+          leaves = step.leaves;
+        },
+        behind_others text seen lines mid to walk.2,
+      )
+
+  -- lines that are answered together, behind others
+  pub all_more : (first question : Question) (done lines : List (List ℕ)) (written own : List ℕ)
+      (found one : Bool) → AnswersAll style first done (answered question written found)
+      → AnswersAll style question lines (answered question own one)
+      → AnswersAll style first (done ++ lines) (answered question (written ++ own) (found || one))
+  all_more first question done lines written own found one before more =
+      let start : answered question (written ++ []) (found || false)
+      ≡ answered question written found =
+      ap (λ l. answered question l (found || false)) (append-nil written)
+      ∙ ap (answered question written) (or_nothing found) in
+      let last = answered question (written ++ own) (found || one) in
+      joined_walks (AnswersLine style) (answered first [] false) (answered question written found)
+      last done lines before (subst (λ a. FoldsTo (AnswersLine style) a lines last) start
+      (behind_others written found lines (answered question [] false)
+      (answered question own one) more))
