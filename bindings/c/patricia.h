@@ -163,7 +163,9 @@ static inline const uint8_t *patricia_bytes(const void *bytes)
 
 /* Inserts a value at a key. Returns PATRICIA_ABSENT for a new key, or PATRICIA_FOUND where the key
  * was there: its value is replaced, and the one before is written to *old. PATRICIA_NO_MEMORY: the
- * map is unchanged. *old is written with PATRICIA_FOUND alone. */
+ * key is new, and the map is unchanged. The first insert into a map that is all zero bytes asks for
+ * memory for the map itself, too, whatever the key. Where it is refused the map is still empty, but
+ * may have memory for patricia_free to free. *old is written with PATRICIA_FOUND alone. */
 uint32_t patricia_insert(patricia_map *map, const uint8_t *key, size_t key_len, uint64_t value,
                          uint64_t *old);
 
@@ -192,9 +194,10 @@ uint32_t patricia_clone(const patricia_map *map, patricia_map *copy);
  * many inserts. Their keys lie one right behind the other in `keys`, and their lengths in `lens`;
  * each has the value in its place. Each key must come after the one before it, and after those of
  * the map. PATRICIA_DONE: all are put in. PATRICIA_NOT_IN_ORDER: a key does not come after the last
- * one; PATRICIA_NO_MEMORY: it cannot be stored; the entries before it are put in. How many were put
- * in is written to *loaded. PATRICIA_NO_ROOM: there are fewer values than lengths, or the lengths
- * reach behind `keys`; nothing is changed or written. */
+ * one; PATRICIA_NO_MEMORY: it cannot be stored; the entries before it are put in. A map that is all
+ * zero bytes needs memory itself, as for patricia_insert. How many were put in is written to
+ * *loaded. PATRICIA_NO_ROOM: there are fewer values than lengths, or the lengths reach behind
+ * `keys`; nothing is changed or written. */
 uint32_t patricia_sorted_load(patricia_map *map, const uint8_t *keys, size_t keys_size,
                               const size_t *lens, size_t count, const uint64_t *values,
                               size_t values_size, size_t *loaded);
