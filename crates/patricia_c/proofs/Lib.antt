@@ -12,5 +12,4 @@ mod RawBoxValues
 mod EntryLemmas
 mod EntriesBox
 mod SharedBox
-mod SharedLemmas
 mod TextNearLemmas

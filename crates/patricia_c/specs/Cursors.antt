@@ -1,5 +1,5 @@
 -- The entries that a cursor in a place of C has ahead.
-use Rattle.std.specs.Prelude.{ℕ, Bool, true, false, List, [], take, Option, None, Some}
+use Rattle.std.specs.Prelude.{◌≡◌, ◌≢◌, ℕ, Bool, true, false, List, [], take, Option, None, Some}
 use Rattle.std.specs.Option.{option_map}
 use Rattle.patricia_tree.specs.Cursors.{after}
 use Rattle.patricia_tree.specs.Prefixes.{under}
@@ -32,3 +32,12 @@ ahead_of None entries = entries
 ahead_of (Some position) entries =
     under (take position.common position.key.items) (until (end_of (Some position))
     (beyond position.passed position.key.items entries))
+
+-- with code 1 a cursor has passed a key; with another one it has ahead what it had; its prefix and
+-- its end stay
+pub record Passes (last : Option (List ℕ)) (code : ℕ) (old new : Option Position) : Type 0 where
+  pub passed : code ≡ 1 → (entries : List (List ℕ × ℕ)) → ahead_of new entries
+      ≡ under (prefix_of old) (until (end_of old) (after last entries))
+  pub prefix : prefix_of new ≡ prefix_of old
+  pub end_key : end_of new ≡ end_of old
+  pub stays : code ≢ 1 → (entries : List (List ℕ × ℕ)) → ahead_of new entries ≡ ahead_of old entries

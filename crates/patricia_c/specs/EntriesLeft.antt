@@ -1,5 +1,5 @@
 -- The entries that an iterator in a place of C has left.
-use Rattle.std.specs.Prelude.{◌≡◌, ◌∷◌, ℕ, List, [], length, Option, None, Some, Vec}
+use Rattle.std.specs.Prelude.{◌≡◌, ◌≢◌, ◌⊎◌, ◌∷◌, ℕ, List, [], length, Option, None, Some, Vec}
 use Rattle.std.specs.Global.{Global}
 use Rattle.patricia_c.specs.declared.entries_pointer.EntriesLeft.{EntriesLeft}
 
@@ -21,3 +21,12 @@ TakesEntry entries key value rest = entries ≡ (key, value) ∷ rest
 abbrev pub IsFirstLen : List (List ℕ × ℕ) → ℕ → Type 0
 IsFirstLen [] n = ⊥
 IsFirstLen (entry ∷ _) n = length entry.0 ≡ n
+
+-- with code 0 an iterator has entries left of which `Are` holds; code 2, where there are entries at
+-- all, says that memory ran out, and then it has none left
+pub record Iterates (Are : List (List ℕ × ℕ) → Type 0) (all : List (List ℕ × ℕ)) (code : ℕ)
+    (left : List (List ℕ × ℕ)) : Type 0 where
+  pub are : code ≡ 0 → Are left
+  pub refused : code ≡ 2 → left ≡ []
+  pub refused_nonempty : code ≡ 2 → all ≢ []
+  pub codes : (code ≡ 0) ⊎ (code ≡ 2)

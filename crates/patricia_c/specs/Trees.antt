@@ -4,12 +4,13 @@ use Rattle.std.specs.FinMap as map
 use Rattle.patricia_tree.specs.Keys.{key_cmp}
 use Rattle.patricia_tree.specs.TreeBytes.{AreTreeBytes}
 use Rattle.patricia_tree.specs.Writings.{Means, TooDeep}
-use Rattle.patricia_c.specs.Codes.{IsLen, IsRefused}
+use Rattle.patricia_c.specs.Codes.{HasOther, IsLen, IsRefused}
 
 -- whatever the items of keys are, and the bytes of a level
 module _ (item : List ℕ → Type 0) (w : ℕ) where
   -- with code 0 the tree bytes of a map are written to the room, and their number; code 3 says that
-  -- the keys are too deep, code 4 that the room is too small, and then only the number is written
+  -- the keys are too deep, code 4 that the room is too small, and then only the number is written,
+  -- code 5 that some key is no list of items
   pub record WritesTree (m : map.FinMap key_cmp ℕ) (code : ℕ) (room : List ℕ) (len : ℕ)
       (room' : List ℕ) (len' : ℕ) : Type 0 where
     pub done : code ≡ 0 → AreTreeBytes item w (take len' room') (map.entries m)
@@ -21,6 +22,7 @@ module _ (item : List ℕ → Type 0) (w : ℕ) where
     pub unwritten : code ≢ 0 → room' ≡ room
     pub len_unwritten : code ≢ 0 → code ≢ 4 → len' ≡ len
     pub not_one : code ≢ 1
+    pub other : code ≡ 5 → HasOther item (map.keys m)
 
   -- with code 0 a map is made of tree bytes and values; another code says, with an offset, why they
   -- are refused, and then the map is empty

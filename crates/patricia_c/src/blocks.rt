@@ -1,15 +1,15 @@
 //! Many entries of a cursor at once: one look-up, and then a walk.
-ghost use Rattle.std.specs.Prelude.{◌≡◌, ◌≢◌, ◌≤◌, ◌<◌, ◌++◌, ℕ, List, [], ◌∷◌, drop, length, take};
-ghost use Rattle.std.specs.Prelude.{◌⊎◌, ◌+◌, Some, None, Ok, true, false, IfOk, slice_get};
+ghost use Rattle.std.specs.Prelude.{◌≡◌, ◌≢◌, ◌≤◌, ◌++◌, ℕ, List, [], ◌∷◌, length, take};
+ghost use Rattle.std.specs.Prelude.{Some, None, Ok, true, false, IfOk};
 ghost use Rattle.std.specs.List.{last_or};
 ghost use Rattle.std.specs.Option.{option_map};
 ghost use Rattle.std.specs.FinMap as map;
-ghost use Rattle.patricia_tree.specs.Cursors.{after, before_entries};
-ghost use Rattle.patricia_tree.specs.Prefixes.{begins, under};
+ghost use Rattle.patricia_tree.specs.Cursors.{before_entries};
 ghost use Rattle.patricia_tree.specs.Ranges.{from};
-ghost use Rattle.patricia_c.specs.Blocks.{WritesBlock};
-ghost use Rattle.patricia_c.specs.Cursors.{ahead_of, beyond, end_of, prefix_of, until};
+ghost use Rattle.patricia_c.specs.Blocks.{WritesMany};
+ghost use Rattle.patricia_c.specs.Cursors.{Passes, ahead_of, beyond, end_of, prefix_of, until};
 ghost use Rattle.patricia_c.specs.Maps.{map_of};
+ghost use Rattle.patricia_c.specs.Internal.Behind.{map_behind};
 ghost use Rattle.patricia_c.specs.Internal.Filling.{AreWritten, Fills, HasNoRoom};
 ghost use Rattle.patricia_c.specs.Internal.Filling.{IsFullFirst, IsNoneFirst};
 
@@ -189,31 +189,12 @@ fn fill(
     count: &mut usize,
     len: &mut usize,
 ) -> u32
-    ensures end { result ≡ 0 →
-        slice_get (ahead_of (Some position.old) (map.entries stored.now.map)) 0 ≡ None }
-    ensures block { result ≡ 1 →
-        WritesBlock (ahead_of (Some position.old) (map.entries stored.now.map))
-        count.new len.new room.new lens.new values.new room.old lens.old values.old }
-    ensures passed { result ≡ 1 → (entries : List (List ℕ × ℕ)) →
-        ahead_of (Some position.new) entries ≡ under (prefix_of (Some position.old))
-        (until (end_of (Some position.old)) (after (option_map (λ e. e.0) (last_or None
-        (take count.new (ahead_of (Some position.old) (map.entries stored.now.map))))) entries)) }
-    ensures prefix { prefix_of (Some position.new) ≡ prefix_of (Some position.old) }
-    ensures end_key { end_of (Some position.new) ≡ end_of (Some position.old) }
-    ensures longer { result ≡ 4 →
-        option_map (λ e. length e.0) (slice_get (ahead_of (Some position.old)
-        (map.entries stored.now.map)) 0) ≡ Some len.new }
-    ensures small { result ≡ 4 →
-        (length room.old < len.new) ⊎ (length lens.old ≡ 0) ⊎ (length values.old ≡ 0) }
-    ensures stays { result ≢ 1 → position.new ≡ position.old }
-    ensures room_unwritten { result ≡ 0 ⊎ result ≡ 4 → room.new ≡ room.old }
-    ensures lens_unwritten { result ≡ 0 ⊎ result ≡ 4 → lens.new ≡ lens.old }
-    ensures values_unwritten { result ≡ 0 ⊎ result ≡ 4 → values.new ≡ values.old }
-    ensures count_unwritten { result ≢ 1 → count.new ≡ count.old }
-    ensures end_len { result ≡ 0 → len.new ≡ len.old }
-    ensures refused_len { result ≡ 2 → len.new ≡ len.old }
-    ensures codes { result ≤ 4 }
-    ensures not_three { result ≢ 3 }
+    ensures writes { WritesMany (ahead_of (Some position.old) (map.entries stored.now.map)) result
+        room.old lens.old values.old count.old len.old
+        room.new lens.new values.new count.new len.new }
+    ensures passes { Passes (option_map (λ e. e.0) (last_or None
+        (take count.new (ahead_of (Some position.old) (map.entries stored.now.map)))))
+        result (Some position.old) (Some position.new) }
 {
     let mut filled = Filled {
         count: 0,
@@ -237,42 +218,25 @@ fn fill(
 pub(crate) fn block_ahead(
     alloc: Global,
     cursor: &mut CursorPlace,
-    stored: &StoredMap,
+    stored: Option<&StoredMap>,
     room: &mut [u8],
     lens: &mut [usize],
     values: &mut [u64],
     count: &mut usize,
     len: &mut usize,
 ) -> u32
-    ensures end { result ≡ 0 →
-        slice_get (ahead_of cursor.old.pointer.stored (map.entries stored.now.map)) 0 ≡ None }
-    ensures block { result ≡ 1 →
-        WritesBlock (ahead_of cursor.old.pointer.stored (map.entries stored.now.map))
-        count.new len.new room.new lens.new values.new room.old lens.old values.old }
-    ensures passed { result ≡ 1 → (entries : List (List ℕ × ℕ)) →
-        ahead_of cursor.new.pointer.stored entries ≡ under (prefix_of cursor.old.pointer.stored)
-        (until (end_of cursor.old.pointer.stored) (after (option_map (λ e. e.0) (last_or None
-        (take count.new (ahead_of cursor.old.pointer.stored
-        (map.entries stored.now.map))))) entries)) }
-    ensures prefix { prefix_of cursor.new.pointer.stored ≡ prefix_of cursor.old.pointer.stored }
-    ensures end_key { end_of cursor.new.pointer.stored ≡ end_of cursor.old.pointer.stored }
-    ensures longer { result ≡ 4 →
-        option_map (λ e. length e.0) (slice_get (ahead_of cursor.old.pointer.stored
-        (map.entries stored.now.map)) 0) ≡ Some len.new }
-    ensures small { result ≡ 4 →
-        (length room.old < len.new) ⊎ (length lens.old ≡ 0) ⊎ (length values.old ≡ 0) }
-    ensures stays { result ≢ 1 → (entries : List (List ℕ × ℕ)) →
-        ahead_of cursor.new.pointer.stored entries ≡ ahead_of cursor.old.pointer.stored entries }
-    ensures room_unwritten { result ≡ 0 ⊎ result ≡ 4 → room.new ≡ room.old }
-    ensures lens_unwritten { result ≡ 0 ⊎ result ≡ 4 → lens.new ≡ lens.old }
-    ensures values_unwritten { result ≡ 0 ⊎ result ≡ 4 → values.new ≡ values.old }
-    ensures count_unwritten { result ≢ 1 → count.new ≡ count.old }
-    ensures end_len { result ≡ 0 → len.new ≡ len.old }
-    ensures refused_len { result ≡ 2 → len.new ≡ len.old }
-    ensures refused { result ≡ 2 → map.entries stored.now.map ≢ [] }
-    ensures codes { result ≤ 4 }
-    ensures not_three { result ≢ 3 }
+    ensures writes { WritesMany
+        (ahead_of cursor.old.pointer.stored (map.entries (map_behind stored.entry))) result
+        room.old lens.old values.old count.old len.old
+        room.new lens.new values.new count.new len.new }
+    ensures passes { Passes (option_map (λ e. e.0) (last_or None (take count.new
+        (ahead_of cursor.old.pointer.stored (map.entries (map_behind stored.entry))))))
+        result cursor.old.pointer.stored cursor.new.pointer.stored }
+    ensures refused { result ≡ 2 → map.entries (map_behind stored.entry) ≢ [] }
 {
+    let Some(stored) = stored else {
+        return END;
+    };
     if stored.map.is_empty() {
         return END;
     }
@@ -303,38 +267,14 @@ pub extern "C" fn patricia_cursor_next_many(
     len: &mut usize,
 ) -> u32
     ensures same { at.new ≡ at.old }
-    ensures end { result ≡ 0 →
-        slice_get (ahead_of cursor.old.pointer.stored (map.entries
-        (map_of at.old.pointer.stored))) 0 ≡ None }
-    ensures block { result ≡ 1 → WritesBlock (ahead_of cursor.old.pointer.stored
-        (map.entries (map_of at.old.pointer.stored)))
-        count.new len.new room.new lens.new values.new room.old lens.old values.old }
-    ensures passed { result ≡ 1 → (entries : List (List ℕ × ℕ)) →
-        ahead_of cursor.new.pointer.stored entries ≡ under (prefix_of cursor.old.pointer.stored)
-        (until (end_of cursor.old.pointer.stored) (after (option_map (λ e. e.0) (last_or None
-        (take count.new (ahead_of cursor.old.pointer.stored (map.entries
-        (map_of at.old.pointer.stored)))))) entries)) }
-    ensures prefix { prefix_of cursor.new.pointer.stored ≡ prefix_of cursor.old.pointer.stored }
-    ensures end_key { end_of cursor.new.pointer.stored ≡ end_of cursor.old.pointer.stored }
-    ensures longer { result ≡ 4 →
-        option_map (λ e. length e.0) (slice_get (ahead_of cursor.old.pointer.stored
-        (map.entries (map_of at.old.pointer.stored))) 0) ≡ Some len.new }
-    ensures small { result ≡ 4 →
-        (length room.old < len.new) ⊎ (length lens.old ≡ 0) ⊎ (length values.old ≡ 0) }
-    ensures stays { result ≢ 1 → (entries : List (List ℕ × ℕ)) →
-        ahead_of cursor.new.pointer.stored entries ≡ ahead_of cursor.old.pointer.stored entries }
-    ensures room_unwritten { result ≡ 0 ⊎ result ≡ 4 → room.new ≡ room.old }
-    ensures lens_unwritten { result ≡ 0 ⊎ result ≡ 4 → lens.new ≡ lens.old }
-    ensures values_unwritten { result ≡ 0 ⊎ result ≡ 4 → values.new ≡ values.old }
-    ensures count_unwritten { result ≢ 1 → count.new ≡ count.old }
-    ensures end_len { result ≡ 0 → len.new ≡ len.old }
-    ensures refused_len { result ≡ 2 → len.new ≡ len.old }
+    ensures writes { WritesMany
+        (ahead_of cursor.old.pointer.stored (map.entries (map_of at.old.pointer.stored)))
+        result room.old lens.old values.old count.old len.old
+        room.new lens.new values.new count.new len.new }
+    ensures passes { Passes (option_map (λ e. e.0) (last_or None (take count.new
+        (ahead_of cursor.old.pointer.stored (map.entries (map_of at.old.pointer.stored))))))
+        result cursor.old.pointer.stored cursor.new.pointer.stored }
     ensures refused { result ≡ 2 → map.entries (map_of at.old.pointer.stored) ≢ [] }
-    ensures codes { result ≤ 4 }
-    ensures not_three { result ≢ 3 }
 {
-    let Some(stored) = at.as_mut() else {
-        return END;
-    };
-    block_ahead(alloc, cursor, stored, room, lens, values, count, len)
+    block_ahead(alloc, cursor, at.stored(), room, lens, values, count, len)
 }

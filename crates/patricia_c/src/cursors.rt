@@ -9,14 +9,14 @@ ghost use Rattle.patricia_tree.specs.Cursors.{after};
 ghost use Rattle.patricia_tree.specs.Keys.{key_cmp};
 ghost use Rattle.patricia_tree.specs.Prefixes.{begins, under};
 ghost use Rattle.patricia_tree.specs.Ranges.{from};
-ghost use Rattle.patricia_c.specs.Cursors.{ahead_of, beyond, end_of, prefix_of, until};
+ghost use Rattle.patricia_c.specs.Cursors.{Passes, ahead_of, beyond, end_of, prefix_of, until};
 ghost use Rattle.patricia_c.specs.Ends.{WritesEntry};
+ghost use Rattle.patricia_c.specs.Internal.Behind.{map_behind};
 ghost use Rattle.patricia_c.specs.Maps.{map_of};
 
 use crate::codes::{DONE, END, ENTRY, NO_MEMORY, NO_ROOM};
 use crate::cursor_place::CursorPlace;
 use crate::cursor_pointer::Position;
-use crate::ends::next_of;
 use crate::map_place::MapPlace;
 use crate::map_pointer::StoredMap;
 use crate::room::copy_to;
@@ -61,6 +61,17 @@ impl Position {
     }
 }
 
+// An entry with a value of its own.
+fn owned(entry: Option<(Vec<u8>, &u64)>) -> Option<(Vec<u8>, u64)>
+    ensures { option_map {U = List ℕ × ℕ} (λ e. (e.0.items, e.1)) result
+        ≡ option_map (λ e. (e.0.items, e.1.now)) entry.entry }
+{
+    match entry {
+        Some((key, value)) => Some((key, *value)),
+        None => None,
+    }
+}
+
 // A copy of the first entry after a key that was passed, and else of the first from it on.
 fn first_beyond(
     stored: &StoredMap,
@@ -71,13 +82,10 @@ fn first_beyond(
         ≡ slice_get (beyond passed key.now (map.entries stored.now.map)) 0) }
 {
     if passed {
-        return next_of(stored, key);
+        return Ok(owned(stored.map.first_after(key)?));
     }
     let mut cursor = stored.map.cursor_from(key);
-    match cursor.next_entry()? {
-        Some((first, value)) => Ok(Some((first, *value))),
-        None => Ok(None),
-    }
+    Ok(owned(cursor.next_entry()?))
 }
 
 // A copy of the first entry from where a cursor stands on that comes before its end.
@@ -174,13 +182,8 @@ fn step(
     ensures entry { WritesEntry
         (slice_get (ahead_of (Some position.old) (map.entries stored.now.map)) 0)
         result room.old len.old value.old room.new len.new value.new }
-    ensures passed { result ≡ 1 → (entries : List (List ℕ × ℕ)) →
-        ahead_of (Some position.new) entries
-        ≡ under (prefix_of (Some position.old))
-        (until (end_of (Some position.old)) (after (Some (take len.new room.new)) entries)) }
-    ensures prefix { prefix_of (Some position.new) ≡ prefix_of (Some position.old) }
-    ensures end_key { end_of (Some position.new) ≡ end_of (Some position.old) }
-    ensures stays { result ≢ 1 → position.new ≡ position.old }
+    ensures passes { Passes (Some (take len.new room.new)) result
+        (Some position.old) (Some position.new) }
 {
     let Ok(first) = first_ahead(stored, position) else {
         return NO_MEMORY;
@@ -200,24 +203,21 @@ fn step(
 pub(crate) fn next_ahead(
     alloc: Global,
     cursor: &mut CursorPlace,
-    stored: &StoredMap,
+    stored: Option<&StoredMap>,
     room: &mut [u8],
     len: &mut usize,
     value: &mut u64,
 ) -> u32
     ensures entry { WritesEntry (slice_get (ahead_of cursor.old.pointer.stored
-        (map.entries stored.now.map)) 0)
+        (map.entries (map_behind stored.entry))) 0)
         result room.old len.old value.old room.new len.new value.new }
-    ensures passed { result ≡ 1 → (entries : List (List ℕ × ℕ)) →
-        ahead_of cursor.new.pointer.stored entries
-        ≡ under (prefix_of cursor.old.pointer.stored)
-        (until (end_of cursor.old.pointer.stored) (after (Some (take len.new room.new)) entries)) }
-    ensures prefix { prefix_of cursor.new.pointer.stored ≡ prefix_of cursor.old.pointer.stored }
-    ensures end_key { end_of cursor.new.pointer.stored ≡ end_of cursor.old.pointer.stored }
-    ensures stays { result ≢ 1 → (entries : List (List ℕ × ℕ)) →
-        ahead_of cursor.new.pointer.stored entries ≡ ahead_of cursor.old.pointer.stored entries }
-    ensures refused { result ≡ 2 → map.entries stored.now.map ≢ [] }
+    ensures passes { Passes (Some (take len.new room.new)) result
+        cursor.old.pointer.stored cursor.new.pointer.stored }
+    ensures refused { result ≡ 2 → map.entries (map_behind stored.entry) ≢ [] }
 {
+    let Some(stored) = stored else {
+        return END;
+    };
     if stored.map.is_empty() {
         return END;
     }
@@ -246,20 +246,11 @@ pub extern "C" fn patricia_cursor_next(
     ensures entry { WritesEntry (slice_get (ahead_of cursor.old.pointer.stored
         (map.entries (map_of at.old.pointer.stored))) 0)
         result room.old len.old value.old room.new len.new value.new }
-    ensures passed { result ≡ 1 → (entries : List (List ℕ × ℕ)) →
-        ahead_of cursor.new.pointer.stored entries
-        ≡ under (prefix_of cursor.old.pointer.stored)
-        (until (end_of cursor.old.pointer.stored) (after (Some (take len.new room.new)) entries)) }
-    ensures prefix { prefix_of cursor.new.pointer.stored ≡ prefix_of cursor.old.pointer.stored }
-    ensures end_key { end_of cursor.new.pointer.stored ≡ end_of cursor.old.pointer.stored }
-    ensures stays { result ≢ 1 → (entries : List (List ℕ × ℕ)) →
-        ahead_of cursor.new.pointer.stored entries ≡ ahead_of cursor.old.pointer.stored entries }
+    ensures passes { Passes (Some (take len.new room.new)) result
+        cursor.old.pointer.stored cursor.new.pointer.stored }
     ensures refused { result ≡ 2 → map.entries (map_of at.old.pointer.stored) ≢ [] }
 {
-    let Some(stored) = at.as_mut() else {
-        return END;
-    };
-    next_ahead(alloc, cursor, stored, room, len, value)
+    next_ahead(alloc, cursor, at.stored(), room, len, value)
 }
 
 /// Frees the memory of the cursor, which is then before the first entry of all.

@@ -1,12 +1,15 @@
 //! Tree bytes. The values are stored beside them, in key order, as an iterator gives them.
 ghost use Rattle.std.specs.Prelude.{◌≡◌, ◌≢◌, ◌≤◌};
+ghost use Rattle.std.specs.FinMap as map;
 ghost use Rattle.patricia_tree.specs.ByteKind.{IsByteItem};
 ghost use Rattle.patricia_c.specs.Codes.{IsCode};
+ghost use Rattle.patricia_c.specs.Internal.Behind.{map_behind};
 ghost use Rattle.patricia_c.specs.Maps.{map_of};
 ghost use Rattle.patricia_c.specs.Trees.{ReadsTree, WritesTree};
 
 use crate::codes::{DONE, NO_MEMORY, NO_ROOM, TOO_DEEP};
 use crate::map_place::MapPlace;
+use crate::map_pointer::StoredMap;
 use crate::room::copy_to;
 use patricia_tree::{DecodeError, PatriciaMap, WireError};
 use std::alloc::Global;
@@ -34,13 +37,32 @@ pub(crate) fn code(error: DecodeError, offset: &mut usize) -> u32
     code
 }
 
+// The map, or an empty one where there is none.
+pub(crate) fn map_or<'a>(
+    stored: Option<&'a StoredMap>,
+    empty: &'a PatriciaMap<u64>,
+) -> &'a PatriciaMap<u64>
+    requires { empty.now ≡ map.empty }
+    ensures { result.now ≡ map_behind stored.entry }
+{
+    match stored {
+        Some(stored) => &stored.map,
+        None => empty,
+    }
+}
+
 // Writes the tree bytes of a map to the room, where it is as long, and their number to `len`.
-pub(crate) fn write_tree_bytes(entries: &PatriciaMap<u64>, room: &mut [u8], len: &mut usize) -> u32
-    ensures tree { WritesTree IsByteItem 2 entries.now
+pub(crate) fn write_tree_bytes(
+    alloc: Global,
+    stored: Option<&StoredMap>,
+    room: &mut [u8],
+    len: &mut usize,
+) -> u32
+    ensures tree { WritesTree IsByteItem 2 (map_behind stored.entry)
         result room.old len.old room.new len.new }
     ensures codes { result ≤ 4 }
 {
-    match entries.tree_bytes() {
+    match map_or(stored, &PatriciaMap::new(alloc)).tree_bytes() {
         Ok(bytes) => {
             if copy_to(room, len, bytes.as_slice()) {
                 DONE
@@ -55,15 +77,16 @@ pub(crate) fn write_tree_bytes(entries: &PatriciaMap<u64>, room: &mut [u8], len:
 
 // Writes the wide tree bytes of a map to the room, where it is as long, and their number to `len`.
 pub(crate) fn write_wide_tree_bytes(
-    entries: &PatriciaMap<u64>,
+    alloc: Global,
+    stored: Option<&StoredMap>,
     room: &mut [u8],
     len: &mut usize,
 ) -> u32
-    ensures tree { WritesTree IsByteItem 4 entries.now
+    ensures tree { WritesTree IsByteItem 4 (map_behind stored.entry)
         result room.old len.old room.new len.new }
     ensures codes { result ≤ 4 }
 {
-    match entries.wide_tree_bytes() {
+    match map_or(stored, &PatriciaMap::new(alloc)).wide_tree_bytes() {
         Ok(bytes) => {
             if copy_to(room, len, bytes.as_slice()) {
                 DONE
@@ -91,10 +114,7 @@ pub extern "C" fn patricia_tree_bytes(
         result room.old len.old room.new len.new }
     ensures codes { result ≤ 4 }
 {
-    match at.as_mut() {
-        Some(stored) => write_tree_bytes(&stored.map, room, len),
-        None => write_tree_bytes(&PatriciaMap::new(alloc), room, len),
-    }
+    write_tree_bytes(alloc, at.stored(), room, len)
 }
 
 /// Writes the wide tree bytes, as `patricia_tree_bytes` does the tree bytes. A record would lie too
@@ -111,10 +131,7 @@ pub extern "C" fn patricia_wide_tree_bytes(
         result room.old len.old room.new len.new }
     ensures codes { result ≤ 4 }
 {
-    match at.as_mut() {
-        Some(stored) => write_wide_tree_bytes(&stored.map, room, len),
-        None => write_wide_tree_bytes(&PatriciaMap::new(alloc), room, len),
-    }
+    write_wide_tree_bytes(alloc, at.stored(), room, len)
 }
 
 /// Drops the entries of the map and makes it of tree bytes and values, in key order. Returns

@@ -1,27 +1,27 @@
 //! The first and the last entry, and those next to a key.
-ghost use Rattle.std.specs.Prelude.{◌≡◌, ◌≢◌, [], slice_get, Some, None, IfOk, OnErr};
+ghost use Rattle.std.specs.Prelude.{◌≡◌, ◌≢◌, [], slice_get, Some, None};
 ghost use Rattle.std.specs.List.{last_or};
 ghost use Rattle.std.specs.Option.{option_map};
 ghost use Rattle.std.specs.FinMap as map;
 ghost use Rattle.patricia_tree.specs.Cursors.{after};
 ghost use Rattle.patricia_tree.specs.Ranges.{before};
 ghost use Rattle.patricia_c.specs.Ends.{WritesEntry};
+ghost use Rattle.patricia_c.specs.Internal.Behind.{map_behind};
 ghost use Rattle.patricia_c.specs.Maps.{map_of};
 
 use crate::codes::{ABSENT, FOUND, NO_MEMORY, NO_ROOM};
 use crate::map_place::MapPlace;
 use crate::map_pointer::StoredMap;
 use crate::room::copy_to;
-use std::alloc::AllocError;
 
 // Writes an entry, where the room is as long as its key.
-pub(crate) fn write_entry(
-    entry: Option<(Vec<u8>, u64)>,
+fn write_entry(
+    entry: Option<(Vec<u8>, &u64)>,
     room: &mut [u8],
     len: &mut usize,
     value: &mut u64,
 ) -> u32
-    ensures entry { WritesEntry (option_map (λ e. (e.0.items, e.1)) entry)
+    ensures entry { WritesEntry (option_map (λ e. (e.0.items, e.1.now)) entry.entry)
         result room.old len.old value.old room.new len.new value.new }
     ensures not_two { result ≢ 2 }
 {
@@ -31,58 +31,91 @@ pub(crate) fn write_entry(
     if !copy_to(room, len, key.as_slice()) {
         return NO_ROOM;
     }
-    *value = there;
+    *value = *there;
     FOUND
 }
 
-// A copy of the first entry.
-pub(crate) fn first_of(stored: &StoredMap) -> Result<Option<(Vec<u8>, u64)>, AllocError>
-    ensures first { IfOk result (λ entry. option_map (λ e. (e.0.items, e.1)) entry
-        ≡ slice_get (map.entries stored.now.map) 0) }
-    ensures err { OnErr result (map.entries stored.now.map ≢ []) }
+// Writes the first entry.
+pub(crate) fn write_first(
+    stored: Option<&StoredMap>,
+    room: &mut [u8],
+    len: &mut usize,
+    value: &mut u64,
+) -> u32
+    ensures entry { WritesEntry (slice_get (map.entries (map_behind stored.entry)) 0)
+        result room.old len.old value.old room.new len.new value.new }
+    ensures refused { result ≡ 2 → map.entries (map_behind stored.entry) ≢ [] }
 {
-    match stored.map.first_key_value()? {
-        Some((key, value)) => Ok(Some((key, *value))),
-        None => Ok(None),
+    let Some(stored) = stored else {
+        return ABSENT;
+    };
+    match stored.map.first_key_value() {
+        Ok(entry) => write_entry(entry, room, len, value),
+        Err(_) => NO_MEMORY,
     }
 }
 
-// A copy of the last entry.
-pub(crate) fn last_of(stored: &StoredMap) -> Result<Option<(Vec<u8>, u64)>, AllocError>
-    ensures last { IfOk result (λ entry. option_map (λ e. (e.0.items, e.1)) entry
-        ≡ last_or None (map.entries stored.now.map)) }
-    ensures err { OnErr result (map.entries stored.now.map ≢ []) }
+// Writes the last entry.
+pub(crate) fn write_last(
+    stored: Option<&StoredMap>,
+    room: &mut [u8],
+    len: &mut usize,
+    value: &mut u64,
+) -> u32
+    ensures entry { WritesEntry (last_or None (map.entries (map_behind stored.entry)))
+        result room.old len.old value.old room.new len.new value.new }
+    ensures refused { result ≡ 2 → map.entries (map_behind stored.entry) ≢ [] }
 {
-    match stored.map.last_key_value()? {
-        Some((key, value)) => Ok(Some((key, *value))),
-        None => Ok(None),
+    let Some(stored) = stored else {
+        return ABSENT;
+    };
+    match stored.map.last_key_value() {
+        Ok(entry) => write_entry(entry, room, len, value),
+        Err(_) => NO_MEMORY,
     }
 }
 
-// A copy of the first entry whose key comes after this one.
-pub(crate) fn next_of(stored: &StoredMap, key: &[u8]) -> Result<Option<(Vec<u8>, u64)>, AllocError>
-    ensures first { IfOk result (λ entry. option_map (λ e. (e.0.items, e.1)) entry
-        ≡ slice_get (after (Some key.now) (map.entries stored.now.map)) 0) }
-    ensures err { OnErr result (map.entries stored.now.map ≢ []) }
-{
-    match stored.map.first_after(key)? {
-        Some((next, value)) => Ok(Some((next, *value))),
-        None => Ok(None),
-    }
-}
-
-// A copy of the last entry whose key comes before this one.
-pub(crate) fn previous_of(
-    stored: &StoredMap,
+// Writes the first entry whose key comes after this one.
+pub(crate) fn write_next(
+    stored: Option<&StoredMap>,
     key: &[u8],
-) -> Result<Option<(Vec<u8>, u64)>, AllocError>
-    ensures last { IfOk result (λ entry. option_map (λ e. (e.0.items, e.1)) entry
-        ≡ last_or None (before key.now (map.entries stored.now.map))) }
-    ensures err { OnErr result (before key.now (map.entries stored.now.map) ≢ []) }
+    room: &mut [u8],
+    len: &mut usize,
+    value: &mut u64,
+) -> u32
+    ensures entry { WritesEntry (slice_get (after (Some key.now)
+        (map.entries (map_behind stored.entry))) 0)
+        result room.old len.old value.old room.new len.new value.new }
+    ensures refused { result ≡ 2 → map.entries (map_behind stored.entry) ≢ [] }
 {
-    match stored.map.last_before(key)? {
-        Some((previous, value)) => Ok(Some((previous, *value))),
-        None => Ok(None),
+    let Some(stored) = stored else {
+        return ABSENT;
+    };
+    match stored.map.first_after(key) {
+        Ok(entry) => write_entry(entry, room, len, value),
+        Err(_) => NO_MEMORY,
+    }
+}
+
+// Writes the last entry whose key comes before this one.
+pub(crate) fn write_previous(
+    stored: Option<&StoredMap>,
+    key: &[u8],
+    room: &mut [u8],
+    len: &mut usize,
+    value: &mut u64,
+) -> u32
+    ensures entry { WritesEntry (last_or None (before key.now
+        (map.entries (map_behind stored.entry))))
+        result room.old len.old value.old room.new len.new value.new }
+    ensures refused { result ≡ 2 → before key.now (map.entries (map_behind stored.entry)) ≢ [] }
+{
+    let Some(stored) = stored else {
+        return ABSENT;
+    };
+    match stored.map.last_before(key) {
+        Ok(entry) => write_entry(entry, room, len, value),
+        Err(_) => NO_MEMORY,
     }
 }
 
@@ -103,13 +136,7 @@ pub extern "C" fn patricia_first(
         result room.old len.old value.old room.new len.new value.new }
     ensures refused { result ≡ 2 → map.entries (map_of at.old.pointer.stored) ≢ [] }
 {
-    let Some(stored) = at.as_mut() else {
-        return ABSENT;
-    };
-    match first_of(stored) {
-        Ok(entry) => write_entry(entry, room, len, value),
-        Err(_) => NO_MEMORY,
-    }
+    write_first(at.stored(), room, len, value)
 }
 
 /// Asks for the last entry in key order, as `patricia_first` does for the first.
@@ -126,13 +153,7 @@ pub extern "C" fn patricia_last(
         result room.old len.old value.old room.new len.new value.new }
     ensures refused { result ≡ 2 → map.entries (map_of at.old.pointer.stored) ≢ [] }
 {
-    let Some(stored) = at.as_mut() else {
-        return ABSENT;
-    };
-    match last_of(stored) {
-        Ok(entry) => write_entry(entry, room, len, value),
-        Err(_) => NO_MEMORY,
-    }
+    write_last(at.stored(), room, len, value)
 }
 
 /// Asks for the first entry whose key comes after this one, as `patricia_first` does for the first
@@ -151,13 +172,7 @@ pub extern "C" fn patricia_first_after(
         result room.old len.old value.old room.new len.new value.new }
     ensures refused { result ≡ 2 → map.entries (map_of at.old.pointer.stored) ≢ [] }
 {
-    let Some(stored) = at.as_mut() else {
-        return ABSENT;
-    };
-    match next_of(stored, key) {
-        Ok(entry) => write_entry(entry, room, len, value),
-        Err(_) => NO_MEMORY,
-    }
+    write_next(at.stored(), key, room, len, value)
 }
 
 /// Asks for the last entry whose key comes before this one, as `patricia_first` does for the first
@@ -177,11 +192,5 @@ pub extern "C" fn patricia_last_before(
     ensures refused { result ≡ 2 →
         before key.now (map.entries (map_of at.old.pointer.stored)) ≢ [] }
 {
-    let Some(stored) = at.as_mut() else {
-        return ABSENT;
-    };
-    match previous_of(stored, key) {
-        Ok(entry) => write_entry(entry, room, len, value),
-        Err(_) => NO_MEMORY,
-    }
+    write_previous(at.stored(), key, room, len, value)
 }

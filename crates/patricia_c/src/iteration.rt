@@ -1,11 +1,13 @@
 //! Iterators over entries. An iterator has entries of its own, so the map may change or be freed.
-ghost use Rattle.std.specs.Prelude.{◌≡◌, ◌≢◌, ◌≤◌, ◌<◌, ◌⊎◌, [], drop, take, length, None, IfOk};
+ghost use Rattle.std.specs.Prelude.{◌≡◌, ◌≢◌, ◌≤◌, ◌<◌, [], drop, take, length, None, IfOk};
 ghost use Rattle.std.specs.Prelude.{OnErr};
 ghost use Rattle.std.specs.FinMap as map;
 ghost use Rattle.std.specs.Option.{option_map};
 ghost use Rattle.patricia_tree.specs.Prefixes.{under};
+ghost use Rattle.patricia_c.specs.EntriesLeft.{IsFirstLen, Iterates, TakesEntry, entries_of};
+ghost use Rattle.patricia_c.specs.EntriesLeft.{pairs_of};
+ghost use Rattle.patricia_c.specs.Internal.Behind.{map_behind};
 ghost use Rattle.patricia_c.specs.Maps.{map_of};
-ghost use Rattle.patricia_c.specs.EntriesLeft.{entries_of, TakesEntry, IsFirstLen, pairs_of};
 
 use crate::codes::{DONE, END, ENTRY, NO_MEMORY, NO_ROOM};
 use crate::entries_pointer::EntriesLeft;
@@ -38,22 +40,22 @@ fn entries_under(
     Ok(Some(Box::new(alloc, EntriesLeft { left })?))
 }
 
-// Writes an iterator over the entries whose key begins with the prefix to a place at its end.
-// Returns `DONE` or `NO_MEMORY`.
+// Writes an iterator over the entries whose key begins with the prefix. Returns `DONE` or
+// `NO_MEMORY`.
 pub(crate) fn write_iterator(
     alloc: Global,
-    stored: &StoredMap,
+    stored: Option<&StoredMap>,
     prefix: &[u8],
     iterator: &mut IteratorPlace,
 ) -> u32
-    requires { iterator.old.pointer.stored ≡ None }
-    ensures entries { result ≡ 0 → entries_of iterator.new.pointer.stored
-        ≡ under prefix.now (map.entries stored.now.map) }
-    ensures refused { result ≡ 2 → entries_of iterator.new.pointer.stored ≡ [] }
-    ensures refused_if_matched { result ≡ 2 →
-        under prefix.now (map.entries stored.now.map) ≢ [] }
-    ensures codes { (result ≡ 0) ⊎ (result ≡ 2) }
+    ensures { let all = map.entries (map_behind stored.entry) in
+        Iterates (λ left. left ≡ under prefix.now all) (under prefix.now all) result
+        (entries_of iterator.new.pointer.stored) }
 {
+    drop(iterator.take());
+    let Some(stored) = stored else {
+        return DONE;
+    };
     match entries_under(alloc, stored, prefix) {
         Ok(Some(entries)) => {
             iterator.put(entries);
@@ -75,18 +77,11 @@ pub extern "C" fn patricia_iterate(
     iterator: &mut IteratorPlace,
 ) -> u32
     ensures same { at.new ≡ at.old }
-    ensures entries { result ≡ 0 → entries_of iterator.new.pointer.stored
-        ≡ under prefix.now (map.entries (map_of at.old.pointer.stored)) }
-    ensures refused { result ≡ 2 → entries_of iterator.new.pointer.stored ≡ [] }
-    ensures refused_if_matched { result ≡ 2 →
-        under prefix.now (map.entries (map_of at.old.pointer.stored)) ≢ [] }
-    ensures codes { (result ≡ 0) ⊎ (result ≡ 2) }
+    ensures left { let all = map.entries (map_of at.old.pointer.stored) in
+        Iterates (λ left. left ≡ under prefix.now all) (under prefix.now all) result
+        (entries_of iterator.new.pointer.stored) }
 {
-    drop(iterator.take());
-    let Some(stored) = at.as_mut() else {
-        return DONE;
-    };
-    write_iterator(alloc, stored, prefix, iterator)
+    write_iterator(alloc, at.stored(), prefix, iterator)
 }
 
 /// Removes the next entry. Returns `ENTRY`, and writes its key to the room, the length of the key

@@ -7,6 +7,7 @@ ghost use Rattle.std.specs.FinMap as map;
 ghost use Rattle.patricia_tree.specs.Prefixes.{longest};
 ghost use Rattle.patricia_c.specs.Many.{AnswersLongest, AnswersMany, flag, keys_in, measured};
 ghost use Rattle.patricia_c.specs.Many.{number, written};
+ghost use Rattle.patricia_c.specs.Internal.Behind.{map_behind};
 ghost use Rattle.patricia_c.specs.Maps.{map_of};
 
 use crate::codes::{DONE, NO_ROOM};
@@ -146,9 +147,9 @@ fn get_each(
     requires values_fit { length lens.now ≤ length values.old }
     requires found_fit { length lens.now ≤ length found.old }
     ensures values { values.new ≡ written (number (λ v. v)) (list_map
-        (map.get (map_of (option_copied stored.entry))) (keys_in keys.now lens.now)) values.old }
+        (map.get (map_behind stored.entry)) (keys_in keys.now lens.now)) values.old }
     ensures found { found.new ≡ written flag (list_map
-        (map.get (map_of (option_copied stored.entry))) (keys_in keys.now lens.now)) found.old }
+        (map.get (map_behind stored.entry)) (keys_in keys.now lens.now)) found.old }
 {
     match stored {
         Some(stored) => get_blocks(stored, keys, lens, values, found),
@@ -164,7 +165,7 @@ pub(crate) fn get_many(
     values: &mut [u64],
     found: &mut [u8],
 ) -> u32
-    ensures { AnswersMany (map.get (map_of (option_copied stored.entry))) keys.now lens.now
+    ensures { AnswersMany (map.get (map_behind stored.entry)) keys.now lens.now
         result values.old found.old values.new found.new }
 {
     if values.len() < lens.len() || found.len() < lens.len() || !lie_in(lens, keys.len()) {
@@ -191,10 +192,7 @@ pub extern "C" fn patricia_get_many(
     ensures answers { AnswersMany (map.get (map_of at.old.pointer.stored)) keys.now lens.now
         result values.old found.old values.new found.new }
 {
-    match at.as_mut() {
-        Some(stored) => get_many(Some(stored), keys, lens, values, found),
-        None => get_many(None, keys, lens, values, found),
-    }
+    get_many(at.stored(), keys, lens, values, found)
 }
 
 // The length of a prefix that was found, and its value.
@@ -345,13 +343,13 @@ fn longest_each(
     requires values_fit { length lens.now ≤ length values.old }
     requires found_fit { length lens.now ≤ length found.old }
     ensures lens { prefix_lens.new ≡ written (number (λ e. e.0)) (list_map
-        (λ key. measured (longest key (map.entries (map_of (option_copied stored.entry)))))
+        (λ key. measured (longest key (map.entries (map_behind stored.entry))))
         (keys_in keys.now lens.now)) prefix_lens.old }
     ensures values { values.new ≡ written (number (λ e. e.1)) (list_map
-        (λ key. measured (longest key (map.entries (map_of (option_copied stored.entry)))))
+        (λ key. measured (longest key (map.entries (map_behind stored.entry))))
         (keys_in keys.now lens.now)) values.old }
     ensures found { found.new ≡ written flag (list_map
-        (λ key. measured (longest key (map.entries (map_of (option_copied stored.entry)))))
+        (λ key. measured (longest key (map.entries (map_behind stored.entry))))
         (keys_in keys.now lens.now)) found.old }
 {
     let Some(stored) = stored else {
@@ -370,7 +368,7 @@ pub(crate) fn longest_prefix_many(
     values: &mut [u64],
     found: &mut [u8],
 ) -> u32
-    ensures { AnswersLongest (map.entries (map_of (option_copied stored.entry))) keys.now lens.now
+    ensures { AnswersLongest (map.entries (map_behind stored.entry)) keys.now lens.now
         result prefix_lens.old values.old found.old prefix_lens.new values.new found.new }
 {
     let count = lens.len();
@@ -402,8 +400,5 @@ pub extern "C" fn patricia_longest_prefix_many(
     ensures answers { AnswersLongest (map.entries (map_of at.old.pointer.stored)) keys.now lens.now
         result prefix_lens.old values.old found.old prefix_lens.new values.new found.new }
 {
-    match at.as_mut() {
-        Some(stored) => longest_prefix_many(Some(stored), keys, lens, prefix_lens, values, found),
-        None => longest_prefix_many(None, keys, lens, prefix_lens, values, found),
-    }
+    longest_prefix_many(at.stored(), keys, lens, prefix_lens, values, found)
 }

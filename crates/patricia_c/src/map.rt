@@ -1,10 +1,10 @@
 //! The calls on single entries, and those on the whole map.
-ghost use Rattle.std.specs.Prelude.{◌≡◌, ◌≢◌, ◌≤◌, ◌⊎◌, [], Some, None, true, false, IfOk};
-ghost use Rattle.std.specs.Prelude.{OnErr};
+ghost use Rattle.std.specs.Prelude.{◌≡◌, ◌≢◌, ◌≤◌, Some, None, IfOk};
 ghost use Rattle.std.specs.FinMap as map;
 ghost use Rattle.patricia_tree.specs.ByteKind.{IsByteItem};
 ghost use Rattle.patricia_tree.specs.Points.{Joins};
-ghost use Rattle.patricia_c.specs.Maps.{map_of};
+ghost use Rattle.patricia_c.specs.Internal.Behind.{map_behind};
+ghost use Rattle.patricia_c.specs.Maps.{Copies, WritesValue, map_of};
 
 use crate::codes::{ABSENT, DONE, FOUND, NO_MEMORY};
 use crate::map_place::MapPlace;
@@ -19,24 +19,33 @@ pub extern "C" fn patricia_free(at: &mut MapPlace)
     drop(at.take());
 }
 
+// The number of entries.
+pub(crate) fn len_of(stored: Option<&StoredMap>) -> usize
+    ensures { result ≡ map.len (map_behind stored.entry) }
+{
+    match stored {
+        Some(stored) => stored.map.len(),
+        None => 0,
+    }
+}
+
 /// Returns the number of entries.
 #[unsafe(no_mangle)]
 pub extern "C" fn patricia_len(at: &mut MapPlace) -> usize
     ensures len { result ≡ map.len (map_of at.old.pointer.stored) }
     ensures same { at.new ≡ at.old }
 {
-    let Some(stored) = at.as_mut() else {
-        return 0;
-    };
-    stored.map.len()
+    len_of(at.stored())
 }
 
 // Returns whether the key is there, and then writes its value.
-pub(crate) fn get_to(stored: &StoredMap, key: &[u8], value: &mut u64) -> bool
-    ensures found { result ≡ true → map.get stored.now.map key.now ≡ Some value.new }
-    ensures missing { result ≡ false → map.get stored.now.map key.now ≡ None }
-    ensures unwritten { result ≡ false → value.new ≡ value.old }
+pub(crate) fn get_to(stored: Option<&StoredMap>, key: &[u8], value: &mut u64) -> bool
+    ensures { WritesValue (map.get (map_behind stored.entry) key.now)
+        result value.old value.new }
 {
+    let Some(stored) = stored else {
+        return false;
+    };
     match stored.map.get(key) {
         Some(there) => {
             *value = *there;
@@ -50,15 +59,10 @@ pub(crate) fn get_to(stored: &StoredMap, key: &[u8], value: &mut u64) -> bool
 #[unsafe(no_mangle)]
 pub extern "C" fn patricia_get(at: &mut MapPlace, key: &[u8], value: &mut u64) -> bool
     ensures same { at.new ≡ at.old }
-    ensures found { result ≡ true →
-        map.get (map_of at.old.pointer.stored) key.now ≡ Some value.new }
-    ensures missing { result ≡ false → map.get (map_of at.old.pointer.stored) key.now ≡ None }
-    ensures unwritten { result ≡ false → value.new ≡ value.old }
+    ensures value { WritesValue (map.get (map_of at.old.pointer.stored) key.now)
+        result value.old value.new }
 {
-    let Some(stored) = at.as_mut() else {
-        return false;
-    };
-    get_to(stored, key, value)
+    get_to(at.stored(), key, value)
 }
 
 /// Inserts a value at a key. Returns `ABSENT` for a new key; `FOUND` where the key was there, and
@@ -130,14 +134,15 @@ fn copied(alloc: Global, stored: &StoredMap) -> Result<Box<StoredMap>, AllocErro
     Ok(Box::new(alloc, StoredMap { map })?)
 }
 
-// Writes a copy of the map to a place that holds the empty map. Returns `DONE` or `NO_MEMORY`.
-pub(crate) fn copy_to_place(alloc: Global, stored: &StoredMap, copy: &mut MapPlace) -> u32
-    requires { copy.old.pointer.stored ≡ None }
-    ensures same { result ≡ 0 → map_of copy.new.pointer.stored ≡ stored.now.map }
-    ensures refused { result ≡ 2 → map_of copy.new.pointer.stored ≡ map.empty }
-    ensures refused_nonempty { result ≡ 2 → map.entries stored.now.map ≢ [] }
-    ensures codes { (result ≡ 0) ⊎ (result ≡ 2) }
+// Drops the entries of a place and writes a copy of the map there. Returns `DONE` or `NO_MEMORY`.
+pub(crate) fn copy_to_place(alloc: Global, stored: Option<&StoredMap>, copy: &mut MapPlace) -> u32
+    ensures { Copies (map_behind stored.entry) result
+        (map_of copy.new.pointer.stored) }
 {
+    drop(copy.take());
+    let Some(stored) = stored else {
+        return DONE;
+    };
     if stored.map.is_empty() {
         return DONE;
     }
@@ -154,17 +159,9 @@ pub(crate) fn copy_to_place(alloc: Global, stored: &StoredMap, copy: &mut MapPla
 /// where memory ran out, never for an empty map: `copy` holds the empty map then.
 #[unsafe(no_mangle)]
 pub extern "C" fn patricia_clone(alloc: Global, at: &mut MapPlace, copy: &mut MapPlace) -> u32
-    ensures same_place { at.new ≡ at.old }
-    ensures same { result ≡ 0 →
-        map_of copy.new.pointer.stored ≡ map_of at.old.pointer.stored }
-    ensures refused { result ≡ 2 → map_of copy.new.pointer.stored ≡ map.empty }
-    ensures refused_nonempty { result ≡ 2 →
-        map.entries (map_of at.old.pointer.stored) ≢ [] }
-    ensures codes { (result ≡ 0) ⊎ (result ≡ 2) }
+    ensures same { at.new ≡ at.old }
+    ensures copy { Copies (map_of at.old.pointer.stored) result
+        (map_of copy.new.pointer.stored) }
 {
-    drop(copy.take());
-    match at.as_mut() {
-        Some(stored) => copy_to_place(alloc, stored, copy),
-        None => DONE,
-    }
+    copy_to_place(alloc, at.stored(), copy)
 }

@@ -1,11 +1,12 @@
 //! Fuzzy search: the entries whose key is few edits from another one.
-ghost use Rattle.std.specs.Prelude.{◌≡◌, ◌≢◌, ◌↔◌, ◌*◌, ◌⊎◌, [], None, IfOk, IsTrue};
+ghost use Rattle.std.specs.Prelude.{◌≡◌, ◌↔◌, ◌*◌, IfOk, IsTrue};
 ghost use Rattle.std.specs.FinMap as map;
 ghost use Rattle.std.specs.Option.{option_map};
 ghost use Rattle.patricia_tree.specs.ByteKind.{IsByteItem};
 ghost use Rattle.patricia_tree.specs.Edits.{IsNear};
 ghost use Rattle.patricia_tree.specs.TextKind.{IsTextItem};
-ghost use Rattle.patricia_c.specs.EntriesLeft.{entries_of, pairs_of};
+ghost use Rattle.patricia_c.specs.EntriesLeft.{Iterates, entries_of, pairs_of};
+ghost use Rattle.patricia_c.specs.Internal.Behind.{map_behind};
 ghost use Rattle.patricia_c.specs.Maps.{map_of};
 ghost use Rattle.patricia_c.specs.Near.{Picks};
 
@@ -114,22 +115,23 @@ fn texts_near(
     Ok(Some(Box::new(alloc, EntriesLeft { left })?))
 }
 
-// Writes an iterator over the entries whose key is at most so many edits from a key to a place at
-// its end. Returns `DONE` or `NO_MEMORY`.
+// Writes an iterator over the entries whose key is at most so many edits from a key. Returns `DONE`
+// or `NO_MEMORY`.
 pub(crate) fn write_near(
     alloc: Global,
-    stored: &StoredMap,
+    stored: Option<&StoredMap>,
     sought: &[u8],
     limit: u32,
     iterator: &mut IteratorPlace,
 ) -> u32
-    requires { iterator.old.pointer.stored ≡ None }
-    ensures entries { result ≡ 0 → Picks (λ e. IsNear IsByteItem limit e.0 sought.now)
-        (map.entries stored.now.map) (entries_of iterator.new.pointer.stored) }
-    ensures refused { result ≡ 2 → entries_of iterator.new.pointer.stored ≡ [] }
-    ensures refused_nonempty { result ≡ 2 → map.entries stored.now.map ≢ [] }
-    ensures codes { (result ≡ 0) ⊎ (result ≡ 2) }
+    ensures { let all = map.entries (map_behind stored.entry) in
+        Iterates (Picks (λ e. IsNear IsByteItem limit e.0 sought.now) all) all result
+        (entries_of iterator.new.pointer.stored) }
 {
+    drop(iterator.take());
+    let Some(stored) = stored else {
+        return DONE;
+    };
     if stored.map.is_empty() {
         return DONE;
     }
@@ -143,22 +145,23 @@ pub(crate) fn write_near(
     }
 }
 
-// Writes an iterator over the entries whose key is a text at most so many edits from a text to a
-// place at its end. Returns `DONE` or `NO_MEMORY`.
+// Writes an iterator over the entries whose key is a text at most so many edits from a text.
+// Returns `DONE` or `NO_MEMORY`.
 pub(crate) fn write_near_texts(
     alloc: Global,
-    stored: &StoredMap,
+    stored: Option<&StoredMap>,
     sought: &[u8],
     limit: u16,
     iterator: &mut IteratorPlace,
 ) -> u32
-    requires { iterator.old.pointer.stored ≡ None }
-    ensures entries { result ≡ 0 → Picks (λ e. IsNear IsTextItem limit e.0 sought.now)
-        (map.entries stored.now.map) (entries_of iterator.new.pointer.stored) }
-    ensures refused { result ≡ 2 → entries_of iterator.new.pointer.stored ≡ [] }
-    ensures refused_nonempty { result ≡ 2 → map.entries stored.now.map ≢ [] }
-    ensures codes { (result ≡ 0) ⊎ (result ≡ 2) }
+    ensures { let all = map.entries (map_behind stored.entry) in
+        Iterates (Picks (λ e. IsNear IsTextItem limit e.0 sought.now) all) all result
+        (entries_of iterator.new.pointer.stored) }
 {
+    drop(iterator.take());
+    let Some(stored) = stored else {
+        return DONE;
+    };
     if stored.map.is_empty() {
         return DONE;
     }
@@ -185,18 +188,11 @@ pub extern "C" fn patricia_within(
     iterator: &mut IteratorPlace,
 ) -> u32
     ensures same { at.new ≡ at.old }
-    ensures entries { result ≡ 0 → Picks (λ e. IsNear IsByteItem limit e.0 sought.now)
-        (map.entries (map_of at.old.pointer.stored)) (entries_of iterator.new.pointer.stored) }
-    ensures refused { result ≡ 2 → entries_of iterator.new.pointer.stored ≡ [] }
-    ensures refused_nonempty { result ≡ 2 →
-        map.entries (map_of at.old.pointer.stored) ≢ [] }
-    ensures codes { (result ≡ 0) ⊎ (result ≡ 2) }
+    ensures left { let all = map.entries (map_of at.old.pointer.stored) in
+        Iterates (Picks (λ e. IsNear IsByteItem limit e.0 sought.now) all) all result
+        (entries_of iterator.new.pointer.stored) }
 {
-    drop(iterator.take());
-    let Some(stored) = at.as_mut() else {
-        return DONE;
-    };
-    write_near(alloc, stored, sought, limit, iterator)
+    write_near(alloc, at.stored(), sought, limit, iterator)
 }
 
 /// Does as `patricia_within`, where an edit inserts, deletes or replaces a character: over the
@@ -210,16 +206,9 @@ pub extern "C" fn patricia_text_within(
     iterator: &mut IteratorPlace,
 ) -> u32
     ensures same { at.new ≡ at.old }
-    ensures entries { result ≡ 0 → Picks (λ e. IsNear IsTextItem limit e.0 sought.now)
-        (map.entries (map_of at.old.pointer.stored)) (entries_of iterator.new.pointer.stored) }
-    ensures refused { result ≡ 2 → entries_of iterator.new.pointer.stored ≡ [] }
-    ensures refused_nonempty { result ≡ 2 →
-        map.entries (map_of at.old.pointer.stored) ≢ [] }
-    ensures codes { (result ≡ 0) ⊎ (result ≡ 2) }
+    ensures left { let all = map.entries (map_of at.old.pointer.stored) in
+        Iterates (Picks (λ e. IsNear IsTextItem limit e.0 sought.now) all) all result
+        (entries_of iterator.new.pointer.stored) }
 {
-    drop(iterator.take());
-    let Some(stored) = at.as_mut() else {
-        return DONE;
-    };
-    write_near_texts(alloc, stored, sought, limit, iterator)
+    write_near_texts(alloc, at.stored(), sought, limit, iterator)
 }

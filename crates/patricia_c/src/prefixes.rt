@@ -1,9 +1,10 @@
 //! The calls that ask which keys and a key begin alike.
-ghost use Rattle.std.specs.Prelude.{◌≡◌, ◌≢◌, ◌+◌, ◌<◌, ◌⊎◌, [], length, Any, None, true, false};
+ghost use Rattle.std.specs.Prelude.{◌≡◌, ◌≢◌, ◌+◌, ◌<◌, ◌⊎◌, [], length, Any, true, false};
 ghost use Rattle.std.specs.FinMap as map;
 ghost use Rattle.patricia_tree.specs.ByteKind.{IsByteItem};
 ghost use Rattle.patricia_tree.specs.Prefixes.{IsReach, longest, under, outside};
-ghost use Rattle.patricia_c.specs.Maps.{map_of, is_entry};
+ghost use Rattle.patricia_c.specs.Internal.Behind.{map_behind};
+ghost use Rattle.patricia_c.specs.Maps.{WritesCount, WritesLength, map_of};
 
 use crate::codes::{DONE, NO_MEMORY};
 use crate::map_place::MapPlace;
@@ -12,13 +13,18 @@ use std::alloc::Global;
 
 // Returns whether some key is a prefix of this one, and then writes the length and the value of the
 // longest.
-pub(crate) fn longest_to(stored: &StoredMap, key: &[u8], len: &mut usize, value: &mut u64) -> bool
-    ensures found { result ≡ true →
-        is_entry (longest key.now (map.entries stored.now.map)) len.new value.new }
-    ensures missing { result ≡ false → longest key.now (map.entries stored.now.map) ≡ None }
-    ensures len_unwritten { result ≡ false → len.new ≡ len.old }
-    ensures value_unwritten { result ≡ false → value.new ≡ value.old }
+pub(crate) fn longest_to(
+    stored: Option<&StoredMap>,
+    key: &[u8],
+    len: &mut usize,
+    value: &mut u64,
+) -> bool
+    ensures { WritesLength (longest key.now (map.entries (map_behind stored.entry)))
+        result len.old value.old len.new value.new }
 {
+    let Some(stored) = stored else {
+        return false;
+    };
     match stored.map.get_longest_common_prefix(key) {
         Some((front, there)) => {
             *len = front.len();
@@ -39,17 +45,20 @@ pub extern "C" fn patricia_longest_prefix(
     value: &mut u64,
 ) -> bool
     ensures same { at.new ≡ at.old }
-    ensures found { result ≡ true →
-        is_entry (longest key.now (map.entries (map_of at.old.pointer.stored))) len.new value.new }
-    ensures missing { result ≡ false →
-        longest key.now (map.entries (map_of at.old.pointer.stored)) ≡ None }
-    ensures len_unwritten { result ≡ false → len.new ≡ len.old }
-    ensures value_unwritten { result ≡ false → value.new ≡ value.old }
+    ensures longest { WritesLength (longest key.now (map.entries (map_of at.old.pointer.stored)))
+        result len.old value.old len.new value.new }
 {
-    let Some(stored) = at.as_mut() else {
-        return false;
-    };
-    longest_to(stored, key, len, value)
+    longest_to(at.stored(), key, len, value)
+}
+
+// The greatest number of bytes that the key has in common with the front of any key.
+pub(crate) fn reach_of(stored: Option<&StoredMap>, key: &[u8]) -> usize
+    ensures { IsReach IsByteItem (map.keys (map_behind stored.entry)) key.now result }
+{
+    match stored {
+        Some(stored) => stored.map.longest_common_prefix_len(key),
+        None => 0,
+    }
 }
 
 /// Returns the greatest number of bytes that the key has in common with the front of any key, and 0
@@ -59,10 +68,7 @@ pub extern "C" fn patricia_longest_common_prefix_len(at: &mut MapPlace, key: &[u
     ensures same { at.new ≡ at.old }
     ensures reach { IsReach IsByteItem (map.keys (map_of at.old.pointer.stored)) key.now result }
 {
-    let Some(stored) = at.as_mut() else {
-        return 0;
-    };
-    stored.map.longest_common_prefix_len(key)
+    reach_of(at.stored(), key)
 }
 
 // Whether no key begins with the prefix.
@@ -130,15 +136,16 @@ pub extern "C" fn patricia_split_by_prefix(
 
 // Writes the number of entries whose key begins with the prefix, and returns `DONE`; or `NO_MEMORY`
 // where memory ran out.
-pub(crate) fn count_to(stored: &StoredMap, prefix: &[u8], count: &mut usize) -> u32
-    ensures count { result ≡ 0 →
-        count.new ≡ length (under prefix.now (map.entries stored.now.map)) }
-    ensures refused { result ≡ 2 → under prefix.now (map.entries stored.now.map) ≢ [] }
+pub(crate) fn count_to(stored: Option<&StoredMap>, prefix: &[u8], count: &mut usize) -> u32
+    ensures count { WritesCount (under prefix.now (map.entries (map_behind stored.entry)))
+        result count.old count.new }
     ensures refused_only_long { result ≡ 2 → Any (λ e. length prefix.now + 64 < length e.0)
-        (under prefix.now (map.entries stored.now.map)) }
-    ensures unwritten { result ≡ 2 → count.new ≡ count.old }
-    ensures codes { (result ≡ 0) ⊎ (result ≡ 2) }
+        (under prefix.now (map.entries (map_behind stored.entry))) }
 {
+    let Some(stored) = stored else {
+        *count = 0;
+        return DONE;
+    };
     let counted = stored.map.count_prefix(prefix);
     match counted {
         Ok(n) => {
@@ -154,36 +161,24 @@ pub(crate) fn count_to(stored: &StoredMap, prefix: &[u8], count: &mut usize) -> 
 #[unsafe(no_mangle)]
 pub extern "C" fn patricia_count_prefix(at: &mut MapPlace, prefix: &[u8], count: &mut usize) -> u32
     ensures same { at.new ≡ at.old }
-    ensures count { result ≡ 0 → count.new
-        ≡ length (under prefix.now (map.entries (map_of at.old.pointer.stored))) }
-    ensures refused { result ≡ 2 →
-        under prefix.now (map.entries (map_of at.old.pointer.stored)) ≢ [] }
+    ensures count { WritesCount (under prefix.now (map.entries (map_of at.old.pointer.stored)))
+        result count.old count.new }
     ensures refused_only_long { result ≡ 2 → Any (λ e. length prefix.now + 64 < length e.0)
         (under prefix.now (map.entries (map_of at.old.pointer.stored))) }
-    ensures unwritten { result ≡ 2 → count.new ≡ count.old }
-    ensures codes { (result ≡ 0) ⊎ (result ≡ 2) }
 {
-    let Some(stored) = at.as_mut() else {
-        *count = 0;
-        return DONE;
-    };
-    count_to(stored, prefix, count)
+    count_to(at.stored(), prefix, count)
 }
 
 /// Removes the entries whose key begins with the prefix, writes how many they were to `count`, and
 /// returns `DONE`; or `NO_MEMORY` where memory ran out: the entries stay.
 #[unsafe(no_mangle)]
 pub extern "C" fn patricia_remove_prefix(at: &mut MapPlace, prefix: &[u8], count: &mut usize) -> u32
-    ensures count { result ≡ 0 → count.new
-        ≡ length (under prefix.now (map.entries (map_of at.old.pointer.stored))) }
+    ensures count { WritesCount (under prefix.now (map.entries (map_of at.old.pointer.stored)))
+        result count.old count.new }
     ensures left { result ≡ 0 → map.entries (map_of at.new.pointer.stored)
         ≡ outside prefix.now (map.entries (map_of at.old.pointer.stored)) }
     ensures kept { result ≡ 2 → map_of at.new.pointer.stored ≡ map_of at.old.pointer.stored }
-    ensures refused { result ≡ 2 →
-        under prefix.now (map.entries (map_of at.old.pointer.stored)) ≢ [] }
     ensures refused_nonempty { result ≡ 2 → prefix.now ≢ [] }
-    ensures unwritten { result ≡ 2 → count.new ≡ count.old }
-    ensures codes { (result ≡ 0) ⊎ (result ≡ 2) }
 {
     let Some(stored) = at.as_mut() else {
         *count = 0;

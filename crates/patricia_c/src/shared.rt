@@ -1,7 +1,7 @@
 //! Handles of a map that several of them share. A shared map can be read and not be changed.
-ghost use Rattle.std.specs.Prelude.{◌≡◌, ◌≢◌, ◌⊎◌, [], Some, None, IfOk, MatchResult};
+ghost use Rattle.std.specs.Prelude.{◌≡◌, ◌≢◌, ◌⊎◌, Some, None, IfOk, MatchResult};
 ghost use Rattle.std.specs.FinMap as map;
-ghost use Rattle.patricia_c.specs.Maps.{map_of};
+ghost use Rattle.patricia_c.specs.Maps.{Copies, map_of};
 ghost use Rattle.patricia_c.specs.Shared.{shared_of};
 
 use crate::codes::{DONE, NO_MEMORY, SHARED};
@@ -114,22 +114,11 @@ pub extern "C" fn patricia_shared_to_map(
     shared: &mut SharedPlace,
     copy: &mut MapPlace,
 ) -> u32
-    ensures same_place { shared.new ≡ shared.old }
-    ensures same { result ≡ 0 →
-        map_of copy.new.pointer.stored ≡ shared_of shared.old.pointer.stored }
-    ensures refused { result ≡ 2 → map_of copy.new.pointer.stored ≡ map.empty }
-    ensures refused_nonempty { result ≡ 2 →
-        map.entries (shared_of shared.old.pointer.stored) ≢ [] }
-    ensures codes { (result ≡ 0) ⊎ (result ≡ 2) }
+    ensures same { shared.new ≡ shared.old }
+    ensures copy { Copies (shared_of shared.old.pointer.stored) result
+        (map_of copy.new.pointer.stored) }
 {
-    drop(copy.take());
-    let Some(handle) = shared.as_mut() else {
-        return DONE;
-    };
-    let Some(stored) = handle.stored() else {
-        return DONE;
-    };
-    copy_to_place(alloc, stored, copy)
+    copy_to_place(alloc, shared.stored(), copy)
 }
 
 /// Drops the map that `at` holds, and moves the shared map there, where it can be changed, if no

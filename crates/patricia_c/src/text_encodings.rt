@@ -3,12 +3,14 @@ ghost use Rattle.std.specs.Prelude.{◌≡◌, ◌≤◌, None, IfOk, IfSome};
 ghost use Rattle.std.specs.FinMap as map;
 ghost use Rattle.patricia_tree.specs.TextKind.{IsTextItem};
 ghost use Rattle.patricia_c.specs.Codes.{HasOther};
+ghost use Rattle.patricia_c.specs.Internal.Behind.{map_behind};
 ghost use Rattle.patricia_c.specs.Maps.{map_of};
 ghost use Rattle.patricia_c.specs.Trees.{ReadsTree, WritesTree};
 
 use crate::codes::{DONE, NO_MEMORY, NO_ROOM, NOT_TEXT, TOO_DEEP};
 use crate::encodings::code;
 use crate::map_place::MapPlace;
+use crate::map_pointer::StoredMap;
 use crate::room::copy_to;
 use patricia_keys::keys::text_of;
 use patricia_tree::{Bytes, DecodeError, PatriciaMap, StringPatriciaMap, WireError};
@@ -36,6 +38,21 @@ fn to_texts(
     Ok(Some(texts))
 }
 
+// The same of a map that may be none.
+fn texts_behind(
+    alloc: Global,
+    stored: Option<&StoredMap>,
+) -> Result<Option<StringPatriciaMap<u64>>, AllocError>
+    ensures same { IfOk result (λ found. IfSome found (λ texts. texts ≡ map_behind stored.entry)) }
+    ensures other { IfOk result (λ found. found ≡ None
+        → HasOther IsTextItem (map.keys (map_behind stored.entry))) }
+{
+    match stored {
+        Some(stored) => to_texts(alloc, &stored.map),
+        None => Ok(Some(StringPatriciaMap::new(alloc))),
+    }
+}
+
 // The map with the bytes of its texts as keys.
 fn to_bytes(alloc: Global, from: &StringPatriciaMap<u64>) -> Result<PatriciaMap<u64>, AllocError>
     ensures { IfOk result (λ bytes. bytes ≡ from.now) }
@@ -53,16 +70,15 @@ fn to_bytes(alloc: Global, from: &StringPatriciaMap<u64>) -> Result<PatriciaMap<
 // Writes the tree bytes of the map as one of texts.
 pub(crate) fn write_text_tree_bytes(
     alloc: Global,
-    entries: &PatriciaMap<u64>,
+    stored: Option<&StoredMap>,
     room: &mut [u8],
     len: &mut usize,
 ) -> u32
-    ensures tree { WritesTree IsTextItem 2 entries.now
+    ensures tree { WritesTree IsTextItem 2 (map_behind stored.entry)
         result room.old len.old room.new len.new }
-    ensures not_text { result ≡ 5 → HasOther IsTextItem (map.keys entries.now) }
     ensures codes { result ≤ 5 }
 {
-    let texts = match to_texts(alloc, entries) {
+    let texts = match texts_behind(alloc, stored) {
         Ok(Some(texts)) => texts,
         Ok(None) => return NOT_TEXT,
         Err(_) => return NO_MEMORY,
@@ -83,16 +99,15 @@ pub(crate) fn write_text_tree_bytes(
 // Writes the wide tree bytes of the map as one of texts.
 pub(crate) fn write_wide_text_tree_bytes(
     alloc: Global,
-    entries: &PatriciaMap<u64>,
+    stored: Option<&StoredMap>,
     room: &mut [u8],
     len: &mut usize,
 ) -> u32
-    ensures tree { WritesTree IsTextItem 4 entries.now
+    ensures tree { WritesTree IsTextItem 4 (map_behind stored.entry)
         result room.old len.old room.new len.new }
-    ensures not_text { result ≡ 5 → HasOther IsTextItem (map.keys entries.now) }
     ensures codes { result ≤ 5 }
 {
-    let texts = match to_texts(alloc, entries) {
+    let texts = match texts_behind(alloc, stored) {
         Ok(Some(texts)) => texts,
         Ok(None) => return NOT_TEXT,
         Err(_) => return NO_MEMORY,
@@ -122,14 +137,9 @@ pub extern "C" fn patricia_text_tree_bytes(
     ensures same { at.new ≡ at.old }
     ensures tree { WritesTree IsTextItem 2 (map_of at.old.pointer.stored)
         result room.old len.old room.new len.new }
-    ensures not_text { result ≡ 5 →
-        HasOther IsTextItem (map.keys (map_of at.old.pointer.stored)) }
     ensures codes { result ≤ 5 }
 {
-    match at.as_mut() {
-        Some(stored) => write_text_tree_bytes(alloc, &stored.map, room, len),
-        None => write_text_tree_bytes(alloc, &PatriciaMap::new(alloc), room, len),
-    }
+    write_text_tree_bytes(alloc, at.stored(), room, len)
 }
 
 /// Writes the wide tree bytes of the map as one of texts, as `patricia_text_tree_bytes` does the
@@ -144,14 +154,9 @@ pub extern "C" fn patricia_text_wide_tree_bytes(
     ensures same { at.new ≡ at.old }
     ensures tree { WritesTree IsTextItem 4 (map_of at.old.pointer.stored)
         result room.old len.old room.new len.new }
-    ensures not_text { result ≡ 5 →
-        HasOther IsTextItem (map.keys (map_of at.old.pointer.stored)) }
     ensures codes { result ≤ 5 }
 {
-    match at.as_mut() {
-        Some(stored) => write_wide_text_tree_bytes(alloc, &stored.map, room, len),
-        None => write_wide_text_tree_bytes(alloc, &PatriciaMap::new(alloc), room, len),
-    }
+    write_wide_text_tree_bytes(alloc, at.stored(), room, len)
 }
 
 /// Drops the entries of the map and makes it of tree bytes of texts and values, as

@@ -1,16 +1,13 @@
 //! Tree bytes of maps that handles share.
 ghost use Rattle.std.specs.Prelude.{◌≡◌, ◌≤◌};
-ghost use Rattle.std.specs.FinMap as map;
 ghost use Rattle.patricia_tree.specs.ByteKind.{IsByteItem};
 ghost use Rattle.patricia_tree.specs.TextKind.{IsTextItem};
-ghost use Rattle.patricia_c.specs.Codes.{HasOther};
 ghost use Rattle.patricia_c.specs.Shared.{shared_of};
 ghost use Rattle.patricia_c.specs.Trees.{WritesTree};
 
 use crate::encodings::{write_tree_bytes, write_wide_tree_bytes};
 use crate::shared_place::SharedPlace;
 use crate::text_encodings::{write_text_tree_bytes, write_wide_text_tree_bytes};
-use patricia_tree::PatriciaMap;
 use std::alloc::Global;
 
 /// Writes what `patricia_tree_bytes` does.
@@ -26,13 +23,7 @@ pub extern "C" fn patricia_shared_tree_bytes(
         result room.old len.old room.new len.new }
     ensures codes { result ≤ 4 }
 {
-    let Some(handle) = shared.as_mut() else {
-        return write_tree_bytes(&PatriciaMap::new(alloc), room, len);
-    };
-    match handle.stored() {
-        Some(stored) => write_tree_bytes(&stored.map, room, len),
-        None => write_tree_bytes(&PatriciaMap::new(alloc), room, len),
-    }
+    write_tree_bytes(alloc, shared.stored(), room, len)
 }
 
 /// Writes what `patricia_wide_tree_bytes` does.
@@ -48,13 +39,7 @@ pub extern "C" fn patricia_shared_wide_tree_bytes(
         result room.old len.old room.new len.new }
     ensures codes { result ≤ 4 }
 {
-    let Some(handle) = shared.as_mut() else {
-        return write_wide_tree_bytes(&PatriciaMap::new(alloc), room, len);
-    };
-    match handle.stored() {
-        Some(stored) => write_wide_tree_bytes(&stored.map, room, len),
-        None => write_wide_tree_bytes(&PatriciaMap::new(alloc), room, len),
-    }
+    write_wide_tree_bytes(alloc, shared.stored(), room, len)
 }
 
 /// Writes what `patricia_text_tree_bytes` does.
@@ -68,17 +53,9 @@ pub extern "C" fn patricia_shared_text_tree_bytes(
     ensures same { shared.new ≡ shared.old }
     ensures tree { WritesTree IsTextItem 2 (shared_of shared.old.pointer.stored)
         result room.old len.old room.new len.new }
-    ensures not_text { result ≡ 5 →
-        HasOther IsTextItem (map.keys (shared_of shared.old.pointer.stored)) }
     ensures codes { result ≤ 5 }
 {
-    let Some(handle) = shared.as_mut() else {
-        return write_text_tree_bytes(alloc, &PatriciaMap::new(alloc), room, len);
-    };
-    match handle.stored() {
-        Some(stored) => write_text_tree_bytes(alloc, &stored.map, room, len),
-        None => write_text_tree_bytes(alloc, &PatriciaMap::new(alloc), room, len),
-    }
+    write_text_tree_bytes(alloc, shared.stored(), room, len)
 }
 
 /// Writes what `patricia_text_wide_tree_bytes` does.
@@ -92,15 +69,7 @@ pub extern "C" fn patricia_shared_text_wide_tree_bytes(
     ensures same { shared.new ≡ shared.old }
     ensures tree { WritesTree IsTextItem 4 (shared_of shared.old.pointer.stored)
         result room.old len.old room.new len.new }
-    ensures not_text { result ≡ 5 →
-        HasOther IsTextItem (map.keys (shared_of shared.old.pointer.stored)) }
     ensures codes { result ≤ 5 }
 {
-    let Some(handle) = shared.as_mut() else {
-        return write_wide_text_tree_bytes(alloc, &PatriciaMap::new(alloc), room, len);
-    };
-    match handle.stored() {
-        Some(stored) => write_wide_text_tree_bytes(alloc, &stored.map, room, len),
-        None => write_wide_text_tree_bytes(alloc, &PatriciaMap::new(alloc), room, len),
-    }
+    write_wide_text_tree_bytes(alloc, shared.stored(), room, len)
 }

@@ -7,8 +7,7 @@ ghost use Rattle.patricia_tree.specs.Ranges.{before};
 ghost use Rattle.patricia_c.specs.Ends.{WritesEntry};
 ghost use Rattle.patricia_c.specs.Shared.{shared_of};
 
-use crate::codes::{ABSENT, NO_MEMORY};
-use crate::ends::{first_of, last_of, next_of, previous_of, write_entry};
+use crate::ends::{write_first, write_last, write_next, write_previous};
 use crate::shared_place::SharedPlace;
 
 /// Answers as `patricia_first` does.
@@ -25,16 +24,7 @@ pub extern "C" fn patricia_shared_first(
         result room.old len.old value.old room.new len.new value.new }
     ensures refused { result ≡ 2 → map.entries (shared_of shared.old.pointer.stored) ≢ [] }
 {
-    let Some(handle) = shared.as_mut() else {
-        return ABSENT;
-    };
-    let Some(stored) = handle.stored() else {
-        return ABSENT;
-    };
-    match first_of(stored) {
-        Ok(entry) => write_entry(entry, room, len, value),
-        Err(_) => NO_MEMORY,
-    }
+    write_first(shared.stored(), room, len, value)
 }
 
 /// Answers as `patricia_last` does.
@@ -51,16 +41,7 @@ pub extern "C" fn patricia_shared_last(
         result room.old len.old value.old room.new len.new value.new }
     ensures refused { result ≡ 2 → map.entries (shared_of shared.old.pointer.stored) ≢ [] }
 {
-    let Some(handle) = shared.as_mut() else {
-        return ABSENT;
-    };
-    let Some(stored) = handle.stored() else {
-        return ABSENT;
-    };
-    match last_of(stored) {
-        Ok(entry) => write_entry(entry, room, len, value),
-        Err(_) => NO_MEMORY,
-    }
+    write_last(shared.stored(), room, len, value)
 }
 
 /// Answers as `patricia_first_after` does.
@@ -78,16 +59,7 @@ pub extern "C" fn patricia_shared_first_after(
         result room.old len.old value.old room.new len.new value.new }
     ensures refused { result ≡ 2 → map.entries (shared_of shared.old.pointer.stored) ≢ [] }
 {
-    let Some(handle) = shared.as_mut() else {
-        return ABSENT;
-    };
-    let Some(stored) = handle.stored() else {
-        return ABSENT;
-    };
-    match next_of(stored, key) {
-        Ok(entry) => write_entry(entry, room, len, value),
-        Err(_) => NO_MEMORY,
-    }
+    write_next(shared.stored(), key, room, len, value)
 }
 
 /// Answers as `patricia_last_before` does.
@@ -106,14 +78,5 @@ pub extern "C" fn patricia_shared_last_before(
     ensures refused { result ≡ 2 →
         before key.now (map.entries (shared_of shared.old.pointer.stored)) ≢ [] }
 {
-    let Some(handle) = shared.as_mut() else {
-        return ABSENT;
-    };
-    let Some(stored) = handle.stored() else {
-        return ABSENT;
-    };
-    match previous_of(stored, key) {
-        Ok(entry) => write_entry(entry, room, len, value),
-        Err(_) => NO_MEMORY,
-    }
+    write_previous(shared.stored(), key, room, len, value)
 }

@@ -20,10 +20,7 @@ pub extern "C" fn patricia_shared_get_many(
     ensures answers { AnswersMany (map.get (shared_of shared.old.pointer.stored)) keys.now lens.now
         result values.old found.old values.new found.new }
 {
-    match shared.as_mut() {
-        Some(handle) => get_many(handle.stored(), keys, lens, values, found),
-        None => get_many(None, keys, lens, values, found),
-    }
+    get_many(shared.stored(), keys, lens, values, found)
 }
 
 /// Answers as `patricia_longest_prefix_many` does.
@@ -41,10 +38,5 @@ pub extern "C" fn patricia_shared_longest_prefix_many(
         keys.now lens.now result prefix_lens.old values.old found.old
         prefix_lens.new values.new found.new }
 {
-    match shared.as_mut() {
-        Some(handle) => {
-            longest_prefix_many(handle.stored(), keys, lens, prefix_lens, values, found)
-        }
-        None => longest_prefix_many(None, keys, lens, prefix_lens, values, found),
-    }
+    longest_prefix_many(shared.stored(), keys, lens, prefix_lens, values, found)
 }

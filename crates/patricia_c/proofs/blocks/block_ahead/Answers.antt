@@ -1,14 +1,25 @@
-use Rattle.std.proofs.Common.{refl}
+use Rattle.std.proofs.Common.{rules, refl, sym, ap}
+use Rattle.std.specs.Option.{option_copied}
 use Rattle.patricia_c.proofs.CursorLemmas.{ahead_empty, filled, emptied}
+use Rattle.patricia_c.proofs.EmptyLemmas.{none_entries}
 use Rattle.patricia_c.proofs.blocks.block_ahead.Goals as goal
 
-pub returns-then-is_empty-clause-end : goal.returns-then-is_empty-clause-end
-returns-then-is_empty-clause-end c _ =
-    let len = c.if-is_empty.ensures.0 in
-    ahead_empty c.args.cursor.now.pointer.stored _ (emptied c.args.stored.now.map (len refl))
+pub returns-in_default-clause-writes : goal.returns-in_default-clause-writes
+returns-in_default-clause-writes c =
+    let none = ahead_empty c.args.cursor.now.pointer.stored _ (none_entries _ (sym (ap option_copied c.in_default.is))) in
+    search (rules, none)
 
-pub returns-in_default-clause-refused : goal.returns-in_default-clause-refused
-returns-in_default-clause-refused c _ none = filled c.args.stored.now.map c.if-is_empty.ensures.1 none
+pub returns-then-is_empty-clause-writes : goal.returns-then-is_empty-clause-writes
+returns-then-is_empty-clause-writes c =
+    let none = ahead_empty c.args.cursor.now.pointer.stored _ (emptied c.in-Some.stored.now.map (c.if-is_empty.ensures.0 refl)) in
+    search (rules, none)
 
 pub returns-clause-refused : goal.returns-clause-refused
-returns-clause-refused c _ none = filled c.args.stored.now.map c.if-is_empty.ensures.1 none
+returns-clause-refused c =
+    let some = filled c.in-Some.stored.now.map c.if-is_empty.ensures.1 in
+    search (rules, some)
+
+pub returns-in_default-take_or_make-clause-refused : goal.returns-in_default-take_or_make-clause-refused
+returns-in_default-take_or_make-clause-refused c =
+    let some = filled c.in-Some.stored.now.map c.if-is_empty.ensures.1 in
+    search (rules, some)

@@ -1,10 +1,9 @@
-use Rattle.std.proofs.Common.{◌≡◌, ap, length, ◌∙◌}
+use Rattle.std.proofs.Common.{ap, length, ◌∙◌}
 use Rattle.std.proofs.lemmas.List.{length-take-le}
-use Rattle.std.specs.Prelude.{map as list_map}
 use Rattle.std.specs.Option.{option_map}
 use Rattle.std.specs.FinMap as map
 use Rattle.patricia_tree.specs.Prefixes.{longest}
-use Rattle.patricia_c.specs.Many.{flag, keys_in, measured, number, written}
+use Rattle.patricia_c.specs.Many.{flag, measured, number, written}
 use Rattle.patricia_c.proofs.ManyLemmas.{answers_of, told_of}
 use Rattle.patricia_c.proofs.many.longest_block.Goals as goal
 

@@ -1,4 +1,4 @@
-use Rattle.std.proofs.Common.{◌≡◌, List, ℕ, None, refl, sym, ap, ◌∙◌, ◌++◌, length, drop, replicate}
+use Rattle.std.proofs.Common.{refl, sym, ap, ◌∙◌, ◌++◌, length, drop, replicate}
 use Rattle.std.proofs.lemmas.List.{length-take-le}
 use Rattle.std.specs.Option.{option_copied}
 use Rattle.std.specs.FinMap as map

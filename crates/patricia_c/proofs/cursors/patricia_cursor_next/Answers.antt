@@ -1,7 +1,0 @@
-use Rattle.std.proofs.Common.{rules}
-use Rattle.patricia_c.proofs.CursorLemmas.{ahead_empty}
-use Rattle.patricia_c.proofs.EmptyLemmas.{none_entries}
-use Rattle.patricia_c.proofs.cursors.patricia_cursor_next.Goals as goal
-
-pub returns-in_default-clause-entry : goal.returns-in_default-clause-entry
-returns-in_default-clause-entry c = let none = ahead_empty c.args.cursor.now.pointer.stored _ (none_entries _ c.in_default.ensures.taken) in search (rules, none)

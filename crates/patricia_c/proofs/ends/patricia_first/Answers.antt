@@ -1,6 +1,0 @@
-use Rattle.std.proofs.Common.{rules, ap, ℕ, List, slice_get}
-use Rattle.patricia_c.proofs.EmptyLemmas.{none_entries}
-use Rattle.patricia_c.proofs.ends.patricia_first.Goals as goal
-
-pub returns-in_default-clause-entry : goal.returns-in_default-clause-entry
-returns-in_default-clause-entry c = let none = ap (λ (entries : List (List ℕ × ℕ)). slice_get entries 0) (none_entries _ c.in_default.ensures.taken) in search (rules, none)

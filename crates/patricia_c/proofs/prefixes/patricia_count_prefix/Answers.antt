@@ -1,7 +1,0 @@
-use Rattle.std.proofs.Common.{sym, ap, ℕ, List, length}
-use Rattle.patricia_tree.specs.Prefixes.{under}
-use Rattle.patricia_c.proofs.EmptyLemmas.{none_entries}
-use Rattle.patricia_c.proofs.prefixes.patricia_count_prefix.Goals as goal
-
-pub returns-in_default-clause-count : goal.returns-in_default-clause-count
-returns-in_default-clause-count c _ = sym (ap (λ (entries : List (List ℕ × ℕ)). length (under c.args.prefix.now entries)) (none_entries _ c.in_default.ensures.taken))
