@@ -3,6 +3,8 @@ use Rattle.std.proofs.Common.{◌≡◌, ◌-◌, ℕ, Bool, true, false, List, 
 use Rattle.std.proofs.lemmas.Bool.{eqb-true}
 use Rattle.std.proofs.lemmas.List.{nil_from_length}
 use Rattle.std.proofs.lemmas.Cmp.{nat_list_cmp_total}
+use denote.Ref.{Bor}
+use Rattle.std.specs.Option.{option_copied}
 use Rattle.std.specs.FinMap as map
 use Rattle.std.specs.FinMap.{get-empty, len-empty, len-entries, len-remove, empty_of_len}
 use mathlib.Core.Bool.{cond}
@@ -10,6 +12,7 @@ use Rattle.patricia_tree.specs.ByteKind.{IsByteItem}
 use Rattle.patricia_tree.specs.Keys.{key_cmp}
 use Rattle.patricia_tree.specs.Prefixes.{IsReach, longest}
 use Rattle.patricia_c.specs.declared.map_pointer.StoredMap.{StoredMap}
+use Rattle.patricia_c.specs.Internal.Behind.{map_behind}
 use Rattle.patricia_c.specs.Many.{measured}
 use Rattle.patricia_c.specs.Maps.{map_of}
 
@@ -42,6 +45,17 @@ module _ (o : Option StoredMap) (none : None ≡ o) where
 
   pub none_remove : (k : List ℕ) → map.empty ≡ map.remove (map_of o) k
   none_remove k = subst (λ (o : Option StoredMap). map.empty ≡ map.remove (map_of o) k) none (sym (empty_remove k))
+
+-- the same of a map that is read where there is none
+module _ (stored : Option (Bor StoredMap)) (none : stored ≡ None) where
+  pub behind_len : map.len (map_behind stored) ≡ 0
+  behind_len = sym (none_len (option_copied stored) (sym (ap option_copied none)))
+
+  pub behind_get : (k : List ℕ) → map.get (map_behind stored) k ≡ None
+  behind_get = none_get (option_copied stored) (sym (ap option_copied none))
+
+  pub behind_entries : map.entries (map_behind stored) ≡ []
+  behind_entries = none_entries (option_copied stored) (sym (ap option_copied none))
 
 -- bytes that are tested to be empty are
 pub empty_is : (b : Bool) (bytes : List ℕ) → b ≡ (length bytes == 0) → b ≡ true → bytes ≡ []

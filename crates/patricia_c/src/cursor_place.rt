@@ -80,6 +80,7 @@ impl CursorPlace {
 
     /// Removes the position from the place, or makes that before the first entry of all. The error
     /// is an allocation failure.
+    #[tactic(auto, using(crate::proofs::CursorLemmas::under_start))]
     pub(crate) fn take_or_make(&mut self, alloc: Global) -> Result<Box<Position>, AllocError>
         ensures ahead { IfOk result (λ b. (entries : List (List ℕ × ℕ)) →
             ahead_of (Some b.value) entries ≡ ahead_of self.old.pointer.stored entries) }

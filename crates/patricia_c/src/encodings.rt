@@ -137,6 +137,7 @@ pub extern "C" fn patricia_wide_tree_bytes(
 /// Drops the entries of the map and makes it of tree bytes and values, in key order. Returns
 /// `DONE`, `NO_MEMORY`, or the code of the first fault, whose offset it writes to `offset`. Where
 /// it does not return `DONE` the place holds the empty map.
+#[tactic(auto, using(crate::proofs::CodeLemmas::memory_refuses))]
 #[unsafe(no_mangle)]
 pub extern "C" fn patricia_from_tree_bytes(
     alloc: Global,
@@ -166,6 +167,7 @@ pub extern "C" fn patricia_from_tree_bytes(
 }
 
 /// Makes the map of wide tree bytes and values, as `patricia_from_tree_bytes` does of tree bytes.
+#[tactic(auto, using(crate::proofs::CodeLemmas::memory_refuses))]
 #[unsafe(no_mangle)]
 pub extern "C" fn patricia_from_wide_tree_bytes(
     alloc: Global,

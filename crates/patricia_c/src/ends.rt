@@ -36,6 +36,7 @@ fn write_entry(
 }
 
 // Writes the first entry.
+#[tactic(auto, using(crate::proofs::EmptyLemmas::behind_entries))]
 pub(crate) fn write_first(
     stored: Option<&StoredMap>,
     room: &mut [u8],
@@ -56,6 +57,7 @@ pub(crate) fn write_first(
 }
 
 // Writes the last entry.
+#[tactic(auto, using(crate::proofs::EmptyLemmas::behind_entries))]
 pub(crate) fn write_last(
     stored: Option<&StoredMap>,
     room: &mut [u8],
@@ -76,6 +78,7 @@ pub(crate) fn write_last(
 }
 
 // Writes the first entry whose key comes after this one.
+#[tactic(auto, using(crate::proofs::EmptyLemmas::behind_entries))]
 pub(crate) fn write_next(
     stored: Option<&StoredMap>,
     key: &[u8],
@@ -98,6 +101,7 @@ pub(crate) fn write_next(
 }
 
 // Writes the last entry whose key comes before this one.
+#[tactic(auto, using(crate::proofs::EmptyLemmas::behind_entries))]
 pub(crate) fn write_previous(
     stored: Option<&StoredMap>,
     key: &[u8],

@@ -42,6 +42,7 @@ fn entries_under(
 
 // Writes an iterator over the entries whose key begins with the prefix. Returns `DONE` or
 // `NO_MEMORY`.
+#[tactic(auto, using(crate::proofs::EmptyLemmas::behind_entries))]
 pub(crate) fn write_iterator(
     alloc: Global,
     stored: Option<&StoredMap>,

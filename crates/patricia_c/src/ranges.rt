@@ -9,6 +9,7 @@ use crate::cursor_pointer::Position;
 use std::alloc::{AllocError, Global};
 
 // Where a cursor stands that has the entries from a key on ahead, up to another one.
+#[tactic(auto, using(patricia_model::proofs::PrefixLemmas::under_empty))]
 fn at_range(alloc: Global, start: &[u8], end: &[u8]) -> Result<Box<Position>, AllocError>
     ensures ahead { IfOk result (λ b. (entries : List (List ℕ × ℕ)) →
         ahead_of (Some b.value) entries ≡ before end.now (from start.now entries)) }

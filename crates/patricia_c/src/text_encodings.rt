@@ -161,6 +161,7 @@ pub extern "C" fn patricia_text_wide_tree_bytes(
 
 /// Drops the entries of the map and makes it of tree bytes of texts and values, as
 /// `patricia_from_tree_bytes` does of those of byte strings.
+#[tactic(auto, using(crate::proofs::CodeLemmas::memory_refuses))]
 #[unsafe(no_mangle)]
 pub extern "C" fn patricia_text_from_tree_bytes(
     alloc: Global,
@@ -195,6 +196,7 @@ pub extern "C" fn patricia_text_from_tree_bytes(
 
 /// Makes the map of wide tree bytes of texts and values, as `patricia_text_from_tree_bytes` does of
 /// tree bytes.
+#[tactic(auto, using(crate::proofs::CodeLemmas::memory_refuses))]
 #[unsafe(no_mangle)]
 pub extern "C" fn patricia_text_from_wide_tree_bytes(
     alloc: Global,
