@@ -44,7 +44,7 @@ impl LinkRef {
         }
     }
 
-    // The link to one of the siblings that lie behind one another, where this is that to the first.
+    /// The link to one of the siblings that lie behind one another, by that to the first of them.
     pub fn behind(self, first: NodeId, id: NodeId) -> LinkRef
         requires { first ≤ id }
         ensures { result ≡ ref_behind self first id }
