@@ -10,6 +10,7 @@ from tests.support import in_turn, refused
 SAID = b'out of memory', b'the arguments are not read'
 COMMANDS = [
     (['route', 'routes'], b'/api/users/7\n/x\napi\n'),
+    (['route', 'routes'], b'/api/users/7\nx\n' * 200),
     (['complete', 'names', '-n', '2'], b'foo\nba\nx\n'),
     (['near', 'names', '-k', '2'], b'fooo\nx\n'),
     (['block', 'blocked'], b'eu.ads.example.com\nmytracker.net\nCDN.tracker.net.\n'),
