@@ -17,3 +17,5 @@ one_more_entry entries entry left later whole e same =
 pub pairs_of-length : (entries : List (Vec ℕ Global × ℕ)) → length (pairs_of entries) ≡ length entries
 pairs_of-length [] = refl
 pairs_of-length (_ ∷ entries) = ap suc (pairs_of-length entries)
+
+pub ruleset lengths = (pairs_of-length)

@@ -3,6 +3,7 @@ mod CodeLemmas
 mod CopyLemmas
 mod CursorLemmas
 mod EmptyLemmas
+mod EmptyRules
 mod LoadLemmas
 mod ManyLemmas
 mod MapBox

@@ -215,7 +215,7 @@ fn fill(
 }
 
 // Writes entries of the map that the cursor has ahead, and passes them.
-#[tactic(auto, using(crate::proofs::EmptyLemmas::behind_entries, crate::proofs::CursorLemmas::ahead_empty, crate::proofs::CursorLemmas::emptied, crate::proofs::CursorLemmas::filled))]
+#[tactic(auto, using(crate::proofs::EmptyRules::no_entry))]
 pub(crate) fn block_ahead(
     alloc: Global,
     cursor: &mut CursorPlace,

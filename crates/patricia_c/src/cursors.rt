@@ -130,7 +130,7 @@ fn first_ahead(
 /// whose key begins with the first `common` bytes of this key; where it is shorter, with the key.
 /// Returns `DONE`; or `NO_MEMORY` where memory ran out, never for the empty key: the cursor stands
 /// where it stood.
-#[tactic(auto, using(crate::proofs::CursorLemmas::under_whole, crate::proofs::CursorLemmas::under_taken, patricia_model::proofs::PrefixLemmas::under_empty, crate::proofs::EmptyLemmas::empty_is))]
+#[tactic(auto, using(crate::proofs::EmptyRules::no_byte))]
 #[unsafe(no_mangle)]
 pub extern "C" fn patricia_cursor_seek(
     alloc: Global,
@@ -201,7 +201,7 @@ fn step(
 }
 
 // Writes the first entry of the map that the cursor has ahead, and passes it.
-#[tactic(auto, using(crate::proofs::EmptyLemmas::behind_entries, crate::proofs::CursorLemmas::ahead_empty, crate::proofs::CursorLemmas::emptied, crate::proofs::CursorLemmas::filled))]
+#[tactic(auto, using(crate::proofs::EmptyRules::no_entry))]
 pub(crate) fn next_ahead(
     alloc: Global,
     cursor: &mut CursorPlace,

@@ -36,7 +36,7 @@ fn write_entry(
 }
 
 // Writes the first entry.
-#[tactic(auto, using(crate::proofs::EmptyLemmas::behind_entries))]
+#[tactic(auto, using(crate::proofs::EmptyRules::no_map))]
 pub(crate) fn write_first(
     stored: Option<&StoredMap>,
     room: &mut [u8],
@@ -57,7 +57,7 @@ pub(crate) fn write_first(
 }
 
 // Writes the last entry.
-#[tactic(auto, using(crate::proofs::EmptyLemmas::behind_entries))]
+#[tactic(auto, using(crate::proofs::EmptyRules::no_map))]
 pub(crate) fn write_last(
     stored: Option<&StoredMap>,
     room: &mut [u8],
@@ -78,7 +78,7 @@ pub(crate) fn write_last(
 }
 
 // Writes the first entry whose key comes after this one.
-#[tactic(auto, using(crate::proofs::EmptyLemmas::behind_entries))]
+#[tactic(auto, using(crate::proofs::EmptyRules::no_map))]
 pub(crate) fn write_next(
     stored: Option<&StoredMap>,
     key: &[u8],
@@ -101,7 +101,7 @@ pub(crate) fn write_next(
 }
 
 // Writes the last entry whose key comes before this one.
-#[tactic(auto, using(crate::proofs::EmptyLemmas::behind_entries))]
+#[tactic(auto, using(crate::proofs::EmptyRules::no_map))]
 pub(crate) fn write_previous(
     stored: Option<&StoredMap>,
     key: &[u8],

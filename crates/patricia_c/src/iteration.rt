@@ -42,7 +42,7 @@ fn entries_under(
 
 // Writes an iterator over the entries whose key begins with the prefix. Returns `DONE` or
 // `NO_MEMORY`.
-#[tactic(auto, using(crate::proofs::EmptyLemmas::behind_entries))]
+#[tactic(auto, using(crate::proofs::EmptyRules::no_map))]
 pub(crate) fn write_iterator(
     alloc: Global,
     stored: Option<&StoredMap>,
@@ -129,6 +129,7 @@ pub extern "C" fn patricia_iterator_next(
 }
 
 /// Returns the number of entries that the iterator has left.
+#[tactic(auto, using(crate::proofs::EntryLemmas::lengths))]
 #[unsafe(no_mangle)]
 pub extern "C" fn patricia_iterator_len(iterator: &mut IteratorPlace) -> usize
     ensures len { result ≡ length (entries_of iterator.old.pointer.stored) }

@@ -20,7 +20,7 @@ pub extern "C" fn patricia_free(at: &mut MapPlace)
 }
 
 // The number of entries.
-#[tactic(auto, using(crate::proofs::EmptyLemmas::behind_len))]
+#[tactic(auto, using(crate::proofs::EmptyRules::no_map))]
 pub(crate) fn len_of(stored: Option<&StoredMap>) -> usize
     ensures { result ≡ map.len (map_behind stored.entry) }
 {
@@ -40,7 +40,7 @@ pub extern "C" fn patricia_len(at: &mut MapPlace) -> usize
 }
 
 // Returns whether the key is there, and then writes its value.
-#[tactic(auto, using(crate::proofs::EmptyLemmas::behind_get))]
+#[tactic(auto, using(crate::proofs::EmptyRules::no_map))]
 pub(crate) fn get_to(stored: Option<&StoredMap>, key: &[u8], value: &mut u64) -> bool
     ensures { WritesValue (map.get (map_behind stored.entry) key.now)
         result value.old value.new }
@@ -69,6 +69,7 @@ pub extern "C" fn patricia_get(at: &mut MapPlace, key: &[u8], value: &mut u64) -
 
 /// Inserts a value at a key. Returns `ABSENT` for a new key; `FOUND` where the key was there, and
 /// writes the value that was there to `old`; `NO_MEMORY` where memory ran out.
+#[tactic(auto, using(crate::proofs::EmptyRules::no_map))]
 #[unsafe(no_mangle)]
 pub extern "C" fn patricia_insert(
     alloc: Global,
@@ -103,7 +104,7 @@ pub extern "C" fn patricia_insert(
 
 /// Removes a key. Returns `FOUND` where it was there, and writes the value that was there to `old`;
 /// `ABSENT` where it was not; `NO_MEMORY` where memory ran out.
-#[tactic(auto, using(crate::proofs::EmptyLemmas::none_remove, crate::proofs::EmptyLemmas::none_get))]
+#[tactic(auto, using(crate::proofs::EmptyRules::no_map))]
 #[unsafe(no_mangle)]
 pub extern "C" fn patricia_remove(at: &mut MapPlace, key: &[u8], old: &mut u64) -> u32
     ensures codes { result ≤ 2 }

@@ -117,7 +117,7 @@ fn texts_near(
 
 // Writes an iterator over the entries whose key is at most so many edits from a key. Returns `DONE`
 // or `NO_MEMORY`.
-#[tactic(auto, using(crate::proofs::EmptyLemmas::behind_entries, crate::proofs::NearLemmas::picks_none, crate::proofs::CursorLemmas::emptied, crate::proofs::CursorLemmas::filled))]
+#[tactic(auto, using(crate::proofs::EmptyRules::no_entry))]
 pub(crate) fn write_near(
     alloc: Global,
     stored: Option<&StoredMap>,
@@ -148,7 +148,7 @@ pub(crate) fn write_near(
 
 // Writes an iterator over the entries whose key is a text at most so many edits from a text.
 // Returns `DONE` or `NO_MEMORY`.
-#[tactic(auto, using(crate::proofs::EmptyLemmas::behind_entries, crate::proofs::NearLemmas::picks_none, crate::proofs::CursorLemmas::emptied, crate::proofs::CursorLemmas::filled))]
+#[tactic(auto, using(crate::proofs::EmptyRules::no_entry))]
 pub(crate) fn write_near_texts(
     alloc: Global,
     stored: Option<&StoredMap>,

@@ -13,7 +13,7 @@ use std::alloc::Global;
 
 // Returns whether some key is a prefix of this one, and then writes the length and the value of the
 // longest.
-#[tactic(auto, using(crate::proofs::EmptyLemmas::behind_entries))]
+#[tactic(auto, using(crate::proofs::EmptyRules::no_map))]
 pub(crate) fn longest_to(
     stored: Option<&StoredMap>,
     key: &[u8],
@@ -53,7 +53,7 @@ pub extern "C" fn patricia_longest_prefix(
 }
 
 // The greatest number of bytes that the key has in common with the front of any key.
-#[tactic(auto, using(crate::proofs::EmptyLemmas::behind_entries, crate::proofs::EmptyLemmas::none_reach))]
+#[tactic(auto, using(crate::proofs::EmptyRules::no_map))]
 pub(crate) fn reach_of(stored: Option<&StoredMap>, key: &[u8]) -> usize
     ensures { IsReach IsByteItem (map.keys (map_behind stored.entry)) key.now result }
 {
@@ -88,7 +88,7 @@ fn begins_none(stored: &StoredMap, prefix: &[u8]) -> bool
 /// `DONE`; or `NO_MEMORY` where memory ran out: `part` holds the empty map then, and the entries
 /// stay. Never for the empty prefix, which moves the whole map, nor where no key begins with the
 /// prefix.
-#[tactic(auto, using(crate::proofs::EmptyLemmas::none_entries, crate::proofs::EmptyLemmas::empty_is, patricia_model::proofs::PrefixLemmas::under_empty, patricia_model::proofs::OutsideLemmas::outside_empty, patricia_model::proofs::OutsideLemmas::outside_all))]
+#[tactic(auto, using(crate::proofs::EmptyRules::no_byte))]
 #[unsafe(no_mangle)]
 pub extern "C" fn patricia_split_by_prefix(
     alloc: Global,
@@ -139,7 +139,7 @@ pub extern "C" fn patricia_split_by_prefix(
 
 // Writes the number of entries whose key begins with the prefix, and returns `DONE`; or `NO_MEMORY`
 // where memory ran out.
-#[tactic(auto, using(crate::proofs::EmptyLemmas::behind_entries))]
+#[tactic(auto, using(crate::proofs::EmptyRules::no_map))]
 pub(crate) fn count_to(stored: Option<&StoredMap>, prefix: &[u8], count: &mut usize) -> u32
     ensures count { WritesCount (under prefix.now (map.entries (map_behind stored.entry)))
         result count.old count.new }
@@ -175,7 +175,7 @@ pub extern "C" fn patricia_count_prefix(at: &mut MapPlace, prefix: &[u8], count:
 
 /// Removes the entries whose key begins with the prefix, writes how many they were to `count`, and
 /// returns `DONE`; or `NO_MEMORY` where memory ran out: the entries stay.
-#[tactic(auto, using(crate::proofs::EmptyLemmas::none_entries))]
+#[tactic(auto, using(crate::proofs::EmptyRules::no_map))]
 #[unsafe(no_mangle)]
 pub extern "C" fn patricia_remove_prefix(at: &mut MapPlace, prefix: &[u8], count: &mut usize) -> u32
     ensures count { WritesCount (under prefix.now (map.entries (map_of at.old.pointer.stored)))
