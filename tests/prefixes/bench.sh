@@ -1,8 +1,8 @@
 #!/bin/bash
-# Times a program prefixes against the same questions over std's ordered map (tests/prefixes/peer.rs), and
-# against grep and look where they answer some of them: bench.sh PROGRAM [NAMES [LINES [PROCESSES]]]. It compares what
-# both programs write first, on some lines, and prints for each command and program the best time of so many processes,
-# its user time and its greatest memory.
+# Times a program prefixes against the same questions over std's ordered map (tests/prefixes/peer.rs), and against grep,
+# look and tre-agrep where they answer some of them: bench.sh PROGRAM [NAMES [LINES [PROCESSES]]]. It compares what both
+# programs write first, on some lines, and prints for each command and program the best time of so many processes, its
+# user time and its greatest memory.
 set -euo pipefail
 program=$(realpath "$1")
 names=${2:-1000000}
@@ -49,3 +49,11 @@ head -n 1000 complete.lines > some
 timed "complete, 1,000 lines" some "$program" complete complete.list
 look_up='while IFS= read -r line; do LC_ALL=C look -- "$line" sorted | head -n 10; done'
 timed "complete, 1,000 lines, look for each" some bash -c "$look_up"
+# the last letter but one of each line is missing
+if command -v tre-agrep > /dev/null; then
+    head -n 10 complete.list | sed 's/.\(.\)$/\1/' > some
+    agrep='while IFS= read -r line; do LC_ALL=C tre-agrep -1 -- "^$line\$" complete.list; done'
+    test "$("$program" near -n 1000 complete.list < some | grep -c $'^\t')" = "$(bash -c "$agrep" < some | wc -l)"
+    timed "near, 10 lines" some "$program" near complete.list
+    timed "near, 10 lines, tre-agrep for each" some bash -c "$agrep"
+fi
