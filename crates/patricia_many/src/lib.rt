@@ -5,3 +5,4 @@
 
 mod lookup;
 pub mod many;
+mod stages;

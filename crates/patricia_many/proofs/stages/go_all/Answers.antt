@@ -1,5 +1,5 @@
 use Rattle.patricia_many.proofs.AheadLemmas.{finds_alone}
-use Rattle.patricia_many.proofs.many.go_all.Goals as goal
+use Rattle.patricia_many.proofs.stages.go_all.Goals as goal
 
 pub read_heads-requires-clause-keys : goal.read_heads-requires-clause-keys
 read_heads-requires-clause-keys g c k key l keyed at = finds_alone g.Q.Owned.Bytes.item c.args.arena.now c.args.by_prefix key l (c.requires.keys k key l keyed at)

@@ -1,7 +1,7 @@
 use Rattle.std.proofs.Common.{◌≡◌, ◌≤◌, ◌-◌, length}
 use Rattle.std.proofs.Common.{map as list_map}
 use Rattle.patricia_many.specs.Internal.Lookups.{AreEndedTo, AreLookups}
-use Rattle.patricia_many.proofs.many.finish_all.Given as goal
+use Rattle.patricia_many.proofs.stages.finish_all.Given as goal
 
 abbrev pub invariant-loop-left : goal.invariant-loop-left
 invariant-loop-left g l =

@@ -1,7 +1,7 @@
 use Rattle.std.proofs.Common.{◌≡◌, ◌-◌, length}
 use Rattle.std.proofs.Common.{map as list_map}
 use Rattle.patricia_many.proofs.StageLemmas.{AreStarted, IsStarted}
-use Rattle.patricia_many.proofs.many.start_all.Given as goal
+use Rattle.patricia_many.proofs.stages.start_all.Given as goal
 
 abbrev pub invariant-loop-k : goal.invariant-loop-k
 invariant-loop-k g l =

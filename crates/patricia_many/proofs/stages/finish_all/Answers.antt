@@ -1,7 +1,7 @@
 use Rattle.std.proofs.Common.{◌∙◌, length-set, arith}
 use Rattle.patricia_many.specs.Internal.Lookups.{IsLookup}
 use Rattle.patricia_many.proofs.StageLemmas.{ends_one, looks_up, one_goes_on}
-use Rattle.patricia_many.proofs.many.finish_all.Goals as goal
+use Rattle.patricia_many.proofs.stages.finish_all.Goals as goal
 
 pub finish-requires-clause-key : goal.finish-requires-clause-key
 finish-requires-clause-key g c =

@@ -1,6 +1,6 @@
 use Rattle.std.proofs.Common.{◌∙◌, length-set, arith}
 use Rattle.patricia_many.proofs.StageLemmas.{all_started, starts_one, IsStarted}
-use Rattle.patricia_many.proofs.many.start_all.Goals as goal
+use Rattle.patricia_many.proofs.stages.start_all.Goals as goal
 
 pub loop-k-preserved : goal.loop-k-preserved
 loop-k-preserved g c = (

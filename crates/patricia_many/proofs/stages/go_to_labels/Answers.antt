@@ -1,8 +1,8 @@
 use Rattle.std.proofs.Common.{◌∙◌, length-set, arith}
 use Rattle.patricia_many.specs.Internal.Lookups.{IsLookup}
 use Rattle.patricia_many.proofs.StageLemmas.{few_more, looks_up, one_goes_on}
-use Rattle.patricia_many.proofs.many.go_to_labels.Goals as goal
-use Rattle.patricia_many.proofs.many.go_to_labels.Goals.{then-k-keys, else-k-keys}
+use Rattle.patricia_many.proofs.stages.go_to_labels.Goals as goal
+use Rattle.patricia_many.proofs.stages.go_to_labels.Goals.{then-k-keys, else-k-keys}
 
 pub go-requires-clause-key : goal.go-requires-clause-key
 go-requires-clause-key g c =

@@ -1,7 +1,7 @@
 use Rattle.std.proofs.Common.{◌≡◌, ◌-◌, Bool, length}
 use Rattle.std.proofs.Common.{map as list_map}
 use Rattle.patricia_many.specs.Internal.Lookups.{AreLookups}
-use Rattle.patricia_many.proofs.many.read_heads.Given as goal
+use Rattle.patricia_many.proofs.stages.read_heads.Given as goal
 
 abbrev pub invariant-loop-i : goal.invariant-loop-i
 invariant-loop-i g l =
