@@ -8,10 +8,9 @@ use Rattle.patricia_keys.specs.Keys.{IsKeyKind, IsValid}
 use Rattle.patricia_model.specs.Siblings.{Siblings, end, node}
 use Rattle.patricia_store.specs.Internal.Nodes.{Node}
 use Rattle.patricia_nodes.specs.Internal.Plans.{Plan, Nil, Cell, head, siblings_in, plan_at, IsPlan}
-use Rattle.patricia_nodes.proofs.PlanLemmas.{plan_is}
+use Rattle.patricia_nodes.specs.Internal.Plans.{siblings_at}
+use Rattle.patricia_nodes.proofs.PlanLemmas.{plan_is, siblings_none}
 use Rattle.patricia_nodes.proofs.SeekLemmas.{Opened, opened}
-use Rattle.patricia_walks.specs.Internal.Positions.{siblings_at}
-use Rattle.patricia_walks.proofs.PositionLemmas.{siblings_none}
 use Rattle.patricia_wire.specs.Records.{Record}
 use Rattle.patricia_wire.specs.Internal.WrittenSiblings.{has_node}
 use Rattle.patricia_wire.proofs.WrittenOrDeep.{any_here, any_left}

@@ -12,7 +12,7 @@ use crate::width::Width;
 use patricia_keys::Bytes;
 use patricia_nodes::arena::NodeArena;
 use patricia_nodes::link::Link;
-use patricia_walks::TreeParts;
+use patricia_nodes::parts::TreeParts;
 use patricia_wire::DecodeError;
 use std::alloc::Global;
 

@@ -34,7 +34,7 @@ use patricia_keys::{BorrowedBytes, Bytes};
 use patricia_nodes::Steps;
 use patricia_nodes::arena::NodeArena;
 pub use patricia_nodes::arena::Refused;
-use patricia_walks::TreeParts;
+use patricia_nodes::parts::TreeParts;
 use patricia_walks::along::{Along, AlongOwned};
 use patricia_walks::into_walk::IntoWalk;
 use patricia_walks::reach::reach;

@@ -21,23 +21,20 @@ use Rattle.patricia_nodes.specs.declared.arena.seek.LinkRef.{LinkRef}
 use Rattle.patricia_nodes.specs.declared.arena.seek.Match.{Match}
 use Rattle.patricia_nodes.specs.declared.arena.seek.Match.TheVariants.{Absent, InsideLabel, Exact}
 use Rattle.patricia_nodes.specs.Internal.Plans.{Plan, Nil, Cell, siblings_in, Holds, IsWellFormed}
-use Rattle.patricia_nodes.specs.Internal.Plans.{plan_at}
-use Rattle.patricia_nodes.specs.Internal.Plans.{siblings_of, entries_of}
+use Rattle.patricia_nodes.specs.Internal.Plans.{plan_at, siblings_of, entries_of}
 use Rattle.patricia_nodes.specs.Internal.Places.{Frame, fill, Leads, Matches, node_under}
 use Rattle.patricia_nodes.proofs.FillLemmas.{siblings-within, stands-within}
 use Rattle.patricia_nodes.proofs.NodeVecLemmas.{there}
 use Rattle.patricia_nodes.proofs.SeekLemmas.{Sought}
 use Rattle.patricia_nodes.proofs.PlanLemmas.{plan_is}
-use Rattle.patricia_walks.proofs.PlaceLemmas.{Passed, passed-fill}
-use Rattle.patricia_walks.proofs.UnderLemmas.{within_node, stop_some}
+use Rattle.patricia_nodes.proofs.UnderLemmas.{Passed, passed-fill, within_node, stop_some}
 use Rattle.patricia_nodes.specs.Internal.Merges.{StandsAt, HasNodeAt, LeftAlone, LeavesOther}
 use Rattle.patricia_nodes.specs.Internal.Merges.{HasLone, Absorbs}
 use Rattle.patricia_nodes.specs.Internal.NodeVecs.{ReadsNode, HasJoinedRoom}
 use Rattle.patricia_nodes.specs.Internal.Writes.{Stays}
 use Rattle.patricia_edits.proofs.OtherLemmas.{left_plan, labels_are, other_gone}
 use Rattle.patricia_edits.proofs.TakeLemmas.{Gone, spared-fill}
-use Rattle.patricia_edits.specs.Internal.Splits.{HasSplitNode, HasTreeAt, CountsTree}
-use Rattle.patricia_edits.specs.Internal.Splits.{SplitsOff}
+use Rattle.patricia_edits.specs.Internal.Splits.{HasSplitNode, HasTreeAt, CountsTree, SplitsOff}
 use Rattle.patricia_edits.proofs.MeasureLemmas.{length-prefixed}
 use Rattle.patricia_edits.proofs.StayLemmas.{joined_as, holds_stays}
 

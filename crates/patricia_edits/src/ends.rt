@@ -16,7 +16,7 @@ use patricia_keys::Bytes;
 use patricia_nodes::arena::NodeArena;
 use patricia_nodes::arena::seek::LinkRef;
 use patricia_nodes::link::NodeId;
-use patricia_walks::path::new_path;
+use patricia_nodes::path::new_path;
 use std::alloc::{AllocError, Global};
 
 // The node of the first entry, whose key is then the path: the first node with a value, along first

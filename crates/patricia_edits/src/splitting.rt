@@ -19,7 +19,7 @@ use patricia_nodes::arena::NodeArena;
 use patricia_nodes::arena::node_vec::NodeVec;
 use patricia_nodes::arena::seek::{LinkRef, SeekResult};
 use patricia_nodes::link::{Link, NodeId};
-use patricia_walks::TreeParts;
+use patricia_nodes::parts::TreeParts;
 use std::alloc::{AllocError, Global};
 
 // How many nodes there are, how many of them have a value, and how many bytes their labels take.

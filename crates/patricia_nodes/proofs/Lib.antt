@@ -16,5 +16,6 @@ pub mod ResumeLemmas
 pub mod RoomLemmas
 pub mod SeekLemmas
 pub mod TrailLemmas
+pub mod UnderLemmas
 pub mod ValueLemmas
 pub mod WriteLemmas

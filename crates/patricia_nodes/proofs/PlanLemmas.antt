@@ -1,13 +1,15 @@
 -- What nodes that stand for a plan give.
 use Rattle.std.proofs.Common.{◌≡◌, ℕ, zero, suc, ◌<◌, ◌≤◌, List, [], length, Option, Some, None}
-use Rattle.std.proofs.Common.{get_or, slice_get, refl, ◌∙◌, arith}
+use Rattle.std.proofs.Common.{get_or, slice_get, refl, ap, ◌∙◌, arith}
 use Rattle.std.specs.Prelude.{false, is_some}
 use mathlib.Core.Bool.{false≢true}
 use Rattle.std.proofs.lemmas.Option.{get_or_from_slice_get}
 use Rattle.std.proofs.lemmas.Bool.Decides.{nat_tests}
 use Rattle.patricia_store.specs.Internal.Nodes.{Node}
 use Rattle.patricia_nodes.specs.Internal.Plans.{Plan, Nil, Cell, head, size, LaidOut, IsPlan}
-use Rattle.patricia_nodes.specs.Internal.Plans.{IsSound, read, plan_at, one, below}
+use Rattle.patricia_nodes.specs.Internal.Plans.{IsSound, read, plan_at, one, below, siblings_in}
+use Rattle.patricia_nodes.specs.Internal.Plans.{siblings_at}
+use Rattle.patricia_model.specs.Siblings.{end}
 
 -- a number stands once in itself, and in no other
 pub one-same : (id : ℕ) → one id id ≡ 1
@@ -66,3 +68,7 @@ module _ {V : Type 0} where
 pub not_some : {A : Type 0} (o : Option A) → false ≡ is_some o → o ≡ None
 not_some None e = refl
 not_some (Some n) e = absurd (false≢true e)
+
+-- where there is no number, there are no siblings
+pub siblings_none : {V : Type 0} (nodes : List (Node V)) → siblings_at nodes None ≡ end
+siblings_none nodes = ap siblings_in (plan_is nodes None Nil (record { stands = tt; at_is = refl; fits = omega arith }))

@@ -6,6 +6,8 @@
 
 pub mod arena;
 pub mod link;
+pub mod parts;
+pub mod path;
 pub mod steps;
 
 pub use steps::Steps;

@@ -1,7 +1,7 @@
 -- The steps of a walk over the common prefixes of a key.
-use Rattle.std.proofs.Common.{◌≡◌, ◌≢◌, ◌<◌, ◌∷◌, [], ℕ, ◌+◌, ◌-◌, ◌≤◌, true, false, List, ◌++◌, length, get_or, take}
-use Rattle.std.proofs.Common.{zero, suc}
-use Rattle.std.proofs.Common.{drop, Option, Some, None, refl, sym, ap, subst, ◌∙◌, arith}
+use Rattle.std.proofs.Common.{◌≡◌, ◌≢◌, ◌<◌, ◌∷◌, [], ℕ, ◌+◌, ◌-◌, ◌≤◌, true, false, List, ◌++◌}
+use Rattle.std.proofs.Common.{length, get_or, take, zero, suc, drop, Option, Some, None, refl, sym}
+use Rattle.std.proofs.Common.{ap, subst, ◌∙◌, arith}
 use Rattle.std.specs.Option.{option_copied}
 use Rattle.std.specs.Prelude.{nat_eq}
 use Rattle.std.specs.Ordering.{ordering_index}
@@ -26,11 +26,9 @@ use Rattle.patricia_store.specs.Internal.Heads.{byte_of}
 use Rattle.patricia_nodes.specs.Internal.NodeVecs.{IsRun}
 use Rattle.patricia_nodes.proofs.NodeVecLemmas.{node_there}
 use Rattle.patricia_nodes.specs.Internal.Plans.{Nil, siblings_in, plan_at, IsPlan, IsWellFormed}
-use Rattle.patricia_nodes.specs.Internal.Plans.{siblings_of as slots_siblings}
-use Rattle.patricia_nodes.proofs.PlanLemmas.{plan_is}
+use Rattle.patricia_nodes.specs.Internal.Plans.{siblings_of as slots_siblings, siblings_at}
+use Rattle.patricia_nodes.proofs.PlanLemmas.{plan_is, siblings_none}
 use Rattle.patricia_nodes.proofs.SeekLemmas.{head_within, opened, whole_plan, byte_is}
-use Rattle.patricia_walks.specs.Internal.Positions.{siblings_at}
-use Rattle.patricia_walks.proofs.PositionLemmas.{siblings_none}
 use Rattle.patricia_walks.specs.declared.along.Descent.{Descent}
 use Rattle.patricia_walks.specs.Internal.Descents.{IsDescent, Moves, siblings_left, along_left}
 use Rattle.patricia_walks.specs.Internal.Descents.{left_from}

@@ -1,6 +1,6 @@
 -- How the steps of a comparison of two trees change what it has left of both.
-use Rattle.std.proofs.Common.{◌≡◌, ◌≢◌, ℕ, ◌+◌, ◌<◌, Bool, true, false, List, [], ◌∷◌, ◌++◌, length, get_or}
-use Rattle.std.proofs.Common.{Option, Some, None, refl, sym, ap, subst, ◌∙◌, arith}
+use Rattle.std.proofs.Common.{◌≡◌, ◌≢◌, ℕ, ◌+◌, ◌<◌, Bool, true, false, List, [], ◌∷◌, ◌++◌, length}
+use Rattle.std.proofs.Common.{get_or, Option, Some, None, refl, sym, ap, subst, ◌∙◌, arith}
 use Rattle.std.proofs.Math.Bool.{and_assoc, and-true}
 use Rattle.std.specs.Prelude.{◌&&◌}
 use Rattle.patricia_keys.specs.Keys.{IsKeyKind}
@@ -8,18 +8,16 @@ use Rattle.patricia_model.proofs.UniqueLemmas.{has_entry}
 use Rattle.patricia_model.specs.Siblings.{Siblings, end, node, prefixed, entries, IsCanonical}
 use Rattle.patricia_model.specs.Internal.WalkStates.{steps_in}
 use Rattle.patricia_store.specs.Internal.Nodes.{Node}
-use Rattle.patricia_nodes.specs.Internal.Plans.{plan_at}
-use Rattle.patricia_nodes.specs.Internal.Plans.{IsWellFormed, siblings_of}
+use Rattle.patricia_nodes.specs.Internal.Plans.{plan_at, IsWellFormed, siblings_of, siblings_at}
 use Rattle.patricia_nodes.specs.declared.arena.NodeArena.{NodeArena}
 use Rattle.patricia_nodes.proofs.SeekLemmas.{head_within, whole_plan}
 use Rattle.patricia_walks.specs.Internal.Comparisons.{StandInBoth, AllStandInBoth, IsComparison}
 use Rattle.patricia_walks.specs.Internal.Comparisons.{steps_waiting, steps_left, is_same_node}
 use Rattle.patricia_walks.specs.Internal.Comparisons.{are_same_nodes, are_same_at, are_same_waiting}
 use Rattle.patricia_walks.specs.Internal.Comparisons.{is_same_left, ComparesOn}
-use Rattle.patricia_walks.specs.Internal.Positions.{siblings_at}
 use Rattle.patricia_walks.specs.declared.equality.Comparison.{Comparison}
 use Rattle.patricia_walks.proofs.DepthLemmas.{FirstNode, first_node}
-use Rattle.patricia_walks.proofs.PositionLemmas.{siblings_none}
+use Rattle.patricia_nodes.proofs.PlanLemmas.{siblings_none}
 
 -- of three tests the first may come second
 and_turned : (a b c : Bool) → (a && (b && c)) ≡ (b && (a && c))

@@ -7,18 +7,17 @@ use Rattle.patricia_model.specs.Cursors.{next_key}
 use Rattle.patricia_model.specs.Prefixes.{under}
 use Rattle.patricia_model.specs.Siblings.{entries}
 use Rattle.patricia_model.specs.Trees.{IsTree}
-use Rattle.patricia_nodes.specs.Internal.Plans.{IsWellFormed, siblings_of}
-use Rattle.patricia_walks.specs.Internal.Positions.{IsPosition, siblings_at}
+use Rattle.patricia_nodes.specs.Internal.Plans.{IsWellFormed, siblings_of, siblings_at}
+use Rattle.patricia_walks.specs.Internal.Positions.{IsPosition}
 use Rattle.patricia_walks.specs.declared.cursor_state.Start.{Start}
 use Rattle.patricia_walks.specs.declared.cursor_state.CursorState.{CursorState}
-use Rattle.patricia_walks.specs.declared.held_tree.TreeParts.{TreeParts}
+use Rattle.patricia_nodes.specs.declared.parts.TreeParts.{TreeParts}
 use Rattle.patricia_walks.specs.declared.held_tree.ValueSlot.TheVariants.{OfEmptyKey}
 use Rattle.patricia_walks.specs.Internal.Holders.{numbered_slots, holders}
 use Rattle.patricia_walks.specs.Internal.HeldTrees.{standing, IsHeld}
 use Rattle.patricia_walks.specs.Internal.CursorStates.{position_of, left_of, Advances}
-use Rattle.patricia_walks.specs.Internal.CursorStates.{StepIsRefused}
-use Rattle.patricia_walks.specs.Internal.CursorStates.{IsCursorState, IsAhead, IsPrefixCursor}
-use Rattle.patricia_walks.specs.Internal.CursorStates.{StartsUnder}
+use Rattle.patricia_walks.specs.Internal.CursorStates.{StepIsRefused, IsCursorState, IsAhead}
+use Rattle.patricia_walks.specs.Internal.CursorStates.{IsPrefixCursor, StartsUnder}
 use Rattle.patricia_walks.proofs.HeldTreeLemmas.{Leaves, made_held, made_left, next_filled}
 use Rattle.patricia_walks.proofs.HeldTreeLemmas.{step_leaves}
 use Rattle.patricia_walks.proofs.HolderLemmas.{marked}

@@ -1,7 +1,7 @@
 -- How deep nodes lie, how many entries they have, and how long some key below them is.
-use Rattle.std.proofs.Common.{◌≡◌, ◌≢◌, ℕ, zero, suc, ◌+◌, ◌<◌, ◌≤◌, List, [], ◌∷◌, ◌++◌}
-use Rattle.std.proofs.Common.{length, get_or, Option, Some, None, inl, inr, refl, sym, ap}
-use Rattle.std.proofs.Common.{subst, ◌∙◌, arith}
+use Rattle.std.proofs.Common.{◌≡◌, ◌≢◌, ℕ, zero, suc, ◌+◌, ◌<◌, ◌≤◌, List, [], ◌∷◌, ◌++◌, length}
+use Rattle.std.proofs.Common.{get_or, Option, Some, None, inl, inr, refl, sym, ap, subst, ◌∙◌}
+use Rattle.std.proofs.Common.{arith}
 use Rattle.std.specs.Prelude.{Any}
 use Rattle.std.proofs.lemmas.List.{length-append, get_or_append_left, get_or-append-add}
 use Rattle.patricia_keys.specs.Keys.{IsKeyKind}
@@ -9,12 +9,11 @@ use Rattle.patricia_model.specs.Siblings.{Siblings, end, node, prefixed, own, en
 use Rattle.patricia_model.proofs.UniqueLemmas.{has_entry}
 use Rattle.patricia_store.specs.Internal.Nodes.{Node}
 use Rattle.patricia_nodes.specs.Internal.Plans.{Plan, Nil, Cell, head, siblings_in, size, plan_at}
-use Rattle.patricia_nodes.specs.Internal.Plans.{IsPlan}
-use Rattle.patricia_nodes.proofs.PlanLemmas.{plan_is}
+use Rattle.patricia_nodes.specs.Internal.Plans.{IsPlan, siblings_at}
+use Rattle.patricia_nodes.proofs.PlanLemmas.{plan_is, siblings_none}
 use Rattle.patricia_nodes.proofs.SeekLemmas.{opened}
 use Rattle.patricia_walks.specs.Internal.Depths.{IsDeeper, first_label}
-use Rattle.patricia_walks.specs.Internal.Positions.{siblings_at, entries_below}
-use Rattle.patricia_walks.proofs.PositionLemmas.{siblings_none}
+use Rattle.patricia_nodes.specs.Internal.Places.{entries_below}
 
 -- a label that is not empty has a byte
 filled : (l : List ℕ) → l ≢ [] → 0 < length l

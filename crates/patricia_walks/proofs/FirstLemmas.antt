@@ -1,6 +1,6 @@
 -- The first entry of siblings.
-use Rattle.std.proofs.Common.{◌≡◌, ◌≢◌, ℕ, List, [], ◌∷◌, ◌++◌, get_or, Option, Some, None}
-use Rattle.std.proofs.Common.{refl, sym, ap, subst, ◌∙◌}
+use Rattle.std.proofs.Common.{◌≡◌, ◌≢◌, ℕ, List, [], ◌∷◌, ◌++◌, get_or, Option, Some, None, refl}
+use Rattle.std.proofs.Common.{sym, ap, subst, ◌∙◌}
 use Rattle.std.specs.Prelude.{slice_get}
 use Rattle.std.proofs.lemmas.List.{append-nil}
 use Rattle.patricia_keys.specs.Keys.{IsKeyKind}
@@ -9,7 +9,7 @@ use Rattle.patricia_model.proofs.SiblingsLemmas.{prefixed-append, prefixed-prefi
 use Rattle.patricia_model.proofs.WalkLemmas.{prefixed-nil}
 use Rattle.patricia_store.specs.Internal.Nodes.{Node}
 use Rattle.patricia_walks.specs.Internal.Lowers.{AreSiblingsAt}
-use Rattle.patricia_walks.specs.Internal.Positions.{siblings_at}
+use Rattle.patricia_nodes.specs.Internal.Plans.{siblings_at}
 use Rattle.patricia_walks.proofs.LastLemmas.{SiblingsOpen, siblings_open, siblings_filled}
 
 -- the first of a list is that of it with more behind it

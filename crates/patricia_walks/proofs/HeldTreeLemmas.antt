@@ -1,6 +1,6 @@
 -- What a cursor has still to lend of a tree, and where it stands, from step to step.
-use Rattle.std.proofs.Common.{◌≡◌, ◌≢◌, ◌↔◌, ℕ, T, Bool, List, [], ◌∷◌, Option, Some, None}
-use Rattle.std.proofs.Common.{◌++◌, slice_get, inl, refl, sym, ap, subst, ◌∙◌}
+use Rattle.std.proofs.Common.{◌≡◌, ◌≢◌, ◌↔◌, ℕ, T, Bool, List, [], ◌∷◌, Option, Some, None, ◌++◌}
+use Rattle.std.proofs.Common.{slice_get, inl, refl, sym, ap, subst, ◌∙◌}
 use Rattle.std.specs.Prelude.{Result, Ok, Err, IfOk, OnOk, OnErr, IsTrue}
 use Rattle.std.specs.Option.{option_map, is_some}
 use Rattle.std.specs.FinMap.{is_sorted}
@@ -16,12 +16,11 @@ use Rattle.patricia_model.proofs.FilterLemmas.{has_filter}
 use Rattle.patricia_model.proofs.TreeLemmas.{entries_map}
 use Rattle.patricia_nodes.specs.Internal.Plans.{IsWellFormed, siblings_of, entries_of}
 use Rattle.patricia_walks.specs.declared.held_tree.HeldTree.{HeldTree}
-use Rattle.patricia_walks.specs.declared.held_tree.TreeParts.{TreeParts}
+use Rattle.patricia_nodes.specs.declared.parts.TreeParts.{TreeParts}
 use Rattle.patricia_walks.specs.declared.held_tree.ValueSlot.{ValueSlot}
 use Rattle.patricia_walks.specs.Internal.Holders.{holders, held, key_at, ReadsHeld}
 use Rattle.patricia_walks.specs.Internal.HeldTrees.{last_key, standing, entries_to_lend}
-use Rattle.patricia_walks.specs.Internal.HeldTrees.{AreEntriesLeft}
-use Rattle.patricia_walks.specs.Internal.HeldTrees.{IsHeld, Refuses, Takes}
+use Rattle.patricia_walks.specs.Internal.HeldTrees.{AreEntriesLeft, IsHeld, Refuses, Takes}
 use Rattle.patricia_walks.proofs.HolderLemmas.{holders_read, holders_once, holders_sorted}
 use Rattle.patricia_walks.proofs.ReadLemmas.{key_of_once, reads_after, reads_first, reads_none}
 

@@ -10,18 +10,16 @@ use Rattle.patricia_nodes.specs.declared.arena.NodeArena.{NodeArena}
 use Rattle.patricia_nodes.specs.declared.arena.seek.LinkRef.{LinkRef}
 use Rattle.patricia_nodes.specs.declared.arena.seek.Match.{Match}
 use Rattle.patricia_nodes.specs.Internal.Plans.{Plan, Nil, Cell, count, siblings_of, entries_of}
-use Rattle.patricia_nodes.specs.Internal.Plans.{plan_at, IsWellFormed}
+use Rattle.patricia_nodes.specs.Internal.Plans.{plan_at, IsWellFormed, siblings_at}
 use Rattle.patricia_nodes.specs.Internal.Places.{Frame, InChild, InSibling, fill, link_ref_of}
 use Rattle.patricia_nodes.specs.Internal.Places.{above_of, Leads, Matches, Placed}
 use Rattle.patricia_nodes.proofs.PlanLemmas.{plan_is, below_le}
 use Rattle.patricia_nodes.proofs.SeekLemmas.{whole_plan}
-use Rattle.patricia_walks.specs.Internal.Positions.{siblings_at}
 use Rattle.patricia_walks.specs.declared.held_tree.ValueSlot.{ValueSlot}
 use Rattle.patricia_walks.specs.declared.held_tree.ValueSlot.TheVariants.{OfEmptyKey, OfNode}
 use Rattle.patricia_walks.specs.Internal.Holders.{numbered_slots, holders, held, uses, ReadsHeld}
-use Rattle.patricia_walks.proofs.NumberLemmas.{mark, marks, head-marks, length-marks}
-use Rattle.patricia_walks.proofs.NumberLemmas.{own-uses, plan_at-marks}
-use Rattle.patricia_walks.proofs.NumberLemmas.{reads-append, reads-marks, reads-own}
+use Rattle.patricia_walks.proofs.NumberLemmas.{mark, marks, head-marks, length-marks, own-uses}
+use Rattle.patricia_walks.proofs.NumberLemmas.{plan_at-marks, reads-append, reads-marks, reads-own}
 use Rattle.patricia_walks.proofs.NumberLemmas.{canonical-marks, sound-marks, uses-append}
 use Rattle.patricia_walks.proofs.NumberLemmas.{uses-marks, uses-top}
 

@@ -1,6 +1,6 @@
 -- The last entry of a list that is made of others.
-use Rattle.std.proofs.Common.{◌≡◌, ◌≢◌, ℕ, List, [], ◌∷◌, ◌++◌, length, Option, Some, None, refl, sym, ap}
-use Rattle.std.proofs.Common.{◌∙◌, subst, ◌<◌, ◌≤◌, ◌+◌, ◌-◌, zero, suc, get_or, arith}
+use Rattle.std.proofs.Common.{◌≡◌, ◌≢◌, ℕ, List, [], ◌∷◌, ◌++◌, length, Option, Some, None, refl}
+use Rattle.std.proofs.Common.{sym, ap, ◌∙◌, subst, ◌<◌, ◌≤◌, ◌+◌, ◌-◌, zero, suc, get_or, arith}
 use Rattle.std.proofs.lemmas.List.{append-nil}
 use Rattle.std.specs.List.{last_or}
 use Rattle.patricia_keys.specs.Keys.{IsKeyKind}
@@ -12,11 +12,11 @@ use Rattle.patricia_store.specs.Internal.Nodes.{Node, Nodes}
 use Rattle.patricia_nodes.specs.Internal.NodeVecs.{IsRun}
 use Rattle.patricia_nodes.proofs.NodeVecLemmas.{node_there}
 use Rattle.patricia_nodes.specs.Internal.Plans.{Plan, Nil, Cell, head, siblings_in, plan_at}
-use Rattle.patricia_nodes.proofs.PlanLemmas.{plan_is}
+use Rattle.patricia_nodes.specs.Internal.Plans.{siblings_at}
+use Rattle.patricia_nodes.proofs.PlanLemmas.{plan_is, siblings_none}
 use Rattle.patricia_nodes.proofs.SeekLemmas.{opened, head_within}
 use Rattle.patricia_walks.specs.Internal.Lowers.{AreSiblingsAt}
-use Rattle.patricia_walks.specs.Internal.Positions.{siblings_at, entries_below}
-use Rattle.patricia_walks.proofs.PositionLemmas.{siblings_none}
+use Rattle.patricia_nodes.specs.Internal.Places.{entries_below}
 
 module _ {A : Type 0} where
   -- the last of two lists

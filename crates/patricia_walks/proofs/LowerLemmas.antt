@@ -1,8 +1,8 @@
 -- The steps of a descent to the last entry before a key.
-use Rattle.std.proofs.Common.{zero, suc, ◌-◌, inl, inr}
+use Rattle.std.proofs.Common.{zero, suc, ◌-◌, inl, inr, ◌≡◌, ◌<◌, ◌≢◌, ℕ, ◌+◌, true, false, List}
+use Rattle.std.proofs.Common.{[], ◌∷◌, ◌++◌, length, get_or, take, drop, Option, Some, None, refl}
+use Rattle.std.proofs.Common.{sym, ap, subst, ◌∙◌, arith}
 use Rattle.std.proofs.lemmas.Bool.{cases_eq}
-use Rattle.std.proofs.Common.{◌≡◌, ◌<◌, ◌≢◌, ℕ, ◌+◌, true, false, List, [], ◌∷◌, ◌++◌, length, get_or, take}
-use Rattle.std.proofs.Common.{drop, Option, Some, None, refl, sym, ap, subst, ◌∙◌, arith}
 use Rattle.std.specs.List.{last_or}
 use Rattle.std.specs.declared.cmp.Ordering.{Ordering}
 use Rattle.std.specs.declared.cmp.Ordering.TheVariants.{Less, Equal, Greater}
@@ -24,26 +24,24 @@ use Rattle.patricia_model.proofs.RangeLemmas.{before_none, before_own, first_abo
 use Rattle.patricia_model.proofs.RangeLemmas.{below_from}
 use Rattle.patricia_store.specs.Internal.Nodes.{Node}
 use Rattle.patricia_nodes.specs.declared.arena.NodeArena.{NodeArena}
-use Rattle.patricia_nodes.specs.Internal.Plans.{IsWellFormed}
-use Rattle.patricia_nodes.specs.Internal.Plans.{siblings_of}
-use Rattle.patricia_nodes.proofs.SeekLemmas.{whole_plan, byte_is}
+use Rattle.patricia_nodes.specs.Internal.Plans.{IsWellFormed, siblings_of, siblings_at, plan_at}
+use Rattle.patricia_nodes.proofs.SeekLemmas.{whole_plan, byte_is, head_within}
 use Rattle.patricia_nodes.proofs.NodeVecLemmas.{node_there}
 use Rattle.patricia_store.specs.Internal.Heads.{byte_of}
 use Rattle.patricia_nodes.specs.Internal.NodeVecs.{IsRun}
-use Rattle.patricia_walks.specs.Internal.Positions.{siblings_at, entries_below}
+use Rattle.patricia_nodes.specs.Internal.Places.{entries_below}
 use Rattle.patricia_walks.specs.Internal.Lowers.{AreSiblingsAt, IsFront, IsLower, IsLowerDescent}
 use Rattle.patricia_walks.specs.Internal.Lowers.{LowerMoves, LowerPasses, last_lower, lower_entry}
 use Rattle.patricia_walks.specs.Internal.Lowers.{siblings_ahead}
 use Rattle.patricia_walks.specs.declared.last.Lower.{Lower}
 use Rattle.patricia_walks.specs.declared.last.Lower.TheVariants.{Below}
 use Rattle.patricia_walks.specs.declared.last.LowerDescent.{LowerDescent}
-use Rattle.patricia_walks.proofs.AlongLemmas.{front_then, left_then, more_within, some_step, plan_none}
-use Rattle.patricia_walks.proofs.AlongLemmas.{begins_otherwise, less_first}
-use Rattle.patricia_walks.proofs.LastLemmas.{last-append, last_filled, last_there, filled_last, below_filled, top_filled, SiblingsOpen}
-use Rattle.patricia_walks.proofs.LastLemmas.{siblings_open, siblings_filled}
-use Rattle.patricia_walks.proofs.PositionLemmas.{siblings_none}
-use Rattle.patricia_nodes.proofs.SeekLemmas.{head_within}
-use Rattle.patricia_nodes.specs.Internal.Plans.{plan_at}
+use Rattle.patricia_walks.proofs.AlongLemmas.{front_then, left_then, more_within, some_step}
+use Rattle.patricia_walks.proofs.AlongLemmas.{plan_none, begins_otherwise, less_first}
+use Rattle.patricia_walks.proofs.LastLemmas.{last-append, last_filled, last_there, filled_last}
+use Rattle.patricia_walks.proofs.LastLemmas.{below_filled, top_filled, SiblingsOpen, siblings_open}
+use Rattle.patricia_walks.proofs.LastLemmas.{siblings_filled}
+use Rattle.patricia_nodes.proofs.PlanLemmas.{siblings_none}
 
 -- no key comes before the empty one
 nothing_before : {V : Type 0} (es : List (List ℕ × V)) → before [] es ≡ []

@@ -17,13 +17,12 @@ use Rattle.patricia_model.proofs.PrefixLemmas.{under_none, under_all, under-pref
 use Rattle.patricia_model.proofs.PrefixLemmas.{AllKeys-follows, begins_from}
 use Rattle.patricia_model.proofs.OutsideLemmas.{outside_all}
 use Rattle.patricia_model.proofs.WalkLemmas.{waiting-snoc}
-use Rattle.patricia_nodes.specs.Internal.Plans.{Nil, IsPlan}
-use Rattle.patricia_nodes.proofs.PlanLemmas.{plan_is}
+use Rattle.patricia_nodes.specs.Internal.Plans.{Nil, IsPlan, siblings_at}
+use Rattle.patricia_nodes.proofs.PlanLemmas.{plan_is, siblings_none}
 use Rattle.patricia_walks.specs.Internal.Positions.{Position, IsPosition, WaitsAfter, state_of}
-use Rattle.patricia_walks.specs.Internal.Positions.{siblings_at, siblings_waiting, count_all}
-use Rattle.patricia_walks.specs.Internal.Positions.{HasPassed}
+use Rattle.patricia_walks.specs.Internal.Positions.{siblings_waiting, count_all, HasPassed}
 use Rattle.patricia_walks.proofs.AfterLemmas.{after-front, drop-take_front}
-use Rattle.patricia_walks.proofs.PositionLemmas.{siblings_none, all_plans-last, count_all-snoc}
+use Rattle.patricia_walks.proofs.PositionLemmas.{all_plans-last, count_all-snoc}
 use Rattle.patricia_walks.proofs.WaitingLemmas.{WaitsWithin-front}
 
 module _ {V : Type 0} where

@@ -29,45 +29,8 @@ common_at rest (InsideLabel id n) = n
 common_at rest (Exact id) = length rest
 
 module _ (item : List ℕ → Type 0) (kind : IsKeyKind item) {V : Type 0} where
-  -- the bytes that a look-up has passed, and the entries under the key
-  pub record Passed (whole focus : Siblings V) (key rest : List ℕ) : Type 0 where
-    pub path : List ℕ
-    pub splits : path ++ rest ≡ key
-    pub valid : IsValid item path
-    pub under_is : under key (entries whole) ≡ prefixed path (under rest (entries focus))
-
-  -- the entries under a key are those under its rest in the place, behind the bytes passed
-  pub passed-fill : (fs : List (Frame V)) (q : Plan V) → IsCanonical item (siblings_in (fill fs q))
-      → (key rest : List ℕ) → Leads item fs key rest → Passed (siblings_in (fill fs q)) (siblings_in q) key rest
-  passed-fill [] q ok key rest e = record {
-    path = [];
-    splits = e;
-    valid = IsValid-nil item;
-    under_is = ap (λ k. under k (entries (siblings_in q))) (sym e) ∙ sym (prefixed-nil _);
-  }
-  passed-fill (InChild id l v d ∷ fs) q ok key rest (before, passes, nonempty, leads) =
-      let o = passed-fill fs (Cell id l v q d) ok key before leads in
-      let inner = siblings-within item fs (Cell id l v q d) ok in
-      record {
-        path = o.path ++ l;
-        splits = append_assoc o.path l rest ∙ ap (λ r. o.path ++ r) passes.splits ∙ o.splits;
-        valid = IsValid-append item o.path l o.valid inner.valid;
-        under_is = o.under_is ∙ ap (prefixed o.path)
-            (under_deeper item kind l v (siblings_in q) (siblings_in d) inner before rest passes nonempty) ∙
-            prefixed-prefixed o.path l _;
-      }
-  passed-fill (InSibling id l v c ∷ fs) q ok key rest (before, leads) =
-      let o = passed-fill fs (Cell id l v c q) ok key rest leads in
-      let inner = siblings-within item fs (Cell id l v c q) ok in
-      record {
-        path = o.path;
-        splits = o.splits;
-        valid = o.valid;
-        under_is = o.under_is ∙ ap (prefixed o.path)
-            (under_past item kind l v (siblings_in c) (siblings_in q) inner rest before);
-      }
-
-  -- and keys go with it as far as the bytes passed, and as those in the place with its rest
+  -- keys go with a key as far as the bytes that a look-up has passed, and as those in the place with
+  -- its rest
   reaches-fill : (fs : List (Frame V)) (q : Plan V) → IsCanonical item (siblings_in (fill fs q))
       → (key rest : List ℕ) → Leads item fs key rest
       → (m : ℕ) × (m + length rest ≡ length key) ×

@@ -10,13 +10,12 @@ use Rattle.patricia_model.proofs.WalkLemmas.{step_down, step_back, left_filled}
 use Rattle.patricia_store.specs.Internal.Nodes.{Node}
 use Rattle.patricia_nodes.specs.declared.arena.NodeArena.{NodeArena}
 use Rattle.patricia_nodes.specs.Internal.Plans.{Plan, Nil, Cell, head, siblings_in, count, plan_at}
-use Rattle.patricia_nodes.specs.Internal.Plans.{siblings_of, IsPlan, IsWellFormed}
-use Rattle.patricia_walks.specs.Internal.Positions.{Position, siblings_at, siblings_waiting}
-use Rattle.patricia_walks.specs.Internal.Positions.{state_of, AllPlans}
-use Rattle.patricia_walks.specs.Internal.Positions.{count_all, Stand, IsPosition, IsTop}
-use Rattle.patricia_walks.specs.Internal.Positions.{entries_below}
-use Rattle.patricia_walks.specs.Internal.Positions.{AdvancesTo, with_siblings, WaitsAfter}
-use Rattle.patricia_nodes.proofs.PlanLemmas.{one-same, below_le, plan_is}
+use Rattle.patricia_nodes.specs.Internal.Plans.{siblings_of, IsPlan, IsWellFormed, siblings_at}
+use Rattle.patricia_walks.specs.Internal.Positions.{Position, siblings_waiting, state_of, AllPlans}
+use Rattle.patricia_walks.specs.Internal.Positions.{count_all, Stand, IsPosition, IsTop, AdvancesTo}
+use Rattle.patricia_walks.specs.Internal.Positions.{with_siblings, WaitsAfter}
+use Rattle.patricia_nodes.specs.Internal.Places.{entries_below}
+use Rattle.patricia_nodes.proofs.PlanLemmas.{one-same, below_le, plan_is, siblings_none}
 use Rattle.patricia_nodes.proofs.SeekLemmas.{Opened, head_within, opened, whole_plan}
 use Rattle.patricia_nodes.proofs.WriteLemmas.{stands-keep}
 use Rattle.patricia_walks.proofs.AfterLemmas.{after-push, after-front, after-back}
@@ -40,10 +39,6 @@ module _ {V : Type 0} (nodes : List (Node V)) where
       → count_all nodes (fs ++ (n, at) ∷ []) i ≡ count (plan_at nodes at) i + count_all nodes fs i
   count_all-snoc [] n at i = omega arith
   count_all-snoc (f ∷ fs) n at i = omega (arith, count_all-snoc fs n at i)
-
-  -- where there is no number, there are no siblings
-  pub siblings_none : siblings_at nodes None ≡ end
-  siblings_none = ap siblings_in (plan_is nodes None Nil (record { stands = tt; at_is = refl; fits = omega arith }))
 
 -- after a write to a node
 module _ {V : Type 0} (nodes later : List (Node V)) (id : ℕ) (long : length later ≡ length nodes)

@@ -1,6 +1,6 @@
 -- The steps of a walk that goes past the entries before a key.
-use Rattle.std.proofs.Common.{◌≡◌, ◌≢◌, ℕ, ◌≤◌, List, [], ◌∷◌, ◌++◌, length, get_or, drop}
-use Rattle.std.proofs.Common.{true, false, Option, Some, None, refl, sym, ap, subst, ◌∙◌, arith}
+use Rattle.std.proofs.Common.{◌≡◌, ◌≢◌, ℕ, ◌≤◌, List, [], ◌∷◌, ◌++◌, length, get_or, drop, true}
+use Rattle.std.proofs.Common.{false, Option, Some, None, refl, sym, ap, subst, ◌∙◌, arith}
 use Rattle.std.specs.declared.cmp.Ordering.{Ordering}
 use Rattle.std.specs.declared.cmp.Ordering.TheVariants.{Less, Equal, Greater}
 use Rattle.std.specs.Ordering.{ordering_reverse}
@@ -19,14 +19,14 @@ use Rattle.patricia_model.proofs.PrefixLemmas.{begins_is, begins_other, stop_bel
 use Rattle.patricia_model.proofs.RangeLemmas.{from-append, from-prefixed, from_all, from_start}
 use Rattle.patricia_model.proofs.RangeLemmas.{from_own, from_past, siblings_from, below_from}
 use Rattle.patricia_store.specs.Internal.Nodes.{Node}
-use Rattle.patricia_nodes.specs.Internal.Plans.{siblings_in, count, plan_at}
-use Rattle.patricia_nodes.proofs.PlanLemmas.{plan_is}
+use Rattle.patricia_nodes.specs.Internal.Plans.{siblings_in, count, plan_at, siblings_at}
+use Rattle.patricia_nodes.proofs.PlanLemmas.{plan_is, siblings_none}
 use Rattle.patricia_nodes.proofs.SeekLemmas.{Opened, opened}
-use Rattle.patricia_walks.specs.Internal.Positions.{Position, IsPosition, siblings_at}
-use Rattle.patricia_walks.specs.Internal.Positions.{siblings_waiting, with_siblings}
+use Rattle.patricia_walks.specs.Internal.Positions.{Position, IsPosition, siblings_waiting}
+use Rattle.patricia_walks.specs.Internal.Positions.{with_siblings}
 use Rattle.patricia_walks.specs.Internal.Skips.{IsTowards, Approaches, HasReached, entries_ahead}
 use Rattle.patricia_walks.specs.Internal.Skips.{entries_waiting}
-use Rattle.patricia_walks.proofs.PositionLemmas.{goes_down, siblings_none}
+use Rattle.patricia_walks.proofs.PositionLemmas.{goes_down}
 
 -- a key is a front of it and what is left
 key_splits : (key path : List ℕ) → Begins path key → path ++ drop (length path) key ≡ key

@@ -9,17 +9,17 @@ use Rattle.patricia_store.specs.Internal.Nodes.{Node}
 use Rattle.patricia_nodes.specs.declared.arena.NodeArena.{NodeArena}
 use Rattle.patricia_nodes.specs.declared.arena.seek.LinkRef.{LinkRef}
 use Rattle.patricia_nodes.specs.declared.arena.seek.Match.{Match}
-use Rattle.patricia_nodes.specs.Internal.Plans.{IsWellFormed, siblings_of, plan_at}
+use Rattle.patricia_nodes.specs.Internal.Plans.{IsWellFormed, siblings_of, plan_at, siblings_at}
 use Rattle.patricia_nodes.proofs.SeekLemmas.{head_within}
-use Rattle.patricia_nodes.specs.Internal.Places.{Placed, node_under}
-use Rattle.patricia_walks.specs.Internal.Positions.{Position, IsPosition, IsTop, siblings_at}
-use Rattle.patricia_walks.specs.Internal.Positions.{entries_below}
-use Rattle.patricia_walks.specs.Internal.Positions.{state_of}
+use Rattle.patricia_nodes.specs.Internal.Places.{Placed, node_under, entries_below}
+use Rattle.patricia_walks.specs.Internal.Positions.{Position, IsPosition, IsTop, state_of}
 use Rattle.patricia_walks.proofs.PositionLemmas.{position_top, left_top, position_end}
-use Rattle.patricia_walks.proofs.PositionLemmas.{position_start, siblings_none}
+use Rattle.patricia_walks.proofs.PositionLemmas.{position_start}
+use Rattle.patricia_nodes.proofs.PlanLemmas.{siblings_none}
 use Rattle.patricia_model.proofs.WalkLemmas.{left_start}
 use Rattle.patricia_model.specs.Internal.WalkStates.{entries_left}
-use Rattle.patricia_walks.proofs.UnderLemmas.{place_top, place_entries, place_nothing, top_filled}
+use Rattle.patricia_nodes.proofs.UnderLemmas.{place_nothing}
+use Rattle.patricia_walks.proofs.UnderLemmas.{place_top, place_entries, top_filled}
 use Rattle.patricia_walks.specs.declared.held_tree.ValueSlot.{ValueSlot}
 use Rattle.patricia_walks.specs.declared.held_tree.ValueSlot.TheVariants.{OfEmptyKey, OfNode}
 use Rattle.patricia_walks.specs.Internal.Holders.{numbered_slots, holders}
@@ -65,7 +65,7 @@ module _ (item : List ℕ → Type 0) (kind : IsKeyKind item) {V : Type 0} (s : 
   -- and where there is none, no entry is under the key
   pub starts_nowhere : IsValid item rest → node_under rest matched ≡ None
       → under key (holders None s) ≡ []
-  starts_nowhere valid none = rw (← is.nodes, ← is.root) (place_nothing item kind m is.whole m_siblings key link_ref at rest matched m_place valid none)
+  starts_nowhere valid none = rw (← is.nodes, ← is.root) (place_nothing item kind m m_siblings key link_ref at rest matched m_place valid none)
 
 -- the node at which a walk can begin is in the vector
 pub start_within :

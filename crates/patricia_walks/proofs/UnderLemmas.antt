@@ -1,82 +1,38 @@
 -- The node under which the entries of a prefix stand.
-use Rattle.std.proofs.Common.{◌≡◌, ◌≢◌, ℕ, ◌+◌, ◌-◌, ◌≤◌, Bool, true, false, List, [], ◌++◌, length}
-use Rattle.std.proofs.Common.{take, Option, Some, None, refl, sym, ap, subst, ◌∙◌, arith}
-use Rattle.std.specs.Prelude.{nat_eq, IfSome, IfNone}
-use Rattle.std.proofs.lemmas.Bool.{eq-eqb, eqb-true}
-use Rattle.std.proofs.lemmas.List.{take_all, take_at, length-append}
-use Rattle.patricia_keys.specs.Keys.{Begins, IsKeyKind, IsValid}
+use Rattle.std.proofs.Common.{◌≡◌, ◌≢◌, ℕ, ◌+◌, ◌-◌, ◌≤◌, List, [], ◌++◌, length, take, Option}
+use Rattle.std.proofs.Common.{Some, None, refl, sym, ap, ◌∙◌, arith}
+use Rattle.std.specs.Prelude.{IfSome, IfNone}
+use Rattle.std.proofs.lemmas.List.{take_at, length-append}
+use Rattle.patricia_keys.specs.Keys.{IsKeyKind}
 use Rattle.patricia_model.specs.Prefixes.{under}
 use Rattle.patricia_model.specs.Siblings.{Siblings, end, node, prefixed, own, entries, IsCanonical}
 use Rattle.patricia_model.proofs.SiblingsLemmas.{prefixed-prefixed}
-use Rattle.patricia_model.proofs.GetLemmas.{common_whole}
 use Rattle.patricia_model.proofs.UniqueLemmas.{has_entry}
-use Rattle.patricia_model.proofs.PrefixLemmas.{under-append, under_own, under_before, under_here}
-use Rattle.patricia_model.proofs.PrefixLemmas.{under_within, under_beside}
+use Rattle.patricia_model.proofs.PrefixLemmas.{under-append, under_own}
 use Rattle.patricia_nodes.specs.declared.arena.NodeArena.{NodeArena}
 use Rattle.patricia_nodes.specs.declared.arena.seek.LinkRef.{LinkRef}
 use Rattle.patricia_nodes.specs.declared.arena.seek.Match.{Match}
 use Rattle.patricia_nodes.specs.declared.arena.seek.Match.TheVariants.{Absent, InsideLabel, Exact}
 use Rattle.patricia_nodes.specs.Internal.Plans.{Plan, Nil, Cell, head, siblings_in, count, plan_at}
-use Rattle.patricia_nodes.specs.Internal.Plans.{siblings_of, entries_of, IsPlan, IsWellFormed}
-use Rattle.patricia_nodes.specs.Internal.Places.{Matches, Placed, fill, node_under}
+use Rattle.patricia_nodes.specs.Internal.Plans.{siblings_at, siblings_of, entries_of, IsPlan}
+use Rattle.patricia_nodes.specs.Internal.Plans.{IsWellFormed}
+use Rattle.patricia_nodes.specs.Internal.Places.{Matches, Placed, fill, node_under, entries_below}
 use Rattle.patricia_nodes.proofs.PlanLemmas.{plan_is, below_le}
-use Rattle.patricia_nodes.proofs.FillLemmas.{plan_within, siblings-within, count-fill}
+use Rattle.patricia_nodes.proofs.FillLemmas.{plan_within, count-fill}
 use Rattle.patricia_nodes.proofs.SeekLemmas.{whole_plan}
+use Rattle.patricia_nodes.proofs.UnderLemmas.{Passed, within_node, stop_some, focus_siblings}
+use Rattle.patricia_nodes.proofs.UnderLemmas.{place_passed, place_under}
 use Rattle.patricia_walks.specs.Internal.Depths.{first_label}
-use Rattle.patricia_walks.specs.Internal.Positions.{IsTop, siblings_at, entries_below}
+use Rattle.patricia_walks.specs.Internal.Positions.{IsTop}
 use Rattle.patricia_walks.specs.declared.under.UnderStart.{UnderStart}
 use Rattle.patricia_walks.specs.Internal.Starts.{IsStartUnder, IsUnderWalk, entries_from}
 use Rattle.patricia_walks.specs.Internal.Starts.{entries_to_lend}
-use Rattle.patricia_walks.proofs.PlaceLemmas.{Passed, passed-fill}
-
--- the node under a key that ends within a label is that of the label, and the whole rest of the key
--- is common
-pub within_node : (i id n : ℕ) (rest : List ℕ) → node_under rest (InsideLabel i n) ≡ Some id
-    → (i ≡ id) × (n ≡ length rest)
-within_node i id n rest e = by (nat_eq n (length rest)) refl
-  where
-    by : (b : Bool) → nat_eq n (length rest) ≡ b → (i ≡ id) × (n ≡ length rest)
-    by true f = let same = rw f at e in (cc, eqb-true n (length rest) f)
-    by false f = let none = rw f at e in absurd (cc)
-
--- with no such node, the key differs from the label before the key's end
-within_none : (i n : ℕ) (rest : List ℕ) → node_under rest (InsideLabel i n) ≡ None → n ≢ length rest
-within_none i n rest e same = let some = rw (eq-eqb n (length rest) same) at e in absurd (cc)
 
 module _ (item : List ℕ → Type 0) (kind : IsKeyKind item) {V : Type 0} where
   -- the entries below a node, with a path before their keys, are its entries behind that path
   behind : (path : List ℕ) (r : Siblings V) → prefixed path (entries_below [] r) ≡ entries_below path r
   behind path end = refl
   behind path (node l v c s) = prefixed-prefixed path l (own v ++ entries c)
-
-  -- the entries under the key are those of the topmost node
-  pub stop_some : (focus : Plan V) → IsCanonical item (siblings_in focus)
-      → (rest : List ℕ) (matched : Match) → Matches item focus rest matched → (id : ℕ)
-      → node_under rest matched ≡ Some id
-      → (head focus ≡ Some id) × (under rest (entries (siblings_in focus)) ≡ entries_below [] (siblings_in focus))
-  stop_some Nil ok rest matched h id e = absurd (let f = rw h at e in cc)
-  stop_some (Cell i l v c d) ok rest Absent h id e = absurd (cc)
-  stop_some (Cell i l v c d) ok rest (InsideLabel k n) h id e =
-      let same = within_node k id n rest e in
-      let all : take n rest ≡ rest = take_all n rest (omega (arith, same.1)) in
-      (ap Some (sym h.0 ∙ same.0), under_within item kind l v (siblings_in c) (siblings_in d) ok rest h.1.shares (subst (λ k. Begins k l) all h.1.common.begins))
-  stop_some (Cell i l v c d) ok rest (Exact k) h id e = (let f = h.0 in cc, under_here item kind l v (siblings_in c) (siblings_in d) ok rest h.1)
-
-  -- without such a node no entry is under the key
-  pub stop_none : (focus : Plan V) → IsCanonical item (siblings_in focus) → (rest : List ℕ)
-      → IsValid item rest → (matched : Match) → Matches item focus rest matched
-      → node_under rest matched ≡ None → under rest (entries (siblings_in focus)) ≡ []
-  stop_none Nil ok rest valid matched h e = refl
-  stop_none (Cell i l v c d) ok rest valid Absent h e = under_before item kind l v (siblings_in c) (siblings_in d) ok rest h
-  stop_none (Cell i l v c d) ok rest valid (InsideLabel k n) h e =
-      let other = within_none k n rest e in
-      let all : take (length rest) rest ≡ rest = take_all (length rest) rest (omega arith) in
-      let within = h.1.common.within in
-      let short = h.1.short in
-      under_beside item kind l v (siblings_in c) (siblings_in d) ok rest h.1.shares
-      (λ b. let long = h.1.common.greatest (length rest) (omega arith) (rw all valid) (rw all b) in other (omega arith))
-      (λ b. let long = common_whole item rest l n ok.valid h.1.common b in absurd (omega arith))
-  stop_none (Cell i l v c d) ok rest valid (Exact k) h e = absurd (cc)
 
 -- the key ends within the label of the topmost node
 stop_label : (item : List ℕ → Type 0) {V : Type 0} (focus : Plan V) (rest : List ℕ) (matched : Match)
@@ -94,21 +50,13 @@ module _ (item : List ℕ → Type 0) (kind : IsKeyKind item) {V : Type 0} (s : 
     (whole : IsWellFormed s) (ok : IsCanonical item (siblings_of s)) (key : List ℕ)
     (link_ref : LinkRef) (at : Option ℕ) (rest : List ℕ) (matched : Match)
     (p : Placed item s key link_ref at rest matched) where
-  -- the top siblings, with the place filled, keep the invariant
-  place_siblings : IsCanonical item (siblings_in (fill p.frames p.focus))
-  place_siblings = rw p.fills ok
-
   -- the siblings in the place keep the invariant
-  focus_siblings : IsCanonical item (siblings_in p.focus)
-  focus_siblings = siblings-within item p.frames p.focus place_siblings
+  canonical : IsCanonical item (siblings_in p.focus)
+  canonical = focus_siblings item kind s ok key link_ref at rest matched p
 
   -- the entries under the key are those under its rest in the place, with the path before
   passed : Passed item kind (siblings_in (fill p.frames p.focus)) (siblings_in p.focus) key rest
-  passed = passed-fill item kind p.frames p.focus place_siblings key rest p.leads
-
-  -- and so are those of the nodes
-  under_is : under key (entries_of s) ≡ prefixed passed.path (under rest (entries (siblings_in p.focus)))
-  under_is = ap (λ (q : Plan V). under key (entries (siblings_in q))) (sym p.fills) ∙ passed.under_is
+  passed = place_passed item kind s ok key link_ref at rest matched p
 
   module _ (front : ℕ) (front_is : front ≡ length key - length rest) where
     -- the key is as long as the path and the rest of it
@@ -123,7 +71,7 @@ module _ (item : List ℕ → Type 0) (kind : IsKeyKind item) {V : Type 0} (s : 
       -- the place begins with that node, and the entries under the rest are those of the node
       here :
           (head p.focus ≡ Some id) × (under rest (entries (siblings_in p.focus)) ≡ entries_below [] (siblings_in p.focus))
-      here = stop_some item kind p.focus focus_siblings rest matched p.is_match id e
+      here = stop_some item kind p.focus canonical rest matched p.is_match id e
 
       -- what is read from that node's number is the plan in the place
       plan : IsPlan s.nodes.items (Some id) p.focus
@@ -149,7 +97,7 @@ module _ (item : List ℕ → Type 0) (kind : IsKeyKind item) {V : Type 0} (s : 
               ap (λ q. count q i) p.fills,
               count-fill p.frames p.focus i,
             ));
-        canonical = rw focus_is focus_siblings;
+        canonical = rw focus_is canonical;
       }
 
       -- the key ends within its label
@@ -167,14 +115,9 @@ module _ (item : List ℕ → Type 0) (kind : IsKeyKind item) {V : Type 0} (s : 
       pub place_entries :
           entries_below (take front key) (siblings_at s.nodes.items (Some id)) ≡ under key (entries_of s)
       place_entries = sym
-          (under_is ∙ ap (prefixed passed.path) here.1 ∙ behind item kind passed.path (siblings_in p.focus)
+          (place_under item kind s ok key link_ref at rest matched p ∙ ap (prefixed passed.path) here.1 ∙ behind item kind passed.path (siblings_in p.focus)
           ∙ ap (λ k. entries_below k (siblings_in p.focus)) (sym path_is) ∙ ap
           (λ q. entries_below (take front key) (siblings_in q)) (sym focus_is))
-
-  -- where there is none, no entry is under the key
-  pub place_nothing : IsValid item rest → node_under rest matched ≡ None
-      → under key (entries_of s) ≡ []
-  place_nothing valid e = under_is ∙ ap (prefixed passed.path) (stop_none item kind p.focus focus_siblings rest valid matched p.is_match e)
 
 -- what holds in any case holds where there is none
 pub if_none : {A X : Type 0} (r : Option A) → X → IfNone r X

@@ -1,6 +1,6 @@
 -- What a cursor over values has left, and where it stands, from step to step.
-use Rattle.std.proofs.Common.{◌≡◌, ℕ, Bool, true, false, List, [], ◌∷◌, drop, Option, Some}
-use Rattle.std.proofs.Common.{None, refl, sym, ap, subst, ◌∙◌}
+use Rattle.std.proofs.Common.{◌≡◌, ℕ, Bool, true, false, List, [], ◌∷◌, drop, Option, Some, None}
+use Rattle.std.proofs.Common.{refl, sym, ap, subst, ◌∙◌}
 use Rattle.std.specs.Prelude.{Result, Ok, Err, IfOk, OnErr}
 use Rattle.std.specs.Option.{is_some, option_map}
 use Rattle.patricia_keys.specs.Keys.{IsKeyKind}
@@ -9,19 +9,17 @@ use Rattle.patricia_model.specs.Trees.{IsTree}
 use Rattle.patricia_model.specs.Walks.{values_of}
 use Rattle.patricia_model.proofs.PrefixLemmas.{under_empty}
 use Rattle.patricia_nodes.specs.Internal.Plans.{IsWellFormed, siblings_of}
-use Rattle.patricia_walks.specs.declared.held_tree.TreeParts.{TreeParts}
+use Rattle.patricia_nodes.specs.declared.parts.TreeParts.{TreeParts}
 use Rattle.patricia_walks.specs.declared.held_tree.ValueSlot.{ValueSlot}
 use Rattle.patricia_walks.specs.declared.held_tree.ValueSlot.TheVariants.{OfEmptyKey}
 use Rattle.patricia_walks.specs.declared.value_cursor.ValueCursorState.{ValueCursorState}
-use Rattle.patricia_walks.specs.Internal.HeldTrees.{entries_to_lend, with_held}
-use Rattle.patricia_walks.specs.Internal.HeldTrees.{Refuses, Takes}
+use Rattle.patricia_walks.specs.Internal.HeldTrees.{entries_to_lend, with_held, Refuses, Takes}
 use Rattle.patricia_walks.specs.Internal.Holders.{holders}
 use Rattle.patricia_walks.specs.Internal.ValuePositions.{IsValuePosition, values_left}
 use Rattle.patricia_walks.specs.Internal.ValueCursorStates.{spot_of, holders_left, Moves}
-use Rattle.patricia_walks.specs.Internal.ValueCursorStates.{MoveIsRefused}
-use Rattle.patricia_walks.specs.Internal.ValueCursorStates.{IsValueCursorState}
-use Rattle.patricia_walks.proofs.HeldTreeLemmas.{Leaves, goes_so, gone_on, made_held}
-use Rattle.patricia_walks.proofs.HeldTreeLemmas.{made_left, refused}
+use Rattle.patricia_walks.specs.Internal.ValueCursorStates.{MoveIsRefused, IsValueCursorState}
+use Rattle.patricia_walks.proofs.HeldTreeLemmas.{Leaves, goes_so, gone_on, made_held, made_left}
+use Rattle.patricia_walks.proofs.HeldTreeLemmas.{refused}
 use Rattle.patricia_walks.proofs.HolderLemmas.{marked, siblings_marked}
 use Rattle.patricia_walks.proofs.LentLemmas.{wrote_last}
 use Rattle.patricia_walks.proofs.ValuePositionLemmas.{left_at_start, stands_at_start}

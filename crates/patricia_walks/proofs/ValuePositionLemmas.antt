@@ -8,16 +8,14 @@ use Rattle.patricia_model.specs.Internal.WalkStates.{steps_in}
 use Rattle.patricia_store.specs.Internal.Nodes.{Node}
 use Rattle.patricia_nodes.specs.declared.arena.NodeArena.{NodeArena}
 use Rattle.patricia_nodes.specs.Internal.Plans.{Plan, Nil, Cell, head, siblings_in, plan_at}
-use Rattle.patricia_nodes.specs.Internal.Plans.{siblings_of}
-use Rattle.patricia_nodes.specs.Internal.Plans.{entries_of, IsPlan, IsWellFormed}
-use Rattle.patricia_nodes.proofs.PlanLemmas.{plan_is}
+use Rattle.patricia_nodes.specs.Internal.Plans.{siblings_of, entries_of, IsPlan, IsWellFormed}
+use Rattle.patricia_nodes.specs.Internal.Plans.{siblings_at}
+use Rattle.patricia_nodes.proofs.PlanLemmas.{plan_is, siblings_none}
 use Rattle.patricia_nodes.proofs.SeekLemmas.{head_within, opened, whole_plan}
-use Rattle.patricia_walks.specs.Internal.Positions.{siblings_at}
 use Rattle.patricia_walks.specs.Internal.ValuePositions.{ValuePosition, values_in, values_waiting}
 use Rattle.patricia_walks.specs.Internal.ValuePositions.{values_left, value_steps_waiting}
 use Rattle.patricia_walks.specs.Internal.ValuePositions.{HasValues, AreValueSiblings}
 use Rattle.patricia_walks.specs.Internal.ValuePositions.{AllValueSiblings, IsValuePosition, GoesTo}
-use Rattle.patricia_walks.proofs.PositionLemmas.{siblings_none}
 
 module _ {A : Type 0} where
   -- two lists are empty only where the first is

@@ -10,8 +10,8 @@ ghost use Rattle.patricia_walks.specs.Internal.HeldTrees.{standing};
 ghost use Rattle.patricia_walks.specs.Internal.CursorStates.{IsCursorState, IsPrefixCursor};
 
 use crate::cursor_state::{CursorState, Start, find_start};
-use crate::held_tree::TreeParts;
 use patricia_keys::{BorrowedBytes, Bytes};
+use patricia_nodes::parts::TreeParts;
 use std::alloc::AllocError;
 use std::marker::{Model, PhantomData};
 

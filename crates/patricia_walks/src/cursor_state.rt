@@ -5,19 +5,19 @@ ghost use Rattle.std.specs.Option.{option_map};
 ghost use Rattle.patricia_model.specs.Prefixes.{under};
 ghost use Rattle.patricia_model.specs.Siblings.{IsCanonical};
 ghost use Rattle.patricia_model.specs.Internal.WalkStates.{entries_left};
-ghost use Rattle.patricia_nodes.specs.Internal.Plans.{IsWellFormed, siblings_of};
+ghost use Rattle.patricia_nodes.specs.Internal.Plans.{IsWellFormed, siblings_of, siblings_at};
 ghost use Rattle.patricia_walks.specs.Internal.Positions.{IsPosition, AdvancesTo, state_of};
-ghost use Rattle.patricia_walks.specs.Internal.Positions.{siblings_at};
-ghost use Rattle.patricia_walks.specs.Internal.Positions.{entries_below};
+ghost use Rattle.patricia_nodes.specs.Internal.Places.{entries_below};
 ghost use Rattle.patricia_walks.specs.Internal.Holders.{numbered_slots, holders};
 ghost use Rattle.patricia_walks.specs.Internal.CursorStates.{position_of, left_of, Advances};
 ghost use Rattle.patricia_walks.specs.Internal.CursorStates.{StepIsRefused, IsAtStart, StartsUnder};
 
-use crate::held_tree::{HeldTree, TreeParts, ValueSlot, held_by};
+use crate::held_tree::{HeldTree, ValueSlot, held_by};
 use crate::waiting::push_siblings;
 use patricia_keys::{BorrowedBytes, Bytes};
 use patricia_nodes::arena::NodeArena;
 use patricia_nodes::link::{Link, NodeId};
+use patricia_nodes::parts::TreeParts;
 use std::alloc::AllocError;
 
 /// Where a walk under a prefix is to begin: at a node, whose label comes behind the first bytes of

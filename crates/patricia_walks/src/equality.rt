@@ -2,8 +2,8 @@
 //!
 //! Trees with the same keys have the same nodes, whatever made them, so no key is made: labels are
 //! compared with labels and values with values.
-ghost use Rattle.std.specs.Prelude.{◌≡◌, ◌≢◌, ◌↔◌, ◌<◌, [], Some, None, true, false, IsTrue};
-ghost use Rattle.std.specs.Prelude.{IfOk, OnOk, OnErr, length};
+ghost use Rattle.std.specs.Prelude.{◌≡◌, ◌≢◌, ◌↔◌, ◌<◌, [], Some, None, true, false, IsTrue, IfOk};
+ghost use Rattle.std.specs.Prelude.{OnOk, OnErr, length};
 ghost use Rattle.std.specs.Option.{option_copied, option_eq};
 ghost use Rattle.patricia_model.specs.Siblings.{IsCanonical};
 ghost use Rattle.patricia_model.specs.Internal.WalkStates.{steps_in};
@@ -14,11 +14,11 @@ ghost use Rattle.patricia_walks.specs.Internal.Comparisons.{IsComparison, Compar
 ghost use Rattle.patricia_walks.specs.Internal.Comparisons.{is_same_node, is_same_left};
 ghost use Rattle.patricia_walks.specs.Internal.Comparisons.{are_same_nodes, steps_left};
 
-use crate::held_tree::TreeParts;
 use patricia_keys::Bytes;
 use patricia_nodes::arena::NodeArena;
 use patricia_nodes::arena::node_vec::NodeVec;
 use patricia_nodes::link::{Link, NodeId};
+use patricia_nodes::parts::TreeParts;
 use std::alloc::{AllocError, Global};
 use std::cmp::PartialEq;
 

@@ -4,13 +4,13 @@ ghost use Rattle.std.specs.Option.{option_copied, option_map};
 ghost use Rattle.patricia_keys.specs.Keys.{IsValid};
 ghost use Rattle.patricia_model.specs.Siblings.{own, prefixed, entries, IsCanonical};
 ghost use Rattle.patricia_nodes.specs.Internal.Plans.{IsWellFormed, siblings_of, entries_of};
+ghost use Rattle.patricia_nodes.specs.Internal.Plans.{siblings_at};
 ghost use Rattle.patricia_walks.specs.Internal.Lowers.{AreSiblingsAt};
-ghost use Rattle.patricia_walks.specs.Internal.Positions.{siblings_at};
 
-use crate::path::new_path;
 use patricia_keys::Bytes;
 use patricia_nodes::arena::NodeArena;
 use patricia_nodes::link::NodeId;
+use patricia_nodes::path::new_path;
 use std::alloc::{AllocError, Global};
 
 // The first value of siblings and of what is below them, whose key is then the path: that of the

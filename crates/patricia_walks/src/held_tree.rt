@@ -3,31 +3,19 @@ ghost use Rattle.std.specs.Prelude.{◌≡◌, ◌≢◌, ◌<◌, ◌↔◌, Ma
 ghost use Rattle.std.specs.Borrow.{sem};
 ghost use Rattle.std.specs.Option.{option_copied_mut, option_map};
 ghost use Rattle.patricia_nodes.specs.Internal.NodeVecs.{ReadsNode};
-ghost use Rattle.patricia_walks.specs.declared.held_tree.ValueSlot.TheVariants.{OfEmptyKey};
-ghost use Rattle.patricia_walks.specs.declared.held_tree.ValueSlot.TheVariants.{OfNode};
+ghost use Rattle.patricia_walks.specs.declared.held_tree.ValueSlot.TheVariants.{OfEmptyKey, OfNode};
 ghost use Rattle.patricia_walks.specs.Internal.HeldTrees.{IsHeld, held_last};
 
 use patricia_keys::Bytes;
-use patricia_nodes::arena::NodeArena;
 use patricia_nodes::arena::node_vec::NodeVec;
 use patricia_nodes::link::{Link, NodeId};
-use std::alloc::Global;
+use patricia_nodes::parts::TreeParts;
 
 /// Who holds a value: the tree, for the empty key, or a node.
 #[derive(Clone, Copy)]
 pub enum ValueSlot {
     OfEmptyKey,
     OfNode(NodeId),
-}
-
-/// The parts of a tree: the value of the empty key, the nodes of the other keys, and how many keys
-/// these have.
-#[derive(Drop)]
-pub struct TreeParts<V> {
-    pub alloc: Global,
-    pub value: Option<V>,
-    pub arena: NodeArena<V>,
-    pub count: usize,
 }
 
 /// A tree, and who holds the value that was lent last.

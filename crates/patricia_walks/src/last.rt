@@ -1,6 +1,6 @@
 //! The last entry, and the last one before a key.
-ghost use Rattle.std.specs.Prelude.{◌≡◌, ◌≢◌, ◌≤◌, ◌++◌, ℕ, List, [], Some, None, take};
-ghost use Rattle.std.specs.Prelude.{IfOk, OnOk, OnErr};
+ghost use Rattle.std.specs.Prelude.{◌≡◌, ◌≢◌, ◌≤◌, ◌++◌, ℕ, List, [], Some, None, take, IfOk, OnOk};
+ghost use Rattle.std.specs.Prelude.{OnErr};
 ghost use Rattle.std.specs.List.{last_or};
 ghost use Rattle.std.specs.Option.{option_copied, option_map};
 ghost use Rattle.patricia_keys.specs.Keys.{IsValid};
@@ -8,16 +8,17 @@ ghost use Rattle.patricia_model.specs.Internal.WalkStates.{steps_in};
 ghost use Rattle.patricia_model.specs.Ranges.{before};
 ghost use Rattle.patricia_model.specs.Siblings.{own, prefixed, entries, IsCanonical};
 ghost use Rattle.patricia_nodes.specs.Internal.Plans.{IsWellFormed, siblings_of, entries_of};
+ghost use Rattle.patricia_nodes.specs.Internal.Plans.{siblings_at};
 ghost use Rattle.patricia_walks.specs.Internal.Lowers.{AreSiblingsAt, IsLower, IsLowerDescent};
-ghost use Rattle.patricia_walks.specs.Internal.Lowers.{LowerMoves, LowerPasses};
-ghost use Rattle.patricia_walks.specs.Internal.Lowers.{IsFront, lower_entry};
+ghost use Rattle.patricia_walks.specs.Internal.Lowers.{LowerMoves, LowerPasses, IsFront};
+ghost use Rattle.patricia_walks.specs.Internal.Lowers.{lower_entry};
 ghost use Rattle.patricia_store.specs.Internal.Nodes.{Node};
-ghost use Rattle.patricia_walks.specs.Internal.Positions.{siblings_at, entries_below};
+ghost use Rattle.patricia_nodes.specs.Internal.Places.{entries_below};
 
-use crate::path::new_path;
 use patricia_keys::{BorrowedBytes, Bytes};
 use patricia_nodes::arena::NodeArena;
 use patricia_nodes::link::{Link, NodeId};
+use patricia_nodes::path::new_path;
 use std::alloc::{AllocError, Global};
 use std::cmp::Ordering;
 

@@ -14,7 +14,6 @@ mod held_tree;
 pub mod into_walk;
 pub mod last;
 pub mod near;
-pub mod path;
 pub mod range;
 pub mod reach;
 pub mod under;
@@ -22,5 +21,3 @@ pub mod value_cursor;
 pub mod value_walk;
 mod waiting;
 pub mod walk;
-
-pub use held_tree::TreeParts;

@@ -7,8 +7,8 @@ ghost use Rattle.patricia_model.specs.Prefixes.{under};
 ghost use Rattle.patricia_model.specs.Siblings.{own, entries, IsCanonical};
 ghost use Rattle.patricia_model.specs.Walks.{YieldsOrErr};
 ghost use Rattle.patricia_nodes.specs.Internal.Plans.{IsWellFormed, siblings_of, entries_of};
+ghost use Rattle.patricia_nodes.specs.Internal.Plans.{siblings_at};
 ghost use Rattle.patricia_walks.specs.Internal.Depths.{first_label};
-ghost use Rattle.patricia_walks.specs.Internal.Positions.{siblings_at};
 ghost use Rattle.patricia_walks.specs.Internal.Starts.{IsStartUnder, entries_from};
 
 mod counting;

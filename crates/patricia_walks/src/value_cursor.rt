@@ -1,8 +1,8 @@
 //! A cursor that owns a tree and lends its values one at a time, in the order of their keys.
 //!
 //! It reads no label and keeps no key, only the siblings that are still to come.
-ghost use Rattle.std.specs.Prelude.{◌≡◌, ◌≢◌, ◌↔◌, [], Some, None, true, false, IfOk, OnOk};
-ghost use Rattle.std.specs.Prelude.{OnErr, IsTrue};
+ghost use Rattle.std.specs.Prelude.{◌≡◌, ◌≢◌, ◌↔◌, [], Some, None, true, false, IfOk, OnOk, OnErr};
+ghost use Rattle.std.specs.Prelude.{IsTrue};
 ghost use Rattle.std.specs.Borrow.{sem};
 ghost use Rattle.std.specs.Option.{option_copied_mut, option_map};
 ghost use Rattle.patricia_model.specs.Cursors.{last_value, next_key, stepped};
@@ -15,9 +15,10 @@ ghost use Rattle.patricia_walks.specs.Internal.ValuePositions.{IsValuePosition, 
 ghost use Rattle.patricia_walks.specs.Internal.ValueCursorStates.{spot_of, holders_left, Moves};
 ghost use Rattle.patricia_walks.specs.Internal.ValueCursorStates.{MoveIsRefused};
 
-use crate::held_tree::{HeldTree, TreeParts, ValueSlot, held_by};
+use crate::held_tree::{HeldTree, ValueSlot, held_by};
 use patricia_keys::Bytes;
 use patricia_nodes::link::{Link, NodeId};
+use patricia_nodes::parts::TreeParts;
 use std::alloc::AllocError;
 use std::marker::{Model, PhantomData};
 

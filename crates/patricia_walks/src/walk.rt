@@ -8,9 +8,10 @@ ghost use Rattle.patricia_model.specs.Siblings.{own, keys_of, IsCanonical};
 ghost use Rattle.patricia_model.specs.Internal.WalkStates.{entries_left, TakesEntry};
 ghost use Rattle.patricia_model.specs.Walks.{YieldsOrErr};
 ghost use Rattle.patricia_nodes.specs.Internal.Plans.{IsWellFormed, siblings_of, entries_of};
+ghost use Rattle.patricia_nodes.specs.Internal.Plans.{siblings_at};
 ghost use Rattle.patricia_walks.specs.Internal.Positions.{IsPosition, IsTop, AdvancesTo, state_of};
-ghost use Rattle.patricia_walks.specs.Internal.Positions.{lent, siblings_at, entries_below};
-ghost use Rattle.patricia_walks.specs.Internal.Positions.{HasPassed};
+ghost use Rattle.patricia_walks.specs.Internal.Positions.{lent, HasPassed};
+ghost use Rattle.patricia_nodes.specs.Internal.Places.{entries_below};
 
 mod reading;
 mod skipping;

@@ -4,8 +4,7 @@ use Rattle.std.specs.Prelude.{None, Any, vec_len}
 use Rattle.patricia_model.specs.Siblings.{Siblings}
 use Rattle.patricia_store.specs.Internal.Nodes.{Node}
 use Rattle.patricia_nodes.specs.declared.arena.NodeArena.{NodeArena}
-use Rattle.patricia_nodes.specs.Internal.Plans.{plan_at, siblings_of, IsPlan}
-use Rattle.patricia_walks.specs.Internal.Positions.{siblings_at}
+use Rattle.patricia_nodes.specs.Internal.Plans.{plan_at, siblings_of, IsPlan, siblings_at}
 use Rattle.patricia_wire.specs.Records.{Record}
 use Rattle.patricia_codec.specs.declared.records.Records.{Records}
 use Rattle.patricia_codec.specs.Internal.Pieces.{AreRecords, cut_front, weight}

@@ -11,7 +11,7 @@ use super::{Refused, Tree};
 use patricia_edits::insert_along;
 use patricia_keys::BorrowedBytes;
 use patricia_nodes::link::NodeId;
-use patricia_walks::TreeParts;
+use patricia_nodes::parts::TreeParts;
 use patricia_walks::last::last;
 use std::alloc::AllocError;
 use std::marker::{Model, PhantomData};

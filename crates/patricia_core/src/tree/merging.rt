@@ -20,7 +20,7 @@ use patricia_keys::keys::KeyBytes;
 use patricia_keys::{BorrowedBytes, Bytes};
 use patricia_nodes::arena::NodeArena;
 use patricia_nodes::link::NodeId;
-use patricia_walks::TreeParts;
+use patricia_nodes::parts::TreeParts;
 use std::alloc::AllocError;
 use std::marker::{Model, PhantomData};
 

@@ -1,14 +1,14 @@
 -- The place of a key among nodes in one vector: a zipper, with the frames on the way down and what
 -- is in the hole.
 use Rattle.std.specs.Prelude.{◌≡◌, ◌≢◌, ℕ, ◌+◌, ◌-◌, suc, List, [], ◌∷◌, length, Option, Some, None}
-use Rattle.std.specs.Prelude.{nat_eq, if◌then◌else◌}
+use Rattle.std.specs.Prelude.{nat_eq, if◌then◌else◌, ◌++◌}
 use Rattle.patricia_nodes.specs.declared.arena.NodeArena.{NodeArena}
 use Rattle.patricia_nodes.specs.declared.arena.seek.SeekResult.{SeekResult}
 use Rattle.patricia_nodes.specs.declared.arena.seek.LinkRef.{LinkRef}
 use Rattle.patricia_nodes.specs.declared.arena.seek.LinkRef.TheVariants.{Root, Child, Sibling}
 use Rattle.patricia_nodes.specs.declared.arena.seek.Match.{Match}
 use Rattle.patricia_nodes.specs.declared.arena.seek.Match.TheVariants.{Absent, InsideLabel, Exact}
-use Rattle.patricia_model.specs.Siblings.{IsBefore}
+use Rattle.patricia_model.specs.Siblings.{IsBefore, Siblings, end, node, prefixed, own, entries}
 use Rattle.patricia_model.specs.Internal.LabelCmp.{EndsWithin, Passes}
 use Rattle.patricia_nodes.specs.Internal.Plans.{Plan, Nil, Cell, head, size, count, one, plan_at}
 
@@ -72,6 +72,12 @@ abbrev pub node_under : List ℕ → Match → Option ℕ
 node_under rest (Exact id) = Some id
 node_under rest (InsideLabel id n) = if nat_eq n (length rest) then Some id else None
 node_under rest Absent = None
+
+-- the entries of the first of the siblings, behind these bytes
+abbrev pub entries_below : {V : Type 0} → List ℕ → Siblings V → List (List ℕ × V)
+entries_below front end = []
+entries_below front (node label value child sibling) =
+    prefixed (front ++ label) (own value ++ entries child)
 
 module _ (item : List ℕ → Type 0) where
   -- a look-up of the key passes the frames, and this is left of it

@@ -94,6 +94,10 @@ module _ {V : Type 0} where
   abbrev pub plan_at : List (Node V) → Option ℕ → Plan V
   plan_at nodes at = read (length nodes) nodes at
 
+  -- the siblings from a number on
+  abbrev pub siblings_at : List (Node V) → Option ℕ → Siblings V
+  siblings_at nodes at = siblings_in (plan_at nodes at)
+
   -- the siblings that the nodes stand for
   abbrev pub siblings_of : NodeArena V → Siblings V
   siblings_of s = siblings_in (plan_at s.nodes.items s.root)

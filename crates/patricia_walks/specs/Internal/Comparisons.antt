@@ -6,10 +6,9 @@ use Rattle.std.specs.Option.{option_eq}
 use Rattle.patricia_model.specs.Siblings.{Siblings, end, node, own}
 use Rattle.patricia_model.specs.Internal.WalkStates.{steps_in}
 use Rattle.patricia_store.specs.Internal.Nodes.{Node}
-use Rattle.patricia_nodes.specs.Internal.Plans.{plan_at, entries_of, IsPlan}
-use Rattle.patricia_walks.specs.Internal.Positions.{siblings_at}
+use Rattle.patricia_nodes.specs.Internal.Plans.{plan_at, entries_of, IsPlan, siblings_at}
 use Rattle.patricia_walks.specs.declared.equality.Comparison.{Comparison}
-use Rattle.patricia_walks.specs.declared.held_tree.TreeParts.{TreeParts}
+use Rattle.patricia_nodes.specs.declared.parts.TreeParts.{TreeParts}
 
 module _ {V : Type 0} where
   -- the entries of a tree

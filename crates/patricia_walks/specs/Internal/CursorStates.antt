@@ -6,10 +6,10 @@ use Rattle.patricia_model.specs.Siblings.{IsCanonical}
 use Rattle.patricia_model.specs.Internal.WalkStates.{entries_left}
 use Rattle.patricia_store.specs.Internal.Nodes.{Node}
 use Rattle.patricia_nodes.specs.declared.arena.NodeArena.{NodeArena}
-use Rattle.patricia_nodes.specs.Internal.Plans.{IsPlan, plan_at, count}
+use Rattle.patricia_nodes.specs.Internal.Plans.{IsPlan, plan_at, count, siblings_at}
 use Rattle.patricia_walks.specs.Internal.HeldTrees.{AreEntriesLeft, IsHeld, Refuses, Takes}
-use Rattle.patricia_walks.specs.Internal.Positions.{Position, IsPosition, state_of, siblings_at}
-use Rattle.patricia_walks.specs.Internal.Positions.{entries_below}
+use Rattle.patricia_walks.specs.Internal.Positions.{Position, IsPosition, state_of}
+use Rattle.patricia_nodes.specs.Internal.Places.{entries_below}
 use Rattle.patricia_walks.specs.declared.held_tree.ValueSlot.{ValueSlot}
 use Rattle.patricia_walks.specs.declared.cursor_state.CursorState.{CursorState}
 use Rattle.patricia_walks.specs.declared.cursor_state.Start.{Start}

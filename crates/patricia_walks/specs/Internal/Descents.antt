@@ -5,8 +5,7 @@ use Rattle.patricia_keys.specs.Keys.{IsValid}
 use Rattle.patricia_model.specs.Prefixes.{along}
 use Rattle.patricia_model.specs.Internal.WalkStates.{steps_in}
 use Rattle.patricia_model.specs.Siblings.{Siblings, prefixed, own, entries, IsCanonical}
-use Rattle.patricia_nodes.specs.Internal.Plans.{plan_at, IsPlan}
-use Rattle.patricia_walks.specs.Internal.Positions.{siblings_at}
+use Rattle.patricia_nodes.specs.Internal.Plans.{plan_at, IsPlan, siblings_at}
 use Rattle.patricia_walks.specs.declared.along.Descent.{Descent}
 
 module _ {V : Type 0} where

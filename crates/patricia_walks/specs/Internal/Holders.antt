@@ -5,8 +5,7 @@ use Rattle.std.specs.Option.{option_map}
 use Rattle.patricia_model.specs.Siblings.{own, entries}
 use Rattle.patricia_store.specs.Internal.Nodes.{Node}
 use Rattle.patricia_nodes.specs.declared.arena.NodeArena.{NodeArena}
-use Rattle.patricia_nodes.specs.Internal.Plans.{linked}
-use Rattle.patricia_walks.specs.Internal.Positions.{siblings_at}
+use Rattle.patricia_nodes.specs.Internal.Plans.{linked, siblings_at}
 use Rattle.patricia_nodes.specs.Internal.NodeVecs.{value_in}
 use Rattle.patricia_walks.specs.declared.held_tree.ValueSlot.{ValueSlot}
 use Rattle.patricia_walks.specs.declared.held_tree.ValueSlot.TheVariants.{OfEmptyKey, OfNode}

@@ -6,8 +6,8 @@ use Rattle.patricia_model.specs.Ranges.{before}
 use Rattle.patricia_model.specs.Siblings.{Siblings, prefixed, entries, IsCanonical}
 use Rattle.patricia_model.specs.Internal.WalkStates.{steps_in}
 use Rattle.patricia_store.specs.Internal.Nodes.{Node}
-use Rattle.patricia_nodes.specs.Internal.Plans.{plan_at, IsPlan}
-use Rattle.patricia_walks.specs.Internal.Positions.{siblings_at, entries_below}
+use Rattle.patricia_nodes.specs.Internal.Plans.{plan_at, IsPlan, siblings_at}
+use Rattle.patricia_nodes.specs.Internal.Places.{entries_below}
 use Rattle.patricia_walks.specs.declared.last.Lower.{Lower}
 use Rattle.patricia_walks.specs.declared.last.Lower.TheVariants.{Nowhere, Value, Below}
 use Rattle.patricia_walks.specs.declared.last.LowerDescent.{LowerDescent}

@@ -49,10 +49,6 @@ module _ {V : Type 0} where
     stack = p.stack.items;
   }
 
-  -- the siblings from a number on
-  abbrev pub siblings_at : List (Node V) → Option ℕ → Siblings V
-  siblings_at nodes at = siblings_in (plan_at nodes at)
-
   -- the siblings that wait
   abbrev pub siblings_waiting : List (Node V) → List (ℕ × Option ℕ) → List (ℕ × Siblings V)
   siblings_waiting nodes stack = map (λ f. (f.0, siblings_at nodes f.1)) stack
@@ -86,12 +82,6 @@ module _ {V : Type 0} where
   pub record HasPassed (p : List ℕ) (before later : List (List ℕ × V)) : Type 0 where
     pub left : later ≡ outside p before
     pub split : before ≡ under p before ++ later
-
-  -- the entries of the first of the siblings, behind these bytes
-  abbrev pub entries_below : List ℕ → Siblings V → List (List ℕ × V)
-  entries_below front end = []
-  entries_below front (node label value child sibling) =
-      prefixed (front ++ label) (own value ++ entries child)
 
 module _ (item : List ℕ → Type 0) {V : Type 0} where
   -- a walk can begin at this node, behind these bytes

@@ -1,6 +1,8 @@
 -- Where a walk over the entries under a prefix begins.
 use Rattle.std.specs.Prelude.{◌≡◌, ℕ, ◌≤◌, List, [], length, take, Option, Some, None}
-use Rattle.patricia_walks.specs.Internal.Positions.{IsTop, siblings_at, entries_below}
+use Rattle.patricia_nodes.specs.Internal.Plans.{siblings_at}
+use Rattle.patricia_nodes.specs.Internal.Places.{entries_below}
+use Rattle.patricia_walks.specs.Internal.Positions.{IsTop}
 use Rattle.patricia_walks.specs.declared.under.UnderStart.{UnderStart}
 
 module _ {Q V : Type 0} (key_of : Q → List ℕ) where

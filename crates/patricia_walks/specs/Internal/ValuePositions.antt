@@ -5,8 +5,7 @@ use Rattle.patricia_model.specs.Siblings.{Siblings, end, node, own, entries}
 use Rattle.patricia_model.specs.Walks.{values_of}
 use Rattle.patricia_model.specs.Internal.WalkStates.{steps_in}
 use Rattle.patricia_store.specs.Internal.Nodes.{Node}
-use Rattle.patricia_nodes.specs.Internal.Plans.{plan_at, IsPlan}
-use Rattle.patricia_walks.specs.Internal.Positions.{siblings_at}
+use Rattle.patricia_nodes.specs.Internal.Plans.{plan_at, IsPlan, siblings_at}
 use Rattle.patricia_walks.specs.declared.value_walk.ValueTraversal.{ValueTraversal}
 
 -- a place in a walk over values: the nodes, the value that is due, the number of the siblings that

@@ -3,10 +3,9 @@ ghost use Rattle.std.specs.Prelude.{◌≡◌, ◌≢◌, ◌+◌, ◌<◌, [], 
 ghost use Rattle.patricia_model.specs.Prefixes.{under};
 ghost use Rattle.patricia_model.specs.Siblings.{own, entries, IsCanonical};
 ghost use Rattle.patricia_nodes.specs.Internal.NodeVecs.{ReadsNode};
-ghost use Rattle.patricia_nodes.specs.Internal.Plans.{IsPlan, IsWellFormed, plan_at};
-ghost use Rattle.patricia_nodes.specs.Internal.Plans.{siblings_of, entries_of};
+ghost use Rattle.patricia_nodes.specs.Internal.Plans.{IsPlan, IsWellFormed, plan_at, siblings_of};
+ghost use Rattle.patricia_nodes.specs.Internal.Plans.{entries_of, siblings_at};
 ghost use Rattle.patricia_walks.specs.Internal.Depths.{IsDeeper};
-ghost use Rattle.patricia_walks.specs.Internal.Positions.{siblings_at};
 
 use super::find_start;
 use patricia_keys::BorrowedBytes;

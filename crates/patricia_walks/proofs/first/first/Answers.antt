@@ -2,9 +2,8 @@ use Rattle.std.proofs.Common.{◌≢◌, [], Some, ◌++◌, sym, ap, subst, ◌
 use Rattle.std.specs.Option.{option_copied}
 use Rattle.std.specs.Prelude.{slice_get}
 use Rattle.patricia_model.specs.Siblings.{own, prefixed, entries}
-use Rattle.patricia_nodes.specs.Internal.Plans.{entries_of}
+use Rattle.patricia_nodes.specs.Internal.Plans.{entries_of, siblings_at}
 use Rattle.patricia_walks.specs.Internal.Lowers.{AreSiblingsAt}
-use Rattle.patricia_walks.specs.Internal.Positions.{siblings_at}
 use Rattle.patricia_walks.proofs.FirstLemmas.{first_some, some_first}
 use Rattle.patricia_walks.proofs.LowerLemmas.{siblings_start, at_error}
 use Rattle.patricia_walks.proofs.first.first.Goals as goal

@@ -6,7 +6,7 @@ use Rattle.patricia_keys.proofs.KeyLemmas.{IsValid-append}
 use Rattle.patricia_model.specs.Siblings.{prefixed, entries}
 use Rattle.patricia_nodes.proofs.NodeVecLemmas.{node_there}
 use Rattle.patricia_walks.specs.Internal.Lowers.{AreSiblingsAt}
-use Rattle.patricia_walks.specs.Internal.Positions.{siblings_at}
+use Rattle.patricia_nodes.specs.Internal.Plans.{siblings_at}
 use Rattle.patricia_walks.proofs.FirstLemmas.{first_value, first_child}
 use Rattle.patricia_walks.proofs.LastLemmas.{siblings_open, siblings_within, has_value, child_less}
 use Rattle.patricia_walks.proofs.first.first_below.Goals as goal

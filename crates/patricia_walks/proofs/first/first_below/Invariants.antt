@@ -4,7 +4,7 @@ use Rattle.patricia_keys.specs.Keys.{IsValid}
 use Rattle.patricia_model.specs.Internal.WalkStates.{steps_in}
 use Rattle.patricia_model.specs.Siblings.{prefixed, entries}
 use Rattle.patricia_walks.specs.Internal.Lowers.{AreSiblingsAt}
-use Rattle.patricia_walks.specs.Internal.Positions.{siblings_at}
+use Rattle.patricia_nodes.specs.Internal.Plans.{siblings_at}
 use Rattle.patricia_walks.proofs.first.first_below.Given as goal
 
 abbrev pub invariant-loop-value : goal.invariant-loop-value

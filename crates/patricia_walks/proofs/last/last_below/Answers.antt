@@ -6,9 +6,9 @@ use Rattle.std.specs.List.{last_or}
 use Rattle.patricia_model.specs.Siblings.{prefixed, entries}
 use Rattle.patricia_nodes.proofs.NodeVecLemmas.{node_there}
 use Rattle.patricia_walks.specs.Internal.Lowers.{AreSiblingsAt}
-use Rattle.patricia_walks.specs.Internal.Positions.{siblings_at}
-use Rattle.patricia_walks.proofs.LastLemmas.{siblings_open, last_child, last_value, has_value, child_less}
-use Rattle.patricia_walks.proofs.LastLemmas.{siblings_within}
+use Rattle.patricia_nodes.specs.Internal.Plans.{siblings_at}
+use Rattle.patricia_walks.proofs.LastLemmas.{siblings_open, last_child, last_value, has_value}
+use Rattle.patricia_walks.proofs.LastLemmas.{child_less, siblings_within}
 use Rattle.patricia_walks.proofs.last.last_below.Goals as goal
 
 pub child-requires : goal.child-requires

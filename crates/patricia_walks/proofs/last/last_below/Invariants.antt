@@ -2,7 +2,8 @@ use Rattle.std.proofs.Common.{◌≡◌, Some, None}
 use Rattle.std.specs.List.{last_or}
 use Rattle.patricia_keys.specs.Keys.{IsValid}
 use Rattle.patricia_walks.specs.Internal.Lowers.{AreSiblingsAt}
-use Rattle.patricia_walks.specs.Internal.Positions.{siblings_at, entries_below}
+use Rattle.patricia_nodes.specs.Internal.Plans.{siblings_at}
+use Rattle.patricia_nodes.specs.Internal.Places.{entries_below}
 use Rattle.patricia_model.specs.Internal.WalkStates.{steps_in}
 use Rattle.patricia_walks.proofs.last.last_below.Given as goal
 

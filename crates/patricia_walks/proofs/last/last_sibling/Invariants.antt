@@ -1,6 +1,6 @@
 use Rattle.std.proofs.Common.{Some}
 use Rattle.patricia_model.specs.Internal.WalkStates.{steps_in}
-use Rattle.patricia_walks.specs.Internal.Positions.{siblings_at}
+use Rattle.patricia_nodes.specs.Internal.Plans.{siblings_at}
 use Rattle.patricia_walks.proofs.LastLemmas.{LastPast}
 use Rattle.patricia_walks.proofs.last.last_sibling.Given as goal
 

@@ -1,6 +1,7 @@
 use Rattle.std.proofs.Common.{sym, ap, arith, length, ◌∙◌, ◌-◌}
 use Rattle.patricia_walks.proofs.PlaceLemmas.{rest_within}
-use Rattle.patricia_walks.proofs.UnderLemmas.{place_top, place_label, place_entries, place_nothing, if_none}
+use Rattle.patricia_nodes.proofs.UnderLemmas.{place_nothing}
+use Rattle.patricia_walks.proofs.UnderLemmas.{place_top, place_label, place_entries, if_none}
 use Rattle.patricia_walks.proofs.under.find_start.Goals as goal
 
 pub overflow_sub-front : goal.overflow_sub-front
@@ -11,7 +12,7 @@ overflow_sub-front g c =
 pub returns-in_err-top-clause-none : goal.returns-in_err-top-clause-none
 returns-in_err-top-clause-none g c =
     if_none _
-    (place_nothing _ g.met.Q.Owned.Bytes.lawful _ c.requires.whole c.requires.siblings _ _ _ _ _
+    (place_nothing _ g.met.Q.Owned.Bytes.lawful _ c.requires.siblings _ _ _ _ _
     c.seek-place.ensures c.as_bytes-2.ensures.valid (sym c.under.ensures ∙ c.in_err-top.was))
 
 pub returns-clause-some : goal.returns-clause-some

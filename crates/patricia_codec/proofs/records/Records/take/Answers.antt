@@ -2,7 +2,7 @@ use Rattle.std.proofs.Common.{◌≡◌, ◌<◌, ◌++◌, ◌∷◌, [], sym, 
 use Rattle.std.proofs.Common.{length, length-drop, rules}
 use Rattle.std.specs.Prelude.{◌^◌, is_some, is_ok, true}
 use Rattle.patricia_model.specs.Siblings.{end, node}
-use Rattle.patricia_walks.specs.Internal.Positions.{siblings_at}
+use Rattle.patricia_nodes.specs.Internal.Plans.{siblings_at}
 use Rattle.patricia_wire.specs.Records.{Record}
 use Rattle.patricia_keys.specs.Keys.{IsValid}
 use Rattle.patricia_nodes.proofs.NodeVecLemmas.{node_there, lent_some}
