@@ -55,7 +55,7 @@ module _ (item : List ℕ → Type 0) (kind : IsKeyKind item) {V : Type 0} (s : 
   canonical = focus_siblings item kind s ok key link_ref at rest matched p
 
   -- the entries under the key are those under its rest in the place, with the path before
-  passed : Passed item kind (siblings_in (fill p.frames p.focus)) (siblings_in p.focus) key rest
+  abbrev passed : Passed item kind (siblings_in (fill p.frames p.focus)) (siblings_in p.focus) key rest
   passed = place_passed item kind s ok key link_ref at rest matched p
 
   module _ (front : ℕ) (front_is : front ≡ length key - length rest) where

@@ -3,15 +3,14 @@ use Rattle.std.specs.Prelude.{◌≡◌, ℕ, ◌+◌, ◌<◌, ◌≤◌, List,
 use Rattle.std.specs.Prelude.{length, drop}
 use Rattle.std.specs.Option.{option_copied}
 use Rattle.patricia_keys.specs.Keys.{IsValid}
-use Rattle.patricia_model.specs.Siblings.{Siblings, end, node, prefixed, own, entries, IsCanonical}
-use Rattle.patricia_model.specs.Siblings.{IsBeforeSiblings}
+use Rattle.patricia_model.specs.Siblings.{Siblings, IsCanonical, IsBeforeSiblings}
 use Rattle.patricia_model.specs.Prefixes.{under, outside}
 use Rattle.patricia_model.specs.Internal.WalkStates.{WalkState, IsWalkState, IsStep, IsWithinAll}
 use Rattle.patricia_store.specs.Internal.Nodes.{Node}
 use Rattle.patricia_nodes.specs.declared.arena.NodeArena.{NodeArena}
 use Rattle.patricia_walks.specs.declared.walk.Traversal.{Traversal}
 use Rattle.patricia_walks.specs.declared.into_walk.OwnedTraversal.{OwnedTraversal}
-use Rattle.patricia_nodes.specs.Internal.Plans.{siblings_in, count, plan_at, IsPlan}
+use Rattle.patricia_nodes.specs.Internal.Plans.{siblings_at, count, plan_at, IsPlan}
 
 -- the siblings that wait, and more behind so many of the bytes, where there are any
 abbrev pub with_siblings : List (ℕ × Option ℕ) → ℕ → Option ℕ → List (ℕ × Option ℕ)
