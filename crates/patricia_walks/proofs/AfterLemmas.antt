@@ -87,6 +87,12 @@ module _ (item : List ℕ → Type 0) {V : Type 0} where
     rest = after-front path fs n r w.rest;
   }
 
+  -- and the last wait behind fewer of the bytes
+  pub after-last : (path : List ℕ) (fs : List (ℕ × Siblings V)) (n : ℕ) (r : Siblings V)
+      → WaitsAfter item path (fs ++ (n, r) ∷ []) → n < length path
+  after-last path [] n r w = w.short
+  after-last path (f ∷ fs) n r w = after-last path fs n r w.rest
+
   -- what is left of a key that comes before siblings does too, where it is cut between items
   before-shorter : IsKeyKind item → (k : List ℕ) (t : List ℕ) (r : Siblings V) → IsValid item t → t ≢ []
       → Begins t k → IsBeforeSiblings item k r → IsBeforeSiblings item t r

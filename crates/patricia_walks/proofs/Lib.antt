@@ -3,6 +3,7 @@ pub mod AlongLemmas
 pub mod DepthLemmas
 pub mod EqualityLemmas
 pub mod FirstLemmas
+pub mod FrontLemmas
 pub mod HeldTreeLemmas
 pub mod HolderLemmas
 pub mod HolderWriteLemmas

@@ -136,11 +136,27 @@ module _ (item : List ℕ → Type 0) {V : Type 0} where
             (after-push item p.path n.label (siblings_waiting p.nodes p.stack) _ w.after node_ok.nonempty node_ok.rises));
       }
 
+  -- where a step leads
+  pub arrived : (p q : Position V) → AdvancesTo item p q → IsPosition item q
+  arrived p q w = record { stand = w.stand; state = w.step.state; after = w.after }
+
+  -- two steps are one
+  pub steps_trans : (p q r : Position V) → AdvancesTo item p q → AdvancesTo item q r → AdvancesTo item p r
+  steps_trans p q r w v = record {
+    stand = v.stand;
+    step = record {
+      state = v.step.state;
+      same = v.step.same ∙ w.step.same;
+      less = omega (arith, w.step.less, v.step.less);
+    };
+    after = v.after;
+  }
+
   -- siblings without nodes need not wait
-  without_none : (p q r : Position V) (front : ℕ) → AdvancesTo item p q
+  pub drops_none : (q r : Position V) (front : ℕ) → IsPosition item q
       → q.stack ≡ r.stack ++ (front, None) ∷ [] → r.nodes ≡ q.nodes → r.path ≡ q.path
-      → r.pending ≡ q.pending → r.next ≡ q.next → AdvancesTo item p r
-  without_none p q r front w stack nodes path pending next =
+      → r.pending ≡ q.pending → r.next ≡ q.next → AdvancesTo item q r
+  drops_none q r front w stack nodes path pending next =
       let last = all_plans-last q.nodes r.stack front None (subst (AllPlans q.nodes) stack w.stand.plans) in
       let siblings : siblings_waiting q.nodes q.stack ≡ siblings_waiting r.nodes r.stack ++ (front, end) ∷ [] = rw nodes
       (ap (siblings_waiting q.nodes) stack
@@ -152,7 +168,7 @@ module _ (item : List ℕ → Type 0) {V : Type 0} where
           plans = rw nodes last.1;
           once = λ i. rw (nodes, next) (omega (arith, w.stand.once i, ap (λ f. count_all q.nodes f i) stack, count_all-snoc q.nodes r.stack front None i));
         };
-        step = step_without item (state_of p) (state_of q) (state_of r) front w.step siblings path pending (rw (nodes, next) refl);
+        step = step_without item (state_of q) (state_of r) front w.state siblings path pending (rw (nodes, next) refl);
         after = subst (λ k. WaitsAfter item k (siblings_waiting r.nodes r.stack)) (sym path)
             (after-front item q.path (siblings_waiting r.nodes r.stack) front end (subst (WaitsAfter item q.path) siblings w.after));
       }
@@ -172,9 +188,8 @@ module _ (item : List ℕ → Type 0) {V : Type 0} where
       by (Some i) is stack = goes_waiting p q id n l front w pending next reads long others label_is front_is path pending' child (rw is stack)
       by None is stack =
           let more : Position V = record q { stack = p.stack ++ (front, n.sibling) ∷ [] } in
-          without_none p more q front
-          (goes_waiting p more id n l front w pending next reads long others label_is front_is path pending' child refl)
-          (rw (is, stack) refl) refl refl refl refl
+          let waits = goes_waiting p more id n l front w pending next reads long others label_is front_is path pending' child refl in
+          steps_trans p more q waits (drops_none more q front (arrived p more waits) (rw (is, stack) refl) refl refl refl refl)
 
   -- the step back to the siblings that wait last
   pub goes_back : IsKeyKind item → (p q : Position V) (n : ℕ) (at : Option ℕ) → IsPosition item p → p.pending ≡ None

@@ -3,7 +3,7 @@ use Rattle.std.proofs.Common.{◌≡◌, ℕ, ◌<◌, List, [], ◌∷◌, ◌+
 use Rattle.std.proofs.Common.{arith}
 use Rattle.patricia_model.specs.Siblings.{Siblings, end, prefixed, own, entries}
 use Rattle.patricia_model.specs.Internal.WalkStates.{WalkState, waiting, steps_in, steps_waiting}
-use Rattle.patricia_model.specs.Internal.WalkStates.{IsWithinAll, WaitsWithin, IsStep}
+use Rattle.patricia_model.specs.Internal.WalkStates.{IsWithinAll, WaitsWithin, IsWalkState, IsStep}
 
 module _ {V : Type 0} where
   -- it adds no entries
@@ -39,23 +39,22 @@ module _ (item : List ℕ → Type 0) {V : Type 0} where
         rest = WaitsWithin-front path fs f w.rest;
       }
 
-  -- a step after which such siblings wait last is one without it
-  pub step_without : (s t u : WalkState V) (n : ℕ) → IsStep item s t
+  -- to forget such siblings, where they wait last, is a step
+  pub step_without : (t u : WalkState V) (n : ℕ) → IsWalkState item t
       → t.stack ≡ u.stack ++ (n, end) ∷ [] → u.path ≡ t.path → u.pending ≡ t.pending
-      → u.siblings ≡ t.siblings → IsStep item s u
-  step_without s t u n w stack path pending siblings =
+      → u.siblings ≡ t.siblings → IsStep item t u
+  step_without t u n w stack path pending siblings =
       record {
         state = record {
-          valid = rw path w.state.valid;
-          canonical = rw siblings w.state.canonical;
-          waits = rw path (WaitsWithin-front t.path u.stack (n, end) (subst (WaitsWithin item t.path) stack w.state.waits));
+          valid = rw path w.valid;
+          canonical = rw siblings w.canonical;
+          waits = rw path (WaitsWithin-front t.path u.stack (n, end) (subst (WaitsWithin item t.path) stack w.waits));
         };
         same = rw (path, pending, siblings)
             (ap (λ l. prefixed t.path (own t.pending ++ entries t.siblings) ++ l)
-            (sym (ap (waiting t.path) stack ∙ waiting-none t.path u.stack n)) ∙ w.same);
+            (sym (ap (waiting t.path) stack ∙ waiting-none t.path u.stack n)));
         less = omega (
           arith,
-          w.less,
           ap steps_waiting stack,
           steps_waiting-none u.stack n,
           ap steps_in siblings,

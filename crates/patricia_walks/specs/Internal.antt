@@ -3,6 +3,7 @@ pub mod Bounds
 pub mod Comparisons
 pub mod Depths
 pub mod Descents
+pub mod Fronts
 pub mod HeldTrees
 pub mod Holders
 pub mod Lends

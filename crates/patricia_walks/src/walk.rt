@@ -9,9 +9,9 @@ ghost use Rattle.patricia_model.specs.Internal.WalkStates.{entries_left, TakesEn
 ghost use Rattle.patricia_model.specs.Walks.{YieldsOrErr};
 ghost use Rattle.patricia_nodes.specs.Internal.Plans.{IsWellFormed, siblings_of, entries_of};
 ghost use Rattle.patricia_nodes.specs.Internal.Plans.{siblings_at};
-ghost use Rattle.patricia_walks.specs.Internal.Positions.{IsPosition, IsTop, AdvancesTo, state_of};
-ghost use Rattle.patricia_walks.specs.Internal.Positions.{lent, HasPassed};
 ghost use Rattle.patricia_nodes.specs.Internal.Places.{entries_below};
+ghost use Rattle.patricia_walks.specs.Internal.Positions.{IsTop, state_of, HasPassed};
+ghost use Rattle.patricia_walks.specs.Internal.Fronts.{lent, IsTraversal, Moves};
 
 mod reading;
 mod skipping;
@@ -29,8 +29,10 @@ use std::marker::{Model, PhantomData};
 #[derive(Drop)]
 struct Traversal<'a, V> {
     arena: &'a NodeArena<V>,
-    // the key of the last value, which stands before the keys of the siblings
+    // the key of the last value
     path: Vec<u8>,
+    // how many bytes of the path stand before the keys of the siblings that are next
+    front: usize,
     // the value at the path, while it is due
     pending: Option<&'a V>,
     // the siblings that are next
@@ -43,58 +45,72 @@ impl<'a, V> Traversal<'a, V> {
     // Ends the walk.
     fn finish<K: Bytes>(&mut self)
         ensures left { entries_left (state_of (lent self.new)) ≡ [] }
-        ensures position { IsPosition K.item (lent self.new) }
+        ensures place { IsTraversal K.item self.new }
     {
         self.path.clear();
+        self.front = 0;
         self.pending = None;
         self.next = Link::none();
         self.stack.clear();
     }
 
-    // Advances to the node's value and its children.
-    fn descend<K: Bytes>(&mut self, id: NodeId) -> Result<(), AllocError>
-        requires position { IsPosition K.item (lent self.old) }
+    // Advances to the node that is next, and returns its value. Its children are next then, and its
+    // siblings wait; or its siblings are next, where it has no children.
+    fn descend<K: Bytes>(&mut self, id: NodeId) -> Result<Option<&'a V>, AllocError>
+        requires place { IsTraversal K.item self.old }
         requires taken { self.old.pending ≡ None }
         requires next { self.old.next ≡ Some id }
-        ensures { OnOk result (AdvancesTo K.item (lent self.old) (lent self.new)) }
+        ensures { IfOk result (λ value. Moves K.item self.old (option_copied value) self.new) }
     {
         let nodes = &self.arena.nodes;
-        let front = self.path.len();
-        push_siblings(&mut self.stack, front, nodes.sibling(id))?;
+        let front = self.front;
+        self.path.truncate(front);
         self.path.extend_from_slice(nodes.label(id))?;
-        self.pending = nodes.value(id);
-        self.next = nodes.child(id);
-        Ok(())
+        let child = nodes.child(id);
+        let sibling = nodes.sibling(id);
+        let value = nodes.value(id);
+        if child.get().is_none() {
+            self.next = sibling;
+            return Ok(value);
+        }
+        push_siblings(&mut self.stack, front, sibling)?;
+        self.front = self.path.len();
+        self.next = child;
+        Ok(value)
     }
 
-    // Goes back to the siblings that wait last, if any wait.
+    // Goes back to the siblings that wait last, if any wait. The path stays.
     fn back<K: Bytes>(&mut self) -> bool
-        requires position { IsPosition K.item (lent self.old) }
+        requires place { IsTraversal K.item self.old }
         requires taken { self.old.pending ≡ None }
         requires over { self.old.next ≡ None }
-        ensures step { IsTrue result → AdvancesTo K.item (lent self.old) (lent self.new) }
+        ensures step { IsTrue result → Moves K.item self.old None self.new }
         ensures over { result ≡ false → entries_left (state_of (lent self.old)) ≡ [] }
         ensures stays { result ≡ false → lent self.new ≡ lent self.old }
+        ensures place { result ≡ false → IsTraversal K.item self.new }
     {
         let Some((front, siblings)) = self.stack.pop() else {
             return false;
         };
-        self.path.truncate(front);
+        self.front = front;
         self.next = siblings;
         true
     }
 
     // Passes the entries that begin with the first bytes of the path, which are whole items.
     fn skip<K: Bytes>(&mut self, len: usize)
-        requires position { IsPosition K.item (lent self.old) }
+        requires place { IsTraversal K.item self.old }
         requires within { len ≤ length self.old.path.items }
         requires valid { IsValid K.item (take len self.old.path.items) }
-        ensures position { IsPosition K.item (lent self.new) }
+        ensures place { IsTraversal K.item self.new }
         ensures path { self.new.path.items ≡ self.old.path.items }
         ensures passed { HasPassed (take len self.old.path.items)
             (entries_left (state_of (lent self.old))) (entries_left (state_of (lent self.new))) }
     {
         self.pending = None;
+        if self.front < len && self.next.get().is_some() {
+            return;
+        }
         self.next = Link::none();
         while let Some((front, _)) = self.stack.last() {
             if *front < len {
@@ -106,18 +122,22 @@ impl<'a, V> Traversal<'a, V> {
 
     // Takes the next value, whose key is then the path.
     fn seek<K: Bytes>(&mut self) -> Result<Option<&'a V>, AllocError>
-        requires { IsPosition K.item (lent self.old) }
-        ensures position { OnOk result (IsPosition K.item (lent self.new)) }
+        requires { IsTraversal K.item self.old }
+        ensures place { OnOk result (IsTraversal K.item self.new) }
         ensures ok { IfOk result (λ found. TakesEntry (state_of (lent self.old))
             (option_copied found) (state_of (lent self.new))) }
         ensures err { OnErr result (entries_left (state_of (lent self.old)) ≢ []) }
     {
+        if let Some(value) = self.pending.take() {
+            return Ok(Some(value));
+        }
         loop {
-            if let Some(value) = self.pending.take() {
-                return Ok(Some(value));
-            }
             match self.next.get() {
-                Some(id) => self.descend::<K>(id)?,
+                Some(id) => {
+                    if let Some(value) = self.descend::<K>(id)? {
+                        return Ok(Some(value));
+                    }
+                }
                 None => {
                     if !self.back::<K>() {
                         return Ok(None);
@@ -143,11 +163,12 @@ impl<'a, K: Bytes, V> Model for Walk<'a, K, V> {
     ghost Value = { List (List ℕ × V) };
 
     ghost use Rattle.patricia_model.specs.Internal.WalkStates.{entries_left};
-    ghost use Rattle.patricia_walks.specs.Internal.Positions.{IsPosition, state_of, lent};
+    ghost use Rattle.patricia_walks.specs.Internal.Positions.{state_of};
+    ghost use Rattle.patricia_walks.specs.Internal.Fronts.{lent, IsTraversal};
 
     ghost view = { λ w. entries_left (state_of (lent w.place)) };
 
-    ghost invariant = { λ w. IsPosition K.item (lent w.place) };
+    ghost invariant = { λ w. IsTraversal K.item w.place };
 }
 
 impl<'a, K: Bytes, V> Walk<'a, K, V> {
@@ -162,6 +183,7 @@ impl<'a, K: Bytes, V> Walk<'a, K, V> {
             place: Traversal {
                 arena,
                 path: Vec::new(alloc),
+                front: 0,
                 pending,
                 next: arena.root,
                 stack: Vec::new(alloc),
@@ -179,6 +201,7 @@ impl<'a, K: Bytes, V> Walk<'a, K, V> {
             place: Traversal {
                 arena,
                 path: Vec::new(alloc),
+                front: 0,
                 pending: None,
                 next: Link::none(),
                 stack: Vec::new(alloc),
@@ -206,6 +229,7 @@ impl<'a, K: Bytes, V> Walk<'a, K, V> {
             alloc,
             place: Traversal {
                 arena,
+                front: path.len(),
                 path,
                 pending: arena.nodes.value(top),
                 next: arena.nodes.child(top),

@@ -1,14 +1,12 @@
 -- How far a walk over nodes in one vector has come.
 use Rattle.std.specs.Prelude.{◌≡◌, ℕ, ◌+◌, ◌<◌, ◌≤◌, List, [], ◌∷◌, ◌++◌, Option, Some, None, map}
 use Rattle.std.specs.Prelude.{length, drop}
-use Rattle.std.specs.Option.{option_copied}
 use Rattle.patricia_keys.specs.Keys.{IsValid}
 use Rattle.patricia_model.specs.Siblings.{Siblings, IsCanonical, IsBeforeSiblings}
 use Rattle.patricia_model.specs.Prefixes.{under, outside}
 use Rattle.patricia_model.specs.Internal.WalkStates.{WalkState, IsWalkState, IsStep, IsWithinAll}
 use Rattle.patricia_store.specs.Internal.Nodes.{Node}
 use Rattle.patricia_nodes.specs.declared.arena.NodeArena.{NodeArena}
-use Rattle.patricia_walks.specs.declared.walk.Traversal.{Traversal}
 use Rattle.patricia_walks.specs.declared.into_walk.OwnedTraversal.{OwnedTraversal}
 use Rattle.patricia_nodes.specs.Internal.Plans.{siblings_at, count, plan_at, IsPlan}
 
@@ -28,17 +26,7 @@ pub record Position (V : Type 0) : Type 0 where
   pub stack : List (ℕ × Option ℕ)
 
 module _ {V : Type 0} where
-  -- the place of a walk by reference
-  abbrev pub lent : Traversal V → Position V
-  lent p = record {
-    nodes = p.arena.now.nodes.items;
-    path = p.path.items;
-    pending = option_copied p.pending;
-    next = p.next;
-    stack = p.stack.items;
-  }
-
-  -- and of a walk that owns the nodes
+  -- the place of a walk that owns the nodes
   abbrev pub owned : OwnedTraversal V → Position V
   owned p = record {
     nodes = p.arena.nodes.items;

@@ -26,7 +26,8 @@ impl<'a, K: Bytes, V> Model for ReadCursor<'a, K, V> {
     ghost use Rattle.patricia_model.specs.Cursors.{ReadCursorView};
     ghost use Rattle.patricia_model.specs.Internal.Codes.{read_cursor_view_code};
     ghost use Rattle.patricia_model.specs.Internal.WalkStates.{entries_left};
-    ghost use Rattle.patricia_walks.specs.Internal.Positions.{IsPosition, state_of, lent};
+    ghost use Rattle.patricia_walks.specs.Internal.Positions.{state_of};
+    ghost use Rattle.patricia_walks.specs.Internal.Fronts.{lent, IsTraversal};
 
     ghost Value = { ReadCursorView V };
 
@@ -37,7 +38,7 @@ impl<'a, K: Bytes, V> Model for ReadCursor<'a, K, V> {
       left = entries_left (state_of (lent c.place));
     } };
 
-    ghost invariant = { λ c. IsPosition K.item (lent c.place) };
+    ghost invariant = { λ c. IsTraversal K.item c.place };
 }
 
 impl<'a, K: Bytes, V> ReadCursor<'a, K, V> {

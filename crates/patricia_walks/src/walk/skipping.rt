@@ -1,10 +1,10 @@
 //! Walks that begin at a key: a descent goes past the entries before it.
-ghost use Rattle.std.specs.Prelude.{◌≡◌, ◌++◌, [], Some, None, true, false, IfOk, OnOk};
+ghost use Rattle.std.specs.Prelude.{◌≡◌, ◌++◌, [], length, Some, None, true, false, IfOk, OnOk};
 ghost use Rattle.std.specs.Option.{option_copied};
 ghost use Rattle.patricia_model.specs.Ranges.{from};
 ghost use Rattle.patricia_model.specs.Siblings.{own, IsCanonical};
 ghost use Rattle.patricia_nodes.specs.Internal.Plans.{IsWellFormed, siblings_of, entries_of};
-ghost use Rattle.patricia_walks.specs.Internal.Positions.{IsPosition, lent};
+ghost use Rattle.patricia_walks.specs.Internal.Fronts.{lent, IsTraversal};
 ghost use Rattle.patricia_walks.specs.Internal.Skips.{IsTowards, Approaches, HasReached};
 ghost use Rattle.patricia_walks.specs.Internal.Skips.{entries_ahead};
 
@@ -23,8 +23,10 @@ impl<'a, V> Traversal<'a, V> {
     // and the walk stays.
     fn approach<K: Bytes>(&mut self, id: NodeId, key: &[u8]) -> Result<bool, AllocError>
         requires towards { IsTowards K.item key.now (lent self.old) }
+        requires front { self.old.front ≡ length self.old.path.items }
         requires taken { self.old.pending ≡ None }
         requires next { self.old.next ≡ Some id }
+        ensures front { OnOk result (self.new.front ≡ length self.new.path.items) }
         ensures step { IfOk result (λ moved. moved ≡ true
             → Approaches K.item key.now (lent self.old) (lent self.new)) }
         ensures over { IfOk result (λ moved. moved ≡ false
@@ -37,6 +39,7 @@ impl<'a, V> Traversal<'a, V> {
         if rest.starts_with(label) {
             push_siblings(&mut self.stack, front, nodes.sibling(id))?;
             self.path.extend_from_slice(label)?;
+            self.front = self.path.len();
             self.pending = nodes.value(id);
             self.next = nodes.child(id);
             return Ok(true);
@@ -50,10 +53,10 @@ impl<'a, V> Traversal<'a, V> {
 
     // Goes from the start of a walk to the first entry that does not come before the key.
     fn skip_to<K: Bytes>(&mut self, key: &[u8]) -> Result<(), AllocError>
-        requires position { IsPosition K.item (lent self.old) }
+        requires place { IsTraversal K.item self.old }
         requires path { self.old.path.items ≡ [] }
         requires stack { self.old.stack.items ≡ [] }
-        ensures position { OnOk result (IsPosition K.item (lent self.new)) }
+        ensures place { OnOk result (IsTraversal K.item self.new) }
         ensures left { OnOk result
             (entries_ahead (lent self.new) ≡ from key.now (entries_ahead (lent self.old))) }
     {
@@ -90,6 +93,7 @@ impl<'a, K: Bytes, V> Walk<'a, K, V> {
         let mut place = Traversal {
             arena,
             path: Vec::new(alloc),
+            front: 0,
             pending,
             next: arena.root,
             stack: Vec::new(alloc),

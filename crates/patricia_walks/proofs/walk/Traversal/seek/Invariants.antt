@@ -1,13 +1,15 @@
-use Rattle.std.proofs.Common.{◌≡◌}
-use Rattle.patricia_model.specs.Internal.WalkStates.{entries_left, steps_left}
-use Rattle.patricia_walks.specs.Internal.Positions.{IsPosition, state_of, lent}
+use Rattle.std.proofs.Common.{◌≡◌, None}
+use Rattle.patricia_model.specs.Internal.WalkStates.{entries_left}
+use Rattle.patricia_walks.specs.Internal.Positions.{state_of}
+use Rattle.patricia_walks.specs.Internal.Fronts.{IsTraversal, lent, moves_left}
 use Rattle.patricia_walks.proofs.walk.Traversal.seek.Given as goal
 
-abbrev pub invariant-loop-value : goal.invariant-loop-value
-invariant-loop-value g l = record {
-  position : IsPosition g.K.Bytes.item (lent l.self);
-  same : entries_left (state_of (lent l.self)) ≡ entries_left (state_of (lent l.initial.self));
+abbrev pub invariant-loop-id : goal.invariant-loop-id
+invariant-loop-id g l = record {
+  place : IsTraversal g.K.Bytes.item l.self;
+  taken : l.self.pending ≡ None;
+  same : entries_left (state_of (lent l.self)) ≡ entries_left (state_of (lent l.fn.self));
 }
 
-abbrev pub decreases-loop-value : goal.decreases-loop-value
-decreases-loop-value g l = steps_left (state_of (lent l.self))
+abbrev pub decreases-loop-id : goal.decreases-loop-id
+decreases-loop-id g l = moves_left l.self

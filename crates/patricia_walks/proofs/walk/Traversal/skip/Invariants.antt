@@ -1,10 +1,14 @@
-use Rattle.std.proofs.Common.{length}
-use Rattle.patricia_walks.specs.Internal.Positions.{lent}
+use Rattle.std.proofs.Common.{◌≡◌, ◌≤◌, None, length}
+use Rattle.patricia_walks.specs.Internal.Fronts.{lent}
 use Rattle.patricia_walks.proofs.PassLemmas.{IsPassing}
 use Rattle.patricia_walks.proofs.walk.Traversal.skip.Given as goal
 
 abbrev pub invariant-loop-front : goal.invariant-loop-front
-invariant-loop-front g l = IsPassing g.K.Bytes.item l.len (lent l.fn.self) (lent l.self)
+invariant-loop-front g l = record {
+  passing : IsPassing g.K.Bytes.item l.len (lent l.fn.self) (lent l.self);
+  none : l.self.next ≡ None;
+  within : l.self.front ≤ length l.self.path.items;
+}
 
 abbrev pub decreases-loop-front : goal.decreases-loop-front
 decreases-loop-front g l = length l.self.stack.items

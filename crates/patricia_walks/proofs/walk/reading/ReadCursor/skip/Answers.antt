@@ -1,6 +1,7 @@
 use Rattle.std.proofs.Common.{◌≡◌, ap, ◌∙◌, take}
 use Rattle.patricia_model.specs.Internal.WalkStates.{entries_left}
-use Rattle.patricia_walks.specs.Internal.Positions.{state_of, lent}
+use Rattle.patricia_walks.specs.Internal.Positions.{state_of}
+use Rattle.patricia_walks.specs.Internal.Fronts.{lent}
 use Rattle.patricia_walks.proofs.PassLemmas.{front_same, key_here, passed_same}
 use Rattle.patricia_walks.proofs.walk.reading.ReadCursor.skip.Goals as goal
 
