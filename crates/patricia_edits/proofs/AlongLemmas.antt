@@ -7,7 +7,7 @@ use Rattle.patricia_nodes.specs.declared.arena.seek.LinkRef.{LinkRef}
 use Rattle.patricia_nodes.specs.declared.arena.seek.LinkRef.TheVariants.{Child, Sibling}
 use Rattle.patricia_nodes.specs.declared.arena.seek.Match.{Match}
 use Rattle.patricia_nodes.specs.Internal.Merges.{LeavesOther}
-use Rattle.patricia_nodes.specs.Internal.Plans.{Plan}
+use Rattle.patricia_nodes.specs.Internal.Plans.{Plan, Cell}
 use Rattle.patricia_nodes.specs.Internal.Places.{Frame, InChild, InSibling, above_of, link_ref_of, Leads}
 use Rattle.patricia_nodes.specs.Internal.Trails.{path_of, AreAbove, IsTrail, KeepsAround, PlacedBehind}
 use Rattle.patricia_nodes.specs.Internal.Writes.{Stays}
@@ -154,9 +154,9 @@ module _ {item : List ℕ → Type 0} {V : Type 0} {s : NodeArena V} {key : List
         p.come.rest_nonempty p.come.leads in
         record {
           frames = other.left.outer;
-          focus = other.around.0;
+          focus = Cell other.upper (other.left.label ++ other.left.inner) other.left.own other.left.below other.left.beside;
           rest = led.0;
-          fills = other.around.1;
+          fills = other.fills;
           leads = led.2;
           rest_nonempty = led.1;
           above = above_outer p.come.frames other.beside other.upper other.other other.left c.cut (reverse left)

@@ -26,7 +26,8 @@ use Rattle.patricia_nodes.proofs.SeekLemmas.{node_above-link_ref_of, ref_here, b
 use Rattle.patricia_nodes.proofs.NodeVecLemmas.{node_there}
 use Rattle.patricia_edits.specs.Internal.Ends.{IsFirstKey, IsLastKey}
 use Rattle.patricia_edits.specs.Internal.Removes.{IsPlaceOf}
-use Rattle.patricia_edits.proofs.EndLemmas.{path_of, AreFirst, AreLast, first-fill, last-fill}
+use Rattle.patricia_nodes.specs.Internal.Trails.{path_of}
+use Rattle.patricia_edits.proofs.EndLemmas.{AreFirst, AreLast, first-fill, last-fill}
 use Rattle.patricia_edits.proofs.EndLemmas.{passes_label, leads-fill}
 
 -- a descent has come to a node, past such frames, whose labels are the path

@@ -15,15 +15,10 @@ use Rattle.patricia_model.proofs.SiblingsLemmas.{prefixed-append, prefixed-prefi
 use Rattle.patricia_model.proofs.WalkLemmas.{prefixed-nil}
 use Rattle.patricia_nodes.specs.Internal.Plans.{Plan, Nil, Cell, siblings_in}
 use Rattle.patricia_nodes.specs.Internal.Places.{Frame, InChild, InSibling, fill, Leads}
+use Rattle.patricia_nodes.specs.Internal.Trails.{path_of}
 use Rattle.patricia_nodes.proofs.FillLemmas.{siblings-within}
 
 module _ {V : Type 0} where
-  -- the labels on the way to a place, joined
-  abbrev pub path_of : List (Frame V) → List ℕ
-  path_of [] = []
-  path_of (InChild id l v d ∷ fs) = path_of fs ++ l
-  path_of (InSibling id l v c ∷ fs) = path_of fs
-
   -- no entry comes before those in the place
   abbrev pub AreFirst : List (Frame V) → Type 0
   AreFirst [] = Unit {0}

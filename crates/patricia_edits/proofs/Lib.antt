@@ -12,6 +12,9 @@ pub mod MeasureLemmas
 pub mod MoveLemmas
 pub mod NodeLemmas
 pub mod OtherLemmas
+pub mod PruneGoneLemmas
+pub mod PruneLemmas
+pub mod PruneStepLemmas
 pub mod PutLemmas
 pub mod RemoveLemmas
 pub mod SplitLemmas

@@ -390,7 +390,9 @@ module _ {item : List ℕ → Type 0} {V : Type 0} {s : NodeArena V} {key : List
             upper = u;
             other = o;
             left = left;
-            around = keeps left.outer new (Cell u (left.label ++ left.inner) left.own left.below left.beside) (left_joined new taken' absorbs);
+            fills = sym (plan_is new.nodes.items new.root
+                (fill left.outer (Cell u (left.label ++ left.inner) left.own left.below left.beside))
+                (left_joined new taken' absorbs).1.plan_ok);
           }
 
           -- and removes the key

@@ -51,6 +51,20 @@ module _ {V : Type 0} where
       rw (key_cmp-turned e.0 k (below_last e.0 k v es (first_part _ _ sorted)))
       (ap (λ r. e ∷ r) (others_last k v es (second_part _ _ sorted)))
 
+  -- a key below a list comes before that of each of its entries
+  below_mid : (q k : List ℕ) (v : V) (xs ys : List (List ℕ × V))
+      → T (below_all key_cmp q (xs ++ (k, v) ∷ ys)) → key_cmp q k ≡ Less
+  below_mid q k v [] ys h = less_so (key_cmp q k) (first_part _ _ h)
+  below_mid q k v (e ∷ xs) ys h = below_mid q k v xs ys (second_part _ _ h)
+
+  -- without one key a list in order is what stands before it and behind it
+  pub others_mid : (k : List ℕ) (v : V) (xs ys : List (List ℕ × V))
+      → T (is_sorted key_cmp (xs ++ (k, v) ∷ ys)) → others k (xs ++ (k, v) ∷ ys) ≡ xs ++ ys
+  others_mid k v [] ys sorted = others_first k v ys sorted
+  others_mid k v (e ∷ xs) ys sorted =
+      rw (key_cmp-turned e.0 k (below_mid e.0 k v xs ys (first_part _ _ sorted)))
+      (ap (λ r. e ∷ r) (others_mid k v xs ys (second_part _ _ sorted)))
+
   -- at its last key is the value of its last entry
   find_last : (k : List ℕ) (v : V) (es : List (List ℕ × V))
       → T (is_sorted key_cmp (es ++ (k, v) ∷ []))

@@ -2,5 +2,6 @@
 pub mod Copies
 pub mod Ends
 pub mod Inserts
+pub mod Prunings
 pub mod Removes
 pub mod Splits

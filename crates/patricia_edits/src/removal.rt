@@ -10,7 +10,7 @@ ghost use Rattle.patricia_nodes.specs.Internal.Trails.{IsTrail};
 ghost use Rattle.patricia_nodes.specs.Internal.Writes.{Stays};
 ghost use Rattle.patricia_edits.specs.Internal.Removes.{IsLeaf, IsValued, HasValue, ReadyAt};
 ghost use Rattle.patricia_edits.specs.Internal.Removes.{RemovesAt, JoinsAt, KeepsAboveAt};
-ghost use Rattle.patricia_edits.specs.Internal.Removes.{IsCutBefore};
+ghost use Rattle.patricia_edits.specs.Internal.Removes.{IsCutBefore, LeavesAboveAt};
 
 use patricia_keys::{BorrowedBytes, Bytes};
 use patricia_nodes::arena::NodeArena;
@@ -25,32 +25,80 @@ pub struct Linked {
     pub id: NodeId,
 }
 
+// What a removal took out, and whether the node above has taken in its other child.
+#[derive(Drop)]
+pub struct Removed<V> {
+    pub value: Option<V>,
+    pub joined_above: bool,
+}
+
 // Takes a leaf out. The node above takes in its other child, where that would be alone.
 fn remove_leaf<K: Bytes, V: Drop>(
     arena: &mut NodeArena<V>,
     at: &Linked,
-) -> Result<Option<V>, AllocError>
+) -> Result<Removed<V>, AllocError>
     requires ready { ReadyAt K.item arena.old at.now.link_ref at.now.id }
     requires leaf { IsLeaf arena.old at.now.id }
     requires valued { IsValued arena.old at.now.id }
     ensures ok { OnOk result (RemovesAt K.item arena.old arena.new at.now.link_ref at.now.id) }
-    ensures value { IfOk result (λ taken. HasValue arena.old at.now.id taken) }
+    ensures value { IfOk result (λ removed. HasValue arena.old at.now.id removed.value) }
     ensures unchanged { OnErr result (Stays arena.old arena.new) }
     ensures joins { OnErr result (JoinsAt K.item arena.old at.now.link_ref at.now.id) }
-    ensures around { OnOk result
-        (KeepsAboveAt K.item arena.old arena.new at.now.link_ref at.now.id) }
+    ensures around { IfOk result (λ removed. LeavesAboveAt K.item arena.old arena.new
+        at.now.link_ref at.now.id removed.joined_above) }
 {
     let Some(alone) = arena.would_merge::<K>(at.link_ref, at.id) else {
-        return Ok(arena.unlink(at.link_ref, at.id));
+        return Ok(Removed {
+            value: arena.unlink(at.link_ref, at.id),
+            joined_above: false,
+        });
     };
     arena.reserve_joined(alone.0, alone.1)?;
     let taken = arena.unlink(at.link_ref, at.id);
     let _none = arena.merge_only_child(alone.0, alone.1);
-    Ok(taken)
+    Ok(Removed {
+        value: taken,
+        joined_above: true,
+    })
 }
 
 // Takes the value out of the node of a key, which is linked so. There is room for the joined label
 // before anything is changed.
+pub fn remove_linked<K: Bytes, V: Drop>(
+    arena: &mut NodeArena<V>,
+    at: &Linked,
+) -> Result<Removed<V>, AllocError>
+    requires ready { ReadyAt K.item arena.old at.now.link_ref at.now.id }
+    ensures ok { OnOk result (RemovesAt K.item arena.old arena.new at.now.link_ref at.now.id) }
+    ensures value { IfOk result (λ removed. HasValue arena.old at.now.id removed.value) }
+    ensures unchanged { OnErr result (Stays arena.old arena.new) }
+    ensures joins { OnErr result (JoinsAt K.item arena.old at.now.link_ref at.now.id) }
+    ensures around { IfOk result (λ removed. LeavesAboveAt K.item arena.old arena.new
+        at.now.link_ref at.now.id removed.joined_above) }
+{
+    if arena.nodes.value(at.id).is_none() {
+        return Ok(Removed {
+            value: None,
+            joined_above: false,
+        });
+    }
+    let Some(child) = arena.nodes.child(at.id).get() else {
+        return remove_leaf::<K, V>(arena, at);
+    };
+    if arena.nodes.sibling(child).get().is_some() {
+        return Ok(Removed {
+            value: arena.nodes.replace_value(at.id, None),
+            joined_above: false,
+        });
+    }
+    arena.reserve_joined(at.id, child)?;
+    Ok(Removed {
+        value: arena.merge_only_child(at.id, child),
+        joined_above: false,
+    })
+}
+
+// The same, and returns the value alone.
 pub fn remove_at<K: Bytes, V: Drop>(
     arena: &mut NodeArena<V>,
     at: &Linked,
@@ -63,17 +111,8 @@ pub fn remove_at<K: Bytes, V: Drop>(
     ensures around { OnOk result
         (KeepsAboveAt K.item arena.old arena.new at.now.link_ref at.now.id) }
 {
-    if arena.nodes.value(at.id).is_none() {
-        return Ok(None);
-    }
-    let Some(child) = arena.nodes.child(at.id).get() else {
-        return remove_leaf::<K, V>(arena, at);
-    };
-    if arena.nodes.sibling(child).get().is_some() {
-        return Ok(arena.nodes.replace_value(at.id, None));
-    }
-    arena.reserve_joined(at.id, child)?;
-    Ok(arena.merge_only_child(at.id, child))
+    let removed = remove_linked::<K, V>(arena, at)?;
+    Ok(removed.value)
 }
 
 /// Takes the value out at a nonempty key, or returns `None`.

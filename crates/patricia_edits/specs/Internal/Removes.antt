@@ -1,6 +1,6 @@
 -- What is left of nodes in one vector where a key is removed.
 use Rattle.std.specs.Prelude.{◌≡◌, ◌≢◌, ◌⊎◌, ◌<◌, ℕ, List, ◌∷◌, ◌++◌, reverse, Option, Some, None}
-use Rattle.std.specs.Prelude.{slice_get}
+use Rattle.std.specs.Prelude.{slice_get, Bool, true, false, IsTrue}
 use Rattle.patricia_store.specs.Internal.Nodes.{Node}
 use Rattle.patricia_nodes.specs.declared.arena.NodeArena.{NodeArena}
 use Rattle.patricia_nodes.specs.declared.arena.seek.LinkRef.{LinkRef}
@@ -9,8 +9,9 @@ use Rattle.patricia_model.specs.Siblings.{IsCanonical, keys_of}
 use Rattle.patricia_model.specs.Points.{Joins}
 use Rattle.patricia_model.specs.Internal.Removals.{others}
 use Rattle.patricia_nodes.specs.Internal.Merges.{LeavesOther}
-use Rattle.patricia_nodes.specs.Internal.Plans.{Plan, IsWellFormed, siblings_of, entries_of}
-use Rattle.patricia_nodes.specs.Internal.Places.{Frame, Placed}
+use Rattle.patricia_nodes.specs.Internal.Plans.{Plan, Cell, IsWellFormed, siblings_of, entries_of}
+use Rattle.patricia_nodes.specs.Internal.Plans.{plan_at}
+use Rattle.patricia_nodes.specs.Internal.Places.{Frame, Placed, fill}
 use Rattle.patricia_nodes.specs.Internal.Trails.{KeepsAround}
 
 module _ {V : Type 0} where
@@ -65,7 +66,22 @@ pub record JoinsAbove {V : Type 0} (frames : List (Frame V)) (new : NodeArena V)
   pub upper : ℕ
   pub other : ℕ
   pub left : LeavesOther frames beside upper other
-  pub around : KeepsAround left.outer new
+  pub fills :
+      fill left.outer (Cell upper (left.label ++ left.inner) left.own left.below left.beside)
+      ≡ plan_at new.nodes.items new.root
+
+-- where the node above a place has not done so, what stands above the place and beside the way to
+-- it is as it was
+abbrev pub RestsAround : {V : Type 0} → List (Frame V) → NodeArena V → Bool → Type 0
+RestsAround frames new false = KeepsAround frames new
+RestsAround frames new true = JoinsAbove frames new
+
+-- so it is at each key whose node this is, which was a leaf where the node above has done so
+abbrev pub LeavesAboveAt : (List ℕ → Type 0) → {V : Type 0} → NodeArena V → NodeArena V → LinkRef → ℕ
+    → Bool → Type 0
+LeavesAboveAt item old new link_ref id joined =
+    (key : List ℕ) → (p : IsPlaceOf item old key link_ref id)
+    → RestsAround p.1.frames new joined × (IsTrue joined → IsLeaf old id)
 
 -- what stands above the place and beside the way to it is as it was, or its node was a leaf without
 -- which the node above has taken in its other child

@@ -1,4 +1,4 @@
-use Rattle.std.proofs.Common.{inl, inr, refl}
+use Rattle.std.proofs.Common.{refl}
 use Rattle.patricia_edits.proofs.LeafLemmas.{leaf_stands, leaf_at, leaf_value, leaf_spared}
 use Rattle.patricia_edits.proofs.LeafLemmas.{both_within, leaf_joins, leaf_lone, leaf_left}
 use Rattle.patricia_edits.proofs.LeafLemmas.{leaf_room, leaf_kept, left_kept}
@@ -71,15 +71,14 @@ returns-clause-value g c =
 pub returns-in_default-clause-around : goal.returns-in_default-clause-around
 returns-in_default-clause-around g c key p =
     let here = place_at g.met.K.Bytes.lawful c.requires.ready key p in
-    inl (leaf_kept here refl c.requires.leaf c.requires.valued c.unlink.new.self c.unlink.result c.unlink.ensures.unlinks)
+    (leaf_kept here refl c.requires.leaf c.requires.valued c.unlink.new.self c.unlink.result c.unlink.ensures.unlinks, λ none. absurd (cc))
 
 pub returns-clause-around : goal.returns-clause-around
 returns-clause-around g c key p =
-    let here = place_at g.met.K.Bytes.lawful c.requires.ready key p in
-    inr (
-      c.requires.leaf,
+    let here = place_at g.met.K.Bytes.lawful c.requires.ready key p in (
       left_kept here refl c.requires.leaf c.requires.valued c.in-Some.alone.0 c.in-Some.alone.1
           (rw c.in-Some.is at c.would_merge.ensures) c.unlink-taken.new.self c.unlink-taken.result
           (unlinks_stay c.reserve_joined.ensures.stays c.unlink-taken.new.self c.args.at.now.link_ref c.args.at.now.id c.unlink-taken.result c.unlink-taken.ensures.unlinks)
           c.merge_only_child-none.new.self c.merge_only_child-none.result c.merge_only_child-none.ensures,
+      λ _. c.requires.leaf,
     )
