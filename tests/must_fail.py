@@ -26,7 +26,8 @@ crate's code that a comment 'refused:' holds is tried too: as code, it breaks th
 
 The libraries are those that rt left in out/. With '--beside FOLDER LOG' they are those that an
 rt ci makes there meanwhile, each crate's once the output in LOG says that it is proved. Until LOG
-has the line 'rt ci has ended' one check runs at a time, and then as many as there are processors.
+has the line 'rt ci has ended' as many checks run as it leaves processors, or one, and then as many
+as there are processors.
 '--archive FILE' builds the library for C there, which no check holds up. What a good edit came to is kept on this machine,
 and told again while nothing changes that its check reads, and so is that library; with --anew all
 is done.
@@ -93,7 +94,7 @@ def written(asked, sources, prover):
 def tried(asked, sources, history, kept):
     """What is told of the edits that were asked for."""
     edits = chosen(asked, sources, history)
-    queue = Queue(Beside(asked.beside and asked.beside[1]))
+    queue = Queue(Beside(*reversed(asked.beside or ())))
     with tempfile.TemporaryDirectory(prefix='must-fail-') as room:
         works = [Work(of, edits[x], kept, room) for x, of in sources.items()]
         for work in works:

@@ -191,10 +191,11 @@ class InPython(Installed):
 
     @classmethod
     def interpreters(cls):
-        """Those that run, each by its path, the one of this test first."""
-        names = ['/usr/bin/python3', *('python3.%d' % minor for minor in range(8, 20))]
+        """Those that run, debug builds too, each by its path, the one of this test first."""
+        names = ['/usr/bin/python3', *('python3.%d%s' % (minor, kind) for minor in range(8, 20) for kind in ('', 'd'))]
         found = [sys.executable] + [path for path in map(shutil.which, names) if path]
-        return {run([python, '-c', 'import sys; print(sys.version)']).stdout: python for python in reversed(found)
+        what = 'import sys; print(sys.version, hasattr(sys, "gettotalrefcount"))'
+        return {run([python, '-c', what]).stdout: python for python in reversed(found)
                 if not run([python, '-c', '']).returncode}.values()
 
     def passes(self, packages, python=sys.executable, **more):

@@ -2,6 +2,7 @@
 import contextlib
 import io
 import os
+import shutil
 import subprocess
 import tempfile
 import threading
@@ -255,6 +256,20 @@ class Queued(Small):
         self.assertEqual(len(queue.done()), 3 + 4 * listing.processors())
         self.assertEqual(max(self.most[:3]), 1)
         self.assertEqual(max(self.most), listing.processors())
+
+    def test_as_many_calls_as_rt_ci_leaves_processors(self):
+        beside = Beside(written(self.top, 'log', ''), self.top)
+        self.assertEqual(beside.idle(), listing.processors())
+        prover = os.path.join(self.top, 'rattle')
+        shutil.copy(shutil.which('sleep'), prover)
+        with subprocess.Popen([prover, '60'], cwd=os.path.join(self.top, 'crates')) as check:
+            self.assertEqual(beside.idle(), listing.processors() - 1)
+            queue = Queue(beside)
+            for _ in range(4 * listing.processors()):
+                queue.add(lambda: True, self.call)
+            queue.done()
+            check.kill()
+        self.assertEqual(max(self.most), max(1, listing.processors() - 1))
 
     def test_what_is_urgent_waits_for_no_other(self):
         log = written(self.top, 'log', 'rt: small proved\n')

@@ -111,7 +111,7 @@ all_events() { # number of keys, kind
     for program in "${programs[@]}"; do
         # valgrind may not know the form of debug information
         strip "$room/$program"
-        for line in insert get get_absent; do
+        for line in insert get get_absent longest; do
             events "$1" "$2" "$program" "$line" > "$room/$program-$line.events" &
             jobs+=($!)
         done
@@ -164,7 +164,7 @@ for count in "$@"; do
         figures "$count" titles $((3 + 1000000 / count)) get get_absent scan >> "$room/figures"
         ;;
     cache)
-        prepare "$count" titles get get_absent
+        prepare "$count" titles get get_absent longest
         all_events "$count" titles > "$room/figures"
         python3 tests/bench/tables.py cache < "$room/figures"
         ;;

@@ -27,10 +27,15 @@ class Told(NamedTuple):
 
 
 class Beside:
-    """The log of an rt ci that makes the libraries meanwhile, or none."""
+    """The log of an rt ci that makes the libraries meanwhile in a folder, or none."""
 
-    def __init__(self, log=None):
+    def __init__(self, log=None, folder=None):
         self.log = log
+        self.folder = folder and os.path.realpath(folder)
+
+    def idle(self):
+        """How many processors its checks leave: a crate on which all others stand takes one."""
+        return listing.processors() - checks_in(self.folder) if self.folder else 0
 
     def says(self, pattern):
         if not self.log:
@@ -49,6 +54,17 @@ class Beside:
 
     def has_proved(self, crate):
         return self.says(r'^rt: %s (proved$|is kept: )' % crate.name)
+
+
+def checks_in(folder):
+    """How many processes of the prover work in a folder."""
+    def is_one(process):
+        try:
+            program, place = (os.readlink('/proc/%s/%s' % (process, x)) for x in ('exe', 'cwd'))
+        except OSError:  # it is no process, or has ended
+            return False
+        return os.path.basename(program) == 'rattle' and place.startswith(folder + '/')
+    return sum(map(is_one, os.listdir('/proc')))
 
 
 class Task(NamedTuple):
@@ -81,11 +97,11 @@ class Queue:
         return task
 
     def work(self, number):
-        """Does one task after another. Beside an rt ci, which takes all processors, the first
-        worker works alone, since of two checks on a processor each takes up to twice its seconds,
-        and the second does what is urgent."""
+        """Does one task after another. Beside an rt ci there are as many workers as it leaves
+        processors, but one at least, since of two checks on a processor each takes up to twice its
+        seconds. The second also does what is urgent."""
         while self.left:
-            is_free = number == 0 or self.beside.has_ended()
+            is_free = number == 0 or self.beside.has_ended() or number < self.beside.idle()
             task = self.take(not is_free) if is_free or number == 1 else None
             if task is None:
                 time.sleep(1)

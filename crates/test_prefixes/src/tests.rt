@@ -1,3 +1,4 @@
 //! The examples of the documentation, which show what contracts say in a few entries.
 
+mod asserts;
 mod examples;
